@@ -1,0 +1,32 @@
+//! The adder, and what is made of it.
+ghost use Rattle.std.specs.Prelude.{◌≡◌};
+ghost use Rattle.agc_word.specs.Arithmetic.{sum_of, complement_of, dabs_of};
+
+use crate::wide::Wide;
+
+/// The sum of two words, with end-around carry. A zero sum is +0 only where both terms are +0.
+#[tactic(auto, unfolding(crate::specs::Arithmetic::sum_of))]
+pub fn sum(x: Wide, y: Wide) -> Wide
+    ensures { result ≡ sum_of x y }
+{
+    let (low, carry) = x.bits().overflowing_add(y.bits());
+    Wide::from_bits(low + u16::from(carry))
+}
+
+/// The word with the other sign.
+#[tactic(auto, unfolding(crate::specs::Arithmetic::complement_of))]
+pub fn complement(x: Wide) -> Wide
+    ensures { result ≡ complement_of x }
+{
+    Wide::from_bits(u16::MAX - x.bits())
+}
+
+/// The diminished absolute value, which CCS leaves in A: the magnitude less one, not below 0.
+#[tactic(auto, unfolding(crate::specs::Arithmetic::dabs_of))]
+pub fn dabs(x: Wide) -> Wide
+    ensures { result ≡ dabs_of x }
+{
+    let bits = x.bits();
+    let magnitude = if bits < 32768 { bits } else { u16::MAX - bits };
+    Wide::from_bits(magnitude.saturating_sub(1))
+}

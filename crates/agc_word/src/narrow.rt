@@ -1,0 +1,61 @@
+//! The narrow word: fifteen digits, as memory holds them.
+ghost use Rattle.std.specs.Prelude.{◌≡◌, ℕ, ◌+◌, ◌*◌, ◌^◌, ◌<◌, ◌≤◌, ◌↔◌, IsSome, IfSome};
+ghost use Rattle.agc_word.specs.Number.{number_from_pattern, pattern_of};
+
+use std::marker::Model;
+
+/// A word of fifteen bits in ones' complement: bit 15 is the sign, and there are two zeros,
+/// +0 (`00000` in octal) and -0 (`77777`). Every memory cell but A and Q holds one.
+#[derive(Clone, Copy, Debug, PartialEq, Eq)]
+pub struct Narrow {
+    bits: u16,
+}
+
+impl Model for Narrow {
+    ghost use Rattle.std.specs.Prelude.{◌<◌, ◌^◌};
+    ghost use Rattle.agc_word.specs.Number.{Number, number_from_pattern, pattern_of};
+    ghost use Rattle.agc_word.specs.Patterns.{pattern_back};
+
+    ghost Value = { Number };
+
+    ghost view = { λ w. number_from_pattern 15 w.bits };
+
+    ghost invariant = { λ w. w.bits < 2 ^ 15 };
+
+    ghost inverse = { λ x. record { bits = pattern_of 15 x } };
+
+    ghost inverse_ok = { λ w h. Prim.rw (pattern_back 15 w.bits h) };
+}
+
+impl Narrow {
+    /// The word with this pattern; `None` above `77777` octal.
+    pub fn from_bits(bits: u16) -> Option<Narrow>
+        ensures fits { IsSome result ↔ (bits < 2 ^ 15) }
+        ensures word { IfSome result (λ w. w ≡ number_from_pattern 15 bits) }
+    {
+        if bits < 1 << 15 {
+            Some(Narrow { bits })
+        } else {
+            None
+        }
+    }
+
+    /// The word's pattern, at most `77777` octal.
+    pub fn bits(self) -> u16
+        ensures pattern { result ≡ pattern_of 15 self }
+        ensures number { number_from_pattern 15 result ≡ self }
+        ensures range { result < 2 ^ 15 }
+    {
+        self.bits
+    }
+
+    pub(crate) fn from_sign_and_low(sign: u16, low: u16) -> Narrow
+        requires sign { sign < 2 }
+        requires low { low < 2 ^ 14 }
+        ensures { result ≡ number_from_pattern 15 (sign * 2 ^ 14 + low) }
+    {
+        Narrow {
+            bits: sign * 16384 + low,
+        }
+    }
+}

@@ -1,0 +1,88 @@
+//! The wide word: sixteen digits, as the adder and the registers A and Q hold them.
+ghost use Rattle.std.specs.Prelude.{◌≡◌, ℕ, ◌^◌, ◌<◌, ◌≤◌};
+ghost use Rattle.agc_word.specs.Number.{number_from_pattern, pattern_of};
+
+use crate::narrow::Narrow;
+use std::marker::Model;
+
+/// Whether a wide word has left the range of a narrow one, and on which side.
+#[derive(Clone, Copy, Debug, PartialEq, Eq)]
+pub enum Over {
+    None,
+    Plus,
+    Minus,
+}
+
+/// A word of sixteen bits in ones' complement, as the registers A and Q hold it: bit 16 is the
+/// sign, and where bit 15 differs from it the word has overflow.
+#[derive(Clone, Copy, Debug, PartialEq, Eq)]
+pub struct Wide {
+    bits: u16,
+}
+
+impl Model for Wide {
+    ghost use Rattle.std.specs.Prelude.{◌<◌, ◌^◌};
+    ghost use Rattle.agc_word.specs.Number.{Number, number_from_pattern, pattern_of};
+    ghost use Rattle.agc_word.specs.Patterns.{pattern_back};
+
+    ghost Value = { Number };
+
+    ghost view = { λ w. number_from_pattern 16 w.bits };
+
+    ghost invariant = { λ w. w.bits < 2 ^ 16 };
+
+    ghost inverse = { λ x. record { bits = pattern_of 16 x } };
+
+    ghost inverse_ok = { λ w h. Prim.rw (pattern_back 16 w.bits h) };
+}
+
+impl Wide {
+    ghost use Rattle.std.specs.Prelude.{◌≡◌, ◌<◌, ◌^◌};
+    ghost use Rattle.agc_word.specs.Number.{number_from_pattern, pattern_of};
+    ghost use Rattle.agc_word.specs.Arithmetic.{narrow_of, over_of};
+
+    /// The word with this pattern.
+    pub fn from_bits(bits: u16) -> Wide
+        ensures { result ≡ number_from_pattern 16 bits }
+    {
+        Wide { bits }
+    }
+
+    /// The word's pattern.
+    pub fn bits(self) -> u16
+        ensures pattern { result ≡ pattern_of 16 self }
+        ensures number { number_from_pattern 16 result ≡ self }
+    {
+        self.bits
+    }
+
+    /// Overflow correction: keeps bit 16 as the sign, and bits 14 to 1.
+    #[tactic(auto, unfolding(crate::specs::Arithmetic::narrow_of))]
+    pub fn narrow(self) -> Narrow
+        ensures { result ≡ narrow_of self }
+    {
+        Narrow::from_sign_and_low(self.bits / 32768, self.bits % 16384)
+    }
+
+    /// The overflow: plus or minus where bits 16 and 15 differ, by the sign in bit 16.
+    #[tactic(auto, unfolding(crate::specs::Arithmetic::over_of))]
+    pub fn over(self) -> Over
+        ensures { result ≡ over_of self }
+    {
+        match self.bits / 16384 {
+            1 => Over::Plus,
+            2 => Over::Minus,
+            _ => Over::None,
+        }
+    }
+}
+
+/// The same number in sixteen bits: bit 15 is copied into bit 16.
+pub fn widen(x: Narrow) -> Wide
+    ensures { result ≡ x }
+{
+    let bits = x.bits();
+    Wide {
+        bits: if bits < 16384 { bits } else { bits + 32768 },
+    }
+}
