@@ -1,0 +1,41 @@
+//! What a boundary of the machine answers.
+use agc_word::Narrow;
+
+/// One WRITE, WAND or WOR to a channel from 5 to 777 octal. It happens also where the value stays the same.
+#[derive(Clone, Copy, Debug, PartialEq, Eq)]
+pub struct ChannelWrite {
+    /// The machine cycle at which the order began, from 0.
+    pub cycle: u64,
+    /// 5 to 777 octal.
+    pub channel: u16,
+    /// The channel's word after the write.
+    pub value: Narrow,
+}
+
+/// Why the machine has stopped. A stopped machine stays as it is.
+#[derive(Clone, Copy, Debug, PartialEq, Eq)]
+pub enum Stop {
+    /// The limit of cycles is reached.
+    Limit,
+    /// DV had a divisor of zero magnitude, or a dividend beyond it.
+    DivisionUndefined,
+    /// EDRUPT, whose effect is left out of this emulator.
+    Edrupt,
+    /// The order at the stop address was in hand.
+    Reached,
+}
+
+/// What one boundary did.
+#[derive(Clone, Copy, Debug, PartialEq, Eq)]
+pub enum Stepped {
+    Quiet,
+    Wrote(ChannelWrite),
+    Stopped(Stop),
+}
+
+/// The next thing that the outside sees of a run: a channel write, or the stop.
+#[derive(Clone, Copy, Debug, PartialEq, Eq)]
+pub enum Next {
+    Wrote(ChannelWrite),
+    Stopped(Stop),
+}
