@@ -1,0 +1,109 @@
+//! The addresses of twelve bits, and the little arithmetic that orders do on them.
+ghost use Rattle.std.specs.Prelude.{◌≡◌, ℕ, ◌+◌, ◌*◌, ◌%◌, ◌<◌, ◌↔◌, IsSome, IfSome};
+ghost use Rattle.agc_word.specs.Number.{pattern_of};
+ghost use Rattle.agc_store.specs.Cells.{narrow_number};
+
+use agc_word::Narrow;
+use std::marker::Model;
+
+/// An address of twelve bits, 0 to 7777 octal. Below 2000 octal it names an erasable cell, from
+/// there on a fixed word.
+#[derive(Clone, Copy, Debug, PartialEq, Eq)]
+pub struct Addr {
+    bits: u16,
+}
+
+impl Model for Addr {
+    ghost use Rattle.std.specs.Prelude.{ℕ, ◌<◌};
+
+    ghost Value = { ℕ };
+
+    ghost view = { λ a. a.bits };
+
+    ghost invariant = { λ a. a.bits < 4096 };
+
+    ghost inverse = { λ n. record { bits = n } };
+}
+
+impl Addr {
+    /// The address with this number; `None` above `7777` octal.
+    pub fn new(bits: u16) -> Option<Addr>
+        ensures fits { IsSome result ↔ (bits < 4096) }
+        ensures address { IfSome result (λ a. a ≡ bits) }
+    {
+        if bits < 4096 {
+            Some(Addr { bits })
+        } else {
+            None
+        }
+    }
+
+    /// The address in bits 12 to 1 of a word, as Z keeps it.
+    pub fn of_word(word: Narrow) -> Addr
+        ensures { result ≡ pattern_of 15 word % 4096 }
+    {
+        Addr {
+            bits: word.bits() % 4096,
+        }
+    }
+
+    /// The address's number, at most `7777` octal.
+    pub fn bits(self) -> u16
+        ensures address { result ≡ self }
+        ensures range { result < 4096 }
+    {
+        self.bits
+    }
+
+    /// The word with this address in bits 12 to 1, as Z and Q show it.
+    pub fn word(self) -> Narrow
+        ensures { result ≡ narrow_number self }
+    {
+        Narrow::from_bits(self.bits).unwrap()
+    }
+
+    /// The address so many places on; after `7777` octal comes 0.
+    pub fn skip(self, count: u8) -> Addr
+        ensures { result ≡ (self + count) % 4096 }
+    {
+        Addr {
+            bits: (self.bits + u16::from(count)) % 4096,
+        }
+    }
+
+    /// The next address; after `7777` octal comes 0.
+    pub fn next(self) -> Addr
+        ensures { result ≡ (self + 1) % 4096 }
+    {
+        Addr {
+            bits: (self.bits + 1) % 4096,
+        }
+    }
+
+    /// The address before; before 0 comes `7777` octal.
+    pub fn previous(self) -> Addr
+        ensures { result ≡ (self + 4095) % 4096 }
+    {
+        Addr {
+            bits: (self.bits + 4095) % 4096,
+        }
+    }
+
+    /// The ten-bit address in an order chosen by quarter.
+    pub fn low_ten(self) -> Addr
+        ensures { result ≡ self % 1024 }
+    {
+        Addr {
+            bits: self.bits % 1024,
+        }
+    }
+
+    /// The ten-bit address before; before 0 comes `1777` octal, as in DAS and DXCH.
+    pub fn previous_low_ten(self) -> Addr
+        ensures { result ≡ (self + 1023) % 1024 }
+    {
+        Addr {
+            bits: (self.bits + 1023) % 1024,
+        }
+    }
+}
