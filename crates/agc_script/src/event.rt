@@ -1,0 +1,35 @@
+//! The events of a script: what happens to the computer from outside, and when.
+use crate::key::Key;
+use agc_word::Narrow;
+
+/// Something that happens from outside, as the machine takes it between two orders.
+#[derive(Clone, Copy, Debug, PartialEq, Eq)]
+pub enum What {
+    /// A key of the keyboard is pressed: its code goes into channel 15, and KEYRUPT1 is requested.
+    Key(Key),
+    /// The PRO key goes down, or up again where false: bit 14 of channel 32.
+    Pro(bool),
+    /// A channel, 5 to 777 octal, gets a word.
+    Input {
+        channel: u16,
+        value: Narrow,
+    },
+    /// An interrupt is requested by its number, 1 (T6RUPT) to 10 (RUPT10).
+    Raise(u8),
+    /// A cell of erasable memory gets a word: bank 0 to 7, offset 0 to 377 octal, in bank 0 from
+    /// 10 octal on.
+    Poke {
+        bank: u8,
+        offset: u16,
+        value: Narrow,
+    },
+}
+
+/// One event of a script.
+#[derive(Clone, Copy, Debug, PartialEq, Eq)]
+pub struct Event {
+    /// The machine cycle from which on the event is due, at most 1,000,000,000,000.
+    pub cycle: u64,
+    /// What happens then.
+    pub what: What,
+}

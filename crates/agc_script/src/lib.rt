@@ -1,0 +1,11 @@
+//! What happens to the computer from outside: scripts of keystrokes, counter pulses and input
+//! changes, the tape of keys that were pressed live, and the merge of both.
+#![tactic(auto)]
+
+mod event;
+mod key;
+mod script;
+
+pub use event::{Event, What};
+pub use key::Key;
+pub use script::Script;
