@@ -1,3 +1,5 @@
 pub mod Number
+pub mod Digits
 pub mod Arithmetic
+pub mod Edits
 pub mod Patterns

@@ -1,5 +1,5 @@
 -- Ones' complement numbers: a sign and a magnitude, so that there are two zeros.
-use Rattle.std.specs.Prelude.{ℕ, ◌+◌, ◌-◌, ◌*◌, ◌/◌, ◌%◌, ◌^◌, Bool, true, false, ℤ, pos, neg_ℤ, if◌then◌else◌, nat_lt}
+use Rattle.std.specs.Prelude.{ℕ, ◌-◌, ◌/◌, ◌%◌, ◌^◌, Bool, true, false, ℤ, pos, neg_ℤ, if◌then◌else◌, nat_lt}
 
 -- A number of the machine. A narrow word has magnitudes up to 16383, a wide word up to 32767.
 pub record Number : Type 0 where

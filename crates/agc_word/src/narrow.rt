@@ -49,13 +49,11 @@ impl Narrow {
         self.bits
     }
 
-    pub(crate) fn from_sign_and_low(sign: u16, low: u16) -> Narrow
-        requires sign { sign < 2 }
-        requires low { low < 2 ^ 14 }
-        ensures { result ≡ number_from_pattern 15 (sign * 2 ^ 14 + low) }
+    /// The word with this pattern, for a caller who knows that it has fifteen bits.
+    pub fn with_bits(bits: u16) -> Narrow
+        requires { bits < 2 ^ 15 }
+        ensures { result ≡ number_from_pattern 15 bits }
     {
-        Narrow {
-            bits: sign * 16384 + low,
-        }
+        Narrow { bits }
     }
 }

@@ -61,7 +61,7 @@ impl Wide {
     pub fn narrow(self) -> Narrow
         ensures { result ≡ narrow_of self }
     {
-        Narrow::from_sign_and_low(self.bits / 32768, self.bits % 16384)
+        Narrow::with_bits(self.bits / 32768 * 16384 + self.bits % 16384)
     }
 
     /// The overflow: plus or minus where bits 16 and 15 differ, by the sign in bit 16.

@@ -1,0 +1,30 @@
+//! The four editing registers, which shift or cut each word that is written into them.
+ghost use Rattle.std.specs.Prelude.{◌≡◌};
+ghost use Rattle.agc_word.specs.Edits.{edited};
+
+use crate::narrow::Narrow;
+
+/// What an editing register does to a word: CYR turns it right one place, SR shifts it right one
+/// place and keeps the sign, CYL turns it left one place, EDOP keeps bits 14 to 8 as bits 7 to 1.
+#[derive(Clone, Copy, Debug, PartialEq, Eq)]
+pub enum Edit {
+    Cyr,
+    Sr,
+    Cyl,
+    Edop,
+}
+
+impl Narrow {
+    /// The word as the editing register makes it.
+    pub fn edit(self, how: Edit) -> Narrow
+        ensures { result ≡ edited how self }
+    {
+        let bits = self.bits();
+        match how {
+            Edit::Cyr => Narrow::with_bits(bits % 2 * 16384 + bits / 2),
+            Edit::Sr => Narrow::with_bits(bits / 16384 * 16384 + bits / 2),
+            Edit::Cyl => Narrow::with_bits(bits % 16384 * 2 + bits / 16384),
+            Edit::Edop => Narrow::with_bits(bits % 16384 / 128),
+        }
+    }
+}
