@@ -7,7 +7,7 @@ use Rattle.agc_word.specs.declared.edit.Edit.TheVariants as edit
 use Rattle.agc_word.proofs.Digits.{binary-cat, take-binary, drop-binary, digits-number_from_pattern, number_of_digits-binary}
 
 -- two rows of digits that are joined into a word
-joined : (j k a b : ℕ) → j + k ≡ 15 → b < 2 ^ k → a * 2 ^ k + b < 2 ^ 15 → number_of_digits (binary j a ++ binary k b) ≡ number_from_pattern 15 (a * 2 ^ k + b)
+pub joined : (j k a b : ℕ) → j + k ≡ 15 → b < 2 ^ k → a * 2 ^ k + b < 2 ^ 15 → number_of_digits (binary j a ++ binary k b) ≡ number_from_pattern 15 (a * 2 ^ k + b)
 joined j k a b whole low fits =
     ap number_of_digits (sym (binary-cat j k a b low))
     ∙ ap (λ (n : ℕ). number_of_digits (binary n (a * 2 ^ k + b))) whole

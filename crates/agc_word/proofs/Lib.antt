@@ -1,2 +1,4 @@
 pub mod Digits
 pub mod Edits
+pub mod LogicLemmas
+pub mod Pulses

@@ -28,6 +28,12 @@ impl Model for Narrow {
 }
 
 impl Narrow {
+    /// +0, `00000` in octal.
+    pub const PLUS_ZERO: Narrow = Narrow { bits: 0 };
+
+    /// -0, `77777` in octal.
+    pub const MINUS_ZERO: Narrow = Narrow { bits: 0o77777 };
+
     /// The word with this pattern; `None` above `77777` octal.
     pub fn from_bits(bits: u16) -> Option<Narrow>
         ensures fits { IsSome result ↔ (bits < 2 ^ 15) }

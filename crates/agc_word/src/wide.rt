@@ -41,6 +41,18 @@ impl Wide {
     ghost use Rattle.agc_word.specs.Number.{number_from_pattern, pattern_of};
     ghost use Rattle.agc_word.specs.Arithmetic.{narrow_of, over_of};
 
+    /// +0, `000000` in octal.
+    pub const PLUS_ZERO: Wide = Wide { bits: 0 };
+
+    /// -0, `177777` in octal.
+    pub const MINUS_ZERO: Wide = Wide { bits: 0o177777 };
+
+    /// +1, `000001` in octal.
+    pub const PLUS_ONE: Wide = Wide { bits: 1 };
+
+    /// -1, `177776` in octal.
+    pub const MINUS_ONE: Wide = Wide { bits: 0o177776 };
+
     /// The word with this pattern.
     pub fn from_bits(bits: u16) -> Wide
         ensures { result ≡ number_from_pattern 16 bits }

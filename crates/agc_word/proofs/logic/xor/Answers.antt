@@ -1,0 +1,6 @@
+use Rattle.std.proofs.Common.{rules}
+use Rattle.agc_word.proofs.LogicLemmas.{xor_of-number_from_pattern}
+use Rattle.agc_word.proofs.logic.xor.Goals as goal
+
+pub returns : goal.returns
+returns c = cc (xor_of-number_from_pattern c.bits.result c.bits-2.result (search rules) (search rules))

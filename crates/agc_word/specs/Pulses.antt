@@ -1,0 +1,50 @@
+-- What a counter cell becomes when a pulse steps it, and whether a carry comes out.
+use Rattle.std.specs.Prelude.{◌+◌, ◌-◌, ◌%◌, ◌==◌, ℕ, false, true, List, [], ◌∷◌, ◌++◌, get_or, drop, if◌then◌else◌}
+use Rattle.agc_word.specs.Number.{Number, number_from_pattern, pattern_of}
+use Rattle.agc_word.specs.Arithmetic.{sum_of, narrow_of, over_of}
+use Rattle.agc_word.specs.Digits.{digits, number_of_digits}
+use Rattle.agc_word.specs.declared.wide.Over.{Over}
+use Rattle.agc_word.specs.declared.wide.Over.TheVariants as over
+use Rattle.agc_word.specs.declared.pulse.Pulse.{Pulse}
+use Rattle.agc_word.specs.declared.pulse.Pulse.TheVariants as pulse
+use Rattle.agc_word.specs.declared.pulse.Carry.{Carry}
+use Rattle.agc_word.specs.declared.pulse.Carry.TheVariants as carry
+
+-- the numbers +1, -1 and -0
+abbrev pub plus_one : Number
+plus_one = record { minus = false; magnitude = 1 }
+
+abbrev pub minus_one : Number
+minus_one = record { minus = true; magnitude = 1 }
+
+abbrev pub minus_zero : Number
+minus_zero = record { minus = true; magnitude = 0 }
+
+-- overflow on either side carries out
+abbrev pub carry_of : Over → Carry
+carry_of over.None = carry.None
+carry_of over.Plus = carry.Out
+carry_of over.Minus = carry.Out
+
+-- a wide sum goes back into a narrow counter, and its overflow is the carry
+abbrev pub counted : Number → Number × Carry
+counted s = (narrow_of s, carry_of (over_of s))
+
+-- one step towards zero, which ends at -0; a counter that is at zero stays there and carries
+abbrev pub diminished : Number → Number × Carry
+diminished x =
+    if x.magnitude == 0 then (x, carry.Out) else (if x.magnitude == 1 then minus_zero else record x { magnitude = x.magnitude - 1 }, carry.None)
+
+-- the digits move left one place, a new one enters on the right, and the first one leaves as the carry
+abbrev pub shifted_in : ℕ → List ℕ → Number × Carry
+shifted_in d ds = (number_of_digits (drop 1 ds ++ d ∷ []), if get_or ds 0 0 == 1 then carry.Out else carry.None)
+
+-- PINC and MINC count by one, DINC counts towards zero, PCDU and MCDU count an angle round its circle of 32768 patterns, SHINC and SHANC shift in a 0 or a 1.
+unfoldable pub pulsed : Pulse → Number → Number × Carry
+pulsed pulse.Pinc x = counted (sum_of x plus_one)
+pulsed pulse.Minc x = counted (sum_of x minus_one)
+pulsed pulse.Dinc x = diminished x
+pulsed pulse.Pcdu x = (number_from_pattern 15 ((pattern_of 15 x + 1) % 32768), carry.None)
+pulsed pulse.Mcdu x = (number_from_pattern 15 ((pattern_of 15 x + 32768 - 1) % 32768), carry.None)
+pulsed pulse.Shinc x = shifted_in 0 (digits 15 x)
+pulsed pulse.Shanc x = shifted_in 1 (digits 15 x)

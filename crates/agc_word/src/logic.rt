@@ -1,0 +1,26 @@
+//! The logical operations on sixteen digits.
+ghost use Rattle.std.specs.Prelude.{◌≡◌};
+ghost use Rattle.agc_word.specs.Logic.{and_of, or_of, xor_of};
+
+use crate::wide::Wide;
+
+/// A digit is 1 where both words' digits are.
+pub fn and(x: Wide, y: Wide) -> Wide
+    ensures { result ≡ and_of x y }
+{
+    Wide::from_bits(x.bits() & y.bits())
+}
+
+/// A digit is 1 where either word's digit is.
+pub fn or(x: Wide, y: Wide) -> Wide
+    ensures { result ≡ or_of x y }
+{
+    Wide::from_bits(x.bits() | y.bits())
+}
+
+/// A digit is 1 where the words' digits differ.
+pub fn xor(x: Wide, y: Wide) -> Wide
+    ensures { result ≡ xor_of x y }
+{
+    Wide::from_bits(x.bits() ^ y.bits())
+}

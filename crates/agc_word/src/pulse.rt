@@ -1,0 +1,84 @@
+//! The pulses that step a counter cell: involuntary counting, without any order of the program.
+ghost use Rattle.std.specs.Prelude.{◌≡◌, ◌==◌, if◌then◌else◌};
+ghost use Rattle.agc_word.specs.Pulses.{pulsed, counted, diminished};
+
+use crate::arithmetic::sum;
+use crate::narrow::Narrow;
+use crate::wide::{Over, Wide, widen};
+
+/// How a pulse changes a counter: PINC adds 1 and MINC takes 1, DINC steps towards zero, PCDU and
+/// MCDU add and take 1 on the pattern, as a shaft's angle counts, SHINC and SHANC shift in a 0 or 1.
+#[derive(Clone, Copy, Debug, PartialEq, Eq)]
+pub enum Pulse {
+    Pinc,
+    Minc,
+    Dinc,
+    Pcdu,
+    Mcdu,
+    Shinc,
+    Shanc,
+}
+
+/// Whether a carry came out of a counter.
+#[derive(Clone, Copy, Debug, PartialEq, Eq)]
+pub enum Carry {
+    None,
+    Out,
+}
+
+impl Narrow {
+    /// The counter after a pulse, and the carry that comes out of it.
+    #[tactic(auto, unfolding(crate::specs::Pulses::pulsed))]
+    pub fn pulse(self, kind: Pulse) -> (Narrow, Carry)
+        ensures { result ≡ pulsed kind self }
+    {
+        let bits = self.bits();
+        match kind {
+            Pulse::Pinc => counted(sum(widen(self), Wide::PLUS_ONE)),
+            Pulse::Minc => counted(sum(widen(self), Wide::MINUS_ONE)),
+            Pulse::Dinc => diminished(self),
+            Pulse::Pcdu => (Narrow::with_bits((bits + 1) % 32768), Carry::None),
+            Pulse::Mcdu => (Narrow::with_bits((bits + 32767) % 32768), Carry::None),
+            Pulse::Shinc => (
+                Narrow::with_bits(bits % 16384 * 2),
+                carry_from(bits / 16384),
+            ),
+            Pulse::Shanc => (
+                Narrow::with_bits(bits % 16384 * 2 + 1),
+                carry_from(bits / 16384),
+            ),
+        }
+    }
+}
+
+fn counted(total: Wide) -> (Narrow, Carry)
+    ensures { result ≡ counted total }
+{
+    let carry = match total.over() {
+        Over::None => Carry::None,
+        Over::Plus | Over::Minus => Carry::Out,
+    };
+    (total.narrow(), carry)
+}
+
+fn diminished(x: Narrow) -> (Narrow, Carry)
+    ensures { result ≡ diminished x }
+{
+    match x.bits() {
+        0 | 32767 => (x, Carry::Out),
+        1 | 32766 => (Narrow::MINUS_ZERO, Carry::None),
+        bits => {
+            if bits < 16384 {
+                (Narrow::with_bits(bits - 1), Carry::None)
+            } else {
+                (Narrow::with_bits(bits + 1), Carry::None)
+            }
+        }
+    }
+}
+
+fn carry_from(digit: u16) -> Carry
+    ensures { result ≡ (if digit == 1 then Carry.Out else Carry.None) }
+{
+    if digit == 1 { Carry::Out } else { Carry::None }
+}
