@@ -1,2 +1,4 @@
 pub mod Memory
 pub mod Cells
+pub mod Registers
+pub mod Woven

@@ -25,10 +25,13 @@ erasable_bank cells = pattern_of 15 (cell_at 3 cells) / 256 % 8
 unfoldable pub fixed_bank : List Number → ℕ
 fixed_bank cells = pattern_of 15 (cell_at 4 cells) / 1024
 
--- The fixed bank in the window at 2000 octal: the superbank adds ten octal to FB's banks 30 octal and up.
+-- The bank that FB's bank stands for: the superbank adds ten octal to the banks 30 octal and up.
+unfoldable pub bank_with_superbank : Bool → ℕ → ℕ
+bank_with_superbank superbank bank = if superbank && nat_le 24 bank then bank + 8 else bank
+
+-- the fixed bank in the window at 2000 octal
 unfoldable pub selected_bank : Memory → ℕ
-selected_bank m =
-    if m.superbank && nat_le 24 (fixed_bank m.erasable) then fixed_bank m.erasable + 8 else fixed_bank m.erasable
+selected_bank m = bank_with_superbank m.superbank (fixed_bank m.erasable)
 
 -- The erasable cell that an address below 2000 octal names: banks 0, 1 and 2 stand at 0, 400 and 1000 octal, and EB's bank at 1400.
 unfoldable pub erasable_place : List Number → ℕ → ℕ

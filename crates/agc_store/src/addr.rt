@@ -38,13 +38,18 @@ impl Addr {
         }
     }
 
+    /// The address in the low twelve bits of a number.
+    pub fn wrapped(bits: u16) -> Addr
+        ensures { result ≡ bits % 4096 }
+    {
+        Addr { bits: bits % 4096 }
+    }
+
     /// The address in bits 12 to 1 of a word, as Z keeps it.
     pub fn of_word(word: Narrow) -> Addr
         ensures { result ≡ pattern_of 15 word % 4096 }
     {
-        Addr {
-            bits: word.bits() % 4096,
-        }
+        Addr::wrapped(word.bits())
     }
 
     /// The address's number, at most `7777` octal.
