@@ -1,6 +1,8 @@
 pub mod Number
 pub mod Digits
 pub mod Arithmetic
+pub mod Products
+pub mod Angles
 pub mod Edits
 pub mod Logic
 pub mod Pulses

@@ -62,4 +62,33 @@ impl Narrow {
     {
         Narrow { bits }
     }
+
+    /// Whether the sign, bit 15, is minus.
+    pub fn is_minus(self) -> bool
+        ensures { result ≡ self.minus }
+    {
+        self.bits >= 16384
+    }
+
+    /// The number without its sign, at most 16383.
+    pub fn magnitude(self) -> u16
+        ensures size { result ≡ self.magnitude }
+        ensures range { result < 2 ^ 14 }
+    {
+        if self.bits < 16384 {
+            self.bits
+        } else {
+            32767 - self.bits
+        }
+    }
+
+    /// The word with this sign and magnitude.
+    pub fn signed(minus: bool, magnitude: u16) -> Narrow
+        requires { magnitude < 2 ^ 14 }
+        ensures { result ≡ record { minus = minus; magnitude = magnitude } }
+    {
+        Narrow {
+            bits: if minus { 32767 - magnitude } else { magnitude },
+        }
+    }
 }

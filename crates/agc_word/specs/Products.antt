@@ -1,0 +1,41 @@
+-- Multiplication and division of signed numbers, in one and in two words.
+use Rattle.std.specs.Prelude.{◌≡◌, ◌+◌, ◌-◌, ◌*◌, ◌/◌, ◌%◌, ◌<◌, ◌≤◌, ◌==◌, ◌⊎◌, min, nat_le, Bool, not, ◌&&◌, ℤ, pos, ◌+ℤ◌, ◌*ℤ◌, nat_abs, Option, Some, None, if◌then◌else◌}
+use Rattle.agc_word.specs.Number.{Number, value}
+
+-- whether one of two numbers is minus and the other plus, which makes a product or a quotient minus
+abbrev pub signs_differ : Bool → Bool → Bool
+signs_differ minus other = if minus then not other else other
+
+-- The product's magnitude stands in two words of fourteen digits, both with its sign, also where a word is zero. To multiply by +0 or -0 gives +0 in both.
+unfoldable pub product_of : Number → Number → Number × Number
+product_of a k =
+    let size = a.magnitude * k.magnitude in
+    let sign = signs_differ a.minus k.minus && not (k.magnitude == 0) in
+    (record { minus = sign; magnitude = size / 16384 }, record { minus = sign; magnitude = size % 16384 })
+
+-- the number in two words that division takes: the lower one may have another sign than the upper
+abbrev pub dividend_of : Number → Number → ℤ
+dividend_of a l = pos 16384 *ℤ value a +ℤ value l
+
+-- its sign is the upper word's, and the lower word's where the upper one is a zero
+abbrev pub dividend_is_minus : Number → Number → Bool
+dividend_is_minus a l = if a.magnitude == 0 then l.minus else a.minus
+
+-- The quotient and the remainder, where the divisor is no zero and the quotient fits a word. At equality the quotient is the largest one, and the remainder as large as the divisor.
+unfoldable pub quotient_of : Number → Number → Number → Option (Number × Number)
+quotient_of a l k =
+    let size = nat_abs (dividend_of a l) in
+    let sign = dividend_is_minus a l in
+    let whole = min (size / k.magnitude) 16383 in
+    if not (k.magnitude == 0) && nat_le size (16384 * k.magnitude)
+    then Some (record { minus = signs_differ sign k.minus; magnitude = whole }, record { minus = sign; magnitude = size - whole * k.magnitude })
+    else None
+
+-- The law of division: quotient q and remainder r make up the dividend, and the remainder is below the divisor, or equal to it where the quotient is the largest word. The quotient is minus where the signs differ, and the remainder has the dividend's sign.
+pub record IsDivision (a l k q r : Number) : Type 0 where
+  pub divisor : 0 < k.magnitude
+  pub fits : q.magnitude ≤ 16383
+  pub whole : nat_abs (dividend_of a l) ≡ q.magnitude * k.magnitude + r.magnitude
+  pub rest : (r.magnitude < k.magnitude) ⊎ ((q.magnitude ≡ 16383) × (r.magnitude ≡ k.magnitude))
+  pub quotient_sign : q.minus ≡ signs_differ (dividend_is_minus a l) k.minus
+  pub remainder_sign : r.minus ≡ dividend_is_minus a l

@@ -1,0 +1,17 @@
+//! The difference of two angles, which are counted in two's complement.
+ghost use Rattle.std.specs.Prelude.{◌≡◌};
+ghost use Rattle.agc_word.specs.Angles.{modular_difference_of, IsModularDifference};
+
+use crate::narrow::Narrow;
+use crate::wide::Wide;
+
+/// The shorter way from angle `k` to angle `a` on a circle of 32768, in -16384 to 16383, as MSU
+/// leaves it in A: equal angles give +0, and the one value -16384 has overflow.
+#[tactic(auto, unfolding(crate::specs::Angles::modular_difference_of))]
+pub fn modular_difference(a: Narrow, k: Narrow) -> Wide
+    ensures way { result ≡ modular_difference_of a k }
+    ensures law { IsModularDifference a k result }
+{
+    let way = (a.bits() + 32768 - k.bits()) % 32768;
+    Wide::from_bits(if way < 16384 { way } else { way + 32767 })
+}
