@@ -1,3 +1,4 @@
 pub mod Key
 pub mod Event
 pub mod Script
+pub mod Text

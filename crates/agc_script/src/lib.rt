@@ -4,7 +4,9 @@
 
 mod event;
 mod key;
+mod number;
 mod script;
+mod text;
 
 pub use event::{Event, What};
 pub use key::Key;
