@@ -1,15 +1,14 @@
 -- The first line of a file and the first word of a line, and what is left after them.
-use Rattle.std.specs.Prelude.{◌≡◌, ℕ, zero, suc, ◌+◌, ◌-◌, ◌≤◌, ◌<◌, min, Bool, true, false, not, List, [], ◌∷◌, ◌++◌, length, take, drop, map, filter, position, Option, Some, None, unwrap_or, if◌then◌else◌}
+use Rattle.std.specs.Prelude.{◌≡◌, ℕ, zero, suc, ◌+◌, ◌≤◌, ◌<◌, min, Bool, true, false, not, List, [], ◌∷◌, length, take, drop, position, Option, Some, None, unwrap_or}
 use Rattle.std.specs.List.{slice_split, onto_first, position_or_len}
 use Rattle.std.specs.Str.Lines.{strip_carriage_return}
-use Rattle.std.proofs.Common.{refl, arith, rules, ap, ◌∙◌, sym, cond, get_or, add-one, one-add, drop-cons}
+use Rattle.std.proofs.Common.{refl, arith, ap, ◌∙◌, sym, cond, get_or, add-one, one-add, drop-cons}
 use Rattle.std.proofs.Math.Seq.{take-length, drop-length}
 use Rattle.std.proofs.Math.ListN.{drop_of_length-le}
 use Rattle.std.proofs.lemmas.Bool.Decides.{nat_tests}
-use Rattle.std.proofs.lemmas.List.Splits.{slice_split-cons_yes, slice_split-cons_no, slice_split_none, slice_split_first}
+use Rattle.std.proofs.lemmas.List.Splits.{slice_split-cons_yes, slice_split_none, slice_split_first}
 use Rattle.std.proofs.lemmas.List.Sums.{fails_before_first, passes_at_first}
-use Rattle.std.proofs.lemmas.Grind.{common_steps}
-use Rattle.agc_script.specs.Text.{is_line_feed, is_blank, is_empty_part, without_empty_end, lines_of, words_of}
+use Rattle.agc_script.specs.Text.{is_line_feed, is_blank, without_empty_end, lines_of, words_of}
 
 place_of : (p : ℕ → Bool) (xs : List ℕ) (i : ℕ) → position p xs ≡ Some i → (i ≡ position_or_len p xs) × (position_or_len p xs < length xs)
 place_of p xs i h = grind (arith, nat_tests)

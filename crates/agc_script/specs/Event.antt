@@ -1,5 +1,6 @@
 -- What an event of a script may hold.
-use Rattle.std.specs.Prelude.{◌≡◌, ℕ, ◌≤◌}
+use Rattle.std.specs.Prelude.{◌≡◌, ◌≢◌, ℕ, ◌≤◌}
+use Rattle.agc_word.specs.declared.pulse.Pulse.TheVariants as pulse
 use Rattle.agc_script.specs.declared.event.Event.{Event}
 use Rattle.agc_script.specs.declared.event.What.{What}
 use Rattle.agc_script.specs.declared.event.What.TheVariants as what
@@ -16,11 +17,16 @@ IsInterrupt number = (1 ≤ number) × (number ≤ 10)
 abbrev pub IsPokePlace : ℕ → ℕ → Type 0
 IsPokePlace bank offset = (bank ≤ 7) × (offset ≤ 0o377) × (bank ≡ 0 → 0o10 ≤ offset)
 
--- what happens has each of its numbers in range
+-- the cells of the counters, which pulses step
+abbrev pub IsCounter : ℕ → Type 0
+IsCounter cell = (0o24 ≤ cell) × (cell ≤ 0o60)
+
+-- what happens has each of its numbers in range; no script has a Dinc, which is the timers' own
 unfoldable pub IsWhatInRange : What → Type 0
 IsWhatInRange (what.Key key) = Unit {0}
 IsWhatInRange (what.Pro down) = Unit {0}
 IsWhatInRange (what.Input channel value) = IsInputChannel channel
+IsWhatInRange (what.Pulse counter kind) = IsCounter counter × (kind ≢ pulse.Dinc)
 IsWhatInRange (what.Raise number) = IsInterrupt number
 IsWhatInRange (what.Poke bank offset value) = IsPokePlace bank offset
 

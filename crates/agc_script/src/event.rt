@@ -1,6 +1,6 @@
 //! The events of a script: what happens to the computer from outside, and when.
 use crate::key::Key;
-use agc_word::Narrow;
+use agc_word::{Narrow, Pulse};
 
 /// Something that happens from outside, as the machine takes it between two orders.
 #[derive(Clone, Copy, Debug, PartialEq, Eq)]
@@ -13,6 +13,11 @@ pub enum What {
     Input {
         channel: u16,
         value: Narrow,
+    },
+    /// A counter, cell 24 to 60 octal of bank 0, gets a pulse of any kind but `Dinc`.
+    Pulse {
+        counter: u16,
+        kind: Pulse,
     },
     /// An interrupt is requested by its number, 1 (T6RUPT) to 10 (RUPT10).
     Raise(u8),

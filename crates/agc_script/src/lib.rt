@@ -3,11 +3,13 @@
 #![tactic(auto)]
 
 mod event;
+mod fault;
 mod key;
 mod number;
 mod script;
 mod text;
 
 pub use event::{Event, What};
+pub use fault::{FaultKind, ScriptFault};
 pub use key::Key;
 pub use script::Script;

@@ -19,5 +19,5 @@ loop-b-preserved c =
     record {
       digits = all_digits-more _ _ _ c.loop-b-test.true c.loop-b.invariant.digits digit.0;
       value = rw (digits_value-more c.args.base c.args.digits.now c.loop-b.b-index c.loop-b-test.true, c.loop-b.invariant.value, digit.1);
-      below = next_below _ _ _ _ c.requires.base digit.2 c.loop-b.invariant.below
+      below = next_below _ _ _ _ c.requires.base digit.2 c.loop-b.invariant.below;
     }

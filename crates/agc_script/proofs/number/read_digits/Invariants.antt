@@ -7,5 +7,5 @@ abbrev pub invariant-loop-b : goal.invariant-loop-b
 invariant-loop-b l = record {
   digits : list_all (is_digit l.base) (take l.b-index l.digits) ≡ true;
   value : l.value ≡ digits_value l.base (take l.b-index l.digits);
-  below : l.value < 10 ^ l.b-index
+  below : l.value < 10 ^ l.b-index;
 }
