@@ -1,0 +1,4 @@
+pub mod Digit
+pub mod Lamp
+pub mod Face
+pub mod Text

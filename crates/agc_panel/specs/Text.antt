@@ -1,0 +1,50 @@
+-- The panel's eight lines.
+use Rattle.std.specs.Prelude.{ℕ, Bool, if◌then◌else◌, List, [], ◌∷◌, ◌++◌, codes, filter}
+use Rattle.std.specs.List.{join_by}
+use Rattle.agc_panel.specs.declared.face.Face.{Face}
+use Rattle.agc_panel.specs.declared.face.Pair.{Pair}
+use Rattle.agc_panel.specs.declared.face.Register.{Register}
+use Rattle.agc_panel.specs.declared.lamp.Lamp.{Lamp}
+use Rattle.agc_panel.specs.declared.lamp.Lamps.{Lamps}
+use Rattle.agc_panel.specs.declared.text.Sign.{Sign}
+use Rattle.agc_panel.specs.declared.text.Sign.TheVariants.{Plus, Minus, Blank}
+use Rattle.agc_panel.specs.Digit.{glyph}
+use Rattle.agc_panel.specs.Lamp.{is_lit, lamp_name, printed_order}
+
+-- the sign of a register: plus where the plus relay is on, else minus where the minus relay is on
+abbrev pub sign_of : Register → Sign
+sign_of register = if register.plus then Plus else (if register.minus then Minus else Blank)
+
+-- `+`, `-` or `_`
+abbrev pub sign_glyph : Sign → ℕ
+sign_glyph Plus = 43
+sign_glyph Minus = 45
+sign_glyph Blank = 95
+
+-- a name and two digits
+unfoldable pub pair_line : List ℕ → Pair → List ℕ
+pair_line name pair = name ++ codes " " ++ (glyph pair.left ∷ glyph pair.right ∷ []) ++ codes "\n"
+
+-- a name, a sign and five digits
+unfoldable pub register_line : List ℕ → Register → List ℕ
+register_line name r =
+    name ++ codes " " ++ (sign_glyph (sign_of r) ∷ glyph r.d1 ∷ glyph r.d2 ∷ glyph r.d3 ∷ glyph r.d4 ∷ glyph r.d5 ∷ []) ++ codes "\n"
+
+unfoldable pub flash_line : Bool → List ℕ
+flash_line flash = codes "FLASH " ++ (if flash then codes "on" else codes "off") ++ codes "\n"
+
+-- names with a comma and a space between, or `none`
+abbrev pub names_of_lamps : List Lamp → List ℕ
+names_of_lamps [] = codes "none"
+names_of_lamps (lamp ∷ lamps) = join_by lamp_name (codes ", ") (lamp ∷ lamps)
+
+-- the lamps that are on, in the order of print
+unfoldable pub lamps_line : Lamps → List ℕ
+lamps_line lamps = codes "LAMPS " ++ names_of_lamps (filter (is_lit lamps) printed_order) ++ codes "\n"
+
+-- the panel's text
+unfoldable pub panel_text : Face → List ℕ
+panel_text face =
+    pair_line (codes "PROG") face.program ++ pair_line (codes "VERB") face.verb ++ pair_line (codes "NOUN") face.noun
+    ++ register_line (codes "R1") face.r1 ++ register_line (codes "R2") face.r2 ++ register_line (codes "R3") face.r3
+    ++ flash_line face.flash ++ lamps_line face.lamps

@@ -1,0 +1,75 @@
+//! One digit of the panel: five relays that light up to seven segments.
+ghost use Rattle.std.specs.Prelude.{◌≡◌, Some, [], ◌∷◌};
+ghost use Rattle.agc_panel.specs.Digit.{digit_of, glyph};
+
+use std::fmt;
+
+/// What one digit's place shows. At the start of a run it is blank.
+#[derive(Clone, Copy, Debug, PartialEq, Eq)]
+pub enum Digit {
+    Blank,
+    Zero,
+    One,
+    Two,
+    Three,
+    Four,
+    Five,
+    Six,
+    Seven,
+    Eight,
+    Nine,
+    /// A code that stands for no digit.
+    Unknown,
+}
+
+impl Digit {
+    /// The digit that a code of the relay word stands for, 0 to 31 (decimal).
+    #[tactic(auto, unfolding(crate::specs::Digit::digit_of))]
+    pub fn from_code(code: u16) -> Digit
+        ensures { result ≡ digit_of code }
+    {
+        match code {
+            0 => Digit::Blank,
+            21 => Digit::Zero,
+            3 => Digit::One,
+            25 => Digit::Two,
+            27 => Digit::Three,
+            15 => Digit::Four,
+            30 => Digit::Five,
+            28 => Digit::Six,
+            19 => Digit::Seven,
+            29 => Digit::Eight,
+            31 => Digit::Nine,
+            _ => Digit::Unknown,
+        }
+    }
+
+    /// The one character that the digit is printed as: `_` for a blank, `?` for an unknown code.
+    #[tactic(auto, unfolding(crate::specs::Digit::glyph))]
+    pub fn glyph(self) -> &'static str
+        ensures { result.now ≡ glyph self ∷ [] }
+    {
+        match self {
+            Digit::Blank => "_",
+            Digit::Zero => "0",
+            Digit::One => "1",
+            Digit::Two => "2",
+            Digit::Three => "3",
+            Digit::Four => "4",
+            Digit::Five => "5",
+            Digit::Six => "6",
+            Digit::Seven => "7",
+            Digit::Eight => "8",
+            Digit::Nine => "9",
+            Digit::Unknown => "?",
+        }
+    }
+}
+
+impl fmt::Display for Digit {
+    ghost output = { λ digit. Some (glyph digit ∷ []) };
+
+    fn fmt<W: fmt::Write>(&self, f: &mut fmt::Formatter<W>) -> fmt::Result {
+        f.write_str(self.glyph())
+    }
+}

@@ -1,0 +1,66 @@
+//! The panel as the display keeps it up, write by write.
+ghost use Rattle.std.specs.Prelude.{◌≡◌, List, [], ◌∷◌, ◌++◌, IfOk, string_bytes};
+ghost use Rattle.agc_machine.specs.declared.answer.ChannelWrite.{ChannelWrite as Write};
+ghost use Rattle.agc_panel.specs.Face.{face_after, panel_of};
+ghost use Rattle.agc_panel.specs.Text.{panel_text};
+
+use crate::face::Face;
+use crate::text::text_of;
+use agc_machine::ChannelWrite;
+use std::alloc::{AllocError, Global};
+use std::marker::Model;
+
+/// The panel of the keyboard unit. Contracts see what it shows, a `Face`.
+#[derive(Clone, Copy, Debug, PartialEq, Eq)]
+pub struct Panel {
+    face: Face,
+}
+
+impl Model for Panel {
+    ghost use Rattle.agc_panel.specs.declared.face.Face.{Face as Fields};
+
+    ghost Value = { Fields };
+
+    ghost view = { λ panel. panel.face };
+
+    ghost inverse = { λ shown. record { face = shown } };
+}
+
+impl Panel {
+    /// The panel before any write: every digit blank, every sign and lamp and the flash off.
+    #[tactic(auto, unfolding(crate::specs::Face::face_after, crate::specs::Face::shown, crate::specs::Face::blank_face))]
+    pub fn new() -> Panel
+        ensures { result ≡ panel_of [] }
+    {
+        Panel {
+            face: Face::blank(),
+        }
+    }
+
+    /// Takes one channel write: each field that it names gets the write's value, all others stay. A
+    /// write names a field where its channel and, on channel 10 octal, its row are the field's own.
+    #[tactic(auto, using(crate::proofs::Taken::takes_all))]
+    pub fn take(&mut self, write: &ChannelWrite)
+        ensures named { self.new ≡ face_after self.old (write.now ∷ []) }
+        ensures all { (taken : List Write) → self.old ≡ panel_of taken → self.new ≡ panel_of (taken ++ write.now ∷ []) }
+    {
+        self.face.take(write);
+    }
+
+    /// The panel in print: eight lines, each ended by a line feed. Fails where memory runs out.
+    pub fn text(&self, alloc: Global) -> Result<String, AllocError>
+        ensures { IfOk result (λ text. string_bytes text ≡ panel_text self.now) }
+    {
+        text_of(alloc, &self.face)
+    }
+
+    /// What the panel shows.
+    pub fn face(&self) -> Face
+        ensures { result ≡ self.now }
+    {
+        self.face
+    }
+}
+
+#[cfg(test)]
+mod tests;

@@ -1,0 +1,115 @@
+//! The panel in print: eight lines, one push each.
+ghost use Rattle.std.specs.Prelude.{◌≡◌, ◌++◌, IfOk, OnOk, Some, [], ◌∷◌, string_bytes, filter};
+ghost use Rattle.agc_panel.specs.Lamp.{is_lit, printed_order};
+ghost use Rattle.agc_panel.specs.Text.{sign_of, sign_glyph, pair_line, register_line, flash_line, lamps_line, panel_text};
+
+use crate::face::{Face, Pair, Register};
+use crate::lamp::{Lamp, Lamps};
+use std::alloc::{AllocError, Global};
+use std::fmt;
+
+/// The sign that a register shows.
+#[derive(Clone, Copy, Debug, PartialEq, Eq)]
+pub enum Sign {
+    Plus,
+    Minus,
+    Blank,
+}
+
+impl Register {
+    /// The register's sign: plus wins where both relays are on.
+    pub fn sign(&self) -> Sign
+        ensures { result ≡ sign_of self.now }
+    {
+        if self.plus {
+            Sign::Plus
+        } else if self.minus {
+            Sign::Minus
+        } else {
+            Sign::Blank
+        }
+    }
+}
+
+impl fmt::Display for Sign {
+    ghost output = { λ sign. Some (sign_glyph sign ∷ []) };
+
+    fn fmt<W: fmt::Write>(&self, f: &mut fmt::Formatter<W>) -> fmt::Result {
+        f.write_str(match self {
+            Sign::Plus => "+",
+            Sign::Minus => "-",
+            Sign::Blank => "_",
+        })
+    }
+}
+
+#[tactic(auto, unfolding(crate::specs::Text::pair_line))]
+fn push_pair(text: &mut String, name: &str, pair: Pair) -> Result<(), AllocError>
+    ensures { OnOk result (string_bytes text.new ≡ string_bytes text.old ++ pair_line name.now pair) }
+{
+    let Pair { left, right } = pair;
+    writeln!(text, "{name} {left}{right}")
+}
+
+#[tactic(auto, unfolding(crate::specs::Text::register_line))]
+fn push_register(text: &mut String, name: &str, register: &Register) -> Result<(), AllocError>
+    ensures { OnOk result (string_bytes text.new ≡ string_bytes text.old ++ register_line name.now register.now) }
+{
+    let sign = register.sign();
+    let Register {
+        d1,
+        d2,
+        d3,
+        d4,
+        d5,
+        ..
+    } = *register;
+    writeln!(text, "{name} {sign}{d1}{d2}{d3}{d4}{d5}")
+}
+
+#[tactic(auto, unfolding(crate::specs::Text::flash_line))]
+fn push_flash(text: &mut String, flash: bool) -> Result<(), AllocError>
+    ensures { OnOk result (string_bytes text.new ≡ string_bytes text.old ++ flash_line flash) }
+{
+    text.push_str(if flash { "FLASH on\n" } else { "FLASH off\n" })
+}
+
+/// The lamps that are on, in the order of print.
+fn lit_lamps(alloc: Global, lamps: &Lamps) -> Result<Vec<Lamp>, AllocError>
+    ensures { IfOk result (λ lit. lit.items ≡ filter (is_lit lamps.now) printed_order) }
+{
+    Lamp::PRINTED
+        .iter()
+        .copied()
+        .filter(|lamp| lamps.is_lit(*lamp))
+        .collect(alloc)
+}
+
+#[tactic(auto, unfolding(crate::specs::Text::lamps_line))]
+fn push_lamps(text: &mut String, alloc: Global, lamps: &Lamps) -> Result<(), AllocError>
+    ensures { OnOk result (string_bytes text.new ≡ string_bytes text.old ++ lamps_line lamps.now) }
+{
+    let lit = lit_lamps(alloc, lamps)?;
+    if lit.is_empty() {
+        return text.push_str("LAMPS none\n");
+    }
+    let names = lit.join(alloc, ", ")?;
+    writeln!(text, "LAMPS {names}")
+}
+
+/// The eight lines of the panel.
+#[tactic(auto, unfolding(crate::specs::Text::panel_text))]
+pub(crate) fn text_of(alloc: Global, face: &Face) -> Result<String, AllocError>
+    ensures { IfOk result (λ text. string_bytes text ≡ panel_text face.now) }
+{
+    let mut text = String::new(alloc);
+    push_pair(&mut text, "PROG", face.program)?;
+    push_pair(&mut text, "VERB", face.verb)?;
+    push_pair(&mut text, "NOUN", face.noun)?;
+    push_register(&mut text, "R1", &face.r1)?;
+    push_register(&mut text, "R2", &face.r2)?;
+    push_register(&mut text, "R3", &face.r3)?;
+    push_flash(&mut text, face.flash)?;
+    push_lamps(&mut text, alloc, &face.lamps)?;
+    Ok(text)
+}
