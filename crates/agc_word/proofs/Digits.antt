@@ -1,5 +1,5 @@
 -- The digits of a number are the binary digits of its pattern, and rows of binary digits can be cut and joined.
-use Rattle.std.proofs.Common.{◌≡◌, ℕ, zero, suc, ◌+◌, ◌-◌, ◌*◌, ◌/◌, ◌%◌, ◌^◌, ◌<◌, List, [], ◌∷◌, ◌++◌, map, take, drop, length, refl, sym, ap, ◌∙◌, arith, add-one, zero-add, suc-add, pow-suc, mul_assoc, mul_comm, true, false, sub-one, one-add, le_refl, inl, inr, mod-eq_of_lt}
+use Rattle.std.proofs.Common.{◌≡◌, ℕ, zero, suc, ◌+◌, ◌-◌, ◌*◌, ◌/◌, ◌%◌, ◌^◌, ◌<◌, List, [], ◌∷◌, ◌++◌, map, take, drop, length, get_or, refl, sym, ap, ◌∙◌, arith, add-one, zero-add, suc-add, pow-suc, mul_assoc, mul_comm, Bool, true, false, sub-one, one-add, le_refl, inl, inr, mod-eq_of_lt}
 use Rattle.std.proofs.lemmas.Grind.{common_steps}
 use Rattle.std.proofs.lemmas.Bool.Decides.{nat_tests}
 use Rattle.std.proofs.lemmas.Bool.{cases_lt}
@@ -10,7 +10,7 @@ use Rattle.std.proofs.lemmas.Int.Digits.{number_push}
 use Rattle.std.proofs.Math.Seq.{take-append_seam, drop-append_seam}
 use Rattle.std.specs.Int.Digits.{number_from_digits}
 use Rattle.std.specs.Int.{bit_at}
-use Rattle.agc_word.specs.Number.{number_from_pattern}
+use Rattle.agc_word.specs.Number.{Number, number_from_pattern, pattern_of}
 use Rattle.agc_word.specs.Digits.{binary, digits, flipped, number_of_digits}
 
 -- the last digit is the remainder by 2
@@ -154,3 +154,21 @@ drop-binary j k p =
     ∙ ap (drop j) (binary-cat j k (p / 2 ^ k) (p % 2 ^ k) (mod_below p (2 ^ k) (pow_pos k)))
     ∙ ap (λ (i : ℕ). drop i (front ++ back)) (sym (length-binary j (p / 2 ^ k)))
     ∙ drop-append_seam front back
+
+-- the digit at a place is the bit that stands as far from the right
+pub get_or-binary : (n i j p : ℕ) → i + j + 1 ≡ n → get_or (binary n p) j 0 ≡ p / 2 ^ i % 2
+unfolding binary
+get_or-binary zero i j p e = absurd (omega arith)
+get_or-binary (suc n) i zero p e = ap (bit_at p) (omega arith)
+get_or-binary (suc n) i (suc j) p e = get_or-binary n i j p (omega arith)
+
+-- a narrow number is the one that its pattern stands for
+number_back : (sign : Bool) (m : ℕ) → m < 2 ^ 14 → number_from_pattern 15 (pattern_of 15 (record { minus = sign; magnitude = m })) ≡ record { minus = sign; magnitude = m }
+number_back true m h = grind (arith, nat_tests)
+number_back false m h = grind (arith, nat_tests)
+
+pub number_from_pattern-pattern_of : (x : Number) → x.magnitude < 2 ^ 14 → number_from_pattern 15 (pattern_of 15 x) ≡ x
+number_from_pattern-pattern_of x h = number_back x.minus x.magnitude h
+
+pub digits-pattern_of : (x : Number) → x.magnitude < 2 ^ 14 → digits 15 x ≡ binary 15 (pattern_of 15 x)
+digits-pattern_of x h = ap (digits 15) (sym (number_from_pattern-pattern_of x h)) ∙ digits-number_from_pattern 14 (pattern_of 15 x) (grind (arith, nat_tests))

@@ -6,4 +6,5 @@ pub mod Angles
 pub mod Edits
 pub mod Logic
 pub mod Pulses
+pub mod Octal
 pub mod Patterns

@@ -7,6 +7,7 @@ use crate::wide::Wide;
 
 /// The shorter way from angle `k` to angle `a` on a circle of 32768, in -16384 to 16383, as MSU
 /// leaves it in A: equal angles give +0, and the one value -16384 has overflow.
+#[inline]
 #[tactic(auto, unfolding(crate::specs::Angles::modular_difference_of))]
 pub fn modular_difference(a: Narrow, k: Narrow) -> Wide
     ensures way { result ≡ modular_difference_of a k }

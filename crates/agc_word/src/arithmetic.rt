@@ -5,6 +5,7 @@ ghost use Rattle.agc_word.specs.Arithmetic.{sum_of, complement_of, dabs_of};
 use crate::wide::Wide;
 
 /// The sum of two words, with end-around carry. A zero sum is +0 only where both terms are +0.
+#[inline]
 #[tactic(auto, unfolding(crate::specs::Arithmetic::sum_of))]
 pub fn sum(x: Wide, y: Wide) -> Wide
     ensures { result ≡ sum_of x y }
@@ -14,6 +15,7 @@ pub fn sum(x: Wide, y: Wide) -> Wide
 }
 
 /// The word with the other sign.
+#[inline]
 #[tactic(auto, unfolding(crate::specs::Arithmetic::complement_of))]
 pub fn complement(x: Wide) -> Wide
     ensures { result ≡ complement_of x }
@@ -22,6 +24,7 @@ pub fn complement(x: Wide) -> Wide
 }
 
 /// The diminished absolute value, which CCS leaves in A: the magnitude less one, not below 0.
+#[inline]
 #[tactic(auto, unfolding(crate::specs::Arithmetic::dabs_of))]
 pub fn dabs(x: Wide) -> Wide
     ensures { result ≡ dabs_of x }

@@ -7,6 +7,7 @@ use crate::narrow::Narrow;
 
 /// The product in two words: its magnitude divided by 16384, and the rest. Both have its sign,
 /// also where a word is zero; where `k` is a zero of either sign both are +0.
+#[inline]
 #[tactic(auto, unfolding(crate::specs::Products::product_of))]
 pub fn product(a: Narrow, k: Narrow) -> (Narrow, Narrow)
     ensures { result ≡ product_of a k }

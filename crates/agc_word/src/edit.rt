@@ -16,6 +16,7 @@ pub enum Edit {
 
 impl Narrow {
     /// The word as the editing register makes it.
+    #[inline]
     pub fn edit(self, how: Edit) -> Narrow
         ensures { result ≡ edited how self }
     {

@@ -5,6 +5,7 @@ ghost use Rattle.agc_word.specs.Logic.{and_of, or_of, xor_of};
 use crate::wide::Wide;
 
 /// A digit is 1 where both words' digits are.
+#[inline]
 pub fn and(x: Wide, y: Wide) -> Wide
     ensures { result ≡ and_of x y }
 {
@@ -12,6 +13,7 @@ pub fn and(x: Wide, y: Wide) -> Wide
 }
 
 /// A digit is 1 where either word's digit is.
+#[inline]
 pub fn or(x: Wide, y: Wide) -> Wide
     ensures { result ≡ or_of x y }
 {
@@ -19,6 +21,7 @@ pub fn or(x: Wide, y: Wide) -> Wide
 }
 
 /// A digit is 1 where the words' digits differ.
+#[inline]
 pub fn xor(x: Wide, y: Wide) -> Wide
     ensures { result ≡ xor_of x y }
 {

@@ -1,7 +1,9 @@
 //! The narrow word: fifteen digits, as memory holds them.
-ghost use Rattle.std.specs.Prelude.{◌≡◌, ℕ, ◌+◌, ◌*◌, ◌^◌, ◌<◌, ◌≤◌, ◌↔◌, IsSome, IfSome};
-ghost use Rattle.agc_word.specs.Number.{number_from_pattern, pattern_of};
+ghost use Rattle.std.specs.Prelude.{◌≡◌, ◌^◌, ◌<◌, ◌≤◌, ◌↔◌, ◌==◌, false, Some, IsSome, IfSome};
+ghost use Rattle.agc_word.specs.Number.{number_from_pattern, pattern_of, bit_of};
+ghost use Rattle.agc_word.specs.Octal.{octal_digits};
 
+use std::fmt;
 use std::marker::Model;
 
 /// A word of fifteen bits in ones' complement: bit 15 is the sign, and there are two zeros,
@@ -35,6 +37,7 @@ impl Narrow {
     pub const MINUS_ZERO: Narrow = Narrow { bits: 0o77777 };
 
     /// The word with this pattern; `None` above `77777` octal.
+    #[inline]
     pub fn from_bits(bits: u16) -> Option<Narrow>
         ensures fits { IsSome result ↔ (bits < 2 ^ 15) }
         ensures word { IfSome result (λ w. w ≡ number_from_pattern 15 bits) }
@@ -47,6 +50,7 @@ impl Narrow {
     }
 
     /// The word's pattern, at most `77777` octal.
+    #[inline]
     pub fn bits(self) -> u16
         ensures pattern { result ≡ pattern_of 15 self }
         ensures number { number_from_pattern 15 result ≡ self }
@@ -56,6 +60,7 @@ impl Narrow {
     }
 
     /// The word with this pattern, for a caller who knows that it has fifteen bits.
+    #[inline]
     pub fn with_bits(bits: u16) -> Narrow
         requires { bits < 2 ^ 15 }
         ensures { result ≡ number_from_pattern 15 bits }
@@ -64,13 +69,26 @@ impl Narrow {
     }
 
     /// Whether the sign, bit 15, is minus.
+    #[inline]
     pub fn is_minus(self) -> bool
         ensures { result ≡ self.minus }
     {
         self.bits >= 16384
     }
 
+    /// Whether a bit is 1. Bits are counted from 1 on the right to 15.
+    #[inline]
+    #[tactic(auto, unfolding(crate::specs::Number::bit_of))]
+    pub fn bit(self, place: u32) -> bool
+        requires counted { 1 ≤ place }
+        requires within { place ≤ 15 }
+        ensures { result ≡ (bit_of place self == 1) }
+    {
+        self.bits >> (place - 1) & 1 == 1
+    }
+
     /// The number without its sign, at most 16383.
+    #[inline]
     pub fn magnitude(self) -> u16
         ensures size { result ≡ self.magnitude }
         ensures range { result < 2 ^ 14 }
@@ -83,6 +101,7 @@ impl Narrow {
     }
 
     /// The word with this sign and magnitude.
+    #[inline]
     pub fn signed(minus: bool, magnitude: u16) -> Narrow
         requires { magnitude < 2 ^ 14 }
         ensures { result ≡ record { minus = minus; magnitude = magnitude } }
@@ -90,5 +109,24 @@ impl Narrow {
         Narrow {
             bits: if minus { 32767 - magnitude } else { magnitude },
         }
+    }
+}
+
+/// +0.
+impl Default for Narrow {
+    ghost is_default = { λ x. x ≡ record { minus = false; magnitude = 0 } };
+
+    fn default() -> Self {
+        Narrow::PLUS_ZERO
+    }
+}
+
+/// The pattern in five octal digits, as listings print a word.
+impl fmt::Display for Narrow {
+    ghost output = { λ x. Some (octal_digits 5 (pattern_of 15 x)) };
+
+    fn fmt<W: fmt::Write>(&self, f: &mut fmt::Formatter<W>) -> fmt::Result {
+        let bits = self.bits();
+        write!(f, "{bits:05o}")
     }
 }

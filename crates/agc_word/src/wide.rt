@@ -1,8 +1,10 @@
 //! The wide word: sixteen digits, as the adder and the registers A and Q hold them.
-ghost use Rattle.std.specs.Prelude.{◌≡◌, ℕ, ◌^◌, ◌<◌, ◌≤◌};
+ghost use Rattle.std.specs.Prelude.{◌≡◌, false, Some};
 ghost use Rattle.agc_word.specs.Number.{number_from_pattern, pattern_of};
+ghost use Rattle.agc_word.specs.Octal.{octal_digits};
 
 use crate::narrow::Narrow;
+use std::fmt;
 use std::marker::Model;
 
 /// Whether a wide word has left the range of a narrow one, and on which side.
@@ -37,8 +39,6 @@ impl Model for Wide {
 }
 
 impl Wide {
-    ghost use Rattle.std.specs.Prelude.{◌≡◌, ◌<◌, ◌^◌};
-    ghost use Rattle.agc_word.specs.Number.{number_from_pattern, pattern_of};
     ghost use Rattle.agc_word.specs.Arithmetic.{narrow_of, over_of};
 
     /// +0, `000000` in octal.
@@ -54,6 +54,7 @@ impl Wide {
     pub const MINUS_ONE: Wide = Wide { bits: 0o177776 };
 
     /// The word with this pattern.
+    #[inline]
     pub fn from_bits(bits: u16) -> Wide
         ensures { result ≡ number_from_pattern 16 bits }
     {
@@ -61,6 +62,7 @@ impl Wide {
     }
 
     /// The word's pattern.
+    #[inline]
     pub fn bits(self) -> u16
         ensures pattern { result ≡ pattern_of 16 self }
         ensures number { number_from_pattern 16 result ≡ self }
@@ -69,6 +71,7 @@ impl Wide {
     }
 
     /// Overflow correction: keeps bit 16 as the sign, and bits 14 to 1.
+    #[inline]
     #[tactic(auto, unfolding(crate::specs::Arithmetic::narrow_of))]
     pub fn narrow(self) -> Narrow
         ensures { result ≡ narrow_of self }
@@ -77,6 +80,7 @@ impl Wide {
     }
 
     /// The overflow: plus or minus where bits 16 and 15 differ, by the sign in bit 16.
+    #[inline]
     #[tactic(auto, unfolding(crate::specs::Arithmetic::over_of))]
     pub fn over(self) -> Over
         ensures { result ≡ over_of self }
@@ -89,7 +93,27 @@ impl Wide {
     }
 }
 
+/// +0.
+impl Default for Wide {
+    ghost is_default = { λ x. x ≡ record { minus = false; magnitude = 0 } };
+
+    fn default() -> Self {
+        Wide::PLUS_ZERO
+    }
+}
+
+/// The pattern in six octal digits.
+impl fmt::Display for Wide {
+    ghost output = { λ x. Some (octal_digits 6 (pattern_of 16 x)) };
+
+    fn fmt<W: fmt::Write>(&self, f: &mut fmt::Formatter<W>) -> fmt::Result {
+        let bits = self.bits();
+        write!(f, "{bits:06o}")
+    }
+}
+
 /// The same number in sixteen bits: bit 15 is copied into bit 16.
+#[inline]
 pub fn widen(x: Narrow) -> Wide
     ensures { result ≡ x }
 {

@@ -1,0 +1,7 @@
+-- How a pattern is printed: in octal, three digits of a word to one of the text.
+use Rattle.std.specs.Prelude.{ℕ, zero, suc, ◌+◌, ◌/◌, ◌%◌, List, [], ◌∷◌, ◌++◌}
+
+-- the last digits of a number in octal, so many of them, the highest first
+unfoldable pub octal_digits : ℕ → ℕ → List ℕ
+octal_digits zero n = []
+octal_digits (suc width) n = octal_digits width (n / 8) ++ (48 + n % 8) ∷ []
