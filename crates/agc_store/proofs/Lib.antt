@@ -1,2 +1,3 @@
 pub mod Woven
 pub mod Kept
+pub mod RopeWords

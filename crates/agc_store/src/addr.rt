@@ -27,6 +27,7 @@ impl Model for Addr {
 
 impl Addr {
     /// The address with this number; `None` above `7777` octal.
+    #[inline]
     pub fn new(bits: u16) -> Option<Addr>
         ensures fits { IsSome result ↔ (bits < 4096) }
         ensures address { IfSome result (λ a. a ≡ bits) }
@@ -39,6 +40,7 @@ impl Addr {
     }
 
     /// The address in the low twelve bits of a number.
+    #[inline]
     pub fn wrapped(bits: u16) -> Addr
         ensures { result ≡ bits % 4096 }
     {
@@ -46,6 +48,7 @@ impl Addr {
     }
 
     /// The address in bits 12 to 1 of a word, as Z keeps it.
+    #[inline]
     pub fn of_word(word: Narrow) -> Addr
         ensures { result ≡ pattern_of 15 word % 4096 }
     {
@@ -53,6 +56,7 @@ impl Addr {
     }
 
     /// The address's number, at most `7777` octal.
+    #[inline]
     pub fn bits(self) -> u16
         ensures address { result ≡ self }
         ensures range { result < 4096 }
@@ -61,6 +65,7 @@ impl Addr {
     }
 
     /// The word with this address in bits 12 to 1, as Z and Q show it.
+    #[inline]
     pub fn word(self) -> Narrow
         ensures { result ≡ narrow_number self }
     {
@@ -68,6 +73,7 @@ impl Addr {
     }
 
     /// The address so many places on; after `7777` octal comes 0.
+    #[inline]
     pub fn skip(self, count: u8) -> Addr
         ensures { result ≡ (self + count) % 4096 }
     {
@@ -77,6 +83,7 @@ impl Addr {
     }
 
     /// The next address; after `7777` octal comes 0.
+    #[inline]
     pub fn next(self) -> Addr
         ensures { result ≡ (self + 1) % 4096 }
     {
@@ -86,6 +93,7 @@ impl Addr {
     }
 
     /// The address before; before 0 comes `7777` octal.
+    #[inline]
     pub fn previous(self) -> Addr
         ensures { result ≡ (self + 4095) % 4096 }
     {
@@ -95,6 +103,7 @@ impl Addr {
     }
 
     /// The ten-bit address in an order chosen by quarter.
+    #[inline]
     pub fn low_ten(self) -> Addr
         ensures { result ≡ self % 1024 }
     {
@@ -104,6 +113,7 @@ impl Addr {
     }
 
     /// The ten-bit address before; before 0 comes `1777` octal, as in DAS and DXCH.
+    #[inline]
     pub fn previous_low_ten(self) -> Addr
         ensures { result ≡ (self + 1023) % 1024 }
     {

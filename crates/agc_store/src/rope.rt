@@ -1,12 +1,17 @@
 //! The rope: the fixed words, as they were woven.
-ghost use Rattle.std.specs.Prelude.{◌≡◌, ℕ, ◌<◌};
+ghost use Rattle.std.specs.Prelude.{◌≡◌, ℕ, ◌<◌, ◌≤◌, ◌-◌, ◌%◌, ◌++◌, length, unwrap_or, IfOk, IfErr, IsNone};
 ghost use Rattle.agc_store.specs.Memory.{fixed_at};
+ghost use Rattle.agc_store.specs.Cells.{cleared_cells};
+ghost use Rattle.agc_store.specs.Rope.{first_words, rope_words, fault_of};
+ghost use Rattle.agc_store.specs.declared.rope_file.RopeForm.TheVariants as form;
 
+use crate::rope_file::{RopeFault, RopeForm, fault, woven_word};
 use agc_word::Narrow;
+use std::alloc::{AllocError, Global};
 use std::marker::Model;
 
 /// The 36,864 fixed words, 36 banks of 1024.
-#[derive(Drop)]
+#[derive(Debug, Drop)]
 pub struct Rope {
     /// The words bank by bank, and after them four banks of +0, which the superbank can select too.
     words: Vec<Narrow>,
@@ -25,7 +30,33 @@ impl Model for Rope {
 }
 
 impl Rope {
+    /// Reads a rope file in the classic form.
+    pub fn read(alloc: Global, bytes: &[u8]) -> Result<Rope, RopeFault>
+        ensures words { IfOk result (λ rope. rope ≡ rope_words RopeForm.Classic bytes.now) }
+        ensures accepted { IfOk result (λ _. fault_of RopeForm.Classic bytes.now ≡ None) }
+        ensures fault { IfErr result (λ fault. fault ≡ unwrap_or (fault_of RopeForm.Classic bytes.now) RopeFault.Memory) }
+    {
+        Rope::read_as(alloc, RopeForm::Classic, bytes)
+    }
+
+    /// Reads a rope file. The words past its end are +0.
+    pub fn read_as(alloc: Global, form: RopeForm, bytes: &[u8]) -> Result<Rope, RopeFault>
+        ensures words { IfOk result (λ rope. rope ≡ rope_words form bytes.now) }
+        ensures accepted { IfOk result (λ _. fault_of form bytes.now ≡ None) }
+
+        // `Memory` is answered only where a growth was refused.
+        ensures fault { IfErr result (λ fault. fault ≡ unwrap_or (fault_of form bytes.now) RopeFault.Memory) }
+    {
+        if let Some(fault) = fault(form, bytes) {
+            return Err(fault);
+        }
+        match weave(alloc, form, bytes, 36864, 40960) {
+            Ok(words) => Ok(Rope { words }),
+            Err(_) => Err(RopeFault::Memory),
+        }
+    }
     /// The word at a place, 1024 times its bank plus its offset; +0 in the banks 44 to 47 octal.
+    #[inline]
     #[tactic(auto, using(crate::proofs::Woven::fixed_at_read))]
     pub(crate) fn word(&self, place: usize) -> Narrow
         requires { place < 40960 }
@@ -33,4 +64,26 @@ impl Rope {
     {
         self.words[place]
     }
+}
+
+/// The first words of a file's rope, and then places of +0 up to a number of places in all.
+#[tactic(auto, using(crate::proofs::RopeWords::first_words_none, crate::proofs::RopeWords::first_words_more), unfolding(crate::specs::Cells::cleared_cells))]
+fn weave(
+    alloc: Global,
+    form: RopeForm,
+    bytes: &[u8],
+    words: usize,
+    places: usize,
+) -> Result<Vec<Narrow>, AllocError>
+    requires even { length bytes.now % 2 ≡ 0 }
+    requires words { words ≤ 36864 }
+    requires places { words ≤ places }
+    ensures { IfOk result (λ woven. woven.items ≡ first_words words form bytes.now ++ cleared_cells (places - words)) }
+{
+    let mut woven = Vec::with_capacity(alloc, places)?;
+    for place in 0..words {
+        woven.push(woven_word(form, bytes, place))?;
+    }
+    woven.resize(places, Narrow::PLUS_ZERO)?;
+    Ok(woven)
 }

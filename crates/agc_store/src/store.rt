@@ -1,4 +1,6 @@
 //! The store: the cells, the rope, and what each access answers and leaves.
+#![tactic(auto, unfolding(crate::specs::Memory::cell_at, crate::specs::Memory::erasable_bank, crate::specs::Memory::fixed_bank, crate::specs::Memory::selected_bank, crate::specs::Memory::erasable_place, crate::specs::Memory::fixed_place, crate::specs::Memory::fixed_at, crate::specs::Memory::read_of, crate::specs::Cells::with_banks, crate::specs::Cells::cells_with, crate::specs::Cells::put_of, crate::specs::Cells::write_of, crate::specs::Cells::fetch_of, crate::specs::Cells::named_cell, crate::specs::Cells::reedit_of, crate::specs::Cells::cell_of, crate::specs::Cells::fixed_of, crate::specs::Cells::poke_of, crate::specs::Cells::superbank_set, crate::specs::Cells::register, crate::specs::Cells::z_of))]
+
 ghost use Rattle.std.specs.Prelude.{◌≡◌, ◌≢◌, ℕ, ◌+◌, ◌*◌, ◌<◌, ◌≤◌, set};
 ghost use Rattle.agc_store.specs.Memory.{
   erasable_bank,
@@ -33,7 +35,7 @@ use agc_word::{Edit, Narrow, Wide, widen};
 use std::marker::Model;
 
 /// The memory of the machine: 2048 erasable cells, the fixed words of a rope, and the superbank.
-#[derive(Drop)]
+#[derive(Debug, Drop)]
 pub struct Store {
     cells: [Wide; 2048],
     rope: Rope,
@@ -57,6 +59,7 @@ impl Model for Store {
 
 impl Store {
     /// The memory at the start: +0 in every erasable cell and register, the superbank off.
+    #[tactic(auto, unfolding(crate::specs::Cells::start_memory))]
     pub fn new(rope: Rope) -> Store
         ensures { result ≡ start_memory rope }
     {
@@ -70,6 +73,7 @@ impl Store {
     }
 
     /// The word at an address, widened where the cell is narrow.
+    #[inline]
     pub fn read(&self, address: Addr) -> Wide
         ensures word { result ≡ read_of self.now address }
         ensures registers { HoldsRegisters self.now.erasable }
@@ -83,6 +87,7 @@ impl Store {
     }
 
     /// The narrow word at an address, as an order is fetched: overflow in A and Q is corrected.
+    #[inline]
     pub fn fetch(&self, address: Addr) -> Narrow
         ensures { result ≡ fetch_of self.now address }
     {
@@ -95,6 +100,7 @@ impl Store {
     }
 
     /// Writes a word to an address below 2000 octal, by the rules of the cell that it names.
+    #[inline]
     pub fn write(&mut self, address: Addr, word: Wide)
         requires { address < 1024 }
         ensures { self.new ≡ write_of self.old address word }
@@ -105,6 +111,7 @@ impl Store {
 
     /// Writes the word of an editing register into it again, so that it is edited once more; leaves
     /// all other cells as they are.
+    #[inline]
     pub fn reedit(&mut self, address: Addr)
         ensures { self.new ≡ reedit_of self.old address }
     {
@@ -118,7 +125,20 @@ impl Store {
         }
     }
 
+    /// The word at an address, which an editing register then edits once more, as the orders do
+    /// that put back what they read.
+    #[inline]
+    pub fn read_and_edit(&mut self, address: Addr) -> Wide
+        ensures word { result ≡ read_of self.old address }
+        ensures edited { self.new ≡ reedit_of self.old address }
+    {
+        let word = self.read(address);
+        self.reedit(address);
+        word
+    }
+
     /// The erasable cell that an address names; `None` from 2000 octal on.
+    #[inline]
     pub fn named_cell(&self, address: Addr) -> Option<u16>
         ensures { result ≡ named_cell self.now address }
     {
@@ -131,6 +151,7 @@ impl Store {
     }
 
     /// Whether the superbank is on.
+    #[inline]
     pub fn superbank(&self) -> bool
         ensures { result ≡ self.now.superbank }
     {
@@ -179,6 +200,7 @@ impl Store {
 
 impl Store {
     /// The accumulator A, with its overflow.
+    #[inline]
     pub fn a(&self) -> Wide
         ensures { result ≡ register 0 self.now }
     {
@@ -186,6 +208,7 @@ impl Store {
     }
 
     /// The low register L.
+    #[inline]
     pub fn l(&self) -> Narrow
         ensures { result ≡ register 1 self.now }
     {
@@ -193,6 +216,7 @@ impl Store {
     }
 
     /// The return register Q, with its overflow.
+    #[inline]
     pub fn q(&self) -> Wide
         ensures { result ≡ register 2 self.now }
     {
@@ -200,6 +224,7 @@ impl Store {
     }
 
     /// The address in Z, that of the next order to fetch.
+    #[inline]
     pub fn z(&self) -> Addr
         ensures { result ≡ z_of self.now }
     {
@@ -207,6 +232,7 @@ impl Store {
     }
 
     /// Sets A, as a write to it does.
+    #[inline]
     pub fn set_a(&mut self, word: Wide)
         ensures { self.new ≡ put_of self.old 0 word }
     {
@@ -214,6 +240,7 @@ impl Store {
     }
 
     /// Sets L, as a write to it does.
+    #[inline]
     pub fn set_l(&mut self, word: Narrow)
         ensures { self.new ≡ put_of self.old 1 word }
     {
@@ -221,6 +248,7 @@ impl Store {
     }
 
     /// Sets Q, as a write to it does.
+    #[inline]
     pub fn set_q(&mut self, word: Wide)
         ensures { self.new ≡ put_of self.old 2 word }
     {
@@ -236,6 +264,7 @@ impl Store {
     }
 
     /// The erasable bank that EB names, 0 to 7.
+    #[inline]
     pub fn erasable_bank(&self) -> u8
         ensures bank { result ≡ erasable_bank self.now.erasable }
         ensures range { result < 8 }
@@ -244,6 +273,7 @@ impl Store {
     }
 
     /// The fixed bank that FB and the superbank select, 0 to 47 octal.
+    #[inline]
     pub fn selected_bank(&self) -> u8
         ensures bank { result ≡ selected_bank self.now }
         ensures range { result < 40 }
@@ -254,6 +284,7 @@ impl Store {
 
 impl Store {
     /// The erasable cell that an address below 2000 octal names.
+    #[inline]
     fn erasable_place(&self, number: usize) -> usize
         requires { number < 1024 }
         ensures place { result ≡ erasable_place self.now.erasable number }
@@ -267,6 +298,7 @@ impl Store {
     }
 
     /// The fixed word that an address from 2000 octal on names.
+    #[inline]
     fn fixed_place(&self, number: usize) -> usize
         requires low { 1024 ≤ number }
         requires high { number < 4096 }
@@ -289,6 +321,7 @@ impl Store {
     }
 
     /// Writes a word to an erasable cell by its number. The cells from 24 octal on are plain.
+    #[inline]
     fn put(&mut self, place: usize, word: Wide)
         requires { place < 2048 }
         ensures { self.new ≡ put_of self.old place word }
@@ -301,6 +334,7 @@ impl Store {
     }
 
     /// Writes a word to a cell below 24 octal: a register, a plain cell or an editing register.
+    #[inline(never)]
     fn put_low(&mut self, place: usize, word: Wide)
         requires { place < 20 }
         ensures { self.new ≡ put_of self.old place word }
@@ -329,6 +363,7 @@ impl Store {
     }
 
     /// Puts a word into a cell that no bank hangs on.
+    #[inline]
     fn set_plain(&mut self, place: usize, word: Wide)
         requires plain { IsPlain place }
         requires storable { IsStorable place word }

@@ -17,6 +17,7 @@ pub(crate) fn cleared<const N: usize>() -> [Wide; N]
 
 /// The word itself: a narrow word is its own overflow correction.
 #[tactic(auto, unfolding(agc_word::specs::Arithmetic::narrow_of))]
+#[inline]
 pub(crate) fn corrected(word: Narrow) -> Narrow
     ensures same { result ≡ word }
     ensures corrected { narrow_of word ≡ word }
@@ -27,6 +28,7 @@ pub(crate) fn corrected(word: Narrow) -> Narrow
 }
 
 /// The word of a pattern of fifteen bits, as a narrow cell keeps it.
+#[inline]
 pub(crate) fn narrow_word(bits: u16) -> Wide
     requires { bits < 32768 }
     ensures word { result ≡ narrow_number bits }
@@ -36,6 +38,7 @@ pub(crate) fn narrow_word(bits: u16) -> Wide
 }
 
 /// The pattern of fifteen bits of a word that a narrow cell keeps.
+#[inline]
 pub(crate) fn narrow_pattern(word: Wide) -> u16
     ensures pattern { result ≡ pattern_of 15 word }
     ensures range { result < 32768 }
@@ -45,6 +48,7 @@ pub(crate) fn narrow_pattern(word: Wide) -> u16
 
 /// The fixed bank that FB's bank and the superbank select.
 #[tactic(auto, unfolding(crate::specs::Memory::bank_with_superbank))]
+#[inline]
 pub(crate) fn selected(bank: usize, superbank: bool) -> usize
     requires { bank < 32 }
     ensures bank { result ≡ bank_with_superbank superbank bank }

@@ -1,0 +1,126 @@
+//! Rope files: their two forms, and why a file is refused.
+#![tactic(auto, unfolding(crate::specs::Rope::file_word, crate::specs::Rope::file_bank, crate::specs::Rope::word_at, crate::specs::Rope::is_bad, crate::specs::Rope::first_bad, crate::specs::Rope::parity_fault, crate::specs::Rope::fault_of))]
+
+ghost use Rattle.std.specs.Prelude.{◌≡◌, ℕ, ◌<◌, ◌≤◌, ◌/◌, ◌%◌, length, IfSome, IfNone};
+ghost use Rattle.agc_store.specs.Rope.{file_word, file_bank, word_at, is_bad, first_bad, parity_fault, fault_of};
+
+use agc_word::Narrow;
+use byteorder::{BigEndian, ByteOrder};
+use thiserror::Error;
+
+/// How a rope file stands: in the classic bank order 02, 03, 00, 01, 04 to 43 octal with bit 1 of
+/// each word unused, or in the plain order with odd parity in bit 1.
+#[derive(Clone, Copy, Debug, PartialEq, Eq)]
+pub enum RopeForm {
+    Classic,
+    Parity,
+}
+
+/// Why a rope file is refused. The faults are looked for in this order, `Memory` last.
+#[derive(Clone, Copy, Debug, PartialEq, Eq, Error)]
+pub enum RopeFault {
+    /// The file has no bytes.
+    #[error("the rope is empty")]
+    Empty,
+    /// The file ends within a word.
+    #[error("the rope has an odd number of bytes")]
+    OddLength,
+    /// The file has more than 73,728 bytes.
+    #[error("the rope has more than 36 banks")]
+    TooLong,
+    /// The first word with an even count of one bits, by its bank and offset.
+    #[error("the parity of bank {bank:o}, offset {offset:o} is wrong")]
+    Parity { bank: u8, offset: u16 },
+    /// There is no memory for the words.
+    #[error("no memory for the rope")]
+    Memory,
+}
+
+/// The fault of a file; `None` where it is a rope.
+pub(crate) fn fault(form: RopeForm, bytes: &[u8]) -> Option<RopeFault>
+    ensures fault { result ≡ fault_of form bytes.now }
+    ensures even { IfNone result (length bytes.now % 2 ≡ 0) }
+{
+    if bytes.is_empty() {
+        return Some(RopeFault::Empty);
+    }
+    if bytes.len() % 2 == 1 {
+        return Some(RopeFault::OddLength);
+    }
+    if bytes.len() > 73728 {
+        return Some(RopeFault::TooLong);
+    }
+    find_parity_fault(form, bytes)
+}
+
+/// The first word with the wrong parity in a file of at most 36 banks.
+fn find_parity_fault(form: RopeForm, bytes: &[u8]) -> Option<RopeFault>
+    requires even { length bytes.now % 2 ≡ 0 }
+    requires banks { length bytes.now ≤ 73728 }
+    ensures { result ≡ parity_fault form bytes.now }
+{
+    match form {
+        RopeForm::Classic => None,
+        RopeForm::Parity => match find_bad(bytes) {
+            Some(index) => Some(RopeFault::Parity {
+                bank: (index / 1024) as u8,
+                offset: (index % 1024) as u16,
+            }),
+            None => None,
+        },
+    }
+}
+
+/// The number of the first word whose parity is wrong.
+fn find_bad(bytes: &[u8]) -> Option<usize>
+    requires { length bytes.now % 2 ≡ 0 }
+    ensures first { result ≡ first_bad bytes.now }
+    ensures range { IfSome result (λ index. index < length bytes.now / 2) }
+{
+    (0..bytes.len() / 2).find(|index| is_even(number_at(bytes, *index)))
+}
+
+/// Whether a word of 16 bits is no odd one: 0 is a place without a word.
+fn is_even(word: u16) -> bool
+    ensures { result ≡ is_bad word }
+{
+    word != 0 && word.count_ones() % 2 == 0
+}
+
+/// The number of 16 bits at a word of a file, 0 past its end.
+fn number_at(bytes: &[u8], index: usize) -> u16
+    requires { length bytes.now % 2 ≡ 0 }
+    ensures { result ≡ file_word bytes.now index }
+{
+    if index < bytes.len() / 2 {
+        BigEndian::read_u16(&bytes[2 * index..])
+    } else {
+        0
+    }
+}
+
+/// Where a bank stands among the banks of a file.
+fn bank_in_file(form: RopeForm, bank: usize) -> usize
+    requires { bank < 36 }
+    ensures bank { result ≡ file_bank form bank }
+    ensures range { result < 36 }
+{
+    match form {
+        RopeForm::Classic => match bank {
+            0 | 1 => bank + 2,
+            2 | 3 => bank - 2,
+            _ => bank,
+        },
+        RopeForm::Parity => bank,
+    }
+}
+
+/// The word of a rope at a place.
+pub(crate) fn woven_word(form: RopeForm, bytes: &[u8], place: usize) -> Narrow
+    requires even { length bytes.now % 2 ≡ 0 }
+    requires place { place < 36864 }
+    ensures { result ≡ word_at form bytes.now place }
+{
+    let index = 1024 * bank_in_file(form, place / 1024) + place % 1024;
+    Narrow::from_bits(number_at(bytes, index) / 2).unwrap()
+}
