@@ -1,0 +1,34 @@
+-- The lines that the program prints of its own: the stop and the log.
+use Rattle.std.specs.Prelude.{ℕ, zero, suc, ◌+◌, ◌/◌, ◌%◌, List, [], ◌∷◌, ◌++◌, codes}
+use Rattle.std.specs.Fmt.{decimal}
+use Rattle.agc_word.specs.Number.{pattern_of}
+use Rattle.agc_machine.specs.declared.answer.ChannelWrite.{ChannelWrite}
+use Rattle.agc_machine.specs.declared.answer.Stop.{Stop}
+use Rattle.agc_machine.specs.declared.answer.Stop.TheVariants as stop
+
+-- the last digits of a number in octal, so many of them, the highest first
+abbrev pub octal_digits : ℕ → ℕ → List ℕ
+octal_digits zero n = []
+octal_digits (suc width) n = octal_digits width (n / 8) ++ (48 + n % 8) ∷ []
+
+-- a stop as the program names it
+abbrev pub stop_name : Stop → List ℕ
+stop_name stop.Limit = codes "Limit"
+stop_name stop.DivisionUndefined = codes "DivisionUndefined"
+stop_name stop.Edrupt = codes "Edrupt"
+stop_name stop.Reached = codes "Reached"
+
+-- why the run ended, at which cycle, and after how many channel writes
+abbrev pub stop_line : Stop → ℕ → ℕ → List ℕ
+stop_line why cycle writes =
+    codes "STOP " ++ stop_name why ++ codes " CYCLE " ++ decimal cycle ++ codes " WRITES " ++ decimal writes ++ codes "\n"
+
+-- one channel write: the cycle in decimal, the channel in three octal digits, the word in five
+abbrev pub log_line : ChannelWrite → List ℕ
+log_line w =
+    decimal w.cycle ++ codes " " ++ octal_digits 3 w.channel ++ codes " " ++ octal_digits 5 (pattern_of 15 w.value) ++ codes "\n"
+
+-- a line for each channel write, in their order
+unfoldable pub log_text : List ChannelWrite → List ℕ
+log_text [] = []
+log_text (w ∷ ws) = log_line w ++ log_text ws

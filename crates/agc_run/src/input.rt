@@ -1,0 +1,52 @@
+//! Reading a file to its end, up to a bound.
+ghost use Rattle.std.specs.Prelude.{◌≡◌, ◌≤◌, IfOk, vec_len};
+ghost use Rattle.std.specs.Io.KnownBytes.{Consumes, IsAtEnd};
+
+use std::alloc::Global;
+use std::io::Read;
+
+/// The most bytes that a rope file may have.
+pub const ROPE_BYTES: usize = 1_048_576;
+
+/// The most bytes that a script file may have.
+pub const SCRIPT_BYTES: usize = 16_777_216;
+
+/// The reads after which a reader counts as one that does not end.
+const TURNS: u32 = 33_554_432;
+
+/// The bytes that one read takes at most.
+const BLOCK: usize = 4096;
+
+/// Why there are no bytes.
+#[derive(Clone, Copy, Debug, PartialEq, Eq)]
+pub enum Unread {
+    /// A read failed, or there are too many bytes, or no end came.
+    CannotRead,
+    /// Memory ran out.
+    Memory,
+}
+
+/// All bytes that the reader has left, at most `limit` of them.
+pub fn read_limited<R: Read>(alloc: Global, reader: &mut R, limit: usize) -> Result<Vec<u8>, Unread>
+    ensures bytes { IfOk result (λ all. Consumes (R.remaining reader.old) (R.remaining reader.new) all.items) }
+    ensures end { IfOk result (λ all. IsAtEnd (R.remaining reader.new)) }
+    ensures bound { IfOk result (λ all. vec_len all ≤ limit) }
+{
+    let mut all = Vec::new(alloc);
+    let mut block = [0; BLOCK];
+    for _ in 0..TURNS {
+        let Ok(count) = reader.read(&mut block) else {
+            return Err(Unread::CannotRead);
+        };
+        if count == 0 {
+            return Ok(all);
+        }
+        if limit - all.len() < count {
+            return Err(Unread::CannotRead);
+        }
+        let Ok(()) = all.extend_from_slice(&block[..count]) else {
+            return Err(Unread::Memory);
+        };
+    }
+    Err(Unread::CannotRead)
+}
