@@ -4,6 +4,7 @@
 
 mod args;
 mod input;
+mod refusal;
 mod text;
 mod until;
 
