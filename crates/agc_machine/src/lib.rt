@@ -2,5 +2,20 @@
 #![tactic(auto)]
 
 mod answer;
+mod basic;
+mod channel;
+mod double;
+mod engine;
+mod extra;
+mod happening;
+mod interrupt;
+mod logic;
+mod machine;
+mod order;
+mod processor;
+mod run;
+mod timer;
+mod words;
 
 pub use answer::{ChannelWrite, Next, Stepped, Stop};
+pub use machine::{LimitFault, Machine, Refused, StopAddress};

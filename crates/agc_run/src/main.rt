@@ -4,7 +4,6 @@
 
 mod args;
 mod input;
-mod refusal;
 mod text;
 mod until;
 

@@ -1,0 +1,4 @@
+pub mod Orderly
+pub mod Events
+pub mod Chain
+pub mod Fresh

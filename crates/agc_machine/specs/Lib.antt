@@ -1,0 +1,15 @@
+pub mod Decode
+pub mod Processor
+pub mod Logic
+pub mod Basic
+pub mod Double
+pub mod Extra
+pub mod Channel
+pub mod Effect
+pub mod Timer
+pub mod Interrupt
+pub mod Happening
+pub mod State
+pub mod Boundary
+pub mod Run
+pub mod Engine

@@ -1,0 +1,46 @@
+-- Whole runs: the chain of boundaries without live keys, up to the next channel write, and up to the stop.
+use Rattle.std.specs.Prelude.{ℕ, zero, suc, ◌+◌, ◌-◌, List, [], ◌∷◌, length, None}
+use Rattle.agc_machine.specs.declared.answer.ChannelWrite.{ChannelWrite}
+use Rattle.agc_machine.specs.declared.answer.Next.{Next}
+use Rattle.agc_machine.specs.declared.answer.Next.TheVariants as next
+use Rattle.agc_machine.specs.declared.answer.Stepped.{Stepped}
+use Rattle.agc_machine.specs.declared.answer.Stepped.TheVariants as stepped
+use Rattle.agc_machine.specs.declared.answer.Stop.TheVariants as stop
+use Rattle.agc_machine.specs.Boundary.{boundary}
+use Rattle.agc_machine.specs.State.{State}
+
+-- No run has more boundaries than this before it stops: each begins below the limit, and takes an event or at least one cycle.
+unfoldable pub boundaries_left : State → ℕ
+boundaries_left s = s.limit - s.cycle + length s.events + 1
+
+-- the chain goes on after a quiet boundary
+abbrev pub unless_quiet : (State → State × Next) → State × Stepped → State × Next
+unless_quiet go_on (s, stepped.Quiet) = go_on s
+unless_quiet go_on (s, stepped.Wrote write) = (s, next.Wrote write)
+unless_quiet go_on (s, stepped.Stopped why) = (s, next.Stopped why)
+
+-- the first write or stop within so many boundaries, of which there are enough
+unfoldable pub next_within : ℕ → State → State × Next
+next_within zero s = (s, next.Stopped stop.Limit)
+next_within (suc more) s = unless_quiet (next_within more) (boundary None s)
+
+-- the next channel write, or the stop where none comes before it, and the state just after
+unfoldable pub next_of : State → State × Next
+next_of s = next_within (boundaries_left s) s
+
+-- A run up to its stop: its channel writes in order, and its last state.
+pub record Run : Type 0 where
+  pub writes : List ChannelWrite
+  pub last : State
+
+abbrev pub unless_stopped_run : (State → Run) → State × Next → Run
+unless_stopped_run go_on (s, next.Wrote write) = let rest = go_on s in record { writes = write ∷ rest.writes; last = rest.last }
+unless_stopped_run go_on (s, next.Stopped why) = record { writes = []; last = s }
+
+unfoldable pub run_within : ℕ → State → Run
+run_within zero s = record { writes = []; last = s }
+run_within (suc more) s = unless_stopped_run (run_within more) (next_of s)
+
+-- the whole run from a state
+unfoldable pub run_of : State → Run
+run_of s = run_within (boundaries_left s) s

@@ -1,0 +1,168 @@
+//! The machine as callers see it: a run that goes on by boundaries or from write to write.
+ghost use Rattle.std.specs.Prelude.{◌≡◌, ◌<◌, ◌≤◌, ◌↔◌, IsTrue, IfOk, IfErr, IsOk, OnOk};
+
+use crate::answer::{Next, Stepped, Stop};
+use crate::engine::Engine;
+use crate::processor::Processor;
+use agc_script::{Key, Script};
+use agc_store::{Addr, Rope, Store};
+use agc_word::Narrow;
+use std::marker::Model;
+use thiserror::Error;
+
+/// An address at which a run stops when its order comes into hand.
+#[derive(Clone, Copy, Debug, PartialEq, Eq)]
+pub struct StopAddress {
+    /// 0 to 47 octal: for 1400 to 1777 the erasable bank, for 2000 to 3777 the fixed bank, with
+    /// the superbank's ten added; elsewhere it is ignored.
+    pub bank: u8,
+    pub address: Addr,
+}
+
+/// A run of a rope and a script, up to a limit of cycles.
+#[derive(Drop)]
+pub struct Machine {
+    engine: Engine,
+}
+
+impl Model for Machine {
+    ghost use Rattle.agc_machine.specs.State.{State};
+
+    ghost Value = { State };
+
+    ghost use Rattle.agc_machine.specs.Engine.{state_of, IsSound};
+
+    ghost view = { λ m. state_of m.engine };
+
+    ghost invariant = { λ m. IsSound m.engine };
+}
+
+/// Why no machine was made.
+#[derive(Clone, Copy, Debug, PartialEq, Eq, Error)]
+pub enum LimitFault {
+    #[error("the limit of cycles is 0")]
+    Zero,
+    #[error("the limit of cycles is above 1000000000000")]
+    TooLarge,
+}
+
+/// A refusal, with the rope and the script that were handed in.
+#[derive(Drop)]
+pub struct Refused {
+    pub fault: LimitFault,
+    pub rope: Rope,
+    pub script: Script,
+}
+
+impl Machine {
+    ghost use Rattle.std.specs.Prelude.{◌≡◌, ◌<◌, ◌≤◌, ◌↔◌, IsTrue, IsSome, IfOk, IfErr, IsOk, None, Some, not, true, false};
+    ghost use Rattle.agc_machine.specs.State.{start_state};
+    ghost use Rattle.agc_machine.specs.Boundary.{boundary, WantsKey};
+    ghost use Rattle.agc_machine.specs.Run.{next_of};
+    ghost use Rattle.agc_machine.specs.Channel.{channel_word};
+    ghost use Rattle.agc_word.specs.Arithmetic.{narrow_of};
+
+    /// The machine at the start of a run: the order at 4000 octal is in hand.
+    pub fn new(rope: Rope, script: Script, limit: u64) -> Result<Machine, Refused>
+        ensures start { IfOk result (λ machine. machine ≡ start_state rope script limit None) }
+        ensures refused { IfErr result (λ refused. (refused.rope ≡ rope) × (refused.script ≡ script)) }
+        ensures zero { IfErr result (λ refused. refused.fault ≡ LimitFault.Zero → limit ≡ 0) }
+        ensures too_large { IfErr result (λ refused. refused.fault ≡ LimitFault.TooLarge → 1000000000000 < limit) }
+        ensures in_range { IsOk result ↔ ((0 < limit) × (limit ≤ 1000000000000)) }
+    {
+        if limit == 0 {
+            return Err(Refused {
+                fault: LimitFault::Zero,
+                rope,
+                script,
+            });
+        }
+        if limit > 1_000_000_000_000 {
+            return Err(Refused {
+                fault: LimitFault::TooLarge,
+                rope,
+                script,
+            });
+        }
+        Ok(Machine {
+            engine: Engine::new(rope, script, limit),
+        })
+    }
+
+    /// The same machine, but its run also stops where the order at an address comes into hand. The
+    /// bank counts in the windows of the switched banks alone. A second address replaces the first.
+    pub fn until(mut self, bank: u8, address: Addr) -> Machine
+        requires { self.begun ≡ false }
+        ensures { result ≡ record self { until = Some (record { bank = bank; address = address }) } }
+    {
+        self.engine.until = Some(StopAddress { bank, address });
+        self
+    }
+
+    /// One boundary: one event, timer step, interrupt or order, or the stop. A live key, which is
+    /// taken as an event of the present cycle, may come only where `wants_key` says so.
+    pub fn step(&mut self, live: Option<Key>) -> Stepped
+        requires { IsSome live → WantsKey self.old }
+        ensures { (self.new, result) ≡ boundary live self.old }
+    {
+        self.engine.step(live)
+    }
+
+    /// Goes on to the next channel write, or to the stop where none comes before it.
+    pub fn next_write(&mut self) -> Next
+        ensures { (self.new, result) ≡ next_of self.old }
+    {
+        self.engine.next_write()
+    }
+
+    /// A live key may be given now: the machine has not stopped, its cycle is below the limit, and
+    /// no event of the script is due.
+    pub fn wants_key(&self) -> bool
+        ensures { IsTrue result ↔ WantsKey self.now }
+    {
+        self.engine.wants_key()
+    }
+
+    /// No boundary was taken yet: the machine is at the start of its run.
+    pub fn fresh(&self) -> bool
+        ensures fresh { result ≡ not self.now.begun }
+        ensures start { IsTrue result → self.now ≡ start_state self.now.processor.store.fixed self.now.events self.now.limit self.now.until }
+    {
+        !self.engine.begun
+    }
+
+    /// The machine cycle, which counts from 0; 1,024,000 / 12 of them are a second.
+    pub fn cycle(&self) -> u64
+        ensures cycle { result ≡ self.now.cycle }
+    {
+        self.engine.cycle
+    }
+
+    /// The memory as it is now.
+    pub fn store(&self) -> &Store
+        ensures { result.now ≡ self.now.processor.store }
+    {
+        &self.engine.processor.store
+    }
+
+    /// What a channel shows at the present cycle; channel 2 shows Q corrected for overflow.
+    pub fn channel(&self, channel: u16) -> Narrow
+        requires { channel ≤ 0o777 }
+        ensures { result ≡ narrow_of (channel_word self.now.cycle channel self.now.processor) }
+    {
+        self.engine
+            .processor
+            .channel(self.engine.cycle, channel)
+            .narrow()
+    }
+
+    /// The memory as the run left it.
+    pub fn into_store(self) -> Store
+        ensures { result ≡ self.processor.store }
+    {
+        let Machine { engine } = self;
+        let Engine { processor, .. } = engine;
+        let Processor { store, .. } = processor;
+        store
+    }
+}

@@ -1,0 +1,104 @@
+//! The processor: memory, channels, the order in hand, and the flags and timers between orders.
+ghost use Rattle.std.specs.Prelude.{◌≡◌, ◌<◌};
+ghost use Rattle.agc_machine.specs.State.{start_channels as channels_at_start};
+
+use crate::answer::Stop;
+use crate::words::narrow_word;
+use agc_store::{Addr, Rope, Store};
+use agc_word::Narrow;
+
+/// What timers and interrupts count: no order but those on channel 13 octal touches it.
+#[derive(Drop)]
+pub(crate) struct Timers {
+    /// Whether each interrupt waits, T6RUPT first.
+    pub(crate) requests: [bool; 10],
+    /// The steps that TIME1 has taken.
+    pub(crate) time1: u64,
+    /// The steps that TIME3 has taken.
+    pub(crate) time3: u64,
+    /// The steps that TIME4 has taken.
+    pub(crate) time4: u64,
+    /// The steps that TIME5 has taken.
+    pub(crate) time5: u64,
+    /// The periods of TIME6 that have gone by or been counted.
+    pub(crate) mark: u64,
+}
+
+/// What the orders work on.
+#[derive(Drop)]
+pub(crate) struct Processor {
+    pub(crate) store: Store,
+    /// The cells of the channels 0 to 777 octal; 1 to 4 show registers and the scaler instead.
+    pub(crate) channels: [Narrow; 512],
+    /// The order in hand, which runs next.
+    pub(crate) hand: Narrow,
+    /// After EXTEND and the extracode INDEX: the next order is an extracode.
+    pub(crate) extracode: bool,
+    /// After EXTEND and both forms of INDEX, which the next order belongs to.
+    pub(crate) midway: bool,
+    /// INHINT is in force.
+    pub(crate) inhibited: bool,
+    /// An interrupt is being served, until RESUME.
+    pub(crate) serving: bool,
+    pub(crate) timers: Timers,
+}
+
+/// What an order did: the cycles that it took where nothing shows outside, a channel write, whose
+/// order takes two cycles, or a stop.
+#[derive(Clone, Copy, Debug, PartialEq, Eq)]
+pub(crate) enum Ran {
+    Quiet(u64),
+    Wrote(u16, Narrow),
+    Halted(Stop),
+}
+
+/// Where a run begins.
+const START: u16 = 0o4000;
+
+impl Processor {
+    ghost use Rattle.std.specs.Prelude.{◌≡◌, ◌<◌};
+    ghost use Rattle.agc_machine.specs.State.{start_processor};
+
+    /// The processor at the start of a run: the order at 4000 octal is in hand.
+    #[tactic(auto, unfolding(crate::specs::State::start_processor, agc_store::specs::Cells::start_memory, agc_store::specs::Cells::put_of))]
+    pub(crate) fn new(rope: Rope) -> Processor
+        ensures start { result ≡ start_processor rope }
+        ensures fixed { result.store.fixed ≡ rope }
+    {
+        let start = Addr::new(START).unwrap();
+        let mut store = Store::new(rope);
+        let hand = store.fetch(start);
+        store.set_z(start.next());
+        Processor {
+            store,
+            channels: start_channels(),
+            hand,
+            extracode: false,
+            midway: false,
+            inhibited: false,
+            serving: false,
+            timers: Timers {
+                requests: [false; 10],
+                time1: 0,
+                time3: 0,
+                time4: 0,
+                time5: 0,
+                mark: 0,
+            },
+        }
+    }
+}
+
+/// The channels at the start: the inputs from the spacecraft in 30 to 33 octal are not asserted.
+#[tactic(auto, unfolding(crate::specs::State::start_channels))]
+fn start_channels<const N: usize>() -> [Narrow; N]
+    requires { 27 < N }
+    ensures { result ≡ channels_at_start N }
+{
+    let mut channels = [narrow_word(0); N];
+    channels[0o30] = narrow_word(0o37777);
+    channels[0o31] = narrow_word(0o77777);
+    channels[0o32] = narrow_word(0o77777);
+    channels[0o33] = narrow_word(0o77777);
+    channels
+}
