@@ -18,28 +18,30 @@ use Rattle.agc_machine.specs.Boundary.{boundary, by_limit, by_event, by_timer, b
 use Rattle.agc_machine.specs.Effect.{order_effect, IsOrderly}
 use Rattle.agc_machine.specs.Interrupt.{interrupt_taken}
 use Rattle.agc_machine.specs.Timer.{timer_stepped, time1_step, time2_by, time3_step, time4_step, time5_step, time6_step, is_due, is_time6_due}
-use Rattle.agc_machine.specs.Run.{boundaries_left, next_within, next_of, unless_quiet}
+use Rattle.agc_machine.specs.Run.{Run, boundaries_left, next_within, next_of, unless_quiet, run_within, run_of, unless_stopped_run}
 use Rattle.agc_machine.specs.State.{State}
 use Rattle.agc_machine.proofs.Orderly.{order_effect-orderly}
 
--- fewer boundaries are left after a boundary than before it, unless it stopped
+-- What a boundary without a live key does to what is left and to the cycle: it never goes back, and unless it stops fewer boundaries are
+-- left. A write shows the boundary's cycle and a channel from 5 to 777 octal, and takes time; a stop is kept.
 abbrev pub Falls : State → State × Stepped → Type 0
-Falls s (t, stepped.Quiet) = boundaries_left t < boundaries_left s
-Falls s (t, stepped.Wrote write) = boundaries_left t < boundaries_left s
-Falls s (t, stepped.Stopped why) = Unit {0}
+Falls s (t, stepped.Quiet) = (boundaries_left t < boundaries_left s) × (s.cycle ≤ t.cycle)
+Falls s (t, stepped.Wrote write) =
+    (boundaries_left t < boundaries_left s) × (write.cycle ≡ s.cycle) × (s.cycle < t.cycle) × (5 ≤ write.channel) × (write.channel < 512)
+Falls s (t, stepped.Stopped why) = (t.stopped ≡ Some why) × (s.cycle ≤ t.cycle)
 
 order_falls : (s : State) (r : Processor × Ran) → s.cycle < s.limit → IsOrderly r.1 → Falls s (ran_order s r)
 unfolding boundaries_left
-order_falls s (p, ran.Quiet cycles) h o = omega arith
-order_falls s (p, ran.Wrote channel value) h o = omega arith
-order_falls s (p, ran.Halted why) h o = tt
+order_falls s (p, ran.Quiet cycles) h o = (omega arith, omega arith)
+order_falls s (p, ran.Wrote channel value) h o = (omega arith, refl, omega arith, o.0, o.1)
+order_falls s (p, ran.Halted why) h o = (refl, omega arith)
 
 by_order_falls : (s : State) → s.cycle < s.limit → Falls s (by_order s)
 unfolding by_order
 by_order_falls s h = order_falls s (order_effect s.cycle s.processor) h (order_effect-orderly s.cycle s.processor)
 
 either_stop : (b : Bool) (s : State) (why : Stop) → Falls s (by_order s) → Falls s (if b then stops why s else by_order s)
-either_stop true s why h = tt
+either_stop true s why h = (refl, omega arith)
 either_stop false s why h = h
 
 by_address_falls : (s : State) → s.cycle < s.limit → Falls s (by_address s)
@@ -48,7 +50,7 @@ by_address_falls s h = either_stop (is_reached s.until s.processor) s _ (by_orde
 
 interrupt_falls : (taken : Option Processor) (s : State) → s.cycle < s.limit → Falls s (interrupt_or_on taken s)
 unfolding boundaries_left
-interrupt_falls (Some p) s h = omega arith
+interrupt_falls (Some p) s h = (omega arith, omega arith)
 interrupt_falls None s h = by_address_falls s h
 
 by_interrupt_falls : (s : State) → s.cycle < s.limit → Falls s (by_interrupt s)
@@ -79,7 +81,7 @@ timer_costs cycle p =
 
 timer_falls : (stepped : Option (Processor × ℕ)) (s : State) → Costs stepped → s.cycle < s.limit → Falls s (timer_or_on stepped s)
 unfolding boundaries_left
-timer_falls (Some (p, cycles)) s o h = omega arith
+timer_falls (Some (p, cycles)) s o h = (omega arith, omega arith)
 timer_falls None s o h = by_interrupt_falls s h
 
 by_timer_falls : (s : State) → s.cycle < s.limit → Falls s (by_timer s)
@@ -96,33 +98,33 @@ unfolding boundaries_left
 event_falls [] s e h = by_timer_falls s h
 event_falls (event ∷ rest) s e h =
     let shorter : length s.events ≡ suc (length rest) = ap length e in
-    either_event (nat_le event.cycle s.cycle) s event rest _ (omega arith) (by_timer_falls s h)
+    either_event (nat_le event.cycle s.cycle) s event rest _ (omega arith, omega arith) (by_timer_falls s h)
 
 by_event_falls : (s : State) → s.cycle < s.limit → Falls s (by_event s)
 unfolding by_event
 by_event_falls s h = event_falls s.events s refl h
 
 either_limit : (b : Bool) (s : State) (why : Stop) → nat_le s.limit s.cycle ≡ b → Falls s (if b then stops why s else by_event s)
-either_limit true s why e = tt
+either_limit true s why e = (refl, omega arith)
 either_limit false s why e = by_event_falls s (grind (arith, nat_tests))
 
 by_limit_falls : (s : State) → Falls s (by_limit s)
 unfolding by_limit
 by_limit_falls s = either_limit (nat_le s.limit s.cycle) s _ refl
 
-stopped_falls : (stopped : Option Stop) (s : State) → Falls s (unless_stopped stopped s)
+stopped_falls : (stopped : Option Stop) (s : State) → s.stopped ≡ stopped → Falls s (unless_stopped stopped s)
 unfolding boundaries_left
-stopped_falls (Some why) s = tt
-stopped_falls None s = by_limit_falls (record s { begun = true })
+stopped_falls (Some why) s e = (e, omega arith)
+stopped_falls None s e = by_limit_falls (record s { begun = true })
 
 -- each boundary without a live key leaves fewer, unless it stops
 pub boundary_falls : (s : State) → Falls s (boundary None s)
 unfolding boundary
-boundary_falls s = stopped_falls s.stopped s
+boundary_falls s = stopped_falls s.stopped s refl
 
 step_same : (go stay : State → State × Next) (s : State) (r : State × Stepped) → Falls s r →
     ((t : State) → boundaries_left t < boundaries_left s → go t ≡ stay t) → unless_quiet go r ≡ unless_quiet stay r
-step_same go stay s (t, stepped.Quiet) h f = f t h
+step_same go stay s (t, stepped.Quiet) h f = f t h.0
 step_same go stay s (t, stepped.Wrote write) h f = refl
 step_same go stay s (t, stepped.Stopped why) h f = refl
 
@@ -144,7 +146,7 @@ unfolding next_of next_within
 next_by_boundary s = same_next (boundaries_left s) (suc (boundaries_left s)) s (omega arith) (omega arith)
 
 after_quiet : (s t : State) (r : State × Stepped) → r ≡ (t, stepped.Quiet) → Falls s r → boundaries_left t < boundaries_left s
-after_quiet s t r e h = subst (Falls s) e h
+after_quiet s t r e h = (subst (Falls s) e h).0
 
 pub fewer_after_quiet : (s t : State) → (t, stepped.Quiet) ≡ boundary None s → boundaries_left t < boundaries_left s
 fewer_after_quiet s t e = after_quiet s t (boundary None s) (sym e) (boundary_falls s)
@@ -162,3 +164,66 @@ next_at_write s t write e = ap (unless_quiet (next_within (boundaries_left s))) 
 
 pub next_at_stop : (s t : State) (why : Stop) → (t, stepped.Stopped why) ≡ boundary None s → (t, next.Stopped why) ≡ next_of s
 next_at_stop s t why e = ap (unless_quiet (next_within (boundaries_left s))) e ∙ sym (next_by_boundary s)
+
+-- What the next write or stop leaves: after a write fewer boundaries are left, the write is not before the present cycle, and time has passed
+-- since; a stop is kept.
+abbrev pub Comes : State → State × Next → Type 0
+Comes s (t, next.Wrote write) =
+    (boundaries_left t < boundaries_left s) × (s.cycle ≤ write.cycle) × (write.cycle < t.cycle) × (5 ≤ write.channel) × (write.channel < 512)
+Comes s (t, next.Stopped why) = (t.stopped ≡ Some why) × (s.cycle ≤ t.cycle)
+
+later_comes : (s t : State) (r : State × Next) → boundaries_left t < boundaries_left s → s.cycle ≤ t.cycle → Comes t r → Comes s r
+later_comes s t (u, next.Wrote write) h k c = (omega arith, omega arith, c.2, c.3, c.4)
+later_comes s t (u, next.Stopped why) h k c = (c.0, omega arith)
+
+comes_by : (go_on : State → State × Next) (s : State) (r : State × Stepped) → Falls s r →
+    ((t : State) → boundaries_left t < boundaries_left s → Comes t (go_on t)) → Comes s (unless_quiet go_on r)
+comes_by go_on s (t, stepped.Quiet) h f = later_comes s t (go_on t) h.0 h.1 (f t h.0)
+comes_by go_on s (t, stepped.Wrote write) h f = (h.0, omega arith, omega arith, h.3, h.4)
+comes_by go_on s (t, stepped.Stopped why) h f = h
+
+within_comes : (n : ℕ) (s : State) → boundaries_left s ≤ n → Comes s (next_within n s)
+unfolding next_within
+within_comes zero s h = absurd (omega (arith, some_left s))
+within_comes (suc n) s h = comes_by (next_within n) s (boundary None s) (boundary_falls s) (λ t l. within_comes n t (omega arith))
+
+-- the next write or stop of any state
+pub next_comes : (s : State) → Comes s (next_of s)
+unfolding next_of
+next_comes s = within_comes (boundaries_left s) s (omega arith)
+
+run_step_same : (go stay : State → Run) (s : State) (r : State × Next) → Comes s r →
+    ((t : State) → boundaries_left t < boundaries_left s → go t ≡ stay t) → unless_stopped_run go r ≡ unless_stopped_run stay r
+run_step_same go stay s (t, next.Wrote write) h f = ap (λ (rest : Run). record rest { writes = write ∷ rest.writes }) (f t h.0)
+run_step_same go stay s (t, next.Stopped why) h f = refl
+
+same_run : (n m : ℕ) (s : State) → boundaries_left s ≤ n → boundaries_left s ≤ m → run_within n s ≡ run_within m s
+unfolding run_within
+same_run zero m s h k = absurd (omega (arith, some_left s))
+same_run (suc n) zero s h k = absurd (omega (arith, some_left s))
+same_run (suc n) (suc m) s h k =
+    run_step_same (run_within n) (run_within m) s (next_of s) (next_comes s) (λ t l. same_run n m t (omega arith) (omega arith))
+
+-- a run by its next write or stop
+pub run_by_next : (s : State) → run_of s ≡ unless_stopped_run run_of (next_of s)
+unfolding run_of run_within
+run_by_next s =
+    same_run (boundaries_left s) (suc (boundaries_left s)) s (omega arith) (omega arith)
+    ∙ run_step_same (run_within (boundaries_left s)) run_of s (next_of s) (next_comes s) (λ t l. same_run (boundaries_left s) (boundaries_left t) t (omega arith) (omega arith))
+
+-- the run of a state whose next is a write
+pub run_at_write : (s t : State) (write : ChannelWrite) → (t, next.Wrote write) ≡ next_of s →
+    run_of s ≡ record { writes = write ∷ (run_of t).writes; last = (run_of t).last }
+run_at_write s t write e = run_by_next s ∙ ap (unless_stopped_run run_of) (sym e)
+
+-- the run of a state whose next is the stop
+pub run_at_stop : (s t : State) (why : Stop) → (t, next.Stopped why) ≡ next_of s → run_of s ≡ record { writes = []; last = t }
+run_at_stop s t why e = run_by_next s ∙ ap (unless_stopped_run run_of) (sym e)
+
+-- fewer boundaries are left after a write, which a loop over writes can count down by
+pub fewer_after_write : (s t : State) (write : ChannelWrite) → (t, next.Wrote write) ≡ next_of s → boundaries_left t < boundaries_left s
+fewer_after_write s t write e = (subst (Comes s) (sym e) (next_comes s)).0
+
+-- a stop is kept in the state
+pub stop_is_kept : (s t : State) (why : Stop) → (t, next.Stopped why) ≡ next_of s → t.stopped ≡ Some why
+stop_is_kept s t why e = (subst (Comes s) (sym e) (next_comes s)).0
