@@ -2,3 +2,4 @@ pub mod Key
 pub mod Event
 pub mod Script
 pub mod Text
+pub mod Command

@@ -1,8 +1,9 @@
 //! The keys of the DSKY's keyboard: their names and their codes.
-ghost use Rattle.std.specs.Prelude.{◌≡◌, ◌<◌, ◌^◌, IfSome};
+ghost use Rattle.std.specs.Prelude.{◌≡◌, IfSome};
 ghost use Rattle.agc_word.specs.Number.{number_from_pattern};
 ghost use Rattle.agc_script.specs.Key.{name_of, code_of, key_named};
 
+use crate::number::narrow;
 use agc_word::Narrow;
 
 /// A key of the keyboard with a code. PRO has none: it is a switch of its own in channel 32.
@@ -95,14 +96,6 @@ impl Key {
         };
         narrow(bits)
     }
-}
-
-/// The word with this pattern.
-fn narrow(bits: u16) -> Narrow
-    requires { bits < 2 ^ 15 }
-    ensures { result ≡ number_from_pattern 15 bits }
-{
-    Narrow::from_bits(bits).unwrap()
 }
 
 const ALL: [Key; 18] = [

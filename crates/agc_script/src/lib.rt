@@ -2,6 +2,7 @@
 //! changes, the tape of keys that were pressed live, and the merge of both.
 #![tactic(auto)]
 
+mod command;
 mod event;
 mod fault;
 mod key;

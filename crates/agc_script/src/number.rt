@@ -1,11 +1,14 @@
 //! The numbers that the words of a script write.
-ghost use Rattle.std.specs.Prelude.{◌≡◌, ◌-◌, ◌≤◌, length, IfSome, if◌then◌else◌};
+ghost use Rattle.std.specs.Prelude.{◌≡◌, ◌-◌, ◌^◌, ◌≤◌, ◌<◌, length, IfSome, if◌then◌else◌};
 ghost use Rattle.std.specs.List.{list_all};
+ghost use Rattle.agc_word.specs.Number.{number_from_pattern};
 ghost use Rattle.agc_script.specs.Text.{number_of, cycle_of, is_digit, digits_value};
+
+use agc_word::Narrow;
 
 /// The number that a word writes in a base, 8 or 10, with at most so many digits.
 #[tactic(auto, unfolding(crate::specs::Text::number_of))]
-fn read_number(base: u64, most: usize, word: &[u8]) -> Option<u64>
+pub(crate) fn read_number(base: u64, most: usize, word: &[u8]) -> Option<u64>
     requires base { base ≤ 10 }
     requires digits { most ≤ 13 }
     ensures { result ≡ number_of base most word.now }
@@ -48,4 +51,12 @@ pub(crate) fn read_cycle(word: &[u8]) -> Option<u64>
     ensures range { IfSome result (λ cycle. cycle ≤ 1000000000000) }
 {
     read_number(10, 13, word).filter(|cycle| *cycle <= 1_000_000_000_000)
+}
+
+/// The word with this pattern of fifteen bits.
+pub(crate) fn narrow(bits: u16) -> Narrow
+    requires { bits < 2 ^ 15 }
+    ensures { result ≡ number_from_pattern 15 bits }
+{
+    Narrow::from_bits(bits).unwrap()
 }
