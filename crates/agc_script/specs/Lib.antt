@@ -3,3 +3,4 @@ pub mod Event
 pub mod Script
 pub mod Text
 pub mod Command
+pub mod Line

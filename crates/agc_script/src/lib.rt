@@ -6,6 +6,7 @@ mod command;
 mod event;
 mod fault;
 mod key;
+mod line;
 mod number;
 mod script;
 mod text;

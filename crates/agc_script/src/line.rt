@@ -1,0 +1,158 @@
+//! One line of a script: no event, one, or one that comes again and again.
+ghost use Rattle.std.specs.Prelude.{◌≡◌, ◌-◌, ◌*◌, ◌+◌, ◌≤◌, length, IfOk, IfSome, nat_le};
+ghost use Rattle.std.specs.List.{list_any};
+ghost use Rattle.agc_script.specs.Event.{IsWhatInRange};
+ghost use Rattle.agc_script.specs.Text.{words_of};
+ghost use Rattle.agc_script.specs.Line.{IsRepeatInRange, cycle_word, in_turn, once_of, repeat_of, every_of, within_bound, words_meaning, meaning_of};
+
+use crate::command::{is, read_command};
+use crate::event::What;
+use crate::fault::FaultKind;
+use crate::number::read_cycle;
+use crate::text::next_word;
+
+/// The events of one line: the same thing at `start`, `start + period` and so on, so many times.
+#[derive(Clone, Copy, Debug, PartialEq, Eq)]
+pub(crate) struct Repeat {
+    pub start: u64,
+    pub period: u64,
+    pub times: u64,
+    pub what: What,
+}
+
+/// What a line says, or the lowest kind of fault in it, where the last event line started at `last`
+/// and so many events stand before this line.
+#[tactic(auto, unfolding(crate::specs::Line::meaning_of))]
+pub(crate) fn read_line(last: u64, before: usize, line: &[u8]) -> Result<Option<Repeat>, FaultKind>
+    requires { before ≤ 65536 }
+    ensures meaning { result ≡ meaning_of last before line.now }
+    ensures range { IfOk result (λ said. IfSome said IsRepeatInRange) }
+    ensures room { IfOk result (λ said. IfSome said (λ repeat. before + repeat.times ≤ 65536)) }
+{
+    if line.len() > 120 {
+        Err(FaultKind::LineTooLong)
+    } else if has_high_byte(line) {
+        Err(FaultKind::NotAscii)
+    } else {
+        read_words(last, before, line)
+    }
+}
+
+/// Whether a byte is beyond ASCII.
+fn has_high_byte(line: &[u8]) -> bool
+    ensures { result ≡ list_any (λ b. nat_le 128 b) line.now }
+{
+    line.iter().any(|b| *b >= 128)
+}
+
+#[tactic(auto, unfolding(crate::specs::Line::words_meaning))]
+fn read_words(last: u64, before: usize, line: &[u8]) -> Result<Option<Repeat>, FaultKind>
+    requires { before ≤ 65536 }
+    ensures meaning { result ≡ words_meaning last before (words_of line.now) }
+    ensures range { IfOk result (λ said. IfSome said IsRepeatInRange) }
+    ensures room { IfOk result (λ said. IfSome said (λ repeat. before + repeat.times ≤ 65536)) }
+{
+    let Some((first, words)) = next_word(line) else {
+        return Ok(None);
+    };
+    if let [b'#', ..] = first {
+        return Ok(None);
+    }
+    let repeat = if is(first, "every") {
+        read_every(last, words)?
+    } else {
+        read_once(last, first, words)?
+    };
+    bounded(before, repeat)
+}
+
+/// The events of a line, if the script has room for them.
+#[tactic(auto, unfolding(crate::specs::Line::within_bound))]
+fn bounded(before: usize, repeat: Repeat) -> Result<Option<Repeat>, FaultKind>
+    requires before { before ≤ 65536 }
+    requires range { IsRepeatInRange repeat }
+    ensures bound { result ≡ within_bound before repeat }
+    ensures range { IfOk result (λ said. IfSome said IsRepeatInRange) }
+    ensures room { IfOk result (λ said. IfSome said (λ repeat. before + repeat.times ≤ 65536)) }
+{
+    if before as u64 + repeat.times > 65536 {
+        return Err(FaultKind::TooMany);
+    }
+    Ok(Some(repeat))
+}
+
+#[tactic(auto, unfolding(crate::specs::Line::once_of))]
+fn read_once(last: u64, first: &[u8], words: &[u8]) -> Result<Repeat, FaultKind>
+    ensures once { result ≡ once_of last first.now (words_of words.now) }
+    ensures range { IfOk result IsRepeatInRange }
+{
+    let cycle = read_cycle_word(first)?;
+    let start = start_in_turn(last, cycle)?;
+    let what = read_command(words)?;
+    Ok(Repeat {
+        start,
+        period: 1,
+        times: 1,
+        what,
+    })
+}
+
+/// The cycle that a word has to write.
+#[tactic(auto, unfolding(crate::specs::Line::cycle_word))]
+fn read_cycle_word(word: &[u8]) -> Result<u64, FaultKind>
+    ensures cycle { result ≡ cycle_word word.now }
+    ensures range { IfOk result (λ cycle. cycle ≤ 1000000000000) }
+{
+    read_cycle(word).ok_or(FaultKind::BadCycle)
+}
+
+/// The start of a line, unless that lies before the last event line's.
+#[tactic(auto, unfolding(crate::specs::Line::in_turn))]
+fn start_in_turn(last: u64, start: u64) -> Result<u64, FaultKind>
+    ensures turn { result ≡ in_turn last start }
+    ensures same { IfOk result (λ same. same ≡ start) }
+{
+    if start < last {
+        Err(FaultKind::OutOfOrder)
+    } else {
+        Ok(start)
+    }
+}
+
+#[tactic(auto, unfolding(crate::specs::Line::every_of))]
+fn read_every(last: u64, words: &[u8]) -> Result<Repeat, FaultKind>
+    ensures every { result ≡ every_of last (words_of words.now) }
+    ensures range { IfOk result IsRepeatInRange }
+{
+    let (n, words) = next_word(words).ok_or(FaultKind::UnknownWord)?;
+    let period = read_cycle_word(n)?;
+    let (from, words) = next_word(words).ok_or(FaultKind::UnknownWord)?;
+    let start = read_cycle_word(from)?;
+    let Some((to, command)) = next_word(words) else {
+        start_in_turn(last, start)?;
+        return Err(FaultKind::UnknownWord);
+    };
+    let end = read_cycle_word(to)?;
+    start_in_turn(last, start)?;
+    let what = read_command(command)?;
+    repeated(period, start, end, what)
+}
+
+/// What happens each so many cycles from a start up to an end.
+#[tactic(auto, unfolding(crate::specs::Line::repeat_of))]
+fn repeated(period: u64, start: u64, end: u64, what: What) -> Result<Repeat, FaultKind>
+    requires end { end ≤ 1000000000000 }
+    requires what { IsWhatInRange what }
+    ensures repeat { result ≡ repeat_of period start end what }
+    ensures range { IfOk result IsRepeatInRange }
+{
+    if period == 0 || end < start {
+        return Err(FaultKind::OutOfRange);
+    }
+    Ok(Repeat {
+        start,
+        period,
+        times: (end - start) / period + 1,
+        what,
+    })
+}
