@@ -1,2 +1,4 @@
 pub mod Cuts
 pub mod Numbers
+pub mod Arranged
+pub mod Repeats

@@ -4,3 +4,4 @@ pub mod Script
 pub mod Text
 pub mod Command
 pub mod Line
+pub mod Parse

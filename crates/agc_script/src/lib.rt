@@ -8,6 +8,7 @@ mod fault;
 mod key;
 mod line;
 mod number;
+mod parse;
 mod script;
 mod text;
 
