@@ -1,13 +1,12 @@
 -- A stable sort by cycle gives the one arrangement.
-use Rattle.std.specs.Prelude.{◌≡◌, ℕ, zero, suc, ◌+◌, ◌-◌, ◌≤◌, ◌<◌, ◌≢◌, ◌==◌, nat_le, Bool, true, false, not, ◌&&◌, ◌⊎◌, List, [], ◌∷◌, ◌++◌, length, filter, All, if◌then◌else◌}
+use Rattle.std.specs.Prelude.{◌≡◌, ℕ, suc, ◌≤◌, ◌<◌, ◌==◌, Bool, true, false, List, [], ◌∷◌, filter, All}
 use Rattle.std.specs.List.Sorted.{IsSortedByKey, IsStableByKey, IsNonDecreasingBy, ties}
 use Rattle.std.specs.Ordering.{nat_cmp, is_lt}
-use Rattle.std.proofs.Common.{refl, arith, rules, ap, ◌∙◌, sym, cond, get_or, add-one, inl, inr}
+use Rattle.std.proofs.Common.{refl, arith, ap, ◌∙◌, sym, cond, inl, inr}
 use Rattle.std.proofs.lemmas.Bool.{eq-eqb, ne_eqb, eqb-true, cases_lt}
 use Rattle.std.proofs.lemmas.Bool.Decides.{nat_tests, leb_tells}
 use Rattle.std.proofs.lemmas.List.Elements.{filter_agree, All-tail, All-cons, All-nil}
 use Rattle.std.proofs.lemmas.List.Sorted.{IsNonDecreasingBy-from_sort}
-use Rattle.std.proofs.lemmas.Grind.{common_steps}
 use Rattle.agc_script.specs.declared.event.Event.{Event}
 use Rattle.agc_script.specs.declared.event.What.TheVariants as what
 use Rattle.agc_script.specs.Script.{IsInOrder}
@@ -43,11 +42,11 @@ not_later : (y z : Event) (ys zs : List Event) → IsInOrder (z ∷ zs) → filt
 unfolding IsInOrder
 not_later y z ys zs h e =
     elim (cases_lt y.cycle z.cycle) as (λ _. z.cycle ≤ y.cycle) [
-      inl l ↦
-        let later : All (λ e. y.cycle < e.cycle) (z ∷ zs) = All-cons (λ e. y.cycle < e.cycle) z zs l (λ k d m. omega (arith, h.0 k d m)) in
-        let none : y ∷ filter (at_cycle y.cycle) ys ≡ [] = sym (keeps_first y ys) ∙ e ∙ none_at y.cycle (z ∷ zs) later in
-        cc
-    | inr g ↦ g
+      | inl l ↦
+          let later : All (λ e. y.cycle < e.cycle) (z ∷ zs) = All-cons (λ e. y.cycle < e.cycle) z zs l (λ k d m. omega (arith, h.0 k d m)) in
+          let none : y ∷ filter (at_cycle y.cycle) ys ≡ [] = sym (keeps_first y ys) ∙ e ∙ none_at y.cycle (z ∷ zs) later in
+          cc
+      | inr g ↦ g
     ]
 
 tail_same : (y : Event) (b : Bool) (F G : List Event) → cond b (y ∷ F) F ≡ cond b (y ∷ G) G → F ≡ G
@@ -78,8 +77,8 @@ unfolding put_in
 All-put_in P event [] p h = All-cons P event [] p h
 All-put_in P event (first ∷ events) p h =
     elim (leb_tells event.cycle first.cycle) as (λ _. All P (put_in event (first ∷ events))) [
-      inl w ↦ rw w.0 (All-cons P event (first ∷ events) p h)
-    | inr w ↦ rw w.0 (All-cons P first (put_in event events) (h 0 first (omega arith)) (All-put_in P event events p (All-tail P first events h)))
+      | inl w ↦ rw w.0 (All-cons P event (first ∷ events) p h)
+      | inr w ↦ rw w.0 (All-cons P first (put_in event events) (h 0 first (omega arith)) (All-put_in P event events p (All-tail P first events h)))
     ]
 
 -- one more event in its place
@@ -88,8 +87,8 @@ unfolding IsInOrder put_in
 put_in-in_order event [] h = (All-nil (λ e. event.cycle ≤ e.cycle), tt)
 put_in-in_order event (first ∷ events) h =
     elim (leb_tells event.cycle first.cycle) as (λ _. IsInOrder (put_in event (first ∷ events))) [
-      inl w ↦ rw w.0 (All-cons (λ e. event.cycle ≤ e.cycle) first events w.1 (λ k d m. omega (arith, h.0 k d m)), h)
-    | inr w ↦ rw w.0 (All-put_in (λ e. first.cycle ≤ e.cycle) event events (omega arith) h.0, put_in-in_order event events h.1)
+      | inl w ↦ rw w.0 (All-cons (λ e. event.cycle ≤ e.cycle) first events w.1 (λ k d m. omega (arith, h.0 k d m)), h)
+      | inr w ↦ rw w.0 (All-put_in (λ e. first.cycle ≤ e.cycle) event events (omega arith) h.0, put_in-in_order event events h.1)
     ]
 
 -- two tests that do not both pass may change places
@@ -105,11 +104,11 @@ unfolding put_in
 filter-put_in c event [] = refl
 filter-put_in c event (first ∷ events) =
     elim (leb_tells event.cycle first.cycle) as (λ _. filter (at_cycle c) (put_in event (first ∷ events)) ≡ filter (at_cycle c) (event ∷ first ∷ events)) [
-      inl w ↦ rw w.0
-    | inr w ↦
-        rw (w.0, filter-put_in c event events)
+      | inl w ↦ rw w.0
+      | inr w ↦
+          rw (w.0, filter-put_in c event events)
           (swap_apart (at_cycle c first) (at_cycle c event) first event (filter (at_cycle c) events)
-            (λ p q. let a : first.cycle ≡ c = eqb-true first.cycle c p in let b : event.cycle ≡ c = eqb-true event.cycle c q in omega arith))
+          (λ p q. let a : first.cycle ≡ c = eqb-true first.cycle c p in let b : event.cycle ≡ c = eqb-true event.cycle c q in omega arith))
     ]
 
 -- the arrangement is in order, and has at each cycle what the list has there
@@ -132,7 +131,7 @@ ties_at x e = grind (arith, nat_tests)
 pub arranged_by_sort : (xs ys : List Event) → IsSortedByKey (λ e. e.cycle) nat_cmp ys → IsStableByKey (λ e. e.cycle) nat_cmp xs ys → ys ≡ arranged xs
 arranged_by_sort xs ys sorted stable =
     same_list ys (arranged xs) (in_order_from ys (IsNonDecreasingBy-from_sort (λ e. e.cycle) ys sorted)) (arranged-in_order xs)
-      (λ c.
-        let x : Event = record { cycle = c; what = what.Pro true } in
-        let agree = filter_agree (ties (λ a b. is_lt (nat_cmp a.cycle b.cycle)) x) (at_cycle c) (ties_at x) in
-        sym (agree ys) ∙ stable x ∙ agree xs ∙ sym (filter-arranged c xs))
+    (λ c.
+    let x : Event = record { cycle = c; what = what.Pro true } in
+    let agree = filter_agree (ties (λ a b. is_lt (nat_cmp a.cycle b.cycle)) x) (at_cycle c) (ties_at x) in
+    sym (agree ys) ∙ stable x ∙ agree xs ∙ sym (filter-arranged c xs))

@@ -2,3 +2,5 @@ pub mod Cuts
 pub mod Numbers
 pub mod Arranged
 pub mod Repeats
+pub mod Refusals
+pub mod Lines

@@ -1,9 +1,9 @@
 -- The events of one line, one after another.
 use Rattle.std.specs.Prelude.{◌≡◌, ℕ, ◌+◌, ◌-◌, ◌*◌, ◌≤◌, ◌<◌, List, [], ◌∷◌, ◌++◌, map, All}
 use Rattle.std.specs.List.{range_with_len}
-use Rattle.std.proofs.Common.{refl, arith, append_assoc}
+use Rattle.std.proofs.Common.{arith, append_assoc}
 use Rattle.std.proofs.Math.Nat.{mul-le-mul_right}
-use Rattle.std.proofs.lemmas.List.Elements.{All-append, All-cons, All-nil}
+use Rattle.std.proofs.lemmas.List.Elements.{All-push}
 use Rattle.std.proofs.lemmas.List.FromFn.{map-range_with_len_more}
 use Rattle.agc_script.specs.declared.event.Event.{Event}
 use Rattle.agc_script.specs.declared.line.Repeat.{Repeat}
@@ -23,7 +23,7 @@ event_at-in_range repeat i h l =
 pub All-more_events : (repeat : Repeat) (i : ℕ) (events more : List Event) → IsRepeatInRange repeat → i < repeat.times → All IsInRange events
     → more ≡ events ++ event_at repeat i ∷ [] → All IsInRange more
 All-more_events repeat i events more h l all e =
-    rw e (All-append IsInRange events (event_at repeat i ∷ []) all (All-cons IsInRange (event_at repeat i) [] (event_at-in_range repeat i h l) (All-nil IsInRange)))
+    rw e (All-push IsInRange events (event_at repeat i) all (event_at-in_range repeat i h l))
 
 -- the events of a line up to the next one
 pub more_events : (repeat : Repeat) (i : ℕ) (old events more : List Event) → events ≡ old ++ map (event_at repeat) (range_with_len 0 i)

@@ -1,5 +1,5 @@
 -- What one line of a script means, given the event lines before it.
-use Rattle.std.specs.Prelude.{ℕ, ◌+◌, ◌-◌, ◌*◌, ◌/◌, ◌==◌, nat_lt, nat_le, ◌≤◌, ◌<◌, Bool, true, false, ◌||◌, List, [], ◌∷◌, length, Option, Some, None, Result, Ok, Err, if◌then◌else◌, codes}
+use Rattle.std.specs.Prelude.{ℕ, ◌+◌, ◌-◌, ◌*◌, ◌/◌, ◌==◌, nat_lt, nat_le, ◌≤◌, Bool, false, ◌||◌, List, [], ◌∷◌, length, Option, Some, None, Result, Ok, Err, if◌then◌else◌, codes}
 use Rattle.std.specs.List.{list_any}
 use Rattle.std.specs.Option.{ok_or}
 use Rattle.std.specs.Str.{bytes_eq}
@@ -7,7 +7,6 @@ use Rattle.agc_script.specs.Text.{words_of, cycle_of}
 use Rattle.agc_script.specs.Event.{IsWhatInRange, last_cycle}
 use Rattle.agc_script.specs.Command.{and_then, command_of}
 use Rattle.agc_script.specs.declared.event.What.{What}
-use Rattle.agc_script.specs.declared.event.Event.{Event}
 use Rattle.agc_script.specs.declared.line.Repeat.{Repeat}
 use Rattle.agc_script.specs.declared.fault.FaultKind.{FaultKind}
 use Rattle.agc_script.specs.declared.fault.FaultKind.TheVariants.{LineTooLong, NotAscii, BadCycle, OutOfOrder, UnknownWord, OutOfRange, TooMany}
@@ -49,22 +48,23 @@ every_of last (n ∷ from ∷ []) =
     and_then (cycle_word n) (λ _. and_then (cycle_word from) (λ start. and_then (in_turn last start) (λ _. Err UnknownWord)))
 every_of last (n ∷ from ∷ to ∷ command) =
     and_then (cycle_word n) (λ period. and_then (cycle_word from) (λ start. and_then (cycle_word to) (λ end.
-        and_then (in_turn last start) (λ _. and_then (command_of command) (λ event. repeat_of period start end event)))))
+    and_then (in_turn last start) (λ _. and_then (command_of command) (λ event. repeat_of period start end event)))))
 
 -- With so many events before it a line may not bring more than the script holds.
 unfoldable pub within_bound : ℕ → Repeat → Result (Option Repeat) FaultKind
 within_bound before repeat = if nat_lt most_events (before + repeat.times) then Err TooMany else Ok (Some repeat)
 
+-- a first word that makes the line a comment
+abbrev pub begins_comment : List ℕ → Bool
+begins_comment [] = false
+begins_comment (b ∷ bs) = b == 35
+
 -- a line without words, or whose first word begins with `#`, is no event
 unfoldable pub words_meaning : ℕ → ℕ → List (List ℕ) → Result (Option Repeat) FaultKind
 words_meaning last before [] = Ok None
 words_meaning last before (first ∷ words) =
-    if starts_with_hash first then Ok None
+    if begins_comment first then Ok None
     else and_then (if bytes_eq first (codes "every") then every_of last words else once_of last first words) (within_bound before)
-  where
-    starts_with_hash : List ℕ → Bool
-    starts_with_hash [] = false
-    starts_with_hash (b ∷ bs) = b == 35
 
 -- What a line says, or the lowest kind of fault in it. Before it stand so many events, and the last event line started at `last`.
 unfoldable pub meaning_of : ℕ → ℕ → List ℕ → Result (Option Repeat) FaultKind

@@ -1,12 +1,12 @@
 -- The script that a file of lines is, or its first faulty line.
-use Rattle.std.specs.Prelude.{◌≡◌, ℕ, ◌+◌, ◌*◌, ◌<◌, ◌≤◌, nat_le, List, [], ◌∷◌, ◌++◌, length, map, Option, Some, None, Result, Ok, Err, MatchResult, if◌then◌else◌}
+use Rattle.std.specs.Prelude.{ℕ, ◌+◌, ◌*◌, ◌<◌, ◌≤◌, nat_le, List, [], ◌∷◌, ◌++◌, length, map, Option, Some, None, Result, Ok, Err, IfErr, if◌then◌else◌}
 use Rattle.std.specs.List.{range_with_len}
 use Rattle.agc_script.specs.Text.{lines_of}
+use Rattle.agc_script.specs.Command.{and_then}
 use Rattle.agc_script.specs.Line.{meaning_of}
 use Rattle.agc_script.specs.declared.event.Event.{Event}
 use Rattle.agc_script.specs.declared.line.Repeat.{Repeat}
 use Rattle.agc_script.specs.declared.fault.FaultKind.{FaultKind}
-use Rattle.agc_script.specs.declared.fault.FaultKind.TheVariants.{Memory}
 use Rattle.agc_script.specs.declared.fault.ScriptFault.{ScriptFault}
 
 -- the event of a line at its i-th time, counted from 0
@@ -26,14 +26,19 @@ abbrev pub start_said : ℕ → Option Repeat → ℕ
 start_said last None = last
 start_said last (Some repeat) = repeat.start
 
--- The events that lines bring, in the order of the lines, or the first faulty line with its lowest kind of fault.
--- Line n is the first of them; before it stand these events, and the last event line started at `last`.
+-- The start and the events after one more line, where the last event line started at `last` and these events stand before.
+unfoldable pub taken : ℕ → List Event → List ℕ → Result (ℕ × List Event) FaultKind
+taken last events line =
+    and_then (meaning_of last (length events) line) (λ said. Ok (start_said last said, events ++ events_said said))
+
+-- The events that lines bring, in the order of the lines, or the first faulty line with its lowest kind of fault; n is the
+-- number of the first of the lines.
 unfoldable pub reading : ℕ → ℕ → List Event → List (List ℕ) → Result (List Event) ScriptFault
 reading n last events [] = Ok events
 reading n last events (line ∷ lines) =
-    elim (meaning_of last (length events) line) [
-      Ok said ↦ reading (n + 1) (start_said last said) (events ++ events_said said) lines
-    | Err kind ↦ Err (record { line = n; kind = kind })
+    elim (taken last events line) [
+      | Ok after ↦ reading (n + 1) after.0 after.1 lines
+      | Err kind ↦ Err (record { line = n; kind = kind })
     ]
 
 -- a list in the order of the cycles with one more event, which stands before those of its cycle
@@ -54,8 +59,8 @@ in_order_of (Err fault) = Err fault
 unfoldable pub script_of : List ℕ → Result (List Event) ScriptFault
 script_of file = in_order_of (reading 1 0 [] (lines_of file))
 
--- a line of the file that is not faulty, and none before it is
+-- a line of the file that is not faulty, with none faulty before it
 pub record IsSoundLine (file : List ℕ) (line : ℕ) : Type 0 where
   pub first : 1 ≤ line
   pub last : line ≤ length (lines_of file)
-  pub sound : MatchResult (script_of file) (λ _. Unit {0}) (λ fault. line < fault.line)
+  pub sound : IfErr (script_of file) (λ fault. line < fault.line)

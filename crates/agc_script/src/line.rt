@@ -1,5 +1,5 @@
 //! One line of a script: no event, one, or one that comes again and again.
-ghost use Rattle.std.specs.Prelude.{◌≡◌, ◌-◌, ◌*◌, ◌+◌, ◌≤◌, length, IfOk, IfSome, nat_le};
+ghost use Rattle.std.specs.Prelude.{◌≡◌, ◌-◌, ◌*◌, ◌+◌, ◌≤◌, length, IfOk, IfErr, IfSome, ◌≢◌, nat_le};
 ghost use Rattle.std.specs.List.{list_any};
 ghost use Rattle.agc_script.specs.Event.{IsWhatInRange};
 ghost use Rattle.agc_script.specs.Text.{words_of};
@@ -26,6 +26,7 @@ pub(crate) struct Repeat {
 pub(crate) fn read_line(last: u64, before: usize, line: &[u8]) -> Result<Option<Repeat>, FaultKind>
     requires { before ≤ 65536 }
     ensures meaning { result ≡ meaning_of last before line.now }
+    ensures kind { IfErr result (λ kind. kind ≢ FaultKind.Memory) }
     ensures range { IfOk result (λ said. IfSome said IsRepeatInRange) }
     ensures room { IfOk result (λ said. IfSome said (λ repeat. before + repeat.times ≤ 65536)) }
 {

@@ -1,15 +1,72 @@
 //! The parser: a file's lines, one after another, and their events in the order of their cycles.
-ghost use Rattle.std.specs.Prelude.{◌≡◌, ◌≢◌, ◌+◌, ◌<◌, ◌≤◌, ◌++◌, length, IfOk, IfErr, OnOk, OnErr, All};
+ghost use Rattle.std.specs.Prelude.{◌≡◌, ◌≢◌, ◌+◌, ◌*◌, ◌<◌, ◌≤◌, [], ◌++◌, length, Ok, Err, IsOk, IfOk, IfErr, OnOk, OnErr, All};
 ghost use Rattle.std.specs.List.Sorted.{IsPermutation};
+ghost use Rattle.agc_script.specs.Text.{lines_of};
 ghost use Rattle.agc_script.specs.Event.{IsInRange};
 ghost use Rattle.agc_script.specs.Line.{IsRepeatInRange};
-ghost use Rattle.agc_script.specs.Parse.{events_of, arranged};
+ghost use Rattle.agc_script.specs.Parse.{events_of, taken, reading, arranged, script_of, IsSoundLine};
 
 use crate::event::Event;
 use crate::fault::{FaultKind, ScriptFault};
 use crate::line::{Repeat, read_line};
 use crate::text::next_line;
 use std::alloc::{AllocError, Global};
+
+/// The events that the lines of a file bring, and how many lines there are.
+#[derive(Drop)]
+pub(crate) struct Reading {
+    /// In the order of the lines.
+    pub events: Vec<Event>,
+    pub lines: usize,
+}
+
+/// Reads the lines of a file, one after another, up to the first that is refused.
+pub(crate) fn read_lines(alloc: Global, file: &[u8]) -> Result<Reading, ScriptFault>
+    ensures ok { IfOk result (λ read. reading 1 0 [] (lines_of file.now) ≡ Ok read.events.items) }
+    ensures lines { IfOk result (λ read. read.lines ≡ length (lines_of file.now)) }
+    ensures range { IfOk result (λ read. All IsInRange read.events.items) }
+    ensures few { IfOk result (λ read. length read.events.items ≤ 65536) }
+    ensures fault { IfErr result (λ fault. fault.kind ≢ FaultKind.Memory → script_of file.now ≡ Err fault) }
+    ensures memory { IfErr result (λ fault. fault.kind ≡ FaultKind.Memory → IsSoundLine file.now fault.line) }
+{
+    let mut events = Vec::new(alloc);
+    let mut last = 0;
+    let mut lines = 0;
+    let mut rest = file;
+    while let Some((line, after)) = next_line(rest) {
+        lines += 1;
+        match take_line(&mut events, last, line) {
+            Ok(start) => last = start,
+            Err(kind) => return Err(ScriptFault { line: lines, kind }),
+        }
+        rest = after;
+    }
+    Ok(Reading { events, lines })
+}
+
+/// Takes in one more line, and gives the start that the next one is compared with.
+#[tactic(auto, unfolding(crate::specs::Parse::taken))]
+fn take_line(events: &mut Vec<Event>, last: u64, line: &[u8]) -> Result<u64, FaultKind>
+    requires range { All IsInRange events.old.items }
+    requires few { length events.old.items ≤ 65536 }
+    ensures ok { IfOk result (λ start. taken last events.old.items line.now ≡ Ok (start, events.new.items)) }
+    ensures range { OnOk result (All IsInRange events.new.items) }
+    ensures few { OnOk result (length events.new.items ≤ 65536) }
+    ensures fault { IfErr result (λ kind. kind ≢ FaultKind.Memory → taken last events.old.items line.now ≡ Err kind) }
+    ensures memory { IfErr result (λ kind. kind ≡ FaultKind.Memory → IsOk (taken last events.old.items line.now)) }
+{
+    match read_line(last, events.len(), line)? {
+        None => Ok(last),
+        Some(repeat) => {
+            let start = repeat.start;
+            let _what = repeat.what;
+            match push_events(events, repeat) {
+                Ok(()) => Ok(start),
+                Err(_) => Err(FaultKind::Memory),
+            }
+        }
+    }
+}
 
 /// Puts the events of a line after those of the lines before it.
 #[tactic(auto, unfolding(crate::specs::Parse::events_of))]
@@ -18,6 +75,7 @@ fn push_events(events: &mut Vec<Event>, repeat: Repeat) -> Result<(), AllocError
     requires range { All IsInRange events.old.items }
     ensures ok { OnOk result (events.new.items ≡ events.old.items ++ events_of repeat) }
     ensures range { OnOk result (All IsInRange events.new.items) }
+    ensures len { OnOk result (length events.new.items ≡ length events.old.items + repeat.times) }
 {
     events.reserve(repeat.times as usize)?;
     for i in 0..repeat.times {
@@ -30,7 +88,7 @@ fn push_events(events: &mut Vec<Event>, repeat: Repeat) -> Result<(), AllocError
 }
 
 /// Puts the events in the order of their cycles; those of one cycle stay in the order of their lines.
-fn arrange(events: &mut Vec<Event>) -> Result<(), AllocError>
+pub(crate) fn arrange(events: &mut Vec<Event>) -> Result<(), AllocError>
     ensures ok { OnOk result (events.new.items ≡ arranged events.old.items) }
     ensures same { IsPermutation events.old.items events.new.items }
     ensures err { OnErr result (0 < length events.old.items) }

@@ -1,9 +1,12 @@
 //! A script: events in the order of their cycles.
-ghost use Rattle.std.specs.Prelude.{◌≡◌, ℕ, ◌<◌, [], length, slice_get, Some};
+ghost use Rattle.std.specs.Prelude.{◌≡◌, ◌≢◌, ◌<◌, [], length, slice_get, Some, Ok, Err, IfOk, IfErr};
 ghost use Rattle.agc_script.specs.Event.{IsInRange};
 ghost use Rattle.agc_script.specs.Script.{IsScript};
+ghost use Rattle.agc_script.specs.Parse.{script_of, IsSoundLine};
 
 use crate::event::Event;
+use crate::fault::{FaultKind, ScriptFault};
+use crate::parse::{Reading, arrange, read_lines};
 use std::alloc::Global;
 use std::marker::Model;
 
@@ -33,6 +36,26 @@ impl Script {
     {
         Script {
             events: Vec::new(alloc),
+        }
+    }
+
+    /// The script that a file's text is: its lines' events, in the order of their cycles.
+    ///
+    /// A refusal names the first faulty line, and of its faults the first in the list of
+    /// [`FaultKind`]. `Memory` names the line at which a growth was refused, which is not faulty
+    /// itself, and the last line where that was while the events were put in order.
+    pub fn parse(alloc: Global, file: &[u8]) -> Result<Script, ScriptFault>
+        ensures ok { IfOk result (λ script. script_of file.now ≡ Ok script) }
+        ensures fault { IfErr result (λ fault. fault.kind ≢ FaultKind.Memory → script_of file.now ≡ Err fault) }
+        ensures memory { IfErr result (λ fault. fault.kind ≡ FaultKind.Memory → IsSoundLine file.now fault.line) }
+    {
+        let Reading { mut events, lines } = read_lines(alloc, file)?;
+        match arrange(&mut events) {
+            Ok(()) => Ok(Script { events }),
+            Err(_) => Err(ScriptFault {
+                line: lines,
+                kind: FaultKind::Memory,
+            }),
         }
     }
 

@@ -1,4 +1,4 @@
-use Rattle.std.specs.Prelude.{◌≡◌, ◌++◌, map, All}
+use Rattle.std.specs.Prelude.{◌≡◌, ◌+◌, ◌++◌, length, map, All}
 use Rattle.std.specs.List.{range_with_len}
 use Rattle.agc_script.specs.Event.{IsInRange}
 use Rattle.agc_script.specs.Parse.{event_at}
@@ -7,5 +7,6 @@ use Rattle.agc_script.proofs.parse.push_events.Given as goal
 abbrev pub invariant-loop-i : goal.invariant-loop-i
 invariant-loop-i l = record {
   pushed : l.events.items ≡ l.initial.events.items ++ map (event_at l.fn.repeat) (range_with_len 0 l.i);
-  in_range : All IsInRange l.events.items
+  len : length l.events.items ≡ length l.initial.events.items + l.i;
+  in_range : All IsInRange l.events.items;
 }
