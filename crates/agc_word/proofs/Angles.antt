@@ -1,5 +1,5 @@
 -- The shorter way round the circle is the one that the law of modular differences fixes.
-use Rattle.std.proofs.Common.{◌≡◌, ℕ, zero, suc, ◌^◌, ◌<◌, ℤ, pos, negsuc, ◌+ℤ◌, ◌-ℤ◌, ◌*ℤ◌, ◌<ℤ◌, ◌≤ℤ◌, Bool, true, false, refl, sym, ap, subst, ◌∙◌, arith}
+use Rattle.std.proofs.Common.{◌≡◌, ℕ, zero, suc, ◌^◌, ◌<◌, ℤ, pos, negsuc, ◌+ℤ◌, ◌-ℤ◌, ◌*ℤ◌, ◌<ℤ◌, ◌≤ℤ◌, Bool, true, false, true≢false, refl, sym, ap, subst, ◌∙◌, arith}
 use Rattle.std.proofs.lemmas.Int.{ints, by_lt_z}
 use Rattle.agc_word.specs.Number.{Number, value, pattern_of}
 use Rattle.agc_word.specs.Arithmetic.{signed_number}
@@ -55,3 +55,25 @@ modular_difference_of-law a k p q =
       turns = (s.turns.0, s.turns.1 ∙ ap (λ (z : ℤ). z +ℤ s.turns.0 *ℤ pos 32768) (sym e));
       no_minus_zero = λ none. no_minus_zero w (sym e ∙ none);
     }
+
+abbrev signed : Bool → ℕ → Number
+signed sign size = record { minus = sign; magnitude = size }
+
+-- a number is known by its integer where it is no -0
+same_value : (b : Bool) (m : ℕ) (c : Bool) (n : ℕ) → (value (signed b m) ≡ pos 0 → b ≡ false) → (value (signed c n) ≡ pos 0 → c ≡ false) → value (signed b m) ≡ value (signed c n) → signed b m ≡ signed c n
+same_value false m false n p q e = cc
+same_value false m true zero p q e = absurd (true≢false (q refl))
+same_value false m true (suc n) p q e = absurd cc
+same_value true zero c n p q e = absurd (true≢false (p refl))
+same_value true (suc m) false n p q e = absurd cc
+same_value true (suc m) true zero p q e = absurd (true≢false (q refl))
+same_value true (suc m) true (suc n) p q e = cc
+
+one_in_a_turn : (d v w n m : ℤ) → negsuc 16383 ≤ℤ v → v ≤ℤ pos 16383 → negsuc 16383 ≤ℤ w → w ≤ℤ pos 16383 → d ≡ v +ℤ n *ℤ pos 32768 → d ≡ w +ℤ m *ℤ pos 32768 → v ≡ w
+one_in_a_turn d v w n m a b x y e f = omega (arith, ints)
+
+-- no other number meets the law
+pub IsModularDifference-only : (a k d e : Number) → IsModularDifference a k d → IsModularDifference a k e → d ≡ e
+IsModularDifference-only a k d e p q =
+    let values = one_in_a_turn (pattern_difference a k) (value d) (value e) p.turns.0 q.turns.0 p.least p.most q.least q.most p.turns.1 q.turns.1 in
+    same_value d.minus d.magnitude e.minus e.magnitude p.no_minus_zero q.no_minus_zero values

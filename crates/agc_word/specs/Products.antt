@@ -4,7 +4,7 @@ use Rattle.agc_word.specs.Number.{Number, value}
 
 -- whether one of two numbers is minus and the other plus, which makes a product or a quotient minus
 abbrev pub signs_differ : Bool → Bool → Bool
-signs_differ minus other = if minus then not other else other
+signs_differ one other = if one then not other else other
 
 -- The product's magnitude stands in two words of fourteen digits, both with its sign, also where a word is zero. To multiply by +0 or -0 gives +0 in both.
 unfoldable pub product_of : Number → Number → Number × Number

@@ -10,13 +10,15 @@ use Rattle.agc_word.specs.declared.pulse.Pulse.TheVariants as pulse
 use Rattle.agc_word.specs.declared.pulse.Carry.{Carry}
 use Rattle.agc_word.specs.declared.pulse.Carry.TheVariants as carry
 
--- the numbers +1, -1 and -0
+-- what PINC adds
 abbrev pub plus_one : Number
 plus_one = record { minus = false; magnitude = 1 }
 
+-- what MINC adds
 abbrev pub minus_one : Number
 minus_one = record { minus = true; magnitude = 1 }
 
+-- where DINC ends, from either side
 abbrev pub minus_zero : Number
 minus_zero = record { minus = true; magnitude = 0 }
 

@@ -1,5 +1,6 @@
 //! The difference of two angles, which are counted in two's complement.
 ghost use Rattle.std.specs.Prelude.{◌≡◌};
+ghost use Rattle.agc_word.specs.Number.{Number};
 ghost use Rattle.agc_word.specs.Angles.{modular_difference_of, IsModularDifference};
 
 use crate::narrow::Narrow;
@@ -12,6 +13,7 @@ use crate::wide::Wide;
 pub fn modular_difference(a: Narrow, k: Narrow) -> Wide
     ensures way { result ≡ modular_difference_of a k }
     ensures law { IsModularDifference a k result }
+    ensures only { (d : Number) → IsModularDifference a k d → d ≡ result }
 {
     let way = (a.bits() + 32768 - k.bits()) % 32768;
     Wide::from_bits(if way < 16384 { way } else { way + 32767 })

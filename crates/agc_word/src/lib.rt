@@ -18,3 +18,6 @@ pub use logic::{and, or, xor};
 pub use narrow::Narrow;
 pub use pulse::{Carry, Pulse};
 pub use wide::{Over, Wide, widen};
+
+#[cfg(test)]
+mod tests;

@@ -12,7 +12,4 @@ returns-clause-only c =
     (law, λ p s other. IsDivision-only _ _ _ _ _ p s law other)
 
 pub returns-clause-none : goal.returns-clause-none
-returns-clause-none c =
-    let law : IsDivision c.args.a c.args.l c.args.k c.signed.result c.signed-2.result =
-    record { divisor = grind arith; fits = grind arith; whole = grind arith; rest = grind arith; quotient_sign = grind (arith, common_steps); remainder_sign = grind (arith, common_steps) } in
-    (λ e. absurd (true≢false e), λ never. absurd (never _ _ law))
+returns-clause-none c = (λ e. absurd (true≢false e), λ never. absurd (never _ _ (returns-clause-only c).0))
