@@ -1,6 +1,6 @@
 -- The chain of boundaries comes to its end: what is left falls with each boundary, and enough is as good as more.
 use Rattle.std.proofs.Common.{◌≡◌, ℕ, ◌+◌, ◌-◌, ◌≤◌, ◌<◌, suc, zero, List, [], ◌∷◌, length, Option, Some, None, Bool, true, false, refl, ap, sym, ◌∙◌, subst, arith, lit≤}
-use Rattle.std.specs.Prelude.{nat_le, if◌then◌else◌}
+use Rattle.std.specs.Prelude.{nat_le, if◌then◌else◌, IsSome}
 use Rattle.std.proofs.lemmas.Bool.Decides.{nat_tests}
 use Rattle.agc_word.specs.declared.pulse.Carry.{Carry}
 use Rattle.agc_word.specs.declared.pulse.Carry.TheVariants as carry
@@ -19,16 +19,9 @@ use Rattle.agc_machine.specs.Effect.{order_effect, IsOrderly}
 use Rattle.agc_machine.specs.Interrupt.{interrupt_taken}
 use Rattle.agc_machine.specs.Timer.{timer_stepped, time1_step, time2_by, time3_step, time4_step, time5_step, time6_step, is_due, is_time6_due}
 use Rattle.agc_machine.specs.Run.{Run, boundaries_left, next_within, next_of, unless_quiet, run_within, run_of, unless_stopped_run}
+use Rattle.agc_machine.specs.Laws.{Falls, Comes, AreRising, after}
 use Rattle.agc_machine.specs.State.{State}
 use Rattle.agc_machine.proofs.Orderly.{order_effect-orderly}
-
--- What a boundary without a live key does to what is left and to the cycle: it never goes back, and unless it stops fewer boundaries are
--- left. A write shows the boundary's cycle and a channel from 5 to 777 octal, and takes time; a stop is kept.
-abbrev pub Falls : State → State × Stepped → Type 0
-Falls s (t, stepped.Quiet) = (boundaries_left t < boundaries_left s) × (s.cycle ≤ t.cycle)
-Falls s (t, stepped.Wrote write) =
-    (boundaries_left t < boundaries_left s) × (write.cycle ≡ s.cycle) × (s.cycle < t.cycle) × (5 ≤ write.channel) × (write.channel < 512)
-Falls s (t, stepped.Stopped why) = (t.stopped ≡ Some why) × (s.cycle ≤ t.cycle)
 
 order_falls : (s : State) (r : Processor × Ran) → s.cycle < s.limit → IsOrderly r.1 → Falls s (ran_order s r)
 unfolding boundaries_left
@@ -165,13 +158,6 @@ next_at_write s t write e = ap (unless_quiet (next_within (boundaries_left s))) 
 pub next_at_stop : (s t : State) (why : Stop) → (t, stepped.Stopped why) ≡ boundary None s → (t, next.Stopped why) ≡ next_of s
 next_at_stop s t why e = ap (unless_quiet (next_within (boundaries_left s))) e ∙ sym (next_by_boundary s)
 
--- What the next write or stop leaves: after a write fewer boundaries are left, the write is not before the present cycle, and time has passed
--- since; a stop is kept.
-abbrev pub Comes : State → State × Next → Type 0
-Comes s (t, next.Wrote write) =
-    (boundaries_left t < boundaries_left s) × (s.cycle ≤ write.cycle) × (write.cycle < t.cycle) × (5 ≤ write.channel) × (write.channel < 512)
-Comes s (t, next.Stopped why) = (t.stopped ≡ Some why) × (s.cycle ≤ t.cycle)
-
 later_comes : (s t : State) (r : State × Next) → boundaries_left t < boundaries_left s → s.cycle ≤ t.cycle → Comes t r → Comes s r
 later_comes s t (u, next.Wrote write) h k c = (omega arith, omega arith, c.2, c.3, c.4)
 later_comes s t (u, next.Stopped why) h k c = (c.0, omega arith)
@@ -227,3 +213,50 @@ fewer_after_write s t write e = (subst (Comes s) (sym e) (next_comes s)).0
 -- a stop is kept in the state
 pub stop_is_kept : (s t : State) (why : Stop) → (t, next.Stopped why) ≡ next_of s → t.stopped ≡ Some why
 stop_is_kept s t why e = (subst (Comes s) (sym e) (next_comes s)).0
+
+rises_later : (from later : ℕ) (writes : List ChannelWrite) → from ≤ later → AreRising later writes → AreRising from writes
+rises_later from later [] h r = tt
+rises_later from later (write ∷ writes) h r = (omega arith, r.1, r.2, r.3)
+
+run_rises_by : (go_on : State → Run) (s : State) (r : State × Next) → Comes s r →
+    ((t : State) → boundaries_left t < boundaries_left s → AreRising t.cycle (go_on t).writes) → AreRising s.cycle (unless_stopped_run go_on r).writes
+run_rises_by go_on s (t, next.Wrote write) h f =
+    (h.1, h.3, h.4, rises_later (write.cycle + 1) t.cycle (go_on t).writes (omega arith) (f t h.0))
+run_rises_by go_on s (t, next.Stopped why) h f = tt
+
+run_within_rises : (n : ℕ) (s : State) → AreRising s.cycle (run_within n s).writes
+unfolding run_within
+run_within_rises zero s = tt
+run_within_rises (suc n) s = run_rises_by (run_within n) s (next_of s) (next_comes s) (λ t l. run_within_rises n t)
+
+-- the writes of a run rise, and show channels from 5 to 777 octal
+pub run_rises : (s : State) → AreRising s.cycle (run_of s).writes
+unfolding run_of
+run_rises s = run_within_rises (boundaries_left s) s
+
+stays : (stopped : Option Stop) (s : State) (why : Stop) → stopped ≡ Some why → unless_stopped stopped s ≡ (s, stepped.Stopped why)
+stays (Some other) s why e = cc
+stays None s why e = cc
+
+-- a stopped machine stays as it is and answers the same
+pub stopped_stays : (s : State) (why : Stop) → s.stopped ≡ Some why → boundary None s ≡ (s, stepped.Stopped why)
+unfolding boundary
+stopped_stays s why e = stays s.stopped s why e
+
+pub stopped_for_ever : (n : ℕ) (s : State) (why : Stop) → s.stopped ≡ Some why → after n s ≡ s
+unfolding after
+stopped_for_ever zero s why e = refl
+stopped_for_ever (suc n) s why e = ap (λ (r : State × Stepped). after n r.0) (stopped_stays s why e) ∙ stopped_for_ever n s why e
+
+stops_by : (n : ℕ) (s : State) (r : State × Stepped) → Falls s r →
+    ((t : State) → boundaries_left t < boundaries_left s → IsSome (after n t).stopped) → IsSome (after n r.0).stopped
+stops_by n s (t, stepped.Quiet) h f = f t h.0
+stops_by n s (t, stepped.Wrote write) h f = f t h.0
+stops_by n s (t, stepped.Stopped why) h f =
+    subst (λ (u : State). IsSome u.stopped) (sym (stopped_for_ever n t why h.0)) (subst (λ (o : Option Stop). IsSome o) (sym h.0) refl)
+
+-- no run goes on for more boundaries than are left at its start
+pub stops_in_time : (n : ℕ) (s : State) → boundaries_left s ≤ n → IsSome (after n s).stopped
+unfolding after
+stops_in_time zero s h = absurd (omega (arith, some_left s))
+stops_in_time (suc n) s h = stops_by n s (boundary None s) (boundary_falls s) (λ t l. stops_in_time n t (omega arith))

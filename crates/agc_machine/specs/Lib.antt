@@ -13,3 +13,4 @@ pub mod State
 pub mod Boundary
 pub mod Run
 pub mod Engine
+pub mod Laws

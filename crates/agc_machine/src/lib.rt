@@ -9,6 +9,7 @@ mod engine;
 mod extra;
 mod happening;
 mod interrupt;
+pub mod laws;
 mod logic;
 mod machine;
 mod order;

@@ -1,0 +1,35 @@
+-- What holds of every run, above the definitions: it goes forwards in time, it comes to its end, and its writes rise.
+use Rattle.std.specs.Prelude.{◌≡◌, ℕ, zero, suc, ◌+◌, ◌<◌, ◌≤◌, List, [], ◌∷◌, None, Some}
+use Rattle.agc_machine.specs.declared.answer.ChannelWrite.{ChannelWrite}
+use Rattle.agc_machine.specs.declared.answer.Next.{Next}
+use Rattle.agc_machine.specs.declared.answer.Next.TheVariants as next
+use Rattle.agc_machine.specs.declared.answer.Stepped.{Stepped}
+use Rattle.agc_machine.specs.declared.answer.Stepped.TheVariants as stepped
+use Rattle.agc_machine.specs.Boundary.{boundary}
+use Rattle.agc_machine.specs.Run.{boundaries_left}
+use Rattle.agc_machine.specs.State.{State}
+
+-- What a boundary without a live key does to what is left and to the cycle: it never goes back, and unless it stops fewer boundaries are
+-- left. A write shows the boundary's cycle and a channel from 5 to 777 octal, and takes time; a stop is kept.
+abbrev pub Falls : State → State × Stepped → Type 0
+Falls s (t, stepped.Quiet) = (boundaries_left t < boundaries_left s) × (s.cycle ≤ t.cycle)
+Falls s (t, stepped.Wrote write) =
+    (boundaries_left t < boundaries_left s) × (write.cycle ≡ s.cycle) × (s.cycle < t.cycle) × (5 ≤ write.channel) × (write.channel < 512)
+Falls s (t, stepped.Stopped why) = (t.stopped ≡ Some why) × (s.cycle ≤ t.cycle)
+
+-- What the next write or stop leaves: after a write fewer boundaries are left, the write is not before the present cycle, and time has passed
+-- since; a stop is kept.
+abbrev pub Comes : State → State × Next → Type 0
+Comes s (t, next.Wrote write) =
+    (boundaries_left t < boundaries_left s) × (s.cycle ≤ write.cycle) × (write.cycle < t.cycle) × (5 ≤ write.channel) × (write.channel < 512)
+Comes s (t, next.Stopped why) = (t.stopped ≡ Some why) × (s.cycle ≤ t.cycle)
+
+-- the writes from a cycle on: each later than the one before, and each to a channel from 5 to 777 octal
+abbrev pub AreRising : ℕ → List ChannelWrite → Type 0
+AreRising from [] = Unit {0}
+AreRising from (write ∷ writes) = (from ≤ write.cycle) × (5 ≤ write.channel) × (write.channel < 512) × AreRising (write.cycle + 1) writes
+
+-- the state after so many boundaries without live keys
+unfoldable pub after : ℕ → State → State
+after zero s = s
+after (suc more) s = after more (boundary None s).0

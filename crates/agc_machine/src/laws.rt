@@ -1,0 +1,41 @@
+//! Laws of every run, each the contract of a function that does nothing. The machine's own calls
+//! are proved equal to the definitions that these laws are about.
+ghost use Rattle.std.specs.Prelude.{◌≡◌, ℕ, ◌≤◌, Some, None, IsSome};
+ghost use Rattle.agc_machine.specs.State.{State};
+ghost use Rattle.agc_machine.specs.Boundary.{boundary};
+ghost use Rattle.agc_machine.specs.Run.{boundaries_left, next_of, run_of, unless_stopped_run};
+ghost use Rattle.agc_machine.specs.Laws.{Falls, Comes, AreRising, after};
+ghost use Rattle.agc_machine.specs.declared.answer.Stop.{Stop};
+ghost use Rattle.agc_machine.specs.declared.answer.Stepped.TheVariants as stepped;
+
+/// A boundary never goes back in time; unless it stops it leaves fewer boundaries, and a write
+/// shows its cycle and a channel from 5 to 777 octal.
+pub fn boundaries_fall()
+    ensures { (s : State) → Falls s (boundary None s) }
+{}
+
+/// A machine that has stopped stays as it is and answers the same.
+pub fn a_stop_is_final()
+    ensures { (s : State) (why : Stop) → s.stopped ≡ Some why → boundary None s ≡ (s, stepped.Stopped why) }
+{}
+
+/// A run has stopped after as many boundaries as cycles and events were left, and one.
+pub fn runs_stop()
+    ensures { (n : ℕ) (s : State) → boundaries_left s ≤ n → IsSome (after n s).stopped }
+{}
+
+/// The next write is not before the present cycle, time has passed after it, its channel is 5 to
+/// 777 octal, and fewer boundaries are left; a stop is kept in the state.
+pub fn the_next_comes()
+    ensures { (s : State) → Comes s (next_of s) }
+{}
+
+/// A run is its next write and the run from there, or its stop.
+pub fn runs_go_by_writes()
+    ensures { (s : State) → run_of s ≡ unless_stopped_run run_of (next_of s) }
+{}
+
+/// The cycles of a run's writes strictly rise, and its channels are 5 to 777 octal.
+pub fn writes_rise()
+    ensures { (s : State) → AreRising s.cycle (run_of s).writes }
+{}
