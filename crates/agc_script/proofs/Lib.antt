@@ -4,3 +4,5 @@ pub mod Arranged
 pub mod Repeats
 pub mod Refusals
 pub mod Lines
+pub mod Tapes
+pub mod Merges

@@ -5,3 +5,5 @@ pub mod Text
 pub mod Command
 pub mod Line
 pub mod Parse
+pub mod Tape
+pub mod Merge

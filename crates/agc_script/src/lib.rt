@@ -7,12 +7,15 @@ mod event;
 mod fault;
 mod key;
 mod line;
+mod merge;
 mod number;
 mod parse;
 mod script;
+mod tape;
 mod text;
 
 pub use event::{Event, What};
 pub use fault::{FaultKind, ScriptFault};
 pub use key::Key;
 pub use script::Script;
+pub use tape::Tape;

@@ -1,12 +1,15 @@
 //! A script: events in the order of their cycles.
-ghost use Rattle.std.specs.Prelude.{◌≡◌, ◌≢◌, ◌<◌, [], length, slice_get, Some, Ok, Err, IfOk, IfErr};
+ghost use Rattle.std.specs.Prelude.{◌≡◌, ◌≢◌, ◌<◌, [], length, slice_get, Some, Ok, Err, IfOk, IfErr, IsErrOf, ◌+◌, ◌↔◌};
 ghost use Rattle.agc_script.specs.Event.{IsInRange};
 ghost use Rattle.agc_script.specs.Script.{IsScript};
 ghost use Rattle.agc_script.specs.Parse.{script_of, IsSoundLine};
+ghost use Rattle.agc_script.specs.Merge.{merged, too_many, no_memory};
 
 use crate::event::Event;
 use crate::fault::{FaultKind, ScriptFault};
+use crate::merge::merge_events;
 use crate::parse::{Reading, arrange, read_lines};
+use crate::tape::Tape;
 use std::alloc::Global;
 use std::marker::Model;
 
@@ -74,5 +77,28 @@ impl Script {
         ensures in_range { IsInRange result }
     {
         self.events[i]
+    }
+
+    /// The script with the keys of a tape in it, each after all events of its cycle or less. A
+    /// refusal is `TooMany`, where both together have more than 65,536 entries, or else `Memory`; it
+    /// names no line.
+    pub fn merge(&self, alloc: Global, tape: &Tape) -> Result<Script, ScriptFault>
+        ensures ok { IfOk result (λ script. script ≡ merged self.now tape.now) }
+        ensures many { IsErrOf result too_many ↔ (65536 < length self.now + length tape.now) }
+        ensures memory { IfErr result (λ fault. fault ≢ too_many → fault ≡ no_memory) }
+    {
+        if tape.len() > 65536 - self.events.len() {
+            return Err(ScriptFault {
+                line: 0,
+                kind: FaultKind::TooMany,
+            });
+        }
+        match merge_events(alloc, &self.events, tape.entries()) {
+            Ok(events) => Ok(Script { events }),
+            Err(_) => Err(ScriptFault {
+                line: 0,
+                kind: FaultKind::Memory,
+            }),
+        }
     }
 }

@@ -1,0 +1,74 @@
+//! The tape: the keys that were pressed live, so that a run can be played again.
+ghost use Rattle.std.specs.Prelude.{◌≡◌, ◌≤◌, ◌<◌, [], ◌∷◌, ◌++◌, length, slice_get, Some, OnOk, OnErr};
+ghost use Rattle.agc_script.specs.Tape.{IsTape, IsAfter};
+
+use crate::key::Key;
+use std::alloc::{AllocError, Global};
+use std::marker::Model;
+
+/// Keys in the order in which the machine took them, each with its machine cycle.
+#[derive(Debug, Drop)]
+pub struct Tape {
+    entries: Vec<(u64, Key)>,
+}
+
+impl Model for Tape {
+    ghost use Rattle.std.specs.Prelude.{ℕ, List};
+    ghost use Rattle.agc_script.specs.declared.key.Key.{Key};
+    ghost use Rattle.agc_script.specs.Tape.{IsTape};
+
+    ghost Value = { List (ℕ × Key) };
+
+    ghost view = { λ t. t.entries.items };
+
+    ghost invariant = { λ t. IsTape t.entries.items };
+}
+
+impl Tape {
+    /// A tape without entries. The allocator serves the pushes to come.
+    #[tactic(auto, unfolding(crate::specs::Tape::IsRising))]
+    pub fn new(alloc: Global) -> Tape
+        ensures { result ≡ [] }
+    {
+        Tape {
+            entries: Vec::new(alloc),
+        }
+    }
+
+    /// How many keys were taken.
+    pub fn len(&self) -> usize
+        ensures count { result ≡ length self.now }
+        ensures tape { IsTape self.now }
+    {
+        self.entries.len()
+    }
+
+    /// The entry at a place, counted from 0: the cycle at which the machine took the key, and the key.
+    pub fn at(&self, i: usize) -> (u64, Key)
+        requires { i < length self.now }
+        ensures entry { slice_get self.now i ≡ Some result }
+        ensures range { result.0 ≤ 1000000000000 }
+    {
+        self.entries[i]
+    }
+
+    /// Adds an entry. Its cycle lies above the last one's and is at most 1,000,000,000,000. Where
+    /// memory is wanting nothing changes.
+    pub fn push(&mut self, cycle: u64, key: Key) -> Result<(), AllocError>
+        requires later { IsAfter self.old cycle }
+        requires range { cycle ≤ 1000000000000 }
+        ensures ok { OnOk result (self.new ≡ self.old ++ (cycle, key) ∷ []) }
+        ensures err { OnErr result (self.new ≡ self.old) }
+    {
+        self.entries.push((cycle, key))?;
+        Ok(())
+    }
+
+    /// The entries, for the merge.
+    pub(crate) fn entries(&self) -> &[(u64, Key)]
+        ensures entries { result.now ≡ self.now }
+        ensures tape { IsTape self.now }
+    {
+        &self.entries
+    }
+}
