@@ -17,7 +17,7 @@ unfoldable pub bits : ℕ → ℕ → Number → ℕ
 bits high low word = pattern_of 15 word / 2 ^ (low - 1) % 2 ^ (high - low + 1)
 
 -- whether a bit of a word is on
-unfoldable pub is_on : ℕ → Number → Bool
+abbrev pub is_on : ℕ → Number → Bool
 is_on place word = bit_of place word == 1
 
 -- A relay word names its row in bits 15 to 12.

@@ -57,16 +57,6 @@ struct RelayWord {
     right: Digit,
 }
 
-/// Whether a bit of a word is on; bits are numbered from 1 on the right.
-#[tactic(auto, unfolding(crate::specs::Face::is_on, agc_word::specs::Number::bit_of))]
-fn is_on(word: Narrow, place: u16) -> bool
-    requires low { 1 ≤ place }
-    requires high { place ≤ 15 }
-    ensures { result ≡ is_on place word }
-{
-    (word.bits() >> (place - 1)) % 2 == 1
-}
-
 /// The parts of a relay word.
 #[tactic(auto, unfolding(crate::specs::Face::bits))]
 fn relay_word(word: Narrow) -> RelayWord
@@ -78,7 +68,7 @@ fn relay_word(word: Narrow) -> RelayWord
     let pattern = word.bits();
     RelayWord {
         row: pattern >> 11,
-        sign: is_on(word, 11),
+        sign: word.bit(11),
         left: Digit::from_code((pattern >> 5) % 32),
         right: Digit::from_code(pattern % 32),
     }
@@ -185,24 +175,24 @@ impl Face {
         requires row { bits 15 12 write.now.value ≡ 12 }
         ensures { self.new ≡ face_after self.old (write.now ∷ []) }
     {
-        self.lamps.vel = is_on(write.value, 3);
-        self.lamps.no_att = is_on(write.value, 4);
-        self.lamps.alt = is_on(write.value, 5);
-        self.lamps.gimbal_lock = is_on(write.value, 6);
-        self.lamps.tracker = is_on(write.value, 8);
-        self.lamps.prog = is_on(write.value, 9);
+        self.lamps.vel = write.value.bit(3);
+        self.lamps.no_att = write.value.bit(4);
+        self.lamps.alt = write.value.bit(5);
+        self.lamps.gimbal_lock = write.value.bit(6);
+        self.lamps.tracker = write.value.bit(8);
+        self.lamps.prog = write.value.bit(9);
     }
 
     fn take_lamps(&mut self, write: &ChannelWrite)
         requires { write.now.channel ≡ LAMP_CHANNEL }
         ensures { self.new ≡ face_after self.old (write.now ∷ []) }
     {
-        self.lamps.iss = is_on(write.value, 1);
-        self.lamps.comp_acty = is_on(write.value, 2);
-        self.lamps.uplink_acty = is_on(write.value, 3);
-        self.lamps.temp = is_on(write.value, 4);
-        self.lamps.key_rel = is_on(write.value, 5);
-        self.flash = is_on(write.value, 6);
-        self.lamps.opr_err = is_on(write.value, 7);
+        self.lamps.iss = write.value.bit(1);
+        self.lamps.comp_acty = write.value.bit(2);
+        self.lamps.uplink_acty = write.value.bit(3);
+        self.lamps.temp = write.value.bit(4);
+        self.lamps.key_rel = write.value.bit(5);
+        self.flash = write.value.bit(6);
+        self.lamps.opr_err = write.value.bit(7);
     }
 }

@@ -1,0 +1,12 @@
+use Rattle.std.proofs.Common.{arith, ◌/◌, ◌%◌}
+use Rattle.agc_word.proofs.Octal.{octal_text}
+use Rattle.agc_panel.specs.Watch.{priority_text}
+use Rattle.agc_panel.proofs.core_set.JobPriorityDisplay.fmt.Goals as goal
+
+pub returns-clause-writes : goal.returns-clause-writes
+unfolding priority_text
+returns-clause-writes g c =
+    let digits = octal_text 2 (c.magnitude.result / 512 % 32) (omega arith) (omega arith) (omega arith) in
+    let laid_out = rw (c.laid_out.ensures, c.in_radix.ensures) at c.write.ensures.writes in
+    let written = rw digits at laid_out in
+    rw (← c.magnitude.ensures.size) written
