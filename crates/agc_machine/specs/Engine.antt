@@ -1,6 +1,7 @@
 -- How the machine keeps its state: the script whole, with the place of the next event.
 use Rattle.std.specs.Prelude.{◌≡◌, ℕ, ◌+◌, ◌<◌, ◌≤◌, Bool, false, true, drop, length, None}
 use Rattle.agc_machine.specs.declared.engine.Engine.{Engine}
+use Rattle.agc_machine.specs.Quiet.{IsQuiet}
 use Rattle.agc_machine.specs.State.{State, start_state}
 
 -- the state that a machine stands for
@@ -22,6 +23,7 @@ pub record IsSound (m : Engine) : Type 0 where
   pub some : 0 < m.limit
   pub limit : m.limit ≤ 1000000000000
   pub cycle : m.cycle < m.limit + 6
+  pub quiet : 0 < m.quiet_until → IsQuiet m.quiet_until (state_of m)
   pub fresh : m.begun ≡ false → state_of m ≡ start_state m.processor.store.fixed (drop m.next m.script) m.limit m.until
 
 -- a machine below its limit that has begun

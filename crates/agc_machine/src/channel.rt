@@ -18,7 +18,7 @@ const LOW_SCALER: u16 = 0o4;
 /// Channel 7 has the superbank bit.
 const SUPERBANK: u16 = 0o7;
 /// Channel 13 has TIME6's switch.
-const TIME6_SWITCH: u16 = 0o13;
+pub(crate) const TIME6_SWITCH: u16 = 0o13;
 
 impl Processor {
     ghost use Rattle.std.specs.Prelude.{◌≡◌, ◌<◌, ◌≤◌, ◌^◌, ◌%◌};

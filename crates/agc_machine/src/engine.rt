@@ -3,6 +3,7 @@ ghost use Rattle.std.specs.Prelude.{◌≡◌, ◌<◌, ◌≤◌, ◌+◌, leng
 ghost use Rattle.agc_machine.specs.Engine.{state_of, IsSound};
 
 use crate::answer::{ChannelWrite, Next, Stepped, Stop};
+use crate::channel::TIME6_SWITCH;
 use crate::machine::StopAddress;
 use crate::processor::{Processor, Ran};
 use agc_script::{Key, Script};
@@ -20,11 +21,14 @@ pub(crate) struct Engine {
     pub(crate) begun: bool,
     pub(crate) stopped: Option<Stop>,
     pub(crate) until: Option<StopAddress>,
+    /// Below this cycle nothing can happen but the order in hand; 0 where that is not known.
+    pub(crate) quiet_until: u64,
 }
 
 impl Engine {
-    ghost use Rattle.std.specs.Prelude.{◌≡◌, ◌<◌, ◌≤◌, ◌+◌, ◌↔◌, length, drop, true, false, IsTrue, IsSome, Some, None};
+    ghost use Rattle.std.specs.Prelude.{◌≡◌, ℕ, ◌<◌, ◌≤◌, ◌+◌, ◌↔◌, length, drop, true, false, IsTrue, IsSome, Some, None};
     ghost use Rattle.agc_machine.specs.Engine.{state_of, IsSound, IsRunning};
+    ghost use Rattle.agc_machine.specs.Quiet.{IsQuiet};
     ghost use Rattle.agc_machine.specs.State.{start_state};
     ghost use Rattle.agc_machine.specs.Run.{next_of};
     ghost use Rattle.agc_machine.specs.Boundary.{boundary, WantsKey, IsBefore, by_event, by_timer, by_interrupt, by_address, by_order, stops, is_reached, bank_agrees};
@@ -46,6 +50,7 @@ impl Engine {
             begun: false,
             stopped: None,
             until: None,
+            quiet_until: 0,
         }
     }
 
@@ -83,10 +88,40 @@ impl Engine {
     }
 
     /// One boundary.
-    #[tactic(auto, unfolding(crate::specs::Boundary::boundary, crate::specs::Boundary::by_limit, crate::specs::Boundary::by_event, crate::specs::Happening::happened, crate::specs::Happening::cycles_of))]
+    #[inline(always)]
     pub(crate) fn step(&mut self, live: Option<Key>) -> Stepped
         requires sound { IsSound self.old }
         requires wanted { IsSome live → WantsKey (state_of self.old) }
+        ensures step { (state_of self.new, result) ≡ boundary live (state_of self.old) }
+        ensures sound { IsSound self.new }
+    {
+        if live.is_none() && self.cycle < self.quiet_until {
+            return self.run_order();
+        }
+        self.step_slowly(live)
+    }
+
+    /// One boundary at which more than the order in hand may happen.
+    #[cold]
+    #[inline(never)]
+    fn step_slowly(&mut self, live: Option<Key>) -> Stepped
+        requires sound { IsSound self.old }
+        requires wanted { IsSome live → WantsKey (state_of self.old) }
+        ensures step { (state_of self.new, result) ≡ boundary live (state_of self.old) }
+        ensures sound { IsSound self.new }
+    {
+        self.quiet_until = 0;
+        let stepped = self.step_by_cases(live);
+        self.quiet_until = self.quiet_from_here();
+        stepped
+    }
+
+    /// Of the things that may happen at a boundary the first that applies.
+    #[tactic(auto, unfolding(crate::specs::Boundary::boundary, crate::specs::Boundary::by_limit, crate::specs::Boundary::by_event, crate::specs::Happening::happened, crate::specs::Happening::cycles_of))]
+    fn step_by_cases(&mut self, live: Option<Key>) -> Stepped
+        requires sound { IsSound self.old }
+        requires wanted { IsSome live → WantsKey (state_of self.old) }
+        requires not_quiet { self.old.quiet_until ≡ 0 }
         ensures step { (state_of self.new, result) ≡ boundary live (state_of self.old) }
         ensures sound { IsSound self.new }
     {
@@ -106,10 +141,37 @@ impl Engine {
         }
     }
 
+    /// The cycle below which nothing but orders can happen from here on; 0 where that cannot be said.
+    fn quiet_from_here(&self) -> u64
+        ensures { 0 < result → IsQuiet result (state_of self.now) }
+    {
+        if !self.begun
+            || self.stopped.is_some()
+            || self.until.is_some()
+            || self.processor.is_requested()
+        {
+            return 0;
+        }
+        let timers = self.processor.timers_quiet_until();
+        timers.min(self.limit).min(self.next_event_cycle())
+    }
+
+    /// The cycle of the next event, or a cycle beyond every limit.
+    #[tactic(auto, using(crate::proofs::Events::events_from, crate::proofs::Events::no_events))]
+    fn next_event_cycle(&self) -> u64
+        ensures { (cycle : ℕ) → cycle < result → IsBefore cycle (drop self.now.next self.now.script) }
+    {
+        if self.next >= self.script.len() {
+            return u64::MAX;
+        }
+        self.script.at(self.next).cycle
+    }
+
     /// An event of the script that is due happens, else what comes after events.
     #[tactic(auto, using(crate::proofs::Events::events_from, crate::proofs::Events::no_events), unfolding(crate::specs::Boundary::by_event, agc_script::specs::Event::IsInRange))]
     fn meet_event(&mut self) -> Stepped
         requires running { IsRunning self.old }
+        requires not_quiet { self.old.quiet_until ≡ 0 }
         ensures step { (state_of self.new, result) ≡ by_event (state_of self.old) }
         ensures sound { IsSound self.new }
     {
@@ -130,6 +192,7 @@ impl Engine {
     #[tactic(auto, unfolding(crate::specs::Boundary::by_timer))]
     fn step_timer(&mut self) -> Stepped
         requires running { IsRunning self.old }
+        requires not_quiet { self.old.quiet_until ≡ 0 }
         ensures step { (state_of self.new, result) ≡ by_timer (state_of self.old) }
         ensures sound { IsSound self.new }
     {
@@ -146,6 +209,7 @@ impl Engine {
     #[tactic(auto, unfolding(crate::specs::Boundary::by_interrupt))]
     fn take_interrupt(&mut self) -> Stepped
         requires running { IsRunning self.old }
+        requires not_quiet { self.old.quiet_until ≡ 0 }
         ensures step { (state_of self.new, result) ≡ by_interrupt (state_of self.old) }
         ensures sound { IsSound self.new }
     {
@@ -160,6 +224,7 @@ impl Engine {
     #[tactic(auto, unfolding(crate::specs::Boundary::by_address))]
     fn stop_at_address(&mut self) -> Stepped
         requires running { IsRunning self.old }
+        requires not_quiet { self.old.quiet_until ≡ 0 }
         ensures step { (state_of self.new, result) ≡ by_address (state_of self.old) }
         ensures sound { IsSound self.new }
     {
@@ -193,9 +258,11 @@ impl Engine {
     }
 
     /// The order in hand runs.
+    #[inline]
     #[tactic(auto, unfolding(crate::specs::Boundary::by_order))]
     fn run_order(&mut self) -> Stepped
         requires running { IsRunning self.old }
+        requires quiet { 0 < self.old.quiet_until → IsQuiet self.old.quiet_until (state_of self.old) }
         ensures step { (state_of self.new, result) ≡ by_order (state_of self.old) }
         ensures sound { IsSound self.new }
     {
@@ -206,6 +273,9 @@ impl Engine {
                 Stepped::Quiet
             }
             Ran::Wrote(channel, value) => {
+                if channel == TIME6_SWITCH {
+                    self.quiet_until = 0;
+                }
                 self.cycle += 2;
                 Stepped::Wrote(ChannelWrite {
                     cycle,
@@ -213,7 +283,10 @@ impl Engine {
                     value,
                 })
             }
-            Ran::Halted(why) => self.stop(why),
+            Ran::Halted(why) => {
+                self.quiet_until = 0;
+                self.stop(why)
+            }
         }
     }
 

@@ -11,7 +11,7 @@ use agc_word::Over;
 const VECTORS: u16 = 0o4004;
 
 impl Processor {
-    ghost use Rattle.std.specs.Prelude.{◌≡◌, ◌<◌, IfNone, IfSome, OnSome, IsSome, Some, None, true, false};
+    ghost use Rattle.std.specs.Prelude.{◌≡◌, ◌<◌, IfNone, IfSome, OnSome, IsSome, Some, None, true, false, position};
     ghost use Rattle.agc_machine.specs.Interrupt.{interrupt_taken, is_allowed, pending, interrupted};
 
     /// Takes the interrupt that is requested and allowed; answers whether there was one.
@@ -28,6 +28,13 @@ impl Processor {
             }
             None => false,
         }
+    }
+
+    /// Some interrupt waits.
+    pub(crate) fn is_requested(&self) -> bool
+        ensures { result ≡ false → position (λ waits. waits) self.now.timers.requests ≡ None }
+    {
+        first_request(&self.timers.requests).is_some()
     }
 
     /// The place of the request that is taken next: of those that wait the one with the lowest

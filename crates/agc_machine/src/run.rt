@@ -9,6 +9,7 @@ use agc_store::Addr;
 
 impl Processor {
     ghost use Rattle.std.specs.Prelude.{◌≡◌, ◌<◌, ◌^◌, ◌%◌};
+    ghost use Rattle.agc_machine.specs.Quiet.{Keeps};
     ghost use Rattle.agc_machine.specs.Effect.{basic_effect, extracode_effect, order_effect, IsOrderly, long_address, short_address, channel_number, branches, ends, shows};
 
     /// The order's address of twelve bits.
@@ -95,6 +96,7 @@ impl Processor {
         requires { cycle < 2 ^ 41 }
         ensures effect { (self.new, result) ≡ order_effect cycle self.old }
         ensures orderly { IsOrderly result }
+        ensures keeps { Keeps self.old (self.new, result) }
     {
         if self.extracode {
             self.run_extracode(extracode_named(self.hand), cycle)

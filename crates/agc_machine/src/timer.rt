@@ -1,5 +1,5 @@
 //! The five timers: which step is due, and what it does.
-ghost use Rattle.std.specs.Prelude.{◌≡◌, ◌<◌, ◌≤◌, ◌^◌};
+ghost use Rattle.std.specs.Prelude.{◌≡◌, ℕ, ◌<◌, ◌≤◌, ◌^◌, ◌*◌, ◌/◌, nat_lt, false};
 ghost use Rattle.agc_machine.specs.Timer.{is_due};
 
 use crate::processor::Processor;
@@ -29,9 +29,35 @@ fn step_is_due(cycle: u64, first: u64, taken: u64) -> bool
     pulses >= first && (pulses - first) / 10240 >= taken
 }
 
+/// More steps than any run takes: no cycle is known for the next one.
+const BEYOND_COUNTING: u64 = 1 << 48;
+
+/// The cycle from which a timer's next step is due.
+fn due_from(first: u64, taken: u64) -> u64
+    requires { first ≤ 10240 }
+    ensures { (cycle : ℕ) → cycle < result → is_due cycle first taken ≡ false }
+{
+    if taken > BEYOND_COUNTING {
+        return 0;
+    }
+    (first + 10240 * taken).div_ceil(12)
+}
+
+/// The cycle from which TIME6's next step is due while it is on.
+fn time6_due_from(mark: u64) -> u64
+    ensures { (cycle : ℕ) → cycle < result → nat_lt mark (12 * cycle / 640) ≡ false }
+{
+    if mark > BEYOND_COUNTING {
+        return 0;
+    }
+    (640 * (mark + 1)).div_ceil(12)
+}
+
 impl Processor {
-    ghost use Rattle.std.specs.Prelude.{◌≡◌, ◌<◌, ◌≤◌, ◌^◌, ◌+◌, ◌*◌, option_map, IfNone, IfSome};
+    ghost use Rattle.std.specs.Prelude.{◌≡◌, ◌<◌, ◌≤◌, ◌^◌, ◌+◌, ◌*◌, option_map, IfNone, IfSome, ℕ, false};
     ghost use Rattle.agc_word.specs.Pulses.{pulsed};
+    ghost use Rattle.agc_machine.specs.Quiet.{is_any_due};
+    ghost use Rattle.agc_machine.specs.Channel.{channel_cell};
     ghost use Rattle.agc_machine.specs.Timer.{timer_stepped, time1_step, time3_step, time4_step, time5_step, time6_step, is_time6_due, request, counted, counter, tick};
 
     /// The first timer whose step is due at a cycle takes it; answers the cycles that it costs.
@@ -67,6 +93,24 @@ impl Processor {
         ensures { result ≡ is_time6_due cycle self.now }
     {
         self.channels[11].bits() / 0o40000 % 2 == 1 && self.timers.mark < 12 * cycle / 640
+    }
+
+    /// The cycle below which no timer's step is due; 0 where that is beyond counting.
+    #[tactic(auto, unfolding(agc_word::specs::Number::bit_of))]
+    pub(crate) fn timers_quiet_until(&self) -> u64
+        ensures { (cycle : ℕ) → cycle < result → is_any_due cycle self.now.timers (channel_cell 11 self.now.channels) ≡ false }
+    {
+        let timers = &self.timers;
+        let time6 = if self.channels[11].bits() / 0o40000 % 2 == 1 {
+            time6_due_from(timers.mark)
+        } else {
+            u64::MAX
+        };
+        due_from(10240, timers.time1)
+            .min(due_from(10240, timers.time3))
+            .min(due_from(7680, timers.time4))
+            .min(due_from(5120, timers.time5))
+            .min(time6)
     }
 
     /// Requests an interrupt by its number, 1 to 10.
