@@ -127,7 +127,7 @@ impl Processor {
         self.store.set_a(complement(x));
     }
 
-    #[inline]
+    #[inline(always)]
     #[tactic(auto, unfolding(crate::specs::Basic::index_of))]
     pub(crate) fn index(&mut self, k: Addr)
         ensures { self.new ≡ index_of k self.old }

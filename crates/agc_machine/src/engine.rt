@@ -258,7 +258,7 @@ impl Engine {
     }
 
     /// The order in hand runs.
-    #[inline]
+    #[inline(always)]
     #[tactic(auto, unfolding(crate::specs::Boundary::by_order))]
     fn run_order(&mut self) -> Stepped
         requires running { IsRunning self.old }

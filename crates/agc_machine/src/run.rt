@@ -90,7 +90,7 @@ impl Processor {
     }
 
     /// Runs the order in hand, which begins at this cycle.
-    #[inline]
+    #[inline(always)]
     #[tactic(auto, unfolding(crate::specs::Effect::order_effect))]
     pub(crate) fn run(&mut self, cycle: u64) -> Ran
         requires { cycle < 2 ^ 41 }
@@ -105,7 +105,7 @@ impl Processor {
         }
     }
 
-    #[inline]
+    #[inline(always)]
     #[tactic(auto, unfolding(crate::specs::Effect::basic_effect))]
     fn run_basic(&mut self, order: Basic) -> Ran
         ensures effect { (self.new, result) ≡ basic_effect order self.old }
