@@ -15,6 +15,8 @@ mod machine;
 mod order;
 mod processor;
 mod run;
+#[cfg(test)]
+mod tests;
 mod timer;
 mod words;
 

@@ -1,0 +1,101 @@
+//! What comes from outside: keys, inputs, pulses, and the channels that show them.
+use super::*;
+use agc_script::Key;
+use std::test::Fail;
+
+/// KEYRUPT1 is taken at cycle 0 before INHINT runs; RESUME at 3, INHINT at 5, TCF 4001 from 6 on.
+#[test]
+fn key_interrupt(rt: HostRuntime) -> Result<(), Fail> {
+    let parts: [(usize, &[u16]); 2] = [(0o4000, &[0o00004, 0o14001]), (0o4024, &[0o50017])];
+    let machine = run_with(&rt, &parts, "0 key VERB", 10)?;
+    assert_eq!(rt; cell(&machine, 0o15), 0o04001);
+    assert_eq!(rt; cell(&machine, 0o17), 0o00004);
+    assert_eq!(rt; channel(&machine, 0o15), 0o00021);
+    Ok(())
+}
+
+/// A live key is taken at once, at cycle 0, and its interrupt (3 cycles) follows. No key is wanted
+/// while an event is due, nor at the limit.
+#[test]
+fn live_key(rt: HostRuntime) -> Result<(), Fail> {
+    let mut machine = machine(&rt, &[0o14000], "0 pro down", 3)?;
+    assert_eq!(rt; machine.wants_key(), false);
+    quiet(&rt, &mut machine);
+    assert!(rt; machine.wants_key());
+    assert_eq!(rt; machine.step(Some(Key::Verb)), Stepped::Quiet);
+    assert_eq!(rt; (machine.cycle(), channel(&machine, 0o15)), (0, 0o00021));
+    quiet(&rt, &mut machine);
+    assert_eq!(rt; (machine.cycle(), cell(&machine, 0o15)), (3, 0o04001));
+    assert_eq!(rt; machine.wants_key(), false);
+    assert_eq!(rt; machine.step(None), Stepped::Stopped(Stop::Limit));
+    Ok(())
+}
+
+/// PRO is bit 14 of channel 32, 0 while it is down, and no other bit.
+#[test]
+fn pro_key(rt: HostRuntime) -> Result<(), Fail> {
+    let script = "0 pro down\n0 pro up\n0 input 32 0\n0 pro up\n";
+    let mut machine = machine(&rt, &[0o14000], script, 10)?;
+    for word in [0o57777, 0o77777, 0o00000, 0o20000] {
+        quiet(&rt, &mut machine);
+        assert_eq!(rt; channel(&machine, 0o32), word);
+    }
+    assert_eq!(rt; machine.cycle(), 0);
+    Ok(())
+}
+
+/// The shift that carries requests UPRUPT on INLINK (45) alone: RNRAD (46) carries at 0, INLINK at
+/// 10. Pulses take a cycle, so that the service at 4034 begins at 11, and comes into hand at 14.
+#[test]
+fn uprupt_by_a_shift(rt: HostRuntime) -> Result<(), Fail> {
+    let script = "0 poke 0 46 40000\n0 pulse 46 shinc\n10 poke 0 45 40001\n10 pulse 45 shanc\n";
+    let fresh = machine(&rt, &[0o14000], script, 20)?;
+    let mut machine = until(&rt, fresh, 0, 0o4034);
+    stopped(&rt, &mut machine, Stop::Reached, 14);
+    assert_eq!(rt;
+        [cell(&machine, 0o46), cell(&machine, 0o45)],
+        [0o00000, 0o00003]
+    );
+    Ok(())
+}
+
+/// CA, EXTEND, WRITE 7 of 37777: the channel keeps bits 7 to 5.
+#[test]
+fn channel_seven_keeps_three_bits(rt: HostRuntime) -> Result<(), Fail> {
+    let words = [0o34004, 0o00006, 0o01007, 0o14003, 0o37777];
+    let mut machine = machine(&rt, &words, "", 10)?;
+    wrote(&rt, &mut machine, 3, 0o7, 0o00160);
+    assert_eq!(rt; channel(&machine, 7), 0o00160);
+    assert!(rt; machine.store().superbank());
+    Ok(())
+}
+
+/// WOR 7 of 00777 leaves all of it in A (TS 100) and its bits 7 to 5 in the channel; WAND 7 of
+/// 00127 leaves 00120 in both. Bit 7 is the superbank.
+#[test]
+fn or_and_and_to_channel_seven(rt: HostRuntime) -> Result<(), Fail> {
+    let words = [
+        0o34010, 0o00006, 0o05007, 0o54100, 0o34011, 0o00006, 0o03007, 0o14007, 0o00777, 0o00127,
+    ];
+    let mut machine = machine(&rt, &words, "", 15)?;
+    wrote(&rt, &mut machine, 3, 0o7, 0o00160);
+    wrote(&rt, &mut machine, 10, 0o7, 0o00120);
+    stopped(&rt, &mut machine, Stop::Limit, 15);
+    assert_eq!(rt; cell(&machine, 0o100), 0o00777);
+    assert_eq!(rt; machine.store().a().bits(), 0o000120);
+    assert!(rt; machine.store().superbank());
+    Ok(())
+}
+
+/// A script's input switches the superbank too, and is no channel write.
+#[test]
+fn input_switches_the_superbank(rt: HostRuntime) -> Result<(), Fail> {
+    let mut machine = machine(&rt, &[0o14000], "0 input 7 77777\n5 input 7 37\n", 10)?;
+    quiet(&rt, &mut machine);
+    assert_eq!(rt; channel(&machine, 7), 0o00160);
+    assert!(rt; machine.store().superbank());
+    stopped(&rt, &mut machine, Stop::Limit, 10);
+    assert_eq!(rt; channel(&machine, 7), 0o00020);
+    assert!(rt; !machine.store().superbank());
+    Ok(())
+}

@@ -1,0 +1,141 @@
+//! Whole runs: their channel writes, their limits and their stops.
+use super::*;
+use crate::{LimitFault, Refused};
+use agc_store::Store;
+use std::test::Fail;
+
+/// EXTEND, WRITE 10, TCF 4000, again and again: a write of +0 each four cycles, the first at cycle 1
+/// and the last, after 17 timer steps of one cycle, at 4 * 999 + 1 + 17.
+#[test]
+fn thousand_writes(rt: HostRuntime) -> Result<(), Fail> {
+    let mut machine = machine(&rt, &[0o00006, 0o01010, 0o14000], "", 4018)?;
+    let mut cycles = Vec::new(rt.alloc());
+    for _ in 0..1000 {
+        cycles.push(next_cycle(&rt, &mut machine, 0o10, 0o00000))?;
+    }
+    assert_eq!(rt; cycles.get(0), Some(&1));
+    assert_eq!(rt; cycles.get(1), Some(&5));
+    assert_eq!(rt; cycles.get(999), Some(&4014));
+    stopped(&rt, &mut machine, Stop::Limit, 4018);
+    Ok(())
+}
+
+/// DV of 2 by 1: a stop that leaves A, L and the cycle, after the write of A.
+#[test]
+fn undefined_division_stops(rt: HostRuntime) -> Result<(), Fail> {
+    let mut machine = machine(&rt, &DIVISION, "0 poke 0 100 1", 100)?;
+    division_stops(&rt, &mut machine);
+    Ok(())
+}
+
+/// The same run under the largest limit.
+#[test]
+fn largest_limit(rt: HostRuntime) -> Result<(), Fail> {
+    let mut machine = machine(&rt, &DIVISION, "0 poke 0 100 1", 1_000_000_000_000)?;
+    division_stops(&rt, &mut machine);
+    Ok(())
+}
+
+/// A = 2, WRITE 10, then DV 100.
+const DIVISION: [u16; 8] = [
+    0o34007, 0o00006, 0o01010, 0o00006, 0o10100, 0o00000, 0o00000, 0o00002,
+];
+
+/// One write, then the stop at cycle 6, which stays.
+fn division_stops(rt: &impl Abort, machine: &mut Machine) {
+    wrote(rt, machine, 3, 0o10, 0o00002);
+    stopped(rt, machine, Stop::DivisionUndefined, 6);
+    stopped(rt, machine, Stop::DivisionUndefined, 6);
+    assert_eq!(rt; registers(machine), [0o000002, 0, 0, 0o4005]);
+    assert_eq!(rt; machine.wants_key(), false);
+}
+
+/// EXTEND, EDRUPT: the stop is at cycle 1, as EDRUPT takes none.
+#[test]
+fn edrupt_stops(rt: HostRuntime) -> Result<(), Fail> {
+    let mut machine = machine(&rt, &[0o00006, 0o07000], "", 10)?;
+    assert_eq!(rt; machine.fresh(), true);
+    stopped(&rt, &mut machine, Stop::Edrupt, 1);
+    assert_eq!(rt; machine.fresh(), false);
+    Ok(())
+}
+
+/// CA, EXTEND, WRITE 10 of 54171.
+const PROG12: [u16; 5] = [0o34004, 0o00006, 0o01010, 0o14003, 0o54171];
+
+/// Limit 1: CA, which takes two cycles, ends past it.
+#[test]
+fn last_order_passes_limit(rt: HostRuntime) -> Result<(), Fail> {
+    let mut machine = machine(&rt, &PROG12, "", 1)?;
+    stopped(&rt, &mut machine, Stop::Limit, 2);
+    Ok(())
+}
+
+#[test]
+fn until_an_order(rt: HostRuntime) -> Result<(), Fail> {
+    let fresh = machine(&rt, &PROG12, "", 10)?;
+    let mut machine = until(&rt, fresh, 0, 0o4003);
+    wrote(&rt, &mut machine, 3, 0o10, 0o54171);
+    stopped(&rt, &mut machine, Stop::Reached, 5);
+    Ok(())
+}
+
+/// The order at 4000 is in hand at the start.
+#[test]
+fn until_the_start(rt: HostRuntime) -> Result<(), Fail> {
+    let fresh = machine(&rt, &PROG12, "", 10)?;
+    let mut machine = until(&rt, fresh, 0, 0o4000);
+    stopped(&rt, &mut machine, Stop::Reached, 0);
+    Ok(())
+}
+
+/// TCF 2000 with FB 0: bank 0 agrees with the window, bank 1 does not.
+#[test]
+fn until_a_bank(rt: HostRuntime) -> Result<(), Fail> {
+    for (bank, stop, cycle) in [(0, Stop::Reached, 1), (1, Stop::Limit, 10)] {
+        let fresh = machine(&rt, &[0o12000], "", 10)?;
+        let mut machine = until(&rt, fresh, bank, 0o2000);
+        stopped(&rt, &mut machine, stop, cycle);
+    }
+    Ok(())
+}
+
+/// Limit 0 and one above 1,000,000,000,000 are refused; rope and script come back.
+#[test]
+fn limits(rt: HostRuntime) -> Result<(), Fail> {
+    for (limit, fault) in [
+        (0, LimitFault::Zero),
+        (1_000_000_000_001, LimitFault::TooLarge),
+    ] {
+        let rope = rope(&rt, &[(0o4000, &[0o14000])])?;
+        let script = Script::parse(rt.alloc(), b"0 raise 1")?;
+        match Machine::new(rope, script, limit) {
+            Ok(_) => panic!(rt; "the limit {limit} is accepted"),
+            Err(refused) => assert_refused(&rt, refused, fault),
+        }
+    }
+    Ok(())
+}
+
+/// The fault, the rope with its first word, and the script of one event.
+fn assert_refused(rt: &impl Abort, refused: Refused, fault: LimitFault) {
+    let Refused {
+        fault: found,
+        rope,
+        script,
+    } = refused;
+    assert_eq!(rt; found, fault);
+    assert_eq!(rt; Store::new(rope).fixed(2, 0).bits(), 0o14000);
+    assert_eq!(rt; script.len(), 1);
+}
+
+/// The largest limit is accepted, and the memory comes out with the rope's words.
+#[test]
+fn machine_gives_its_store(rt: HostRuntime) -> Result<(), Fail> {
+    let machine = machine(&rt, &PROG12, "", 1_000_000_000_000)?;
+    assert_eq!(rt; machine.fresh(), true);
+    let store = machine.into_store();
+    assert_eq!(rt; store.fixed(2, 4).bits(), 0o54171);
+    assert_eq!(rt; store.z().bits(), 0o4001);
+    Ok(())
+}

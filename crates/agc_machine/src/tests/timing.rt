@@ -1,0 +1,140 @@
+//! Timers, the scaler and interrupts: when they come, and what they leave.
+use super::*;
+use std::test::Fail;
+
+/// RESUME, at a vector.
+const RESUME: u16 = 0o50017;
+
+/// The scaler counts each 320 pulses, 12 a cycle: 12 * 54 / 320 is 2, and 12 * 53 / 320 is 1.
+#[test]
+fn scaler_channels(rt: HostRuntime) -> Result<(), Fail> {
+    for (limit, low) in [(54, 0o00002), (53, 0o00001)] {
+        let machine = run(&rt, &[0o14000], "", limit)?;
+        assert_eq!(rt; [channel(&machine, 3), channel(&machine, 4)], [0, low]);
+    }
+    Ok(())
+}
+
+/// TIME5 steps at 427, TIME4 at 640, TIME1 with its carry into TIME2 at 854, TIME3 at 856.
+#[test]
+fn timers_step(rt: HostRuntime) -> Result<(), Fail> {
+    let machine = run(&rt, &[0o14000], "0 poke 0 25 37777", 900)?;
+    assert_eq!(rt; timers(&machine), [1, 0, 1, 1, 1]);
+    Ok(())
+}
+
+/// With limit 854 the step of TIME1 does not come; TIME3's would come after it.
+#[test]
+fn timers_before_the_step(rt: HostRuntime) -> Result<(), Fail> {
+    let machine = run(&rt, &[0o14000], "0 poke 0 25 37777", 854)?;
+    assert_eq!(rt; timers(&machine), [0, 0o37777, 0, 1, 1]);
+    Ok(())
+}
+
+/// TIME2, TIME1, TIME3, TIME4 and TIME5.
+fn timers(machine: &Machine) -> [u16; 5] {
+    [
+        cell(machine, 0o24),
+        cell(machine, 0o25),
+        cell(machine, 0o26),
+        cell(machine, 0o27),
+        cell(machine, 0o30),
+    ]
+}
+
+/// TIME6 goes from 1 to -0 at 54; its next step at 107 finds zero: T6RUPT at 108, switch off.
+#[test]
+fn time6_interrupt(rt: HostRuntime) -> Result<(), Fail> {
+    let parts: [(usize, &[u16]); 2] = [(0o4000, &[0o14000]), (0o4004, &[RESUME])];
+    let script = "0 poke 0 31 1\n0 input 13 40000\n";
+    let machine = run_with(&rt, &parts, script, 120)?;
+    assert_eq!(rt; cell(&machine, 0o31), 0o77777);
+    assert_eq!(rt; cell(&machine, 0o15), 0o04001);
+    assert_eq!(rt; cell(&machine, 0o17), 0o14000);
+    assert_eq!(rt; channel(&machine, 0o13), 0o00000);
+    Ok(())
+}
+
+/// TIME6 counts periods of 640 pulses from its switch. From 5, on at 0: a step at 54 (period 1).
+/// Off from 60 to 200, where periods 1 to 3 have gone by: the next step is at 214 (period 4), and
+/// the word at 214 that leaves the switch on takes nothing from it. So 3 is left.
+#[test]
+fn time6_mark_at_a_second_switching(rt: HostRuntime) -> Result<(), Fail> {
+    let script = "0 poke 0 31 5\n0 input 13 40000\n60 input 13 0\n\
+                  200 input 13 40000\n214 input 13 50000\n";
+    let machine = run(&rt, &[0o14000], script, 215)?;
+    assert_eq!(rt; cell(&machine, 0o31), 0o00003);
+    assert_eq!(rt; channel(&machine, 0o13), 0o50000);
+    Ok(())
+}
+
+/// At 427, where TIME5's first step (5120 pulses) is due and a key and an interrupt come: the event
+/// first, which takes no cycle, then the step with one, then the interrupt with three.
+#[test]
+fn event_before_timer_before_interrupt(rt: HostRuntime) -> Result<(), Fail> {
+    let mut machine = machine(&rt, &[0o14000], "427 key 5", 900)?;
+    for _ in 0..427 {
+        quiet(&rt, &mut machine);
+    }
+    assert_eq!(rt; seen(&machine), (427, [0, 0, 0]));
+    quiet(&rt, &mut machine);
+    assert_eq!(rt; seen(&machine), (427, [0o00005, 0, 0]));
+    quiet(&rt, &mut machine);
+    assert_eq!(rt; seen(&machine), (428, [0o00005, 1, 0]));
+    quiet(&rt, &mut machine);
+    assert_eq!(rt; seen(&machine), (431, [0o00005, 1, 0o04001]));
+    Ok(())
+}
+
+/// The cycle, the key's code, TIME5 and ZRUPT.
+fn seen(machine: &Machine) -> (u64, [u16; 3]) {
+    let words = [
+        channel(machine, 0o15),
+        cell(machine, 0o30),
+        cell(machine, 0o15),
+    ];
+    (machine.cycle(), words)
+}
+
+/// INHINT at 0 to 1; the request of cycle 1 waits for CA (1 to 3) and RELINT (3 to 4). The service
+/// begins before the order at 4003.
+#[test]
+fn inhint_holds_a_request(rt: HostRuntime) -> Result<(), Fail> {
+    let words = [0o00004, 0o34004, 0o00003, 0o14003, 0o12345];
+    let parts: [(usize, &[u16]); 2] = [(0o4000, &words), (0o4014, &[RESUME])];
+    let machine = run_with(&rt, &parts, "1 raise 3", 10)?;
+    assert_eq!(rt; cell(&machine, 0o15), 0o04004);
+    assert_eq!(rt; cell(&machine, 0o17), 0o14003);
+    assert_eq!(rt; registers(&machine), [0o012345, 0, 0, 0o4004]);
+    Ok(())
+}
+
+/// Both are requested at 0, RUPT10 first and T3RUPT twice: T3RUPT has the lower vector, and is
+/// served once. Each service writes a channel: interrupt 3, EXTEND 1, WRITE 2, RESUME 2 cycles.
+#[test]
+fn interrupts_in_order_of_vectors(rt: HostRuntime) -> Result<(), Fail> {
+    let parts: [(usize, &[u16]); 3] = [
+        (0o4000, &[0o14000]),
+        (0o4014, &[0o00006, 0o01010, RESUME]),
+        (0o4050, &[0o00006, 0o01011, RESUME]),
+    ];
+    let script = "0 raise 10\n0 raise 3\n0 raise 3\n";
+    let mut machine = machine_with(&rt, &parts, script, 30)?;
+    wrote(&rt, &mut machine, 4, 0o10, 0o00000);
+    wrote(&rt, &mut machine, 12, 0o11, 0o00000);
+    stopped(&rt, &mut machine, Stop::Limit, 30);
+    Ok(())
+}
+
+/// DOWNRUPT each 20 cycles, whose service writes channel 10 four cycles later.
+#[test]
+fn every_downrupt(rt: HostRuntime) -> Result<(), Fail> {
+    let service = [0o00006, 0o01010, RESUME];
+    let parts: [(usize, &[u16]); 2] = [(0o4000, &[0o14000]), (0o4040, &service)];
+    let mut machine = machine_with(&rt, &parts, "every 20 0 100 raise 8", 120)?;
+    for cycle in [4, 24, 44, 64, 84, 104] {
+        wrote(&rt, &mut machine, cycle, 0o10, 0o00000);
+    }
+    stopped(&rt, &mut machine, Stop::Limit, 120);
+    Ok(())
+}
