@@ -10,7 +10,8 @@ use agc_word::Narrow;
 use std::alloc::{AllocError, Global};
 use std::marker::Model;
 
-/// The 36,864 fixed words, 36 banks of 1024.
+/// The 36,864 fixed words, in 36 banks of 1024. In the spacecraft they were woven: a wire through a
+/// core or past it.
 #[derive(Debug, Drop)]
 pub struct Rope {
     /// The words bank by bank, and after them four banks of +0, which the superbank can select too.
@@ -30,7 +31,8 @@ impl Model for Rope {
 }
 
 impl Rope {
-    /// Reads a rope file in the classic form.
+    /// Reads a rope file in the classic form: at most 73,728 bytes, each word as 16 bits with the
+    /// higher byte first, of which the left fifteen count. The words past the file's end are +0.
     pub fn read(alloc: Global, bytes: &[u8]) -> Result<Rope, RopeFault>
         ensures words { IfOk result (λ rope. rope ≡ rope_words RopeForm.Classic bytes.now) }
         ensures accepted { IfOk result (λ _. fault_of RopeForm.Classic bytes.now ≡ None) }
@@ -39,7 +41,8 @@ impl Rope {
         Rope::read_as(alloc, RopeForm::Classic, bytes)
     }
 
-    /// Reads a rope file. The words past its end are +0.
+    /// Reads a rope file of a form. The words past its end are +0. The fault is the first that
+    /// applies, in the order of `RopeFault`.
     pub fn read_as(alloc: Global, form: RopeForm, bytes: &[u8]) -> Result<Rope, RopeFault>
         ensures words { IfOk result (λ rope. rope ≡ rope_words form bytes.now) }
         ensures accepted { IfOk result (λ _. fault_of form bytes.now ≡ None) }

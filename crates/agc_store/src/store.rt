@@ -1,19 +1,9 @@
 //! The store: the cells, the rope, and what each access answers and leaves.
-#![tactic(auto, unfolding(crate::specs::Memory::cell_at, crate::specs::Memory::erasable_bank, crate::specs::Memory::fixed_bank, crate::specs::Memory::selected_bank, crate::specs::Memory::erasable_place, crate::specs::Memory::fixed_place, crate::specs::Memory::fixed_at, crate::specs::Memory::read_of, crate::specs::Cells::with_banks, crate::specs::Cells::cells_with, crate::specs::Cells::put_of, crate::specs::Cells::write_of, crate::specs::Cells::fetch_of, crate::specs::Cells::named_cell, crate::specs::Cells::reedit_of, crate::specs::Cells::cell_of, crate::specs::Cells::fixed_of, crate::specs::Cells::poke_of, crate::specs::Cells::superbank_set, crate::specs::Cells::register, crate::specs::Cells::z_of))]
+#![tactic(auto, unfolding(crate::specs::Memory::cell_at, crate::specs::Memory::fixed_at, crate::specs::Memory::selected_bank, crate::specs::Memory::read_of, crate::specs::Cells::write_of, crate::specs::Cells::fetch_of, crate::specs::Cells::named_cell, crate::specs::Cells::reedit_of, crate::specs::Cells::cell_of, crate::specs::Cells::fixed_of, crate::specs::Cells::poke_of, crate::specs::Cells::superbank_set))]
 
-ghost use Rattle.std.specs.Prelude.{◌≡◌, ◌≢◌, ℕ, ◌+◌, ◌*◌, ◌<◌, ◌≤◌, set};
-ghost use Rattle.agc_store.specs.Memory.{
-  erasable_bank,
-  fixed_bank,
-  selected_bank,
-  erasable_place,
-  fixed_place,
-  read_of,
-};
+ghost use Rattle.std.specs.Prelude.{◌≡◌, ℕ, ◌+◌, ◌*◌, ◌<◌, ◌≤◌};
+ghost use Rattle.agc_store.specs.Memory.{read_of};
 ghost use Rattle.agc_store.specs.Cells.{
-  narrow_number,
-  with_banks,
-  put_of,
   write_of,
   fetch_of,
   named_cell,
@@ -23,18 +13,24 @@ ghost use Rattle.agc_store.specs.Cells.{
   poke_of,
   superbank_set,
   start_memory,
-  register,
-  z_of,
 };
-ghost use Rattle.agc_store.specs.Registers.{HoldsRegisters, IsPlain, IsStorable};
+ghost use Rattle.agc_store.specs.Registers.{HoldsRegisters};
+
+mod cells;
+mod registers;
 
 use crate::addr::Addr;
 use crate::rope::Rope;
-use crate::words::{cleared, corrected, narrow_pattern, narrow_word, selected};
-use agc_word::{Edit, Narrow, Wide, widen};
+use crate::words::{cleared, corrected, selected};
+use agc_word::{Narrow, Wide, widen};
 use std::marker::Model;
 
-/// The memory of the machine: 2048 erasable cells, the fixed words of a rope, and the superbank.
+/// The memory of the machine: 2048 erasable cells in 8 banks of 256, the first of which are the
+/// registers, the 36,864 fixed words of a rope in 36 banks of 1024, and the superbank.
+///
+/// An address has twelve bits. Below 1400 octal it names an erasable cell of the banks 0 to 2, from
+/// there a cell of the bank in EB, from 2000 a fixed word of the bank in FB, and from 4000 on a word
+/// of the fixed banks 02 and 03, which are always at hand.
 #[derive(Debug, Drop)]
 pub struct Store {
     cells: [Wide; 2048],
@@ -72,7 +68,8 @@ impl Store {
         }
     }
 
-    /// The word at an address, widened where the cell is narrow.
+    /// The word at an address, widened where the cell is narrow: of A and Q all sixteen bits, of BB
+    /// the banks in FB and EB, of ZERO +0, and of the fixed banks above 43 octal +0.
     #[inline]
     pub fn read(&self, address: Addr) -> Wide
         ensures word { result ≡ read_of self.now address }
@@ -99,7 +96,10 @@ impl Store {
         }
     }
 
-    /// Writes a word to an address below 2000 octal, by the rules of the cell that it names.
+    /// Writes a word to an address below 2000 octal, by the rules of the cell that it names. A and Q
+    /// take all sixteen bits, every other cell the word with its overflow corrected. EB keeps bits 11
+    /// to 9, FB bits 15 to 11, Z bits 12 to 1; BB sets EB and FB; ZERO ignores the word; the cells 20
+    /// to 23 octal (CYR, SR, CYL and EDOP) keep the edited word.
     #[inline]
     pub fn write(&mut self, address: Addr, word: Wide)
         requires { address < 1024 }
@@ -150,7 +150,7 @@ impl Store {
         }
     }
 
-    /// Whether the superbank is on.
+    /// Whether the superbank is on, which is bit 7 of channel 7.
     #[inline]
     pub fn superbank(&self) -> bool
         ensures { result ≡ self.now.superbank }
@@ -158,7 +158,7 @@ impl Store {
         self.superbank
     }
 
-    /// Switches the superbank, which selects the fixed banks from 40 octal on.
+    /// Switches the superbank: while it is on, the banks 30 to 37 octal in FB stand for 40 to 47.
     pub fn set_superbank(&mut self, on: bool)
         ensures { self.new ≡ superbank_set self.old on }
     {
@@ -166,7 +166,7 @@ impl Store {
         self.superbank = on;
     }
 
-    /// The fixed word at a place of a bank, 00 to 43 octal.
+    /// The fixed word at an offset, 0 to 1777 octal, of a bank, 00 to 43 octal, whatever FB holds.
     pub fn fixed(&self, bank: u8, offset: u16) -> Narrow
         requires bank { bank ≤ 35 }
         requires offset { offset ≤ 1023 }
@@ -176,7 +176,8 @@ impl Store {
             .word(1024 * usize::from(bank) + usize::from(offset))
     }
 
-    /// The erasable cell at a place of a bank, 0 to 7; a register as its narrow word.
+    /// The erasable cell at an offset, 0 to 377 octal, of a bank, 0 to 7, whatever EB holds. A and Q
+    /// show their words with the overflow corrected.
     pub fn cell(&self, bank: u8, offset: u16) -> Narrow
         requires bank { bank ≤ 7 }
         requires offset { offset ≤ 255 }
@@ -185,8 +186,8 @@ impl Store {
         self.cells[256 * usize::from(bank) + usize::from(offset)].narrow()
     }
 
-    /// Puts a word into a cell as it is, also into an editing register. The registers 0 to 7 are
-    /// out of reach.
+    /// Puts a word into a cell as it is, also into an editing register, as the hardware does with
+    /// counters and interrupt registers. The registers 0 to 7 of bank 0 are out of reach.
     pub fn poke(&mut self, bank: u8, offset: u16, word: Narrow)
         requires bank { bank ≤ 7 }
         requires offset { offset ≤ 255 }
@@ -195,193 +196,5 @@ impl Store {
     {
         let place = 256 * usize::from(bank) + usize::from(offset);
         self.set_plain(place, widen(corrected(word)));
-    }
-}
-
-impl Store {
-    /// The accumulator A, with its overflow.
-    #[inline]
-    pub fn a(&self) -> Wide
-        ensures { result ≡ register 0 self.now }
-    {
-        self.cells[0]
-    }
-
-    /// The low register L.
-    #[inline]
-    pub fn l(&self) -> Narrow
-        ensures { result ≡ register 1 self.now }
-    {
-        self.cells[1].narrow()
-    }
-
-    /// The return register Q, with its overflow.
-    #[inline]
-    pub fn q(&self) -> Wide
-        ensures { result ≡ register 2 self.now }
-    {
-        self.cells[2]
-    }
-
-    /// The address in Z, that of the next order to fetch.
-    #[inline]
-    pub fn z(&self) -> Addr
-        ensures { result ≡ z_of self.now }
-    {
-        Addr::wrapped(self.cells[5].bits())
-    }
-
-    /// Sets A, as a write to it does.
-    #[inline]
-    pub fn set_a(&mut self, word: Wide)
-        ensures { self.new ≡ put_of self.old 0 word }
-    {
-        self.set_plain(0, word);
-    }
-
-    /// Sets L, as a write to it does.
-    #[inline]
-    pub fn set_l(&mut self, word: Narrow)
-        ensures { self.new ≡ put_of self.old 1 word }
-    {
-        self.set_plain(1, widen(corrected(word)));
-    }
-
-    /// Sets Q, as a write to it does.
-    #[inline]
-    pub fn set_q(&mut self, word: Wide)
-        ensures { self.new ≡ put_of self.old 2 word }
-    {
-        self.set_plain(2, word);
-    }
-
-    /// Sets Z, as a write of the address to it does.
-    #[tactic(auto, using(crate::proofs::Kept::stored_address), unfolding(crate::specs::Cells::put_of, crate::specs::Cells::cells_with))]
-    pub fn set_z(&mut self, address: Addr)
-        ensures { self.new ≡ put_of self.old 5 (narrow_number address) }
-    {
-        self.set_plain(5, narrow_word(address.bits()));
-    }
-
-    /// The erasable bank that EB names, 0 to 7.
-    #[inline]
-    pub fn erasable_bank(&self) -> u8
-        ensures bank { result ≡ erasable_bank self.now.erasable }
-        ensures range { result < 8 }
-    {
-        (self.erasable_base / 256) as u8
-    }
-
-    /// The fixed bank that FB and the superbank select, 0 to 47 octal.
-    #[inline]
-    pub fn selected_bank(&self) -> u8
-        ensures bank { result ≡ selected_bank self.now }
-        ensures range { result < 40 }
-    {
-        (self.fixed_base / 1024) as u8
-    }
-}
-
-impl Store {
-    /// The erasable cell that an address below 2000 octal names.
-    #[inline]
-    fn erasable_place(&self, number: usize) -> usize
-        requires { number < 1024 }
-        ensures place { result ≡ erasable_place self.now.erasable number }
-        ensures range { result < 2048 }
-    {
-        if number < 768 {
-            number
-        } else {
-            self.erasable_base + (number - 768)
-        }
-    }
-
-    /// The fixed word that an address from 2000 octal on names.
-    #[inline]
-    fn fixed_place(&self, number: usize) -> usize
-        requires low { 1024 ≤ number }
-        requires high { number < 4096 }
-        ensures place { result ≡ fixed_place self.now number }
-        ensures range { result < 40960 }
-    {
-        if number < 2048 {
-            self.fixed_base + (number - 1024)
-        } else {
-            number
-        }
-    }
-
-    /// The fixed bank that FB names, whatever the superbank does.
-    fn fixed_bank(&self) -> usize
-        ensures bank { result ≡ fixed_bank self.now.erasable }
-        ensures range { result < 32 }
-    {
-        usize::from(narrow_pattern(self.cells[4]) / 1024)
-    }
-
-    /// Writes a word to an erasable cell by its number. The cells from 24 octal on are plain.
-    #[inline]
-    fn put(&mut self, place: usize, word: Wide)
-        requires { place < 2048 }
-        ensures { self.new ≡ put_of self.old place word }
-    {
-        if place >= 20 {
-            self.set_plain(place, widen(corrected(word.narrow())));
-        } else {
-            self.put_low(place, word);
-        }
-    }
-
-    /// Writes a word to a cell below 24 octal: a register, a plain cell or an editing register.
-    #[inline(never)]
-    fn put_low(&mut self, place: usize, word: Wide)
-        requires { place < 20 }
-        ensures { self.new ≡ put_of self.old place word }
-    {
-        let narrow = corrected(word.narrow());
-        let bits = narrow.bits();
-        match place {
-            0 | 2 => self.set_plain(place, word),
-            3 => {
-                let fixed = self.fixed_bank();
-                self.set_banks(usize::from(bits) / 256 % 8, fixed);
-            }
-            4 => {
-                let erasable = usize::from(self.erasable_bank());
-                self.set_banks(erasable, usize::from(bits) / 1024);
-            }
-            5 => self.set_plain(5, narrow_word(bits % 4096)),
-            6 => self.set_banks(usize::from(bits) % 8, usize::from(bits) / 1024),
-            7 => {}
-            16 => self.set_plain(16, widen(corrected(narrow.edit(Edit::Cyr)))),
-            17 => self.set_plain(17, widen(corrected(narrow.edit(Edit::Sr)))),
-            18 => self.set_plain(18, widen(corrected(narrow.edit(Edit::Cyl)))),
-            19 => self.set_plain(19, widen(corrected(narrow.edit(Edit::Edop)))),
-            _ => self.set_plain(place, widen(narrow)),
-        }
-    }
-
-    /// Puts a word into a cell that no bank hangs on.
-    #[inline]
-    fn set_plain(&mut self, place: usize, word: Wide)
-        requires plain { IsPlain place }
-        requires storable { IsStorable place word }
-        ensures { self.new ≡ record self.old { erasable = set self.old.erasable place word } }
-    {
-        self.cells[place] = word;
-    }
-
-    /// Sets EB and FB to these banks, and with them BB and the kept places.
-    fn set_banks(&mut self, erasable: usize, fixed: usize)
-        requires erasable { erasable < 8 }
-        requires fixed { fixed < 32 }
-        ensures { self.new ≡ record self.old { erasable = with_banks self.old.erasable erasable fixed } }
-    {
-        self.cells[3] = narrow_word(256 * erasable as u16);
-        self.cells[4] = narrow_word(1024 * fixed as u16);
-        self.cells[6] = narrow_word(1024 * fixed as u16 + erasable as u16);
-        self.erasable_base = 256 * erasable;
-        self.fixed_base = 1024 * selected(fixed, self.superbank);
     }
 }
