@@ -1,2 +1,3 @@
 pub mod Octal
 pub mod Place
+pub mod UnderWay

@@ -4,6 +4,7 @@
 
 mod args;
 mod input;
+mod shown;
 mod text;
 mod until;
 
