@@ -1,3 +1,3 @@
-pub mod Octal
 pub mod Place
 pub mod UnderWay
+pub mod Whole

@@ -1,3 +1,5 @@
 pub mod Text
 pub mod Until
+pub mod Refusal
 pub mod Run
+pub mod Session

@@ -1,15 +1,12 @@
 -- The lines that the program prints of its own: the stop and the log.
-use Rattle.std.specs.Prelude.{ℕ, zero, suc, ◌+◌, ◌/◌, ◌%◌, List, [], ◌∷◌, ◌++◌, codes}
+use Rattle.std.specs.Prelude.{ℕ, List, ◌++◌, codes}
+use Rattle.std.specs.List.{flat_map}
 use Rattle.std.specs.Fmt.{decimal}
 use Rattle.agc_word.specs.Number.{pattern_of}
+use Rattle.agc_word.specs.Octal.{octal_digits}
 use Rattle.agc_machine.specs.declared.answer.ChannelWrite.{ChannelWrite}
 use Rattle.agc_machine.specs.declared.answer.Stop.{Stop}
 use Rattle.agc_machine.specs.declared.answer.Stop.TheVariants as stop
-
--- the last digits of a number in octal, so many of them, the highest first
-abbrev pub octal_digits : ℕ → ℕ → List ℕ
-octal_digits zero n = []
-octal_digits (suc width) n = octal_digits width (n / 8) ++ (48 + n % 8) ∷ []
 
 -- a stop as the program names it
 abbrev pub stop_name : Stop → List ℕ
@@ -30,5 +27,4 @@ log_line w =
 
 -- a line for each channel write, in their order
 unfoldable pub log_text : List ChannelWrite → List ℕ
-log_text [] = []
-log_text (w ∷ ws) = log_line w ++ log_text ws
+log_text writes = flat_map log_line writes

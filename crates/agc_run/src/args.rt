@@ -1,5 +1,6 @@
 //! The command line: what the user asks for, as `clap` reads it.
 
+use agc_store::RopeForm;
 use clap::error::ErrorKind;
 use clap::{Arg, ArgAction, ArgMatches, Command, value_parser};
 use std::alloc::{AllocError, Global};
@@ -29,15 +30,6 @@ pub struct Options {
     pub form: RopeForm,
     /// The order at which the run ends, as the user wrote it.
     pub until: Option<String>,
-}
-
-/// How a rope file is laid out.
-#[derive(Clone, Copy, Debug, PartialEq, Eq)]
-pub enum RopeForm {
-    /// Banks 2, 3, 0, 1, 4 to 43 octal; the lowest bit of each word means nothing.
-    Classic,
-    /// Banks 0 to 43 octal; the lowest bit of each word makes its parity odd.
-    Parity,
 }
 
 /// Why there are no options.

@@ -4,6 +4,10 @@
 
 mod args;
 mod input;
+mod prepare;
+mod print;
+mod refusal;
+mod session;
 mod shown;
 mod text;
 mod until;

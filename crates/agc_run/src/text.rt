@@ -1,5 +1,5 @@
 //! The lines that the program prints of its own: the stop and the log.
-ghost use Rattle.std.specs.Prelude.{◌≡◌, ◌++◌, ◌<◌, ◌^◌, OnOk, string_bytes};
+ghost use Rattle.std.specs.Prelude.{◌≡◌, ◌++◌, ◌<◌, ◌^◌, All, OnOk, string_bytes};
 ghost use Rattle.agc_run.specs.Text.{stop_name, stop_line, log_line, log_text};
 
 use agc_machine::{ChannelWrite, Stop};
@@ -38,6 +38,18 @@ pub fn push_log_line(text: &mut String, write: &ChannelWrite) -> Result<(), Allo
 {
     let cycle = write.cycle;
     let channel = write.channel;
-    let word = write.value.bits();
-    writeln!(text, "{cycle} {channel:03o} {word:05o}")
+    let value = write.value;
+    writeln!(text, "{cycle} {channel:03o} {value}")
+}
+
+/// Adds the lines of channel writes, in their order.
+#[tactic(auto, unfolding(crate::specs::Text::log_text))]
+pub fn push_log(text: &mut String, log: &[ChannelWrite]) -> Result<(), AllocError>
+    requires { All (λ write. write.channel < 2 ^ 9) log.now }
+    ensures { OnOk result (string_bytes text.new ≡ string_bytes text.old ++ log_text log.now) }
+{
+    for write in log {
+        push_log_line(text, write)?;
+    }
+    Ok(())
 }

@@ -1,41 +1,32 @@
 //! The option that names the order at which a run is to stop.
-ghost use Rattle.std.specs.Prelude.{◌≡◌, ◌≤◌, length, option_map, if◌then◌else◌};
+ghost use Rattle.std.specs.Prelude.{◌≡◌, ◌≤◌, length, if◌then◌else◌};
 ghost use Rattle.std.specs.List.{list_all};
-ghost use Rattle.agc_run.specs.Until.{is_octal_digit, octal_value, octal_number, place_of, place_in_range, until_place};
+ghost use Rattle.agc_run.specs.Until.{is_octal_digit, octal_value, octal_number, place_in_range, until_place};
 
+use agc_machine::StopAddress;
 use agc_store::Addr;
 
-/// An order by its place: the address, and the bank where banks are switched at that address.
-#[derive(Clone, Copy, Debug, PartialEq, Eq)]
-pub struct Until {
-    /// 0 to 47 octal.
-    pub bank: u8,
-    pub address: Addr,
-}
-
-impl Until {
-    /// Reads `BANK,ADDR`: two octal numbers of one to six digits, at most 47 and 7777 octal. `None`
-    /// for any other text.
-    pub fn read(text: &str) -> Option<Until>
-        ensures { option_map place_of result ≡ until_place text.now }
-    {
-        match text.split_once(',') {
-            Some((bank, address)) => in_range(octal(bank.as_bytes()), octal(address.as_bytes())),
-            None => None,
-        }
+/// Reads `BANK,ADDR`: two octal numbers of one to six digits, at most 47 and 7777 octal. `None` for
+/// any other text.
+pub fn read_until(text: &str) -> Option<StopAddress>
+    ensures { result ≡ until_place text.now }
+{
+    match text.split_once(',') {
+        Some((bank, address)) => in_range(octal(bank.as_bytes()), octal(address.as_bytes())),
+        None => None,
     }
 }
 
 /// The place with these two numbers, where both are there and in range.
-fn in_range(bank: Option<u32>, address: Option<u32>) -> Option<Until>
-    ensures { option_map place_of result ≡ place_in_range bank address }
+fn in_range(bank: Option<u32>, address: Option<u32>) -> Option<StopAddress>
+    ensures { result ≡ place_in_range bank address }
 {
     let (bank, address) = (u8::try_from(bank?).ok()?, u16::try_from(address?).ok()?);
     if bank > 0o47 {
         return None;
     }
     let address = Addr::new(address)?;
-    Some(Until { bank, address })
+    Some(StopAddress { bank, address })
 }
 
 /// The number that one to six octal digits write; `None` for any other text.

@@ -1,7 +1,7 @@
 use Rattle.std.proofs.Common.{arith, sym}
 use Rattle.std.proofs.lemmas.Str.Pattern.{split_once_first}
 use Rattle.agc_run.proofs.Place.{cut_at_comma}
-use Rattle.agc_run.proofs.until.Until.read.Goals as goal
+use Rattle.agc_run.proofs.until.read_until.Goals as goal
 
 pub returns-in-Some : goal.returns-in-Some
 returns-in-Some c =
