@@ -1,3 +1,6 @@
+pub mod Channels
 pub mod Place
+pub mod Printed
+pub mod Refused
 pub mod UnderWay
 pub mod Whole

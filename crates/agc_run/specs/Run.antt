@@ -1,5 +1,5 @@
 -- What a run of the machine leaves to print.
-use Rattle.std.specs.Prelude.{◌≡◌, ◌<◌, List, Some}
+use Rattle.std.specs.Prelude.{◌≡◌, Some}
 use Rattle.agc_machine.specs.Run.{Run}
 use Rattle.agc_panel.specs.Face.{panel_of}
 use Rattle.agc_run.specs.declared.shown.Shown.{Shown}

@@ -1,16 +1,14 @@
 -- The session: from the bytes of the files and the options, which refusal applies, or else what is printed.
-use Rattle.std.specs.Prelude.{◌≡◌, ◌≢◌, ◌⊎◌, ℕ, ◌==◌, ◌||◌, not, nat_lt, if◌then◌else◌, Bool, true, false, List, [], ◌∷◌, ◌++◌, length, Option, Some, None, Result, Ok, Err, option_map, option_and_then, unwrap_or, string_bytes}
+use Rattle.std.specs.Prelude.{◌≡◌, ◌≢◌, ◌⊎◌, ℕ, ◌==◌, ◌||◌, nat_lt, if◌then◌else◌, Bool, true, false, List, [], ◌∷◌, ◌++◌, length, Option, Some, None, Result, Ok, Err, option_map, option_and_then, unwrap_or, string_bytes}
 use Rattle.std.specs.declared.string.String.{String}
 use Rattle.std.specs.declared.alloc.Global.{Global}
 use Rattle.agc_word.specs.Number.{Number}
 use Rattle.agc_store.specs.Memory.{Memory}
 use Rattle.agc_store.specs.Rope.{rope_words, fault_of}
 use Rattle.agc_store.specs.declared.rope_file.RopeForm.{RopeForm}
-use Rattle.agc_store.specs.declared.rope_file.RopeFault.{RopeFault}
 use Rattle.agc_store.specs.declared.rope_file.RopeFault.TheVariants as rope
 use Rattle.agc_script.specs.Parse.{script_of}
 use Rattle.agc_script.specs.declared.event.Event.{Event}
-use Rattle.agc_script.specs.declared.fault.FaultKind.{FaultKind}
 use Rattle.agc_script.specs.declared.fault.FaultKind.TheVariants as kind
 use Rattle.agc_script.specs.declared.fault.ScriptFault.{ScriptFault}
 use Rattle.agc_machine.specs.Run.{Run, run_of}
@@ -18,13 +16,11 @@ use Rattle.agc_machine.specs.State.{start_state}
 use Rattle.agc_machine.specs.declared.answer.ChannelWrite.{ChannelWrite}
 use Rattle.agc_machine.specs.declared.answer.Stop.{Stop}
 use Rattle.agc_machine.specs.declared.machine.LimitFault.TheVariants as limit
-use Rattle.agc_machine.specs.declared.machine.StopAddress.{StopAddress}
 use Rattle.agc_panel.specs.Face.{panel_of}
 use Rattle.agc_panel.specs.Text.{panel_text}
 use Rattle.agc_panel.specs.Watch.{watch_text}
 use Rattle.agc_panel.specs.WatchSpec.{spec_of, fault_of as watch_fault_of}
 use Rattle.agc_panel.specs.declared.watch_spec.WatchSpec.{WatchSpec}
-use Rattle.agc_panel.specs.declared.watch_spec.WatchFault.{WatchFault}
 use Rattle.agc_panel.specs.declared.watch_spec.WatchFault.TheVariants as watch
 use Rattle.agc_run.specs.Text.{stop_line, log_text}
 use Rattle.agc_run.specs.Until.{until_place}
@@ -110,11 +106,14 @@ looked_for_before (refusal.Script fault) options rope script = rope_refusal opti
 looked_for_before (refusal.Watch fault) options rope script = refusal_of options rope script ∷ []
 looked_for_before r options rope script = []
 
--- What holds where a session refuses: a fault that is told is the refusal of the session, and otherwise none that is looked for before
--- applies.
-pub record IsRefused (options : Options) (rope script : List ℕ) (r : Refusal) : Type 0 where
-  pub fault : tells_fault r ≡ true → refusal_of options rope script ≡ Some r
-  pub other : tells_fault r ≡ false → first_of (looked_for_before r options rope script) ≡ None
+-- a refusal that tells no fault, where none that is looked for before it applies
+pub record IsUntold (options : Options) (rope script : List ℕ) (r : Refusal) : Type 0 where
+  pub untold : tells_fault r ≡ false
+  pub before : first_of (looked_for_before r options rope script) ≡ None
+
+-- What holds where a session refuses: the refusal that it names applies, and none before it does.
+abbrev pub IsRefused : Options → List ℕ → List ℕ → Refusal → Type 0
+IsRefused options rope script r = (refusal_of options rope script ≡ Some r) ⊎ IsUntold options rope script r
 
 -- why a rope is not had: its file cannot be read, it is faulty, or memory is wanted
 abbrev pub IsRopeRefused : RopeForm → List ℕ → Refusal → Type 0

@@ -3,7 +3,7 @@ ghost use Rattle.std.specs.Prelude.{◌≡◌, ◌≤◌, IfOk, vec_len};
 ghost use Rattle.std.specs.Io.KnownBytes.{Consumes, IsAtEnd};
 
 use std::alloc::Global;
-use std::io::Read;
+use std::io::{self, ErrorKind, Read};
 
 /// The most bytes that a rope file may have.
 pub const ROPE_BYTES: usize = 1_048_576;
@@ -24,6 +24,32 @@ pub enum Unread {
     CannotRead,
     /// Memory ran out.
     Memory,
+}
+
+/// A file to be read, or one that could not be opened: each read of it fails.
+#[derive(Drop)]
+pub enum InputFile<F> {
+    Open(F),
+    Refused,
+}
+
+impl<F> InputFile<F> {
+    /// The file, or the refusal.
+    pub fn new(opened: io::Result<F>) -> InputFile<F> {
+        match opened {
+            Ok(file) => InputFile::Open(file),
+            Err(_) => InputFile::Refused,
+        }
+    }
+}
+
+impl<F: Read> Read for InputFile<F> {
+    fn read(&mut self, buf: &mut [u8]) -> io::Result<usize> {
+        match self {
+            InputFile::Open(file) => file.read(buf),
+            InputFile::Refused => Err(io::Error::from(ErrorKind::NotFound)),
+        }
+    }
 }
 
 /// All bytes that the reader has left, at most `limit` of them.

@@ -13,32 +13,31 @@ mod text;
 mod until;
 
 use args::{ArgsFault, Options, parse_args};
+use input::InputFile;
+use refusal::Refusal;
+use session::{DONE, REFUSED, session, status_of};
+use std::io::Write;
 use std::process::ExitCode;
-use std::rt::Env;
-use std::{env, io};
-
-/// The status of a request for help.
-const DONE: u8 = 0;
-
-/// The status of a refusal.
-const REFUSED: u8 = 1;
+use std::rt::{Env, Files};
+use std::{env, fs, io};
 
 /// The status of a mistake in the command line.
 const MISUSED: u8 = 2;
 
-/// The status of a write that failed.
-const UNWRITTEN: u8 = 3;
-
 fn main(rt: HostRuntime) -> ExitCode {
-    ExitCode::from(run(&rt))
+    ExitCode::from(run(&rt, &mut rt.stdout(), &mut rt.stderr()))
 }
 
-fn run<R: Env + Print + Eprint + AllocGlobal>(rt: &R) -> u8 {
+fn run<R: Env + Files + AllocGlobal, W: Write, E: Write>(rt: &R, out: &mut W, err: &mut E) -> u8 {
     match options(rt) {
-        Ok(_options) => DONE,
-        Err(ArgsFault::Help(text)) => after_write(DONE, rt.print(text)),
-        Err(ArgsFault::Command(text)) => after_write(MISUSED, rt.eprint(text)),
-        Err(ArgsFault::Memory) => after_write(REFUSED, rt.eprint("agc: memory\n")),
+        Ok(options) => {
+            let mut rope = InputFile::new(fs::open(rt, options.rope.as_str()));
+            let mut script = InputFile::new(fs::open(rt, options.script.as_str()));
+            session(rt.alloc(), &options, &mut rope, &mut script, out, err)
+        }
+        Err(ArgsFault::Help(text)) => status_of(DONE, out.write_all(text.as_bytes())),
+        Err(ArgsFault::Command(text)) => status_of(MISUSED, err.write_all(text.as_bytes())),
+        Err(ArgsFault::Memory) => status_of(REFUSED, Refusal::Memory.write_to(err)),
     }
 }
 
@@ -54,11 +53,4 @@ fn options<R: Env + AllocGlobal>(rt: &R) -> Result<Options, ArgsFault> {
     };
     let words: Vec<&str> = words.iter().map(|word| word.as_str()).collect(alloc)?;
     parse_args(alloc, words.as_slice())
-}
-
-fn after_write(status: u8, written: io::Result<()>) -> u8 {
-    match written {
-        Ok(()) => status,
-        Err(_) => UNWRITTEN,
-    }
 }

@@ -32,6 +32,7 @@ pub fn prepare(options: &Options, rope: Rope, script: Script) -> Result<Prepared
     ensures machine { IfOk result (λ prepared. prepared.machine
         ≡ start_state rope script options.now.limit (said_by until_place options.now.until)) }
     ensures watch { IfOk result (λ prepared. prepared.watch ≡ said_by spec_of options.now.watch) }
+    ensures tables { IfOk result (λ prepared. tables_refusal prepared.watch ≡ None) }
 {
     let machine = limited_machine(rope, script, options.limit)?;
     let watch = watch_spec(&options.watch)?;

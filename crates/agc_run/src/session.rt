@@ -10,9 +10,9 @@ ghost use Rattle.agc_run.specs.Session.{rope_refusal, script_refusal, options_re
 use crate::args::Options;
 use crate::input::{ROPE_BYTES, SCRIPT_BYTES, Unread, read_limited};
 use crate::prepare::{Prepared, prepare};
+use crate::print::print_run;
 use crate::refusal::Refusal;
 use crate::shown::run_shown;
-use crate::print::print_run;
 use agc_script::Script;
 use agc_store::{Rope, RopeForm};
 use std::alloc::Global;
@@ -58,7 +58,7 @@ pub fn session<R: Read, S: Read, W: Write, E: Write>(
 }
 
 /// The status after the last write.
-fn status_of(status: u8, written: io::Result<()>) -> u8
+pub fn status_of(status: u8, written: io::Result<()>) -> u8
     ensures { result ≡ (if is_ok written then status else UNWRITTEN) }
 {
     match written {

@@ -1,7 +1,7 @@
 use Rattle.std.proofs.Common.{◌≡◌, ◌∷◌, ◌++◌, [], ap, sym, ◌∙◌}
 use Rattle.agc_machine.proofs.Chain.{fewer_after_write}
 use Rattle.agc_machine.specs.State.{State}
-use Rattle.agc_run.proofs.UnderWay.{IsUnderWay, after_write, at_stop}
+use Rattle.agc_run.proofs.UnderWay.{after_write, at_stop}
 use Rattle.agc_run.proofs.shown.run_shown.Goals as goal
 
 pub loop-write-smaller : goal.loop-write-smaller
