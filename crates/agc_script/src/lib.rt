@@ -19,3 +19,6 @@ pub use fault::{FaultKind, ScriptFault};
 pub use key::Key;
 pub use script::Script;
 pub use tape::Tape;
+
+#[cfg(test)]
+mod tests;
