@@ -1,7 +1,7 @@
 -- The numbers between the commas of a text, taken off one by one from the front.
-use Rattle.std.proofs.Common.{◌≡◌, ◌∙◌, ◌+◌, ◌<◌, ◌≤◌, ℕ, zero, suc, true, false, List, [], ◌∷◌, length, refl, sym, arith}
-use Rattle.std.specs.Prelude.{Option, None, Some, IfSome, MatchOption, option_and_then, count_by, get_or}
-use Rattle.std.specs.List.{slice_split, position_or_len, before_first, after_first, list_all, All}
+use Rattle.std.proofs.Common.{◌≡◌, ◌∙◌, ◌<◌, ◌≤◌, ℕ, suc, false, List, [], ◌∷◌, length, refl, arith}
+use Rattle.std.specs.Prelude.{Option, None, Some, IfSome, MatchOption, option_and_then, get_or}
+use Rattle.std.specs.List.{slice_split, position_or_len, before_first, after_first, All}
 use Rattle.std.proofs.Math.Logic.{⊎_elim}
 use Rattle.std.proofs.lemmas.Bool.{cases_lt}
 use Rattle.std.proofs.lemmas.Bool.Decides.{nat_tests}

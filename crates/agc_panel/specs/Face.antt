@@ -8,7 +8,6 @@ use Rattle.agc_panel.specs.declared.digit.Digit.TheVariants.{Blank}
 use Rattle.agc_panel.specs.declared.face.Face.{Face}
 use Rattle.agc_panel.specs.declared.face.Pair.{Pair}
 use Rattle.agc_panel.specs.declared.face.Register.{Register}
-use Rattle.agc_panel.specs.declared.face.TheConstants.{RELAY_CHANNEL, LAMP_CHANNEL}
 use Rattle.agc_panel.specs.Digit.{digit_of}
 use Rattle.agc_panel.specs.Lamp.{dark_lamps}
 
@@ -20,9 +19,9 @@ bits high low word = pattern_of 15 word / 2 ^ (low - 1) % 2 ^ (high - low + 1)
 abbrev pub is_on : ℕ → Number → Bool
 is_on place word = bit_of place word == 1
 
--- A relay word names its row in bits 15 to 12.
+-- A write to channel 10 octal is a relay word, which names its row in bits 15 to 12.
 abbrev pub names_row : ℕ → ChannelWrite → Bool
-names_row row write = (write.channel == RELAY_CHANNEL) && (bits 15 12 write.value == row)
+names_row row write = (write.channel == 0o10) && (bits 15 12 write.value == row)
 
 -- what a write gives the sign of a row: bit 11
 unfoldable pub sign : ℕ → ChannelWrite → Option Bool
@@ -40,9 +39,9 @@ right row write = if names_row row write then Some (digit_of (bits 5 1 write.val
 unfoldable pub relay_lamp : ℕ → ChannelWrite → Option Bool
 relay_lamp place write = if names_row 12 write then Some (is_on place write.value) else None
 
--- what a write gives the lamp at a bit of the lamp channel
+-- what a write gives the lamp at a bit of channel 11 octal
 unfoldable pub lamp : ℕ → ChannelWrite → Option Bool
-lamp place write = if write.channel == LAMP_CHANNEL then Some (is_on place write.value) else None
+lamp place write = if write.channel == 0o11 then Some (is_on place write.value) else None
 
 -- what the last write that names a field gives it, or what stood there before where no write names it
 unfoldable pub shown : {A : Type 0} → A → (ChannelWrite → Option A) → List ChannelWrite → A
@@ -98,9 +97,11 @@ face_after before writes = record {
   };
 }
 
+-- two digits that show nothing
 abbrev pub blank_pair : Pair
 blank_pair = record { left = Blank; right = Blank }
 
+-- a register that shows neither sign nor digit
 abbrev pub blank_register : Register
 blank_register = record { plus = false; minus = false; d1 = Blank; d2 = Blank; d3 = Blank; d4 = Blank; d5 = Blank }
 

@@ -30,6 +30,7 @@ unfoldable pub register_line : List ℕ → Register → List ℕ
 register_line name r =
     name ++ codes " " ++ (sign_glyph (sign_of r) ∷ glyph r.d1 ∷ glyph r.d2 ∷ glyph r.d3 ∷ glyph r.d4 ∷ glyph r.d5 ∷ []) ++ codes "\n"
 
+-- whether verb and noun flash
 unfoldable pub flash_line : Bool → List ℕ
 flash_line flash = codes "FLASH " ++ (if flash then codes "on" else codes "off") ++ codes "\n"
 

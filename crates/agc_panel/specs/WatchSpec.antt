@@ -7,6 +7,7 @@ use Rattle.agc_panel.specs.declared.watch_spec.WatchFault.TheVariants as fault
 use Rattle.agc_panel.specs.declared.watch_spec.Table.TheVariants as table
 use Rattle.agc_panel.specs.Octal.{octal_number}
 
+-- the byte of a comma
 abbrev pub is_comma : ℕ → Bool
 is_comma b = b == 44
 
@@ -36,11 +37,11 @@ spec_from numbers = None
 unfoldable pub numbers_in : List ℕ → Option (List ℕ)
 numbers_in text = numbers_of (slice_split is_comma text)
 
--- fewer than so many numbers stand in a text
+-- where each piece of a text writes a number, there are fewer than so many
 pub record HasFewer (count : ℕ) (text : List ℕ) : Type 0 where
   pub fewer : IfSome (numbers_in text) (λ numbers. length numbers < count)
 
--- more than so many numbers stand in a text, or none at all
+-- where each piece of a text writes a number, there are more than so many
 pub record HasMore (count : ℕ) (text : List ℕ) : Type 0 where
   pub more : IfSome (numbers_in text) (λ numbers. count < length numbers)
 
