@@ -58,24 +58,22 @@ fn take_line(events: &mut Vec<Event>, last: u64, line: &[u8]) -> Result<u64, Fau
     match read_line(last, events.len(), line)? {
         None => Ok(last),
         Some(repeat) => {
-            let start = repeat.start;
+            // The proof has to be shown the type of `what` here.
             let _what = repeat.what;
-            match push_events(events, repeat) {
-                Ok(()) => Ok(start),
-                Err(_) => Err(FaultKind::Memory),
-            }
+            push_events(events, &repeat).map_err(|_| FaultKind::Memory)?;
+            Ok(repeat.start)
         }
     }
 }
 
 /// Puts the events of a line after those of the lines before it.
 #[tactic(auto, unfolding(crate::specs::Parse::events_of))]
-fn push_events(events: &mut Vec<Event>, repeat: Repeat) -> Result<(), AllocError>
-    requires repeat { IsRepeatInRange repeat }
+fn push_events(events: &mut Vec<Event>, repeat: &Repeat) -> Result<(), AllocError>
+    requires repeat { IsRepeatInRange repeat.now }
     requires range { All IsInRange events.old.items }
-    ensures ok { OnOk result (events.new.items ≡ events.old.items ++ events_of repeat) }
+    ensures ok { OnOk result (events.new.items ≡ events.old.items ++ events_of repeat.now) }
     ensures range { OnOk result (All IsInRange events.new.items) }
-    ensures len { OnOk result (length events.new.items ≡ length events.old.items + repeat.times) }
+    ensures len { OnOk result (length events.new.items ≡ length events.old.items + repeat.now.times) }
 {
     events.reserve(repeat.times as usize)?;
     for i in 0..repeat.times {

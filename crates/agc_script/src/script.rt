@@ -87,7 +87,7 @@ impl Script {
         ensures many { IsErrOf result too_many ↔ (65536 < length self.now + length tape.now) }
         ensures memory { IfErr result (λ fault. fault ≢ too_many → fault ≡ no_memory) }
     {
-        if tape.len() > 65536 - self.events.len() {
+        if tape.len() > 65536 - self.len() {
             return Err(ScriptFault {
                 line: 0,
                 kind: FaultKind::TooMany,

@@ -6,7 +6,7 @@ use Rattle.agc_script.proofs.parse.push_events.Given as goal
 
 abbrev pub invariant-loop-i : goal.invariant-loop-i
 invariant-loop-i l = record {
-  pushed : l.events.items ≡ l.initial.events.items ++ map (event_at l.fn.repeat) (range_with_len 0 l.i);
+  pushed : l.events.items ≡ l.initial.events.items ++ map (event_at l.repeat) (range_with_len 0 l.i);
   len : length l.events.items ≡ length l.initial.events.items + l.i;
   in_range : All IsInRange l.events.items;
 }
