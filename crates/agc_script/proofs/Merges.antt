@@ -1,10 +1,10 @@
 -- The merge, one key after another, and that it is a script.
-use Rattle.std.specs.Prelude.{◌≡◌, ℕ, zero, suc, ◌+◌, ◌≤◌, ◌<◌, nat_lt, List, [], ◌∷◌, ◌++◌, length, take, drop, position, unwrap_or, Result, Ok, Err, is_ok, OnOk, All, if◌then◌else◌}
-use Rattle.std.proofs.Common.{arith, ◌∙◌, add-one, append_assoc, get_or, one-add, inl, inr}
+use Rattle.std.specs.Prelude.{◌≡◌, ℕ, zero, suc, ◌+◌, ◌≤◌, ◌<◌, nat_lt, true, false, List, [], ◌∷◌, ◌++◌, length, take, drop, position, unwrap_or, Result, Ok, Err, is_ok, OnOk, All, if◌then◌else◌}
+use Rattle.std.proofs.Common.{refl, arith, ◌∙◌, add-one, append_assoc, get_or, one-add, inl, inr}
 use Rattle.std.proofs.Math.Seq.{drop-cons}
 use Rattle.std.proofs.Math.ListN.{drop_of_length-le}
 use Rattle.std.proofs.lemmas.Bool.Decides.{nat_tests, leb_tells}
-use Rattle.std.proofs.lemmas.Bool.{leb-false}
+use Rattle.std.proofs.lemmas.Bool.{leb-false, lt-leb, le-leb}
 use Rattle.std.proofs.lemmas.List.{length-append, length-drop, length-take-le, get_or-take}
 use Rattle.std.proofs.lemmas.List.Sums.{prefix_len-le-length, fails_before_first}
 use Rattle.std.proofs.lemmas.List.Elements.{All-append, All-cons, All-drop, All-nil, All-tail, All-take}
@@ -127,3 +127,27 @@ merged_script events tape s t h = record {
   in_order = merged-in_order events tape s.in_order t.rising;
   few = omega (arith, length-merged events tape);
 }
+
+-- laws for those who play a merged script: an event of a key's cycle or less comes before the key ..
+pub merged_event_first : (event : Event) (events : List Event) (entry : ℕ × Key) (tape : List (ℕ × Key)) → event.cycle ≤ entry.0
+    → merged (event ∷ events) (entry ∷ tape) ≡ event ∷ merged events (entry ∷ tape)
+unfolding merged
+merged_event_first event events entry tape h =
+    let due : nat_lt entry.0 event.cycle ≡ false = lt-leb (suc entry.0) event.cycle (omega arith) in
+    rw (due, one-add)
+
+-- .. and where the first event comes later, or none is left, the key comes first
+pub merged_key_first : (event : Event) (events : List Event) (entry : ℕ × Key) (tape : List (ℕ × Key)) → entry.0 < event.cycle
+    → merged (event ∷ events) (entry ∷ tape) ≡ key_event entry ∷ merged (event ∷ events) tape
+unfolding merged
+merged_key_first event events entry tape h =
+    let later : nat_lt entry.0 event.cycle ≡ true = le-leb (suc entry.0) event.cycle h in
+    rw later
+
+pub merged_keys_last : (entry : ℕ × Key) (tape : List (ℕ × Key)) → merged [] (entry ∷ tape) ≡ key_event entry ∷ merged [] tape
+unfolding merged
+merged_keys_last entry tape = refl
+
+pub merged_no_keys : (events : List Event) → merged events [] ≡ events
+unfolding merged
+merged_no_keys events = refl
