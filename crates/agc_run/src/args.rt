@@ -171,3 +171,6 @@ fn fault_of(alloc: Global, error: &clap::Error) -> ArgsFault {
         ArgsFault::Command(text)
     }
 }
+
+#[cfg(test)]
+mod tests;

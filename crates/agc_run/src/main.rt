@@ -9,6 +9,8 @@ mod print;
 mod refusal;
 mod session;
 mod shown;
+#[cfg(test)]
+mod streams;
 mod text;
 mod until;
 

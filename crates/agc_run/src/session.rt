@@ -158,3 +158,6 @@ fn text_of_run(
     let shown = run_shown(alloc, machine)?;
     print_run(alloc, options.log, &shown, &watch)
 }
+
+#[cfg(test)]
+mod tests;
