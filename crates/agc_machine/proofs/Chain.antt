@@ -77,7 +77,7 @@ unfolding boundaries_left
 timer_falls (Some (p, cycles)) s o h = (omega arith, omega arith)
 timer_falls None s o h = by_interrupt_falls s h
 
-by_timer_falls : (s : State) → s.cycle < s.limit → Falls s (by_timer s)
+pub by_timer_falls : (s : State) → s.cycle < s.limit → Falls s (by_timer s)
 unfolding by_timer
 by_timer_falls s h = timer_falls (timer_stepped s.cycle s.processor) s (timer_costs s.cycle s.processor) h
 

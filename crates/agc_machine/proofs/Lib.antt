@@ -4,3 +4,4 @@ pub mod Chain
 pub mod Fresh
 pub mod Keeps
 pub mod Stillness
+pub mod Replay

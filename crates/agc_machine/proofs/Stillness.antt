@@ -40,7 +40,7 @@ no_interrupt : (p : Processor) → position (λ waits. waits) p.timers.requests 
 unfolding interrupt_taken pending
 no_interrupt p e = ap (option_map (λ (place : ℕ). interrupted place p)) (none_or_none (is_allowed p) _ e)
 
-past_limit : (s : State) → s.cycle < s.limit → by_limit s ≡ by_event s
+pub past_limit : (s : State) → s.cycle < s.limit → by_limit s ≡ by_event s
 unfolding by_limit
 past_limit s h = let f : nat_le s.limit s.cycle ≡ false = grind (arith, nat_tests) in rw f
 
@@ -48,7 +48,7 @@ past_events : (events : List Event) (s : State) → IsBefore s.cycle events → 
 past_events [] s h = refl
 past_events (event ∷ rest) s h = let f : nat_le event.cycle s.cycle ≡ false = grind (arith, nat_tests) in rw f
 
-past_event : (s : State) → IsBefore s.cycle s.events → by_event s ≡ by_timer s
+pub past_event : (s : State) → IsBefore s.cycle s.events → by_event s ≡ by_timer s
 unfolding by_event
 past_event s h = past_events s.events s h
 

@@ -15,3 +15,4 @@ pub mod Run
 pub mod Quiet
 pub mod Engine
 pub mod Laws
+pub mod Replay

@@ -1,10 +1,12 @@
 //! Laws of every run, each the contract of a function that does nothing. The machine's own calls
 //! are proved equal to the definitions that these laws are about.
-ghost use Rattle.std.specs.Prelude.{◌≡◌, ℕ, ◌≤◌, Some, None, IsSome};
+ghost use Rattle.std.specs.Prelude.{◌≡◌, ℕ, ◌≤◌, List, length, replicate, Option, Some, None, IsSome};
+ghost use Rattle.agc_script.specs.declared.key.Key.{Key};
 ghost use Rattle.agc_machine.specs.State.{State};
 ghost use Rattle.agc_machine.specs.Boundary.{boundary};
 ghost use Rattle.agc_machine.specs.Run.{boundaries_left, next_of, run_of, unless_stopped_run};
 ghost use Rattle.agc_machine.specs.Laws.{Falls, Comes, AreRising, after};
+ghost use Rattle.agc_machine.specs.Replay.{chain, tape_of, AreWanted, with_tape, run_in};
 ghost use Rattle.agc_machine.specs.declared.answer.Stop.{Stop};
 ghost use Rattle.agc_machine.specs.declared.answer.Stepped.TheVariants as stepped;
 
@@ -38,4 +40,22 @@ pub fn runs_go_by_writes()
 /// The cycles of a run's writes strictly rise, and its channels are 5 to 777 octal.
 pub fn writes_rise()
     ensures { (s : State) → AreRising s.cycle (run_of s).writes }
+{}
+
+/// Live keys can be played again: a chain of boundaries with keys that the machine wanted, however
+/// far apart, is the plain chain from the state whose events have the tape of those keys among them.
+pub fn live_keys_replay()
+    ensures { (lives : List (Option Key)) (s : State) → AreWanted lives s
+        → chain (replicate (length lives) None) (with_tape (tape_of lives s) s) ≡ chain lives s }
+{}
+
+/// A plain chain that has come to a stop is the run: its writes and its last state are the run's.
+pub fn chains_are_runs()
+    ensures { (n : ℕ) (s : State) → IsSome (chain (replicate n None) s).last.stopped → run_of s ≡ run_in (chain (replicate n None) s) }
+{}
+
+/// A live run that has come to a stop is the run of the state whose events have its tape among them.
+pub fn live_runs_replay()
+    ensures { (lives : List (Option Key)) (s : State) → AreWanted lives s → IsSome (chain lives s).last.stopped
+        → run_of (with_tape (tape_of lives s) s) ≡ run_in (chain lives s) }
 {}

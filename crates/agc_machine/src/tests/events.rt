@@ -1,6 +1,6 @@
 //! What comes from outside: keys, inputs, pulses, and the channels that show them.
 use super::*;
-use agc_script::Key;
+use agc_script::{Key, Tape};
 use std::test::Fail;
 
 /// KEYRUPT1 is taken at cycle 0 before INHINT runs; RESUME at 3, INHINT at 5, TCF 4001 from 6 on.
@@ -98,4 +98,49 @@ fn input_switches_the_superbank(rt: HostRuntime) -> Result<(), Fail> {
     assert_eq!(rt; channel(&machine, 7), 0o00020);
     assert!(rt; !machine.store().superbank());
     Ok(())
+}
+
+/// A service of KEYRUPT1 that shows the key's code in channel 10: it begins 3 cycles after the key,
+/// and its WRITE, behind TCF, EXTEND, READ and EXTEND, 5 cycles after that.
+const ECHO: [(usize, &[u16]); 3] = [
+    (0o4000, &[0o14000]),
+    (0o4024, &[0o14100]),
+    (0o4100, &[0o00006, 0o00015, 0o00006, 0o01010, 0o50017]),
+];
+
+/// Two live keys, at 5 and at 30, where the script's own key comes first and is overtaken; then the
+/// same run from the script with their tape in it.
+#[test]
+fn live_keys_replay(rt: HostRuntime) -> Result<(), Fail> {
+    let mut live = machine_with(&rt, &ECHO, "30 key 1", 100)?;
+    press_at(&rt, &mut live, 5, Key::Verb);
+    wrote(&rt, &mut live, 13, 0o10, 0o00021);
+    press_at(&rt, &mut live, 30, Key::Seven);
+    wrote(&rt, &mut live, 38, 0o10, 0o00007);
+    stopped(&rt, &mut live, Stop::Limit, 100);
+
+    let mut tape = Tape::new(rt.alloc());
+    tape.push(5, Key::Verb)?;
+    tape.push(30, Key::Seven)?;
+    let script = Script::parse(rt.alloc(), b"30 key 1")?.merge(rt.alloc(), &tape)?;
+    let mut again = Machine::new(rope(&rt, &ECHO)?, script, 100)
+        .ok()
+        .expect(&rt, "the limit is in range");
+    wrote(&rt, &mut again, 13, 0o10, 0o00021);
+    wrote(&rt, &mut again, 38, 0o10, 0o00007);
+    stopped(&rt, &mut again, Stop::Limit, 100);
+    Ok(())
+}
+
+/// Goes on to the first boundary from a cycle on at which a key is wanted, and gives the key there.
+fn press_at(rt: &impl Abort, machine: &mut Machine, cycle: u64, key: Key) {
+    for _ in 0..=cycle {
+        if machine.cycle() >= cycle && machine.wants_key() {
+            break;
+        }
+        quiet(rt, machine);
+    }
+    assert_eq!(rt; machine.cycle(), cycle);
+    assert!(rt; machine.wants_key());
+    assert_eq!(rt; machine.step(Some(key)), Stepped::Quiet);
 }
