@@ -2,6 +2,12 @@
 use crate::key::Key;
 use agc_word::{Narrow, Pulse};
 
+/// The latest cycle that an event may have.
+pub(crate) const LAST_CYCLE: u64 = 1_000_000_000_000;
+
+/// The most events that a script may have.
+pub(crate) const MOST_EVENTS: usize = 65_536;
+
 /// Something that happens from outside, as the machine takes it between two orders.
 #[derive(Clone, Copy, Debug, PartialEq, Eq)]
 pub enum What {

@@ -6,10 +6,13 @@ ghost use Rattle.agc_script.specs.Text.{words_of};
 ghost use Rattle.agc_script.specs.Line.{IsRepeatInRange, cycle_word, in_turn, once_of, repeat_of, every_of, within_bound, words_meaning, meaning_of};
 
 use crate::command::{is, read_command};
-use crate::event::What;
+use crate::event::{MOST_EVENTS, What};
 use crate::fault::FaultKind;
 use crate::number::read_cycle;
 use crate::text::next_word;
+
+/// The most bytes that a line may have, its end apart.
+const LONGEST_LINE: usize = 120;
 
 /// The events of one line: the same thing at `start`, `start + period` and so on, so many times.
 #[derive(Clone, Copy, Debug, PartialEq, Eq)]
@@ -30,7 +33,7 @@ pub(crate) fn read_line(last: u64, before: usize, line: &[u8]) -> Result<Option<
     ensures range { IfOk result (λ said. IfSome said IsRepeatInRange) }
     ensures room { IfOk result (λ said. IfSome said (λ repeat. before + repeat.times ≤ 65536)) }
 {
-    if line.len() > 120 {
+    if line.len() > LONGEST_LINE {
         Err(FaultKind::LineTooLong)
     } else if has_high_byte(line) {
         Err(FaultKind::NotAscii)
@@ -76,7 +79,7 @@ fn bounded(before: usize, repeat: Repeat) -> Result<Option<Repeat>, FaultKind>
     ensures range { IfOk result (λ said. IfSome said IsRepeatInRange) }
     ensures room { IfOk result (λ said. IfSome said (λ repeat. before + repeat.times ≤ 65536)) }
 {
-    if before as u64 + repeat.times > 65536 {
+    if before as u64 + repeat.times > MOST_EVENTS as u64 {
         return Err(FaultKind::TooMany);
     }
     Ok(Some(repeat))

@@ -4,6 +4,7 @@ ghost use Rattle.std.specs.List.{list_all};
 ghost use Rattle.agc_word.specs.Number.{number_from_pattern};
 ghost use Rattle.agc_script.specs.Text.{number_of, cycle_of, is_digit, digits_value};
 
+use crate::event::LAST_CYCLE;
 use agc_word::Narrow;
 
 /// The number that a word writes in a base, 8 or 10, with at most so many digits.
@@ -50,7 +51,7 @@ pub(crate) fn read_cycle(word: &[u8]) -> Option<u64>
     ensures cycle { result ≡ cycle_of word.now }
     ensures range { IfSome result (λ cycle. cycle ≤ 1000000000000) }
 {
-    read_number(10, 13, word).filter(|cycle| *cycle <= 1_000_000_000_000)
+    read_number(10, 13, word).filter(|cycle| *cycle <= LAST_CYCLE)
 }
 
 /// The word with this pattern of fifteen bits.

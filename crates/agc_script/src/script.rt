@@ -5,7 +5,7 @@ ghost use Rattle.agc_script.specs.Script.{IsScript};
 ghost use Rattle.agc_script.specs.Parse.{script_of, IsSoundLine};
 ghost use Rattle.agc_script.specs.Merge.{merged, too_many, no_memory};
 
-use crate::event::Event;
+use crate::event::{Event, MOST_EVENTS};
 use crate::fault::{FaultKind, ScriptFault};
 use crate::merge::merge_events;
 use crate::parse::{Reading, arrange, read_lines};
@@ -87,7 +87,7 @@ impl Script {
         ensures many { IsErrOf result too_many ↔ (65536 < length self.now + length tape.now) }
         ensures memory { IfErr result (λ fault. fault ≢ too_many → fault ≡ no_memory) }
     {
-        if tape.len() > 65536 - self.len() {
+        if tape.len() > MOST_EVENTS - self.len() {
             return Err(ScriptFault {
                 line: 0,
                 kind: FaultKind::TooMany,
