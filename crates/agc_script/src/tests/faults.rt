@@ -1,0 +1,166 @@
+//! Refused scripts: which line, and which of its faults.
+use super::*;
+
+#[test]
+fn script_faults(rt: HostRuntime) {
+    let long = repeated(&rt, b"0", 121);
+    refuses(
+        &rt,
+        &[
+            (&long, 1, FaultKind::LineTooLong),
+            (b"\xFF", 1, FaultKind::NotAscii),
+            (b"5 key 1\n4 key 2", 2, FaultKind::OutOfOrder),
+            (b"11111111111111111111 key 1", 1, FaultKind::BadCycle),
+            (b"# x\n0 input 1000 0", 2, FaultKind::OutOfRange),
+            (b"0 key VERB\n0 key FOO", 2, FaultKind::UnknownWord),
+            (b"0 input 10 9", 1, FaultKind::BadNumber),
+            (b"0 raise 1\n\xFF", 2, FaultKind::NotAscii),
+        ],
+    );
+    assert_eq!(rt; parse(&rt, b"").len(), 0);
+    let full = repeated(&rt, b"0 raise 1\n", 65_537);
+    assert_eq!(rt;
+        fault(&rt, &full),
+        Some(ScriptFault {
+            line: 65_537,
+            kind: FaultKind::TooMany
+        })
+    );
+    let full = repeated(&rt, b"0 raise 1\n", 65_536);
+    assert_eq!(rt; parse(&rt, &full).len(), 65_536);
+}
+
+#[test]
+fn poke_line_faults(rt: HostRuntime) {
+    refuses(
+        &rt,
+        &[
+            (b"5 poke 0 100 1\n4 poke 0 100 1", 2, FaultKind::OutOfOrder),
+            (b"0 poke 0 7 1", 1, FaultKind::OutOfRange),
+            (b"0 poke 8 400 1", 1, FaultKind::BadNumber),
+            (b"0 poke 0 100", 1, FaultKind::UnknownWord),
+        ],
+    );
+}
+
+#[test]
+fn script_edges(rt: HostRuntime) {
+    refuses(
+        &rt,
+        &[
+            (b"1000000000001 raise 1", 1, FaultKind::BadCycle),
+            (b"0", 1, FaultKind::UnknownWord),
+            (b"0 raise 11", 1, FaultKind::OutOfRange),
+            (b"0 raise 0000001", 1, FaultKind::BadNumber),
+            (b"0 pulse 23 pinc", 1, FaultKind::OutOfRange),
+            (b"0 poke 9 400 1", 1, FaultKind::BadNumber),
+        ],
+    );
+    accepts(&rt, &[b"1000000000000 raise 1"]);
+    let blanks = repeated(&rt, b" ", 111);
+    for (end, kind) in [
+        (b" \r\n".as_slice(), None),
+        (b"\r\n".as_slice(), None),
+        (b"  \r\n".as_slice(), Some(FaultKind::LineTooLong)),
+        (b" ".as_slice(), None),
+        (b"  ".as_slice(), Some(FaultKind::LineTooLong)),
+        (b" \r".as_slice(), None),
+    ] {
+        let mut file = Vec::new(rt.alloc());
+        assert!(rt; file.extend_from_slice(b"0 raise").is_ok());
+        assert!(rt; file.extend_from_slice(&blanks).is_ok());
+        assert!(rt; file.extend_from_slice(b"1").is_ok());
+        assert!(rt; file.extend_from_slice(end).is_ok());
+        assert_eq!(rt; fault(&rt, &file).map(|fault| fault.kind), kind, "{end:?}");
+    }
+}
+
+/// Of two faults of a line the one that is told: the first in the list of kinds.
+#[test]
+fn first_kind(rt: HostRuntime) {
+    let mut long = repeated(&rt, b"x", 120);
+    assert!(rt; long.push(0xFF).is_ok());
+    refuses(
+        &rt,
+        &[
+            (&long, 1, FaultKind::LineTooLong),
+            (b"x\x80", 1, FaultKind::NotAscii),
+            (b"5 raise 1\nx foo", 2, FaultKind::BadCycle),
+            (b"5 raise 1\n4 foo", 2, FaultKind::OutOfOrder),
+            (b"0 input 9", 1, FaultKind::UnknownWord),
+            (b"0 pulse 9 foo", 1, FaultKind::UnknownWord),
+            (b"0 poke 8 400 1", 1, FaultKind::BadNumber),
+            (b"0 input 1000 8", 1, FaultKind::BadNumber),
+            (
+                b"every 1 0 65535 raise 1\n0 raise 11",
+                2,
+                FaultKind::OutOfRange,
+            ),
+            (
+                b"every 1 0 65535 raise 1\n0 raise 10",
+                2,
+                FaultKind::TooMany,
+            ),
+        ],
+    );
+}
+
+/// Of several faulty lines the first is told, whatever its kind.
+#[test]
+fn first_line(rt: HostRuntime) {
+    refuses(
+        &rt,
+        &[
+            (b"0 raise 11\nx\n\xFF", 1, FaultKind::OutOfRange),
+            (b"0 raise 1\n0 raise 1 1\nx", 2, FaultKind::UnknownWord),
+            (
+                b"# x\n\n5 raise 1\n# y\n4 raise 1\nx",
+                5,
+                FaultKind::OutOfOrder,
+            ),
+        ],
+    );
+}
+
+/// Commands with too few words or too many, and words that are none of the grammar's.
+#[test]
+fn unknown_words(rt: HostRuntime) {
+    for file in [
+        b"0".as_slice(),
+        b"0 key".as_slice(),
+        b"0 key verb".as_slice(),
+        b"0 key VERB NOUN".as_slice(),
+        b"0 key PRO".as_slice(),
+        b"0 pro".as_slice(),
+        b"0 pro left".as_slice(),
+        b"0 pro Down".as_slice(),
+        b"0 pro up down".as_slice(),
+        b"0 input 30".as_slice(),
+        b"0 input 30 0 0".as_slice(),
+        b"0 pulse 30".as_slice(),
+        b"0 pulse pinc 30".as_slice(),
+        b"0 pulse 30 PINC".as_slice(),
+        b"0 pulse 30 dinc".as_slice(),
+        b"0 pulse 30 pinc 1".as_slice(),
+        b"0 raise".as_slice(),
+        b"0 raise 1 1".as_slice(),
+        b"0 Raise 1".as_slice(),
+        b"0 poke 0 100".as_slice(),
+        b"0 poke 0 100 1 1".as_slice(),
+        b"0 every 1 0 5 raise 1".as_slice(),
+        b"0 #".as_slice(),
+    ] {
+        refuses(&rt, &[(file, 1, FaultKind::UnknownWord)]);
+    }
+}
+
+#[test]
+fn faults_have_texts(rt: HostRuntime) {
+    let fault = ScriptFault {
+        line: 7,
+        kind: FaultKind::TooMany,
+    };
+    let text = format!(in rt.alloc(); "{fault}").expect(&rt, "memory");
+    assert_eq!(rt; text.as_str(), "line 7: there are more than 65536 events");
+    assert_eq!(rt; Script::empty(rt.alloc()).len(), 0);
+}

@@ -1,0 +1,95 @@
+//! The tape of live keys, and its merge with a script.
+use super::*;
+
+#[test]
+fn command_line_tape(rt: HostRuntime) {
+    let mut tape = Tape::new(rt.alloc());
+    assert_eq!(rt; tape.len(), 0);
+    assert!(rt; tape.push(5, Key::Verb).is_ok());
+    assert_eq!(rt; tape.len(), 1);
+    assert_eq!(rt; tape.at(0), (5, Key::Verb));
+    assert!(rt; tape.push(6, Key::Noun).is_ok());
+    assert_eq!(rt; tape.len(), 2);
+    assert_eq!(rt; tape.at(0), (5, Key::Verb));
+    assert_eq!(rt; tape.at(1), (6, Key::Noun));
+}
+
+#[test]
+fn live_keys_replay_merge(rt: HostRuntime) {
+    let mut tape = Tape::new(rt.alloc());
+    assert!(rt; tape.push(5, Key::Verb).is_ok());
+    let script = parse(&rt, b"5 raise 1\n6 raise 2");
+    let merged = script.merge(rt.alloc(), &tape).expect(&rt, "room");
+    let want = [raise(5, 1), key(5, Key::Verb), raise(6, 2)];
+    assert_eq!(rt; listed(&rt, &merged).as_slice(), want.as_slice());
+
+    assert!(rt; tape.push(9, Key::Enter).is_ok());
+    let merged = script.merge(rt.alloc(), &tape).expect(&rt, "room");
+    let want = [
+        raise(5, 1),
+        key(5, Key::Verb),
+        raise(6, 2),
+        key(9, Key::Enter),
+    ];
+    assert_eq!(rt; listed(&rt, &merged).as_slice(), want.as_slice());
+}
+
+/// Keys before, between and behind the events of a script, and without any.
+#[test]
+fn keys_between_events(rt: HostRuntime) {
+    let mut tape = Tape::new(rt.alloc());
+    let nothing = Script::empty(rt.alloc());
+    let merged = nothing.merge(rt.alloc(), &tape).expect(&rt, "room");
+    assert_eq!(rt; merged.len(), 0);
+
+    assert!(rt; tape.push(0, Key::Verb).is_ok());
+    assert!(rt; tape.push(6, Key::Three).is_ok());
+    assert!(rt; tape.push(8, Key::Five).is_ok());
+    assert!(rt; tape.push(1_000_000_000_000, Key::Enter).is_ok());
+    let merged = nothing.merge(rt.alloc(), &tape).expect(&rt, "room");
+    let want = [
+        key(0, Key::Verb),
+        key(6, Key::Three),
+        key(8, Key::Five),
+        key(1_000_000_000_000, Key::Enter),
+    ];
+    assert_eq!(rt; listed(&rt, &merged).as_slice(), want.as_slice());
+
+    let script = parse(&rt, b"1 raise 1\n9 raise 2\n9 raise 3");
+    let merged = script.merge(rt.alloc(), &tape).expect(&rt, "room");
+    let want = [
+        key(0, Key::Verb),
+        raise(1, 1),
+        key(6, Key::Three),
+        key(8, Key::Five),
+        raise(9, 2),
+        raise(9, 3),
+        key(1_000_000_000_000, Key::Enter),
+    ];
+    assert_eq!(rt; listed(&rt, &merged).as_slice(), want.as_slice());
+}
+
+#[test]
+fn merge_limit(rt: HostRuntime) {
+    let full = parse(&rt, b"every 1 0 65535 raise 1");
+    let mut tape = Tape::new(rt.alloc());
+    let same = full.merge(rt.alloc(), &tape).expect(&rt, "room");
+    assert_eq!(rt; listed(&rt, &same), listed(&rt, &full));
+    assert!(rt; tape.push(5, Key::Verb).is_ok());
+    let nearly = parse(&rt, b"every 1 0 65534 raise 1");
+    assert_eq!(rt;
+        nearly.merge(rt.alloc(), &tape).expect(&rt, "room").len(),
+        65_536
+    );
+    let refused = match full.merge(rt.alloc(), &tape) {
+        Ok(_) => None,
+        Err(fault) => Some(fault),
+    };
+    assert_eq!(rt;
+        refused,
+        Some(ScriptFault {
+            line: 0,
+            kind: FaultKind::TooMany
+        })
+    );
+}
