@@ -29,10 +29,7 @@ fn listed(rt: &(impl Abort + AllocGlobal), script: &Script) -> Vec<Event> {
 
 /// The fault of a refused file.
 fn fault(rt: &(impl Abort + AllocGlobal), file: &[u8]) -> Option<ScriptFault> {
-    match Script::parse(rt.alloc(), file) {
-        Ok(_) => None,
-        Err(fault) => Some(fault),
-    }
+    Script::parse(rt.alloc(), file).err()
 }
 
 fn raise(cycle: u64, number: u8) -> Event {
@@ -57,6 +54,17 @@ fn refuses(rt: &(impl Abort + AllocGlobal), faults: &[(&[u8], usize, FaultKind)]
             fault(rt, file),
             Some(ScriptFault { line, kind }),
             "{file:?}"
+        );
+    }
+}
+
+/// Looks that each of these lines, with semicolons between, is refused for this where it stands alone.
+fn refuses_each(rt: &(impl Abort + AllocGlobal), kind: FaultKind, lines: &[u8]) {
+    for line in lines.split(|b| *b == b';') {
+        assert_eq!(rt;
+            fault(rt, line),
+            Some(ScriptFault { line: 1, kind }),
+            "{line:?}"
         );
     }
 }

@@ -54,25 +54,18 @@ fn commands(rt: HostRuntime) {
 /// Each kind of pulse by its name.
 #[test]
 fn pulse_kinds(rt: HostRuntime) {
-    let file = b"0 pulse 30 pinc
-0 pulse 31 minc
-0 pulse 32 pcdu
-0 pulse 33 mcdu
-0 pulse 45 shinc
-0 pulse 57 shanc";
-    let script = parse(&rt, file);
-    let pulses = [
-        (0o30, Pulse::Pinc),
-        (0o31, Pulse::Minc),
-        (0o32, Pulse::Pcdu),
-        (0o33, Pulse::Mcdu),
-        (0o45, Pulse::Shinc),
-        (0o57, Pulse::Shanc),
-    ];
-    assert_eq!(rt; script.len(), 6);
-    for i in 0..6 {
-        let (counter, kind) = pulses[i];
-        assert_eq!(rt; script.at(i).what, What::Pulse { counter, kind });
+    for (line, kind) in [
+        (b"0 pulse 45 pinc".as_slice(), Pulse::Pinc),
+        (b"0 pulse 45 minc".as_slice(), Pulse::Minc),
+        (b"0 pulse 45 pcdu".as_slice(), Pulse::Pcdu),
+        (b"0 pulse 45 mcdu".as_slice(), Pulse::Mcdu),
+        (b"0 pulse 45 shinc".as_slice(), Pulse::Shinc),
+        (b"0 pulse 45 shanc".as_slice(), Pulse::Shanc),
+    ] {
+        let counter = 0o45;
+        let what = What::Pulse { counter, kind };
+        let want = [Event { cycle: 0, what }];
+        assert_eq!(rt; listed(&rt, &parse(&rt, line)).as_slice(), want.as_slice());
     }
 }
 
@@ -82,34 +75,18 @@ fn ranges(rt: HostRuntime) {
     accepts(
         &rt,
         &[
-            b"0 input 5 0",
-            b"0 input 777 77777",
-            b"0 pulse 24 pinc",
-            b"0 pulse 60 pinc",
-            b"0 raise 1",
-            b"0 raise 10",
-            b"0 poke 0 10 0",
-            b"0 poke 0 377 77777",
-            b"0 poke 1 0 0",
-            b"0 poke 7 377 77777",
+            b"0 input 5 0\n0 input 777 77777",
+            b"0 pulse 24 pinc\n0 pulse 60 pinc",
+            b"0 raise 1\n0 raise 10",
+            b"0 poke 0 10 0\n0 poke 0 377 77777\n0 poke 1 0 0\n0 poke 7 377 77777",
         ],
     );
-    for file in [
-        b"0 input 0 0".as_slice(),
-        b"0 input 4 0".as_slice(),
-        b"0 input 1000 0".as_slice(),
-        b"0 input 5 100000".as_slice(),
-        b"0 pulse 23 pinc".as_slice(),
-        b"0 pulse 61 pinc".as_slice(),
-        b"0 raise 0".as_slice(),
-        b"0 raise 11".as_slice(),
-        b"0 poke 0 7 0".as_slice(),
-        b"0 poke 0 400 0".as_slice(),
-        b"0 poke 10 0 0".as_slice(),
-        b"0 poke 7 400 0".as_slice(),
-        b"0 poke 1 0 100000".as_slice(),
+    for lines in [
+        b"0 input 0 0; 0 input 4 0; 0 input 1000 0; 0 input 5 100000".as_slice(),
+        b"0 pulse 23 pinc; 0 pulse 61 pinc; 0 raise 0; 0 raise 11".as_slice(),
+        b"0 poke 0 7 0; 0 poke 0 400 0; 0 poke 10 0 0; 0 poke 7 400 0; 0 poke 1 0 100000".as_slice(),
     ] {
-        refuses(&rt, &[(file, 1, FaultKind::OutOfRange)]);
+        refuses_each(&rt, FaultKind::OutOfRange, lines);
     }
 }
 
@@ -119,30 +96,14 @@ fn numbers(rt: HostRuntime) {
     accepts(
         &rt,
         &[
-            b"0000000000005 raise 1",
-            b"0 raise 000010",
-            b"0 input 000777 077777",
+            b"0000000000005 raise 000010\n5 input 000777 077777",
             b"every 0000000000001 0000000000000 0000000000002 raise 1",
         ],
     );
-    for file in [
-        b"00000000000005 raise 1".as_slice(),
-        b"9999999999999 raise 1".as_slice(),
-        b"-1 raise 1".as_slice(),
-        b"1.0 raise 1".as_slice(),
-        b"raise 1".as_slice(),
-    ] {
-        refuses(&rt, &[(file, 1, FaultKind::BadCycle)]);
-    }
-    for file in [
-        b"0 raise 0000010".as_slice(),
-        b"0 raise -1".as_slice(),
-        b"0 raise a".as_slice(),
-        b"0 input 0000777 0".as_slice(),
-        b"0 input 30 8".as_slice(),
-        b"0 pulse 38 pinc".as_slice(),
-        b"0 poke 1 0o10 0".as_slice(),
-    ] {
-        refuses(&rt, &[(file, 1, FaultKind::BadNumber)]);
-    }
+    let cycles = b"00000000000005 raise 1; 9999999999999 raise 1; -1 raise 1; 1.0 raise 1; raise 1";
+    refuses_each(&rt, FaultKind::BadCycle, cycles);
+    let raised = b"0 raise 0000010; 0 raise -1; 0 raise a";
+    refuses_each(&rt, FaultKind::BadNumber, raised);
+    let octal = b"0 input 0000777 0; 0 input 30 8; 0 pulse 38 pinc; 0 poke 1 0o10 0";
+    refuses_each(&rt, FaultKind::BadNumber, octal);
 }

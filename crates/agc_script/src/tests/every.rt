@@ -49,11 +49,7 @@ fn every_faults(rt: HostRuntime) {
             (b"every", 1, FaultKind::UnknownWord),
             (b"20 raise 1\nevery 5 10", 2, FaultKind::OutOfOrder),
             (b"20 raise 1\nevery 5 10 x", 2, FaultKind::BadCycle),
-            (
-                b"every 1 0 9 every 1 0 9 raise 1",
-                1,
-                FaultKind::UnknownWord,
-            ),
+            (b"every 1 0 9 every 1 0 9 key 1", 1, FaultKind::UnknownWord),
             (b"every 0 0 5 raise x", 1, FaultKind::BadNumber),
         ],
     );

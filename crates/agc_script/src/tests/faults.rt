@@ -19,13 +19,7 @@ fn script_faults(rt: HostRuntime) {
     );
     assert_eq!(rt; parse(&rt, b"").len(), 0);
     let full = repeated(&rt, b"0 raise 1\n", 65_537);
-    assert_eq!(rt;
-        fault(&rt, &full),
-        Some(ScriptFault {
-            line: 65_537,
-            kind: FaultKind::TooMany
-        })
-    );
+    refuses(&rt, &[(&full, 65_537, FaultKind::TooMany)]);
     let full = repeated(&rt, b"0 raise 1\n", 65_536);
     assert_eq!(rt; parse(&rt, &full).len(), 65_536);
 }
@@ -125,32 +119,15 @@ fn first_line(rt: HostRuntime) {
 /// Commands with too few words or too many, and words that are none of the grammar's.
 #[test]
 fn unknown_words(rt: HostRuntime) {
-    for file in [
-        b"0".as_slice(),
-        b"0 key".as_slice(),
-        b"0 key verb".as_slice(),
-        b"0 key VERB NOUN".as_slice(),
-        b"0 key PRO".as_slice(),
-        b"0 pro".as_slice(),
-        b"0 pro left".as_slice(),
-        b"0 pro Down".as_slice(),
-        b"0 pro up down".as_slice(),
-        b"0 input 30".as_slice(),
-        b"0 input 30 0 0".as_slice(),
-        b"0 pulse 30".as_slice(),
-        b"0 pulse pinc 30".as_slice(),
-        b"0 pulse 30 PINC".as_slice(),
-        b"0 pulse 30 dinc".as_slice(),
-        b"0 pulse 30 pinc 1".as_slice(),
-        b"0 raise".as_slice(),
-        b"0 raise 1 1".as_slice(),
-        b"0 Raise 1".as_slice(),
-        b"0 poke 0 100".as_slice(),
-        b"0 poke 0 100 1 1".as_slice(),
-        b"0 every 1 0 5 raise 1".as_slice(),
-        b"0 #".as_slice(),
+    for lines in [
+        b"0; 0 #; 0 every 1 0 5 raise 1".as_slice(),
+        b"0 key; 0 key verb; 0 key VERB NOUN; 0 key PRO".as_slice(),
+        b"0 pro; 0 pro left; 0 pro Down; 0 pro up down".as_slice(),
+        b"0 input 30; 0 input 30 0 0; 0 poke 0 100; 0 poke 0 100 1 1".as_slice(),
+        b"0 pulse 30; 0 pulse pinc 30; 0 pulse 30 PINC; 0 pulse 30 dinc".as_slice(),
+        b"0 pulse 30 pinc 1; 0 raise; 0 raise 1 1; 0 Raise 1".as_slice(),
     ] {
-        refuses(&rt, &[(file, 1, FaultKind::UnknownWord)]);
+        refuses_each(&rt, FaultKind::UnknownWord, lines);
     }
 }
 

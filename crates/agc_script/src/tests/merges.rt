@@ -77,19 +77,9 @@ fn merge_limit(rt: HostRuntime) {
     assert_eq!(rt; listed(&rt, &same), listed(&rt, &full));
     assert!(rt; tape.push(5, Key::Verb).is_ok());
     let nearly = parse(&rt, b"every 1 0 65534 raise 1");
-    assert_eq!(rt;
-        nearly.merge(rt.alloc(), &tape).expect(&rt, "room").len(),
-        65_536
-    );
-    let refused = match full.merge(rt.alloc(), &tape) {
-        Ok(_) => None,
-        Err(fault) => Some(fault),
-    };
-    assert_eq!(rt;
-        refused,
-        Some(ScriptFault {
-            line: 0,
-            kind: FaultKind::TooMany
-        })
-    );
+    let merged = nearly.merge(rt.alloc(), &tape).expect(&rt, "room");
+    assert_eq!(rt; merged.len(), 65_536);
+    let (line, kind) = (0, FaultKind::TooMany);
+    let refused = full.merge(rt.alloc(), &tape).err();
+    assert_eq!(rt; refused, Some(ScriptFault { line, kind }));
 }
