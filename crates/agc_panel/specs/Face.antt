@@ -35,7 +35,7 @@ left row write = if names_row row write then Some (digit_of (bits 10 6 write.val
 unfoldable pub right : ℕ → ChannelWrite → Option Digit
 right row write = if names_row row write then Some (digit_of (bits 5 1 write.value)) else None
 
--- what a write gives the lamp at a bit of row 12, which has no digits
+-- what a write gives the lamp at a bit of relay row 12, which has no digits
 unfoldable pub relay_lamp : ℕ → ChannelWrite → Option Bool
 relay_lamp place write = if names_row 12 write then Some (is_on place write.value) else None
 

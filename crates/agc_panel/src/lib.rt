@@ -15,6 +15,7 @@ mod watcher;
 pub use digit::Digit;
 pub use face::{Face, Pair, Register};
 pub use lamp::{Lamp, Lamps};
+pub use octal::read_octal;
 pub use panel::Panel;
 pub use text::Sign;
 pub use watch_spec::{Table, WatchFault, WatchSpec};

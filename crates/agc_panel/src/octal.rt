@@ -5,7 +5,7 @@ ghost use Rattle.agc_panel.specs.Octal.{is_octal_digit, octal_value, octal_numbe
 
 /// The number that one to six octal digits write; `None` for any other text.
 #[tactic(auto, unfolding(crate::specs::Octal::octal_number))]
-pub(crate) fn read_octal(text: &[u8]) -> Option<u32>
+pub fn read_octal(text: &[u8]) -> Option<u32>
     ensures { result ≡ octal_number text.now }
 {
     if text.is_empty() || text.len() > 6 {

@@ -1,4 +1,5 @@
 pub mod Channels
+pub mod CommandLine
 pub mod Place
 pub mod Printed
 pub mod Refused

@@ -4,7 +4,8 @@ use Rattle.std.specs.Prelude.{Option, None, Some, MatchOption}
 use Rattle.std.specs.Borrow.{Bor}
 use Rattle.std.specs.List.{position_or_len, before_first, after_first}
 use Rattle.std.proofs.lemmas.Bool.Decides.{nat_tests}
-use Rattle.agc_run.specs.Until.{is_comma, octal_number, place_in_range, until_place}
+use Rattle.agc_panel.specs.Octal.{octal_number}
+use Rattle.agc_run.specs.Until.{is_comma, place_in_range, until_place}
 
 pub cut_at_comma : (text : List ℕ) (r : Option (Bor (List ℕ) × Bor (List ℕ)))
     → MatchOption r (position_or_len is_comma text ≡ length text) (λ x. (position_or_len is_comma text < length text) × (x.0.now ≡ before_first is_comma text) × (x.1.now ≡ after_first is_comma text))

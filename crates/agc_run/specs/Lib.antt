@@ -1,3 +1,4 @@
+pub mod Args
 pub mod Text
 pub mod Until
 pub mod Refusal

@@ -2,9 +2,12 @@
 ghost use Rattle.std.specs.Prelude.{◌≡◌, ◌⊎◌, IfOk, IfErr, IfSome, OnOk, None, is_ok, if◌then◌else◌, string_bytes};
 ghost use Rattle.std.specs.Io.KnownBytes.{Keeps, Appends, IsAtEnd};
 ghost use Rattle.agc_store.specs.Rope.{rope_words};
+ghost use Rattle.agc_store.specs.declared.rope_file.RopeFault.{RopeFault};
 ghost use Rattle.agc_script.specs.Parse.{script_of};
+ghost use Rattle.agc_script.specs.declared.fault.ScriptFault.{ScriptFault};
 ghost use Rattle.agc_run.specs.Refusal.{refusal_line};
 ghost use Rattle.agc_run.specs.declared.refusal.Refusal.{Refusal};
+ghost use Rattle.agc_run.specs.declared.refusal.Refusal.TheVariants as refusal;
 ghost use Rattle.agc_run.specs.Session.{rope_refusal, script_refusal, options_refusal, events_in, refusal_of, IsRefused, IsRopeRefused, IsScriptRefused, IsRunRefused, run_text, run_asked, session_text};
 
 use crate::args::Options;
@@ -108,6 +111,7 @@ fn rope_of(alloc: Global, form: RopeForm, bytes: &[u8]) -> Result<Rope, Refusal>
     ensures words { IfOk result (λ rope. rope ≡ rope_words form bytes.now) }
     ensures accepted { OnOk result (rope_refusal form bytes.now ≡ None) }
     ensures refused { IfErr result (IsRopeRefused form bytes.now) }
+    ensures told { IfErr result (λ r. (fault : RopeFault) × (r ≡ refusal.Rope fault)) }
 {
     match Rope::read_as(alloc, form, bytes) {
         Ok(rope) => Ok(rope),
@@ -136,6 +140,7 @@ fn script_of(alloc: Global, bytes: &[u8]) -> Result<Script, Refusal>
     ensures events { IfOk result (λ script. script ≡ events_in (script_of bytes.now)) }
     ensures accepted { OnOk result (script_refusal bytes.now ≡ None) }
     ensures refused { IfErr result (IsScriptRefused bytes.now) }
+    ensures told { IfErr result (λ r. (fault : ScriptFault) × (r ≡ refusal.Script fault)) }
 {
     match Script::parse(alloc, bytes) {
         Ok(script) => Ok(script),
