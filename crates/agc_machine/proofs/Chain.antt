@@ -11,17 +11,17 @@ use Rattle.agc_machine.specs.declared.answer.Stop.{Stop}
 use Rattle.agc_machine.specs.declared.answer.ChannelWrite.{ChannelWrite}
 use Rattle.agc_machine.specs.declared.answer.Next.{Next}
 use Rattle.agc_machine.specs.declared.answer.Next.TheVariants as next
-use Rattle.agc_machine.specs.declared.processor.Processor.{Processor}
-use Rattle.agc_machine.specs.declared.processor.Ran.{Ran}
-use Rattle.agc_machine.specs.declared.processor.Ran.TheVariants as ran
+use Rattle.agc_processor.specs.declared.processor.Processor.{Processor}
+use Rattle.agc_processor.specs.declared.processor.Ran.{Ran}
+use Rattle.agc_processor.specs.declared.processor.Ran.TheVariants as ran
 use Rattle.agc_machine.specs.Boundary.{boundary, by_limit, by_event, by_timer, by_interrupt, by_address, by_order, ran_order, timer_or_on, interrupt_or_on, event_or_on, is_reached, stops, unless_stopped}
-use Rattle.agc_machine.specs.Effect.{order_effect, IsOrderly}
-use Rattle.agc_machine.specs.Interrupt.{interrupt_taken}
-use Rattle.agc_machine.specs.Timer.{timer_stepped, time1_step, time2_by, time3_step, time4_step, time5_step, time6_step, is_due, is_time6_due}
+use Rattle.agc_processor.specs.Effect.{order_effect, IsOrderly}
+use Rattle.agc_processor.specs.Interrupt.{interrupt_taken}
+use Rattle.agc_processor.specs.Timer.{timer_stepped, time1_step, time2_by, time3_step, time4_step, time5_step, time6_step, is_due, is_time6_due}
 use Rattle.agc_machine.specs.Run.{Run, boundaries_left, next_within, next_of, unless_quiet, run_within, run_of, unless_stopped_run}
 use Rattle.agc_machine.specs.Laws.{Falls, Comes, AreRising, after}
 use Rattle.agc_machine.specs.State.{State}
-use Rattle.agc_machine.proofs.Orderly.{order_effect-orderly}
+use Rattle.agc_processor.proofs.Orderly.{order_effect-orderly}
 
 order_falls : (s : State) (r : Processor × Ran) → s.cycle < s.limit → IsOrderly r.1 → Falls s (ran_order s r)
 unfolding boundaries_left

@@ -4,7 +4,7 @@ use Rattle.std.specs.Prelude.{slice_get, nat_le, true}
 use Rattle.std.proofs.lemmas.Bool.Decides.{nat_tests}
 use Rattle.agc_script.specs.declared.event.Event.{Event}
 use Rattle.agc_machine.specs.declared.answer.Stepped.TheVariants as stepped
-use Rattle.agc_machine.specs.declared.processor.Processor.{Processor}
+use Rattle.agc_processor.specs.declared.processor.Processor.{Processor}
 use Rattle.agc_machine.specs.Boundary.{by_event}
 use Rattle.agc_machine.specs.Happening.{happened, cycles_of}
 use Rattle.agc_machine.specs.State.{State}

@@ -1,7 +1,5 @@
-pub mod Orderly
 pub mod Events
 pub mod Chain
 pub mod Fresh
-pub mod Keeps
 pub mod Stillness
 pub mod Replay

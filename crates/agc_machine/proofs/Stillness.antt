@@ -8,13 +8,14 @@ use Rattle.agc_machine.specs.declared.answer.Stepped.{Stepped}
 use Rattle.agc_machine.specs.declared.answer.Stop.{Stop}
 use Rattle.agc_machine.specs.declared.answer.Stop.TheVariants as stop
 use Rattle.agc_machine.specs.declared.machine.StopAddress.{StopAddress}
-use Rattle.agc_machine.specs.declared.processor.Processor.{Processor}
+use Rattle.agc_processor.specs.declared.processor.Processor.{Processor}
 use Rattle.agc_machine.specs.Boundary.{boundary, by_limit, by_event, by_timer, by_interrupt, by_address, by_order, timer_or_on, interrupt_or_on, event_or_on, is_reached, stops, unless_stopped, IsBefore, passes}
-use Rattle.agc_machine.specs.Channel.{channel_cell}
-use Rattle.agc_machine.specs.Interrupt.{interrupt_taken, pending, interrupted, is_allowed}
-use Rattle.agc_machine.specs.Quiet.{IsQuiet, IsSame, is_any_due}
+use Rattle.agc_processor.specs.Channel.{channel_cell}
+use Rattle.agc_processor.specs.Interrupt.{interrupt_taken, pending, interrupted, is_allowed}
+use Rattle.agc_processor.specs.Keeps.{IsSame, is_any_due}
+use Rattle.agc_machine.specs.Quiet.{IsQuiet}
 use Rattle.agc_machine.specs.State.{State}
-use Rattle.agc_machine.specs.Timer.{timer_stepped, is_due, is_time6_due}
+use Rattle.agc_processor.specs.Timer.{timer_stepped, is_due, is_time6_due}
 
 -- no timer steps where none is due
 none_of_five : {X : Type 0} (a b c d e : Bool) (v w x y z : X) → (a || b || c || d || e) ≡ false →

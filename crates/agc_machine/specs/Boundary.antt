@@ -8,15 +8,17 @@ use Rattle.agc_machine.specs.declared.answer.Stepped.TheVariants as stepped
 use Rattle.agc_machine.specs.declared.answer.Stop.{Stop}
 use Rattle.agc_machine.specs.declared.answer.Stop.TheVariants as stop
 use Rattle.agc_machine.specs.declared.machine.StopAddress.{StopAddress}
-use Rattle.agc_machine.specs.declared.processor.Processor.{Processor}
-use Rattle.agc_machine.specs.declared.processor.Ran.{Ran}
-use Rattle.agc_machine.specs.declared.processor.Ran.TheVariants as ran
-use Rattle.agc_machine.specs.Effect.{order_effect}
+use Rattle.agc_processor.specs.declared.processor.Processor.{Processor}
+use Rattle.agc_processor.specs.declared.processor.Halt.{Halt}
+use Rattle.agc_processor.specs.declared.processor.Halt.TheVariants as halt
+use Rattle.agc_processor.specs.declared.processor.Ran.{Ran}
+use Rattle.agc_processor.specs.declared.processor.Ran.TheVariants as ran
+use Rattle.agc_processor.specs.Effect.{order_effect}
 use Rattle.agc_machine.specs.Happening.{happened, cycles_of}
-use Rattle.agc_machine.specs.Interrupt.{interrupt_taken}
-use Rattle.agc_machine.specs.Processor.{z_at}
+use Rattle.agc_processor.specs.Interrupt.{interrupt_taken}
+use Rattle.agc_processor.specs.Processor.{z_at}
 use Rattle.agc_machine.specs.State.{State, with_key}
-use Rattle.agc_machine.specs.Timer.{timer_stepped}
+use Rattle.agc_processor.specs.Timer.{timer_stepped}
 
 -- the machine stops with this answer; nothing else changes, not even the cycle
 abbrev pub stops : Stop → State → State × Stepped
@@ -26,12 +28,17 @@ stops why s = (record s { stopped = Some why }, stepped.Stopped why)
 abbrev pub passes : Processor → ℕ → State → State × Stepped
 passes p cycles s = (record s { processor = p; cycle = s.cycle + cycles }, stepped.Quiet)
 
+-- the stop where an order does not run
+abbrev pub stop_of : Halt → Stop
+stop_of halt.DivisionUndefined = stop.DivisionUndefined
+stop_of halt.Edrupt = stop.Edrupt
+
 -- 6: the order in hand runs
 abbrev pub ran_order : State → Processor × Ran → State × Stepped
 ran_order s (p, ran.Quiet cycles) = passes p cycles s
 ran_order s (p, ran.Wrote channel value) =
     (record s { processor = p; cycle = s.cycle + 2 }, stepped.Wrote (record { cycle = s.cycle; channel = channel; value = value }))
-ran_order s (p, ran.Halted why) = stops why (record s { processor = p })
+ran_order s (p, ran.Halted why) = stops (stop_of why) (record s { processor = p })
 
 unfoldable pub by_order : State → State × Stepped
 by_order s = ran_order s (order_effect s.cycle s.processor)

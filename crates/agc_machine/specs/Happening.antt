@@ -11,9 +11,9 @@ use Rattle.agc_script.specs.declared.event.What.{What}
 use Rattle.agc_script.specs.declared.event.What.TheVariants as what
 use Rattle.agc_script.specs.declared.key.Key.{Key}
 use Rattle.agc_store.specs.Cells.{narrow_number, poke_of}
-use Rattle.agc_machine.specs.declared.processor.Processor.{Processor}
-use Rattle.agc_machine.specs.Channel.{channel_cell, set_channel}
-use Rattle.agc_machine.specs.Timer.{request, counter, counted, carried}
+use Rattle.agc_processor.specs.declared.processor.Processor.{Processor}
+use Rattle.agc_processor.specs.Channel.{channel_cell, set_channel}
+use Rattle.agc_processor.specs.Timer.{request, counter, counted, carried}
 
 -- a key: its code comes into channel 15 octal, and KEYRUPT1 is requested
 unfoldable pub pressed : Key → Processor → Processor

@@ -1,13 +1,3 @@
-pub mod Decode
-pub mod Processor
-pub mod Logic
-pub mod Basic
-pub mod Double
-pub mod Extra
-pub mod Channel
-pub mod Effect
-pub mod Timer
-pub mod Interrupt
 pub mod Happening
 pub mod State
 pub mod Boundary

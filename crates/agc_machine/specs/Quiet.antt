@@ -1,20 +1,9 @@
 -- When nothing but the order in hand can happen: what the machine keeps beside its state, so that quiet orders look at one number.
-use Rattle.std.specs.Prelude.{◌≡◌, ℕ, ◌*◌, ◌/◌, ◌<◌, ◌==◌, ◌&&◌, ◌||◌, Bool, true, false, position, Option, None, nat_lt}
-use Rattle.agc_word.specs.Number.{Number, bit_of}
-use Rattle.agc_machine.specs.declared.processor.Processor.{Processor}
-use Rattle.agc_machine.specs.declared.processor.Ran.{Ran}
-use Rattle.agc_machine.specs.declared.processor.Ran.TheVariants as ran
-use Rattle.agc_machine.specs.declared.processor.Timers.{Timers}
+use Rattle.std.specs.Prelude.{◌≡◌, ℕ, ◌<◌, true, false, position, None}
+use Rattle.agc_processor.specs.Channel.{channel_cell}
+use Rattle.agc_processor.specs.Keeps.{is_any_due}
 use Rattle.agc_machine.specs.Boundary.{IsBefore}
-use Rattle.agc_machine.specs.Channel.{channel_cell}
 use Rattle.agc_machine.specs.State.{State}
-use Rattle.agc_machine.specs.Timer.{is_due}
-
--- some timer's step is due at a cycle, where channel 13 octal has this word
-abbrev pub is_any_due : ℕ → Timers → Number → Bool
-is_any_due cycle t switch =
-    is_due cycle 10240 t.time1 || is_due cycle 10240 t.time3 || is_due cycle 7680 t.time4 || is_due cycle 5120 t.time5
-    || ((bit_of 15 switch == 1) && nat_lt t.mark (12 * cycle / 640))
 
 -- below this cycle there is no limit, no event, no timer's step, no stop address and no interrupt, whatever orders run
 pub record IsQuiet (until : ℕ) (s : State) : Type 0 where
@@ -25,13 +14,3 @@ pub record IsQuiet (until : ℕ) (s : State) : Type 0 where
   pub limit : (cycle : ℕ) → cycle < until → cycle < s.limit
   pub events : (cycle : ℕ) → cycle < until → IsBefore cycle s.events
   pub timers : (cycle : ℕ) → cycle < until → is_any_due cycle s.processor.timers (channel_cell 11 s.processor.channels) ≡ false
-
--- the timers, the requests and TIME6's switch are as they were
-abbrev pub IsSame : Processor → Processor → Type 0
-IsSame p q = (q.timers ≡ p.timers) × (channel_cell 11 q.channels ≡ channel_cell 11 p.channels)
-
--- an order leaves them, unless it shows a write to channel 13 octal
-abbrev pub Keeps : Processor → Processor × Ran → Type 0
-Keeps p (q, ran.Quiet cycles) = IsSame p q
-Keeps p (q, ran.Wrote channel value) = (channel ≡ 11 → ⊥) → IsSame p q
-Keeps p (q, ran.Halted why) = IsSame p q

@@ -1,4 +1,8 @@
 //! What a boundary of the machine answers.
+ghost use Rattle.std.specs.Prelude.{◌≡◌};
+ghost use Rattle.agc_machine.specs.Boundary.{stop_of};
+
+use agc_processor::Halt;
 use agc_word::Narrow;
 
 /// One WRITE, WAND or WOR to a channel from 5 to 777 octal. It happens also where the value stays the same.
@@ -23,6 +27,18 @@ pub enum Stop {
     Edrupt,
     /// The order at the stop address was in hand.
     Reached,
+}
+
+impl Stop {
+    /// The stop where an order does not run.
+    pub(crate) fn at_halt(halt: Halt) -> Stop
+        ensures { result ≡ stop_of halt }
+    {
+        match halt {
+            Halt::DivisionUndefined => Stop::DivisionUndefined,
+            Halt::Edrupt => Stop::Edrupt,
+        }
+    }
 }
 
 /// What one boundary did.

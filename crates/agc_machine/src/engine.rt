@@ -3,9 +3,9 @@ ghost use Rattle.std.specs.Prelude.{◌≡◌, ◌<◌, ◌≤◌, ◌+◌, leng
 ghost use Rattle.agc_machine.specs.Engine.{state_of, IsSound};
 
 use crate::answer::{ChannelWrite, Next, Stepped, Stop};
-use crate::channel::TIME6_SWITCH;
+use crate::happening::{meet, press};
 use crate::machine::StopAddress;
-use crate::processor::{Processor, Ran};
+use agc_processor::{Processor, Ran, TIME6_SWITCH};
 use agc_script::{Key, Script};
 use agc_store::Rope;
 
@@ -134,7 +134,7 @@ impl Engine {
         }
         match live {
             Some(key) => {
-                self.processor.press(key);
+                press(&mut self.processor, key);
                 Stepped::Quiet
             }
             None => self.meet_event(),
@@ -184,7 +184,7 @@ impl Engine {
         }
         let what = event.what;
         self.next += 1;
-        self.cycle += self.processor.meet(self.cycle, what);
+        self.cycle += meet(&mut self.processor, self.cycle, what);
         Stepped::Quiet
     }
 
@@ -283,9 +283,9 @@ impl Engine {
                     value,
                 })
             }
-            Ran::Halted(why) => {
+            Ran::Halted(halt) => {
                 self.quiet_until = 0;
-                self.stop(why)
+                self.stop(Stop::at_halt(halt))
             }
         }
     }

@@ -3,7 +3,7 @@ ghost use Rattle.std.specs.Prelude.{◌≡◌, ◌<◌, ◌≤◌, ◌↔◌, Is
 
 use crate::answer::{Next, Stepped, Stop};
 use crate::engine::Engine;
-use crate::processor::Processor;
+use agc_processor::Processor;
 use agc_script::{Key, Script};
 use agc_store::{Addr, Rope, Store};
 use agc_word::Narrow;
@@ -59,7 +59,7 @@ impl Machine {
     ghost use Rattle.agc_machine.specs.State.{start_state};
     ghost use Rattle.agc_machine.specs.Boundary.{boundary, WantsKey};
     ghost use Rattle.agc_machine.specs.Run.{next_of};
-    ghost use Rattle.agc_machine.specs.Channel.{channel_word};
+    ghost use Rattle.agc_processor.specs.Channel.{channel_word};
     ghost use Rattle.agc_word.specs.Arithmetic.{narrow_of};
 
     /// The machine at the start of a run: the order at 4000 octal is in hand.

@@ -1,0 +1,12 @@
+pub mod Decode
+pub mod Processor
+pub mod Logic
+pub mod Basic
+pub mod Double
+pub mod Extra
+pub mod Channel
+pub mod Effect
+pub mod Timer
+pub mod Interrupt
+pub mod Start
+pub mod Keeps

@@ -1,0 +1,35 @@
+//! Logic on words: wide where A or Q is the other operand, else on words corrected for overflow.
+ghost use Rattle.std.specs.Prelude.{◌≡◌};
+ghost use Rattle.agc_processor.specs.Logic.{and_words as both, or_words as either, xor_words as one_of};
+
+use agc_word::{Wide, and, or, widen, xor};
+
+pub(crate) fn and_words(wide: bool, x: Wide, y: Wide) -> Wide
+    ensures { result ≡ both wide x y }
+{
+    if wide {
+        and(x, y)
+    } else {
+        and(widen(x.narrow()), widen(y.narrow()))
+    }
+}
+
+pub(crate) fn or_words(wide: bool, x: Wide, y: Wide) -> Wide
+    ensures { result ≡ either wide x y }
+{
+    if wide {
+        or(x, y)
+    } else {
+        or(widen(x.narrow()), widen(y.narrow()))
+    }
+}
+
+pub(crate) fn xor_words(wide: bool, x: Wide, y: Wide) -> Wide
+    ensures { result ≡ one_of wide x y }
+{
+    if wide {
+        xor(x, y)
+    } else {
+        xor(widen(x.narrow()), widen(y.narrow()))
+    }
+}
