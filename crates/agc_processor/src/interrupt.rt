@@ -32,7 +32,8 @@ impl Processor {
 
     /// Some interrupt waits.
     pub fn is_requested(&self) -> bool
-        ensures { result ≡ false → position (λ waits. waits) self.now.timers.requests ≡ None }
+        ensures none { result ≡ false → position (λ waits. waits) self.now.timers.requests ≡ None }
+        ensures some { result ≡ true → IsSome (position (λ waits. waits) self.now.timers.requests) }
     {
         first_request(&self.timers.requests).is_some()
     }

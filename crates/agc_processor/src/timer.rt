@@ -1,5 +1,5 @@
 //! The five timers: which step is due, and what it does.
-ghost use Rattle.std.specs.Prelude.{◌≡◌, ℕ, ◌<◌, ◌≤◌, ◌^◌, ◌*◌, ◌/◌, nat_lt, false};
+ghost use Rattle.std.specs.Prelude.{◌≡◌, ℕ, ◌<◌, ◌≤◌, ◌^◌, ◌*◌, ◌/◌, nat_lt, true, false};
 ghost use Rattle.agc_processor.specs.Timer.{is_due};
 
 use crate::processor::Processor;
@@ -34,7 +34,8 @@ const BEYOND_COUNTING: u64 = 1 << 48;
 /// The cycle from which a timer's next step is due.
 fn due_from(first: u64, taken: u64) -> u64
     requires { first ≤ 10240 }
-    ensures { (cycle : ℕ) → cycle < result → is_due cycle first taken ≡ false }
+    ensures none { (cycle : ℕ) → cycle < result → is_due cycle first taken ≡ false }
+    ensures due { 0 < result → is_due result first taken ≡ true }
 {
     if taken > BEYOND_COUNTING {
         return 0;
@@ -44,7 +45,8 @@ fn due_from(first: u64, taken: u64) -> u64
 
 /// The cycle from which TIME6's next step is due while it is on.
 fn time6_due_from(mark: u64) -> u64
-    ensures { (cycle : ℕ) → cycle < result → nat_lt mark (12 * cycle / 640) ≡ false }
+    ensures none { (cycle : ℕ) → cycle < result → nat_lt mark (12 * cycle / 640) ≡ false }
+    ensures due { 0 < result → nat_lt mark (12 * result / 640) ≡ true }
 {
     if mark > BEYOND_COUNTING {
         return 0;
@@ -53,7 +55,7 @@ fn time6_due_from(mark: u64) -> u64
 }
 
 impl Processor {
-    ghost use Rattle.std.specs.Prelude.{◌≡◌, ◌<◌, ◌≤◌, ◌^◌, ◌+◌, ◌*◌, option_map, IfNone, IfSome, ℕ, false};
+    ghost use Rattle.std.specs.Prelude.{◌≡◌, ◌<◌, ◌≤◌, ◌^◌, ◌+◌, ◌*◌, option_map, IfNone, IfSome, ℕ, true, false};
     ghost use Rattle.agc_word.specs.Pulses.{pulsed};
     ghost use Rattle.agc_processor.specs.Keeps.{is_any_due};
     ghost use Rattle.agc_processor.specs.Channel.{channel_cell};
@@ -94,10 +96,11 @@ impl Processor {
         self.channels[11].bits() / 0o40000 % 2 == 1 && self.timers.mark < 12 * cycle / 640
     }
 
-    /// The cycle below which no timer's step is due; 0 where that is beyond counting.
+    /// The first cycle at which some timer's step is due; 0 where that is beyond counting.
     #[tactic(auto, unfolding(agc_word::specs::Number::bit_of))]
     pub fn timers_quiet_until(&self) -> u64
-        ensures { (cycle : ℕ) → cycle < result → is_any_due cycle self.now.timers (channel_cell 11 self.now.channels) ≡ false }
+        ensures none { (cycle : ℕ) → cycle < result → is_any_due cycle self.now.timers (channel_cell 11 self.now.channels) ≡ false }
+        ensures due { 0 < result → is_any_due result self.now.timers (channel_cell 11 self.now.channels) ≡ true }
     {
         let timers = &self.timers;
         let time6 = if self.channels[11].bits() / 0o40000 % 2 == 1 {
