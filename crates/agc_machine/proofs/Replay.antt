@@ -9,14 +9,14 @@ use Rattle.agc_script.specs.declared.key.Key.{Key}
 use Rattle.agc_machine.specs.declared.answer.Stepped.{Stepped}
 use Rattle.agc_machine.specs.declared.answer.Stepped.TheVariants as stepped
 use Rattle.agc_machine.specs.declared.answer.Stop.{Stop}
-use Rattle.agc_machine.specs.declared.processor.Processor.{Processor}
-use Rattle.agc_machine.specs.declared.processor.Ran.{Ran}
-use Rattle.agc_machine.specs.declared.processor.Ran.TheVariants as ran
+use Rattle.agc_processor.specs.declared.processor.Processor.{Processor}
+use Rattle.agc_processor.specs.declared.processor.Ran.{Ran}
+use Rattle.agc_processor.specs.declared.processor.Ran.TheVariants as ran
 use Rattle.agc_machine.specs.Boundary.{boundary, by_limit, by_event, by_timer, by_interrupt, by_address, by_order, ran_order, timer_or_on, interrupt_or_on, is_reached, stops, passes, unless_stopped, IsBefore, WantsKey}
-use Rattle.agc_machine.specs.Effect.{order_effect}
+use Rattle.agc_processor.specs.Effect.{order_effect}
 use Rattle.agc_machine.specs.Happening.{happened, cycles_of}
-use Rattle.agc_machine.specs.Interrupt.{interrupt_taken}
-use Rattle.agc_machine.specs.Timer.{timer_stepped}
+use Rattle.agc_processor.specs.Interrupt.{interrupt_taken}
+use Rattle.agc_processor.specs.Timer.{timer_stepped}
 use Rattle.agc_machine.specs.Laws.{Falls}
 use Rattle.agc_machine.specs.Replay.{Chain, chain, tape_of, AreWanted, with_tape, writes_in, run_in}
 use Rattle.agc_machine.specs.Run.{Run, boundaries_left, run_of, unless_stopped_run}
