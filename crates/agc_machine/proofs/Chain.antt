@@ -260,3 +260,6 @@ pub stops_in_time : (n : ℕ) (s : State) → boundaries_left s ≤ n → IsSome
 unfolding after
 stops_in_time zero s h = absurd (omega (arith, some_left s))
 stops_in_time (suc n) s h = stops_by n s (boundary None s) (boundary_falls s) (λ t l. stops_in_time n t (omega arith))
+
+pub next_of_stopped : (s : State) (why : Stop) → s.stopped ≡ Some why → next_of s ≡ (s, next.Stopped why)
+next_of_stopped s why e = sym (next_at_stop s s why (sym (stopped_stays s why e)))

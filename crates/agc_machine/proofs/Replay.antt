@@ -6,6 +6,8 @@ use Rattle.agc_script.proofs.Merges.{merged_event_first, merged_key_first, merge
 use Rattle.agc_script.specs.Merge.{merged, key_event}
 use Rattle.agc_script.specs.declared.event.Event.{Event}
 use Rattle.agc_script.specs.declared.key.Key.{Key}
+use Rattle.agc_machine.specs.declared.answer.Next.{Next}
+use Rattle.agc_machine.specs.declared.answer.Next.TheVariants as next
 use Rattle.agc_machine.specs.declared.answer.Stepped.{Stepped}
 use Rattle.agc_machine.specs.declared.answer.Stepped.TheVariants as stepped
 use Rattle.agc_machine.specs.declared.answer.Stop.{Stop}
@@ -17,11 +19,11 @@ use Rattle.agc_processor.specs.Effect.{order_effect}
 use Rattle.agc_machine.specs.Happening.{happened, cycles_of}
 use Rattle.agc_processor.specs.Interrupt.{interrupt_taken}
 use Rattle.agc_processor.specs.Timer.{timer_stepped}
-use Rattle.agc_machine.specs.Laws.{Falls}
+use Rattle.agc_machine.specs.Laws.{Falls, Comes, HasChannel, HasNextChannel}
 use Rattle.agc_machine.specs.Replay.{Chain, chain, tape_of, AreWanted, with_tape, writes_in, run_in}
-use Rattle.agc_machine.specs.Run.{Run, boundaries_left, run_of, unless_stopped_run}
+use Rattle.agc_machine.specs.Run.{Run, boundaries_left, next_of, run_of, unless_stopped_run}
 use Rattle.agc_machine.specs.State.{State, with_key}
-use Rattle.agc_machine.proofs.Chain.{boundary_falls, by_timer_falls, stopped_stays, run_by_next, run_at_write, run_at_stop, next_at_write, next_at_stop, next_after_quiet}
+use Rattle.agc_machine.proofs.Chain.{boundary_falls, by_timer_falls, stopped_stays, run_by_next, run_at_write, run_at_stop, next_at_write, next_at_stop, next_after_quiet, next_comes}
 use Rattle.agc_machine.proofs.Events.{met}
 use Rattle.agc_machine.proofs.Stillness.{past_limit, past_event}
 
@@ -300,3 +302,25 @@ pub live_run_replays : (lives : List (Option Key)) (s : State) → AreWanted liv
 live_run_replays lives s w h =
     let same : chain (replicate (length lives) None) (with_tape (tape_of lives s) s) ≡ chain lives s = chain_replays lives s w in
     chain_is_run (length lives) (with_tape (tape_of lives s) s) (subst (λ (c : Chain). IsSome c.last.stopped) (sym same) h) ∙ ap run_in same
+
+falls_shown : (s : State) (r : State × Stepped) → Falls s r → HasChannel r.1
+falls_shown s (t, stepped.Quiet) f = tt
+falls_shown s (t, stepped.Wrote write) f = (f.3, omega arith)
+falls_shown s (t, stepped.Stopped why) f = tt
+
+-- a boundary shows writes to channels from 5 to 777 octal alone
+pub boundary_shows : (live : Option Key) (s : State) (r : State × Stepped) → (IsSome live → WantsKey s) → r ≡ boundary live s → HasChannel r.1
+unfolding boundary
+boundary_shows None s r w e = subst (λ (x : State × Stepped). HasChannel x.1) (sym e) (falls_shown s (boundary None s) (boundary_falls s))
+boundary_shows (Some key) s r w e =
+    let wants : WantsKey s = w refl in
+    let taken = event_boundary (with_key (Some key) s) (key_event (s.cycle, key)) s.events wants.runs wants.below refl (omega arith) in
+    subst (λ (x : State × Stepped). HasChannel x.1) (sym (e ∙ taken)) tt
+
+comes_shown : (s : State) (r : State × Next) → Comes s r → HasNextChannel r.1
+comes_shown s (t, next.Wrote write) c = (c.3, omega arith)
+comes_shown s (t, next.Stopped why) c = tt
+
+-- and so does the next write
+pub next_shows : (s : State) (r : State × Next) → r ≡ next_of s → HasNextChannel r.1
+next_shows s r e = subst (λ (x : State × Next). HasNextChannel x.1) (sym e) (comes_shown s (next_of s) (next_comes s))

@@ -24,6 +24,17 @@ Comes s (t, next.Wrote write) =
     (boundaries_left t < boundaries_left s) × (s.cycle ≤ write.cycle) × (write.cycle < t.cycle) × (5 ≤ write.channel) × (write.channel < 512)
 Comes s (t, next.Stopped why) = (t.stopped ≡ Some why) × (s.cycle ≤ t.cycle)
 
+-- a write that a boundary answers goes to a channel from 5 to 777 octal
+abbrev pub HasChannel : Stepped → Type 0
+HasChannel (stepped.Wrote write) = (5 ≤ write.channel) × (write.channel ≤ 0o777)
+HasChannel stepped.Quiet = Unit {0}
+HasChannel (stepped.Stopped why) = Unit {0}
+
+-- and so does the next write of a run
+abbrev pub HasNextChannel : Next → Type 0
+HasNextChannel (next.Wrote write) = (5 ≤ write.channel) × (write.channel ≤ 0o777)
+HasNextChannel (next.Stopped why) = Unit {0}
+
 -- the writes from a cycle on: each later than the one before, and each to a channel from 5 to 777 octal
 abbrev pub AreRising : ℕ → List ChannelWrite → Type 0
 AreRising from [] = Unit {0}

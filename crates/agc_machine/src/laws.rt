@@ -2,12 +2,13 @@
 //! are proved equal to the definitions that these laws are about.
 ghost use Rattle.std.specs.Prelude.{◌≡◌, ℕ, ◌≤◌, List, length, replicate, Option, Some, None, IsSome};
 ghost use Rattle.agc_script.specs.declared.key.Key.{Key};
-ghost use Rattle.agc_machine.specs.State.{State};
+ghost use Rattle.agc_machine.specs.State.{State, with_key};
 ghost use Rattle.agc_machine.specs.Boundary.{boundary};
 ghost use Rattle.agc_machine.specs.Run.{boundaries_left, next_of, run_of, unless_stopped_run};
 ghost use Rattle.agc_machine.specs.Laws.{Falls, Comes, AreRising, after};
 ghost use Rattle.agc_machine.specs.Replay.{chain, tape_of, AreWanted, with_tape, run_in};
 ghost use Rattle.agc_machine.specs.declared.answer.Stop.{Stop};
+ghost use Rattle.agc_machine.specs.declared.answer.Next.TheVariants as next;
 ghost use Rattle.agc_machine.specs.declared.answer.Stepped.TheVariants as stepped;
 
 /// A boundary never goes back in time; unless it stops it leaves fewer boundaries, and a write
@@ -16,9 +17,17 @@ pub fn boundaries_fall()
     ensures { (s : State) → Falls s (boundary None s) }
 {}
 
-/// A machine that has stopped stays as it is and answers the same.
+/// A machine that has stopped stays as it is and answers the same, by boundaries and by writes.
 pub fn a_stop_is_final()
-    ensures { (s : State) (why : Stop) → s.stopped ≡ Some why → boundary None s ≡ (s, stepped.Stopped why) }
+    ensures boundary { (s : State) (why : Stop) → s.stopped ≡ Some why → boundary None s ≡ (s, stepped.Stopped why) }
+    ensures next { (s : State) (why : Stop) → s.stopped ≡ Some why → next_of s ≡ (s, next.Stopped why) }
+{}
+
+/// A boundary with a live key is the one without it of the same state with the key, as an event of
+/// the present cycle, before the events left.
+#[tactic(auto, unfolding(crate::specs::Boundary::boundary))]
+pub fn live_keys_are_events()
+    ensures { (key : Key) (s : State) → boundary (Some key) s ≡ boundary None (with_key (Some key) s) }
 {}
 
 /// A run has stopped after as many boundaries as cycles and events were left, and one.

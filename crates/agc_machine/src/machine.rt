@@ -59,6 +59,7 @@ impl Machine {
     ghost use Rattle.agc_machine.specs.State.{start_state};
     ghost use Rattle.agc_machine.specs.Boundary.{boundary, WantsKey};
     ghost use Rattle.agc_machine.specs.Run.{next_of};
+    ghost use Rattle.agc_machine.specs.Laws.{HasChannel, HasNextChannel};
     ghost use Rattle.agc_processor.specs.Channel.{channel_word};
     ghost use Rattle.agc_word.specs.Arithmetic.{narrow_of};
 
@@ -103,14 +104,16 @@ impl Machine {
     /// taken as an event of the present cycle, may come only where `wants_key` says so.
     pub fn step(&mut self, live: Option<Key>) -> Stepped
         requires { IsSome live → WantsKey self.old }
-        ensures { (self.new, result) ≡ boundary live self.old }
+        ensures boundary { (self.new, result) ≡ boundary live self.old }
+        ensures channel { HasChannel result }
     {
         self.engine.step(live)
     }
 
     /// Goes on to the next channel write, or to the stop where none comes before it.
     pub fn next_write(&mut self) -> Next
-        ensures { (self.new, result) ≡ next_of self.old }
+        ensures next { (self.new, result) ≡ next_of self.old }
+        ensures channel { HasNextChannel result }
     {
         self.engine.next_write()
     }
