@@ -1,5 +1,5 @@
 -- The events left are the script from the place of the next one on.
-use Rattle.std.proofs.Common.{◌≡◌, ℕ, ◌+◌, ◌≤◌, suc, zero, List, [], ◌∷◌, length, drop, Some, None, refl, add-one, arith}
+use Rattle.std.proofs.Common.{◌≡◌, ℕ, ◌+◌, ◌≤◌, suc, zero, List, [], ◌∷◌, length, drop, Some, refl, add-one, arith}
 use Rattle.std.specs.Prelude.{slice_get, nat_le, true}
 use Rattle.std.proofs.lemmas.Bool.Decides.{nat_tests}
 use Rattle.agc_script.specs.declared.event.Event.{Event}

@@ -1,5 +1,5 @@
 -- A stop address that is set at the start is the start's own.
-use Rattle.std.proofs.Common.{◌≡◌, ℕ, List, Option, Bool, true, false, ap, sym, ◌∙◌}
+use Rattle.std.proofs.Common.{◌≡◌, ℕ, List, Option, true, false, ap, sym, ◌∙◌}
 use Rattle.agc_word.specs.Number.{Number}
 use Rattle.agc_script.specs.declared.event.Event.{Event}
 use Rattle.agc_machine.specs.declared.engine.Engine.{Engine}

@@ -1,5 +1,5 @@
 -- Below the quiet cycle a boundary is the order in hand.
-use Rattle.std.proofs.Common.{◌≡◌, ℕ, ◌<◌, List, [], ◌∷◌, Bool, true, false, Option, Some, None, refl, ap, sym, ◌∙◌, subst, arith}
+use Rattle.std.proofs.Common.{◌≡◌, ℕ, ◌<◌, List, [], ◌∷◌, Bool, true, false, Option, Some, None, refl, ap, sym, ◌∙◌, arith}
 use Rattle.std.specs.Prelude.{nat_le, ◌||◌, if◌then◌else◌, position, option_map, is_some}
 use Rattle.std.proofs.lemmas.Bool.Decides.{nat_tests}
 use Rattle.agc_script.specs.declared.event.Event.{Event}
@@ -9,7 +9,7 @@ use Rattle.agc_machine.specs.declared.answer.Stop.{Stop}
 use Rattle.agc_machine.specs.declared.answer.Stop.TheVariants as stop
 use Rattle.agc_machine.specs.declared.machine.StopAddress.{StopAddress}
 use Rattle.agc_processor.specs.declared.processor.Processor.{Processor}
-use Rattle.agc_machine.specs.Boundary.{boundary, by_limit, by_event, by_timer, by_interrupt, by_address, by_order, timer_or_on, interrupt_or_on, event_or_on, is_reached, stops, unless_stopped, IsBefore, passes}
+use Rattle.agc_machine.specs.Boundary.{boundary, by_limit, by_event, by_timer, by_interrupt, by_address, by_order, timer_or_on, interrupt_or_on, event_or_on, is_reached, stops, unless_stopped, IsBefore}
 use Rattle.agc_processor.specs.Channel.{channel_cell}
 use Rattle.agc_processor.specs.Interrupt.{interrupt_taken, pending, interrupted, is_allowed}
 use Rattle.agc_processor.specs.Keeps.{IsSame, is_any_due}

@@ -1,5 +1,5 @@
 -- How the machine keeps its state: the script whole, with the place of the next event.
-use Rattle.std.specs.Prelude.{◌≡◌, ℕ, ◌+◌, ◌<◌, ◌≤◌, Bool, false, true, drop, length, None}
+use Rattle.std.specs.Prelude.{◌≡◌, ◌+◌, ◌<◌, ◌≤◌, false, true, drop, length}
 use Rattle.agc_machine.specs.declared.engine.Engine.{Engine}
 use Rattle.agc_machine.specs.Quiet.{IsQuiet}
 use Rattle.agc_machine.specs.State.{State, start_state}

@@ -1,11 +1,9 @@
 -- What an event of a script, or a live key, does to the processor. None of them is a channel write.
 use Rattle.std.specs.Prelude.{ℕ, ◌+◌, ◌*◌, ◌/◌, ◌%◌, ◌==◌, Bool, true, false, set, if◌then◌else◌}
-use Rattle.agc_word.specs.Number.{Number, number_from_pattern, pattern_of}
+use Rattle.agc_word.specs.Number.{pattern_of}
 use Rattle.agc_word.specs.Pulses.{pulsed}
 use Rattle.agc_word.specs.declared.pulse.Pulse.{Pulse}
 use Rattle.agc_word.specs.declared.pulse.Pulse.TheVariants as pulse
-use Rattle.agc_word.specs.declared.pulse.Carry.{Carry}
-use Rattle.agc_word.specs.declared.pulse.Carry.TheVariants as carry
 use Rattle.agc_script.specs.Key.{code_of}
 use Rattle.agc_script.specs.declared.event.What.{What}
 use Rattle.agc_script.specs.declared.event.What.TheVariants as what

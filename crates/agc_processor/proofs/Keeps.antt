@@ -1,13 +1,12 @@
 -- Orders leave the timers, the requests and TIME6's switch alone, but for a write to channel 13 octal.
-use Rattle.std.proofs.Common.{◌≡◌, ℕ, ◌<◌, Bool, true, false, Option, Some, None, refl, ap, subst, sym, arith}
-use Rattle.std.specs.Prelude.{◌==◌, nat_lt, if◌then◌else◌, option_map, set, get_or}
+use Rattle.std.proofs.Common.{◌≡◌, ℕ, Bool, true, false, Option, Some, None, refl, subst, sym, arith}
+use Rattle.std.specs.Prelude.{◌==◌, nat_lt, if◌then◌else◌, option_map, set}
 use Rattle.std.proofs.lemmas.Bool.Decides.{nat_tests}
 use Rattle.std.proofs.lemmas.Grind.{common_steps}
 use Rattle.agc_word.specs.Number.{Number}
 use Rattle.agc_word.specs.Arithmetic.{over_of, narrow_of}
 use Rattle.agc_word.specs.declared.wide.Over.{Over}
 use Rattle.agc_word.specs.declared.wide.Over.TheVariants as over
-use Rattle.agc_word.specs.Products.{quotient_of}
 use Rattle.agc_processor.specs.declared.order.Basic.{Basic}
 use Rattle.agc_processor.specs.declared.order.Basic.TheVariants as basic
 use Rattle.agc_processor.specs.declared.order.Extracode.{Extracode}
@@ -15,12 +14,12 @@ use Rattle.agc_processor.specs.declared.order.Extracode.TheVariants as extra
 use Rattle.agc_processor.specs.declared.processor.Processor.{Processor}
 use Rattle.agc_processor.specs.declared.processor.Ran.{Ran}
 use Rattle.agc_processor.specs.declared.processor.Ran.TheVariants as ran
-use Rattle.agc_processor.specs.Basic.{tc_of, ccs_of, tcf_of, lxch_of, incr_of, ads_of, ca_of, cs_of, index_of, resume_of, ts_of, ts_by, ts_with_overflow, xch_of, ad_of, mask_of, overflow_word}
-use Rattle.agc_processor.specs.Channel.{channel_cell, read_order, write_order, rand_order, wand_order, ror_order, wor_order, rxor_order, write_channel, set_channel, superbank_switched, time6_switched}
+use Rattle.agc_processor.specs.Basic.{tc_of, ccs_of, tcf_of, lxch_of, incr_of, ads_of, ca_of, cs_of, index_of, resume_of, ts_of, ts_by, ts_with_overflow, xch_of, ad_of, mask_of}
+use Rattle.agc_processor.specs.Channel.{read_order, write_order, rand_order, wand_order, ror_order, wor_order, rxor_order, write_channel, set_channel}
 use Rattle.agc_processor.specs.Double.{das_of, das_upper, dxch_of, dca_of, dcs_of}
-use Rattle.agc_processor.specs.Effect.{basic_effect, extracode_effect, order_effect, branches, divides, shows, channel_number, short_address, is_zero, is_minus_or_plus_zero}
+use Rattle.agc_processor.specs.Effect.{basic_effect, extracode_effect, branches, divides, shows, channel_number, short_address, is_zero, is_minus_or_plus_zero}
 use Rattle.agc_processor.specs.Extra.{dv_of, divided, msu_of, qxch_of, aug_of, dim_of, su_of, mp_of}
-use Rattle.agc_processor.specs.Processor.{fetched, plain, a_of, set_a, put, skip, names}
+use Rattle.agc_processor.specs.Processor.{fetched, plain, a_of, names}
 use Rattle.agc_processor.specs.Keeps.{IsSame, Keeps}
 
 either : (b : Bool) (p q r : Processor) → IsSame p q → IsSame p r → IsSame p (if b then q else r)

@@ -1,5 +1,5 @@
 -- Every order that runs takes at least a cycle and at most six, and shows a channel from 5 to 777 octal.
-use Rattle.std.proofs.Common.{◌≡◌, ℕ, ◌%◌, ◌≤◌, ◌<◌, Bool, true, false, Option, Some, None, arith, lit≤, refl}
+use Rattle.std.proofs.Common.{◌≡◌, ℕ, ◌<◌, Bool, true, false, Option, Some, None, arith, lit≤, refl}
 use Rattle.std.specs.Prelude.{nat_lt, if◌then◌else◌}
 use Rattle.std.proofs.lemmas.Bool.Decides.{nat_tests}
 use Rattle.agc_word.specs.Number.{Number}
@@ -8,7 +8,6 @@ use Rattle.agc_processor.specs.declared.order.Basic.TheVariants as basic
 use Rattle.agc_processor.specs.declared.order.Extracode.{Extracode}
 use Rattle.agc_processor.specs.declared.order.Extracode.TheVariants as extra
 use Rattle.agc_processor.specs.declared.processor.Processor.{Processor}
-use Rattle.agc_processor.specs.declared.processor.Ran.{Ran}
 use Rattle.agc_processor.specs.declared.processor.Ran.TheVariants as ran
 use Rattle.agc_processor.specs.Effect.{basic_effect, extracode_effect, order_effect, IsOrderly, branches, divides, shows, channel_number, short_address, is_zero, is_minus_or_plus_zero}
 use Rattle.agc_processor.specs.Processor.{a_of}

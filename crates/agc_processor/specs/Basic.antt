@@ -1,13 +1,12 @@
 -- The basic orders, each from processor to processor, up to the fetch of the next order. k is the order's address.
-use Rattle.std.specs.Prelude.{ℕ, ◌+◌, ◌%◌, ◌==◌, Bool, true, false, if◌then◌else◌}
+use Rattle.std.specs.Prelude.{ℕ, ◌+◌, ◌==◌, false, if◌then◌else◌}
 use Rattle.agc_word.specs.Number.{Number, pattern_of}
 use Rattle.agc_word.specs.Arithmetic.{sum_of, narrow_of, over_of, complement_of, dabs_of}
 use Rattle.agc_word.specs.declared.wide.Over.{Over}
 use Rattle.agc_word.specs.declared.wide.Over.TheVariants as over
-use Rattle.agc_store.specs.Memory.{read_of}
 use Rattle.agc_store.specs.Cells.{narrow_number, fetch_of, cell_of}
 use Rattle.agc_processor.specs.declared.processor.Processor.{Processor}
-use Rattle.agc_processor.specs.Processor.{plus_zero, plus_one, minus_one, a_of, l_of, q_of, z_at, set_a, set_l, set_q, jump, skip, content, put, edit_again, names, names_wide}
+use Rattle.agc_processor.specs.Processor.{plus_zero, plus_one, minus_one, a_of, l_of, z_at, set_a, set_l, set_q, jump, skip, content, put, edit_again, names, names_wide}
 use Rattle.agc_processor.specs.Logic.{and_words}
 
 -- TC K: the word at K is taken in hand before Q takes the return address in Z, and Z goes on behind K.

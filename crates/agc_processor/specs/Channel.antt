@@ -1,5 +1,5 @@
 -- The channels as a program and a script see them, and the orders that read and write them. h is the channel's number.
-use Rattle.std.specs.Prelude.{ℕ, ◌+◌, ◌*◌, ◌/◌, ◌%◌, ◌==◌, ◌&&◌, not, Bool, List, get_or, set, if◌then◌else◌}
+use Rattle.std.specs.Prelude.{ℕ, ◌*◌, ◌/◌, ◌%◌, ◌==◌, ◌&&◌, not, List, get_or, set, if◌then◌else◌}
 use Rattle.agc_word.specs.Number.{Number, pattern_of, bit_of}
 use Rattle.agc_word.specs.Arithmetic.{narrow_of}
 use Rattle.agc_store.specs.Cells.{narrow_number, superbank_set}

@@ -1,5 +1,5 @@
 -- The table of the orders: for each its cycles, the state it leaves, and its channel write or stop.
-use Rattle.std.specs.Prelude.{ℕ, ◌<◌, ◌≤◌, ◌%◌, ◌==◌, ◌||◌, ◌&&◌, not, Bool, true, false, Option, Some, None, nat_lt, if◌then◌else◌}
+use Rattle.std.specs.Prelude.{ℕ, ◌<◌, ◌≤◌, ◌%◌, ◌==◌, ◌||◌, Bool, true, false, Option, Some, None, nat_lt, if◌then◌else◌}
 use Rattle.agc_word.specs.Number.{Number, pattern_of}
 use Rattle.agc_processor.specs.declared.order.Basic.{Basic}
 use Rattle.agc_processor.specs.declared.order.Basic.TheVariants as basic

@@ -1,5 +1,5 @@
 -- The extracodes on A, Q and a memory word, each from processor to processor, up to the fetch of the next order.
-use Rattle.std.specs.Prelude.{ℕ, ◌==◌, Bool, true, false, Option, Some, None, option_map, if◌then◌else◌}
+use Rattle.std.specs.Prelude.{ℕ, ◌==◌, Option, option_map, if◌then◌else◌}
 use Rattle.agc_word.specs.Number.{Number}
 use Rattle.agc_word.specs.Arithmetic.{sum_of, narrow_of, complement_of}
 use Rattle.agc_word.specs.Angles.{modular_difference_of}

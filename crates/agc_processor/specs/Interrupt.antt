@@ -1,11 +1,10 @@
 -- When an interrupt is taken, and what that does.
-use Rattle.std.specs.Prelude.{ℕ, ◌+◌, ◌*◌, ◌&&◌, not, Bool, true, false, List, set, position, Option, Some, None, option_map, if◌then◌else◌}
+use Rattle.std.specs.Prelude.{ℕ, ◌+◌, ◌*◌, ◌&&◌, not, Bool, true, false, set, position, Option, None, option_map, if◌then◌else◌}
 use Rattle.agc_word.specs.Arithmetic.{over_of}
 use Rattle.agc_word.specs.declared.wide.Over.{Over}
 use Rattle.agc_word.specs.declared.wide.Over.TheVariants as over
 use Rattle.agc_store.specs.Cells.{narrow_number, fetch_of, poke_of}
 use Rattle.agc_processor.specs.declared.processor.Processor.{Processor}
-use Rattle.agc_processor.specs.declared.processor.Timers.{Timers}
 use Rattle.agc_processor.specs.Processor.{a_of, z_at, jump}
 
 abbrev pub is_none_over : Over → Bool
