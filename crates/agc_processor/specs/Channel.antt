@@ -29,7 +29,8 @@ abbrev pub superbank_switched : Number → Processor → Processor
 superbank_switched w p =
     record p { channels = set p.channels 7 (narrow_number (pattern_of 15 w / 16 % 8 * 16)); store = superbank_set p.store (bit_of 7 w == 1) }
 
--- TIME6's periods count from its switch: where bit 15 of channel 13 octal goes from off to on, those that have gone by are counted.
+-- TIME6's periods of 640 pulses go by the scaler, on or off: where bit 15 of channel 13 octal goes from off to on, all that have gone by
+-- are taken as counted.
 abbrev pub mark_after : ℕ → Number → Number → ℕ → ℕ
 mark_after cycle old new mark = if (bit_of 15 new == 1) && not (bit_of 15 old == 1) then 12 * cycle / 640 else mark
 

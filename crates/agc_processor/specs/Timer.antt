@@ -21,7 +21,7 @@ is_time6_due cycle p = (bit_of 15 (channel_cell 11 p.channels) == 1) && nat_lt p
 abbrev pub request : ℕ → Processor → Processor
 request n p = record p { timers = record p.timers { requests = set p.timers.requests (n - 1) true } }
 
--- a word and a carry: the counter takes the word
+-- the word of a counter, which is a cell of bank 0, and the state where it has taken another
 abbrev pub counter : ℕ → Processor → Number
 counter place p = cell_of p.store 0 place
 

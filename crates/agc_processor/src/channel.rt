@@ -64,7 +64,8 @@ impl Processor {
         self.store.set_superbank(bits / 64 % 2 == 1);
     }
 
-    /// Where bit 15 of channel 13 octal goes from off to on, TIME6 counts from now on.
+    /// Where bit 15 of channel 13 octal goes from off to on, TIME6 counts the periods that end from
+    /// now on.
     #[tactic(auto, unfolding(crate::specs::Channel::set_channel, agc_word::specs::Number::bit_of))]
     fn set_time6_switch(&mut self, cycle: u64, word: Narrow)
         requires { cycle < 2 ^ 41 }
