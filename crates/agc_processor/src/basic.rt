@@ -25,9 +25,7 @@ impl Processor {
         ensures word { result ≡ read_of self.old.store k }
         ensures after { self.new ≡ edit_again k self.old }
     {
-        let x = self.store.read(k);
-        self.store.reedit(k);
-        x
+        self.store.read_and_edit(k)
     }
 
     /// Leaves out so many of the orders that follow.
