@@ -33,9 +33,11 @@ const BEYOND_COUNTING: u64 = 1 << 48;
 
 /// The cycle from which a timer's next step is due.
 fn due_from(first: u64, taken: u64) -> u64
-    requires { first ≤ 10240 }
+    requires later { 0 < first }
+    requires first { first ≤ 10240 }
     ensures none { (cycle : ℕ) → cycle < result → is_due cycle first taken ≡ false }
     ensures due { 0 < result → is_due result first taken ≡ true }
+    ensures known { taken ≤ 2 ^ 48 → 0 < result }
 {
     if taken > BEYOND_COUNTING {
         return 0;
@@ -47,6 +49,7 @@ fn due_from(first: u64, taken: u64) -> u64
 fn time6_due_from(mark: u64) -> u64
     ensures none { (cycle : ℕ) → cycle < result → nat_lt mark (12 * cycle / 640) ≡ false }
     ensures due { 0 < result → nat_lt mark (12 * result / 640) ≡ true }
+    ensures known { mark ≤ 2 ^ 48 → 0 < result }
 {
     if mark > BEYOND_COUNTING {
         return 0;
@@ -57,7 +60,7 @@ fn time6_due_from(mark: u64) -> u64
 impl Processor {
     ghost use Rattle.std.specs.Prelude.{◌≡◌, ◌<◌, ◌≤◌, ◌^◌, ◌+◌, ◌*◌, option_map, IfNone, IfSome, ℕ, true, false};
     ghost use Rattle.agc_word.specs.Pulses.{pulsed};
-    ghost use Rattle.agc_processor.specs.Keeps.{is_any_due};
+    ghost use Rattle.agc_processor.specs.Keeps.{is_any_due, IsCounted};
     ghost use Rattle.agc_processor.specs.Channel.{channel_cell};
     ghost use Rattle.agc_processor.specs.Timer.{timer_stepped, time1_step, time3_step, time4_step, time5_step, time6_step, is_time6_due, request, counted, counter, tick};
 
@@ -101,6 +104,7 @@ impl Processor {
     pub fn timers_quiet_until(&self) -> u64
         ensures none { (cycle : ℕ) → cycle < result → is_any_due cycle self.now.timers (channel_cell 11 self.now.channels) ≡ false }
         ensures due { 0 < result → is_any_due result self.now.timers (channel_cell 11 self.now.channels) ≡ true }
+        ensures known { IsCounted self.now.timers → 0 < result }
     {
         let timers = &self.timers;
         let time6 = if self.channels[11].bits() / 0o40000 % 2 == 1 {
