@@ -1,0 +1,16 @@
+//! The ring between the machine and its display: what is sent comes out once, in order.
+#![tactic(auto)]
+
+mod item;
+mod receiver;
+mod rest;
+mod ring;
+mod sender;
+#[cfg(test)]
+mod tests;
+
+pub use item::Item;
+pub use receiver::Receiver;
+pub use rest::{Rest, rejoin};
+pub use ring::{LinkFault, link};
+pub use sender::Sender;
