@@ -9,7 +9,7 @@ mod sender;
 #[cfg(test)]
 mod tests;
 
-pub use item::Item;
+pub use item::{BLOCK, Item};
 pub use receiver::Receiver;
 pub use rest::{Rest, rejoin};
 pub use ring::{LinkFault, link};
