@@ -1,2 +1,4 @@
 pub mod Item
 pub mod Ring
+pub mod Shown
+pub mod Screen

@@ -1,16 +1,22 @@
 //! The ring between the machine and its display: what is sent comes out once, in order.
 #![tactic(auto)]
 
+mod display;
+mod gate;
 mod item;
 mod receiver;
 mod rest;
 mod ring;
 mod sender;
+mod sending;
+mod shown;
 #[cfg(test)]
 mod tests;
 
+pub use gate::{Gate, Open};
 pub use item::{BLOCK, Item};
 pub use receiver::Receiver;
 pub use rest::{Rest, rejoin};
 pub use ring::{LinkFault, link};
 pub use sender::Sender;
+pub use shown::{ShowFault, Shown, run_shown};

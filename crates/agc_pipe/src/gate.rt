@@ -1,0 +1,20 @@
+//! The gate: where others may follow, or hold up, the two threads.
+
+/// What is called as writes go through the ring. Both threads share it. Writes are counted from 1.
+pub trait Gate {
+    /// Called by the machine's thread just before it first tries to send a block with this write.
+    fn before_send(&self, n: u64);
+
+    /// Called by the display's thread when it has taken this write.
+    fn after_receive(&self, n: u64);
+}
+
+/// The gate that does nothing.
+#[derive(Clone, Copy, Debug, Default)]
+pub struct Open;
+
+impl Gate for Open {
+    fn before_send(&self, _n: u64) {}
+
+    fn after_receive(&self, _n: u64) {}
+}

@@ -1,0 +1,165 @@
+//! The machine's thread: it runs the machine to its stop and sends each channel write, then the end.
+ghost use Rattle.std.specs.Prelude.{◌≡◌, ◌<◌, ◌≤◌, [], ◌∷◌, ◌++◌, length, All, Some};
+ghost use Rattle.agc_machine.specs.Run.{run_of};
+ghost use Rattle.agc_pipe.specs.Item.{IsOutside};
+ghost use Rattle.agc_pipe.specs.Shown.{items_of};
+ghost use Rattle.arrayvec.specs.ArrayVec.{array_vec_len};
+
+use crate::gate::Gate;
+use crate::item::{BLOCK, Item};
+use crate::sender::Sender;
+use agc_machine::{ChannelWrite, Machine, Next, Stop};
+use arrayvec::ArrayVec;
+use std::marker::Model;
+use std::sync::Wait;
+use std::thread;
+
+/// What the machine's thread hands back.
+#[derive(Drop)]
+pub(crate) struct Sent {
+    pub(crate) sender: Sender,
+    /// The machine at its stop.
+    pub(crate) machine: Machine,
+    pub(crate) stop: Stop,
+}
+
+/// Runs a machine to its stop, and sends its writes and the end.
+pub(crate) fn send_run<R: Wait, G: Gate>(
+    rt: &R,
+    gate: &G,
+    mut machine: Machine,
+    sender: Sender,
+) -> Sent
+    requires { sender.sent ≡ [] }
+    ensures sender { result.sender ≡ record sender { sent = items_of (run_of machine).writes } }
+    ensures machine { result.machine ≡ (run_of machine).last }
+    ensures stop { (run_of machine).last.stopped ≡ Some result.stop }
+{
+    let mut outgoing = Outgoing::new(sender);
+    loop {
+        match machine.next_write() {
+            Next::Wrote(write) => outgoing.put(rt, gate, write),
+            Next::Stopped(stop) => {
+                return Sent {
+                    sender: outgoing.finish(rt, gate),
+                    machine,
+                    stop,
+                };
+            }
+        }
+    }
+}
+
+/// The sending end with the items that wait for their block to be full. What waits counts as sent.
+#[derive(Drop)]
+pub(crate) struct Outgoing {
+    sender: Sender,
+    block: ArrayVec<Item, BLOCK>,
+    /// The writes that the gate was told of.
+    told: u64,
+}
+
+impl Model for Outgoing {
+    ghost use Rattle.agc_pipe.specs.Ring.{Sending};
+
+    ghost Value = { Sending };
+
+    ghost use Rattle.std.specs.Prelude.{◌<◌, ◌++◌, All};
+    ghost use Rattle.arrayvec.specs.ArrayVec.{array_vec_len};
+    ghost use Rattle.agc_pipe.specs.Item.{IsOutside};
+
+    ghost view = { λ o. record o.sender { sent = o.sender.sent ++ o.block.items } };
+
+    ghost invariant = { λ o. All IsOutside o.block.items × (array_vec_len o.block < 64) × (array_vec_len o.block < o.sender.slots) };
+}
+
+impl Outgoing {
+    ghost use Rattle.std.specs.Prelude.{◌≡◌, ◌<◌, ◌≤◌, [], ◌∷◌, ◌++◌};
+    ghost use Rattle.agc_pipe.specs.Item.{IsOutside};
+    ghost use Rattle.agc_pipe.specs.declared.item.Item.TheVariants as item;
+
+    pub(crate) fn new(sender: Sender) -> Outgoing
+        ensures { result ≡ sender }
+    {
+        Outgoing {
+            sender,
+            block: ArrayVec::new(),
+            told: 0,
+        }
+    }
+
+    /// Puts a write behind those that wait, and sends the block where that made it full.
+    pub(crate) fn put<R: Wait, G: Gate>(&mut self, rt: &R, gate: &G, write: ChannelWrite)
+        requires { IsOutside (item.Write write) }
+        ensures { self.new ≡ record self.old { sent = self.old.sent ++ item.Write write ∷ [] } }
+    {
+        self.block.push(Item::Write(write));
+        if self.block.len() == BLOCK || self.block.len() == self.sender.capacity() {
+            self.told = send(rt, gate, &mut self.sender, &mut self.block, self.told);
+        }
+    }
+
+    /// Sends what waits, with the end behind it, and gives the sender back.
+    pub(crate) fn finish<R: Wait, G: Gate>(self, rt: &R, gate: &G) -> Sender
+        ensures { result ≡ record self { sent = self.sent ++ item.End ∷ [] } }
+    {
+        let Outgoing {
+            mut sender,
+            mut block,
+            told,
+        } = self;
+        block.push(Item::End);
+        send(rt, gate, &mut sender, &mut block, told);
+        sender
+    }
+}
+
+/// Sends a block whole, and leaves it empty. The gate is told of each of its writes before; answers
+/// how many writes it was told of.
+fn send<R: Wait, G: Gate>(
+    rt: &R,
+    gate: &G,
+    sender: &mut Sender,
+    block: &mut ArrayVec<Item, BLOCK>,
+    told: u64,
+) -> u64
+    requires some { 0 < array_vec_len block.old }
+    requires fits { array_vec_len block.old ≤ sender.old.slots }
+    requires outside { All IsOutside block.old.items }
+    ensures sender { sender.new ≡ record sender.old { sent = sender.old.sent ++ block.old.items } }
+    ensures block { block.new.items ≡ [] }
+{
+    let told = tell(gate, block.as_slice(), told);
+    send_waiting(rt, sender, block.as_slice());
+    block.clear();
+    told
+}
+
+/// Tells the gate of each write of a block, in order.
+fn tell<G: Gate>(gate: &G, items: &[Item], told: u64) -> u64 {
+    let mut told = told;
+    for item in items {
+        if let Item::Write(_) = item {
+            told = told.saturating_add(1);
+            gate.before_send(told);
+        }
+    }
+    told
+}
+
+/// Waits until a block is sent.
+fn send_waiting<R: Wait>(rt: &R, sender: &mut Sender, items: &[Item])
+    requires some { 0 < length items.now }
+    requires block { length items.now ≤ 64 }
+    requires fits { length items.now ≤ sender.old.slots }
+    requires outside { All IsOutside items.now }
+    ensures { sender.new ≡ record sender.old { sent = sender.old.sent ++ items.now } }
+{
+    for _ in rt.forever() {
+        if sender.send_block(items) {
+            return;
+        }
+        thread::yield_now();
+    }
+    unreachable!()
+}

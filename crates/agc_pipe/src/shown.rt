@@ -1,0 +1,161 @@
+//! A run shown: the machine on a thread of its own, the display on the caller's, a ring between.
+ghost use Rattle.std.specs.Prelude.{◌≡◌, ◌≢◌, ◌<◌, ◌⊎◌, ◌↔◌, [], true, false, IfOk, IsErrOf, Some, Err};
+ghost use Rattle.agc_machine.specs.Run.{Run, run_of};
+ghost use Rattle.agc_pipe.specs.Screen.{IsShowing};
+ghost use Rattle.agc_pipe.specs.Shown.{IsSentRun, ShowsRun, has_end, items_of, shown_in};
+ghost use Rattle.agc_pipe.specs.declared.shown.ShowFault.TheVariants as fault;
+
+use crate::display::{Screen, Taken, take_all};
+use crate::gate::Gate;
+use crate::receiver::Receiver;
+use crate::rest::rejoin;
+use crate::ring::{LinkFault, link};
+use crate::sender::Sender;
+use crate::sending::{Sent, send_run};
+use agc_machine::{ChannelWrite, Machine, Stop};
+use agc_panel::Panel;
+use agc_store::Store;
+use std::alloc::Global;
+use std::snapshot::Snapshot;
+use std::sync::Wait;
+use std::thread;
+use std::thread::{Promise, Threads};
+use thiserror::Error;
+
+/// What a run leaves.
+#[derive(Drop)]
+pub struct Shown {
+    /// Its channel writes, in order, as the display took them.
+    pub log: Vec<ChannelWrite>,
+    /// What the display shows after them.
+    pub panel: Panel,
+    /// The memory at the stop.
+    pub store: Store,
+    pub stop: Stop,
+    /// The machine cycle of the stop.
+    pub cycle: u64,
+}
+
+/// Why a run was not shown.
+#[derive(Clone, Copy, Debug, Error, PartialEq, Eq)]
+pub enum ShowFault {
+    #[error("the ring's slots are not 1 to 65536")]
+    Slots,
+    #[error("out of memory")]
+    Memory,
+    #[error("the machine's thread could not be started")]
+    Thread,
+}
+
+/// What the machine's thread promises.
+#[derive(Drop)]
+struct SendsRun {
+    machine: Snapshot<Machine>,
+    sender: Snapshot<Sender>,
+}
+
+impl Promise<Sent> for SendsRun {
+    ghost use Rattle.agc_machine.specs.Run.{run_of};
+    ghost use Rattle.agc_pipe.specs.Shown.{IsSentRun};
+
+    ghost kept_by = { λ promise sent. IsSentRun (run_of promise.machine.value) promise.sender.value sent };
+}
+
+/// Runs a fresh machine to its stop on a thread of its own, and shows its channel writes on the
+/// caller's thread, through a ring of so many slots. Whatever the schedule of the two threads, the
+/// log is exactly the writes of the run, each once and in order.
+pub fn run_shown<R: Threads + Wait + Sync, G: Gate + Sync>(
+    rt: &R,
+    alloc: Global,
+    machine: Machine,
+    slots: usize,
+    gate: &G,
+) -> Result<Shown, ShowFault>
+    requires { machine.begun ≡ false }
+    ensures shown { IfOk result (ShowsRun (run_of machine)) }
+    ensures slots { IsErrOf result fault.Slots ↔ ((slots ≡ 0) ⊎ (65536 < slots)) }
+{
+    let (sender, receiver) = match link(alloc, slots) {
+        Ok(ends) => ends,
+        Err(LinkFault::Memory) => return Err(ShowFault::Memory),
+        Err(_) => return Err(ShowFault::Slots),
+    };
+    show_between(rt, alloc, machine, gate, sender, receiver)
+}
+
+/// Runs the machine into one end of a new ring, and shows what comes out at the other.
+fn show_between<R: Threads + Wait + Sync, G: Gate + Sync>(
+    rt: &R,
+    alloc: Global,
+    machine: Machine,
+    gate: &G,
+    sender: Sender,
+    receiver: Receiver,
+) -> Result<Shown, ShowFault>
+    requires ring { sender.ring ≡ receiver.ring }
+    requires sent { sender.sent ≡ [] }
+    requires received { receiver.received ≡ [] }
+    ensures shown { IfOk result (ShowsRun (run_of machine)) }
+    ensures slots { result ≢ Err fault.Slots }
+{
+    let promise = SendsRun {
+        machine: Snapshot::of(&machine),
+        sender: Snapshot::of(&sender),
+    };
+    thread::scope(
+        thread::scope_env(),
+        rt,
+        |scope| -> Result<Shown, ShowFault>
+            requires { (sender.ring ≡ receiver.ring) × (sender.sent ≡ []) × (receiver.received ≡ []) × (promise.machine.value ≡ machine) × (promise.sender.value ≡ sender) }
+            ensures shown { IfOk result (ShowsRun (run_of machine)) }
+            ensures slots { result ≢ Err fault.Slots }
+        {
+            let Ok(child) = scope.spawn_with(
+                promise,
+                move || -> Sent
+                    requires { sender.sent ≡ [] }
+                    ensures { IsSentRun (run_of machine) sender result }
+                { send_run(rt, gate, machine, sender) },
+            ) else {
+                return Err(ShowFault::Thread);
+            };
+            let taken = take_all(rt, alloc, gate, receiver);
+            put_together(child.join(rt), taken)
+        },
+    )
+}
+
+/// Puts together what both threads hand on.
+fn put_together(sent: Sent, taken: Taken) -> Result<Shown, ShowFault>
+    requires ring { sent.sender.ring ≡ taken.receiver.ring }
+    requires end { has_end taken.receiver.received ≡ true }
+    requires shown { IsShowing taken.screen (shown_in taken.receiver.received) }
+    ensures shown { (run : Run) → (sent.sender.sent ≡ items_of run.writes) × (sent.machine ≡ run.last) × (run.last.stopped ≡ Some sent.stop)
+        → IfOk result (ShowsRun run) }
+    ensures slots { result ≢ Err fault.Slots }
+{
+    let Sent {
+        sender,
+        machine,
+        stop,
+    } = sent;
+    let Taken { receiver, screen } = taken;
+    let _rest = rejoin(sender, receiver);
+    let Screen {
+        log,
+        panel,
+        refused,
+        ..
+    } = screen;
+    if refused {
+        return Err(ShowFault::Memory);
+    }
+    let cycle = machine.cycle();
+    Ok(Shown {
+        log,
+        panel,
+        store: machine.into_store(),
+        stop,
+        cycle,
+    })
+}
