@@ -1,4 +1,6 @@
 //! The ring at work: slots, blocks, and what is left when both ends come together.
+mod shown;
+
 ghost use Rattle.std.specs.Prelude.{◌≡◌};
 ghost use Rattle.agc_pipe.specs.Item.{IsOutside};
 
