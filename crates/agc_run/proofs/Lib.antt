@@ -3,5 +3,4 @@ pub mod CommandLine
 pub mod Place
 pub mod Printed
 pub mod Refused
-pub mod UnderWay
 pub mod Whole

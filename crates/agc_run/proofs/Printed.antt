@@ -9,12 +9,12 @@ use Rattle.agc_machine.specs.Run.{Run, run_of}
 use Rattle.agc_machine.specs.State.{State, start_state}
 use Rattle.agc_panel.specs.Text.{panel_text}
 use Rattle.agc_panel.specs.WatchSpec.{spec_of}
-use Rattle.agc_run.specs.Run.{ShowsRun}
+use Rattle.agc_pipe.specs.Shown.{ShowsRun}
 use Rattle.agc_run.specs.Session.{session_text, events_in, run_text, run_asked, log_asked, watcher_text, said_by}
 use Rattle.agc_run.specs.Text.{stop_line}
 use Rattle.agc_run.specs.Until.{until_place}
 use Rattle.agc_run.specs.declared.args.Options.{Options}
-use Rattle.agc_run.specs.declared.shown.Shown.{Shown}
+use Rattle.agc_pipe.specs.declared.shown.Shown.{Shown}
 
 pub text_shown : (options : Options) (run : Run) (shown : Shown) → ShowsRun run shown →
     panel_text shown.panel ++ stop_line shown.stop shown.cycle (vec_len shown.log) ++ log_asked options.log shown.log.items

@@ -30,6 +30,7 @@ module _ (options : Options) (rope_bytes script_bytes : List ℕ) where
   rope_refused refusal.BadWatchSpec h = absurd h
   rope_refused refusal.BadUntilSpec h = absurd h
   rope_refused refusal.Slots h = absurd h
+  rope_refused refusal.Thread h = absurd h
   rope_refused (refusal.Watch fault) h = absurd h
 
   is_memory : (k : FaultKind) → (k ≡ kind.Memory) ⊎ (k ≢ kind.Memory)
@@ -59,6 +60,7 @@ module _ (options : Options) (rope_bytes script_bytes : List ℕ) where
   script_refused refusal.BadWatchSpec none h = absurd h
   script_refused refusal.BadUntilSpec none h = absurd h
   script_refused refusal.Slots none h = absurd h
+  script_refused refusal.Thread none h = absurd h
   script_refused (refusal.Watch fault) none h = absurd h
 
   -- where both files are accepted, the options decide
@@ -70,7 +72,10 @@ module _ (options : Options) (rope_bytes script_bytes : List ℕ) where
       → IsRefused options rope_bytes script_bytes r
   run_refused r rope_none script_none (inl found) = inl (by_options rope_none script_none ∙ rw found refl)
   run_refused r rope_none script_none (inr (inl is)) = inr (rw is (record { untold = refl; before = refl }))
-  run_refused r rope_none script_none (inr (inr (is, none))) =
+  run_refused r rope_none script_none (inr (inr (inl is, none))) =
+      let all : refusal_of options rope_bytes script_bytes ≡ None = by_options rope_none script_none ∙ rw none refl in
+      inr (rw is (record { untold = refl; before = rw all refl }))
+  run_refused r rope_none script_none (inr (inr (inr is, none))) =
       let all : refusal_of options rope_bytes script_bytes ≡ None = by_options rope_none script_none ∙ rw none refl in
       inr (rw is (record { untold = refl; before = rw all refl }))
 

@@ -2,5 +2,4 @@ pub mod Args
 pub mod Text
 pub mod Until
 pub mod Refusal
-pub mod Run
 pub mod Session

@@ -49,6 +49,7 @@ refusal_text (refusal.Limit fault) = codes "limit: " ++ limit_fault_name fault
 refusal_text refusal.BadWatchSpec = codes "watch: BadSpec"
 refusal_text refusal.BadUntilSpec = codes "until: BadSpec"
 refusal_text refusal.Slots = codes "slots"
+refusal_text refusal.Thread = codes "thread"
 refusal_text (refusal.Watch fault) = codes "watch: " ++ watch_fault_name fault
 refusal_text refusal.Memory = codes "memory"
 

@@ -88,13 +88,15 @@ options_refusal options =
 unfoldable pub refusal_of : Options → List ℕ → List ℕ → Option Refusal
 refusal_of options rope script = first_of (rope_refusal options.form rope ∷ script_refusal script ∷ options_refusal options ∷ [])
 
--- A line that tells a fault of what was handed in. The others tell of a file that could not be read and of memory that was wanted.
+-- A line that tells a fault of what was handed in. The others tell of a file that could not be read, of a thread that could not be started and
+-- of memory that was wanted.
 abbrev pub tells_fault : Refusal → Bool
 tells_fault refusal.CannotReadRope = false
 tells_fault (refusal.Rope rope.Memory) = false
 tells_fault refusal.CannotReadScript = false
 tells_fault (refusal.Script fault) = elim fault.kind [ kind.Memory ↦ false | _ ↦ true ]
 tells_fault (refusal.Watch watch.Memory) = false
+tells_fault refusal.Thread = false
 tells_fault refusal.Memory = false
 tells_fault r = true
 
@@ -103,6 +105,7 @@ abbrev pub looked_for_before : Refusal → Options → List ℕ → List ℕ →
 looked_for_before (refusal.Rope fault) options rope script = rope_refusal options.form rope ∷ []
 looked_for_before refusal.CannotReadScript options rope script = rope_refusal options.form rope ∷ []
 looked_for_before (refusal.Script fault) options rope script = rope_refusal options.form rope ∷ []
+looked_for_before refusal.Thread options rope script = refusal_of options rope script ∷ []
 looked_for_before (refusal.Watch fault) options rope script = refusal_of options rope script ∷ []
 looked_for_before r options rope script = []
 
@@ -132,7 +135,8 @@ IsScriptRefused bytes r = ⊥
 -- why there is no text of a rope and a script that were had
 abbrev pub IsRunRefused : Options → Refusal → Type 0
 IsRunRefused options r =
-    (options_refusal options ≡ Some r) ⊎ ((r ≡ refusal.Memory) ⊎ ((r ≡ refusal.Watch watch.Memory) × (options_refusal options ≡ None)))
+    (options_refusal options ≡ Some r)
+    ⊎ ((r ≡ refusal.Memory) ⊎ (((r ≡ refusal.Thread) ⊎ (r ≡ refusal.Watch watch.Memory)) × (options_refusal options ≡ None)))
 
 -- why and when a run stopped, and how many channel writes it made
 abbrev pub stop_text : Option Stop → ℕ → ℕ → List ℕ

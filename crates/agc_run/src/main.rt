@@ -8,12 +8,12 @@ mod prepare;
 mod print;
 mod refusal;
 mod session;
-mod shown;
 #[cfg(test)]
 mod streams;
 mod text;
 mod until;
 
+use agc_pipe::Open;
 use args::{ArgsFault, Options, parse_args};
 use input::InputFile;
 use refusal::Refusal;
@@ -21,6 +21,8 @@ use session::{DONE, REFUSED, session, status_of};
 use std::io::Write;
 use std::process::ExitCode;
 use std::rt::{Env, Files};
+use std::sync::Wait;
+use std::thread::Threads;
 use std::{env, fs, io};
 
 /// The status of a mistake in the command line.
@@ -30,12 +32,24 @@ fn main(rt: HostRuntime) -> ExitCode {
     ExitCode::from(run(&rt, &mut rt.stdout(), &mut rt.stderr()))
 }
 
-fn run<R: Env + Files + AllocGlobal, W: Write, E: Write>(rt: &R, out: &mut W, err: &mut E) -> u8 {
+fn run<R, W: Write, E: Write>(rt: &R, out: &mut W, err: &mut E) -> u8
+where
+    R: Env + Files + AllocGlobal + Threads + Wait + Sync,
+{
     match options(rt) {
         Ok(options) => {
             let mut rope = InputFile::new(fs::open(rt, options.rope.as_str()));
             let mut script = InputFile::new(fs::open(rt, options.script.as_str()));
-            session(rt.alloc(), &options, &mut rope, &mut script, out, err)
+            session(
+                rt,
+                rt.alloc(),
+                &options,
+                &mut rope,
+                &mut script,
+                &Open,
+                out,
+                err,
+            )
         }
         Err(ArgsFault::Help(text)) => status_of(DONE, out.write_all(text.as_bytes())),
         Err(ArgsFault::Command(text)) => status_of(MISUSED, err.write_all(text.as_bytes())),

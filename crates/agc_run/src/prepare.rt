@@ -1,5 +1,5 @@
 //! Before the run: the options are looked at, one after another, and the machine is made.
-ghost use Rattle.std.specs.Prelude.{◌≡◌, false, true, IfOk, MatchResult, None, Some};
+ghost use Rattle.std.specs.Prelude.{◌≡◌, false, true, IfOk, OnOk, MatchResult, None, Some};
 ghost use Rattle.agc_machine.specs.State.{start_state};
 ghost use Rattle.agc_panel.specs.WatchSpec.{spec_of};
 ghost use Rattle.agc_run.specs.Session.{limit_refusal, watch_spec_refusal, until_spec_refusal, slots_refusal, tables_refusal, options_refusal, said_by};
@@ -33,6 +33,8 @@ pub fn prepare(options: &Options, rope: Rope, script: Script) -> Result<Prepared
         ≡ start_state rope script options.now.limit (said_by until_place options.now.until)) }
     ensures watch { IfOk result (λ prepared. prepared.watch ≡ said_by spec_of options.now.watch) }
     ensures tables { IfOk result (λ prepared. tables_refusal prepared.watch ≡ None) }
+    ensures fresh { IfOk result (λ prepared. prepared.machine.begun ≡ false) }
+    ensures slots { OnOk result (slots_refusal options.now.slots ≡ None) }
 {
     let machine = limited_machine(rope, script, options.limit)?;
     let watch = watch_spec(&options.watch)?;

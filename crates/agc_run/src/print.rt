@@ -7,10 +7,10 @@ ghost use Rattle.agc_run.specs.Text.{stop_line};
 ghost use Rattle.agc_run.specs.declared.refusal.Refusal.TheVariants as refusal;
 
 use crate::refusal::Refusal;
-use crate::shown::Shown;
 use crate::text::{push_log, push_stop_line};
 use agc_machine::ChannelWrite;
 use agc_panel::{WatchSpec, watch};
+use agc_pipe::Shown;
 use agc_store::Store;
 use std::alloc::{AllocError, Global};
 

@@ -29,6 +29,8 @@ pub enum Refusal {
     BadUntilSpec,
     /// `--slots` is 0 or above 65,536.
     Slots,
+    /// The machine's thread could not be started.
+    Thread,
     /// The tables to be watched cannot stand there, or are too many.
     Watch(WatchFault),
     /// Memory ran out.
@@ -71,6 +73,7 @@ impl fmt::Display for Refusal {
             Refusal::BadWatchSpec => f.write_str("watch: BadSpec"),
             Refusal::BadUntilSpec => f.write_str("until: BadSpec"),
             Refusal::Slots => f.write_str("slots"),
+            Refusal::Thread => f.write_str("thread"),
             Refusal::Watch(fault) => write!(f, "watch: {}", watch_fault_name(fault)),
             Refusal::Memory => f.write_str("memory"),
         }

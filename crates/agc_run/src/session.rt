@@ -1,6 +1,8 @@
 //! A session: from two files and the options to the text, or to the line of a refusal.
-ghost use Rattle.std.specs.Prelude.{◌≡◌, ◌⊎◌, IfOk, IfErr, IfSome, OnOk, None, is_ok, if◌then◌else◌, string_bytes};
+ghost use Rattle.std.specs.Prelude.{◌≡◌, ◌⊎◌, false, IfOk, IfErr, IfSome, OnOk, None, is_ok, if◌then◌else◌, string_bytes};
 ghost use Rattle.std.specs.Io.KnownBytes.{Keeps, Appends, IsAtEnd};
+ghost use Rattle.agc_machine.specs.Run.{run_of};
+ghost use Rattle.agc_pipe.specs.Shown.{ShowsRun};
 ghost use Rattle.agc_store.specs.Rope.{rope_words};
 ghost use Rattle.agc_store.specs.declared.rope_file.RopeFault.{RopeFault};
 ghost use Rattle.agc_script.specs.Parse.{script_of};
@@ -8,18 +10,22 @@ ghost use Rattle.agc_script.specs.declared.fault.ScriptFault.{ScriptFault};
 ghost use Rattle.agc_run.specs.Refusal.{refusal_line};
 ghost use Rattle.agc_run.specs.declared.refusal.Refusal.{Refusal};
 ghost use Rattle.agc_run.specs.declared.refusal.Refusal.TheVariants as refusal;
-ghost use Rattle.agc_run.specs.Session.{rope_refusal, script_refusal, options_refusal, events_in, refusal_of, IsRefused, IsRopeRefused, IsScriptRefused, IsRunRefused, run_text, run_asked, session_text};
+ghost use Rattle.agc_run.specs.declared.refusal.Refusal.TheVariants as refusal;
+ghost use Rattle.agc_run.specs.Session.{rope_refusal, script_refusal, options_refusal, events_in, refusal_of, IsRefused, IsRopeRefused, IsScriptRefused, IsRunRefused, slots_refusal, run_text, run_asked, session_text};
 
 use crate::args::Options;
 use crate::input::{ROPE_BYTES, SCRIPT_BYTES, Unread, read_limited};
 use crate::prepare::{Prepared, prepare};
 use crate::print::print_run;
 use crate::refusal::Refusal;
-use crate::shown::run_shown;
+use agc_machine::Machine;
+use agc_pipe::{Gate, ShowFault, Shown, run_shown};
 use agc_script::Script;
 use agc_store::{Rope, RopeForm};
 use std::alloc::Global;
 use std::io::{self, Read, Write};
+use std::sync::Wait;
+use std::thread::Threads;
 
 /// The status of a run that came to a stop, whichever.
 pub const DONE: u8 = 0;
@@ -30,18 +36,22 @@ pub const REFUSED: u8 = 1;
 /// The status of a write that failed.
 pub const UNWRITTEN: u8 = 3;
 
-/// Runs a session: reads both files to their end, runs the machine on the caller's thread, and writes
-/// the text to `out`, or the line of the first refusal to `err`. Answers the status: `DONE` at any
-/// stop, `REFUSED` with a line on `err`, `UNWRITTEN` where a write failed. All text is made before any
-/// is written.
-pub fn session<R: Read, S: Read, W: Write, E: Write>(
+/// Runs a session: reads both files to their end, runs the machine on a thread of its own with the
+/// display on the caller's, and writes the text to `out`, or the line of the first refusal to `err`.
+/// Answers the status: `DONE` at any stop, `REFUSED` with a line on `err`, `UNWRITTEN` where a write
+/// failed. All text is made before any is written. Both threads pass the gate.
+pub fn session<H, R: Read, S: Read, G: Gate + Sync, W: Write, E: Write>(
+    rt: &H,
     alloc: Global,
     options: &Options,
     rope: &mut R,
     script: &mut S,
+    gate: &G,
     out: &mut W,
     err: &mut E,
 ) -> u8
+where
+    H: Threads + Wait + Sync,
     ensures status { (result ≡ DONE) ⊎ ((result ≡ REFUSED) ⊎ (result ≡ UNWRITTEN)) }
     ensures accepted { result ≡ DONE → IfSome (R.remaining rope.old) (λ rope. IfSome (S.remaining script.old)
         (λ script. refusal_of options.now rope script ≡ None)) }
@@ -54,7 +64,7 @@ pub fn session<R: Read, S: Read, W: Write, E: Write>(
         × IfSome (R.remaining rope.old) (λ rope. IfSome (S.remaining script.old) (λ script. IsRefused options.now rope script r)) }
     ensures nothing { result ≡ REFUSED → Keeps (W.contents out.old) (W.contents out.new) }
 {
-    match answer(alloc, options, rope, script) {
+    match answer(rt, alloc, options, rope, script, gate) {
         Ok(text) => status_of(DONE, out.write_all(text.as_bytes())),
         Err(refusal) => status_of(REFUSED, refusal.write_to(err)),
     }
@@ -71,11 +81,13 @@ pub fn status_of(status: u8, written: io::Result<()>) -> u8
 }
 
 /// The whole text, or the refusal.
-fn answer<R: Read, S: Read>(
+fn answer<H: Threads + Wait + Sync, R: Read, S: Read, G: Gate + Sync>(
+    rt: &H,
     alloc: Global,
     options: &Options,
     rope: &mut R,
     script: &mut S,
+    gate: &G,
 ) -> Result<String, Refusal>
     ensures accepted { OnOk result (IfSome (R.remaining rope.old) (λ rope. IfSome (S.remaining script.old)
         (λ script. refusal_of options.now rope script ≡ None))) }
@@ -88,7 +100,7 @@ fn answer<R: Read, S: Read>(
 {
     let rope = read_rope(alloc, options.form, rope)?;
     let script = read_script(alloc, script)?;
-    text_of_run(alloc, options, rope, script)
+    text_of_run(rt, alloc, options, rope, script, gate)
 }
 
 /// Reads a rope file.
@@ -149,19 +161,43 @@ fn script_of(alloc: Global, bytes: &[u8]) -> Result<Script, Refusal>
 }
 
 /// Runs the machine, and makes the text.
-fn text_of_run(
+fn text_of_run<H: Threads + Wait + Sync, G: Gate + Sync>(
+    rt: &H,
     alloc: Global,
     options: &Options,
     rope: Rope,
     script: Script,
+    gate: &G,
 ) -> Result<String, Refusal>
     ensures accepted { OnOk result (options_refusal options.now ≡ None) }
     ensures text { IfOk result (λ text. string_bytes text ≡ run_text options.now (run_asked options.now rope script)) }
     ensures refused { IfErr result (IsRunRefused options.now) }
 {
     let Prepared { machine, watch } = prepare(options, rope, script)?;
-    let shown = run_shown(alloc, machine)?;
+    let shown = show(rt, alloc, machine, options.slots, gate)?;
     print_run(alloc, options.log, &shown, &watch)
+}
+
+/// Shows the run of a machine that is at its start.
+#[tactic(auto, unfolding(crate::specs::Session::slots_refusal))]
+fn show<H: Threads + Wait + Sync, G: Gate + Sync>(
+    rt: &H,
+    alloc: Global,
+    machine: Machine,
+    slots: usize,
+    gate: &G,
+) -> Result<Shown, Refusal>
+    requires fresh { machine.begun ≡ false }
+    requires slots { slots_refusal slots ≡ None }
+    ensures shown { IfOk result (ShowsRun (run_of machine)) }
+    ensures refused { IfErr result (λ r. (r ≡ refusal.Memory) ⊎ (r ≡ refusal.Thread)) }
+{
+    match run_shown(rt, alloc, machine, slots, gate) {
+        Ok(shown) => Ok(shown),
+        Err(ShowFault::Memory) => Err(Refusal::Memory),
+        Err(ShowFault::Thread) => Err(Refusal::Thread),
+        Err(ShowFault::Slots) => unreachable!(),
+    }
 }
 
 #[cfg(test)]

@@ -2,8 +2,11 @@
 use super::*;
 use crate::args::parse_args;
 use crate::streams::{Endless, Sink, Source};
+use agc_pipe::Open;
 use std::process::Abort;
+use std::sync::Wait;
 use std::test::Fail;
+use std::thread::Threads;
 
 /// TCF 4000.
 const IDLE: [u8; 2] = [0x30, 0x00];
@@ -40,7 +43,7 @@ LST2 8 00000 00000
 ";
 
 /// The options of a command line after `agc rope script`.
-fn options(rt: &(impl AllocGlobal + Abort), line: &str) -> Options {
+fn options(rt: &(impl AllocGlobal + Abort + Threads + Wait + Sync), line: &str) -> Options {
     let mut words = Vec::new(rt.alloc());
     for word in ["agc", "rope", "script"] {
         words.push(word).expect(rt, "memory");
@@ -55,7 +58,7 @@ fn options(rt: &(impl AllocGlobal + Abort), line: &str) -> Options {
 
 /// Runs a session over memory and looks at its status and at what it wrote.
 fn ends(
-    rt: &(impl AllocGlobal + Abort),
+    rt: &(impl AllocGlobal + Abort + Threads + Wait + Sync),
     line: &str,
     mut rope: &[u8],
     mut script: &[u8],
@@ -67,10 +70,12 @@ fn ends(
     let mut told = Vec::new(rt.alloc());
     let options = options(rt, line);
     let ended = session(
+        &rt,
         rt.alloc(),
         &options,
         &mut rope,
         &mut script,
+        &Open,
         &mut printed,
         &mut told,
     );
@@ -84,7 +89,7 @@ fn ends(
 
 /// The same for a run that stops: PROG's digits, the stop's line after `STOP ` and what follows.
 fn stops(
-    rt: &(impl AllocGlobal + Abort),
+    rt: &(impl AllocGlobal + Abort + Threads + Wait + Sync),
     line: &str,
     rope: &[u8],
     script: &[u8],
@@ -96,7 +101,7 @@ fn stops(
 }
 
 /// The same for a refusal with its line.
-fn refuses(rt: &(impl AllocGlobal + Abort), line: &str, rope: &[u8], script: &[u8], err: &str) {
+fn refuses(rt: &(impl AllocGlobal + Abort + Threads + Wait + Sync), line: &str, rope: &[u8], script: &[u8], err: &str) {
     let err = format!(in rt.alloc(); "agc: {err}\n").expect(rt, "memory");
     ends(rt, line, rope, script, REFUSED, "", err.as_str());
 }
@@ -316,10 +321,12 @@ fn thousand_writes(rt: HostRuntime) -> Result<(), Fail> {
         let mut out = Vec::new(rt.alloc());
         let mut err = Vec::new(rt.alloc());
         let status = session(
+            &rt,
             rt.alloc(),
             &options,
             &mut rope,
             &mut script,
+            &Open,
             &mut out,
             &mut err,
         );
@@ -408,10 +415,12 @@ fn reading_limits(rt: HostRuntime) -> Result<(), Fail> {
     let mut out = Vec::new(rt.alloc());
     let mut err = Vec::new(rt.alloc());
     let status = session(
+        &rt,
         rt.alloc(),
         &options,
         &mut Endless,
         &mut script,
+        &Open,
         &mut out,
         &mut err,
     );
@@ -422,17 +431,19 @@ fn reading_limits(rt: HostRuntime) -> Result<(), Fail> {
 }
 
 /// Runs the relay word with `0 raise 1` from sources of few bytes a read that fail at a read each.
-fn reads_fail(rt: &(impl AllocGlobal + Abort), rope_at: u32, script_at: u32, told: &str) {
+fn reads_fail(rt: &(impl AllocGlobal + Abort + Threads + Wait + Sync), rope_at: u32, script_at: u32, told: &str) {
     let options = options(rt, "--limit 2");
     let mut rope = Source::new(&RELAY_WORD, 4, rope_at);
     let mut script = Source::new(b"0 raise 1", 4, script_at);
     let mut out = Vec::new(rt.alloc());
     let mut err = Vec::new(rt.alloc());
     let status = session(
+        &rt,
         rt.alloc(),
         &options,
         &mut rope,
         &mut script,
+        &Open,
         &mut out,
         &mut err,
     );
@@ -454,16 +465,18 @@ fn one_read_fails(rt: HostRuntime) {
 }
 
 /// Writes to `out` of few bytes each that fail at a write; the status.
-fn output_fails(rt: &(impl AllocGlobal + Abort), at: u32) -> u8 {
+fn output_fails(rt: &(impl AllocGlobal + Abort + Threads + Wait + Sync), at: u32) -> u8 {
     let options = options(rt, "--limit 10 --log");
     let (mut rope, mut script): (&[u8], &[u8]) = (&RELAY_WORD, b"");
     let mut out = Sink::new(rt.alloc(), 5, at);
     let mut err = Vec::new(rt.alloc());
     let status = session(
+        &rt,
         rt.alloc(),
         &options,
         &mut rope,
         &mut script,
+        &Open,
         &mut out,
         &mut err,
     );
@@ -487,10 +500,12 @@ fn refusal_is_not_written(rt: HostRuntime) {
     let mut out = Vec::new(rt.alloc());
     let mut err = Sink::new(rt.alloc(), 100, 1);
     let status = session(
+        &rt,
         rt.alloc(),
         &options,
         &mut rope,
         &mut script,
+        &Open,
         &mut out,
         &mut err,
     );
