@@ -60,11 +60,21 @@ impl Engine {
         ensures next { (state_of self.new, result) ≡ next_of (state_of self.old) }
         ensures sound { IsSound self.new }
     {
+        // One match for each kind of boundary: where both meet in one, what an order answers goes
+        // through memory, at half the speed.
         loop {
-            match self.step(None) {
-                Stepped::Quiet => {}
-                Stepped::Wrote(write) => return Next::Wrote(write),
-                Stepped::Stopped(why) => return Next::Stopped(why),
+            if self.cycle < self.quiet_until {
+                match self.step_quickly() {
+                    Stepped::Quiet => {}
+                    Stepped::Wrote(write) => return Next::Wrote(write),
+                    Stepped::Stopped(why) => return Next::Stopped(why),
+                }
+            } else {
+                match self.step_slowly(None) {
+                    Stepped::Quiet => {}
+                    Stepped::Wrote(write) => return Next::Wrote(write),
+                    Stepped::Stopped(why) => return Next::Stopped(why),
+                }
             }
         }
     }
@@ -96,9 +106,20 @@ impl Engine {
         ensures sound { IsSound self.new }
     {
         if live.is_none() && self.cycle < self.quiet_until {
-            return self.run_order();
+            return self.step_quickly();
         }
         self.step_slowly(live)
+    }
+
+    /// One boundary at which nothing but the order in hand can happen.
+    #[inline(always)]
+    fn step_quickly(&mut self) -> Stepped
+        requires sound { IsSound self.old }
+        requires quiet { self.old.cycle < self.old.quiet_until }
+        ensures step { (state_of self.new, result) ≡ boundary None (state_of self.old) }
+        ensures sound { IsSound self.new }
+    {
+        self.run_order()
     }
 
     /// One boundary at which more than the order in hand may happen.

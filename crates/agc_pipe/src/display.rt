@@ -11,7 +11,15 @@ use agc_panel::Panel;
 use arrayvec::ArrayVec;
 use std::alloc::Global;
 use std::sync::Wait;
+use std::sync::atomic::AtomicU64;
 use std::thread;
+use std::time::Duration;
+
+/// How many looks into an empty ring come before the first sleep.
+const PATIENCE: u32 = 64;
+
+/// How many microseconds the display sleeps between two looks then.
+const SLEEP: u64 = 50;
 
 /// What the display shows and has logged.
 #[derive(Drop)]
@@ -95,17 +103,26 @@ pub(crate) fn take_all<R: Wait, G: Gate>(
     ensures shown { IsShowing result.screen (shown_in result.receiver.received) }
 {
     let mut screen = Screen::new(alloc);
+    let mut idle = 0;
     for _ in rt.forever() {
-        if take_block(gate, &mut receiver, &mut screen) {
+        if take_block(gate, &mut receiver, &mut screen, &mut idle) {
             return Taken { receiver, screen };
+        }
+        if idle > 0 {
+            pause(rt, idle);
         }
     }
     unreachable!()
 }
 
-/// Takes the items that are there; answers whether the end is among them. Where none is there it
-/// lets other threads go first.
-fn take_block<G: Gate>(gate: &G, receiver: &mut Receiver, screen: &mut Screen) -> bool
+/// Takes the items that are there; answers whether the end is among them. `idle` counts the turns
+/// since an item was there.
+fn take_block<G: Gate>(
+    gate: &G,
+    receiver: &mut Receiver,
+    screen: &mut Screen,
+    idle: &mut u32,
+) -> bool
     requires open { has_end receiver.old.received ≡ false }
     requires shown { IsShowing screen.old (shown_in receiver.old.received) }
     ensures ring { receiver.new.ring ≡ receiver.old.ring }
@@ -113,8 +130,17 @@ fn take_block<G: Gate>(gate: &G, receiver: &mut Receiver, screen: &mut Screen) -
     ensures shown { IsShowing screen.new (shown_in receiver.new.received) }
 {
     let mut block = ArrayVec::<Item, BLOCK>::new();
-    if receiver.next_block(&mut block) == 0 {
-        thread::yield_now();
-    }
+    let count = receiver.next_block(&mut block);
+    *idle = if count == 0 { idle.saturating_add(1) } else { 0 };
     screen.show_all(gate, block.as_slice())
+}
+
+/// Waits before the next look into an empty ring: at first other threads go first, and after some
+/// turns the thread sleeps, since looking all the time would slow the machine's thread.
+fn pause<R: Wait>(rt: &R, idle: u32) {
+    if idle < PATIENCE {
+        thread::yield_now();
+    } else {
+        AtomicU64::new(0).park_timeout(rt, 0, Duration::from_micros(SLEEP));
+    }
 }

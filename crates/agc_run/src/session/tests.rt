@@ -101,7 +101,13 @@ fn stops(
 }
 
 /// The same for a refusal with its line.
-fn refuses(rt: &(impl AllocGlobal + Abort + Threads + Wait + Sync), line: &str, rope: &[u8], script: &[u8], err: &str) {
+fn refuses(
+    rt: &(impl AllocGlobal + Abort + Threads + Wait + Sync),
+    line: &str,
+    rope: &[u8],
+    script: &[u8],
+    err: &str,
+) {
     let err = format!(in rt.alloc(); "agc: {err}\n").expect(rt, "memory");
     ends(rt, line, rope, script, REFUSED, "", err.as_str());
 }
@@ -431,7 +437,12 @@ fn reading_limits(rt: HostRuntime) -> Result<(), Fail> {
 }
 
 /// Runs the relay word with `0 raise 1` from sources of few bytes a read that fail at a read each.
-fn reads_fail(rt: &(impl AllocGlobal + Abort + Threads + Wait + Sync), rope_at: u32, script_at: u32, told: &str) {
+fn reads_fail(
+    rt: &(impl AllocGlobal + Abort + Threads + Wait + Sync),
+    rope_at: u32,
+    script_at: u32,
+    told: &str,
+) {
     let options = options(rt, "--limit 2");
     let mut rope = Source::new(&RELAY_WORD, 4, rope_at);
     let mut script = Source::new(b"0 raise 1", 4, script_at);

@@ -4,8 +4,8 @@ use Rattle.agc_machine.specs.Run.{boundaries_left, next_of}
 use Rattle.agc_machine.proofs.engine.Engine.next_write.Given as goal
 
 -- the machine is sound, and its next write is the one that is sought
-abbrev pub invariant-loop-write : goal.invariant-loop-write
-invariant-loop-write l = IsSound l.self × (next_of (state_of l.self) ≡ next_of (state_of l.initial.self))
+abbrev pub invariant-loop-self : goal.invariant-loop-self
+invariant-loop-self l = IsSound l.self × (next_of (state_of l.self) ≡ next_of (state_of l.initial.self))
 
-abbrev pub decreases-loop-write : goal.decreases-loop-write
-decreases-loop-write l = boundaries_left (state_of l.self)
+abbrev pub decreases-loop-self : goal.decreases-loop-self
+decreases-loop-self l = boundaries_left (state_of l.self)
