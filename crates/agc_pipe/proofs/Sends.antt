@@ -1,5 +1,5 @@
 -- A run that is being sent: what was sent so far, and then the run from where the machine stands.
-use Rattle.std.proofs.Common.{◌≡◌, List, [], ◌∷◌, ◌++◌, refl, sym, ◌∙◌, ap, append_assoc, append-nil}
+use Rattle.std.proofs.Common.{◌≡◌, List, [], ◌∷◌, ◌++◌, sym, ◌∙◌, ap, append_assoc, append-nil}
 use Rattle.std.specs.Prelude.{map, Some}
 use Rattle.agc_machine.specs.declared.answer.ChannelWrite.{ChannelWrite}
 use Rattle.agc_machine.specs.declared.answer.Next.TheVariants as next
@@ -25,7 +25,7 @@ after_write whole sent s t write under e =
     let step = run_at_write s t write e in
     record {
       writes = under.writes ∙ ap (λ (run : Run). sent ++ written run.writes) step
-        ∙ sym (append_assoc sent (item.Write write ∷ []) (written (run_of t).writes));
+          ∙ sym (append_assoc sent (item.Write write ∷ []) (written (run_of t).writes));
       last = under.last ∙ ap (λ (run : Run). run.last) step;
     }
 

@@ -1,4 +1,5 @@
 //! The ring at work: slots, blocks, and what is left when both ends come together.
+mod gates;
 mod shown;
 
 ghost use Rattle.std.specs.Prelude.{◌≡◌};

@@ -1,4 +1,4 @@
-use Rattle.std.proofs.Common.{◌≡◌, ◌∷◌, ◌++◌, [], List, ap, sym, subst}
+use Rattle.std.proofs.Common.{◌∷◌, ◌++◌, [], List, ap, sym, subst}
 use Rattle.agc_machine.specs.Run.{run_of}
 use Rattle.agc_machine.proofs.Chain.{fewer_after_write}
 use Rattle.agc_pipe.specs.Ring.{Sending}
@@ -13,8 +13,7 @@ loop-write-smaller g c = fewer_after_write c.loop-write.machine c.next_write.new
 pub loop-write-preserved : goal.loop-write-preserved
 loop-write-preserved g c =
     let old : Sending = c.loop-write.outgoing in
-    let more = after_write (run_of c.args.machine) old.sent c.loop-write.machine c.next_write.new.self c.in-Wrote.write c.loop-write.invariant.0 c.in-Wrote.ensures.next in
-    (
+    let more = after_write (run_of c.args.machine) old.sent c.loop-write.machine c.next_write.new.self c.in-Wrote.write c.loop-write.invariant.0 c.in-Wrote.ensures.next in (
       subst (λ (sent : List Item). IsSending (run_of c.args.machine) sent (run_of c.next_write.new.self)) (sym (ap (λ (s : Sending). s.sent) c.put.ensures)) more,
       same_end old c.put.new.self c.args.sender (old.sent ++ item.Write c.in-Wrote.write ∷ []) c.put.ensures c.loop-write.invariant.1,
     )

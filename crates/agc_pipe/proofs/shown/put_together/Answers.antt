@@ -8,7 +8,7 @@ use Rattle.agc_pipe.proofs.shown.put_together.Goals as goal
 pub returns-clause-shown : goal.returns-clause-shown
 returns-clause-shown c run h =
     let all : shown_in c.args.taken.receiver.received ≡ run.writes =
-        whole_shown c.args.taken.receiver.received c.rejoin-rest.result run.writes c.requires.end (c.rejoin-rest.ensures ∙ h.0) in
+    whole_shown c.args.taken.receiver.received c.rejoin-rest.result run.writes c.requires.end (c.rejoin-rest.ensures ∙ h.0) in
     let kept = c.requires.shown c.if-refused.false in
     record {
       log = kept.0 ∙ all;
