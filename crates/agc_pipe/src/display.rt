@@ -131,7 +131,11 @@ fn take_block<G: Gate>(
 {
     let mut block = ArrayVec::<Item, BLOCK>::new();
     let count = receiver.next_block(&mut block);
-    *idle = if count == 0 { idle.saturating_add(1) } else { 0 };
+    *idle = if count == 0 {
+        idle.saturating_add(1)
+    } else {
+        0
+    };
     screen.show_all(gate, block.as_slice())
 }
 

@@ -17,6 +17,6 @@ pub use gate::{Gate, Open};
 pub use item::{BLOCK, Item};
 pub use receiver::Receiver;
 pub use rest::{Rest, rejoin};
-pub use ring::{LinkFault, link};
+pub use ring::{LinkFault, MOST_SLOTS, link};
 pub use sender::Sender;
 pub use shown::{ShowFault, Shown, run_shown};

@@ -10,11 +10,9 @@ use crate::refusal::Refusal;
 use crate::until::read_until;
 use agc_machine::{Machine, StopAddress};
 use agc_panel::WatchSpec;
+use agc_pipe::MOST_SLOTS;
 use agc_script::Script;
 use agc_store::Rope;
-
-/// The most places that the ring between machine and display may have.
-pub const MOST_SLOTS: usize = 65_536;
 
 /// A run that can begin.
 #[derive(Drop)]

@@ -8,6 +8,11 @@ use std::sync::Wait;
 use std::test::Fail;
 use std::thread::Threads;
 
+/// What runs the sessions of the tests.
+trait Host: AllocGlobal + Abort + Threads + Wait + Sync {}
+
+impl<H: AllocGlobal + Abort + Threads + Wait + Sync> Host for H {}
+
 /// TCF 4000.
 const IDLE: [u8; 2] = [0x30, 0x00];
 
@@ -43,7 +48,7 @@ LST2 8 00000 00000
 ";
 
 /// The options of a command line after `agc rope script`.
-fn options(rt: &(impl AllocGlobal + Abort + Threads + Wait + Sync), line: &str) -> Options {
+fn options(rt: &(impl AllocGlobal + Abort), line: &str) -> Options {
     let mut words = Vec::new(rt.alloc());
     for word in ["agc", "rope", "script"] {
         words.push(word).expect(rt, "memory");
@@ -58,7 +63,7 @@ fn options(rt: &(impl AllocGlobal + Abort + Threads + Wait + Sync), line: &str) 
 
 /// Runs a session over memory and looks at its status and at what it wrote.
 fn ends(
-    rt: &(impl AllocGlobal + Abort + Threads + Wait + Sync),
+    rt: &impl Host,
     line: &str,
     mut rope: &[u8],
     mut script: &[u8],
@@ -88,26 +93,13 @@ fn ends(
 }
 
 /// The same for a run that stops: PROG's digits, the stop's line after `STOP ` and what follows.
-fn stops(
-    rt: &(impl AllocGlobal + Abort + Threads + Wait + Sync),
-    line: &str,
-    rope: &[u8],
-    script: &[u8],
-    prog: &str,
-    after: &str,
-) {
+fn stops(rt: &impl Host, line: &str, rope: &[u8], script: &[u8], prog: &str, after: &str) {
     let out = format!(in rt.alloc(); "PROG {prog}\n{REST}STOP {after}").expect(rt, "memory");
     ends(rt, line, rope, script, DONE, out.as_str(), "");
 }
 
 /// The same for a refusal with its line.
-fn refuses(
-    rt: &(impl AllocGlobal + Abort + Threads + Wait + Sync),
-    line: &str,
-    rope: &[u8],
-    script: &[u8],
-    err: &str,
-) {
+fn refuses(rt: &impl Host, line: &str, rope: &[u8], script: &[u8], err: &str) {
     let err = format!(in rt.alloc(); "agc: {err}\n").expect(rt, "memory");
     ends(rt, line, rope, script, REFUSED, "", err.as_str());
 }
@@ -437,12 +429,7 @@ fn reading_limits(rt: HostRuntime) -> Result<(), Fail> {
 }
 
 /// Runs the relay word with `0 raise 1` from sources of few bytes a read that fail at a read each.
-fn reads_fail(
-    rt: &(impl AllocGlobal + Abort + Threads + Wait + Sync),
-    rope_at: u32,
-    script_at: u32,
-    told: &str,
-) {
+fn reads_fail(rt: &impl Host, rope_at: u32, script_at: u32, told: &str) {
     let options = options(rt, "--limit 2");
     let mut rope = Source::new(&RELAY_WORD, 4, rope_at);
     let mut script = Source::new(b"0 raise 1", 4, script_at);
@@ -476,7 +463,7 @@ fn one_read_fails(rt: HostRuntime) {
 }
 
 /// Writes to `out` of few bytes each that fail at a write; the status.
-fn output_fails(rt: &(impl AllocGlobal + Abort + Threads + Wait + Sync), at: u32) -> u8 {
+fn output_fails(rt: &impl Host, at: u32) -> u8 {
     let options = options(rt, "--limit 10 --log");
     let (mut rope, mut script): (&[u8], &[u8]) = (&RELAY_WORD, b"");
     let mut out = Sink::new(rt.alloc(), 5, at);

@@ -1,4 +1,4 @@
-use Rattle.std.proofs.Common.{◌∙◌, refl}
+use Rattle.std.proofs.Common.{◌∙◌}
 use Rattle.agc_machine.proofs.Chain.{fewer_after_quiet, next_after_quiet, next_at_write, next_at_stop}
 use Rattle.agc_machine.proofs.engine.Engine.next_write.Goals as goal
 
