@@ -1,5 +1,1 @@
-pub mod Args
-pub mod Text
-pub mod Until
-pub mod Refusal
-pub mod Session
+pub mod Ending
