@@ -2,22 +2,14 @@
 //! shows at the end.
 #![tactic(auto)]
 
-mod args;
-mod input;
-mod prepare;
-mod print;
-mod refusal;
-mod session;
 #[cfg(test)]
 mod streams;
-mod text;
-mod until;
+#[cfg(test)]
+mod tests;
 
+use agc_args::{ArgsFault, parse_args};
 use agc_pipe::Open;
-use args::{ArgsFault, Options, parse_args};
-use input::InputFile;
-use refusal::Refusal;
-use session::{DONE, REFUSED, session, status_of};
+use agc_session::{DONE, InputFile, Options, REFUSED, Refusal, session, status_of};
 use std::io::Write;
 use std::process::ExitCode;
 use std::rt::{Env, Files};

@@ -1,0 +1,6 @@
+//! The command line of `agc`: from its words to the options of a session.
+#![tactic(auto)]
+
+mod args;
+
+pub use args::{ArgsFault, DEFAULT_SLOTS, parse_args};

@@ -1,6 +1,0 @@
-pub mod Channels
-pub mod CommandLine
-pub mod Place
-pub mod Printed
-pub mod Refused
-pub mod Whole

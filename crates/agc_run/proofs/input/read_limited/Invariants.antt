@@ -1,6 +1,0 @@
-use Rattle.std.proofs.Common.{◌≤◌, vec_len}
-use Rattle.std.specs.Io.KnownBytes.{Consumes}
-use Rattle.agc_run.proofs.input.read_limited.Given as goal
-
-abbrev pub invariant-loop : goal.invariant-loop
-invariant-loop g l = Consumes (g.R.Read.remaining l.initial.reader) (g.R.Read.remaining l.reader) l.all.items × (vec_len l.all ≤ l.limit)

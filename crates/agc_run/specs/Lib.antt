@@ -1,5 +1,0 @@
-pub mod Args
-pub mod Text
-pub mod Until
-pub mod Refusal
-pub mod Session

@@ -1,0 +1,4 @@
+pub mod Text
+pub mod Until
+pub mod Refusal
+pub mod Session

@@ -1,0 +1,19 @@
+//! A session: two files and the options give the text of a run, or the line of a refusal.
+#![tactic(auto)]
+
+mod entry;
+mod input;
+mod options;
+mod prepare;
+mod print;
+mod refusal;
+mod text;
+mod until;
+
+pub use entry::{DONE, REFUSED, UNWRITTEN, session, status_of};
+pub use input::{InputFile, ROPE_BYTES, SCRIPT_BYTES, Unread, read_limited};
+pub use options::Options;
+pub use refusal::Refusal;
+
+#[cfg(test)]
+mod tests;

@@ -1,0 +1,59 @@
+//! A session of each kind over memory: a run that stops, and a refusal.
+use crate::{DONE, Options, REFUSED, session};
+use agc_pipe::Open;
+use agc_store::RopeForm;
+use std::process::Abort;
+use std::test::Fail;
+
+/// CA 4004, EXTEND, WRITE 10, TCF 4003, and the relay word of PROG 12.
+const RELAY_WORD: [u8; 10] = [0x70, 0x08, 0x00, 0x0C, 0x04, 0x10, 0x30, 0x06, 0xB0, 0xF2];
+
+/// The options of a run of ten cycles with its log.
+fn options(rt: &(impl AllocGlobal + Abort), slots: usize) -> Options {
+    let alloc = rt.alloc();
+    Options {
+        rope: String::from_str(alloc, "rope").expect(rt, "memory"),
+        script: String::from_str(alloc, "script").expect(rt, "memory"),
+        limit: 10,
+        slots,
+        watch: None,
+        log: true,
+        form: RopeForm::Classic,
+        until: None,
+    }
+}
+
+/// The relay word is shown, and a ring of no slots refused.
+#[test]
+fn relay_word_shows_prog(rt: HostRuntime) -> Result<(), Fail> {
+    let text = "PROG 12
+VERB __
+NOUN __
+R1 ______
+R2 ______
+R3 ______
+FLASH off
+LAMPS none
+STOP Limit CYCLE 10 WRITES 1
+3 010 54171
+";
+    for (slots, status, told, refused) in [(1, DONE, text, ""), (0, REFUSED, "", "agc: slots\n")] {
+        let (mut rope, mut script): (&[u8], &[u8]) = (&RELAY_WORD, b"");
+        let mut out = Vec::new(rt.alloc());
+        let mut err = Vec::new(rt.alloc());
+        let ended = session(
+            &rt,
+            rt.alloc(),
+            &options(&rt, slots),
+            &mut rope,
+            &mut script,
+            &Open,
+            &mut out,
+            &mut err,
+        );
+        assert_eq!(rt; ended, status);
+        assert!(rt; out.as_slice() == told.as_bytes());
+        assert!(rt; err.as_slice() == refused.as_bytes());
+    }
+    Ok(())
+}

@@ -1,0 +1,55 @@
+//! The lines that the program prints of its own: the stop and the log.
+ghost use Rattle.std.specs.Prelude.{◌≡◌, ◌++◌, ◌<◌, ◌^◌, All, OnOk, string_bytes};
+ghost use Rattle.agc_session.specs.Text.{stop_name, stop_line, log_line, log_text};
+
+use agc_machine::{ChannelWrite, Stop};
+use std::alloc::AllocError;
+
+/// The stop as the program names it.
+pub fn stop_name(stop: Stop) -> &'static str
+    ensures { result.now ≡ stop_name stop }
+{
+    match stop {
+        Stop::Limit => "Limit",
+        Stop::DivisionUndefined => "DivisionUndefined",
+        Stop::Edrupt => "Edrupt",
+        Stop::Reached => "Reached",
+    }
+}
+
+/// Adds the line that says why the run ended, at which machine cycle, and after how many channel
+/// writes.
+pub fn push_stop_line(
+    text: &mut String,
+    stop: Stop,
+    cycle: u64,
+    writes: usize,
+) -> Result<(), AllocError>
+    ensures { OnOk result (string_bytes text.new ≡ string_bytes text.old ++ stop_line stop cycle writes) }
+{
+    let name = stop_name(stop);
+    writeln!(text, "STOP {name} CYCLE {cycle} WRITES {writes}")
+}
+
+/// Adds the line of one channel write.
+pub fn push_log_line(text: &mut String, write: &ChannelWrite) -> Result<(), AllocError>
+    requires { write.now.channel < 2 ^ 9 }
+    ensures { OnOk result (string_bytes text.new ≡ string_bytes text.old ++ log_line write.now) }
+{
+    let cycle = write.cycle;
+    let channel = write.channel;
+    let value = write.value;
+    writeln!(text, "{cycle} {channel:03o} {value}")
+}
+
+/// Adds the lines of channel writes, in their order.
+#[tactic(auto, unfolding(crate::specs::Text::log_text))]
+pub fn push_log(text: &mut String, log: &[ChannelWrite]) -> Result<(), AllocError>
+    requires { All (λ write. write.channel < 2 ^ 9) log.now }
+    ensures { OnOk result (string_bytes text.new ≡ string_bytes text.old ++ log_text log.now) }
+{
+    for write in log {
+        push_log_line(text, write)?;
+    }
+    Ok(())
+}
