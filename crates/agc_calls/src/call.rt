@@ -14,10 +14,12 @@ pub enum Call {
     Watch,
     Link,
     RunShown,
+    ParseArgs,
+    Session,
 }
 
 /// All of them, in the order in which they are made.
-pub const CALLS: [Call; 10] = [
+pub const CALLS: [Call; 12] = [
     Call::RopeRead,
     Call::RopeReadAs,
     Call::ScriptParse,
@@ -28,6 +30,8 @@ pub const CALLS: [Call; 10] = [
     Call::Watch,
     Call::Link,
     Call::RunShown,
+    Call::ParseArgs,
+    Call::Session,
 ];
 
 impl Call {
@@ -44,6 +48,8 @@ impl Call {
             Call::Watch => "watch",
             Call::Link => "link",
             Call::RunShown => "run_shown",
+            Call::ParseArgs => "parse_args",
+            Call::Session => "session",
         }
     }
 

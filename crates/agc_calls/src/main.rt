@@ -7,6 +7,7 @@ mod call;
 mod files;
 mod report;
 mod runs;
+mod sessions;
 mod texts;
 
 use call::{CALLS, Call};
@@ -93,5 +94,7 @@ where
         Call::Watch => texts::watch_tables(alloc, out),
         Call::Link => runs::link_ends(alloc, out),
         Call::RunShown => runs::show_writes(rt, out),
+        Call::ParseArgs => sessions::parse_words(alloc, out),
+        Call::Session => sessions::run_session(rt, out),
     }
 }

@@ -38,6 +38,11 @@ pub fn answered<W: Write>(out: &mut W, known: bool) -> io::Result<Attempt> {
 /// Tells the fault of a refused call, and whether all that it was lent is as before.
 pub fn refused<W: Write>(out: &mut W, fault: &str, kept: bool) -> io::Result<Attempt> {
     tell(out, fault)?;
+    keeps(out, kept)
+}
+
+/// Tells whether all that a refused call was lent is as before.
+pub fn keeps<W: Write>(out: &mut W, kept: bool) -> io::Result<Attempt> {
     tell(out, if kept { "kept" } else { "changed" })?;
     Ok(Attempt::Refused)
 }
