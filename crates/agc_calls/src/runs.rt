@@ -15,7 +15,10 @@ use std::sync::atomic::{AtomicU64, Ordering};
 use std::thread::Threads;
 
 /// EXTEND, WRITE 10, TCF 4000: a write of +0 to channel 10 in four cycles.
-const WRITES: [u8; 6] = [0x00, 0x0C, 0x04, 0x10, 0x30, 0x00];
+const ROPE: [u8; 6] = [0x00, 0x0C, 0x04, 0x10, 0x30, 0x00];
+
+/// The writes of the run.
+const WRITES: u64 = 1000;
 
 /// The thousandth write begins at cycle 4014, and the run ends at 4018.
 const LIMIT: u64 = 4018;
@@ -30,15 +33,17 @@ pub fn link_ends<W: Write>(alloc: Global, out: &mut W) -> io::Result<Attempt> {
     }
 }
 
-/// The gate that keeps the number of the write that was received last.
+/// The gate that keeps the numbers of the writes that were sent and received last.
 #[derive(Drop)]
-struct Last {
+struct Counts {
+    sent: AtomicU64,
     received: AtomicU64,
 }
 
-impl Last {
-    const fn new() -> Last {
-        Last {
+impl Counts {
+    const fn new() -> Counts {
+        Counts {
+            sent: AtomicU64::new(0),
             received: AtomicU64::new(0),
         }
     }
@@ -46,10 +51,18 @@ impl Last {
     fn received(&self) -> u64 {
         self.received.load(Ordering::SeqCst)
     }
+
+    /// Whether all writes of a run that has so many at least were received.
+    fn is_whole(&self, least: u64) -> bool {
+        let received = self.received();
+        received >= least && received == self.sent.load(Ordering::SeqCst)
+    }
 }
 
-impl Gate for Last {
-    fn before_send(&self, _n: u64) {}
+impl Gate for Counts {
+    fn before_send(&self, n: u64) {
+        self.sent.store(n, Ordering::SeqCst);
+    }
 
     fn after_receive(&self, n: u64) {
         self.received.store(n, Ordering::SeqCst);
@@ -64,24 +77,29 @@ where
     let Some(machine) = writing_machine(rt.alloc()) else {
         return no_input(out);
     };
-    let gate = Last::new();
+    let gate = Counts::new();
     begin(out, Call::RunShown)?;
     match run_shown(rt, rt.alloc(), machine, 1, &gate) {
-        Ok(shown) => answered(out, is_thousand(&shown) && gate.received() == 1000),
-        Err(fault) => tell_fault(out, fault, gate.received()),
+        Ok(shown) => answered(out, is_thousand(&shown) && gate.is_whole(WRITES)),
+        Err(fault) => tell_fault(out, fault, &gate, WRITES),
     }
 }
 
-/// Tells the fault of a run, and how many of its writes were received.
-fn tell_fault<W: Write>(out: &mut W, fault: ShowFault, received: u64) -> io::Result<Attempt> {
-    tell(
-        out,
-        match received {
-            0 => "received none",
-            1000 => "received all",
-            _ => "received some",
-        },
-    )?;
+/// Tells the fault of a run of so many writes at least, and how many of them were received.
+fn tell_fault<W: Write>(
+    out: &mut W,
+    fault: ShowFault,
+    gate: &Counts,
+    least: u64,
+) -> io::Result<Attempt> {
+    let received = if gate.received() == 0 {
+        "received none"
+    } else if gate.is_whole(least) {
+        "received all"
+    } else {
+        "received some"
+    };
+    tell(out, received)?;
     match fault {
         ShowFault::Memory => refused(out, "Memory", true),
         ShowFault::Thread => refused(out, "Thread", true),
@@ -94,7 +112,7 @@ fn tell_fault<W: Write>(out: &mut W, fault: ShowFault, received: u64) -> io::Res
 fn writing_machine(alloc: Global) -> Option<Machine>
     ensures { IfSome result (λ machine. machine.begun ≡ false) }
 {
-    let rope = Rope::read(alloc, &WRITES).ok()?;
+    let rope = Rope::read(alloc, &ROPE).ok()?;
     Machine::new(rope, Script::empty(alloc), LIMIT).ok()
 }
 
