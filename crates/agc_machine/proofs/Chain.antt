@@ -121,7 +121,7 @@ step_same go stay s (t, stepped.Quiet) h f = f t h.0
 step_same go stay s (t, stepped.Wrote write) h f = refl
 step_same go stay s (t, stepped.Stopped why) h f = refl
 
-some_left : (s : State) → 1 ≤ boundaries_left s
+pub some_left : (s : State) → 1 ≤ boundaries_left s
 unfolding boundaries_left
 some_left s = omega arith
 

@@ -14,7 +14,7 @@ use Rattle.agc_machine.specs.declared.answer.Stop.{Stop}
 use Rattle.agc_processor.specs.declared.processor.Processor.{Processor}
 use Rattle.agc_processor.specs.declared.processor.Ran.{Ran}
 use Rattle.agc_processor.specs.declared.processor.Ran.TheVariants as ran
-use Rattle.agc_machine.specs.Boundary.{boundary, by_limit, by_event, by_timer, by_interrupt, by_address, by_order, ran_order, timer_or_on, interrupt_or_on, is_reached, stops, passes, unless_stopped, IsBefore, WantsKey}
+use Rattle.agc_machine.specs.Boundary.{boundary, by_limit, by_event, by_timer, by_interrupt, by_address, by_order, ran_order, timer_or_on, interrupt_or_on, event_or_on, is_reached, stops, passes, unless_stopped, IsBefore, WantsKey}
 use Rattle.agc_processor.specs.Effect.{order_effect}
 use Rattle.agc_machine.specs.Happening.{happened, cycles_of}
 use Rattle.agc_processor.specs.Interrupt.{interrupt_taken}
@@ -77,7 +77,7 @@ by_timer_framed events limit s = timer_framed (timer_stepped s.cycle s.processor
 timer_keeps_events : (s : State) → (by_timer s).0.events ≡ s.events
 timer_keeps_events s = ap (λ (r : State × Stepped). r.0.events) (by_timer_framed s.events s.limit s)
 
-timer_keeps_limit : (s : State) → (by_timer s).0.limit ≡ s.limit
+pub timer_keeps_limit : (s : State) → (by_timer s).0.limit ≡ s.limit
 timer_keeps_limit s = ap (λ (r : State × Stepped). r.0.limit) (by_timer_framed s.events s.limit s)
 
 -- an answer of a state with a tape among its events
@@ -85,7 +85,7 @@ abbrev taped : List (ℕ × Key) → State × Stepped → State × Stepped
 taped tape r = (with_tape tape r.0, r.1)
 
 -- a tape's first key is not before a cycle
-abbrev IsFrom : ℕ → List (ℕ × Key) → Type 0
+abbrev pub IsFrom : ℕ → List (ℕ × Key) → Type 0
 IsFrom cycle [] = Unit {0}
 IsFrom cycle (entry ∷ tape) = cycle ≤ entry.0
 
@@ -94,9 +94,9 @@ from_later cycle later [] l h = tt
 from_later cycle later (entry ∷ tape) l h = omega arith
 
 -- the tape of what comes after a boundary: it begins no earlier than the state after, and is empty after a stop
-record Follows (r : State × Stepped) (tape : List (ℕ × Key)) : Type 0 where
-  from : IsFrom r.0.cycle tape
-  none : (why : Stop) → r.0.stopped ≡ Some why → tape ≡ []
+pub record Follows (r : State × Stepped) (tape : List (ℕ × Key)) : Type 0 where
+  pub from : IsFrom r.0.cycle tape
+  pub none : (why : Stop) → r.0.stopped ≡ Some why → tape ≡ []
 
 -- a boundary that takes no event takes time, so that the next key comes after its cycle
 later_tape : (s : State) (r : State × Stepped) (tape : List (ℕ × Key)) → r.0.events ≡ s.events → r.0.limit ≡ s.limit → Falls s r →
@@ -197,7 +197,7 @@ stopped_taped (Some why) s tape f = refl
 stopped_taped None s tape f = by_limit_taped (record s { begun = true }) tape f
 
 -- a boundary without a live key, with the tape of what comes after it among the events
-none_taped : (s : State) (tape : List (ℕ × Key)) → Follows (boundary None s) tape → boundary None (with_tape tape s) ≡ taped tape (boundary None s)
+pub none_taped : (s : State) (tape : List (ℕ × Key)) → Follows (boundary None s) tape → boundary None (with_tape tape s) ≡ taped tape (boundary None s)
 unfolding boundary
 none_taped s tape f = stopped_taped s.stopped s tape f
 
@@ -208,13 +208,13 @@ event_boundary s event rest n l e d =
     ap (λ (o : Option Stop). unless_stopped o s) n ∙ past_limit (record s { begun = true }) l
     ∙ event_taken (record s { begun = true }) event rest e d
 
-key_first : (events : List Event) (entry : ℕ × Key) (tape : List (ℕ × Key)) → IsBefore entry.0 events →
+pub key_first : (events : List Event) (entry : ℕ × Key) (tape : List (ℕ × Key)) → IsBefore entry.0 events →
     merged events (entry ∷ tape) ≡ key_event entry ∷ merged events tape
 key_first [] entry tape b = merged_keys_last entry tape
 key_first (event ∷ events) entry tape b = merged_key_first event events entry tape b
 
 -- a boundary with a live key is one without, where the tape begins with that key
-key_taped : (s : State) (key : Key) (tape : List (ℕ × Key)) → WantsKey s →
+pub key_taped : (s : State) (key : Key) (tape : List (ℕ × Key)) → WantsKey s →
     boundary None (with_tape ((s.cycle, key) ∷ tape) s) ≡ taped tape (boundary (Some key) s)
 unfolding boundary
 key_taped s key tape w =
@@ -244,7 +244,7 @@ no_tape (Some key ∷ lives) s why w e = let runs : s.stopped ≡ None = w.0.run
 no_tape (None ∷ lives) s why w e =
     no_tape lives (boundary None s).0 why w (ap (λ (r : State × Stepped). r.0.stopped) (stopped_stays s why e) ∙ e)
 
-tape_follows : (lives : List (Option Key)) (r : State × Stepped) → AreWanted lives r.0 → Follows r (tape_of lives r.0)
+pub tape_follows : (lives : List (Option Key)) (r : State × Stepped) → AreWanted lives r.0 → Follows r (tape_of lives r.0)
 tape_follows lives r w = record { from = tape_from lives r.0; none = λ why e. no_tape lives r.0 why w e }
 
 -- the chain after a boundary
@@ -324,3 +324,41 @@ comes_shown s (t, next.Stopped why) c = tt
 -- and so does the next write
 pub next_shows : (s : State) (r : State × Next) → r ≡ next_of s → HasNextChannel r.1
 next_shows s r e = subst (λ (x : State × Next). HasNextChannel x.1) (sym e) (comes_shown s (next_of s) (next_comes s))
+
+-- a boundary with a wanted key leaves the events as they were, and answers nothing
+key_happens : (s : State) (key : Key) → WantsKey s →
+    boundary (Some key) s ≡ after_event (record (with_key (Some key) s) { begun = true }) (key_event (s.cycle, key)) s.events
+unfolding boundary
+key_happens s key w = event_boundary (with_key (Some key) s) (key_event (s.cycle, key)) s.events w.runs w.below refl (omega arith)
+
+pub key_keeps_events : (s : State) (key : Key) → WantsKey s → (boundary (Some key) s).0.events ≡ s.events
+key_keeps_events s key w = ap (λ (r : State × Stepped). r.0.events) (key_happens s key w)
+
+pub key_is_quiet : (s : State) (key : Key) → WantsKey s → (boundary (Some key) s).1 ≡ stepped.Quiet
+key_is_quiet s key w = ap (λ (r : State × Stepped). r.1) (key_happens s key w)
+
+either_keeps_limit : (b : Bool) (limit : ℕ) (x y : State × Stepped) → x.0.limit ≡ limit → y.0.limit ≡ limit → (if b then x else y).0.limit ≡ limit
+either_keeps_limit true limit x y h k = h
+either_keeps_limit false limit x y h k = k
+
+event_keeps_limit : (events : List Event) (s : State) → (event_or_on events s).0.limit ≡ s.limit
+event_keeps_limit [] s = timer_keeps_limit s
+event_keeps_limit (event ∷ rest) s = either_keeps_limit (nat_le event.cycle s.cycle) s.limit _ (by_timer s) refl (timer_keeps_limit s)
+
+by_event_keeps_limit : (s : State) → (by_event s).0.limit ≡ s.limit
+unfolding by_event
+by_event_keeps_limit s = event_keeps_limit s.events s
+
+by_limit_keeps_limit : (s : State) → (by_limit s).0.limit ≡ s.limit
+unfolding by_limit
+by_limit_keeps_limit s = either_keeps_limit (nat_le s.limit s.cycle) s.limit _ (by_event s) refl (by_event_keeps_limit s)
+
+stopped_keeps_limit : (stopped : Option Stop) (s : State) → (unless_stopped stopped s).0.limit ≡ s.limit
+stopped_keeps_limit (Some why) s = refl
+stopped_keeps_limit None s = by_limit_keeps_limit (record s { begun = true })
+
+-- no boundary changes the limit
+pub boundary_keeps_limit : (live : Option Key) (s : State) → (boundary live s).0.limit ≡ s.limit
+unfolding boundary
+boundary_keeps_limit None s = stopped_keeps_limit s.stopped s
+boundary_keeps_limit (Some key) s = stopped_keeps_limit s.stopped (with_key (Some key) s)

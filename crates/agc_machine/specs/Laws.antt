@@ -35,6 +35,12 @@ abbrev pub HasNextChannel : Next → Type 0
 HasNextChannel (next.Wrote write) = (5 ≤ write.channel) × (write.channel ≤ 0o777)
 HasNextChannel (next.Stopped why) = Unit {0}
 
+-- a stop that is answered is kept
+abbrev pub KeepsStop : State × Stepped → Type 0
+KeepsStop (t, stepped.Stopped why) = t.stopped ≡ Some why
+KeepsStop (t, stepped.Quiet) = Unit {0}
+KeepsStop (t, stepped.Wrote write) = Unit {0}
+
 -- the writes from a cycle on: each later than the one before, and each to a channel from 5 to 777 octal
 abbrev pub AreRising : ℕ → List ChannelWrite → Type 0
 AreRising from [] = Unit {0}

@@ -6,3 +6,5 @@ pub mod Quiet
 pub mod Engine
 pub mod Laws
 pub mod Replay
+pub mod Taken
+pub mod Live

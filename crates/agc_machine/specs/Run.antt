@@ -1,5 +1,5 @@
 -- Whole runs: the chain of boundaries without live keys, up to the next channel write, and up to the stop.
-use Rattle.std.specs.Prelude.{ℕ, zero, suc, ◌+◌, ◌-◌, List, [], ◌∷◌, length, None}
+use Rattle.std.specs.Prelude.{ℕ, zero, suc, ◌+◌, ◌-◌, List, [], ◌∷◌, length, None, nat_le, if◌then◌else◌}
 use Rattle.agc_machine.specs.declared.answer.ChannelWrite.{ChannelWrite}
 use Rattle.agc_machine.specs.declared.answer.Next.{Next}
 use Rattle.agc_machine.specs.declared.answer.Next.TheVariants as next
@@ -27,6 +27,21 @@ next_within (suc more) s = unless_quiet (next_within more) (boundary None s)
 -- the next channel write, or the stop where none comes before it, and the state just after
 unfoldable pub next_of : State → State × Next
 next_of s = next_within (boundaries_left s) s
+
+-- the chain goes on after a quiet boundary that is not yet at a cycle
+abbrev pub unless_quiet_before : ℕ → (State → State × Stepped) → State × Stepped → State × Stepped
+unless_quiet_before cycle go_on (s, stepped.Quiet) = if nat_le cycle s.cycle then (s, stepped.Quiet) else go_on s
+unless_quiet_before cycle go_on (s, stepped.Wrote write) = (s, stepped.Wrote write)
+unless_quiet_before cycle go_on (s, stepped.Stopped why) = (s, stepped.Stopped why)
+
+-- the first write, stop or boundary that ends at a cycle or later, within so many boundaries, of which there are enough
+unfoldable pub next_before_within : ℕ → ℕ → State → State × Stepped
+next_before_within zero cycle s = (s, stepped.Quiet)
+next_before_within (suc more) cycle s = unless_quiet_before cycle (next_before_within more cycle) (boundary None s)
+
+-- the next channel write or stop, or the first quiet boundary that ends at a cycle or later where neither comes before it
+unfoldable pub next_before : ℕ → State → State × Stepped
+next_before cycle s = next_before_within (boundaries_left s) cycle s
 
 -- A run up to its stop: its channel writes in order, and its last state.
 pub record Run : Type 0 where

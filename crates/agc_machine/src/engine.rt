@@ -30,7 +30,7 @@ impl Engine {
     ghost use Rattle.agc_machine.specs.Engine.{state_of, IsSound, IsRunning};
     ghost use Rattle.agc_machine.specs.Quiet.{IsQuiet};
     ghost use Rattle.agc_machine.specs.State.{start_state};
-    ghost use Rattle.agc_machine.specs.Run.{next_of};
+    ghost use Rattle.agc_machine.specs.Run.{next_before, next_of};
     ghost use Rattle.agc_machine.specs.Boundary.{boundary, WantsKey, IsBefore, by_event, by_timer, by_interrupt, by_address, by_order, stops, is_reached, bank_agrees};
 
     /// The state at the start of a run.
@@ -74,6 +74,37 @@ impl Engine {
                     Stepped::Quiet => {}
                     Stepped::Wrote(write) => return Next::Wrote(write),
                     Stepped::Stopped(why) => return Next::Stopped(why),
+                }
+            }
+        }
+    }
+
+    /// The same, but no further than to the first quiet boundary that ends at a cycle or later.
+    pub(crate) fn next_write_before(&mut self, cycle: u64) -> Stepped
+        requires sound { IsSound self.old }
+        ensures next { (state_of self.new, result) ≡ next_before cycle (state_of self.old) }
+        ensures sound { IsSound self.new }
+    {
+        loop {
+            if self.cycle < self.quiet_until {
+                match self.step_quickly() {
+                    Stepped::Quiet => {
+                        if cycle <= self.cycle {
+                            return Stepped::Quiet;
+                        }
+                    }
+                    Stepped::Wrote(write) => return Stepped::Wrote(write),
+                    Stepped::Stopped(why) => return Stepped::Stopped(why),
+                }
+            } else {
+                match self.step_slowly(None) {
+                    Stepped::Quiet => {
+                        if cycle <= self.cycle {
+                            return Stepped::Quiet;
+                        }
+                    }
+                    Stepped::Wrote(write) => return Stepped::Wrote(write),
+                    Stepped::Stopped(why) => return Stepped::Stopped(why),
                 }
             }
         }

@@ -58,7 +58,7 @@ impl Machine {
     ghost use Rattle.std.specs.Prelude.{◌≡◌, ◌<◌, ◌≤◌, ◌↔◌, IsTrue, IsSome, IfOk, IfErr, IsOk, None, Some, not, true, false};
     ghost use Rattle.agc_machine.specs.State.{start_state};
     ghost use Rattle.agc_machine.specs.Boundary.{boundary, WantsKey};
-    ghost use Rattle.agc_machine.specs.Run.{next_of};
+    ghost use Rattle.agc_machine.specs.Run.{next_before, next_of};
     ghost use Rattle.agc_machine.specs.Laws.{HasChannel, HasNextChannel};
     ghost use Rattle.agc_processor.specs.Channel.{channel_word};
     ghost use Rattle.agc_word.specs.Arithmetic.{narrow_of};
@@ -118,10 +118,20 @@ impl Machine {
         self.engine.next_write()
     }
 
+    /// Goes on as `next_write` does, but no further than to the first quiet boundary that ends at a
+    /// cycle or later; answers `Quiet` there. At least one boundary is taken.
+    pub fn next_write_before(&mut self, cycle: u64) -> Stepped
+        ensures next { (self.new, result) ≡ next_before cycle self.old }
+        ensures channel { HasChannel result }
+    {
+        self.engine.next_write_before(cycle)
+    }
+
     /// A live key may be given now: the machine has not stopped, its cycle is below the limit, and
     /// no event of the script is due.
     pub fn wants_key(&self) -> bool
-        ensures { IsTrue result ↔ WantsKey self.now }
+        ensures wants { IsTrue result ↔ WantsKey self.now }
+        ensures limit { self.now.limit ≤ 1000000000000 }
     {
         self.engine.wants_key()
     }

@@ -1,3 +1,5 @@
 mod Ends
 mod Sends
 mod Takes
+mod Taking
+mod Lives

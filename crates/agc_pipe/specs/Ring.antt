@@ -6,11 +6,12 @@ use Rattle.agc_pipe.specs.declared.item.Item.{Item}
 use Rattle.agc_pipe.specs.declared.item.Outside.{Outside}
 
 -- A ring, as both its ends name it: what either end holds of its own is left out.
+abbrev pub ring_of : {T A P : Type 0} → End T A P → End T A P
+ring_of end = record end { role = 0; past = []; ahead = []; limit = 0 }
+
+-- the ring of a run's items
 abbrev pub Ring : Type 0
 Ring = End Item Global Outside
-
-abbrev pub ring_of : End Item Global Outside → Ring
-ring_of end = record end { role = 0; past = []; ahead = []; limit = 0 }
 
 -- The end that sends: its ring, how many items that holds at most, and every item that was sent, oldest first.
 pub record Sending : Type 0 where

@@ -5,6 +5,7 @@ ghost use Rattle.agc_pipe.specs.Shown.{has_end, shown_in};
 
 use crate::gate::Gate;
 use crate::item::{BLOCK, Item};
+use crate::keys::Feed;
 use crate::receiver::Receiver;
 use agc_machine::ChannelWrite;
 use agc_panel::Panel;
@@ -89,15 +90,17 @@ pub(crate) struct Taken {
     pub(crate) screen: Screen,
 }
 
-/// Takes items until the end.
+/// Takes items until the end. Each time before it looks for items, it offers what is to be fed.
 #[tactic(auto, unfolding(crate::specs::Shown::has_end, crate::specs::Shown::shown_in))]
-pub(crate) fn take_all<R: Wait, G: Gate>(
+pub(crate) fn take_all<R: Wait, G: Gate, F: Feed>(
     rt: &R,
     alloc: Global,
     gate: &G,
     mut receiver: Receiver,
+    feed: &mut F,
 ) -> Taken
     requires { receiver.received ≡ [] }
+    ensures feed { feed.new ≡ feed.old }
     ensures ring { result.receiver.ring ≡ receiver.ring }
     ensures end { has_end result.receiver.received ≡ true }
     ensures shown { IsShowing result.screen (shown_in result.receiver.received) }
@@ -105,6 +108,7 @@ pub(crate) fn take_all<R: Wait, G: Gate>(
     let mut screen = Screen::new(alloc);
     let mut idle = 0;
     for _ in rt.forever() {
+        feed.offer(gate);
         if take_block(gate, &mut receiver, &mut screen, &mut idle) {
             return Taken { receiver, screen };
         }

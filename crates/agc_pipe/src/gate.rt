@@ -1,12 +1,16 @@
 //! The gate: where others may follow, or hold up, the two threads.
 
-/// What is called as writes go through the ring. Both threads share it. Writes are counted from 1.
+/// What is called as writes and keys go through their rings. Both threads share it. Writes and keys
+/// are counted from 1.
 pub trait Gate {
     /// Called by the machine's thread just before it first tries to send a block with this write.
     fn before_send(&self, n: u64);
 
     /// Called by the display's thread when it has taken this write.
     fn after_receive(&self, n: u64);
+
+    /// Called by the display's thread when it has put this live key into the key ring.
+    fn key_sent(&self, _n: u64) {}
 }
 
 /// The gate that does nothing.

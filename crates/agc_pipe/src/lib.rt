@@ -4,6 +4,9 @@
 mod display;
 mod gate;
 mod item;
+mod keys;
+mod live;
+mod live_sending;
 mod receiver;
 mod rest;
 mod ring;
@@ -15,6 +18,7 @@ mod tests;
 
 pub use gate::{Gate, Open};
 pub use item::{BLOCK, Item};
+pub use live::{Live, run_live};
 pub use receiver::Receiver;
 pub use rest::{Rest, rejoin};
 pub use ring::{LinkFault, MOST_SLOTS, link};

@@ -1,12 +1,14 @@
 //! A run shown: the machine on a thread of its own, the display on the caller's, a ring between.
-ghost use Rattle.std.specs.Prelude.{◌≡◌, ◌≢◌, ◌<◌, ◌⊎◌, ◌↔◌, [], true, false, IfOk, IsErrOf, Some, Err};
+ghost use Rattle.std.specs.Prelude.{◌≡◌, ◌≢◌, ◌<◌, ◌⊎◌, ◌↔◌, [], true, false, IfOk, IfErr, IsErrOf, Some, Err};
 ghost use Rattle.agc_machine.specs.Run.{Run, run_of};
+ghost use Rattle.agc_panel.specs.Face.{panel_of};
 ghost use Rattle.agc_pipe.specs.Screen.{IsShowing};
 ghost use Rattle.agc_pipe.specs.Shown.{IsSentRun, ShowsRun, has_end, items_of, shown_in};
 ghost use Rattle.agc_pipe.specs.declared.shown.ShowFault.TheVariants as fault;
 
 use crate::display::{Screen, Taken, take_all};
 use crate::gate::Gate;
+use crate::keys::NoKeys;
 use crate::receiver::Receiver;
 use crate::rest::rejoin;
 use crate::ring::{LinkFault, link};
@@ -41,6 +43,8 @@ pub struct Shown {
 pub enum ShowFault {
     #[error("the ring's slots are not 1 to 65536")]
     Slots,
+    #[error("live keys are no cycles apart")]
+    Spacing,
     #[error("out of memory")]
     Memory,
     #[error("the machine's thread could not be started")]
@@ -72,15 +76,33 @@ pub fn run_shown<R: Threads + Wait + Sync, G: Gate + Sync>(
     gate: &G,
 ) -> Result<Shown, ShowFault>
     requires { machine.begun ≡ false }
-    ensures shown { IfOk result (ShowsRun (run_of machine)) }
+    ensures log { IfOk result (λ shown. shown.log.items ≡ (run_of machine).writes) }
+    ensures panel { IfOk result (λ shown. shown.panel ≡ panel_of (run_of machine).writes) }
+    ensures store { IfOk result (λ shown. shown.store ≡ (run_of machine).last.processor.store) }
+    ensures stop { IfOk result (λ shown. (run_of machine).last.stopped ≡ Some shown.stop) }
+    ensures cycle { IfOk result (λ shown. shown.cycle ≡ (run_of machine).last.cycle) }
     ensures slots { IsErrOf result fault.Slots ↔ ((slots ≡ 0) ⊎ (65536 < slots)) }
+    ensures spacing { result ≢ Err fault.Spacing }
 {
-    let (sender, receiver) = match link(alloc, slots) {
-        Ok(ends) => ends,
-        Err(LinkFault::Memory) => return Err(ShowFault::Memory),
-        Err(_) => return Err(ShowFault::Slots),
-    };
-    show_between(rt, alloc, machine, gate, sender, receiver)
+    match link_shown(alloc, slots) {
+        Ok((sender, receiver)) => show_between(rt, alloc, machine, gate, sender, receiver),
+        Err(why) => Err(why),
+    }
+}
+
+/// The two ends of a new ring for a run to be shown.
+pub(crate) fn link_shown(alloc: Global, slots: usize) -> Result<(Sender, Receiver), ShowFault>
+    ensures ring { IfOk result (λ ends. ends.0.ring ≡ ends.1.ring) }
+    ensures sent { IfOk result (λ ends. ends.0.sent ≡ []) }
+    ensures received { IfOk result (λ ends. ends.1.received ≡ []) }
+    ensures slots { IsErrOf result fault.Slots ↔ ((slots ≡ 0) ⊎ (65536 < slots)) }
+    ensures fault { IfErr result (λ why. (why ≡ fault.Slots) ⊎ (why ≡ fault.Memory)) }
+{
+    match link(alloc, slots) {
+        Ok(ends) => Ok(ends),
+        Err(LinkFault::Memory) => Err(ShowFault::Memory),
+        Err(LinkFault::NoSlots | LinkFault::TooManySlots) => Err(ShowFault::Slots),
+    }
 }
 
 /// Runs the machine into one end of a new ring, and shows what comes out at the other.
@@ -96,7 +118,7 @@ fn show_between<R: Threads + Wait + Sync, G: Gate + Sync>(
     requires sent { sender.sent ≡ [] }
     requires received { receiver.received ≡ [] }
     ensures shown { IfOk result (ShowsRun (run_of machine)) }
-    ensures slots { result ≢ Err fault.Slots }
+    ensures fault { IfErr result (λ why. (why ≡ fault.Memory) ⊎ (why ≡ fault.Thread)) }
 {
     let promise = SendsRun {
         machine: Snapshot::of(&machine),
@@ -108,7 +130,7 @@ fn show_between<R: Threads + Wait + Sync, G: Gate + Sync>(
         |scope| -> Result<Shown, ShowFault>
             requires { (sender.ring ≡ receiver.ring) × (sender.sent ≡ []) × (receiver.received ≡ []) × (promise.machine.value ≡ machine) × (promise.sender.value ≡ sender) }
             ensures shown { IfOk result (ShowsRun (run_of machine)) }
-            ensures slots { result ≢ Err fault.Slots }
+            ensures fault { IfErr result (λ why. (why ≡ fault.Memory) ⊎ (why ≡ fault.Thread)) }
         {
             let Ok(child) = scope.spawn_with(
                 promise,
@@ -119,20 +141,20 @@ fn show_between<R: Threads + Wait + Sync, G: Gate + Sync>(
             ) else {
                 return Err(ShowFault::Thread);
             };
-            let taken = take_all(rt, alloc, gate, receiver);
+            let taken = take_all(rt, alloc, gate, receiver, &mut NoKeys);
             put_together(child.join(rt), taken)
         },
     )
 }
 
 /// Puts together what both threads hand on.
-fn put_together(sent: Sent, taken: Taken) -> Result<Shown, ShowFault>
+pub(crate) fn put_together(sent: Sent, taken: Taken) -> Result<Shown, ShowFault>
     requires ring { sent.sender.ring ≡ taken.receiver.ring }
     requires end { has_end taken.receiver.received ≡ true }
     requires shown { IsShowing taken.screen (shown_in taken.receiver.received) }
     ensures shown { (run : Run) → (sent.sender.sent ≡ items_of run.writes) × (sent.machine ≡ run.last) × (run.last.stopped ≡ Some sent.stop)
         → IfOk result (ShowsRun run) }
-    ensures slots { result ≢ Err fault.Slots }
+    ensures fault { IfErr result (λ why. why ≡ fault.Memory) }
 {
     let Sent {
         sender,

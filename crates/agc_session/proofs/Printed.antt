@@ -10,7 +10,8 @@ use Rattle.agc_machine.specs.State.{State, start_state}
 use Rattle.agc_panel.specs.Text.{panel_text}
 use Rattle.agc_panel.specs.WatchSpec.{spec_of}
 use Rattle.agc_pipe.specs.Shown.{ShowsRun}
-use Rattle.agc_session.specs.Session.{session_text, events_in, run_text, run_asked, log_asked, watcher_text, said_by}
+use Rattle.agc_session.specs.Given.{files_of, events_in, said_by}
+use Rattle.agc_session.specs.Session.{session_text, run_text, machine_asked, machine_of, log_asked, watcher_text}
 use Rattle.agc_session.specs.Text.{stop_line}
 use Rattle.agc_session.specs.Until.{until_place}
 use Rattle.agc_session.specs.declared.options.Options.{Options}
@@ -24,18 +25,12 @@ text_shown options run shown shows =
     let count : vec_len shown.log ≡ length run.writes = shown.log.ok.0 ∙ ap length shows.log in
     rw (count, shows.log, shows.panel, shows.store, shows.cycle, shows.stop) refl
 
--- the machine that was made runs what was asked for
-pub text_asked : (options : Options) (words : List Number) (events : List Event) (machine : State) →
-    machine ≡ start_state words events options.limit (said_by until_place options.until) →
-    run_text options (run_of machine) ≡ run_text options (run_asked options words events)
-unfolding run_asked
-text_asked options words events machine is = ap (λ (s : State). run_text options (run_of s)) is
-
 -- the text of both files, where the readers tell their bytes
-pub text_known : (options : Options) (rope script : Option (List ℕ)) (words : List Number) (events : List Event) (text : List ℕ)
-    → IfSome rope (λ bytes. words ≡ rope_words options.form bytes) → IfSome script (λ bytes. events ≡ events_in (script_of bytes))
-    → text ≡ run_text options (run_asked options words events) → IfSome rope (λ a. IfSome script (λ b. text ≡ session_text options a b))
-unfolding session_text
-text_known options None script words events text k l h = tt
-text_known options (Some a) None words events text k l h = tt
-text_known options (Some a) (Some b) words events text k l h = rw (← k, ← l) h
+pub text_known : (options : Options) (rope script : Option (List ℕ)) (words : List Number) (events : List Event) (machine : State) (text : List ℕ)
+    → IfSome rope (λ file. words ≡ rope_words options.form file) → IfSome script (λ file. events ≡ events_in (script_of file))
+    → machine ≡ start_state words events options.limit (said_by until_place options.until) → text ≡ run_text options (run_of machine)
+    → IfSome (files_of rope script) (λ files. text ≡ session_text options files)
+unfolding session_text machine_of machine_asked
+text_known options None script words events machine text k l m h = tt
+text_known options (Some a) None words events machine text k l m h = tt
+text_known options (Some a) (Some b) words events machine text k l m h = rw (← k, ← l, ← m) h

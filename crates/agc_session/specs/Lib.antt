@@ -1,4 +1,7 @@
-pub mod Text
-pub mod Until
+pub mod Given
+pub mod Input
 pub mod Refusal
 pub mod Session
+pub mod Steps
+pub mod Text
+pub mod Until

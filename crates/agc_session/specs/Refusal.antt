@@ -9,6 +9,8 @@ use Rattle.agc_machine.specs.declared.machine.LimitFault.{LimitFault}
 use Rattle.agc_machine.specs.declared.machine.LimitFault.TheVariants as limit
 use Rattle.agc_panel.specs.declared.watch_spec.WatchFault.{WatchFault}
 use Rattle.agc_panel.specs.declared.watch_spec.WatchFault.TheVariants as watch
+use Rattle.agc_pipe.specs.declared.shown.ShowFault.{ShowFault}
+use Rattle.agc_pipe.specs.declared.shown.ShowFault.TheVariants as show
 use Rattle.agc_session.specs.declared.refusal.Refusal.{Refusal}
 use Rattle.agc_session.specs.declared.refusal.Refusal.TheVariants as refusal
 
@@ -39,11 +41,17 @@ watch_fault_name (watch.OutOfErasable table) = codes "OutOfErasable"
 watch_fault_name watch.TooManySets = codes "TooManySets"
 watch_fault_name watch.Memory = codes "Memory"
 
+-- the refusal where a run was not shown
+abbrev pub show_refusal : ShowFault → Refusal
+show_refusal show.Slots = refusal.Slots
+show_refusal show.Memory = refusal.Memory
+show_refusal show.Thread = refusal.Thread
+
 -- what a refusal says: a fault by its name alone
 abbrev pub refusal_text : Refusal → List ℕ
-refusal_text refusal.CannotReadRope = codes "cannot read rope"
+refusal_text (refusal.CannotReadRope why) = codes "cannot read rope"
 refusal_text (refusal.Rope fault) = codes "rope: " ++ rope_fault_name fault
-refusal_text refusal.CannotReadScript = codes "cannot read script"
+refusal_text (refusal.CannotReadScript why) = codes "cannot read script"
 refusal_text (refusal.Script fault) = codes "script line " ++ decimal fault.line ++ codes ": " ++ script_fault_name fault.kind
 refusal_text (refusal.Limit fault) = codes "limit: " ++ limit_fault_name fault
 refusal_text refusal.BadWatchSpec = codes "watch: BadSpec"

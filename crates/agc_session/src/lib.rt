@@ -2,16 +2,18 @@
 #![tactic(auto)]
 
 mod entry;
+mod files;
 mod input;
 mod options;
 mod prepare;
 mod print;
 mod refusal;
+mod run;
 mod text;
 mod until;
 
 pub use entry::{DONE, REFUSED, UNWRITTEN, session, status_of};
-pub use input::{InputFile, ROPE_BYTES, SCRIPT_BYTES, Unread, read_limited};
+pub use input::{InputFile, ROPE_BYTES, ReadFault, SCRIPT_BYTES, Unread, read_limited};
 pub use options::Options;
 pub use refusal::Refusal;
 

@@ -1,8 +1,9 @@
 //! Before the run: the options are looked at, one after another, and the machine is made.
-ghost use Rattle.std.specs.Prelude.{◌≡◌, false, true, IfOk, OnOk, MatchResult, None, Some};
+ghost use Rattle.std.specs.Prelude.{◌≡◌, false, IfOk, OnOk, MatchResult, None, Some};
 ghost use Rattle.agc_machine.specs.State.{start_state};
 ghost use Rattle.agc_panel.specs.WatchSpec.{spec_of};
-ghost use Rattle.agc_session.specs.Session.{limit_refusal, watch_spec_refusal, until_spec_refusal, slots_refusal, tables_refusal, options_refusal, said_by};
+ghost use Rattle.agc_session.specs.Given.{said_by};
+ghost use Rattle.agc_session.specs.Steps.{limit_refusal, watch_spec_refusal, until_spec_refusal, machine_steps, slots_refusal, tables_refusal, run_steps, refusal_in};
 ghost use Rattle.agc_session.specs.Until.{until_place};
 
 use crate::options::Options;
@@ -14,38 +15,34 @@ use agc_pipe::MOST_SLOTS;
 use agc_script::Script;
 use agc_store::Rope;
 
-/// A run that can begin.
+/// A machine at its start, and what the watcher is to print at the end.
 #[derive(Drop)]
 pub struct Prepared {
     pub machine: Machine,
-    /// The tables that the watcher prints at the end.
+    /// The tables that the watcher prints.
     pub watch: Option<WatchSpec>,
 }
 
 /// Makes the machine that the options ask for.
-#[tactic(auto, unfolding(crate::specs::Session::options_refusal, agc_machine::specs::State::start_state))]
+#[tactic(auto, unfolding(crate::specs::Steps::machine_steps, agc_machine::specs::State::start_state))]
 pub fn prepare(options: &Options, rope: Rope, script: Script) -> Result<Prepared, Refusal>
-    ensures checked { MatchResult result (λ _. options_refusal options.now ≡ None)
-        (λ refusal. options_refusal options.now ≡ Some refusal) }
+    ensures checked { MatchResult result (λ _. refusal_in (machine_steps options.now) ≡ None)
+        (λ refusal. refusal_in (machine_steps options.now) ≡ Some refusal) }
     ensures machine { IfOk result (λ prepared. prepared.machine
         ≡ start_state rope script options.now.limit (said_by until_place options.now.until)) }
     ensures watch { IfOk result (λ prepared. prepared.watch ≡ said_by spec_of options.now.watch) }
-    ensures tables { IfOk result (λ prepared. tables_refusal prepared.watch ≡ None) }
     ensures fresh { IfOk result (λ prepared. prepared.machine.begun ≡ false) }
-    ensures slots { OnOk result (slots_refusal options.now.slots ≡ None) }
 {
     let machine = limited_machine(rope, script, options.limit)?;
-    let watch = watch_spec(&options.watch)?;
-    let until = stop_address(&options.until)?;
-    check_slots(options.slots)?;
-    check_tables(&watch)?;
+    let watch = watch_spec(options)?;
+    let until = stop_address(options)?;
     Ok(Prepared {
         machine: with_until(machine, until),
         watch,
     })
 }
 
-#[tactic(auto, unfolding(crate::specs::Session::limit_refusal))]
+#[tactic(auto, unfolding(crate::specs::Steps::limit_refusal))]
 fn limited_machine(rope: Rope, script: Script, limit: u64) -> Result<Machine, Refusal>
     ensures checked { MatchResult result (λ _. limit_refusal limit ≡ None)
         (λ refusal. limit_refusal limit ≡ Some refusal) }
@@ -57,13 +54,13 @@ fn limited_machine(rope: Rope, script: Script, limit: u64) -> Result<Machine, Re
     }
 }
 
-#[tactic(auto, unfolding(crate::specs::Session::watch_spec_refusal))]
-fn watch_spec(given: &Option<String>) -> Result<Option<WatchSpec>, Refusal>
-    ensures checked { MatchResult result (λ _. watch_spec_refusal given.now ≡ None)
-        (λ refusal. watch_spec_refusal given.now ≡ Some refusal) }
-    ensures said { IfOk result (λ spec. spec ≡ said_by spec_of given.now) }
+#[tactic(auto, unfolding(crate::specs::Steps::watch_spec_refusal))]
+fn watch_spec(options: &Options) -> Result<Option<WatchSpec>, Refusal>
+    ensures checked { MatchResult result (λ _. watch_spec_refusal options.now ≡ None)
+        (λ refusal. watch_spec_refusal options.now ≡ Some refusal) }
+    ensures said { IfOk result (λ spec. spec ≡ said_by spec_of options.now.watch) }
 {
-    let Some(text) = given else {
+    let Some(text) = &options.watch else {
         return Ok(None);
     };
     match WatchSpec::read(text.as_str()) {
@@ -72,41 +69,18 @@ fn watch_spec(given: &Option<String>) -> Result<Option<WatchSpec>, Refusal>
     }
 }
 
-#[tactic(auto, unfolding(crate::specs::Session::until_spec_refusal))]
-fn stop_address(given: &Option<String>) -> Result<Option<StopAddress>, Refusal>
-    ensures checked { MatchResult result (λ _. until_spec_refusal given.now ≡ None)
-        (λ refusal. until_spec_refusal given.now ≡ Some refusal) }
-    ensures said { IfOk result (λ at. at ≡ said_by until_place given.now) }
+#[tactic(auto, unfolding(crate::specs::Steps::until_spec_refusal))]
+fn stop_address(options: &Options) -> Result<Option<StopAddress>, Refusal>
+    ensures checked { MatchResult result (λ _. until_spec_refusal options.now ≡ None)
+        (λ refusal. until_spec_refusal options.now ≡ Some refusal) }
+    ensures said { IfOk result (λ at. at ≡ said_by until_place options.now.until) }
 {
-    let Some(text) = given else {
+    let Some(text) = &options.until else {
         return Ok(None);
     };
     match read_until(text.as_str()) {
         Some(at) => Ok(Some(at)),
         None => Err(Refusal::BadUntilSpec),
-    }
-}
-
-#[tactic(auto, unfolding(crate::specs::Session::slots_refusal))]
-fn check_slots(slots: usize) -> Result<(), Refusal>
-    ensures { MatchResult result (λ _. slots_refusal slots ≡ None)
-        (λ refusal. slots_refusal slots ≡ Some refusal) }
-{
-    if slots == 0 || slots > MOST_SLOTS {
-        return Err(Refusal::Slots);
-    }
-    Ok(())
-}
-
-/// Whether the tables can be watched is known before the run, so a long run is not made in vain.
-#[tactic(auto, unfolding(crate::specs::Session::tables_refusal))]
-fn check_tables(watch: &Option<WatchSpec>) -> Result<(), Refusal>
-    ensures { MatchResult result (λ _. tables_refusal watch.now ≡ None)
-        (λ refusal. tables_refusal watch.now ≡ Some refusal) }
-{
-    match watch.as_ref().and_then(|spec| spec.fault()) {
-        Some(fault) => Err(Refusal::Watch(fault)),
-        None => Ok(()),
     }
 }
 
@@ -119,5 +93,41 @@ fn with_until(machine: Machine, until: Option<StopAddress>) -> Machine
     match until {
         Some(StopAddress { bank, address }) => machine.until(bank, address),
         None => machine,
+    }
+}
+
+/// Looks at the options of the run itself. Whether the tables can be watched is known before the
+/// run, so a long run is not made in vain.
+#[tactic(auto, unfolding(crate::specs::Steps::run_steps))]
+pub fn check_run(options: &Options, watch: &Option<WatchSpec>) -> Result<(), Refusal>
+    requires { watch.now ≡ said_by spec_of options.now.watch }
+    ensures checked { MatchResult result (λ _. refusal_in (run_steps options.now) ≡ None)
+        (λ refusal. refusal_in (run_steps options.now) ≡ Some refusal) }
+    ensures slots { OnOk result (slots_refusal options.now.slots ≡ None) }
+    ensures tables { OnOk result (tables_refusal watch.now ≡ None) }
+{
+    check_slots(options.slots)?;
+    check_tables(watch)
+}
+
+#[tactic(auto, unfolding(crate::specs::Steps::slots_refusal))]
+fn check_slots(slots: usize) -> Result<(), Refusal>
+    ensures { MatchResult result (λ _. slots_refusal slots ≡ None)
+        (λ refusal. slots_refusal slots ≡ Some refusal) }
+{
+    if slots == 0 || slots > MOST_SLOTS {
+        return Err(Refusal::Slots);
+    }
+    Ok(())
+}
+
+#[tactic(auto, unfolding(crate::specs::Steps::tables_refusal))]
+fn check_tables(watch: &Option<WatchSpec>) -> Result<(), Refusal>
+    ensures { MatchResult result (λ _. tables_refusal watch.now ≡ None)
+        (λ refusal. tables_refusal watch.now ≡ Some refusal) }
+{
+    match watch.as_ref().and_then(|spec| spec.fault()) {
+        Some(fault) => Err(Refusal::Watch(fault)),
+        None => Ok(()),
     }
 }

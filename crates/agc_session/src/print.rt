@@ -2,7 +2,8 @@
 ghost use Rattle.std.specs.Prelude.{◌≡◌, ◌⊎◌, ◌++◌, ◌<◌, ◌^◌, All, IfOk, IfErr, OnOk, None, vec_len, string_bytes};
 ghost use Rattle.agc_panel.specs.Text.{panel_text};
 ghost use Rattle.agc_panel.specs.declared.watch_spec.WatchFault.TheVariants as fault;
-ghost use Rattle.agc_session.specs.Session.{tables_refusal, log_asked, watcher_text};
+ghost use Rattle.agc_session.specs.Session.{log_asked, watcher_text};
+ghost use Rattle.agc_session.specs.Steps.{tables_refusal};
 ghost use Rattle.agc_session.specs.Text.{stop_line};
 ghost use Rattle.agc_session.specs.declared.refusal.Refusal.TheVariants as refusal;
 
@@ -44,7 +45,7 @@ fn push_log_asked(text: &mut String, asked: bool, log: &[ChannelWrite]) -> Resul
 }
 
 /// Adds the watcher's tables, where they are asked for.
-#[tactic(auto, unfolding(crate::specs::Session::tables_refusal))]
+#[tactic(auto, unfolding(crate::specs::Steps::tables_refusal))]
 fn push_tables(
     alloc: Global,
     text: &mut String,

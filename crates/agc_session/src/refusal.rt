@@ -4,8 +4,10 @@ ghost use Rattle.std.specs.Io.KnownBytes.{Appends};
 ghost use Rattle.agc_session.specs.declared.refusal.Refusal.TheVariants.{Memory};
 ghost use Rattle.agc_session.specs.Refusal.{rope_fault_name, script_fault_name, limit_fault_name, watch_fault_name, refusal_line};
 
+use crate::input::ReadFault;
 use agc_machine::LimitFault;
 use agc_panel::WatchFault;
+use agc_pipe::ShowFault;
 use agc_script::{FaultKind, ScriptFault};
 use agc_store::RopeFault;
 use std::alloc::AllocError;
@@ -17,10 +19,10 @@ use std::io::{self, Write};
 #[derive(Clone, Copy, Debug, PartialEq, Eq)]
 pub enum Refusal {
     /// The rope file cannot be opened or read, or has more than 1,048,576 bytes.
-    CannotReadRope,
+    CannotReadRope(ReadFault),
     Rope(RopeFault),
     /// The script file cannot be opened or read, or has more than 16,777,216 bytes.
-    CannotReadScript,
+    CannotReadScript(ReadFault),
     Script(ScriptFault),
     Limit(LimitFault),
     /// The text of `--watch` is no list of places.
@@ -54,6 +56,20 @@ impl From<AllocError> for Refusal {
     }
 }
 
+impl From<ShowFault> for Refusal {
+    ghost use Rattle.agc_session.specs.Refusal.{show_refusal};
+
+    ghost from_gives = { λ fault r. r ≡ show_refusal fault };
+
+    fn from(fault: ShowFault) -> Refusal {
+        match fault {
+            ShowFault::Slots => Refusal::Slots,
+            ShowFault::Memory => Refusal::Memory,
+            ShowFault::Thread => Refusal::Thread,
+        }
+    }
+}
+
 impl fmt::Display for Refusal {
     ghost use Rattle.std.specs.Prelude.{Some};
     ghost use Rattle.agc_session.specs.Refusal.{refusal_text};
@@ -62,9 +78,9 @@ impl fmt::Display for Refusal {
 
     fn fmt<W: fmt::Write>(&self, f: &mut fmt::Formatter<W>) -> fmt::Result {
         match *self {
-            Refusal::CannotReadRope => f.write_str("cannot read rope"),
+            Refusal::CannotReadRope(_) => f.write_str("cannot read rope"),
             Refusal::Rope(fault) => write!(f, "rope: {}", rope_fault_name(fault)),
-            Refusal::CannotReadScript => f.write_str("cannot read script"),
+            Refusal::CannotReadScript(_) => f.write_str("cannot read script"),
             Refusal::Script(fault) => {
                 let line = fault.line;
                 write!(f, "script line {line}: {}", script_fault_name(fault.kind))

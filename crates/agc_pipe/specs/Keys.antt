@@ -1,0 +1,23 @@
+-- What each end of the key ring shows: which ring it belongs to, and what was handed in or taken.
+use Rattle.std.specs.Prelude.{ℕ, Bool, List}
+use Rattle.std.specs.declared.alloc.Global.{Global}
+use Rattle.rtrb.specs.declared.end.End.{End}
+use Rattle.rtrb.specs.declared.AnyItems.{AnyItems}
+use Rattle.agc_script.specs.declared.key.Key.{Key}
+
+-- the key of a tape's entry
+abbrev pub key_in : ℕ × Key → Key
+key_in entry = entry.1
+
+-- The end that feeds: its ring, and all keys that were handed in.
+pub record Feeding : Type 0 where
+  pub ring : End Key Global AnyItems
+  pub keys : List Key
+
+-- The end that takes: its ring, the cycles that lie between two keys at least, the tape of the keys taken, and whether a growth of the
+-- tape was refused.
+pub record Taking : Type 0 where
+  pub ring : End Key Global AnyItems
+  pub spacing : ℕ
+  pub tape : List (ℕ × Key)
+  pub refused : Bool

@@ -1,0 +1,25 @@
+-- A live run: what the machine's thread hands back of it, and what the call does.
+use Rattle.std.specs.Prelude.{◌≡◌, ◌++◌, ◌<◌, ℕ, List, All, map}
+use Rattle.agc_script.specs.declared.key.Key.{Key}
+use Rattle.agc_machine.specs.Run.{run_of}
+use Rattle.agc_machine.specs.State.{State}
+use Rattle.agc_machine.specs.Taken.{AreTaken, IsTakenTape, replayed, taken_in}
+use Rattle.agc_pipe.specs.Keys.{Taking, key_in}
+use Rattle.agc_pipe.specs.Ring.{Sending}
+use Rattle.agc_pipe.specs.Shown.{IsSentRun, ShowsRun}
+use Rattle.agc_pipe.specs.declared.live.Live.{Live}
+use Rattle.agc_pipe.specs.declared.live_sending.LiveSent.{LiveSent}
+
+-- the run on the script merged with the tape was sent, and that run takes the tape
+pub record IsSentLive (start : State) (fresh : Sending) (keys : Taking) (live : LiveSent) : Type 0 where
+  pub sent : IsSentRun (run_of (replayed live.taker.tape start)) fresh live.sent
+  pub below : All (λ entry. entry.0 < start.limit) live.taker.tape
+  pub taken : AreTaken (taken_in (replayed live.taker.tape start)) live.taker.tape
+  pub ring : live.taker.ring ≡ keys.ring
+  pub spacing : live.taker.spacing ≡ keys.spacing
+
+-- What is handed back of a live run: the run on the script merged with the tape, a tape that was taken, and no key lost.
+pub record ShowsLive (start : State) (spacing : ℕ) (handed : List Key) (live : Live) : Type 0 where
+  pub shown : ShowsRun (run_of (replayed live.tape start)) live.shown
+  pub tape : IsTakenTape spacing start live.tape
+  pub keys : map key_in live.tape ++ live.rest.items ≡ handed

@@ -1,0 +1,68 @@
+//! From the files to a rope and a script.
+ghost use Rattle.std.specs.Prelude.{◌≡◌, IfOk, IfErr, IfSome, OnOk, None, unwrap_or};
+ghost use Rattle.std.specs.Io.KnownBytes.{IsAtEnd};
+ghost use Rattle.agc_store.specs.Rope.{rope_words, fault_of};
+ghost use Rattle.agc_store.specs.declared.rope_file.RopeFault.TheVariants as rope_fault;
+ghost use Rattle.agc_script.specs.Parse.{script_of};
+ghost use Rattle.agc_session.specs.Given.{events_in};
+ghost use Rattle.agc_session.specs.Steps.{rope_steps, script_steps, script_refused, IsScriptRefused, IsTold, refusal_in};
+ghost use Rattle.agc_session.specs.declared.refusal.Refusal.TheVariants as refusal;
+
+use crate::input::{ROPE_BYTES, SCRIPT_BYTES, Unread, read_limited};
+use crate::refusal::Refusal;
+use agc_script::Script;
+use agc_store::{Rope, RopeForm};
+use std::alloc::Global;
+use std::io::Read;
+
+/// Reads a rope file.
+pub fn read_rope<R: Read>(alloc: Global, form: RopeForm, reader: &mut R) -> Result<Rope, Refusal>
+    ensures words { IfOk result (λ rope. IfSome (R.remaining reader.old) (λ file. rope ≡ rope_words form file)) }
+    ensures accepted { OnOk result (IfSome (R.remaining reader.old) (λ file. refusal_in (rope_steps form file) ≡ None)) }
+    ensures end { OnOk result (IsAtEnd (R.remaining reader.new)) }
+    ensures refused { IfErr result (λ r. IfSome (R.remaining reader.old) (λ file. IsTold (rope_steps form file) r)) }
+{
+    let bytes = match read_limited(alloc, reader, ROPE_BYTES) {
+        Ok(bytes) => bytes,
+        Err(Unread::CannotRead(fault)) => return Err(Refusal::CannotReadRope(fault)),
+        Err(Unread::Memory) => return Err(Refusal::Memory),
+    };
+    rope_of(alloc, form, bytes.as_slice())
+}
+
+fn rope_of(alloc: Global, form: RopeForm, bytes: &[u8]) -> Result<Rope, Refusal>
+    ensures words { IfOk result (λ rope. rope ≡ rope_words form bytes.now) }
+    ensures accepted { OnOk result (fault_of form bytes.now ≡ None) }
+    ensures refused { IfErr result (λ r. r ≡ Refusal.Rope (unwrap_or (fault_of form bytes.now) rope_fault.Memory)) }
+{
+    match Rope::read_as(alloc, form, bytes) {
+        Ok(rope) => Ok(rope),
+        Err(fault) => Err(Refusal::Rope(fault)),
+    }
+}
+
+/// Reads a script file.
+pub fn read_script<S: Read>(alloc: Global, reader: &mut S) -> Result<Script, Refusal>
+    ensures events { IfOk result (λ script. IfSome (S.remaining reader.old) (λ file. script ≡ events_in (script_of file))) }
+    ensures accepted { OnOk result (IfSome (S.remaining reader.old) (λ file. refusal_in (script_steps file) ≡ None)) }
+    ensures end { OnOk result (IsAtEnd (S.remaining reader.new)) }
+    ensures refused { IfErr result (λ r. IfSome (S.remaining reader.old) (λ file. IsTold (script_steps file) r)) }
+{
+    let bytes = match read_limited(alloc, reader, SCRIPT_BYTES) {
+        Ok(bytes) => bytes,
+        Err(Unread::CannotRead(fault)) => return Err(Refusal::CannotReadScript(fault)),
+        Err(Unread::Memory) => return Err(Refusal::Memory),
+    };
+    script_of(alloc, bytes.as_slice())
+}
+
+fn script_of(alloc: Global, bytes: &[u8]) -> Result<Script, Refusal>
+    ensures events { IfOk result (λ script. script ≡ events_in (script_of bytes.now)) }
+    ensures accepted { OnOk result (script_refused (script_of bytes.now) ≡ None) }
+    ensures refused { IfErr result (IsScriptRefused bytes.now) }
+{
+    match Script::parse(alloc, bytes) {
+        Ok(script) => Ok(script),
+        Err(fault) => Err(Refusal::Script(fault)),
+    }
+}
