@@ -14,12 +14,13 @@ pub enum Call {
     Watch,
     Link,
     RunShown,
+    RunLive,
     ParseArgs,
     Session,
 }
 
 /// All of them, in the order in which they are made.
-pub const CALLS: [Call; 12] = [
+pub const CALLS: [Call; 13] = [
     Call::RopeRead,
     Call::RopeReadAs,
     Call::ScriptParse,
@@ -30,6 +31,7 @@ pub const CALLS: [Call; 12] = [
     Call::Watch,
     Call::Link,
     Call::RunShown,
+    Call::RunLive,
     Call::ParseArgs,
     Call::Session,
 ];
@@ -48,6 +50,7 @@ impl Call {
             Call::Watch => "watch",
             Call::Link => "link",
             Call::RunShown => "run_shown",
+            Call::RunLive => "run_live",
             Call::ParseArgs => "parse_args",
             Call::Session => "session",
         }

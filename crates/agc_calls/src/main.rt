@@ -94,6 +94,7 @@ where
         Call::Watch => texts::watch_tables(alloc, out),
         Call::Link => runs::link_ends(alloc, out),
         Call::RunShown => runs::show_writes(rt, out),
+        Call::RunLive => runs::run_with_keys(rt, out),
         Call::ParseArgs => sessions::parse_words(alloc, out),
         Call::Session => sessions::run_session(rt, out),
     }
