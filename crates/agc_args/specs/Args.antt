@@ -48,7 +48,7 @@ IsFormOption rule = (forms : Bor (List (Bor Text)))
     × (map (λ name. name.now) forms.now ≡ codes "classic" ∷ codes "parity" ∷ [])
     × (rule ≡ names_option forms)
 
--- What the program takes: two files, and six options, of which `--limit` must be given. `form` is the option that names the form.
+-- What the program takes: two files, and eight options, of which `--limit` must be given. `form` is the option that names the form.
 unfoldable pub command_line : Rule → App
 command_line form = fold with_rule (new_app (codes "agc"))
     (file_parameter (codes "rope")
@@ -59,6 +59,8 @@ command_line form = fold with_rule (new_app (codes "agc"))
     ∷ flag_option (codes "log")
     ∷ form
     ∷ value_option (codes "until")
+    ∷ flag_option (codes "live")
+    ∷ record (number_option (codes "spacing")) { defaults = codes "8533" ∷ [] }
     ∷ [])
 
 -- the program's command
@@ -91,6 +93,8 @@ pub record AsksFor (rows : List Row) (options : Options) : Type 0 where
   pub log : IsFlag (one_of (codes "log") rows) options.log
   pub form : options.form ≡ unwrap_or (option_map form_named (first_of (codes "form") rows)) form.Classic
   pub until : text_given options.until ≡ first_of (codes "until") rows
+  pub live : IsFlag (one_of (codes "live") rows) options.live
+  pub spacing : options.spacing ≡ unwrap_or (option_and_then number_written (one_of (codes "spacing") rows)) 8533
 
 -- what the words ask for: the command takes them, and the options are those of its matches
 abbrev pub AreAskedBy : List Text → Options → Type 0

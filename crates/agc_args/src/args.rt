@@ -15,6 +15,9 @@ use std::alloc::{AllocError, Global};
 /// Places of the ring between machine and display, where the user names no number.
 pub const DEFAULT_SLOTS: usize = 256;
 
+/// Machine cycles between two live keys, where the user names no number: a tenth of a second.
+pub const DEFAULT_SPACING: u64 = 8533;
+
 static FORMS: [&str; 2] = ["classic", "parity"];
 
 /// Why there are no options.
@@ -60,7 +63,9 @@ fn command<'a>(alloc: Global) -> Result<Command<'a>, AllocError>
         .arg(watch_option(alloc))?
         .arg(log_option(alloc))?
         .arg(form_option(alloc))?
-        .arg(until_option(alloc))
+        .arg(until_option(alloc))?
+        .arg(live_option(alloc))?
+        .arg(spacing_option(alloc))
 }
 
 fn rope_file<'a>(alloc: Global) -> Arg<'a>
@@ -153,6 +158,30 @@ fn until_option<'a>(alloc: Global) -> Arg<'a>
         .help("Stop before the order at this address runs: octal, BANK 0 to 47, ADDR 0 to 7777")
 }
 
+fn live_option<'a>(alloc: Global) -> Arg<'a>
+    ensures rule { rule_of result ≡ flag_option (codes "live") }
+    ensures local { result.global ≡ false }
+{
+    Arg::new(alloc, "live")
+        .long("live")
+        .action(ArgAction::SetTrue)
+        .help(
+            "Press the keys named on standard input while the machine runs, and print which it took, at which cycle",
+        )
+}
+
+fn spacing_option<'a>(alloc: Global) -> Arg<'a>
+    ensures rule { rule_of result ≡ record (number_option (codes "spacing")) { defaults = codes "8533" ∷ [] } }
+    ensures local { result.global ≡ false }
+{
+    Arg::new(alloc, "spacing")
+        .long("spacing")
+        .value_name("N")
+        .default_value("8533")
+        .value_parser(value_parser!(u64))
+        .help("Machine cycles between two live keys at least: decimal, from 1")
+}
+
 fn options_of(alloc: Global, matches: &ArgMatches<'_>) -> Result<Options, ArgsFault>
     ensures options { IfOk result (AsksFor (rows_of (found_of matches.now))) }
     ensures memory { IfErr result (λ f. f ≡ fault.Memory) }
@@ -166,6 +195,8 @@ fn options_of(alloc: Global, matches: &ArgMatches<'_>) -> Result<Options, ArgsFa
         log: matches.get_flag("log"),
         form: form_of(matches),
         until: text_of(alloc, matches, "until")?,
+        live: matches.get_flag("live"),
+        spacing: spacing_of(matches),
     })
 }
 
@@ -197,6 +228,12 @@ fn slots_of(matches: &ArgMatches<'_>) -> usize
     ensures { result ≡ unwrap_or (option_and_then number_written (one_of (codes "slots") (rows_of (found_of matches.now)))) 256 }
 {
     matches.get_one::<usize>("slots").unwrap_or(DEFAULT_SLOTS)
+}
+
+fn spacing_of(matches: &ArgMatches<'_>) -> u64
+    ensures { result ≡ unwrap_or (option_and_then number_written (one_of (codes "spacing") (rows_of (found_of matches.now)))) 8533 }
+{
+    matches.get_one::<u64>("spacing").unwrap_or(DEFAULT_SPACING)
 }
 
 fn form_of(matches: &ArgMatches<'_>) -> RopeForm

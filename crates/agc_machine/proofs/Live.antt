@@ -69,11 +69,11 @@ goes_on start now tape writes more h w =
       lives = h.lives ++ more;
       wanted = wanted_append h.lives more start h.wanted (subst (AreWanted more) h.last w);
       taped = ap (λ (t : List (ℕ × Key)). t ++ tape_of more now) h.taped
-      ∙ ap (λ (s : State). tape_of h.lives start ++ tape_of more s) h.last ∙ sym (tape_append h.lives more start);
+          ∙ ap (λ (s : State). tape_of h.lives start ++ tape_of more s) h.last ∙ sym (tape_append h.lives more start);
       written = ap (λ (w : List ChannelWrite). w ++ writes_in (chain more now).answers) h.written
-      ∙ ap (λ (s : State). writes_in (chain h.lives start).answers ++ writes_in (chain more s).answers) h.last
-      ∙ sym (writes_append (chain h.lives start).answers (chain more (chain h.lives start).last).answers)
-      ∙ ap writes_in (sym (answers_append h.lives more start));
+          ∙ ap (λ (s : State). writes_in (chain h.lives start).answers ++ writes_in (chain more s).answers) h.last
+          ∙ sym (writes_append (chain h.lives start).answers (chain more (chain h.lives start).last).answers)
+          ∙ ap writes_in (sym (answers_append h.lives more start));
       last = ap (λ (s : State). (chain more s).last) h.last ∙ sym (last_append h.lives more start);
     }
 
@@ -117,11 +117,13 @@ one_stretch s = (1, record { last = refl; writes = refl })
 
 stretch_on : (s t : State) (r : State × Stepped) → boundary None s ≡ (t, stepped.Quiet) → Stretch t r → Stretch s r
 unfolding chain writes_in
-stretch_on s t r e h =
-    (suc h.0, record {
-      last = ap (λ (x : State × Stepped). (chain (replicate h.0 None) x.0).last) e ∙ h.1.last;
-      writes = ap (λ (x : State × Stepped). writes_in (x.1 ∷ (chain (replicate h.0 None) x.0).answers)) e ∙ h.1.writes;
-    })
+stretch_on s t r e h = (
+  suc h.0,
+  record {
+    last = ap (λ (x : State × Stepped). (chain (replicate h.0 None) x.0).last) e ∙ h.1.last;
+    writes = ap (λ (x : State × Stepped). writes_in (x.1 ∷ (chain (replicate h.0 None) x.0).answers)) e ∙ h.1.writes;
+  },
+)
 
 either_stretch : (b : Bool) (s : State) (x y : State × Stepped) → Stretch s x → Stretch s y → Stretch s (if b then x else y)
 either_stretch true s x y h k = h

@@ -1,5 +1,6 @@
 //! The ring at work: slots, blocks, and what is left when both ends come together.
 mod gates;
+mod live;
 mod shown;
 
 ghost use Rattle.std.specs.Prelude.{◌≡◌};
@@ -47,6 +48,17 @@ fn limits_and_slots(rt: HostRuntime) -> Result<(), Fail> {
     );
     assert_eq!(rt; link(rt.alloc(), 1)?.0.capacity(), 1);
     assert_eq!(rt; link(rt.alloc(), 65_536)?.0.capacity(), 65_536);
+    Ok(())
+}
+
+/// A block of 64 goes through whole, and at once.
+#[test]
+fn a_full_block_is_taken_at_once(rt: HostRuntime) -> Result<(), Fail> {
+    let (mut sender, mut receiver) = link(rt.alloc(), 64)?;
+    assert!(rt; sender.send_block(&[write(1); 64]));
+    let mut block = ArrayVec::<Item, 64>::new();
+    assert_eq!(rt; receiver.next_block(&mut block), 64);
+    assert!(rt; block.as_slice() == [write(1); 64].as_slice());
     Ok(())
 }
 

@@ -2,15 +2,19 @@
 //! shows at the end.
 #![tactic(auto)]
 
-#[cfg(test)]
-mod streams;
+ghost use Rattle.std.specs.Prelude.{◌≡◌, ◌⊎◌, IfOk, IfErr};
+ghost use Rattle.std.specs.Io.KnownBytes.{Appends, Keeps};
+ghost use Rattle.agc_session.specs.Refusal.{refusal_line};
+ghost use Rattle.agc_session.specs.declared.refusal.Refusal.{Refusal};
+ghost use Rattle.agc_run.specs.Ending.{EndsMistaken};
+
 #[cfg(test)]
 mod tests;
 
 use agc_args::{ArgsFault, parse_args};
 use agc_pipe::Open;
 use agc_session::{DONE, InputFile, Options, REFUSED, Refusal, session, status_of};
-use std::io::Write;
+use std::io::{Read, Write};
 use std::process::ExitCode;
 use std::rt::{Env, Files};
 use std::sync::Wait;
@@ -21,34 +25,11 @@ use std::{env, fs, io};
 const MISUSED: u8 = 2;
 
 fn main(rt: HostRuntime) -> ExitCode {
-    ExitCode::from(run(&rt, &mut rt.stdout(), &mut rt.stderr()))
+    let (mut keys, mut out, mut err) = (rt.stdin(), rt.stdout(), rt.stderr());
+    ExitCode::from(run(&rt, options(&rt), &mut keys, &mut out, &mut err))
 }
 
-fn run<R, W: Write, E: Write>(rt: &R, out: &mut W, err: &mut E) -> u8
-where
-    R: Env + Files + AllocGlobal + Threads + Wait + Sync,
-{
-    match options(rt) {
-        Ok(options) => {
-            let mut rope = InputFile::new(fs::open(rt, options.rope.as_str()));
-            let mut script = InputFile::new(fs::open(rt, options.script.as_str()));
-            session(
-                rt,
-                rt.alloc(),
-                &options,
-                &mut rope,
-                &mut script,
-                &Open,
-                out,
-                err,
-            )
-        }
-        Err(ArgsFault::Help(text)) => status_of(DONE, out.write_all(text.as_bytes())),
-        Err(ArgsFault::Command(text)) => status_of(MISUSED, err.write_all(text.as_bytes())),
-        Err(ArgsFault::Memory) => status_of(REFUSED, Refusal::Memory.write_to(err)),
-    }
-}
-
+/// What the words of the command line ask for.
 fn options<R: Env + AllocGlobal>(rt: &R) -> Result<Options, ArgsFault> {
     let alloc = rt.alloc();
     let words: Vec<String> = match env::args(rt) {
@@ -61,4 +42,44 @@ fn options<R: Env + AllocGlobal>(rt: &R) -> Result<Options, ArgsFault> {
     };
     let words: Vec<&str> = words.iter().map(|word| word.as_str()).collect(alloc)?;
     parse_args(alloc, words.as_slice())
+}
+
+/// Does what the command line asks for: a session over the two files, with the keys of `keys` where
+/// it is live. Without a session the text of help goes to `out` with status 0, that of a mistake to
+/// `err` with status 2, and want of memory to `err` with status 1. A write that fails gives status 3.
+fn run<R, K: Read, W: Write, E: Write>(
+    rt: &R,
+    asked: Result<Options, ArgsFault>,
+    keys: &mut K,
+    out: &mut W,
+    err: &mut E,
+) -> u8
+where
+    R: Files + AllocGlobal + Threads + Wait + Sync,
+    ensures session { IfOk asked (λ _. (result ≡ 0) ⊎ ((result ≡ 1) ⊎ (result ≡ 3))) }
+    ensures silent { IfOk asked (λ _. result ≡ 0 → Keeps (E.contents err.old) (E.contents err.new)) }
+    ensures refused { IfOk asked (λ _. result ≡ 1 → (r : Refusal) × Appends (E.contents err.old) (E.contents err.new) (refusal_line r)) }
+    ensures nothing { IfOk asked (λ _. result ≡ 1 → Keeps (W.contents out.old) (W.contents out.new)) }
+    ensures told { IfErr asked (λ fault. EndsMistaken fault result (W.contents out.old) (W.contents out.new) (E.contents err.old) (E.contents err.new)) }
+{
+    match asked {
+        Ok(options) => {
+            let mut rope = InputFile::new(fs::open(rt, options.rope.as_str()));
+            let mut script = InputFile::new(fs::open(rt, options.script.as_str()));
+            session(
+                rt,
+                rt.alloc(),
+                &options,
+                &mut rope,
+                &mut script,
+                keys,
+                &Open,
+                out,
+                err,
+            )
+        }
+        Err(ArgsFault::Help(text)) => status_of(DONE, out.write_all(text.as_bytes())),
+        Err(ArgsFault::Command(text)) => status_of(MISUSED, err.write_all(text.as_bytes())),
+        Err(ArgsFault::Memory) => status_of(REFUSED, Refusal::Memory.write_to(err)),
+    }
 }

@@ -1,5 +1,9 @@
 pub mod Channels
+pub mod Denied
 pub mod Place
 pub mod Printed
 pub mod Refused
+pub mod There
+pub mod Taped
+pub mod Told
 pub mod Whole

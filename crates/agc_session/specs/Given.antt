@@ -5,16 +5,23 @@ use Rattle.std.specs.declared.alloc.Global.{Global}
 use Rattle.agc_script.specs.declared.event.Event.{Event}
 use Rattle.agc_script.specs.declared.fault.ScriptFault.{ScriptFault}
 
--- the bytes of the files
+-- the bytes of the files, and of the key text
 pub record Files : Type 0 where
   pub rope : List ℕ
   pub script : List ℕ
+  pub keys : List ℕ
+
+-- the key text that a session reads: none without live keys
+abbrev pub keys_read : Bool → Option (List ℕ) → Option (List ℕ)
+keys_read false known = Some []
+keys_read true known = known
 
 -- the files, where their readers tell their bytes
-abbrev pub files_of : Option (List ℕ) → Option (List ℕ) → Option Files
-files_of None script = None
-files_of (Some rope) None = None
-files_of (Some rope) (Some script) = Some (record { rope = rope; script = script })
+abbrev pub files_of : Option (List ℕ) → Option (List ℕ) → Option (List ℕ) → Option Files
+files_of None script keys = None
+files_of (Some rope) None keys = None
+files_of (Some rope) (Some script) None = None
+files_of (Some rope) (Some script) (Some keys) = Some (record { rope = rope; script = script; keys = keys })
 
 -- a text that is given and says nothing
 abbrev pub says_nothing : {A : Type 0} → (List ℕ → Option A) → Option (String Global) → Bool

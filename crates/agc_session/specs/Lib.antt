@@ -1,5 +1,6 @@
 pub mod Given
 pub mod Input
+pub mod Keys
 pub mod Refusal
 pub mod Session
 pub mod Steps

@@ -44,6 +44,7 @@ watch_fault_name watch.Memory = codes "Memory"
 -- the refusal where a run was not shown
 abbrev pub show_refusal : ShowFault → Refusal
 show_refusal show.Slots = refusal.Slots
+show_refusal show.Spacing = refusal.Spacing
 show_refusal show.Memory = refusal.Memory
 show_refusal show.Thread = refusal.Thread
 
@@ -56,7 +57,10 @@ refusal_text (refusal.Script fault) = codes "script line " ++ decimal fault.line
 refusal_text (refusal.Limit fault) = codes "limit: " ++ limit_fault_name fault
 refusal_text refusal.BadWatchSpec = codes "watch: BadSpec"
 refusal_text refusal.BadUntilSpec = codes "until: BadSpec"
+refusal_text (refusal.CannotReadKeys why) = codes "cannot read keys"
+refusal_text refusal.BadKey = codes "keys: BadKey"
 refusal_text refusal.Slots = codes "slots"
+refusal_text refusal.Spacing = codes "spacing"
 refusal_text refusal.Thread = codes "thread"
 refusal_text (refusal.Watch fault) = codes "watch: " ++ watch_fault_name fault
 refusal_text refusal.Memory = codes "memory"

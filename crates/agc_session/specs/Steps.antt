@@ -1,5 +1,5 @@
 -- The steps of a session in their order, and which refusal it tells.
-use Rattle.std.specs.Prelude.{◌≡◌, ◌⊎◌, ℕ, ◌==◌, ◌||◌, nat_lt, if◌then◌else◌, Bool, List, [], ◌∷◌, ◌++◌, length, Option, Some, None, Result, Ok, Err, option_map, option_and_then}
+use Rattle.std.specs.Prelude.{◌≡◌, ◌⊎◌, ℕ, ◌==◌, ◌||◌, ◌&&◌, nat_lt, if◌then◌else◌, Bool, true, false, List, [], ◌∷◌, ◌++◌, length, Option, Some, None, is_none, Result, Ok, Err, option_map, option_and_then}
 use Rattle.agc_store.specs.Rope.{fault_of}
 use Rattle.agc_store.specs.declared.rope_file.RopeForm.{RopeForm}
 use Rattle.agc_store.specs.declared.rope_file.RopeFault.TheVariants as rope
@@ -12,6 +12,7 @@ use Rattle.agc_panel.specs.WatchSpec.{spec_of, fault_of as watch_fault_of}
 use Rattle.agc_panel.specs.declared.watch_spec.WatchSpec.{WatchSpec}
 use Rattle.agc_panel.specs.declared.watch_spec.WatchFault.TheVariants as watch
 use Rattle.agc_session.specs.Given.{Files, said_by, says_nothing}
+use Rattle.agc_session.specs.Keys.{keys_of}
 use Rattle.agc_session.specs.Until.{until_place}
 use Rattle.agc_session.specs.declared.input.ReadFault.TheVariants as read
 use Rattle.agc_session.specs.declared.options.Options.{Options}
@@ -101,9 +102,27 @@ machine_steps options =
     ∷ looks (until_spec_refusal options)
     ∷ []
 
+-- a key text has 65,536 bytes at most, and names keys alone
+unfoldable pub keys_steps : List ℕ → List Step
+keys_steps file =
+    asks (refusal.CannotReadKeys read.Failed)
+    ∷ asks refusal.Memory
+    ∷ looks (refused_if (nat_lt 65536 (length file)) (refusal.CannotReadKeys read.TooMany))
+    ∷ looks (refused_if (is_none (keys_of file)) refusal.BadKey)
+    ∷ []
+
+-- a key text is read where there are live keys
+abbrev pub keys_steps_where : Bool → List ℕ → List Step
+keys_steps_where false file = []
+keys_steps_where true file = keys_steps file
+
 -- a ring has 1 to 65,536 slots
 unfoldable pub slots_refusal : ℕ → Option Refusal
 slots_refusal slots = refused_if ((slots == 0) || nat_lt 65536 slots) refusal.Slots
+
+-- live keys are at least a cycle apart
+unfoldable pub spacing_refusal : Bool → ℕ → Option Refusal
+spacing_refusal live spacing = refused_if (live && (spacing == 0)) refusal.Spacing
 
 unfoldable pub tables_refusal : Option WatchSpec → Option Refusal
 tables_refusal watch = option_map refusal.Watch (option_and_then watch_fault_of watch)
@@ -111,6 +130,7 @@ tables_refusal watch = option_map refusal.Watch (option_and_then watch_fault_of 
 unfoldable pub run_steps : Options → List Step
 run_steps options =
     looks (slots_refusal options.slots)
+    ∷ looks (spacing_refusal options.live options.spacing)
     ∷ looks (tables_refusal (said_by spec_of options.watch))
     ∷ asks refusal.Thread
     ∷ asks refusal.Memory
@@ -123,4 +143,5 @@ steps_of options files =
     rope_steps options.form files.rope
     ++ (script_steps files.script
     ++ (machine_steps options
-    ++ run_steps options))
+    ++ (keys_steps_where options.live files.keys
+    ++ run_steps options)))

@@ -1,9 +1,11 @@
--- The lines that the program prints of its own: the stop and the log.
+-- The lines that the program prints of its own: the stop, the log and the live keys.
 use Rattle.std.specs.Prelude.{ℕ, List, ◌++◌, codes}
 use Rattle.std.specs.List.{flat_map}
 use Rattle.std.specs.Fmt.{decimal}
 use Rattle.agc_word.specs.Number.{pattern_of}
 use Rattle.agc_word.specs.Octal.{octal_digits}
+use Rattle.agc_script.specs.Key.{name_of}
+use Rattle.agc_script.specs.declared.key.Key.{Key}
 use Rattle.agc_machine.specs.declared.answer.ChannelWrite.{ChannelWrite}
 use Rattle.agc_machine.specs.declared.answer.Stop.{Stop}
 use Rattle.agc_machine.specs.declared.answer.Stop.TheVariants as stop
@@ -28,3 +30,15 @@ log_line w =
 -- a line for each channel write, in their order
 unfoldable pub log_text : List ChannelWrite → List ℕ
 log_text writes = flat_map log_line writes
+
+-- one key of a tape, as a line of a script: the cycle in decimal, and the key's name
+abbrev pub tape_line : ℕ × Key → List ℕ
+tape_line entry = decimal entry.0 ++ codes " key " ++ name_of entry.1 ++ codes "\n"
+
+-- a line for each key of a tape, in their order
+unfoldable pub tape_text : List (ℕ × Key) → List ℕ
+tape_text tape = flat_map tape_line tape
+
+-- the lines of live keys: the tape, and how many keys are left
+abbrev pub live_text : List (ℕ × Key) → ℕ → List ℕ
+live_text tape left = tape_text tape ++ codes "REST " ++ decimal left ++ codes "\n"

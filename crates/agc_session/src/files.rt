@@ -1,16 +1,18 @@
-//! From the files to a rope and a script.
-ghost use Rattle.std.specs.Prelude.{◌≡◌, IfOk, IfErr, IfSome, OnOk, None, unwrap_or};
+//! From the files to a rope, a script and live keys.
+ghost use Rattle.std.specs.Prelude.{◌≡◌, ◌⊎◌, IfOk, IfErr, IfSome, OnOk, None, Some, unwrap_or};
 ghost use Rattle.std.specs.Io.KnownBytes.{IsAtEnd};
 ghost use Rattle.agc_store.specs.Rope.{rope_words, fault_of};
 ghost use Rattle.agc_store.specs.declared.rope_file.RopeFault.TheVariants as rope_fault;
 ghost use Rattle.agc_script.specs.Parse.{script_of};
 ghost use Rattle.agc_session.specs.Given.{events_in};
-ghost use Rattle.agc_session.specs.Steps.{rope_steps, script_steps, script_refused, IsScriptRefused, IsTold, refusal_in};
+ghost use Rattle.agc_session.specs.Keys.{keys_of};
+ghost use Rattle.agc_session.specs.Steps.{keys_steps, rope_steps, script_steps, script_refused, IsScriptRefused, IsTold, refusal_in};
 ghost use Rattle.agc_session.specs.declared.refusal.Refusal.TheVariants as refusal;
 
-use crate::input::{ROPE_BYTES, SCRIPT_BYTES, Unread, read_limited};
+use crate::input::{KEY_BYTES, ROPE_BYTES, SCRIPT_BYTES, Unread, read_limited};
+use crate::keys::keys_of;
 use crate::refusal::Refusal;
-use agc_script::Script;
+use agc_script::{Key, Script};
 use agc_store::{Rope, RopeForm};
 use std::alloc::Global;
 use std::io::Read;
@@ -64,5 +66,30 @@ fn script_of(alloc: Global, bytes: &[u8]) -> Result<Script, Refusal>
     match Script::parse(alloc, bytes) {
         Ok(script) => Ok(script),
         Err(fault) => Err(Refusal::Script(fault)),
+    }
+}
+
+/// Reads the text of live keys.
+pub fn read_keys<K: Read>(alloc: Global, reader: &mut K) -> Result<Vec<Key>, Refusal>
+    ensures keys { IfOk result (λ keys. IfSome (K.remaining reader.old) (λ file. keys_of file ≡ Some keys.items)) }
+    ensures accepted { OnOk result (IfSome (K.remaining reader.old) (λ file. refusal_in (keys_steps file) ≡ None)) }
+    ensures end { OnOk result (IsAtEnd (K.remaining reader.new)) }
+    ensures refused { IfErr result (λ r. IfSome (K.remaining reader.old) (λ file. IsTold (keys_steps file) r)) }
+{
+    let bytes = match read_limited(alloc, reader, KEY_BYTES) {
+        Ok(bytes) => bytes,
+        Err(Unread::CannotRead(fault)) => return Err(Refusal::CannotReadKeys(fault)),
+        Err(Unread::Memory) => return Err(Refusal::Memory),
+    };
+    keys_named(alloc, bytes.as_slice())
+}
+
+fn keys_named(alloc: Global, bytes: &[u8]) -> Result<Vec<Key>, Refusal>
+    ensures keys { IfOk result (λ keys. keys_of bytes.now ≡ Some keys.items) }
+    ensures refused { IfErr result (λ r. (r ≡ Refusal.Memory) ⊎ ((r ≡ Refusal.BadKey) × (keys_of bytes.now ≡ None))) }
+{
+    match keys_of(alloc, bytes)? {
+        Some(keys) => Ok(keys),
+        None => Err(Refusal::BadKey),
     }
 }

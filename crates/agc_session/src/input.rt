@@ -12,6 +12,9 @@ pub const ROPE_BYTES: usize = 1_048_576;
 /// The most bytes that a script file may have.
 pub const SCRIPT_BYTES: usize = 16_777_216;
 
+/// The most bytes that a text of live keys may have.
+pub const KEY_BYTES: usize = 65_536;
+
 /// The reads after which a reader counts as one that does not end.
 const TURNS: usize = 33_554_432;
 

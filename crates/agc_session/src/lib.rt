@@ -4,6 +4,7 @@
 mod entry;
 mod files;
 mod input;
+mod keys;
 mod options;
 mod prepare;
 mod print;
@@ -13,7 +14,7 @@ mod text;
 mod until;
 
 pub use entry::{DONE, REFUSED, UNWRITTEN, session, status_of};
-pub use input::{InputFile, ROPE_BYTES, ReadFault, SCRIPT_BYTES, Unread, read_limited};
+pub use input::{InputFile, KEY_BYTES, ROPE_BYTES, ReadFault, SCRIPT_BYTES, Unread, read_limited};
 pub use options::Options;
 pub use refusal::Refusal;
 

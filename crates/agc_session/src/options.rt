@@ -22,4 +22,8 @@ pub struct Options {
     pub form: RopeForm,
     /// The order at which the run ends, as the user wrote it.
     pub until: Option<String>,
+    /// Whether keys are pressed while the machine runs.
+    pub live: bool,
+    /// The machine cycles between two live keys at least.
+    pub spacing: u64,
 }

@@ -3,7 +3,7 @@ ghost use Rattle.std.specs.Prelude.{◌≡◌, false, IfOk, OnOk, MatchResult, N
 ghost use Rattle.agc_machine.specs.State.{start_state};
 ghost use Rattle.agc_panel.specs.WatchSpec.{spec_of};
 ghost use Rattle.agc_session.specs.Given.{said_by};
-ghost use Rattle.agc_session.specs.Steps.{limit_refusal, watch_spec_refusal, until_spec_refusal, machine_steps, slots_refusal, tables_refusal, run_steps, refusal_in};
+ghost use Rattle.agc_session.specs.Steps.{limit_refusal, watch_spec_refusal, until_spec_refusal, machine_steps, slots_refusal, spacing_refusal, tables_refusal, run_steps, refusal_in};
 ghost use Rattle.agc_session.specs.Until.{until_place};
 
 use crate::options::Options;
@@ -104,9 +104,11 @@ pub fn check_run(options: &Options, watch: &Option<WatchSpec>) -> Result<(), Ref
     ensures checked { MatchResult result (λ _. refusal_in (run_steps options.now) ≡ None)
         (λ refusal. refusal_in (run_steps options.now) ≡ Some refusal) }
     ensures slots { OnOk result (slots_refusal options.now.slots ≡ None) }
+    ensures spacing { OnOk result (spacing_refusal options.now.live options.now.spacing ≡ None) }
     ensures tables { OnOk result (tables_refusal watch.now ≡ None) }
 {
     check_slots(options.slots)?;
+    check_spacing(options.live, options.spacing)?;
     check_tables(watch)
 }
 
@@ -117,6 +119,17 @@ fn check_slots(slots: usize) -> Result<(), Refusal>
 {
     if slots == 0 || slots > MOST_SLOTS {
         return Err(Refusal::Slots);
+    }
+    Ok(())
+}
+
+#[tactic(auto, unfolding(crate::specs::Steps::spacing_refusal))]
+fn check_spacing(live: bool, spacing: u64) -> Result<(), Refusal>
+    ensures { MatchResult result (λ _. spacing_refusal live spacing ≡ None)
+        (λ refusal. spacing_refusal live spacing ≡ Some refusal) }
+{
+    if live && spacing == 0 {
+        return Err(Refusal::Spacing);
     }
     Ok(())
 }

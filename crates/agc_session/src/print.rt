@@ -1,4 +1,4 @@
-//! The whole text of a run: the panel, the stop, the log and the watcher's tables.
+//! The whole text of a run: the panel, the stop, the log, the live keys and the watcher's tables.
 ghost use Rattle.std.specs.Prelude.{◌≡◌, ◌⊎◌, ◌++◌, ◌<◌, ◌^◌, All, IfOk, IfErr, OnOk, None, vec_len, string_bytes};
 ghost use Rattle.agc_panel.specs.Text.{panel_text};
 ghost use Rattle.agc_panel.specs.declared.watch_spec.WatchFault.TheVariants as fault;
@@ -15,23 +15,25 @@ use agc_pipe::Shown;
 use agc_store::Store;
 use std::alloc::{AllocError, Global};
 
-/// The text of a run.
+/// The text of a run, with the lines of its live keys, if any.
 pub fn print_run(
     alloc: Global,
     log: bool,
     shown: &Shown,
+    keys: &str,
     tables: &Option<WatchSpec>,
 ) -> Result<String, Refusal>
     requires channels { All (λ write. write.channel < 2 ^ 9) shown.now.log.items }
     requires tables { tables_refusal tables.now ≡ None }
     ensures text { IfOk result (λ text. string_bytes text ≡ panel_text shown.now.panel
         ++ stop_line shown.now.stop shown.now.cycle (vec_len shown.now.log) ++ log_asked log shown.now.log.items
-        ++ watcher_text tables.now shown.now.store) }
+        ++ keys.now ++ watcher_text tables.now shown.now.store) }
     ensures memory { IfErr result (λ r. (r ≡ Refusal.Memory) ⊎ (r ≡ Refusal.Watch fault.Memory)) }
 {
     let mut text = shown.panel.text(alloc)?;
     push_stop_line(&mut text, shown.stop, shown.cycle, shown.log.len())?;
     push_log_asked(&mut text, log, shown.log.as_slice())?;
+    text.push_str(keys)?;
     push_tables(alloc, &mut text, &shown.store, tables)?;
     Ok(text)
 }

@@ -29,8 +29,14 @@ pub enum Refusal {
     BadWatchSpec,
     /// The text of `--until` is no bank and address.
     BadUntilSpec,
+    /// The text of live keys cannot be read, or has more than 65,536 bytes.
+    CannotReadKeys(ReadFault),
+    /// A name in the text of live keys is no key's.
+    BadKey,
     /// `--slots` is 0 or above 65,536.
     Slots,
+    /// `--spacing` is 0, and there are live keys.
+    Spacing,
     /// The machine's thread could not be started.
     Thread,
     /// The tables to be watched cannot stand there, or are too many.
@@ -64,6 +70,7 @@ impl From<ShowFault> for Refusal {
     fn from(fault: ShowFault) -> Refusal {
         match fault {
             ShowFault::Slots => Refusal::Slots,
+            ShowFault::Spacing => Refusal::Spacing,
             ShowFault::Memory => Refusal::Memory,
             ShowFault::Thread => Refusal::Thread,
         }
@@ -88,7 +95,10 @@ impl fmt::Display for Refusal {
             Refusal::Limit(fault) => write!(f, "limit: {}", limit_fault_name(fault)),
             Refusal::BadWatchSpec => f.write_str("watch: BadSpec"),
             Refusal::BadUntilSpec => f.write_str("until: BadSpec"),
+            Refusal::CannotReadKeys(_) => f.write_str("cannot read keys"),
+            Refusal::BadKey => f.write_str("keys: BadKey"),
             Refusal::Slots => f.write_str("slots"),
+            Refusal::Spacing => f.write_str("spacing"),
             Refusal::Thread => f.write_str("thread"),
             Refusal::Watch(fault) => write!(f, "watch: {}", watch_fault_name(fault)),
             Refusal::Memory => f.write_str("memory"),

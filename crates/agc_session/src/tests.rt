@@ -20,6 +20,8 @@ fn options(rt: &(impl AllocGlobal + Abort), slots: usize) -> Options {
         log: true,
         form: RopeForm::Classic,
         until: None,
+        live: false,
+        spacing: 8533,
     }
 }
 
@@ -38,7 +40,7 @@ STOP Limit CYCLE 10 WRITES 1
 3 010 54171
 ";
     for (slots, status, told, refused) in [(1, DONE, text, ""), (0, REFUSED, "", "agc: slots\n")] {
-        let (mut rope, mut script): (&[u8], &[u8]) = (&RELAY_WORD, b"");
+        let (mut rope, mut script, mut keys): (&[u8], &[u8], &[u8]) = (&RELAY_WORD, b"", b"");
         let mut out = Vec::new(rt.alloc());
         let mut err = Vec::new(rt.alloc());
         let ended = session(
@@ -47,6 +49,7 @@ STOP Limit CYCLE 10 WRITES 1
             &options(&rt, slots),
             &mut rope,
             &mut script,
+            &mut keys,
             &Open,
             &mut out,
             &mut err,

@@ -1,8 +1,9 @@
-//! The lines that the program prints of its own: the stop and the log.
+//! The lines that the program prints of its own: the stop, the log and the live keys.
 ghost use Rattle.std.specs.Prelude.{◌≡◌, ◌++◌, ◌<◌, ◌^◌, All, OnOk, string_bytes};
-ghost use Rattle.agc_session.specs.Text.{stop_name, stop_line, log_line, log_text};
+ghost use Rattle.agc_session.specs.Text.{stop_name, stop_line, log_line, log_text, tape_line, tape_text, live_text};
 
 use agc_machine::{ChannelWrite, Stop};
+use agc_script::{Key, Tape};
 use std::alloc::AllocError;
 
 /// The stop as the program names it.
@@ -50,6 +51,34 @@ pub fn push_log(text: &mut String, log: &[ChannelWrite]) -> Result<(), AllocErro
 {
     for write in log {
         push_log_line(text, write)?;
+    }
+    Ok(())
+}
+
+/// Adds the line of a key of the tape, with the machine cycle at which it was taken.
+pub fn push_tape_line(text: &mut String, cycle: u64, key: Key) -> Result<(), AllocError>
+    ensures { OnOk result (string_bytes text.new ≡ string_bytes text.old ++ tape_line (cycle, key)) }
+{
+    let name = key.name();
+    writeln!(text, "{cycle} key {name}")
+}
+
+/// Adds the lines of a tape, and the number of keys that are left.
+pub fn push_live(text: &mut String, tape: &Tape, left: usize) -> Result<(), AllocError>
+    ensures { OnOk result (string_bytes text.new ≡ string_bytes text.old ++ live_text tape.now left) }
+{
+    push_tape(text, tape)?;
+    writeln!(text, "REST {left}")
+}
+
+/// Adds the lines of a tape.
+#[tactic(auto, unfolding(crate::specs::Text::tape_text))]
+fn push_tape(text: &mut String, tape: &Tape) -> Result<(), AllocError>
+    ensures { OnOk result (string_bytes text.new ≡ string_bytes text.old ++ tape_text tape.now) }
+{
+    for place in 0..tape.len() {
+        let (cycle, key) = tape.at(place);
+        push_tape_line(text, cycle, key)?;
     }
     Ok(())
 }

@@ -25,6 +25,7 @@ fn command_line(rt: HostRuntime) {
     assert!(rt; plain.rope.as_str() == "r" && plain.script.as_str() == "s");
     assert!(rt; plain.watch.is_none() && plain.until.is_none());
     assert_eq!(rt; plain.form, RopeForm::Classic);
+    assert_eq!(rt; (plain.live, plain.spacing), (false, 8533));
 
     let full = parsed(
         &rt,
@@ -41,6 +42,8 @@ fn command_line(rt: HostRuntime) {
             "parity",
             "--until",
             "0,1",
+            "--live",
+            "--spacing=0",
         ],
     );
     assert_eq!(rt; (full.limit, full.slots, full.log), (5, 1, true));
@@ -51,6 +54,7 @@ fn command_line(rt: HostRuntime) {
             .is_some_and(|spec| spec.as_str() == "0,1")
     );
     assert_eq!(rt; full.form, RopeForm::Parity);
+    assert_eq!(rt; (full.live, full.spacing), (true, 0));
 }
 
 #[test]
@@ -73,6 +77,10 @@ fn command_line_faults(rt: HostRuntime) {
     );
     assert_eq!(rt;
         outcome(&rt, &["agc", "r", "s", "--limit", "18446744073709551616"]),
+        "Command"
+    );
+    assert_eq!(rt;
+        outcome(&rt, &["agc", "r", "s", "--limit", "1", "--spacing", "x"]),
         "Command"
     );
 }

@@ -1,7 +1,8 @@
 //! Whole runs: their channel writes, their limits and their stops.
 use super::*;
-use crate::{LimitFault, Refused};
+use crate::{ChannelWrite, LimitFault, Refused};
 use agc_store::Store;
+use agc_word::Narrow;
 use std::test::Fail;
 
 /// EXTEND, WRITE 10, TCF 4000, again and again: a write of +0 each four cycles, the first at cycle 1
@@ -48,6 +49,34 @@ fn division_stops(rt: &impl Abort, machine: &mut Machine) {
     stopped(rt, machine, Stop::DivisionUndefined, 6);
     assert_eq!(rt; registers(machine), [0o000002, 0, 0, 0o4005]);
     assert_eq!(rt; machine.wants_key(), false);
+}
+
+/// EXTEND, WRITE 10, TCF 4000 write at the cycles 1 and 5. EXTEND ends at 1, the first write at 3,
+/// TCF at 4 and EXTEND again at 5, which are as far as a way to the cycle 1, 5, 4 and 5 goes.
+#[test]
+fn the_way_to_a_cycle(rt: HostRuntime) -> Result<(), Fail> {
+    let mut machine = machine(&rt, &[0o00006, 0o01010, 0o14000], "", 7)?;
+    assert_eq!(rt; machine.next_write_before(1), Stepped::Quiet);
+    assert_eq!(rt; machine.cycle(), 1);
+    let first = ChannelWrite {
+        cycle: 1,
+        channel: 0o10,
+        value: Narrow::PLUS_ZERO,
+    };
+    assert_eq!(rt; machine.next_write_before(5), Stepped::Wrote(first));
+    assert_eq!(rt; machine.cycle(), 3);
+    assert_eq!(rt; machine.next_write_before(4), Stepped::Quiet);
+    assert_eq!(rt; machine.cycle(), 4);
+    assert_eq!(rt; machine.next_write_before(5), Stepped::Quiet);
+    assert_eq!(rt; machine.cycle(), 5);
+    let second = ChannelWrite { cycle: 5, ..first };
+    assert_eq!(rt; machine.next_write_before(1000), Stepped::Wrote(second));
+    assert_eq!(rt;
+        machine.next_write_before(1000),
+        Stepped::Stopped(Stop::Limit)
+    );
+    assert_eq!(rt; machine.next_write_before(0), Stepped::Stopped(Stop::Limit));
+    Ok(())
 }
 
 /// EXTEND, EDRUPT: the stop is at cycle 1, as EDRUPT takes none.

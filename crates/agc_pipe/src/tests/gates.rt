@@ -89,6 +89,55 @@ impl Gate for Meeting {
     }
 }
 
+/// The machine waits before its first send until the third key is fed, and the display with the first
+/// key fed until the machine comes to that send.
+#[derive(Drop)]
+pub(super) struct KeysMeet {
+    turns: u32,
+    /// The machine came to its first send.
+    sent: Flag,
+    /// The third key was fed.
+    fed: Flag,
+    /// The machine's wait ended in time.
+    pub(super) machine_met: Flag,
+    /// The display's wait ended in time.
+    pub(super) display_met: Flag,
+}
+
+impl KeysMeet {
+    pub(super) fn new(turns: u32) -> KeysMeet {
+        KeysMeet {
+            turns,
+            sent: Flag::new(),
+            fed: Flag::new(),
+            machine_met: Flag::new(),
+            display_met: Flag::new(),
+        }
+    }
+}
+
+impl Gate for KeysMeet {
+    fn before_send(&self, n: u64) {
+        if n == 1 {
+            self.sent.raise();
+            if self.fed.raised_within(self.turns) {
+                self.machine_met.raise();
+            }
+        }
+    }
+
+    fn after_receive(&self, _n: u64) {}
+
+    fn key_sent(&self, n: u64) {
+        if n == 1 && self.sent.raised_within(self.turns) {
+            self.display_met.raise();
+        }
+        if n == 3 {
+            self.fed.raise();
+        }
+    }
+}
+
 /// Counts the calls, and notes one whose number is not the next.
 #[derive(Drop)]
 pub(super) struct Counting {
@@ -131,11 +180,13 @@ impl Gate for Counting {
     }
 }
 
-/// Makes the machine spin before each send, and the display after each write that it took.
+/// Makes the machine spin before each send, or the display after each write that it took or each key
+/// that it fed.
 #[derive(Drop)]
 pub(super) struct Slow {
     machine_turns: u32,
     display_turns: u32,
+    key_turns: u32,
 }
 
 impl Slow {
@@ -143,6 +194,7 @@ impl Slow {
         Slow {
             machine_turns: turns,
             display_turns: 0,
+            key_turns: 0,
         }
     }
 
@@ -150,6 +202,15 @@ impl Slow {
         Slow {
             machine_turns: 0,
             display_turns: turns,
+            key_turns: 0,
+        }
+    }
+
+    pub(super) fn keys(turns: u32) -> Slow {
+        Slow {
+            machine_turns: 0,
+            display_turns: 0,
+            key_turns: turns,
         }
     }
 }
@@ -161,6 +222,10 @@ impl Gate for Slow {
 
     fn after_receive(&self, _n: u64) {
         spin(self.display_turns);
+    }
+
+    fn key_sent(&self, _n: u64) {
+        spin(self.key_turns);
     }
 }
 

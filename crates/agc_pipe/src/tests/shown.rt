@@ -3,7 +3,7 @@ ghost use Rattle.std.specs.Prelude.{◌≡◌, false, IfOk};
 
 use super::gates::{Counting, Meeting, Slow};
 use crate::{Gate, Open, ShowFault, Shown, run_shown};
-use agc_machine::{Machine, Stop};
+use agc_machine::{Machine, Next, Stop};
 use agc_panel::Panel;
 use agc_script::Script;
 use agc_store::Rope;
@@ -120,6 +120,25 @@ fn assert_division<G: Gate + Sync>(
 fn thousand_writes(rt: HostRuntime) -> Result<(), Fail> {
     assert_shown(&rt, 1, &Open)?;
     assert_shown(&rt, 256, &Open)
+}
+
+/// A long run: each write of the machine's own, and no other, is in the log.
+#[test]
+fn hundred_thousand_writes(rt: HostRuntime) -> Result<(), Fail> {
+    let shown = run_shown(
+        &rt,
+        rt.alloc(),
+        machine(&rt, &WRITES, b"", 450_000)?,
+        256,
+        &Open,
+    )?;
+    let mut machine = machine(&rt, &WRITES, b"", 450_000)?;
+    for write in shown.log.as_slice() {
+        assert_eq!(rt; machine.next_write(), Next::Wrote(*write));
+    }
+    assert_eq!(rt; machine.next_write(), Next::Stopped(Stop::Limit));
+    assert!(rt; shown.log.len() > 100_000);
+    Ok(())
 }
 
 #[test]

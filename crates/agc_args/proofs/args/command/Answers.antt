@@ -17,9 +17,11 @@ returns c =
     let watch = with_parameter c.in_ok-arg-4.field-0 c.in_ok-arg-5.field-0 c.watch_option.result _ _ c.in_ok-arg-5.ensures c.watch_option.ensures.local slots c.watch_option.ensures.rule in
     let log = with_parameter c.in_ok-arg-5.field-0 c.in_ok-arg-6.field-0 c.log_option.result _ _ c.in_ok-arg-6.ensures c.log_option.ensures.local watch c.log_option.ensures.rule in
     let form = with_parameter c.in_ok-arg-6.field-0 c.in_ok-arg-7.field-0 c.form_option.result _ _ c.in_ok-arg-7.ensures c.form_option.ensures.local log refl in
-    IfOk-weaker c.arg-8.result (AddsArg c.in_ok-arg-7.field-0 c.until_option.result) (λ command. IsCommandLine (app_of command))
+    let until = with_parameter c.in_ok-arg-7.field-0 c.in_ok-arg-8.field-0 c.until_option.result _ _ c.in_ok-arg-8.ensures c.until_option.ensures.local form c.until_option.ensures.rule in
+    let live = with_parameter c.in_ok-arg-8.field-0 c.in_ok-arg-9.field-0 c.live_option.result _ _ c.in_ok-arg-9.ensures c.live_option.ensures.local until c.live_option.ensures.rule in
+    IfOk-weaker c.arg-10.result (AddsArg c.in_ok-arg-9.field-0 c.spacing_option.result) (λ command. IsCommandLine (app_of command))
     (λ whole added. (
       rule_of c.form_option.result,
       c.form_option.ensures.rule,
-      with_parameter c.in_ok-arg-7.field-0 whole c.until_option.result _ _ added c.until_option.ensures.local form c.until_option.ensures.rule,
-    )) c.arg-8.ensures
+      with_parameter c.in_ok-arg-9.field-0 whole c.spacing_option.result _ _ added c.spacing_option.ensures.local live c.spacing_option.ensures.rule,
+    )) c.arg-10.ensures

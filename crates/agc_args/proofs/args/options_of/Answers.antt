@@ -13,4 +13,6 @@ returns-clause-options c = record {
   log = flag_in_rows (found_of c.args.matches.now) (codes "log") c.get_flag.result c.get_flag.ensures.none c.get_flag.ensures.value c.get_flag.ensures.other;
   form = c.form_of.ensures;
   until = c.in_ok-text_of-2.ensures;
+  live = flag_in_rows (found_of c.args.matches.now) (codes "live") c.get_flag-2.result c.get_flag-2.ensures.none c.get_flag-2.ensures.value c.get_flag-2.ensures.other;
+  spacing = c.spacing_of.ensures;
 }

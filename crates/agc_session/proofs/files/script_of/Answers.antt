@@ -1,4 +1,4 @@
-use Rattle.agc_session.proofs.Refused.{script_faulty}
+use Rattle.agc_session.proofs.Denied.{script_faulty}
 use Rattle.agc_session.proofs.files.script_of.Goals as goal
 
 pub returns-in-Err-clause-refused : goal.returns-in-Err-clause-refused

@@ -1,0 +1,288 @@
+//! The worked runs, and every refusal in its place.
+use super::*;
+use std::test::Fail;
+
+/// LST1 and LST2 where every cell is +0.
+const NO_TIMES: &str = "LST1 00000 00000 00000 00000 00000 00000 00000 00000
+LST2 0 00000 00000
+LST2 1 00000 00000
+LST2 2 00000 00000
+LST2 3 00000 00000
+LST2 4 00000 00000
+LST2 5 00000 00000
+LST2 6 00000 00000
+LST2 7 00000 00000
+LST2 8 00000 00000
+";
+
+#[test]
+fn idle_loop(rt: HostRuntime) {
+    stops(
+        &rt,
+        without_keys("--limit 10", &IDLE, b""),
+        "__",
+        "Limit CYCLE 10 WRITES 0\n",
+    );
+}
+
+#[test]
+fn relay_word_shows_prog(rt: HostRuntime) {
+    let after = "Limit CYCLE 10 WRITES 1\n3 010 54171\n";
+    stops(
+        &rt,
+        without_keys("--limit 10 --log", &RELAY_WORD, b""),
+        "12",
+        after,
+    );
+}
+
+#[test]
+fn undefined_division_stops(rt: HostRuntime) {
+    stops(
+        &rt,
+        without_keys("--limit 100 --log --slots 1", &DIVISION, ONE_POKED),
+        "__",
+        DIVIDED,
+    );
+}
+
+#[test]
+fn largest_limit(rt: HostRuntime) {
+    stops(
+        &rt,
+        without_keys("--limit 1000000000000 --log", &DIVISION, ONE_POKED),
+        "__",
+        DIVIDED,
+    );
+}
+
+#[test]
+fn write_then_edrupt(rt: HostRuntime) {
+    stops(
+        &rt,
+        without_keys("--limit 100 --slots 1 --log", &EDRUPT, b""),
+        "__",
+        EDRUPTED,
+    );
+}
+
+#[test]
+fn last_order_passes_limit(rt: HostRuntime) {
+    stops(
+        &rt,
+        without_keys("--limit 1", &RELAY_WORD, b""),
+        "__",
+        "Limit CYCLE 2 WRITES 0\n",
+    );
+}
+
+#[test]
+fn watch_without_sets(rt: HostRuntime) -> Result<(), Fail> {
+    let after = format!(in rt.alloc(); "Limit CYCLE 10 WRITES 0\n{NO_TIMES}")?;
+    stops(
+        &rt,
+        without_keys("--limit 10 --watch 0,0,0,1,0,1,10", &IDLE, b""),
+        "__",
+        after.as_str(),
+    );
+    Ok(())
+}
+
+#[test]
+fn watch_out_of_erasable(rt: HostRuntime) {
+    for sets in ["1", "21"] {
+        let line = format!(in rt.alloc(); "--limit 10 --watch 7,377,{sets},1,0,1,0").expect(
+            &rt, "memory",
+        );
+        refuses(
+            &rt,
+            without_keys(line.as_str(), &IDLE, b""),
+            "watch: OutOfErasable",
+        );
+    }
+}
+
+#[test]
+fn until_an_order(rt: HostRuntime) {
+    let reached = "Reached CYCLE 5 WRITES 1\n";
+    stops(
+        &rt,
+        without_keys("--limit 10 --until 0,4003", &RELAY_WORD, b""),
+        "12",
+        reached,
+    );
+    let at_start = "Reached CYCLE 0 WRITES 0\n";
+    stops(
+        &rt,
+        without_keys("--limit 10 --until 0,4000", &RELAY_WORD, b""),
+        "__",
+        at_start,
+    );
+}
+
+#[test]
+fn until_a_bank(rt: HostRuntime) {
+    let rope = [0x28, 0x00];
+    stops(
+        &rt,
+        without_keys("--limit 10 --until 0,2000", &rope, b""),
+        "__",
+        "Reached CYCLE 1 WRITES 0\n",
+    );
+    stops(
+        &rt,
+        without_keys("--limit 10 --until 1,2000", &rope, b""),
+        "__",
+        "Limit CYCLE 10 WRITES 0\n",
+    );
+    refuses(
+        &rt,
+        without_keys("--limit 10 --until 50,2000", &rope, b""),
+        "until: BadSpec",
+    );
+}
+
+#[test]
+fn command_line_refusals(rt: HostRuntime) {
+    refuses(&rt, without_keys("--limit 0", &IDLE, b""), "limit: Zero");
+    refuses(
+        &rt,
+        without_keys("--limit 10 --watch 1,2", &IDLE, b""),
+        "watch: BadSpec",
+    );
+}
+
+/// Each line has all faults of the lines after it, so that the order shows.
+#[test]
+fn first_refusal_decides(rt: HostRuntime) {
+    let bad = "--watch 1 --until 1 --slots 0";
+    let all = format!(in rt.alloc(); "--limit 0 {bad}").expect(&rt, "memory");
+    refuses(&rt, without_keys(all.as_str(), b"", b"x"), "rope: Empty");
+    refuses(
+        &rt,
+        without_keys(all.as_str(), b"1", b"x"),
+        "rope: OddLength",
+    );
+    refuses(
+        &rt,
+        without_keys(all.as_str(), &IDLE, b"\nx"),
+        "script line 2: BadCycle",
+    );
+    refuses(&rt, without_keys(all.as_str(), &IDLE, b""), "limit: Zero");
+    let large = format!(in rt.alloc(); "--limit 1000000000001 {bad}").expect(&rt, "memory");
+    refuses(
+        &rt,
+        without_keys(large.as_str(), &IDLE, b""),
+        "limit: TooLarge",
+    );
+    for (line, err) in [
+        ("--limit 1 --watch 1 --until 1 --slots 0", "watch: BadSpec"),
+        (
+            "--limit 1 --watch 10,0,0,0,0,0,0 --until 1 --slots 0",
+            "until: BadSpec",
+        ),
+        (
+            "--limit 1 --watch 10,0,0,0,0,0,0 --until 0,0 --slots 0",
+            "slots",
+        ),
+        (
+            "--limit 1 --watch 10,0,0,0,0,0,0 --until 0,0 --slots 65537",
+            "slots",
+        ),
+        (
+            "--limit 1 --watch 10,0,0,0,0,0,0 --until 0,0 --slots 65536",
+            "watch: OutOfErasable",
+        ),
+        ("--limit 1 --watch 0,0,21,0,0,0,0", "watch: TooManySets"),
+    ] {
+        refuses(&rt, without_keys(line, &IDLE, b""), err);
+    }
+}
+
+#[test]
+fn parity_session(rt: HostRuntime) -> Result<(), Fail> {
+    let mut rope = Vec::new(rt.alloc());
+    for _ in 0..2048 {
+        rope.extend_from_slice(&[0x00, 0x01])?;
+    }
+    rope.extend_from_slice(&[0x30, 0x01])?;
+    let line = "--limit 10 --form parity";
+    stops(
+        &rt,
+        without_keys(line, rope.as_slice(), b""),
+        "__",
+        "Limit CYCLE 10 WRITES 0\n",
+    );
+    refuses(&rt, without_keys(line, &IDLE, b""), "rope: Parity");
+    Ok(())
+}
+
+#[test]
+fn every_downrupt(rt: HostRuntime) -> Result<(), Fail> {
+    let mut rope = vec![in rt.alloc(); 0u8; 64]?;
+    rope[0] = 0x30;
+    rope.extend_from_slice(&[0x00, 0x0C, 0x04, 0x10, 0xA0, 0x1E])?;
+    let after = "Limit CYCLE 120 WRITES 6
+4 010 00000
+24 010 00000
+44 010 00000
+64 010 00000
+84 010 00000
+104 010 00000
+";
+    let script = b"every 20 0 100 raise 8";
+    stops(
+        &rt,
+        without_keys("--limit 120 --log", rope.as_slice(), script),
+        "__",
+        after,
+    );
+    Ok(())
+}
+
+#[test]
+fn script_edges(rt: HostRuntime) -> Result<(), Fail> {
+    for (blanks, told) in [(111, None), (112, Some("script line 1: LineTooLong"))] {
+        let mut script = Vec::new(rt.alloc());
+        script.extend_from_slice(b"0 raise 1")?;
+        for _ in 0..blanks {
+            script.push(b' ')?;
+        }
+        script.extend_from_slice(b"\r\n")?;
+        match told {
+            Some(err) => refuses(
+                &rt,
+                without_keys("--limit 10", &IDLE, script.as_slice()),
+                err,
+            ),
+            None => stops(
+                &rt,
+                without_keys("--limit 10", &IDLE, script.as_slice()),
+                "__",
+                "Limit CYCLE 10 WRITES 0\n",
+            ),
+        }
+    }
+    stops(
+        &rt,
+        without_keys("--limit 10", &IDLE, b"1000000000000 raise 1"),
+        "__",
+        "Limit CYCLE 10 WRITES 0\n",
+    );
+    for (script, err) in [
+        ("1000000000001 raise 1", "script line 1: BadCycle"),
+        ("0", "script line 1: UnknownWord"),
+        ("0 raise 11", "script line 1: OutOfRange"),
+        ("0 raise 0000001", "script line 1: BadNumber"),
+        ("0 pulse 23 pinc", "script line 1: OutOfRange"),
+        ("0 poke 9 400 1", "script line 1: BadNumber"),
+        ("5 key 1\n4 key 2", "script line 2: OutOfOrder"),
+    ] {
+        refuses(
+            &rt,
+            without_keys("--limit 10", &IDLE, script.as_bytes()),
+            err,
+        );
+    }
+    Ok(())
+}

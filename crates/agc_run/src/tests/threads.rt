@@ -1,0 +1,139 @@
+//! The two threads of a session, with gates that hold one of them up: a session that runs the
+//! machine itself, drops the gate or the number of slots does not get through.
+use super::gates::{Meeting, Slow};
+use super::*;
+use std::test::Fail;
+
+/// How often a gate looks for what must come.
+const TURNS: u32 = 1_000_000;
+
+/// How often a gate looks for what must not come.
+const FEW_TURNS: u32 = 20_000;
+
+/// How long a slow thread spins at each write.
+const SPIN: u32 = 1000;
+
+/// What follows the log without live keys, and with them where no key is given.
+const WAYS: [(&str, &str); 2] = [("", ""), (" --live", "REST 0\n")];
+
+/// Runs the thousand writes through a gate: each write once and in order, with nothing after them.
+fn shows_thousand<G: Gate + Sync>(
+    rt: &impl Host,
+    slots: &str,
+    way: (&str, &str),
+    gate: &G,
+) -> Result<(), Fail> {
+    let line = format!(in rt.alloc(); "--limit 4018 --log{slots}{}", way.0)?;
+    let ended = run_gated(rt, without_keys(line.as_str(), &WRITES, b""), gate);
+    assert_eq!(rt; ended.status, DONE, "{line}");
+    assert!(rt; ended.err.is_empty(), "{line}");
+    let text = String::from_utf8(ended.out)?;
+    let text = text.as_str().strip_suffix(way.1);
+    let text = text.expect(rt, "the lines of the keys");
+    assert_eq!(rt; text.lines().count(), 1009, "{line}");
+    assert_eq!(rt;
+        text.lines().nth(8),
+        Some("STOP Limit CYCLE 4018 WRITES 1000")
+    );
+    let is_write = |line: &&str| line.ends_with(" 010 00000");
+    assert_eq!(rt; text.lines().filter(is_write).count(), 1000, "{line}");
+    assert_eq!(rt; text.lines().nth(9), Some("1 010 00000"));
+    assert_eq!(rt; text.lines().nth(10), Some("5 010 00000"));
+    assert_eq!(rt; text.lines().last(), Some("4014 010 00000"));
+    Ok(())
+}
+
+#[test]
+fn thousand_writes(rt: HostRuntime) -> Result<(), Fail> {
+    shows_thousand(&rt, " --slots 1", WAYS[0], &Open)?;
+    shows_thousand(&rt, "", WAYS[0], &Open)
+}
+
+/// In one slot a block is one write, so write 1 is in the ring when the machine comes to write 2. It
+/// waits there until the display took write 1, and the display waits with write 1 taken until the
+/// machine came to write 2: both get on only where each is on a thread of its own.
+#[test]
+fn both_threads_run(rt: HostRuntime) -> Result<(), Fail> {
+    for way in WAYS {
+        let meeting = Meeting::new(2, TURNS, TURNS);
+        shows_thousand(&rt, " --slots 1", way, &meeting)?;
+        assert!(rt; meeting.machine_met.is_up(), "the machine{}", way.0);
+        assert!(rt; meeting.display_met.is_up(), "the display{}", way.0);
+    }
+    Ok(())
+}
+
+/// While the display holds write 1, write 2 fills the one slot, and write 3 waits for it: the
+/// machine comes to write 4 only when the display goes on.
+#[test]
+fn ring_has_no_more_room(rt: HostRuntime) -> Result<(), Fail> {
+    for way in WAYS {
+        let meeting = Meeting::new(4, TURNS, FEW_TURNS);
+        shows_thousand(&rt, " --slots 1", way, &meeting)?;
+        assert!(rt; meeting.machine_met.is_up(), "the machine{}", way.0);
+        assert!(rt; !meeting.display_met.is_up(), "the display{}", way.0);
+        assert!(rt; meeting.sent.is_up(), "write 4{}", way.0);
+    }
+    Ok(())
+}
+
+/// Where no slots are named there are 256. The first block carries 64 writes, and the gate is told
+/// of write 2 before the block is sent: however long the machine waits there, the display has nothing
+/// to take.
+#[test]
+fn ring_has_256_slots_by_default(rt: HostRuntime) -> Result<(), Fail> {
+    for way in WAYS {
+        let meeting = Meeting::new(2, FEW_TURNS, 0);
+        shows_thousand(&rt, "", way, &meeting)?;
+        assert!(rt;
+            meeting.sent.is_up() && meeting.received.is_up(),
+            "both{}",
+            way.0
+        );
+        assert!(rt; !meeting.machine_met.is_up(), "the machine{}", way.0);
+    }
+    Ok(())
+}
+
+/// A slow machine leaves the ring empty, and a slow display leaves it full: the text is the same.
+#[test]
+fn slow_threads(rt: HostRuntime) -> Result<(), Fail> {
+    for slots in ["1", "2", "65536"] {
+        let slots = format!(in rt.alloc(); " --slots {slots}")?;
+        for gate in [Slow::new(SPIN, 0, 0), Slow::new(0, SPIN, 0)] {
+            for way in WAYS {
+                shows_thousand(&rt, slots.as_str(), way, &gate)?;
+                stops_slowly(
+                    &rt,
+                    slots.as_str(),
+                    way,
+                    &gate,
+                    &DIVISION,
+                    ONE_POKED,
+                    DIVIDED,
+                )?;
+                stops_slowly(&rt, slots.as_str(), way, &gate, &EDRUPT, b"", EDRUPTED)?;
+            }
+        }
+    }
+    Ok(())
+}
+
+/// A run of one write through a gate, with its lines after `STOP `.
+fn stops_slowly(
+    rt: &impl Host,
+    slots: &str,
+    way: (&str, &str),
+    gate: &Slow,
+    rope: &[u8],
+    script: &[u8],
+    after: &str,
+) -> Result<(), Fail> {
+    let line = format!(in rt.alloc(); "--limit 100 --log{slots}{}", way.0)?;
+    let ended = run_gated(rt, without_keys(line.as_str(), rope, script), gate);
+    let out = format!(in rt.alloc(); "PROG __\n{REST}STOP {after}{}", way.1)?;
+    assert_eq!(rt; ended.status, DONE, "{line}");
+    assert!(rt; ended.out.as_slice() == out.as_bytes(), "{line}");
+    assert!(rt; ended.err.is_empty(), "{line}");
+    Ok(())
+}
