@@ -76,6 +76,7 @@ fn is_short(options: &Options) -> bool {
         && options.watch.is_none()
         && options.until.is_none()
         && options.form == RopeForm::Classic
+        && (options.live, options.spacing) == (false, 8533)
 }
 
 /// Whether these are the options of the division.
@@ -136,7 +137,7 @@ where
         return no_input(out);
     };
     let (mut printed, mut told) = (Page::new(), Page::new());
-    let (mut rope, mut script): (&[u8], &[u8]) = (&DIVISION, POKE);
+    let (mut rope, mut script, mut keys): (&[u8], &[u8], &[u8]) = (&DIVISION, POKE, b"");
     begin(out, Call::Session)?;
     let status = session(
         rt,
@@ -144,6 +145,7 @@ where
         &options,
         &mut rope,
         &mut script,
+        &mut keys,
         &Open,
         &mut printed,
         &mut told,
