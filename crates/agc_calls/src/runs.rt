@@ -1,0 +1,186 @@
+//! The calls that make a ring, and run a machine beside its display.
+ghost use Rattle.std.specs.Prelude.{◌≡◌, false, IfSome};
+
+use crate::call::Call;
+use crate::report::{Attempt, answered, begin, no_input, refused, tell, wrong};
+use agc_machine::{Machine, Stop};
+use agc_panel::Panel;
+use agc_pipe::{Gate, LinkFault, Live, ShowFault, Shown, link, run_live, run_shown};
+use agc_script::{Key, Script};
+use agc_store::Rope;
+use std::alloc::Global;
+use std::io::{self, Write};
+use std::sync::Wait;
+use std::sync::atomic::{AtomicU64, Ordering};
+use std::thread::Threads;
+
+/// EXTEND, WRITE 10, TCF 4000: a write of +0 to channel 10 in four cycles.
+const ROPE: [u8; 6] = [0x00, 0x0C, 0x04, 0x10, 0x30, 0x00];
+
+/// The writes of the short run.
+const WRITES: u64 = 1000;
+
+/// The thousandth write begins at cycle 4014, and the run ends at 4018.
+const LIMIT: u64 = 4018;
+
+/// A run that is long enough for its keys, and the fewest writes that it may have.
+const LIVE_LIMIT: u64 = 100_000;
+
+const LIVE_WRITES: u64 = 24_000;
+
+/// The keys that are pressed live, and the cycles between two of them.
+const KEYS: [Key; 3] = [Key::Verb, Key::Three, Key::Five];
+
+const SPACING: u64 = 8533;
+
+/// `link` of a ring with one slot.
+pub fn link_ends<W: Write>(alloc: Global, out: &mut W) -> io::Result<Attempt> {
+    begin(out, Call::Link)?;
+    match link(alloc, 1) {
+        Ok((sender, _receiver)) => answered(out, sender.capacity() == 1),
+        Err(LinkFault::Memory) => refused(out, "Memory", true),
+        Err(_) => wrong(out),
+    }
+}
+
+/// The gate that keeps the numbers of the writes that were sent and received last.
+#[derive(Drop)]
+struct Counts {
+    sent: AtomicU64,
+    received: AtomicU64,
+}
+
+impl Counts {
+    const fn new() -> Counts {
+        Counts {
+            sent: AtomicU64::new(0),
+            received: AtomicU64::new(0),
+        }
+    }
+
+    fn received(&self) -> u64 {
+        self.received.load(Ordering::SeqCst)
+    }
+
+    /// Whether all writes of a run that has so many at least were received.
+    fn is_whole(&self, least: u64) -> bool {
+        let received = self.received();
+        received >= least && received == self.sent.load(Ordering::SeqCst)
+    }
+}
+
+impl Gate for Counts {
+    fn before_send(&self, n: u64) {
+        self.sent.store(n, Ordering::SeqCst);
+    }
+
+    fn after_receive(&self, n: u64) {
+        self.received.store(n, Ordering::SeqCst);
+    }
+}
+
+/// `run_shown` of a thousand writes through one slot.
+pub fn show_writes<R, W: Write>(rt: &R, out: &mut W) -> io::Result<Attempt>
+where
+    R: AllocGlobal + Threads + Wait + Sync,
+{
+    let Some(machine) = machine_of(rt.alloc(), &ROPE, LIMIT) else {
+        return no_input(out);
+    };
+    let gate = Counts::new();
+    begin(out, Call::RunShown)?;
+    match run_shown(rt, rt.alloc(), machine, 1, &gate) {
+        Ok(shown) => answered(out, is_thousand(&shown) && gate.is_whole(WRITES)),
+        Err(fault) => tell_fault(out, fault, &gate, WRITES),
+    }
+}
+
+/// `run_live` of many writes, which keys interrupt.
+pub fn run_with_keys<R, W: Write>(rt: &R, out: &mut W) -> io::Result<Attempt>
+where
+    R: AllocGlobal + Threads + Wait + Sync,
+{
+    let alloc = rt.alloc();
+    let Some(machine) = machine_of(alloc, &live_rope(), LIVE_LIMIT) else {
+        return no_input(out);
+    };
+    let Some(keys) = pressed_keys(alloc) else {
+        return no_input(out);
+    };
+    let gate = Counts::new();
+    begin(out, Call::RunLive)?;
+    match run_live(rt, alloc, machine, keys, SPACING, 256, &gate) {
+        Ok(live) => answered(out, has_keys(&live) && gate.is_whole(LIVE_WRITES)),
+        Err(fault) => tell_fault(out, fault, &gate, LIVE_WRITES),
+    }
+}
+
+/// Tells the fault of a run of so many writes at least, and how many of them were received.
+fn tell_fault<W: Write>(
+    out: &mut W,
+    fault: ShowFault,
+    gate: &Counts,
+    least: u64,
+) -> io::Result<Attempt> {
+    let received = if gate.received() == 0 {
+        "received none"
+    } else if gate.is_whole(least) {
+        "received all"
+    } else {
+        "received some"
+    };
+    tell(out, received)?;
+    match fault {
+        ShowFault::Memory => refused(out, "Memory", true),
+        ShowFault::Thread => refused(out, "Thread", true),
+        ShowFault::Slots | ShowFault::Spacing => wrong(out),
+    }
+}
+
+/// The machine of a rope, without a script.
+#[tactic(auto, unfolding(agc_machine::specs::State::start_state))]
+fn machine_of(alloc: Global, rope: &[u8], limit: u64) -> Option<Machine>
+    ensures { IfSome result (λ machine. machine.begun ≡ false) }
+{
+    let rope = Rope::read(alloc, rope).ok()?;
+    Machine::new(rope, Script::empty(alloc), limit).ok()
+}
+
+/// The words of the writes, with RESUME at 4024, where a key interrupts.
+fn live_rope() -> [u8; 42] {
+    let mut rope = [0; 42];
+    rope[..6].copy_from_slice(&ROPE);
+    rope[40] = 0xA0;
+    rope[41] = 0x1E;
+    rope
+}
+
+fn pressed_keys(alloc: Global) -> Option<Vec<Key>> {
+    let mut keys = Vec::new(alloc);
+    for key in KEYS {
+        keys.push(key).ok()?;
+    }
+    Some(keys)
+}
+
+/// Whether the keys of the tape and then the rest are those that were pressed.
+fn has_keys(live: &Live) -> bool {
+    let (tape, rest) = (&live.tape, live.rest.as_slice());
+    let taken = tape.len();
+    taken <= KEYS.len()
+        && (0..taken).all(|i| KEYS.get(i) == Some(&tape.at(i).1))
+        && KEYS.get(taken..) == Some(rest)
+}
+
+/// Whether these are the thousand writes, on a panel that stays blank.
+fn is_thousand(shown: &Shown) -> bool {
+    let log = shown.log.as_slice();
+    let cycle = |place: usize| log.get(place).map_or(0, |write| write.cycle);
+    log.len() == 1000
+        && (cycle(0), cycle(1), cycle(999)) == (1, 5, 4014)
+        && log
+            .iter()
+            .all(|write| write.channel == 0o10 && write.value.bits() == 0)
+        && (shown.stop, shown.cycle) == (Stop::Limit, LIMIT)
+        && shown.panel == Panel::new()
+}
