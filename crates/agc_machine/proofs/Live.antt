@@ -14,7 +14,7 @@ use Rattle.agc_machine.specs.Live.{IsLive}
 use Rattle.agc_machine.specs.Replay.{Chain, chain, tape_of, AreWanted, with_tape, writes_in, run_in}
 use Rattle.agc_machine.specs.Run.{Run, boundaries_left, next_before, next_before_within, run_of, unless_quiet_before}
 use Rattle.agc_machine.specs.State.{State, start_state}
-use Rattle.agc_machine.specs.Taken.{AreTaken, IsAtStart, replayed, taken_in}
+use Rattle.agc_machine.specs.Taken.{IsAtStart, TakesTape, replayed}
 use Rattle.agc_machine.proofs.Chain.{boundary_falls}
 use Rattle.agc_machine.proofs.Replay.{key_is_quiet, live_run_replays}
 use Rattle.agc_machine.proofs.Taken.{tape_is_taken, tape_is_below}
@@ -175,11 +175,13 @@ live_ends start now tape writes why at h e =
     ∙ ap (λ (s : State). record { writes = writes; last = s }) (sym h.last)
 
 -- its tape is taken by that run
-pub live_tape_is_taken : (start now : State) (tape : List (ℕ × Key)) (writes : List ChannelWrite) → IsAtStart start → IsLive start tape writes now →
-    AreTaken (taken_in (replayed tape start)) tape
-live_tape_is_taken start now tape writes at h =
-    subst (λ (s : State). AreTaken (taken_in s) tape) (at_start start tape at)
-    (subst (λ (t : List (ℕ × Key)). AreTaken (taken_in (with_tape t start)) t) (sym h.taped) (tape_is_taken h.lives start h.wanted))
+pub live_tape_is_taken : (start now : State) (tape : List (ℕ × Key)) (writes : List ChannelWrite) (why : Stop) → IsAtStart start →
+    IsLive start tape writes now → now.stopped ≡ Some why → TakesTape start tape (replayed tape start)
+live_tape_is_taken start now tape writes why at h e =
+    let some : IsSome (chain h.lives start).last.stopped =
+    subst (λ (o : Option Stop). IsSome o) (sym (ap (λ (s : State). s.stopped) (sym h.last) ∙ e)) refl in
+    subst (λ (s : State). TakesTape start tape s) (at_start start tape at)
+    (subst (λ (t : List (ℕ × Key)). TakesTape start t (with_tape t start)) (sym h.taped) (tape_is_taken h.lives start h.wanted some))
 
 -- below the limit
 pub live_tape_is_below : (start now : State) (tape : List (ℕ × Key)) (writes : List ChannelWrite) → IsLive start tape writes now →

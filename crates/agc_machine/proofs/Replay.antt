@@ -74,7 +74,7 @@ by_timer_framed : (events : List Event) (limit : ℕ) (s : State) →
 unfolding by_timer
 by_timer_framed events limit s = timer_framed (timer_stepped s.cycle s.processor) events limit s
 
-timer_keeps_events : (s : State) → (by_timer s).0.events ≡ s.events
+pub timer_keeps_events : (s : State) → (by_timer s).0.events ≡ s.events
 timer_keeps_events s = ap (λ (r : State × Stepped). r.0.events) (by_timer_framed s.events s.limit s)
 
 pub timer_keeps_limit : (s : State) → (by_timer s).0.limit ≡ s.limit
@@ -89,7 +89,7 @@ abbrev pub IsFrom : ℕ → List (ℕ × Key) → Type 0
 IsFrom cycle [] = Unit {0}
 IsFrom cycle (entry ∷ tape) = cycle ≤ entry.0
 
-from_later : (cycle later : ℕ) (tape : List (ℕ × Key)) → cycle ≤ later → IsFrom later tape → IsFrom cycle tape
+pub from_later : (cycle later : ℕ) (tape : List (ℕ × Key)) → cycle ≤ later → IsFrom later tape → IsFrom cycle tape
 from_later cycle later [] l h = tt
 from_later cycle later (entry ∷ tape) l h = omega arith
 
@@ -147,7 +147,7 @@ undue_taped s tape l b f =
     past_event (with_tape tape s) (not_due s.cycle s.events tape b later) ∙ timer_taped s tape ∙ ap (taped tape) (sym same)
 
 -- an event that is due comes before the keys
-event_first : (event : Event) (rest : List Event) (tape : List (ℕ × Key)) → IsFrom event.cycle tape →
+pub event_first : (event : Event) (rest : List Event) (tape : List (ℕ × Key)) → IsFrom event.cycle tape →
     merged (event ∷ rest) tape ≡ event ∷ merged rest tape
 event_first event rest [] h = merged_no_keys (event ∷ rest) ∙ ap (λ (events : List Event). event ∷ events) (sym (merged_no_keys rest))
 event_first event rest (entry ∷ tape) h = merged_event_first event rest entry tape h
@@ -228,7 +228,7 @@ never_back s (t, stepped.Wrote write) f = omega arith
 never_back s (t, stepped.Stopped why) f = f.1
 
 -- a tape begins no earlier than its chain
-tape_from : (lives : List (Option Key)) (s : State) → IsFrom s.cycle (tape_of lives s)
+pub tape_from : (lives : List (Option Key)) (s : State) → IsFrom s.cycle (tape_of lives s)
 unfolding tape_of
 tape_from [] s = tt
 tape_from (Some key ∷ lives) s = omega arith

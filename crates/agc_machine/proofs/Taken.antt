@@ -1,42 +1,22 @@
 -- The plain run on the merged events takes each key of a live run's tape at the key's own cycle.
-use Rattle.std.proofs.Common.{◌≡◌, ◌≢◌, ℕ, ◌+◌, ◌-◌, ◌≤◌, ◌<◌, ◌⊎◌, suc, zero, List, [], ◌∷◌, ◌++◌, length, map, take, replicate, Option, Some, None, Bool, true, false, refl, ap, sym, ◌∙◌, subst, arith, inl, inr}
-use Rattle.std.specs.Prelude.{nat_le, if◌then◌else◌, IsSome, All, slice_get, IfSome}
+use Rattle.std.proofs.Common.{◌≡◌, ◌≢◌, ℕ, ◌+◌, ◌-◌, ◌≤◌, ◌<◌, ◌⊎◌, suc, zero, List, [], ◌∷◌, ◌++◌, length, map, take, replicate, Option, Some, None, Bool, true, false, refl, ap, sym, ◌∙◌, subst, arith, inl, inr, one-add}
+use Rattle.std.specs.Prelude.{drop, nat_le, nat_lt, if◌then◌else◌, IsSome, All, slice_get, IfSome}
+use Rattle.std.proofs.lemmas.Bool.Decides.{nat_tests}
 use Rattle.std.proofs.lemmas.List.Elements.{All-cons, All-nil}
-use Rattle.agc_script.specs.Merge.{merged, key_event}
+use Rattle.agc_script.specs.Merge.{due_at, merged, key_event}
 use Rattle.agc_script.specs.declared.event.Event.{Event}
 use Rattle.agc_script.specs.declared.key.Key.{Key}
 use Rattle.agc_machine.specs.declared.answer.Stepped.{Stepped}
 use Rattle.agc_machine.specs.declared.answer.Stepped.TheVariants as stepped
 use Rattle.agc_machine.specs.declared.answer.Stop.{Stop}
-use Rattle.agc_machine.specs.Boundary.{boundary, WantsKey}
+use Rattle.agc_machine.specs.Boundary.{boundary, by_event, by_limit, by_timer, event_or_on, stops, unless_stopped, IsBefore, WantsKey}
 use Rattle.agc_machine.specs.Laws.{after}
 use Rattle.agc_machine.specs.Replay.{Chain, chain, tape_of, AreWanted, with_tape, run_in}
 use Rattle.agc_machine.specs.Run.{boundaries_left, run_of}
 use Rattle.agc_machine.specs.State.{State, with_key}
-use Rattle.agc_machine.specs.Taken.{at_cycle, met_between, taken_within, taken_in, AreTaken, AreApart}
+use Rattle.agc_machine.specs.Taken.{at_cycle, at_own_cycle, marked, met_between, tape_marks, taken_within, AreApart, TakesTape}
 use Rattle.agc_machine.proofs.Chain.{stopped_stays, stops_in_time}
-use Rattle.agc_machine.proofs.Replay.{key_taped, key_first, none_taped, tape_follows, chain_is_run, key_keeps_events, boundary_keeps_limit}
-
--- what stands before or behind what is taken takes nothing away
-more_before : (takings more : List (ℕ × Event)) (tape : List (ℕ × Key)) → AreTaken takings tape → AreTaken (more ++ takings) tape
-unfolding AreTaken
-more_before takings more [] h = tt
-more_before takings [] (entry ∷ tape) h = h
-more_before takings (taking ∷ more) (entry ∷ tape) h = inr (more_before takings more (entry ∷ tape) h)
-
-none_taken : (tape : List (ℕ × Key)) (takings : List (ℕ × Event)) → AreTaken [] tape → AreTaken takings tape
-unfolding AreTaken
-none_taken [] takings h = tt
-none_taken (entry ∷ tape) takings h = absurd h
-
--- what goes on from the same beginning
-same_beginning : (more takings others : List (ℕ × Event)) (tape : List (ℕ × Key)) →
-    ((tape : List (ℕ × Key)) → AreTaken takings tape → AreTaken others tape) → AreTaken (more ++ takings) tape → AreTaken (more ++ others) tape
-unfolding AreTaken
-same_beginning [] takings others tape f h = f tape h
-same_beginning (taking ∷ more) takings others [] f h = tt
-same_beginning (taking ∷ more) takings others (entry ∷ tape) f (inl h) = inl (h.0, same_beginning more takings others tape f h.1)
-same_beginning (taking ∷ more) takings others (entry ∷ tape) f (inr h) = inr (same_beginning more takings others (entry ∷ tape) f h)
+use Rattle.agc_machine.proofs.Replay.{IsFrom, chain_is_run, chain_replays, event_first, from_later, key_taped, key_first, none_taped, tape_follows, tape_from, key_keeps_events, boundary_keeps_limit, timer_keeps_events}
 
 none_met : (events : List Event) → take (length events - length events) events ≡ []
 none_met events = let none : length events - length events ≡ 0 = omega arith in ap (λ (n : ℕ). take n events) none
@@ -51,82 +31,192 @@ stopped_takes_none (suc n) s why e =
     ∙ ap (λ (events : List Event). at_cycle s.cycle events ++ taken_within n s) (none_met s.events)
     ∙ stopped_takes_none n s why e
 
-stopped_taken : (stopped : Option Stop) (n : ℕ) (s : State) (tape : List (ℕ × Key)) → s.stopped ≡ stopped → IsSome stopped →
-    AreTaken (taken_within n s) tape → AreTaken (taken_within zero s) tape
-stopped_taken (Some why) n s tape e i h =
-    none_taken tape (taken_within zero s) (subst (λ (takings : List (ℕ × Event)). AreTaken takings tape) (stopped_takes_none n s why e) h)
-stopped_taken None n s tape e i h = cc
+stopped_none : (stopped : Option Stop) (n : ℕ) (s : State) → s.stopped ≡ stopped → IsSome stopped → taken_within n s ≡ []
+stopped_none (Some why) n s e i = stopped_takes_none n s why e
+stopped_none None n s e i = cc
 
--- what some boundaries take, the run up to its stop takes
-taken_up_to_stop : (n m : ℕ) (s : State) (tape : List (ℕ × Key)) → IsSome (after m s).stopped → AreTaken (taken_within n s) tape →
-    AreTaken (taken_within m s) tape
-unfolding taken_within after
-taken_up_to_stop zero m s tape i h = none_taken tape (taken_within m s) h
-taken_up_to_stop (suc n) zero s tape i h = stopped_taken s.stopped (suc n) s tape refl i h
-taken_up_to_stop (suc n) (suc m) s tape i h =
-    let t : State = (boundary None s).0 in
-    same_beginning (at_cycle s.cycle (met_between s t)) (taken_within n t) (taken_within m t) tape
-    (λ tape k. taken_up_to_stop n m t tape i k) h
+same_behind : (n m : ℕ) (s : State) → taken_within n (boundary None s).0 ≡ taken_within m (boundary None s).0 → taken_within (suc n) s ≡ taken_within (suc m) s
+unfolding taken_within
+same_behind n m s e = ap (λ (takings : List (ℕ × Event)). at_cycle s.cycle (met_between s (boundary None s).0) ++ takings) e
+
+-- once a run has stopped, more boundaries take no more
+taken_up_to_stop : (n m : ℕ) (s : State) → IsSome (after n s).stopped → IsSome (after m s).stopped → taken_within n s ≡ taken_within m s
+unfolding after taken_within
+taken_up_to_stop zero m s i k = sym (stopped_none s.stopped m s refl i)
+taken_up_to_stop (suc n) zero s i k = stopped_none s.stopped (suc n) s refl k
+taken_up_to_stop (suc n) (suc m) s i k = same_behind n m s (taken_up_to_stop n m (boundary None s).0 i k)
 
 one_met : (event : Event) (events : List Event) → take (length (event ∷ events) - length events) (event ∷ events) ≡ event ∷ []
 one_met event events = let one : suc (length events) - length events ≡ 1 = omega arith in ap (λ (n : ℕ). take n (event ∷ events)) one
 
--- the boundary of a key's event takes that event
-key_met : (s t : State) (entry : ℕ × Key) (events : List Event) → s.cycle ≡ entry.0 → s.events ≡ key_event entry ∷ events → t.events ≡ events →
-    at_cycle s.cycle (met_between s t) ≡ (entry.0, key_event entry) ∷ []
-key_met s t entry events c e f =
+-- what a boundary without a live key does to the events: it leaves them, or takes the first one, which is due
+record TakesFirst (s t : State) : Type 0 where
+  event : Event
+  rest : List Event
+  had : s.events ≡ event ∷ rest
+  left : t.events ≡ rest
+  due : event.cycle ≤ s.cycle
+
+abbrev Meets : State → State → Type 0
+Meets s t = (t.events ≡ s.events) ⊎ TakesFirst s t
+
+either_meets : (b : Bool) (s : State) (event : Event) (rest : List Event) (x y : State × Stepped) → nat_le event.cycle s.cycle ≡ b →
+    s.events ≡ event ∷ rest → x.0.events ≡ rest → y.0.events ≡ s.events → Meets s (if b then x else y).0
+either_meets true s event rest x y e h k l = inr (record { event = event; rest = rest; had = h; left = k; due = grind (arith, nat_tests) })
+either_meets false s event rest x y e h k l = inl l
+
+events_meet : (events : List Event) (s : State) → s.events ≡ events → Meets s (event_or_on events s).0
+events_meet [] s e = inl (timer_keeps_events s)
+events_meet (event ∷ rest) s e = either_meets (nat_le event.cycle s.cycle) s event rest _ (by_timer s) refl e refl (timer_keeps_events s)
+
+by_event_meets : (s : State) → Meets s (by_event s).0
+unfolding by_event
+by_event_meets s = events_meet s.events s refl
+
+limit_meets : (b : Bool) (s : State) (why : Stop) → Meets s (by_event s).0 → Meets s (if b then stops why s else by_event s).0
+limit_meets true s why h = inl refl
+limit_meets false s why h = h
+
+by_limit_meets : (s : State) → Meets s (by_limit s).0
+unfolding by_limit
+by_limit_meets s = limit_meets (nat_le s.limit s.cycle) s _ (by_event_meets s)
+
+begun_meets : (s t : State) → Meets (record s { begun = true }) t → Meets s t
+begun_meets s t (inl h) = inl h
+begun_meets s t (inr h) = inr (record { event = h.event; rest = h.rest; had = h.had; left = h.left; due = h.due })
+
+stopped_meets : (stopped : Option Stop) (s : State) → Meets s (unless_stopped stopped s).0
+stopped_meets (Some why) s = inl refl
+stopped_meets None s = begun_meets s _ (by_limit_meets (record s { begun = true }))
+
+boundary_meets : (s : State) → Meets s (boundary None s).0
+unfolding boundary
+boundary_meets s = stopped_meets s.stopped s
+
+no_marks : (marks : List Bool) → marked marks [] ≡ []
+unfolding marked
+no_marks [] = refl
+no_marks (mark ∷ marks) = refl
+
+-- a key before all events is marked first
+due_now : (entry : ℕ × Key) (events : List Event) → IsBefore entry.0 events → due_at entry.0 events ≡ 0
+due_now entry [] h = refl
+due_now entry (event ∷ events) h = let later : nat_lt entry.0 event.cycle ≡ true = grind (arith, nat_tests) in rw later refl
+
+key_mark : (entry : ℕ × Key) (tape : List (ℕ × Key)) (events : List Event) → IsBefore entry.0 events →
+    tape_marks events (entry ∷ tape) ≡ true ∷ tape_marks events tape
+unfolding tape_marks
+key_mark entry tape events h =
+    ap (λ (due : ℕ). replicate due false ++ true ∷ tape_marks (drop due events) tape) (due_now entry events h)
+
+-- an event that is due before a tape is not marked
+due_more : (entry : ℕ × Key) (event : Event) (events : List Event) → event.cycle ≤ entry.0 →
+    due_at entry.0 (event ∷ events) ≡ suc (due_at entry.0 events)
+due_more entry event events h = let due : nat_lt entry.0 event.cycle ≡ false = grind (arith, nat_tests) in rw (due, one-add) refl
+
+event_mark : (event : Event) (events : List Event) (tape : List (ℕ × Key)) → IsFrom event.cycle tape →
+    tape_marks (event ∷ events) tape ≡ false ∷ tape_marks events tape
+unfolding tape_marks
+event_mark event events [] h = refl
+event_mark event events (entry ∷ tape) h =
+    ap (λ (due : ℕ). replicate due false ++ true ∷ tape_marks (drop due (event ∷ events)) tape) (due_more entry event events h)
+
+-- nothing was taken
+nothing_met : (s t : State) → length t.events ≡ length s.events → at_cycle s.cycle (met_between s t) ≡ []
+nothing_met s t e =
+    let none : length s.events - length t.events ≡ 0 = omega arith in ap (λ (n : ℕ). at_cycle s.cycle (take n s.events)) none
+
+-- the first event was taken
+first_met : (s t : State) (event : Event) (events : List Event) (cycle : ℕ) → s.cycle ≡ cycle → s.events ≡ event ∷ events → t.events ≡ events →
+    at_cycle s.cycle (met_between s t) ≡ (cycle, event) ∷ []
+first_met s t event events cycle c e f =
     ap (λ (left : List Event). at_cycle s.cycle (take (length s.events - length left) s.events)) f
     ∙ ap (λ (had : List Event). at_cycle s.cycle (take (length had - length events) had)) e
-    ∙ ap (at_cycle s.cycle) (one_met (key_event entry) events)
-    ∙ ap (λ (cycle : ℕ). (cycle, key_event entry) ∷ []) c
+    ∙ ap (at_cycle s.cycle) (one_met event events)
+    ∙ ap (λ (n : ℕ). (n, event) ∷ []) c
 
-first_taken : (begun : List (ℕ × Event)) (takings : List (ℕ × Event)) (entry : ℕ × Key) (tape : List (ℕ × Key)) →
-    begun ≡ (entry.0, key_event entry) ∷ [] → AreTaken takings tape → AreTaken (begun ++ takings) (entry ∷ tape)
-unfolding AreTaken
-first_taken begun takings entry tape e h =
-    subst (λ (b : List (ℕ × Event)). AreTaken (b ++ takings) (entry ∷ tape)) (sym e) (inl (refl, h))
+-- so many boundaries from a state take the tape's keys at their own cycles
+abbrev Takes : ℕ → List Event → List (ℕ × Key) → State → Type 0
+Takes n events tape u = marked (tape_marks events tape) (taken_within n u) ≡ map at_own_cycle tape
 
--- the boundary of a wanted key, and those after it
 key_goes_on : (n : ℕ) (s t u : State) (key : Key) (tape : List (ℕ × Key)) → WantsKey s → t ≡ (boundary (Some key) s).0 →
-    u ≡ with_tape ((s.cycle, key) ∷ tape) s → AreTaken (taken_within n (with_tape tape t)) tape → AreTaken (taken_within (suc n) u) ((s.cycle, key) ∷ tape)
-unfolding taken_within
+    u ≡ with_tape ((s.cycle, key) ∷ tape) s → Takes n t.events tape (with_tape tape t) → Takes (suc n) s.events ((s.cycle, key) ∷ tape) u
+unfolding taken_within marked
 key_goes_on n s t u key tape w e is h =
+    let entry : ℕ × Key = (s.cycle, key) in
     let after_key : (boundary None u).0 ≡ with_tape tape t =
     ap (λ (x : State). (boundary None x).0) is ∙ ap (λ (r : State × Stepped). r.0) (key_taped s key tape w) ∙ ap (with_tape tape) (sym e) in
-    let had : u.events ≡ key_event (s.cycle, key) ∷ merged s.events tape = ap (λ (x : State). x.events) is ∙ key_first s.events (s.cycle, key) tape w.none_due in
+    let kept : t.events ≡ s.events = ap (λ (x : State). x.events) e ∙ key_keeps_events s key w in
+    let had : u.events ≡ key_event entry ∷ merged s.events tape = ap (λ (x : State). x.events) is ∙ key_first s.events entry tape w.none_due in
     let left : (boundary None u).0.events ≡ merged s.events tape =
-    ap (λ (x : State). x.events) after_key ∙ ap (λ (x : State). merged x.events tape) e ∙ ap (λ (events : List Event). merged events tape) (key_keeps_events s key w) in
+    ap (λ (x : State). x.events) after_key ∙ ap (λ (events : List Event). merged events tape) kept in
     let at : u.cycle ≡ s.cycle = ap (λ (x : State). x.cycle) is in
-    let met : at_cycle u.cycle (met_between u (boundary None u).0) ≡ (s.cycle, key_event (s.cycle, key)) ∷ [] =
-    key_met u (boundary None u).0 (s.cycle, key) (merged s.events tape) at had left in
-    first_taken (at_cycle u.cycle (met_between u (boundary None u).0)) (taken_within n (boundary None u).0) (s.cycle, key) tape met
-    (subst (λ (x : State). AreTaken (taken_within n x) tape) (sym after_key) h)
+    let met : at_cycle u.cycle (met_between u (boundary None u).0) ≡ (s.cycle, key_event entry) ∷ [] =
+    first_met u (boundary None u).0 (key_event entry) (merged s.events tape) s.cycle at had left in
+    ap (λ (marks : List Bool). marked marks (at_cycle u.cycle (met_between u (boundary None u).0) ++ taken_within n (boundary None u).0))
+    (key_mark entry tape s.events w.none_due)
+    ∙ ap (λ (takings : List (ℕ × Event)). marked (true ∷ tape_marks s.events tape) (takings ++ taken_within n (boundary None u).0)) met
+    ∙ ap (λ (x : State). (s.cycle, key_event entry) ∷ marked (tape_marks s.events tape) (taken_within n x)) after_key
+    ∙ ap (λ (events : List Event). (s.cycle, key_event entry) ∷ marked (tape_marks events tape) (taken_within n (with_tape tape t))) (sym kept)
+    ∙ ap (λ (takings : List (ℕ × Event)). (s.cycle, key_event entry) ∷ takings) h
 
-none_goes_on : (n : ℕ) (s t u : State) (tape : List (ℕ × Key)) → (boundary None u).0 ≡ t → AreTaken (taken_within n t) tape →
-    AreTaken (taken_within (suc n) u) tape
-unfolding taken_within
-none_goes_on n s t u tape e h =
-    more_before (taken_within n (boundary None u).0) _ tape (subst (λ (x : State). AreTaken (taken_within n x) tape) (sym e) h)
+none_goes_on : (n : ℕ) (s t u : State) (tape : List (ℕ × Key)) → IsFrom s.cycle tape → Meets s t → u ≡ with_tape tape s →
+    (boundary None u).0 ≡ with_tape tape t → Takes n t.events tape (with_tape tape t) → Takes (suc n) s.events tape u
+unfolding taken_within marked
+none_goes_on n s t u tape f (inl kept) is e h =
+    let met : at_cycle u.cycle (met_between u (boundary None u).0) ≡ [] =
+    nothing_met u (boundary None u).0 (ap (λ (x : State). length x.events) e ∙ ap (λ (events : List Event). length (merged events tape)) kept
+    ∙ ap (λ (x : State). length x.events) (sym is)) in
+    ap (λ (takings : List (ℕ × Event)). marked (tape_marks s.events tape) (takings ++ taken_within n (boundary None u).0)) met
+    ∙ ap (λ (x : State). marked (tape_marks s.events tape) (taken_within n x)) e
+    ∙ ap (λ (events : List Event). marked (tape_marks events tape) (taken_within n (with_tape tape t))) (sym kept)
+    ∙ h
+none_goes_on n s t u tape f (inr first) is e h =
+    let from : IsFrom first.event.cycle tape = from_later first.event.cycle s.cycle tape first.due f in
+    let had : u.events ≡ first.event ∷ merged first.rest tape =
+    ap (λ (x : State). x.events) is ∙ ap (λ (events : List Event). merged events tape) first.had ∙ event_first first.event first.rest tape from in
+    let left : (boundary None u).0.events ≡ merged first.rest tape =
+    ap (λ (x : State). x.events) e ∙ ap (λ (events : List Event). merged events tape) first.left in
+    let met : at_cycle u.cycle (met_between u (boundary None u).0) ≡ (u.cycle, first.event) ∷ [] =
+    first_met u (boundary None u).0 first.event (merged first.rest tape) u.cycle refl had left in
+    ap (λ (events : List Event). marked (tape_marks events tape) (at_cycle u.cycle (met_between u (boundary None u).0) ++ taken_within n (boundary None u).0)) first.had
+    ∙ ap (λ (marks : List Bool). marked marks (at_cycle u.cycle (met_between u (boundary None u).0) ++ taken_within n (boundary None u).0))
+    (event_mark first.event first.rest tape from)
+    ∙ ap (λ (takings : List (ℕ × Event)). marked (false ∷ tape_marks first.rest tape) (takings ++ taken_within n (boundary None u).0)) met
+    ∙ ap (λ (x : State). marked (tape_marks first.rest tape) (taken_within n x)) e
+    ∙ ap (λ (events : List Event). marked (tape_marks events tape) (taken_within n (with_tape tape t))) (sym first.left)
+    ∙ h
 
 -- as many plain boundaries on the merged events take the tape
 taken_by_chain : (lives : List (Option Key)) (s : State) → AreWanted lives s →
-    AreTaken (taken_within (length lives) (with_tape (tape_of lives s) s)) (tape_of lives s)
-unfolding tape_of AreWanted AreTaken
-taken_by_chain [] s w = tt
+    Takes (length lives) s.events (tape_of lives s) (with_tape (tape_of lives s) s)
+unfolding tape_of AreWanted taken_within
+taken_by_chain [] s w = no_marks (tape_marks s.events [])
 taken_by_chain (Some key ∷ lives) s w =
     let t : State = (boundary (Some key) s).0 in
     key_goes_on (length lives) s t (with_tape ((s.cycle, key) ∷ tape_of lives t) s) key (tape_of lives t) w.0 refl refl (taken_by_chain lives t w.1)
 taken_by_chain (None ∷ lives) s w =
     let t : State = (boundary None s).0 in
-    none_goes_on (length lives) s (with_tape (tape_of lives t) t) (with_tape (tape_of lives t) s) (tape_of lives t)
+    let from : IsFrom s.cycle (tape_of (None ∷ lives) s) = tape_from (None ∷ lives) s in
+    none_goes_on (length lives) s t (with_tape (tape_of lives t) s) (tape_of lives t) from (boundary_meets s) refl
     (ap (λ (r : State × Stepped). r.0) (none_taped s (tape_of lives t) (tape_follows lives (boundary None s) w))) (taken_by_chain lives t w)
 
--- the run on the events merged with a live run's tape takes the tape
-pub tape_is_taken : (lives : List (Option Key)) (s : State) → AreWanted lives s →
-    AreTaken (taken_in (with_tape (tape_of lives s) s)) (tape_of lives s)
-tape_is_taken lives s w =
+-- the state after some boundaries is the last one of their chain
+after_is_last : (n : ℕ) (s : State) → after n s ≡ (chain (replicate n None) s).last
+unfolding after chain
+after_is_last zero s = refl
+after_is_last (suc n) s = after_is_last n (boundary None s).0
+
+-- the run on the events merged with the tape of a live run that has stopped takes the tape
+pub tape_is_taken : (lives : List (Option Key)) (s : State) → AreWanted lives s → IsSome (chain lives s).last.stopped →
+    TakesTape s (tape_of lives s) (with_tape (tape_of lives s) s)
+tape_is_taken lives s w i =
     let u : State = with_tape (tape_of lives s) s in
-    taken_up_to_stop (length lives) (boundaries_left u) u (tape_of lives s) (stops_in_time (boundaries_left u) u (omega arith)) (taken_by_chain lives s w)
+    let stopped : IsSome (after (length lives) u).stopped =
+    subst (λ (x : State). IsSome x.stopped) (sym (after_is_last (length lives) u ∙ ap (λ (c : Chain). c.last) (chain_replays lives s w))) i in
+    ap (marked (tape_marks s.events (tape_of lives s)))
+    (taken_up_to_stop (boundaries_left u) (length lives) u (stops_in_time (boundaries_left u) u (omega arith)) stopped)
+    ∙ taken_by_chain lives s w
 
 -- and its keys come below the limit
 pub tape_is_below : (lives : List (Option Key)) (s : State) → AreWanted lives s → All (λ entry. entry.0 < s.limit) (tape_of lives s)
@@ -139,12 +229,6 @@ tape_is_below (Some key ∷ lives) s w =
 tape_is_below (None ∷ lives) s w =
     subst (λ (limit : ℕ). All (λ entry. entry.0 < limit) (tape_of lives (boundary None s).0)) (boundary_keeps_limit None s)
     (tape_is_below lives (boundary None s).0 w)
-
--- the state after some boundaries is the last one of their chain
-after_is_last : (n : ℕ) (s : State) → after n s ≡ (chain (replicate n None) s).last
-unfolding after chain
-after_is_last zero s = refl
-after_is_last (suc n) s = after_is_last n (boundary None s).0
 
 pub chain_stops : (s : State) → IsSome (chain (replicate (boundaries_left s) None) s).last.stopped
 chain_stops s =

@@ -1,6 +1,6 @@
 -- What the plain run on a script with a tape's keys takes: each key of the tape, at a boundary that begins at its own cycle.
-use Rattle.std.specs.Prelude.{◌≡◌, ℕ, zero, suc, ◌+◌, ◌-◌, ◌<◌, ◌≤◌, ◌⊎◌, List, [], ◌∷◌, ◌++◌, length, map, take, All, None}
-use Rattle.agc_script.specs.Merge.{key_event, merged}
+use Rattle.std.specs.Prelude.{◌≡◌, ℕ, zero, suc, ◌+◌, ◌-◌, ◌<◌, ◌≤◌, Bool, true, false, List, [], ◌∷◌, ◌++◌, length, map, take, drop, replicate, All, None}
+use Rattle.agc_script.specs.Merge.{due_at, key_event, merged}
 use Rattle.agc_script.specs.declared.event.Event.{Event}
 use Rattle.agc_script.specs.declared.key.Key.{Key}
 use Rattle.agc_machine.specs.Boundary.{boundary}
@@ -25,12 +25,27 @@ taken_within (suc more) s =
 abbrev pub taken_in : State → List (ℕ × Event)
 taken_in s = taken_within (boundaries_left s) s
 
--- the keys of a tape are among what is taken, in order, and each at its own cycle
-unfoldable pub AreTaken : List (ℕ × Event) → List (ℕ × Key) → Type 0
-AreTaken takings [] = Unit {0}
-AreTaken [] (entry ∷ tape) = ⊥
-AreTaken (taking ∷ takings) (entry ∷ tape) =
-    ((taking ≡ (entry.0, key_event entry)) × AreTaken takings tape) ⊎ AreTaken takings (entry ∷ tape)
+-- which of the events of a merge are the tape's
+unfoldable pub tape_marks : List Event → List (ℕ × Key) → List Bool
+tape_marks events [] = map (λ event. false) events
+tape_marks events (entry ∷ tape) =
+    let due = due_at entry.0 events in replicate due false ++ true ∷ tape_marks (drop due events) tape
+
+-- what stands at the places that are marked
+unfoldable pub marked : List Bool → List (ℕ × Event) → List (ℕ × Event)
+marked [] takings = []
+marked marks [] = []
+marked (true ∷ marks) (taking ∷ takings) = taking ∷ marked marks takings
+marked (false ∷ marks) (taking ∷ takings) = marked marks takings
+
+-- a key of a tape, taken at its own cycle
+abbrev pub at_own_cycle : ℕ × Key → ℕ × Event
+at_own_cycle entry = (entry.0, key_event entry)
+
+-- The run on the events merged with a tape takes each key of the tape, and each at its own cycle. What a run takes is the beginning of its
+-- events, so the marks of the merge are those of what is taken; a script's event that is the same key is not marked.
+abbrev pub TakesTape : State → List (ℕ × Key) → State → Type 0
+TakesTape start tape merged_start = marked (tape_marks start.events tape) (taken_in merged_start) ≡ map at_own_cycle tape
 
 -- keys that follow each other are at least so many cycles apart
 unfoldable pub AreApart : ℕ → List (ℕ × Key) → Type 0
@@ -51,4 +66,4 @@ replayed tape s = start_state s.processor.store.fixed (merged s.events tape) s.l
 pub record IsTakenTape (spacing : ℕ) (start : State) (tape : List (ℕ × Key)) : Type 0 where
   pub below : All (λ entry. entry.0 < start.limit) tape
   pub apart : AreApart spacing tape
-  pub taken : AreTaken (taken_in (replayed tape start)) tape
+  pub taken : TakesTape start tape (replayed tape start)

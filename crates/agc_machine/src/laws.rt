@@ -7,7 +7,7 @@ ghost use Rattle.agc_machine.specs.Boundary.{boundary};
 ghost use Rattle.agc_machine.specs.Run.{boundaries_left, next_of, run_of, unless_stopped_run};
 ghost use Rattle.agc_machine.specs.Laws.{Falls, Comes, AreRising, after};
 ghost use Rattle.agc_machine.specs.Replay.{chain, tape_of, AreWanted, with_tape, run_in};
-ghost use Rattle.agc_machine.specs.Taken.{AreTaken, taken_in};
+ghost use Rattle.agc_machine.specs.Taken.{TakesTape};
 ghost use Rattle.agc_machine.specs.declared.answer.Stop.{Stop};
 ghost use Rattle.agc_machine.specs.declared.answer.Next.TheVariants as next;
 ghost use Rattle.agc_machine.specs.declared.answer.Stepped.TheVariants as stepped;
@@ -77,9 +77,9 @@ pub fn a_run_is_its_chain()
     ensures stopped { (s : State) → IsSome (chain (replicate (boundaries_left s) None) s).last.stopped }
 {}
 
-/// The run on the events merged with the tape of a live run takes each key of the tape, in order, at
-/// a boundary that begins at the key's own cycle.
+/// The run on the events merged with the tape of a live run that has come to a stop takes each key
+/// of the tape, in order, at a boundary that begins at the key's own cycle.
 pub fn tapes_are_taken()
-    ensures { (lives : List (Option Key)) (s : State) → AreWanted lives s
-        → AreTaken (taken_in (with_tape (tape_of lives s) s)) (tape_of lives s) }
+    ensures { (lives : List (Option Key)) (s : State) → AreWanted lives s → IsSome (chain lives s).last.stopped
+        → TakesTape s (tape_of lives s) (with_tape (tape_of lives s) s) }
 {}

@@ -7,7 +7,7 @@ use Rattle.agc_machine.specs.Live.{IsLive}
 use Rattle.agc_machine.specs.Replay.{writes_in}
 use Rattle.agc_machine.specs.Run.{Run, run_of}
 use Rattle.agc_machine.specs.State.{State}
-use Rattle.agc_machine.specs.Taken.{AreTaken, IsAtStart, replayed, taken_in}
+use Rattle.agc_machine.specs.Taken.{IsAtStart, TakesTape, replayed}
 use Rattle.agc_machine.specs.declared.answer.ChannelWrite.{ChannelWrite}
 use Rattle.agc_machine.specs.declared.answer.Stepped.{Stepped}
 use Rattle.agc_machine.specs.declared.answer.Stepped.TheVariants as stepped
@@ -75,7 +75,7 @@ pub record IsLiveSent (start : State) (sender done : Sending) (tape : List (ℕ 
   pub last : end ≡ (run_of (replayed tape start)).last
   pub stop : (run_of (replayed tape start)).last.stopped ≡ Some why
   pub below : All (λ entry. entry.0 < start.limit) tape
-  pub taken : AreTaken (taken_in (replayed tape start)) tape
+  pub taken : TakesTape start tape (replayed tape start)
 
 pub at_live_stop : (start now later : State) (sender out done : Sending) (tape longer : List (ℕ × Key)) (answer : Stepped) (why : Stop) →
     IsAtStart start → answer ≡ stepped.Stopped why → Adds tape longer now later answer → KeepsStop (later, answer) →
@@ -94,7 +94,7 @@ at_live_stop start now later sender out done tape longer answer why at e f k s h
       last = ap (λ (r : Run). r.last) (sym run);
       stop = ap (λ (r : Run). r.last.stopped) run ∙ stopped;
       below = live_tape_is_below start later longer h.writes live;
-      taken = live_tape_is_taken start later longer h.writes at live;
+      taken = live_tape_is_taken start later longer h.writes why at live stopped;
     }
 
 pub memory_or_thread : {A : Type 0} → (r : Result A ShowFault) → IfErr r (λ why. why ≡ fault.Memory) →

@@ -3,7 +3,7 @@ use Rattle.std.specs.Prelude.{◌≡◌, ◌++◌, ◌<◌, ℕ, List, All, map}
 use Rattle.agc_script.specs.declared.key.Key.{Key}
 use Rattle.agc_machine.specs.Run.{run_of}
 use Rattle.agc_machine.specs.State.{State}
-use Rattle.agc_machine.specs.Taken.{AreTaken, IsTakenTape, replayed, taken_in}
+use Rattle.agc_machine.specs.Taken.{IsTakenTape, TakesTape, replayed}
 use Rattle.agc_pipe.specs.Keys.{Taking, key_in}
 use Rattle.agc_pipe.specs.Ring.{Sending}
 use Rattle.agc_pipe.specs.Shown.{IsSentRun, ShowsRun}
@@ -14,7 +14,7 @@ use Rattle.agc_pipe.specs.declared.live_sending.LiveSent.{LiveSent}
 pub record IsSentLive (start : State) (fresh : Sending) (keys : Taking) (live : LiveSent) : Type 0 where
   pub sent : IsSentRun (run_of (replayed live.taker.tape start)) fresh live.sent
   pub below : All (λ entry. entry.0 < start.limit) live.taker.tape
-  pub taken : AreTaken (taken_in (replayed live.taker.tape start)) live.taker.tape
+  pub taken : TakesTape start live.taker.tape (replayed live.taker.tape start)
   pub ring : live.taker.ring ≡ keys.ring
   pub spacing : live.taker.spacing ≡ keys.spacing
 
