@@ -81,18 +81,17 @@ fn keys_come_in_their_place(rt: HostRuntime) {
     refuses(&rt, relayed(line, b""), "watch: OutOfErasable");
 }
 
-/// Names of keys are divided by spaces, tabs, carriage returns and line feeds, and by nothing else.
+/// Names of keys are divided by spaces, tabs, carriage returns and line feeds, and by nothing else. Of
+/// the 18 keys a run of one cycle takes the first, at its start, or none.
 #[test]
-fn key_names(rt: HostRuntime) {
-    let after = "Limit CYCLE 1 WRITES 0\nREST 18\n";
+fn key_names(rt: HostRuntime) -> Result<(), Fail> {
     let keys = b"0 1\t2\r3\n4 5  6\t\t7\r\n8 9 VERB NOUN RSET KEYREL + - ENTR CLR\n";
-    let none = Asked {
-        line: "--limit 1 --live",
-        rope: &IDLE,
-        script: b"0 raise 1",
-        keys,
-    };
-    stops(&rt, none, "__", after);
+    let ended = run_gated(&rt, relayed("--limit 1 --live", keys), &Open);
+    assert_eq!(rt; ended.status, DONE);
+    let text = String::from_utf8(ended.out)?;
+    let Apart { tape, left, .. } = taken_apart(rt.alloc(), text.as_str())?;
+    let none = tape.is_empty() && left == 18;
+    assert!(rt; none || tape.as_str() == "0 key 0\n" && left == 17);
     for keys in [
         "verb",
         "VERBNOUN",
@@ -108,6 +107,7 @@ fn key_names(rt: HostRuntime) {
             "keys: BadKey",
         );
     }
+    Ok(())
 }
 
 /// Without live keys the key text is not read, and the spacing is no matter.

@@ -3,9 +3,13 @@ use super::*;
 use crate::run;
 use std::rt::Files;
 
-/// How the program ends on these words, with this on standard input.
-fn program(rt: &(impl Host + Files), words: &[&str], mut keys: &[u8]) -> Ended {
-    let asked = parse_args(rt.alloc(), words);
+/// How the program ends on this command line, with this on standard input.
+fn program(rt: &(impl Host + Files), line: &str, mut keys: &[u8]) -> Ended {
+    let mut words = Vec::new(rt.alloc());
+    for word in line.split(' ') {
+        words.push(word).expect(rt, "memory");
+    }
+    let asked = parse_args(rt.alloc(), words.as_slice());
     let mut out = Vec::new(rt.alloc());
     let mut err = Vec::new(rt.alloc());
     let status = run(rt, asked, &mut keys, &mut out, &mut err);
@@ -23,8 +27,8 @@ fn names(rt: &(impl AllocGlobal + Abort), text: Vec<u8>, words: &[&str]) {
 /// Help names the program, its files and each option, and nothing stands on the other stream.
 #[test]
 fn help(rt: HostRuntime) {
-    for word in ["--help", "-h"] {
-        let ended = program(&rt, &["agc", word], b"");
+    for line in ["agc --help", "agc -h"] {
+        let ended = program(&rt, line, b"");
         assert_eq!(rt; ended.status, 0);
         assert!(rt; ended.err.is_empty());
         names(
@@ -54,17 +58,17 @@ fn help(rt: HostRuntime) {
 /// A mistake is told with the word that it is in, and nothing stands on the other stream.
 #[test]
 fn mistakes(rt: HostRuntime) {
-    for (words, named) in [
-        (["agc", "r", "s", "--log", "--log"], "--log"),
-        (["agc", "r", "s", "--log", "--live"], "--limit"),
-        (["agc", "r", "--limit", "1", "--log"], "SCRIPT"),
-        (["agc", "r", "s", "--limit", "many"], "many"),
-        (["agc", "r", "s", "--limit=1", "--form=odd"], "odd"),
-        (["agc", "r", "s", "--limit=1", "--spacing=-1"], "--spacing"),
-        (["agc", "r", "s", "--limit=1", "--nonsense"], "--nonsense"),
-        (["agc", "r", "s", "third", "--limit=1"], "third"),
+    for (line, named) in [
+        ("agc r s --log --log", "--log"),
+        ("agc r s --log --live", "--limit"),
+        ("agc r --limit 1 --log", "SCRIPT"),
+        ("agc r s --limit many", "many"),
+        ("agc r s --limit=1 --form=odd", "odd"),
+        ("agc r s --limit=1 --spacing=-1", "--spacing"),
+        ("agc r s --limit=1 --nonsense", "--nonsense"),
+        ("agc r s third --limit=1", "third"),
     ] {
-        let ended = program(&rt, &words, b"");
+        let ended = program(&rt, line, b"");
         assert_eq!(rt; ended.status, 2, "{named}");
         assert!(rt; ended.out.is_empty(), "{named}");
         names(&rt, ended.err, &["error", named]);
@@ -74,8 +78,7 @@ fn mistakes(rt: HostRuntime) {
 /// A file that is not there cannot be read: the rope is told first.
 #[test]
 fn missing_files(rt: HostRuntime) {
-    let words = ["agc", "no such rope", "no such script", "--limit", "10"];
-    let ended = program(&rt, &words, b"");
+    let ended = program(&rt, "agc no-such-rope no-such-script --limit 10", b"");
     assert_eq!(rt; ended.status, 1);
     assert!(rt; ended.out.is_empty());
     assert!(rt; ended.err.as_slice() == b"agc: cannot read rope\n".as_slice());
