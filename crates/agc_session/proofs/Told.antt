@@ -1,5 +1,5 @@
 -- Steps of a session, one after another: what may be told at them.
-use Rattle.std.proofs.Common.{◌≡◌, ◌⊎◌, ℕ, List, [], ◌∷◌, ◌++◌, inl, inr}
+use Rattle.std.proofs.Common.{◌≡◌, ℕ, List, [], ◌∷◌, ◌++◌, inl, inr}
 use Rattle.std.specs.Prelude.{Option, None, Some, IfSome}
 use Rattle.agc_session.specs.Steps.{Step, looks, asks, asks_by_line, IsTold, refusal_in}
 use Rattle.agc_session.specs.declared.refusal.Refusal.{Refusal}
