@@ -1,8 +1,7 @@
 -- A live run goes on: by a boundary with a key, by a stretch without one, and to its stop.
-use Rattle.std.proofs.Common.{◌≡◌, ℕ, ◌+◌, ◌<◌, suc, zero, List, [], ◌∷◌, ◌++◌, length, replicate, Option, Some, None, Bool, true, false, refl, ap, sym, ◌∙◌, subst, arith}
+use Rattle.std.proofs.Common.{◌≡◌, ℕ, ◌<◌, suc, zero, List, [], ◌∷◌, ◌++◌, replicate, Option, Some, None, Bool, true, false, refl, ap, sym, ◌∙◌, subst}
 use Rattle.std.specs.Prelude.{nat_le, if◌then◌else◌, IsSome, All}
 use Rattle.std.proofs.lemmas.List.{append-nil}
-use Rattle.agc_script.specs.Merge.{merged}
 use Rattle.agc_script.specs.declared.key.Key.{Key}
 use Rattle.agc_machine.specs.declared.answer.ChannelWrite.{ChannelWrite}
 use Rattle.agc_machine.specs.declared.answer.Stepped.{Stepped}
@@ -11,11 +10,10 @@ use Rattle.agc_machine.specs.declared.answer.Stop.{Stop}
 use Rattle.agc_machine.specs.Boundary.{boundary, WantsKey}
 use Rattle.agc_machine.specs.Laws.{KeepsStop}
 use Rattle.agc_machine.specs.Live.{IsLive}
-use Rattle.agc_machine.specs.Replay.{Chain, chain, tape_of, AreWanted, with_tape, writes_in, run_in}
-use Rattle.agc_machine.specs.Run.{Run, boundaries_left, next_before, next_before_within, run_of, unless_quiet_before}
+use Rattle.agc_machine.specs.Replay.{chain, tape_of, AreWanted, with_tape, writes_in}
+use Rattle.agc_machine.specs.Run.{boundaries_left, next_before, next_before_within, run_of, unless_quiet_before}
 use Rattle.agc_machine.specs.State.{State, start_state}
 use Rattle.agc_machine.specs.Taken.{IsAtStart, TakesTape, replayed}
-use Rattle.agc_machine.proofs.Chain.{boundary_falls}
 use Rattle.agc_machine.proofs.Replay.{key_is_quiet, live_run_replays}
 use Rattle.agc_machine.proofs.Taken.{tape_is_taken, tape_is_below}
 

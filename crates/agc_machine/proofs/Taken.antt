@@ -1,5 +1,5 @@
 -- The plain run on the merged events takes each key of a live run's tape at the key's own cycle.
-use Rattle.std.proofs.Common.{◌≡◌, ◌≢◌, ℕ, ◌+◌, ◌-◌, ◌≤◌, ◌<◌, ◌⊎◌, suc, zero, List, [], ◌∷◌, ◌++◌, length, map, take, replicate, Option, Some, None, Bool, true, false, refl, ap, sym, ◌∙◌, subst, arith, inl, inr, one-add}
+use Rattle.std.proofs.Common.{◌≡◌, ℕ, ◌+◌, ◌-◌, ◌≤◌, ◌<◌, ◌⊎◌, suc, zero, List, [], ◌∷◌, ◌++◌, length, map, take, replicate, Option, Some, None, Bool, true, false, refl, ap, sym, ◌∙◌, subst, arith, inl, inr, one-add}
 use Rattle.std.specs.Prelude.{drop, nat_le, nat_lt, if◌then◌else◌, IsSome, All, slice_get, IfSome}
 use Rattle.std.proofs.lemmas.Bool.Decides.{nat_tests}
 use Rattle.std.proofs.lemmas.List.Elements.{All-cons, All-nil}
@@ -7,13 +7,12 @@ use Rattle.agc_script.specs.Merge.{due_at, merged, key_event}
 use Rattle.agc_script.specs.declared.event.Event.{Event}
 use Rattle.agc_script.specs.declared.key.Key.{Key}
 use Rattle.agc_machine.specs.declared.answer.Stepped.{Stepped}
-use Rattle.agc_machine.specs.declared.answer.Stepped.TheVariants as stepped
 use Rattle.agc_machine.specs.declared.answer.Stop.{Stop}
 use Rattle.agc_machine.specs.Boundary.{boundary, by_event, by_limit, by_timer, event_or_on, stops, unless_stopped, IsBefore, WantsKey}
 use Rattle.agc_machine.specs.Laws.{after}
 use Rattle.agc_machine.specs.Replay.{Chain, chain, tape_of, AreWanted, with_tape, run_in}
 use Rattle.agc_machine.specs.Run.{boundaries_left, run_of}
-use Rattle.agc_machine.specs.State.{State, with_key}
+use Rattle.agc_machine.specs.State.{State}
 use Rattle.agc_machine.specs.Taken.{at_cycle, at_own_cycle, marked, met_between, tape_marks, taken_within, AreApart, TakesTape}
 use Rattle.agc_machine.proofs.Chain.{stopped_stays, stops_in_time}
 use Rattle.agc_machine.proofs.Replay.{IsFrom, chain_is_run, chain_replays, event_first, from_later, key_taped, key_first, none_taped, tape_follows, tape_from, key_keeps_events, boundary_keeps_limit, timer_keeps_events}
