@@ -51,6 +51,15 @@ fn division_stops(rt: &impl Abort, machine: &mut Machine) {
     assert_eq!(rt; machine.wants_key(), false);
 }
 
+/// A write of +0 to channel 10 at this cycle.
+fn write_at(cycle: u64) -> ChannelWrite {
+    ChannelWrite {
+        cycle,
+        channel: 0o10,
+        value: Narrow::PLUS_ZERO,
+    }
+}
+
 /// EXTEND, WRITE 10, TCF 4000 write at the cycles 1 and 5. EXTEND ends at 1, the first write at 3,
 /// TCF at 4 and EXTEND again at 5, which are as far as a way to the cycle 1, 5, 4 and 5 goes.
 #[test]
@@ -58,19 +67,16 @@ fn the_way_to_a_cycle(rt: HostRuntime) -> Result<(), Fail> {
     let mut machine = machine(&rt, &[0o00006, 0o01010, 0o14000], "", 7)?;
     assert_eq!(rt; machine.next_write_before(1), Stepped::Quiet);
     assert_eq!(rt; machine.cycle(), 1);
-    let first = ChannelWrite {
-        cycle: 1,
-        channel: 0o10,
-        value: Narrow::PLUS_ZERO,
-    };
-    assert_eq!(rt; machine.next_write_before(5), Stepped::Wrote(first));
+    assert_eq!(rt; machine.next_write_before(5), Stepped::Wrote(write_at(1)));
     assert_eq!(rt; machine.cycle(), 3);
     assert_eq!(rt; machine.next_write_before(4), Stepped::Quiet);
     assert_eq!(rt; machine.cycle(), 4);
     assert_eq!(rt; machine.next_write_before(5), Stepped::Quiet);
     assert_eq!(rt; machine.cycle(), 5);
-    let second = ChannelWrite { cycle: 5, ..first };
-    assert_eq!(rt; machine.next_write_before(1000), Stepped::Wrote(second));
+    assert_eq!(rt;
+        machine.next_write_before(1000),
+        Stepped::Wrote(write_at(5))
+    );
     assert_eq!(rt;
         machine.next_write_before(1000),
         Stepped::Stopped(Stop::Limit)
