@@ -1,12 +1,16 @@
 -- The command line: what the program takes, and what the words of a call ask for.
-use Rattle.std.specs.Prelude.{◌≡◌, ◌≢◌, ℕ, Bool, true, false, List, [], ◌∷◌, map, fold, codes, Option, Some, None, option_and_then, option_map, unwrap_or, if◌then◌else◌, string_bytes}
+use Rattle.std.specs.Prelude.{◌≡◌, ◌≢◌, ℕ, Bool, true, false, List, [], ◌∷◌, map, fold, codes}
+use Rattle.std.specs.Prelude.{Option, Some, None, option_and_then, option_map, unwrap_or}
+use Rattle.std.specs.Prelude.{◌++◌, if◌then◌else◌, string_bytes}
 use Rattle.std.specs.Borrow.{Bor}
+use Rattle.std.specs.Fmt.{decimal}
 use Rattle.std.specs.Str.{bytes_eq}
 use Rattle.std.specs.Str.Parse.{digits_value, without_leading_plus}
 use Rattle.std.specs.declared.string.String.{String}
 use Rattle.std.specs.declared.alloc.Global.{Global}
 use Rattle.clap.specs.ValueTests.{accepts}
-use Rattle.clap.specs.Words.{App, IsAmong, Row, Rule, Text, fault_of, first_of, matches_of, new_app, new_rule, one_of, with_rule}
+use Rattle.clap.specs.Words.{App, IsAmong, Row, Rule, Text, fault_of, first_of, matches_of, new_app}
+use Rattle.clap.specs.Words.{new_rule, one_of, with_rule}
 use Rattle.clap.specs.declared.builder.ArgAction.TheVariants.{SetTrue}
 use Rattle.clap.specs.declared.builder.value_parser.ValueParser.{ValueParser}
 use Rattle.clap.specs.declared.builder.value_parser.ValueParser.TheVariants as parser
@@ -40,7 +44,11 @@ flag_option name = record (new_rule name) { long = Some name; action = Some SetT
 
 -- the option whose value is one of these names
 abbrev pub names_option : Bor (List (Bor Text)) → Rule
-names_option forms = record (value_option (codes "form")) { defaults = codes "classic" ∷ []; parser = Some (parser.Names forms) }
+names_option forms =
+    record (value_option (codes "form")) {
+      defaults = codes "classic" ∷ [];
+      parser = Some (parser.Names forms);
+    }
 
 -- the option that names the form of the rope file
 abbrev pub IsFormOption : Rule → Type 0
@@ -48,7 +56,8 @@ IsFormOption rule = (forms : Bor (List (Bor Text)))
     × (map (λ name. name.now) forms.now ≡ codes "classic" ∷ codes "parity" ∷ [])
     × (rule ≡ names_option forms)
 
--- What the program takes: two files, and eight options, of which `--limit` must be given. `form` is the option that names the form.
+-- What the program takes: two files, and eight options, of which `--limit` must be given. `form` is
+-- the option that names the form.
 unfoldable pub command_line : Rule → App
 command_line form = fold with_rule (new_app (codes "agc"))
     (file_parameter (codes "rope")
@@ -69,7 +78,8 @@ IsCommandLine app = (form : Rule) × IsFormOption form × (app ≡ command_line 
 
 -- the number that a text writes
 abbrev pub number_written : Text → Option ℕ
-number_written text = if accepts false numbers text then Some (digits_value 10 (without_leading_plus text)) else None
+number_written text =
+    if accepts false numbers text then Some (digits_value 10 (without_leading_plus text)) else None
 
 -- the form that a name names: any but `parity` names the classic one
 abbrev pub form_named : Text → RopeForm
@@ -87,29 +97,50 @@ IsFlag (Some text) set = (text ≡ codes "true" → set ≡ true) × (text ≡ c
 pub record AsksFor (rows : List Row) (options : Options) : Type 0 where
   pub rope : string_bytes options.rope ≡ unwrap_or (first_of (codes "rope") rows) []
   pub script : string_bytes options.script ≡ unwrap_or (first_of (codes "script") rows) []
-  pub limit : options.limit ≡ unwrap_or (option_and_then number_written (one_of (codes "limit") rows)) 0
-  pub slots : options.slots ≡ unwrap_or (option_and_then number_written (one_of (codes "slots") rows)) 256
+  pub limit : options.limit
+      ≡ unwrap_or (option_and_then number_written (one_of (codes "limit") rows)) 0
+  pub slots : options.slots
+      ≡ unwrap_or (option_and_then number_written (one_of (codes "slots") rows)) 256
   pub watch : text_given options.watch ≡ first_of (codes "watch") rows
   pub log : IsFlag (one_of (codes "log") rows) options.log
-  pub form : options.form ≡ unwrap_or (option_map form_named (first_of (codes "form") rows)) form.Classic
+  pub form : options.form
+      ≡ unwrap_or (option_map form_named (first_of (codes "form") rows)) form.Classic
   pub until : text_given options.until ≡ first_of (codes "until") rows
   pub live : IsFlag (one_of (codes "live") rows) options.live
-  pub spacing : options.spacing ≡ unwrap_or (option_and_then number_written (one_of (codes "spacing") rows)) 8533
+  pub spacing : options.spacing
+      ≡ unwrap_or (option_and_then number_written (one_of (codes "spacing") rows)) 8533
 
 -- what the words ask for: the command takes them, and the options are those of its matches
 abbrev pub AreAskedBy : List Text → Options → Type 0
 AreAskedBy words options =
-    (app : App) × IsCommandLine app × (fault_of app words ≡ []) × AsksFor (matches_of app words) options
+    (app : App) × IsCommandLine app × (fault_of app words ≡ [])
+    × AsksFor (matches_of app words) options
 
--- how a kind of error is told to the user: a call for help by the text of help, the rest as a mistake
+-- how a kind of error is told to the user: a call for help by the text of help, the rest as a
+-- mistake
 abbrev pub Tells : ErrorKind → ArgsFault → Type 0
 Tells kind (fault.Help text) = kind ≡ DisplayHelp
 Tells kind (fault.Command text) = (kind ≢ DisplayHelp) × (kind ≢ OutOfMemory)
 Tells kind fault.Memory = Unit {0}
 
--- why the words give no options: they call for help, they are mistaken, or memory is wanted
+-- why the words give no options: they call for help, they are mistaken, or there is no memory
 abbrev pub IsFaultOf : List Text → ArgsFault → Type 0
-IsFaultOf words (fault.Help text) = (app : App) × IsCommandLine app × IsAmong DisplayHelp (fault_of app words)
+IsFaultOf words (fault.Help text) =
+    (app : App) × IsCommandLine app × IsAmong DisplayHelp (fault_of app words)
 IsFaultOf words (fault.Command text) =
-    (app : App) × IsCommandLine app × (kind : ErrorKind) × (kind ≢ DisplayHelp) × IsAmong kind (fault_of app words)
+    (app : App) × IsCommandLine app × (kind : ErrorKind) × (kind ≢ DisplayHelp)
+    × IsAmong kind (fault_of app words)
 IsFaultOf words fault.Memory = Unit {0}
+
+-- what is said of a word that is not text: which one it is, and the program's usage
+abbrev pub not_text_told : ℕ → Text → Text
+not_text_told number usage =
+    ((codes "error: word " ++ decimal number ++ codes " is not text\n\n") ++ usage)
+    ++ codes "\n\nFor more information, try '--help'.\n"
+
+-- a word that is not text is told as a mistake in the words, or there is no memory
+abbrev pub IsNotText : ℕ → ArgsFault → Type 0
+IsNotText number (fault.Help text) = ⊥
+IsNotText number (fault.Command text) =
+    (usage : Text) × (string_bytes text ≡ not_text_told number usage)
+IsNotText number fault.Memory = Unit {0}

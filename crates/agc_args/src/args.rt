@@ -1,8 +1,12 @@
 //! The command line: what the user asks for, as `clap` reads it.
 
-ghost use Rattle.std.specs.Prelude.{◌≡◌, ◌∷◌, [], false, true, IfOk, IfErr, map, codes, unwrap_or, option_and_then, option_map, string_bytes};
+ghost use Rattle.std.specs.Prelude.{◌≡◌, ◌∷◌, [], false, true, IfOk, IfErr, map, codes, unwrap_or};
+ghost use Rattle.std.specs.Prelude.{option_and_then, option_map, string_bytes};
 ghost use Rattle.clap.specs.Words.{app_of, first_of, found_of, kind_of, one_of, rows_of, rule_of};
-ghost use Rattle.agc_args.specs.Args.{AreAskedBy, AsksFor, IsCommandLine, IsFaultOf, IsFormOption, Tells, file_parameter, flag_option, form_named, number_option, number_written, text_given, value_option};
+ghost use Rattle.agc_args.specs.Args.{AreAskedBy, AsksFor, IsCommandLine, IsFaultOf};
+ghost use Rattle.agc_args.specs.Args.{IsFormOption, IsNotText, not_text_told};
+ghost use Rattle.agc_args.specs.Args.{Tells, file_parameter, flag_option, form_named};
+ghost use Rattle.agc_args.specs.Args.{number_option, number_written, text_given, value_option};
 ghost use Rattle.agc_args.specs.declared.args.ArgsFault.TheVariants as fault;
 ghost use Rattle.agc_store.specs.declared.rope_file.RopeForm.TheVariants as form;
 
@@ -51,6 +55,35 @@ pub fn parse_args<'a>(alloc: Global, words: &'a [&'a str]) -> Result<Options, Ar
     }
 }
 
+/// The mistake of a command line whose word of this number, counted from 1 behind the program's own
+/// name, is not text: told with the number and the usage.
+pub fn not_text(alloc: Global, number: usize) -> ArgsFault
+    ensures { IsNotText number result }
+{
+    let Ok(usage) = usage(alloc) else {
+        return ArgsFault::Memory;
+    };
+    match mistaken_word(alloc, number, usage.as_str()) {
+        Ok(text) => ArgsFault::Command(text),
+        Err(_) => ArgsFault::Memory,
+    }
+}
+
+/// What is said of a word that is not text.
+fn mistaken_word(alloc: Global, number: usize, usage: &str) -> Result<String, AllocError>
+    ensures { IfOk result (λ text. string_bytes text ≡ not_text_told number usage.now) }
+{
+    let mut text = format!(in alloc; "error: word {number} is not text\n\n")?;
+    text.push_str(usage)?;
+    text.push_str("\n\nFor more information, try '--help'.\n")?;
+    Ok(text)
+}
+
+/// The line of the program's usage.
+fn usage(alloc: Global) -> Result<String, AllocError> {
+    command(alloc)?.render_usage()
+}
+
 fn command<'a>(alloc: Global) -> Result<Command<'a>, AllocError>
     ensures { IfOk result (λ command. IsCommandLine (app_of command)) }
 {
@@ -75,7 +108,9 @@ fn rope_file<'a>(alloc: Global) -> Arg<'a>
     Arg::new(alloc, "rope")
         .value_name("ROPE")
         .required(true)
-        .help("The file of the fixed memory: 16-bit words, the high byte first")
+        .help(
+            "The file of the fixed memory: 16-bit words, the high byte first; - is a file of that name, not standard input",
+        )
 }
 
 fn script_file<'a>(alloc: Global) -> Arg<'a>
@@ -85,7 +120,9 @@ fn script_file<'a>(alloc: Global) -> Arg<'a>
     Arg::new(alloc, "script")
         .value_name("SCRIPT")
         .required(true)
-        .help("The file of what happens outside: a line an event, in order of their cycles")
+        .help(
+            "The file of what happens outside: a line an event, in order of their cycles; - is a file of that name, too",
+        )
 }
 
 fn limit_option<'a>(alloc: Global) -> Arg<'a>
@@ -97,11 +134,12 @@ fn limit_option<'a>(alloc: Global) -> Arg<'a>
         .value_name("N")
         .required(true)
         .value_parser(value_parser!(u64))
-        .help("Stop at this machine cycle of 11.7 microseconds: decimal, 1 to 1000000000000")
+        .help("Stop at this cycle (1,024,000 / 12 = 85,333 a second): decimal, 1 to 1000000000000")
 }
 
 fn slots_option<'a>(alloc: Global) -> Arg<'a>
-    ensures rule { rule_of result ≡ record (number_option (codes "slots")) { defaults = codes "256" ∷ [] } }
+    ensures rule { rule_of result
+        ≡ record (number_option (codes "slots")) { defaults = codes "256" ∷ [] } }
     ensures local { result.global ≡ false }
 {
     Arg::new(alloc, "slots")
@@ -171,7 +209,8 @@ fn live_option<'a>(alloc: Global) -> Arg<'a>
 }
 
 fn spacing_option<'a>(alloc: Global) -> Arg<'a>
-    ensures rule { rule_of result ≡ record (number_option (codes "spacing")) { defaults = codes "8533" ∷ [] } }
+    ensures rule { rule_of result
+        ≡ record (number_option (codes "spacing")) { defaults = codes "8533" ∷ [] } }
     ensures local { result.global ≡ false }
 {
     Arg::new(alloc, "spacing")
@@ -201,7 +240,9 @@ fn options_of(alloc: Global, matches: &ArgMatches<'_>) -> Result<Options, ArgsFa
 }
 
 fn path_of(alloc: Global, matches: &ArgMatches<'_>, id: &str) -> Result<String, AllocError>
-    ensures { IfOk result (λ path. string_bytes path ≡ unwrap_or (first_of id.now (rows_of (found_of matches.now))) []) }
+    ensures { IfOk result
+        (λ path. string_bytes path
+        ≡ unwrap_or (first_of id.now (rows_of (found_of matches.now))) []) }
 {
     match matches.get_str(id) {
         Some(path) => String::from_str(alloc, path),
@@ -210,7 +251,8 @@ fn path_of(alloc: Global, matches: &ArgMatches<'_>, id: &str) -> Result<String, 
 }
 
 fn text_of(alloc: Global, matches: &ArgMatches<'_>, id: &str) -> Result<Option<String>, AllocError>
-    ensures { IfOk result (λ text. text_given text ≡ first_of id.now (rows_of (found_of matches.now))) }
+    ensures { IfOk result
+        (λ text. text_given text ≡ first_of id.now (rows_of (found_of matches.now))) }
 {
     match matches.get_str(id) {
         Some(text) => Ok(Some(String::from_str(alloc, text)?)),
@@ -219,25 +261,33 @@ fn text_of(alloc: Global, matches: &ArgMatches<'_>, id: &str) -> Result<Option<S
 }
 
 fn limit_of(matches: &ArgMatches<'_>) -> u64
-    ensures { result ≡ unwrap_or (option_and_then number_written (one_of (codes "limit") (rows_of (found_of matches.now)))) 0 }
+    ensures { result ≡ unwrap_or
+        (option_and_then number_written
+        (one_of (codes "limit") (rows_of (found_of matches.now)))) 0 }
 {
     matches.get_one::<u64>("limit").unwrap_or(0)
 }
 
 fn slots_of(matches: &ArgMatches<'_>) -> usize
-    ensures { result ≡ unwrap_or (option_and_then number_written (one_of (codes "slots") (rows_of (found_of matches.now)))) 256 }
+    ensures { result ≡ unwrap_or
+        (option_and_then number_written
+        (one_of (codes "slots") (rows_of (found_of matches.now)))) 256 }
 {
     matches.get_one::<usize>("slots").unwrap_or(DEFAULT_SLOTS)
 }
 
 fn spacing_of(matches: &ArgMatches<'_>) -> u64
-    ensures { result ≡ unwrap_or (option_and_then number_written (one_of (codes "spacing") (rows_of (found_of matches.now)))) 8533 }
+    ensures { result ≡ unwrap_or
+        (option_and_then number_written
+        (one_of (codes "spacing") (rows_of (found_of matches.now)))) 8533 }
 {
     matches.get_one::<u64>("spacing").unwrap_or(DEFAULT_SPACING)
 }
 
 fn form_of(matches: &ArgMatches<'_>) -> RopeForm
-    ensures { result ≡ unwrap_or (option_map form_named (first_of (codes "form") (rows_of (found_of matches.now)))) form.Classic }
+    ensures { result ≡ unwrap_or
+        (option_map form_named
+        (first_of (codes "form") (rows_of (found_of matches.now)))) form.Classic }
 {
     match matches.get_str("form") {
         Some(name) => form_named(name),

@@ -14,6 +14,12 @@ const ODD_IDLE: [u8; 2] = [0x30, 0x01];
 /// The word of TCF 4000.
 const TCF: u16 = 0o14000;
 
+/// Two keys.
+const TWO_KEYS: [u8; 15] = *b"5 key 1\n6 key 2";
+
+/// Requests in turn, and a line that is no event.
+const REQUESTS: [u8; 47] = *b"every 2 0 98 raise 8\nevery 2 1 99 raise 1\n# end";
+
 /// `Rope::read` of one word.
 pub fn read_rope<W: Write>(alloc: Global, out: &mut W) -> io::Result<Attempt> {
     let bytes = IDLE;
@@ -38,14 +44,23 @@ pub fn read_rope_as<W: Write>(alloc: Global, out: &mut W) -> io::Result<Attempt>
 
 /// `Script::parse` of two keys.
 pub fn parse_keys<W: Write>(alloc: Global, out: &mut W) -> io::Result<Attempt> {
+    let bytes = TWO_KEYS;
     let events = [key(5, Key::One), key(6, Key::Two)];
-    parse(alloc, out, Call::ScriptParse, b"5 key 1\n6 key 2", &events)
+    parse(alloc, out, Call::ScriptParse, &bytes, &TWO_KEYS, &events)
 }
 
 /// `Script::parse` of two lines whose events are put in order after a third.
 pub fn parse_every<W: Write>(alloc: Global, out: &mut W) -> io::Result<Attempt> {
-    let file = b"every 2 0 98 raise 8\nevery 2 1 99 raise 1\n# end";
-    parse(alloc, out, Call::ScriptParseEvery, file, &raised_in_turn())
+    let bytes = REQUESTS;
+    let events = raised_in_turn();
+    parse(
+        alloc,
+        out,
+        Call::ScriptParseEvery,
+        &bytes,
+        &REQUESTS,
+        &events,
+    )
 }
 
 /// A hundred requests a cycle apart, of 8 and of 1 in turn.
@@ -57,11 +72,13 @@ fn raised_in_turn() -> [Event; 100] {
     events
 }
 
+/// Parses a file whose bytes were `before`, and whose events are these.
 fn parse<W: Write>(
     alloc: Global,
     out: &mut W,
     call: Call,
     file: &[u8],
+    before: &[u8],
     events: &[Event],
 ) -> io::Result<Attempt> {
     begin(out, call)?;
@@ -72,7 +89,7 @@ fn parse<W: Write>(
                 line,
                 kind: FaultKind::Memory,
             },
-        ) => refused(out, memory_of_line(line), true),
+        ) => refused(out, memory_of_line(line), file == before),
         Err(_) => wrong(out),
     }
 }

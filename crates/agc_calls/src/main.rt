@@ -1,6 +1,6 @@
 //! `agc_calls`: makes each call that takes memory, or the one that is named, with an input whose
-//! answer is known, and prints what it answers. Where memory was wanting it makes the call again. A
-//! test runs it with each growth refused in turn.
+//! result is known, and prints what came of it. Where it was out of memory it makes the call again.
+//! A test runs it with each allocation failing in turn.
 #![tactic(auto)]
 
 mod call;
@@ -29,7 +29,7 @@ fn main(rt: HostRuntime) -> ExitCode {
     }
 }
 
-/// Makes the calls; answers whether each of them gave an answer.
+/// Makes the calls, and returns whether each of them came to its result.
 fn run<R, W: Write>(rt: &R, out: &mut W) -> io::Result<bool>
 where
     R: Env + AllocGlobal + Threads + Wait + Sync,
@@ -65,7 +65,7 @@ where
     Ok(all)
 }
 
-/// Makes one call until it gives an answer.
+/// Makes one call until it comes to its result.
 fn make<R, W: Write>(rt: &R, out: &mut W, call: Call) -> io::Result<bool>
 where
     R: AllocGlobal + Threads + Wait + Sync,

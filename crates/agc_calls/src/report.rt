@@ -5,9 +5,9 @@ use std::io::{self, Write};
 /// What came of making a call.
 #[derive(Clone, Copy, Debug, PartialEq, Eq)]
 pub enum Attempt {
-    /// It gave an answer.
+    /// It returned what is not a lack of memory or of a thread.
     Answered,
-    /// Memory or a thread was wanting, for the call or for its input.
+    /// It was out of memory, or no thread was to be had, for the call or for its input.
     Refused,
 }
 
@@ -29,7 +29,7 @@ pub fn begin<W: Write>(out: &mut W, call: Call) -> io::Result<()> {
     tell(out, call.name())
 }
 
-/// Tells that a call gave the answer that is known, or another one.
+/// Tells whether a call returned what is known.
 pub fn answered<W: Write>(out: &mut W, known: bool) -> io::Result<Attempt> {
     tell(out, if known { "answer" } else { "another answer" })?;
     Ok(Attempt::Answered)

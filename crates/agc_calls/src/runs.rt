@@ -3,22 +3,20 @@ ghost use Rattle.std.specs.Prelude.{◌≡◌, false, IfSome};
 
 use crate::call::Call;
 use crate::report::{Attempt, answered, begin, no_input, refused, tell, wrong};
+use agc_gate::Counting;
+use agc_listing::{KEYED_WRITES, WRITES, rope_file};
 use agc_machine::{Machine, Stop};
 use agc_panel::Panel;
-use agc_pipe::{Gate, LinkFault, Live, ShowFault, Shown, link, run_live, run_shown};
+use agc_pipe::{LinkFault, Live, ShowFault, Shown, link, run_live, run_shown};
 use agc_script::{Key, Script};
 use agc_store::Rope;
 use std::alloc::Global;
 use std::io::{self, Write};
 use std::sync::Wait;
-use std::sync::atomic::{AtomicU64, Ordering};
 use std::thread::Threads;
 
-/// EXTEND, WRITE 10, TCF 4000: a write of +0 to channel 10 in four cycles.
-const ROPE: [u8; 6] = [0x00, 0x0C, 0x04, 0x10, 0x30, 0x00];
-
 /// The writes of the short run.
-const WRITES: u64 = 1000;
+const SHORT_WRITES: u64 = 1000;
 
 /// The thousandth write begins at cycle 4014, and the run ends at 4018.
 const LIMIT: u64 = 4018;
@@ -43,55 +41,19 @@ pub fn link_ends<W: Write>(alloc: Global, out: &mut W) -> io::Result<Attempt> {
     }
 }
 
-/// The gate that keeps the numbers of the writes that were sent and received last.
-#[derive(Drop)]
-struct Counts {
-    sent: AtomicU64,
-    received: AtomicU64,
-}
-
-impl Counts {
-    const fn new() -> Counts {
-        Counts {
-            sent: AtomicU64::new(0),
-            received: AtomicU64::new(0),
-        }
-    }
-
-    fn received(&self) -> u64 {
-        self.received.load(Ordering::SeqCst)
-    }
-
-    /// Whether all writes of a run that has so many at least were received.
-    fn is_whole(&self, least: u64) -> bool {
-        let received = self.received();
-        received >= least && received == self.sent.load(Ordering::SeqCst)
-    }
-}
-
-impl Gate for Counts {
-    fn before_send(&self, n: u64) {
-        self.sent.store(n, Ordering::SeqCst);
-    }
-
-    fn after_receive(&self, n: u64) {
-        self.received.store(n, Ordering::SeqCst);
-    }
-}
-
 /// `run_shown` of a thousand writes through one slot.
 pub fn show_writes<R, W: Write>(rt: &R, out: &mut W) -> io::Result<Attempt>
 where
     R: AllocGlobal + Threads + Wait + Sync,
 {
-    let Some(machine) = machine_of(rt.alloc(), &ROPE, LIMIT) else {
+    let Some(machine) = machine_of(rt.alloc(), WRITES, LIMIT) else {
         return no_input(out);
     };
-    let gate = Counts::new();
+    let gate = Counting::new();
     begin(out, Call::RunShown)?;
     match run_shown(rt, rt.alloc(), machine, 1, &gate) {
-        Ok(shown) => answered(out, is_thousand(&shown) && gate.is_whole(WRITES)),
-        Err(fault) => tell_fault(out, fault, &gate, WRITES),
+        Ok(shown) => answered(out, is_thousand(&shown) && came_whole(&gate, SHORT_WRITES)),
+        Err(fault) => tell_fault(out, fault, &gate, SHORT_WRITES),
     }
 }
 
@@ -101,16 +63,16 @@ where
     R: AllocGlobal + Threads + Wait + Sync,
 {
     let alloc = rt.alloc();
-    let Some(machine) = machine_of(alloc, &live_rope(), LIVE_LIMIT) else {
+    let Some(machine) = machine_of(alloc, KEYED_WRITES, LIVE_LIMIT) else {
         return no_input(out);
     };
     let Some(keys) = pressed_keys(alloc) else {
         return no_input(out);
     };
-    let gate = Counts::new();
+    let gate = Counting::new();
     begin(out, Call::RunLive)?;
     match run_live(rt, alloc, machine, keys, SPACING, 256, &gate) {
-        Ok(live) => answered(out, has_keys(&live) && gate.is_whole(LIVE_WRITES)),
+        Ok(live) => answered(out, has_keys(&live) && came_whole(&gate, LIVE_WRITES)),
         Err(fault) => tell_fault(out, fault, &gate, LIVE_WRITES),
     }
 }
@@ -119,12 +81,12 @@ where
 fn tell_fault<W: Write>(
     out: &mut W,
     fault: ShowFault,
-    gate: &Counts,
+    gate: &Counting,
     least: u64,
 ) -> io::Result<Attempt> {
     let received = if gate.received() == 0 {
         "received none"
-    } else if gate.is_whole(least) {
+    } else if came_whole(gate, least) {
         "received all"
     } else {
         "received some"
@@ -137,22 +99,19 @@ fn tell_fault<W: Write>(
     }
 }
 
-/// The machine of a rope, without a script.
-#[tactic(auto, unfolding(agc_machine::specs::State::start_state))]
-fn machine_of(alloc: Global, rope: &[u8], limit: u64) -> Option<Machine>
-    ensures { IfSome result (λ machine. machine.begun ≡ false) }
-{
-    let rope = Rope::read(alloc, rope).ok()?;
-    Machine::new(rope, Script::empty(alloc), limit).ok()
+/// Whether all writes of a run that has so many at least were received.
+fn came_whole(gate: &Counting, least: u64) -> bool {
+    gate.is_whole() && gate.received() >= least
 }
 
-/// The words of the writes, with RESUME at 4024, where a key interrupts.
-fn live_rope() -> [u8; 42] {
-    let mut rope = [0; 42];
-    rope[..6].copy_from_slice(&ROPE);
-    rope[40] = 0xA0;
-    rope[41] = 0x1E;
-    rope
+/// The machine of a listing, without a script.
+#[tactic(auto, unfolding(agc_machine::specs::State::start_state))]
+fn machine_of(alloc: Global, listing: &str, limit: u64) -> Option<Machine>
+    ensures { IfSome result (λ machine. machine.begun ≡ false) }
+{
+    let file = rope_file(alloc, listing).ok()?;
+    let rope = Rope::read(alloc, file.as_slice()).ok()?;
+    Machine::new(rope, Script::empty(alloc), limit).ok()
 }
 
 fn pressed_keys(alloc: Global) -> Option<Vec<Key>> {

@@ -2,6 +2,7 @@
 use crate::call::Call;
 use crate::report::{Attempt, answered, begin, keeps, no_input, refused, wrong};
 use agc_args::{ArgsFault, parse_args};
+use agc_listing::{DIVISION, rope_file};
 use agc_pipe::Open;
 use agc_session::{DONE, Options, REFUSED, session};
 use agc_store::RopeForm;
@@ -27,12 +28,7 @@ const WATCHED: [&str; 10] = [
     "0,0,1,1,0,1,100",
 ];
 
-/// CA 4007, EXTEND, WRITE 10, EXTEND, DV 100: a write of +2 to channel 10, and the stop, as cell 100
-/// holds 1, which does not divide it.
-const DIVISION: [u8; 16] = [
-    0x70, 0x0E, 0x00, 0x0C, 0x04, 0x10, 0x00, 0x0C, 0x20, 0x80, 0x00, 0x00, 0x00, 0x00, 0x00, 0x04,
-];
-
+/// What the division needs: the cell that divides holds 1.
 const POKE: &[u8] = b"0 poke 0 100 1";
 
 const TEXT: &str = "PROG __
@@ -136,8 +132,11 @@ where
     let Ok(options) = parse_args(rt.alloc(), &WATCHED) else {
         return no_input(out);
     };
+    let Ok(file) = rope_file(rt.alloc(), DIVISION) else {
+        return no_input(out);
+    };
     let (mut printed, mut told) = (Page::new(), Page::new());
-    let (mut rope, mut script, mut keys): (&[u8], &[u8], &[u8]) = (&DIVISION, POKE, b"");
+    let (mut rope, mut script, mut keys): (&[u8], &[u8], &[u8]) = (file.as_slice(), POKE, b"");
     begin(out, Call::Session)?;
     let status = session(
         rt,

@@ -1,6 +1,7 @@
 //! The calls that make a text: the panel's and the watcher's.
 use crate::call::Call;
 use crate::report::{Attempt, answered, begin, no_input, refused, wrong};
+use agc_listing::{IDLE, rope_file};
 use agc_machine::ChannelWrite;
 use agc_panel::{Panel, WatchFault, WatchSpec, watch};
 use agc_store::{Rope, Store};
@@ -67,7 +68,10 @@ fn written_panel() -> Panel {
 
 /// `watch` of two core sets.
 pub fn watch_tables<W: Write>(alloc: Global, out: &mut W) -> io::Result<Attempt> {
-    let Ok(rope) = Rope::read(alloc, &[0x30, 0x00]) else {
+    let Ok(file) = rope_file(alloc, IDLE) else {
+        return no_input(out);
+    };
+    let Ok(rope) = Rope::read(alloc, file.as_slice()) else {
         return no_input(out);
     };
     let mut store = Store::new(rope);

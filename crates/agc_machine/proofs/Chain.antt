@@ -1,6 +1,6 @@
 -- The chain of boundaries comes to its end: what is left falls with each boundary, and enough is as good as more.
 use Rattle.std.proofs.Common.{◌≡◌, ℕ, ◌+◌, ◌≤◌, ◌<◌, suc, zero, List, [], ◌∷◌, length, Option, Some, None, Bool, true, false, refl, ap, sym, ◌∙◌, subst, arith, lit≤}
-use Rattle.std.specs.Prelude.{nat_le, if◌then◌else◌, IsSome}
+use Rattle.std.specs.Prelude.{nat_le, option_map, IsSome}
 use Rattle.std.proofs.lemmas.Bool.Decides.{nat_tests}
 use Rattle.agc_word.specs.declared.pulse.Carry.{Carry}
 use Rattle.agc_word.specs.declared.pulse.Carry.TheVariants as carry
@@ -14,10 +14,13 @@ use Rattle.agc_machine.specs.declared.answer.Next.TheVariants as next
 use Rattle.agc_processor.specs.declared.processor.Processor.{Processor}
 use Rattle.agc_processor.specs.declared.processor.Ran.{Ran}
 use Rattle.agc_processor.specs.declared.processor.Ran.TheVariants as ran
-use Rattle.agc_machine.specs.Boundary.{boundary, by_limit, by_event, by_timer, by_interrupt, by_address, by_order, ran_order, timer_or_on, interrupt_or_on, event_or_on, is_reached, stops, unless_stopped}
+use Rattle.agc_machine.specs.Boundary.{boundary, by_limit, by_event, by_timer, by_interrupt, by_address, by_order, ran_order, is_reached, stops, unless_stopped}
+use Rattle.agc_machine.proofs.Cases.{from_limit, from_event, from_timer, from_interrupt, from_address, one_or_on, event_or_on, timer_or_on, interrupt_or_on}
 use Rattle.agc_processor.specs.Effect.{order_effect, IsOrderly}
 use Rattle.agc_processor.specs.Interrupt.{interrupt_taken}
-use Rattle.agc_processor.specs.Timer.{timer_stepped, time1_step, time2_by, time3_step, time4_step, time5_step, time6_step, is_due, is_time6_due}
+use Rattle.agc_processor.specs.Timer.{due_timer, timer_step, timer_stepped, time1_step, time2_by, time3_step, time4_step, time5_step, time6_step}
+use Rattle.agc_processor.specs.declared.timer.Timer.{Timer}
+use Rattle.agc_processor.specs.declared.timer.Timer.TheVariants as timer
 use Rattle.agc_machine.specs.Run.{Run, boundaries_left, next_within, next_of, unless_quiet, run_within, run_of, unless_stopped_run}
 use Rattle.agc_machine.specs.Laws.{Falls, Comes, AreRising, after}
 use Rattle.agc_machine.specs.State.{State}
@@ -26,18 +29,18 @@ use Rattle.agc_processor.proofs.Orderly.{order_effect-orderly}
 order_falls : (s : State) (r : Processor × Ran) → s.cycle < s.limit → IsOrderly r.1 → Falls s (ran_order s r)
 unfolding boundaries_left
 order_falls s (p, ran.Quiet cycles) h o = (omega arith, omega arith)
-order_falls s (p, ran.Wrote channel value) h o = (omega arith, refl, omega arith, o.0, o.1)
+order_falls s (p, ran.Wrote channel value) h o = (omega arith, refl, omega arith, o)
 order_falls s (p, ran.Halted why) h o = (refl, omega arith)
 
 by_order_falls : (s : State) → s.cycle < s.limit → Falls s (by_order s)
 unfolding by_order
 by_order_falls s h = order_falls s (order_effect s.cycle s.processor) h (order_effect-orderly s.cycle s.processor)
 
-either_stop : (b : Bool) (s : State) (why : Stop) → Falls s (by_order s) → Falls s (if b then stops why s else by_order s)
+either_stop : (b : Bool) (s : State) (why : Stop) → Falls s (by_order s) → Falls s (one_or_on b (stops why s) (by_order s))
 either_stop true s why h = (refl, omega arith)
 either_stop false s why h = h
 
-by_address_falls : (s : State) → s.cycle < s.limit → Falls s (by_address s)
+by_address_falls : (s : State) → s.cycle < s.limit → Falls s (from_address s)
 unfolding by_address
 by_address_falls s h = either_stop (is_reached s.until s.processor) s _ (by_order_falls s h)
 
@@ -46,7 +49,7 @@ unfolding boundaries_left
 interrupt_falls (Some p) s h = (omega arith, omega arith)
 interrupt_falls None s h = by_address_falls s h
 
-by_interrupt_falls : (s : State) → s.cycle < s.limit → Falls s (by_interrupt s)
+by_interrupt_falls : (s : State) → s.cycle < s.limit → Falls s (from_interrupt s)
 unfolding by_interrupt
 by_interrupt_falls s h = interrupt_falls (interrupt_taken s.processor) s h
 
@@ -59,30 +62,30 @@ time2_costs : (c : Carry) (p : Processor) → 1 ≤ (time2_by c p).1
 time2_costs carry.Out p = lit≤ tt
 time2_costs carry.None p = lit≤ tt
 
-either_costs : (b : Bool) (x y : Option (Processor × ℕ)) → Costs x → Costs y → Costs (if b then x else y)
-either_costs true x y h k = h
-either_costs false x y h k = k
+step_costs : (due : Option Timer) (p : Processor) → Costs (option_map (λ t. timer_step t p) due)
+unfolding time1_step time3_step time4_step time5_step time6_step
+step_costs (Some timer.Time1) p = time2_costs _ _
+step_costs (Some timer.Time3) p = lit≤ tt
+step_costs (Some timer.Time4) p = lit≤ tt
+step_costs (Some timer.Time5) p = lit≤ tt
+step_costs (Some timer.Time6) p = lit≤ tt
+step_costs None p = tt
 
 timer_costs : (cycle : ℕ) (p : Processor) → Costs (timer_stepped cycle p)
-unfolding timer_stepped time1_step time3_step time4_step time5_step time6_step
-timer_costs cycle p =
-    either_costs (is_due cycle 10240 p.timers.time1) _ _ (time2_costs _ _)
-    (either_costs (is_due cycle 10240 p.timers.time3) _ _ (lit≤ tt)
-    (either_costs (is_due cycle 7680 p.timers.time4) _ _ (lit≤ tt)
-    (either_costs (is_due cycle 5120 p.timers.time5) _ _ (lit≤ tt)
-    (either_costs (is_time6_due cycle p) _ _ (lit≤ tt) tt))))
+unfolding timer_stepped
+timer_costs cycle p = step_costs (due_timer cycle p) p
 
 timer_falls : (stepped : Option (Processor × ℕ)) (s : State) → Costs stepped → s.cycle < s.limit → Falls s (timer_or_on stepped s)
 unfolding boundaries_left
 timer_falls (Some (p, cycles)) s o h = (omega arith, omega arith)
 timer_falls None s o h = by_interrupt_falls s h
 
-pub by_timer_falls : (s : State) → s.cycle < s.limit → Falls s (by_timer s)
+pub by_timer_falls : (s : State) → s.cycle < s.limit → Falls s (from_timer s)
 unfolding by_timer
 by_timer_falls s h = timer_falls (timer_stepped s.cycle s.processor) s (timer_costs s.cycle s.processor) h
 
 either_event : (b : Bool) (s : State) (event : Event) (rest : List Event) (taken : State × Stepped) →
-    Falls s taken → Falls s (by_timer s) → Falls s (if b then taken else by_timer s)
+    Falls s taken → Falls s (from_timer s) → Falls s (one_or_on b taken (from_timer s))
 either_event true s event rest taken h k = h
 either_event false s event rest taken h k = k
 
@@ -93,15 +96,15 @@ event_falls (event ∷ rest) s e h =
     let shorter : length s.events ≡ suc (length rest) = ap length e in
     either_event (nat_le event.cycle s.cycle) s event rest _ (omega arith, omega arith) (by_timer_falls s h)
 
-by_event_falls : (s : State) → s.cycle < s.limit → Falls s (by_event s)
+by_event_falls : (s : State) → s.cycle < s.limit → Falls s (from_event s)
 unfolding by_event
 by_event_falls s h = event_falls s.events s refl h
 
-either_limit : (b : Bool) (s : State) (why : Stop) → nat_le s.limit s.cycle ≡ b → Falls s (if b then stops why s else by_event s)
+either_limit : (b : Bool) (s : State) (why : Stop) → nat_le s.limit s.cycle ≡ b → Falls s (one_or_on b (stops why s) (from_event s))
 either_limit true s why e = (refl, omega arith)
 either_limit false s why e = by_event_falls s (grind (arith, nat_tests))
 
-by_limit_falls : (s : State) → Falls s (by_limit s)
+by_limit_falls : (s : State) → Falls s (from_limit s)
 unfolding by_limit
 by_limit_falls s = either_limit (nat_le s.limit s.cycle) s _ refl
 
@@ -159,13 +162,13 @@ pub next_at_stop : (s t : State) (why : Stop) → (t, stepped.Stopped why) ≡ b
 next_at_stop s t why e = ap (unless_quiet (next_within (boundaries_left s))) e ∙ sym (next_by_boundary s)
 
 later_comes : (s t : State) (r : State × Next) → boundaries_left t < boundaries_left s → s.cycle ≤ t.cycle → Comes t r → Comes s r
-later_comes s t (u, next.Wrote write) h k c = (omega arith, omega arith, c.2, c.3, c.4)
+later_comes s t (u, next.Wrote write) h k c = (omega arith, omega arith, c.2, c.3)
 later_comes s t (u, next.Stopped why) h k c = (c.0, omega arith)
 
 comes_by : (go_on : State → State × Next) (s : State) (r : State × Stepped) → Falls s r →
     ((t : State) → boundaries_left t < boundaries_left s → Comes t (go_on t)) → Comes s (unless_quiet go_on r)
 comes_by go_on s (t, stepped.Quiet) h f = later_comes s t (go_on t) h.0 h.1 (f t h.0)
-comes_by go_on s (t, stepped.Wrote write) h f = (h.0, omega arith, omega arith, h.3, h.4)
+comes_by go_on s (t, stepped.Wrote write) h f = (h.0, omega arith, omega arith, h.3)
 comes_by go_on s (t, stepped.Stopped why) h f = h
 
 within_comes : (n : ℕ) (s : State) → boundaries_left s ≤ n → Comes s (next_within n s)
@@ -216,12 +219,12 @@ stop_is_kept s t why e = (subst (Comes s) (sym e) (next_comes s)).0
 
 rises_later : (from later : ℕ) (writes : List ChannelWrite) → from ≤ later → AreRising later writes → AreRising from writes
 rises_later from later [] h r = tt
-rises_later from later (write ∷ writes) h r = (omega arith, r.1, r.2, r.3)
+rises_later from later (write ∷ writes) h r = (omega arith, r.1, r.2)
 
 run_rises_by : (go_on : State → Run) (s : State) (r : State × Next) → Comes s r →
     ((t : State) → boundaries_left t < boundaries_left s → AreRising t.cycle (go_on t).writes) → AreRising s.cycle (unless_stopped_run go_on r).writes
 run_rises_by go_on s (t, next.Wrote write) h f =
-    (h.1, h.3, h.4, rises_later (write.cycle + 1) t.cycle (go_on t).writes (omega arith) (f t h.0))
+    (h.1, h.3, rises_later (write.cycle + 1) t.cycle (go_on t).writes (omega arith) (f t h.0))
 run_rises_by go_on s (t, next.Stopped why) h f = tt
 
 run_within_rises : (n : ℕ) (s : State) → AreRising s.cycle (run_within n s).writes
@@ -238,7 +241,7 @@ stays : (stopped : Option Stop) (s : State) (why : Stop) → stopped ≡ Some wh
 stays (Some other) s why e = cc
 stays None s why e = cc
 
--- a stopped machine stays as it is and answers the same
+-- a stopped machine stays as it is, and says why again
 pub stopped_stays : (s : State) (why : Stop) → s.stopped ≡ Some why → boundary None s ≡ (s, stepped.Stopped why)
 unfolding boundary
 stopped_stays s why e = stays s.stopped s why e

@@ -26,7 +26,7 @@ no_events xs i h = grind (arith, common_steps)
 -- an event that is due happens
 pub met : (s : State) (event : Event) (rest : List Event) (p : Processor) (cycles : ℕ) → s.events ≡ event ∷ rest → event.cycle ≤ s.cycle →
     p ≡ happened s.cycle event.what s.processor → cycles ≡ cycles_of event.what →
-    (record s { processor = p; events = rest; cycle = s.cycle + cycles }, stepped.Quiet) ≡ by_event s
+    by_event s ≡ Some (record s { processor = p; events = rest; cycle = s.cycle + cycles }, stepped.Quiet)
 unfolding by_event
 met s event rest p cycles e due ep ec =
     let t : nat_le event.cycle s.cycle ≡ true = grind (arith, nat_tests) in rw e (rw t (rw (ep, ec) refl))

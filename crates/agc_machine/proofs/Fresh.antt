@@ -1,11 +1,13 @@
--- A stop address that is set at the start is the start's own.
+-- A stop address that is set at the start is the start's own, and equal starts have equal runs.
 use Rattle.std.proofs.Common.{◌≡◌, ℕ, List, Option, true, false, ap, sym, ◌∙◌}
 use Rattle.agc_word.specs.Number.{Number}
 use Rattle.agc_script.specs.declared.event.Event.{Event}
 use Rattle.agc_machine.specs.declared.engine.Engine.{Engine}
-use Rattle.agc_machine.specs.declared.machine.StopAddress.{StopAddress}
+use Rattle.agc_machine.specs.declared.stop_address.StopAddress.{StopAddress}
 use Rattle.agc_machine.specs.Engine.{IsSound, state_of}
-use Rattle.agc_machine.specs.State.{State, start_state}
+use Rattle.agc_machine.specs.Laws.{IsSameRun}
+use Rattle.agc_machine.specs.Run.{run_of}
+use Rattle.agc_machine.specs.State.{IsAtStart, State, start_state}
 
 true_is_not_false : true ≡ false → ⊥
 true_is_not_false e = cc
@@ -18,10 +20,23 @@ started s words events limit u v h = ap (λ (x : State). record x { until = v })
 pub sound_until : (m : Engine) (v : Option StopAddress) → IsSound m → m.begun ≡ false → IsSound (record m { until = v })
 sound_until m v h not_begun =
     record {
-      quiet = λ l. absurd (true_is_not_false (sym (h.quiet l).begun ∙ not_begun));
+      quiet = λ l. absurd (true_is_not_false (sym (h.quiet l).going.begun ∙ not_begun));
+      pace = λ l. absurd (true_is_not_false (sym (h.quiet l).going.begun ∙ not_begun));
       place = h.place;
       some = h.some;
       limit = h.limit;
       cycle = h.cycle;
       fresh = λ f. started (state_of m) _ _ _ m.until v (h.fresh f);
     }
+
+-- a start is told by its fixed words, its events, its limit and its stop address
+same_start : (s t : State) → IsAtStart s → IsAtStart t → IsSameRun s t → s.events ≡ t.events → s ≡ t
+same_start s t h k same e =
+    h ∙ ap (λ (words : List Number). start_state words s.events s.limit s.until) (sym same.0)
+    ∙ ap (λ (events : List Event). start_state t.processor.store.fixed events s.limit s.until) e
+    ∙ ap (λ (limit : ℕ). start_state t.processor.store.fixed t.events limit s.until) (sym same.1)
+    ∙ ap (λ (until : Option StopAddress). start_state t.processor.store.fixed t.events t.limit until) (sym same.2)
+    ∙ sym k
+
+pub same_run : (s t : State) → IsAtStart s → IsAtStart t → IsSameRun s t → s.events ≡ t.events → run_of s ≡ run_of t
+same_run s t h k same e = ap run_of (same_start s t h k same e)

@@ -4,5 +4,11 @@ pub mod Fresh
 pub mod Stillness
 pub mod Replay
 pub mod Before
+pub mod Cases
+pub mod Fixed
+pub mod Kept
+pub mod Return
 pub mod Taken
 pub mod Live
+pub mod Place
+pub mod Told

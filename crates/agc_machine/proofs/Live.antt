@@ -12,8 +12,8 @@ use Rattle.agc_machine.specs.Laws.{KeepsStop}
 use Rattle.agc_machine.specs.Live.{IsLive}
 use Rattle.agc_machine.specs.Replay.{chain, tape_of, AreWanted, with_tape, writes_in}
 use Rattle.agc_machine.specs.Run.{boundaries_left, next_before, next_before_within, run_of, unless_quiet_before}
-use Rattle.agc_machine.specs.State.{State, start_state}
-use Rattle.agc_machine.specs.Taken.{IsAtStart, TakesTape, replayed}
+use Rattle.agc_machine.specs.State.{State, start_state, IsAtStart}
+use Rattle.agc_machine.specs.Taken.{TakesTape, replayed}
 use Rattle.agc_machine.proofs.Replay.{key_is_quiet, live_run_replays}
 use Rattle.agc_machine.proofs.Taken.{tape_is_taken, tape_is_below}
 

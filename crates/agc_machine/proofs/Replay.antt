@@ -1,6 +1,6 @@
 -- A chain of boundaries with live keys is the plain chain on the events merged with the keys' tape.
 use Rattle.std.proofs.Common.{◌≡◌, ℕ, ◌+◌, ◌≤◌, ◌<◌, suc, zero, List, [], ◌∷◌, length, replicate, Option, Some, None, Bool, true, false, refl, ap, sym, ◌∙◌, subst, arith}
-use Rattle.std.specs.Prelude.{nat_le, if◌then◌else◌, IsSome}
+use Rattle.std.specs.Prelude.{nat_le, IsSome}
 use Rattle.std.proofs.lemmas.Bool.Decides.{nat_tests}
 use Rattle.agc_script.proofs.Merges.{merged_event_first, merged_key_first, merged_keys_last, merged_no_keys}
 use Rattle.agc_script.specs.Merge.{merged, key_event}
@@ -14,7 +14,8 @@ use Rattle.agc_machine.specs.declared.answer.Stop.{Stop}
 use Rattle.agc_processor.specs.declared.processor.Processor.{Processor}
 use Rattle.agc_processor.specs.declared.processor.Ran.{Ran}
 use Rattle.agc_processor.specs.declared.processor.Ran.TheVariants as ran
-use Rattle.agc_machine.specs.Boundary.{boundary, by_limit, by_event, by_timer, by_interrupt, by_address, by_order, ran_order, timer_or_on, interrupt_or_on, event_or_on, is_reached, stops, passes, unless_stopped, IsBefore, WantsKey}
+use Rattle.agc_machine.specs.Boundary.{boundary, by_limit, by_timer, by_interrupt, by_address, by_order, ran_order, is_reached, stops, passes, unless_stopped, ◌otherwise◌, IsBefore, WantsKey}
+use Rattle.agc_machine.proofs.Cases.{from_limit, from_event, from_timer, from_interrupt, from_address, one_or_on, timer_or_on, interrupt_or_on}
 use Rattle.agc_processor.specs.Effect.{order_effect}
 use Rattle.agc_machine.specs.Happening.{happened, cycles_of}
 use Rattle.agc_processor.specs.Interrupt.{interrupt_taken}
@@ -44,12 +45,12 @@ unfolding by_order
 by_order_framed events limit s = order_framed events limit s (order_effect s.cycle s.processor)
 
 either_framed : (b : Bool) (events : List Event) (limit : ℕ) (x y u v : State × Stepped) → x ≡ framed events limit u → y ≡ framed events limit v →
-    (if b then x else y) ≡ framed events limit (if b then u else v)
+    one_or_on b x y ≡ framed events limit (one_or_on b u v)
 either_framed true events limit x y u v h k = h
 either_framed false events limit x y u v h k = k
 
 by_address_framed : (events : List Event) (limit : ℕ) (s : State) →
-    by_address (record s { events = events; limit = limit }) ≡ framed events limit (by_address s)
+    from_address (record s { events = events; limit = limit }) ≡ framed events limit (from_address s)
 unfolding by_address
 by_address_framed events limit s =
     either_framed (is_reached s.until s.processor) events limit _ _ _ _ refl (by_order_framed events limit s)
@@ -60,7 +61,7 @@ interrupt_framed (Some p) events limit s = refl
 interrupt_framed None events limit s = by_address_framed events limit s
 
 by_interrupt_framed : (events : List Event) (limit : ℕ) (s : State) →
-    by_interrupt (record s { events = events; limit = limit }) ≡ framed events limit (by_interrupt s)
+    from_interrupt (record s { events = events; limit = limit }) ≡ framed events limit (from_interrupt s)
 unfolding by_interrupt
 by_interrupt_framed events limit s = interrupt_framed (interrupt_taken s.processor) events limit s
 
@@ -70,14 +71,14 @@ timer_framed (Some (p, cycles)) events limit s = refl
 timer_framed None events limit s = by_interrupt_framed events limit s
 
 by_timer_framed : (events : List Event) (limit : ℕ) (s : State) →
-    by_timer (record s { events = events; limit = limit }) ≡ framed events limit (by_timer s)
+    from_timer (record s { events = events; limit = limit }) ≡ framed events limit (from_timer s)
 unfolding by_timer
 by_timer_framed events limit s = timer_framed (timer_stepped s.cycle s.processor) events limit s
 
-pub timer_keeps_events : (s : State) → (by_timer s).0.events ≡ s.events
+pub timer_keeps_events : (s : State) → (from_timer s).0.events ≡ s.events
 timer_keeps_events s = ap (λ (r : State × Stepped). r.0.events) (by_timer_framed s.events s.limit s)
 
-pub timer_keeps_limit : (s : State) → (by_timer s).0.limit ≡ s.limit
+pub timer_keeps_limit : (s : State) → (from_timer s).0.limit ≡ s.limit
 timer_keeps_limit s = ap (λ (r : State × Stepped). r.0.limit) (by_timer_framed s.events s.limit s)
 
 -- an answer of a state with a tape among its events
@@ -131,19 +132,19 @@ framed_is_taped s tape r e l =
     ap (λ (limit : ℕ). framed (merged s.events tape) limit r) (sym l)
     ∙ ap (λ (events : List Event). framed (merged events tape) r.0.limit r) (sym e)
 
-timer_taped : (s : State) (tape : List (ℕ × Key)) → by_timer (with_tape tape s) ≡ taped tape (by_timer s)
+timer_taped : (s : State) (tape : List (ℕ × Key)) → from_timer (with_tape tape s) ≡ taped tape (from_timer s)
 timer_taped s tape =
     by_timer_framed (merged s.events tape) s.limit s
-    ∙ framed_is_taped s tape (by_timer s) (timer_keeps_events s) (timer_keeps_limit s)
+    ∙ framed_is_taped s tape (from_timer s) (timer_keeps_events s) (timer_keeps_limit s)
 
 -- no event is due
-undue_taped : (s : State) (tape : List (ℕ × Key)) → s.cycle < s.limit → IsBefore s.cycle s.events → Follows (by_event s) tape →
-    by_event (with_tape tape s) ≡ taped tape (by_event s)
+undue_taped : (s : State) (tape : List (ℕ × Key)) → s.cycle < s.limit → IsBefore s.cycle s.events → Follows (from_event s) tape →
+    from_event (with_tape tape s) ≡ taped tape (from_event s)
 undue_taped s tape l b f =
-    let same : by_event s ≡ by_timer s = past_event s b in
-    let follows : Follows (by_timer s) tape = subst (λ (r : State × Stepped). Follows r tape) same f in
+    let same : from_event s ≡ from_timer s = past_event s b in
+    let follows : Follows (from_timer s) tape = subst (λ (r : State × Stepped). Follows r tape) same f in
     let later : IsFrom (s.cycle + 1) tape =
-    later_tape s (by_timer s) tape (timer_keeps_events s) (timer_keeps_limit s) (by_timer_falls s l) follows in
+    later_tape s (from_timer s) tape (timer_keeps_events s) (timer_keeps_limit s) (by_timer_falls s l) follows in
     past_event (with_tape tape s) (not_due s.cycle s.events tape b later) ∙ timer_taped s tape ∙ ap (taped tape) (sym same)
 
 -- an event that is due comes before the keys
@@ -157,13 +158,13 @@ abbrev after_event : State → Event → List Event → State × Stepped
 after_event s event rest = passes (happened s.cycle event.what s.processor) (cycles_of event.what) (record s { events = rest })
 
 event_taken : (s : State) (event : Event) (rest : List Event) → s.events ≡ event ∷ rest → event.cycle ≤ s.cycle →
-    by_event s ≡ after_event s event rest
-event_taken s event rest e l = sym (met s event rest _ _ e l refl refl)
+    from_event s ≡ after_event s event rest
+event_taken s event rest e l = ap (λ (o : Option (State × Stepped)). o otherwise from_timer s) (met s event rest _ _ e l refl refl)
 
 due_taped : (s : State) (tape : List (ℕ × Key)) (event : Event) (rest : List Event) → s.events ≡ event ∷ rest → event.cycle ≤ s.cycle →
-    Follows (by_event s) tape → by_event (with_tape tape s) ≡ taped tape (by_event s)
+    Follows (from_event s) tape → from_event (with_tape tape s) ≡ taped tape (from_event s)
 due_taped s tape event rest e l f =
-    let taken : by_event s ≡ after_event s event rest = event_taken s event rest e l in
+    let taken : from_event s ≡ after_event s event rest = event_taken s event rest e l in
     let follows : Follows (after_event s event rest) tape = subst (λ (r : State × Stepped). Follows r tape) taken f in
     let from : IsFrom event.cycle tape = from_later event.cycle (s.cycle + cycles_of event.what) tape (omega arith) follows.from in
     let first : merged s.events tape ≡ event ∷ merged rest tape =
@@ -171,23 +172,23 @@ due_taped s tape event rest e l f =
     event_taken (with_tape tape s) event (merged rest tape) first l ∙ ap (taped tape) (sym taken)
 
 event_taped_by : (b : Bool) (s : State) (tape : List (ℕ × Key)) (event : Event) (rest : List Event) → nat_le event.cycle s.cycle ≡ b →
-    s.events ≡ event ∷ rest → s.cycle < s.limit → Follows (by_event s) tape → by_event (with_tape tape s) ≡ taped tape (by_event s)
+    s.events ≡ event ∷ rest → s.cycle < s.limit → Follows (from_event s) tape → from_event (with_tape tape s) ≡ taped tape (from_event s)
 event_taped_by true s tape event rest e h l f = due_taped s tape event rest h (grind (arith, nat_tests)) f
 event_taped_by false s tape event rest e h l f =
     undue_taped s tape l (subst (IsBefore s.cycle) (sym h) (grind (arith, nat_tests))) f
 
 event_taped_at : (events : List Event) (s : State) (tape : List (ℕ × Key)) → s.events ≡ events → s.cycle < s.limit →
-    Follows (by_event s) tape → by_event (with_tape tape s) ≡ taped tape (by_event s)
+    Follows (from_event s) tape → from_event (with_tape tape s) ≡ taped tape (from_event s)
 event_taped_at [] s tape e l f = undue_taped s tape l (subst (IsBefore s.cycle) (sym e) tt) f
 event_taped_at (event ∷ rest) s tape e l f = event_taped_by (nat_le event.cycle s.cycle) s tape event rest refl e l f
 
 either_limit_taped : (b : Bool) (s : State) (tape : List (ℕ × Key)) (why : Stop) → nat_le s.limit s.cycle ≡ b →
-    Follows (if b then stops why s else by_event s) tape →
-    (if b then stops why (with_tape tape s) else by_event (with_tape tape s)) ≡ taped tape (if b then stops why s else by_event s)
+    Follows (one_or_on b (stops why s) (from_event s)) tape →
+    one_or_on b (stops why (with_tape tape s)) (from_event (with_tape tape s)) ≡ taped tape (one_or_on b (stops why s) (from_event s))
 either_limit_taped true s tape why e f = refl
 either_limit_taped false s tape why e f = event_taped_at s.events s tape refl (grind (arith, nat_tests)) f
 
-by_limit_taped : (s : State) (tape : List (ℕ × Key)) → Follows (by_limit s) tape → by_limit (with_tape tape s) ≡ taped tape (by_limit s)
+by_limit_taped : (s : State) (tape : List (ℕ × Key)) → Follows (from_limit s) tape → from_limit (with_tape tape s) ≡ taped tape (from_limit s)
 unfolding by_limit
 by_limit_taped s tape f = either_limit_taped (nat_le s.limit s.cycle) s tape _ refl f
 
@@ -305,7 +306,7 @@ live_run_replays lives s w h =
 
 falls_shown : (s : State) (r : State × Stepped) → Falls s r → HasChannel r.1
 falls_shown s (t, stepped.Quiet) f = tt
-falls_shown s (t, stepped.Wrote write) f = (f.3, omega arith)
+falls_shown s (t, stepped.Wrote write) f = f.3
 falls_shown s (t, stepped.Stopped why) f = tt
 
 -- a boundary shows writes to channels from 5 to 777 octal alone
@@ -318,7 +319,7 @@ boundary_shows (Some key) s r w e =
     subst (λ (x : State × Stepped). HasChannel x.1) (sym (e ∙ taken)) tt
 
 comes_shown : (s : State) (r : State × Next) → Comes s r → HasNextChannel r.1
-comes_shown s (t, next.Wrote write) c = (c.3, omega arith)
+comes_shown s (t, next.Wrote write) c = c.3
 comes_shown s (t, next.Stopped why) c = tt
 
 -- and so does the next write
@@ -336,29 +337,3 @@ key_keeps_events s key w = ap (λ (r : State × Stepped). r.0.events) (key_happe
 
 pub key_is_quiet : (s : State) (key : Key) → WantsKey s → (boundary (Some key) s).1 ≡ stepped.Quiet
 key_is_quiet s key w = ap (λ (r : State × Stepped). r.1) (key_happens s key w)
-
-either_keeps_limit : (b : Bool) (limit : ℕ) (x y : State × Stepped) → x.0.limit ≡ limit → y.0.limit ≡ limit → (if b then x else y).0.limit ≡ limit
-either_keeps_limit true limit x y h k = h
-either_keeps_limit false limit x y h k = k
-
-event_keeps_limit : (events : List Event) (s : State) → (event_or_on events s).0.limit ≡ s.limit
-event_keeps_limit [] s = timer_keeps_limit s
-event_keeps_limit (event ∷ rest) s = either_keeps_limit (nat_le event.cycle s.cycle) s.limit _ (by_timer s) refl (timer_keeps_limit s)
-
-by_event_keeps_limit : (s : State) → (by_event s).0.limit ≡ s.limit
-unfolding by_event
-by_event_keeps_limit s = event_keeps_limit s.events s
-
-by_limit_keeps_limit : (s : State) → (by_limit s).0.limit ≡ s.limit
-unfolding by_limit
-by_limit_keeps_limit s = either_keeps_limit (nat_le s.limit s.cycle) s.limit _ (by_event s) refl (by_event_keeps_limit s)
-
-stopped_keeps_limit : (stopped : Option Stop) (s : State) → (unless_stopped stopped s).0.limit ≡ s.limit
-stopped_keeps_limit (Some why) s = refl
-stopped_keeps_limit None s = by_limit_keeps_limit (record s { begun = true })
-
--- no boundary changes the limit
-pub boundary_keeps_limit : (live : Option Key) (s : State) → (boundary live s).0.limit ≡ s.limit
-unfolding boundary
-boundary_keeps_limit None s = stopped_keeps_limit s.stopped s
-boundary_keeps_limit (Some key) s = stopped_keeps_limit s.stopped (with_key (Some key) s)

@@ -1,6 +1,6 @@
 -- The plain run on the merged events takes each key of a live run's tape at the key's own cycle.
 use Rattle.std.proofs.Common.{◌≡◌, ℕ, ◌+◌, ◌-◌, ◌≤◌, ◌<◌, ◌⊎◌, suc, zero, List, [], ◌∷◌, ◌++◌, length, map, take, replicate, Option, Some, None, Bool, true, false, refl, ap, sym, ◌∙◌, subst, arith, inl, inr, one-add}
-use Rattle.std.specs.Prelude.{drop, nat_le, nat_lt, if◌then◌else◌, IsSome, All, slice_get, IfSome}
+use Rattle.std.specs.Prelude.{drop, nat_le, nat_lt, IsSome, All, slice_get, IfSome}
 use Rattle.std.proofs.lemmas.Bool.Decides.{nat_tests}
 use Rattle.std.proofs.lemmas.List.Elements.{All-cons, All-nil}
 use Rattle.agc_script.specs.Merge.{due_at, merged, key_event}
@@ -8,14 +8,16 @@ use Rattle.agc_script.specs.declared.event.Event.{Event}
 use Rattle.agc_script.specs.declared.key.Key.{Key}
 use Rattle.agc_machine.specs.declared.answer.Stepped.{Stepped}
 use Rattle.agc_machine.specs.declared.answer.Stop.{Stop}
-use Rattle.agc_machine.specs.Boundary.{boundary, by_event, by_limit, by_timer, event_or_on, stops, unless_stopped, IsBefore, WantsKey}
+use Rattle.agc_machine.specs.Boundary.{boundary, by_event, by_limit, stops, unless_stopped, IsBefore, WantsKey}
+use Rattle.agc_machine.proofs.Cases.{from_limit, from_event, from_timer, one_or_on, event_or_on}
 use Rattle.agc_machine.specs.Laws.{after}
 use Rattle.agc_machine.specs.Replay.{Chain, chain, tape_of, AreWanted, with_tape, run_in}
 use Rattle.agc_machine.specs.Run.{boundaries_left, run_of}
 use Rattle.agc_machine.specs.State.{State}
 use Rattle.agc_machine.specs.Taken.{at_cycle, at_own_cycle, marked, met_between, tape_marks, taken_within, AreApart, TakesTape}
 use Rattle.agc_machine.proofs.Chain.{stopped_stays, stops_in_time}
-use Rattle.agc_machine.proofs.Replay.{IsFrom, chain_is_run, chain_replays, event_first, from_later, key_taped, key_first, none_taped, tape_follows, tape_from, key_keeps_events, boundary_keeps_limit, timer_keeps_events}
+use Rattle.agc_machine.proofs.Kept.{boundary_keeps}
+use Rattle.agc_machine.proofs.Replay.{IsFrom, chain_is_run, chain_replays, event_first, from_later, key_taped, key_first, none_taped, tape_follows, tape_from, key_keeps_events, timer_keeps_events}
 
 none_met : (events : List Event) → take (length events - length events) events ≡ []
 none_met events = let none : length events - length events ≡ 0 = omega arith in ap (λ (n : ℕ). take n events) none
@@ -60,23 +62,23 @@ abbrev Meets : State → State → Type 0
 Meets s t = (t.events ≡ s.events) ⊎ TakesFirst s t
 
 either_meets : (b : Bool) (s : State) (event : Event) (rest : List Event) (x y : State × Stepped) → nat_le event.cycle s.cycle ≡ b →
-    s.events ≡ event ∷ rest → x.0.events ≡ rest → y.0.events ≡ s.events → Meets s (if b then x else y).0
+    s.events ≡ event ∷ rest → x.0.events ≡ rest → y.0.events ≡ s.events → Meets s (one_or_on b x y).0
 either_meets true s event rest x y e h k l = inr (record { event = event; rest = rest; had = h; left = k; due = grind (arith, nat_tests) })
 either_meets false s event rest x y e h k l = inl l
 
 events_meet : (events : List Event) (s : State) → s.events ≡ events → Meets s (event_or_on events s).0
 events_meet [] s e = inl (timer_keeps_events s)
-events_meet (event ∷ rest) s e = either_meets (nat_le event.cycle s.cycle) s event rest _ (by_timer s) refl e refl (timer_keeps_events s)
+events_meet (event ∷ rest) s e = either_meets (nat_le event.cycle s.cycle) s event rest _ (from_timer s) refl e refl (timer_keeps_events s)
 
-by_event_meets : (s : State) → Meets s (by_event s).0
+by_event_meets : (s : State) → Meets s (from_event s).0
 unfolding by_event
 by_event_meets s = events_meet s.events s refl
 
-limit_meets : (b : Bool) (s : State) (why : Stop) → Meets s (by_event s).0 → Meets s (if b then stops why s else by_event s).0
+limit_meets : (b : Bool) (s : State) (why : Stop) → Meets s (from_event s).0 → Meets s (one_or_on b (stops why s) (from_event s)).0
 limit_meets true s why h = inl refl
 limit_meets false s why h = h
 
-by_limit_meets : (s : State) → Meets s (by_limit s).0
+by_limit_meets : (s : State) → Meets s (from_limit s).0
 unfolding by_limit
 by_limit_meets s = limit_meets (nat_le s.limit s.cycle) s _ (by_event_meets s)
 
@@ -223,10 +225,10 @@ unfolding tape_of AreWanted
 tape_is_below [] s w = All-nil (λ entry. entry.0 < s.limit)
 tape_is_below (Some key ∷ lives) s w =
     All-cons (λ entry. entry.0 < s.limit) (s.cycle, key) (tape_of lives (boundary (Some key) s).0) w.0.below
-    (subst (λ (limit : ℕ). All (λ entry. entry.0 < limit) (tape_of lives (boundary (Some key) s).0)) (boundary_keeps_limit (Some key) s)
+    (subst (λ (limit : ℕ). All (λ entry. entry.0 < limit) (tape_of lives (boundary (Some key) s).0)) (boundary_keeps (Some key) s).1
     (tape_is_below lives (boundary (Some key) s).0 w.1))
 tape_is_below (None ∷ lives) s w =
-    subst (λ (limit : ℕ). All (λ entry. entry.0 < limit) (tape_of lives (boundary None s).0)) (boundary_keeps_limit None s)
+    subst (λ (limit : ℕ). All (λ entry. entry.0 < limit) (tape_of lives (boundary None s).0)) (boundary_keeps None s).1
     (tape_is_below lives (boundary None s).0 w)
 
 pub chain_stops : (s : State) → IsSome (chain (replicate (boundaries_left s) None) s).last.stopped

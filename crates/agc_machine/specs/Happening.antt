@@ -1,5 +1,5 @@
 -- What an event of a script, or a live key, does to the processor. None of them is a channel write.
-use Rattle.std.specs.Prelude.{ℕ, ◌+◌, ◌*◌, ◌/◌, ◌%◌, ◌==◌, Bool, true, false, set, if◌then◌else◌}
+use Rattle.std.specs.Prelude.{ℕ, ◌+◌, ◌*◌, ◌/◌, ◌%◌, ◌==◌, ◌&&◌, Bool, true, false, if◌then◌else◌}
 use Rattle.agc_word.specs.Number.{pattern_of}
 use Rattle.agc_word.specs.Pulses.{pulsed}
 use Rattle.agc_word.specs.declared.pulse.Pulse.{Pulse}
@@ -8,20 +8,27 @@ use Rattle.agc_script.specs.Key.{code_of}
 use Rattle.agc_script.specs.declared.event.What.{What}
 use Rattle.agc_script.specs.declared.event.What.TheVariants as what
 use Rattle.agc_script.specs.declared.key.Key.{Key}
-use Rattle.agc_store.specs.Cells.{narrow_number, poke_of}
+use Rattle.agc_store.specs.Cells.{narrow_number}
+use Rattle.agc_store.specs.Places.{inlink_cell}
 use Rattle.agc_processor.specs.declared.processor.Processor.{Processor}
-use Rattle.agc_processor.specs.Channel.{channel_cell, set_channel}
-use Rattle.agc_processor.specs.Timer.{request, counter, counted, carried}
+use Rattle.agc_processor.specs.Channel.{channel_cell, set_channel_cell, set_channel, keyboard_channel, input_channel_32}
+use Rattle.agc_processor.specs.Processor.{◌▷◌, poke}
+use Rattle.agc_processor.specs.Interrupt.{request, rupt_numbered}
+use Rattle.agc_processor.specs.Timer.{counter, set_counter, carried}
+use Rattle.agc_processor.specs.declared.interrupt.Rupt.TheVariants as rupt
 
--- a key: its code comes into channel 15 octal, and KEYRUPT1 is requested
+-- a key: its code comes into the keyboard's channel, and KEYRUPT1 is requested
 unfoldable pub pressed : Key → Processor → Processor
-pressed key p = request 5 (record p { channels = set p.channels 13 (narrow_number (code_of key)) })
+pressed key p =
+    p ▷ set_channel_cell keyboard_channel (narrow_number (code_of key)) ▷ request rupt.Keyrupt1
 
 -- the PRO key: bit 14 of channel 32 octal is 0 while it is down
 unfoldable pub proceeded : Bool → Processor → Processor
 proceeded down p =
-    let word = pattern_of 15 (channel_cell 26 p.channels) in
-    record p { channels = set p.channels 26 (narrow_number (word / 16384 * 16384 + (if down then 0 else 8192) + word % 8192)) }
+    let word = pattern_of 15 (channel_cell input_channel_32 p) in
+    let bit = if down then 0 else 0o20000 in
+    let changed = narrow_number (word / 0o40000 * 0o40000 + bit + word % 0o20000) in
+    p ▷ set_channel_cell input_channel_32 changed
 
 -- only the shifts of INLINK, by which the uplink comes in, ask for UPRUPT with their carry
 abbrev pub is_shift : Pulse → Bool
@@ -33,17 +40,17 @@ is_shift kind = false
 unfoldable pub pulsed_counter : ℕ → Pulse → Processor → Processor
 pulsed_counter place kind p =
     let stepped = pulsed kind (counter place p) in
-    let after = counted place stepped.0 p in
-    if place == 0o45 then (if is_shift kind then carried 7 stepped.1 after else after) else after
+    let after = p ▷ set_counter place stepped.0 in
+    if (place == inlink_cell) && is_shift kind then after ▷ carried rupt.Uprupt stepped.1 else after
 
 -- what happens at a boundary that begins at a cycle
 unfoldable pub happened : ℕ → What → Processor → Processor
-happened cycle (what.Key key) p = pressed key p
-happened cycle (what.Pro down) p = proceeded down p
-happened cycle (what.Input channel value) p = set_channel cycle channel value p
-happened cycle (what.Pulse place kind) p = pulsed_counter place kind p
-happened cycle (what.Raise number) p = request number p
-happened cycle (what.Poke bank offset value) p = record p { store = poke_of p.store bank offset value }
+happened cycle (what.Key key) p = p ▷ pressed key
+happened cycle (what.Pro down) p = p ▷ proceeded down
+happened cycle (what.Input channel value) p = p ▷ set_channel cycle channel value
+happened cycle (what.Pulse place kind) p = p ▷ pulsed_counter place kind
+happened cycle (what.Raise number) p = p ▷ request (rupt_numbered number)
+happened cycle (what.Poke bank offset value) p = p ▷ poke bank offset value
 
 -- a pulse takes a cycle, every other event none
 unfoldable pub cycles_of : What → ℕ

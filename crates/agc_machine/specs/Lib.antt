@@ -1,4 +1,5 @@
 pub mod Happening
+pub mod StopAddress
 pub mod State
 pub mod Boundary
 pub mod Run
@@ -8,3 +9,4 @@ pub mod Laws
 pub mod Replay
 pub mod Taken
 pub mod Live
+pub mod Upcoming

@@ -1,5 +1,5 @@
--- Runs with live keys: a chain of boundaries with a live key or none at each, the tape of the keys that it took, and the plain run that
--- comes to the same.
+-- Runs with live keys: a chain of boundaries with a live key or none at each, the tape of the keys
+-- that it took, and the plain run that comes to the same.
 use Rattle.std.specs.Prelude.{ℕ, List, [], ◌∷◌, Option, None, Some}
 use Rattle.agc_script.specs.Merge.{merged}
 use Rattle.agc_script.specs.declared.key.Key.{Key}
@@ -10,7 +10,7 @@ use Rattle.agc_machine.specs.Boundary.{boundary, WantsKey}
 use Rattle.agc_machine.specs.Run.{Run}
 use Rattle.agc_machine.specs.State.{State}
 
--- What some boundaries answered one after another, and the state after them.
+-- What some boundaries returned one after another, and the state after them.
 pub record Chain : Type 0 where
   pub answers : List Stepped
   pub last : State
@@ -39,7 +39,7 @@ AreWanted (None ∷ lives) s = AreWanted lives (boundary None s).0
 abbrev pub with_tape : List (ℕ × Key) → State → State
 with_tape tape s = record s { events = merged s.events tape }
 
--- the channel writes among some answers
+-- the channel writes among what boundaries returned
 unfoldable pub writes_in : List Stepped → List ChannelWrite
 writes_in [] = []
 writes_in (stepped.Wrote write ∷ answers) = write ∷ writes_in answers

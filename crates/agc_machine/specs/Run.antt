@@ -1,4 +1,5 @@
--- Whole runs: the chain of boundaries without live keys, up to the next channel write, and up to the stop.
+-- Whole runs: the chain of boundaries without live keys, up to the next channel write, and up to
+-- the stop.
 use Rattle.std.specs.Prelude.{ℕ, zero, suc, ◌+◌, ◌-◌, List, [], ◌∷◌, length, None, nat_le, if◌then◌else◌}
 use Rattle.agc_machine.specs.declared.answer.ChannelWrite.{ChannelWrite}
 use Rattle.agc_machine.specs.declared.answer.Next.{Next}
@@ -9,7 +10,8 @@ use Rattle.agc_machine.specs.declared.answer.Stop.TheVariants as stop
 use Rattle.agc_machine.specs.Boundary.{boundary}
 use Rattle.agc_machine.specs.State.{State}
 
--- No run has more boundaries than this before it stops: each begins below the limit, and takes an event or at least one cycle.
+-- No run has more boundaries than this before it stops: each begins below the limit, and takes an
+-- event or at least one cycle.
 unfoldable pub boundaries_left : State → ℕ
 boundaries_left s = s.limit - s.cycle + length s.events + 1
 
@@ -30,16 +32,20 @@ next_of s = next_within (boundaries_left s) s
 
 -- the chain goes on after a quiet boundary that is not yet at a cycle
 abbrev pub unless_quiet_before : ℕ → (State → State × Stepped) → State × Stepped → State × Stepped
-unless_quiet_before cycle go_on (s, stepped.Quiet) = if nat_le cycle s.cycle then (s, stepped.Quiet) else go_on s
+unless_quiet_before cycle go_on (s, stepped.Quiet) =
+    if nat_le cycle s.cycle then (s, stepped.Quiet) else go_on s
 unless_quiet_before cycle go_on (s, stepped.Wrote write) = (s, stepped.Wrote write)
 unless_quiet_before cycle go_on (s, stepped.Stopped why) = (s, stepped.Stopped why)
 
--- the first write, stop or boundary that ends at a cycle or later, within so many boundaries, of which there are enough
+-- the first write, stop or boundary that ends at a cycle or later, within so many boundaries, of
+-- which there are enough
 unfoldable pub next_before_within : ℕ → ℕ → State → State × Stepped
 next_before_within zero cycle s = (s, stepped.Quiet)
-next_before_within (suc more) cycle s = unless_quiet_before cycle (next_before_within more cycle) (boundary None s)
+next_before_within (suc more) cycle s =
+    unless_quiet_before cycle (next_before_within more cycle) (boundary None s)
 
--- the next channel write or stop, or the first quiet boundary that ends at a cycle or later where neither comes before it
+-- the next channel write or stop, or the first quiet boundary that ends at a cycle or later where
+-- neither comes before it
 unfoldable pub next_before : ℕ → State → State × Stepped
 next_before cycle s = next_before_within (boundaries_left s) cycle s
 
@@ -48,10 +54,13 @@ pub record Run : Type 0 where
   pub writes : List ChannelWrite
   pub last : State
 
+-- the run goes on after a write
 abbrev pub unless_stopped_run : (State → Run) → State × Next → Run
-unless_stopped_run go_on (s, next.Wrote write) = let rest = go_on s in record { writes = write ∷ rest.writes; last = rest.last }
+unless_stopped_run go_on (s, next.Wrote write) =
+    let rest = go_on s in record { writes = write ∷ rest.writes; last = rest.last }
 unless_stopped_run go_on (s, next.Stopped why) = record { writes = []; last = s }
 
+-- the run within so many writes, of which there are enough
 unfoldable pub run_within : ℕ → State → Run
 run_within zero s = record { writes = []; last = s }
 run_within (suc more) s = unless_stopped_run (run_within more) (next_of s)

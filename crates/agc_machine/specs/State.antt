@@ -1,15 +1,16 @@
 -- The whole state of a run between two boundaries, and the state at its start.
-use Rattle.std.specs.Prelude.{ℕ, Bool, false, List, ◌∷◌, Option, Some, None}
+use Rattle.std.specs.Prelude.{◌≡◌, ℕ, Bool, false, List, ◌∷◌, Option, Some, None}
 use Rattle.agc_word.specs.Number.{Number}
 use Rattle.agc_script.specs.declared.event.Event.{Event}
 use Rattle.agc_script.specs.declared.event.What.TheVariants as what
 use Rattle.agc_script.specs.declared.key.Key.{Key}
 use Rattle.agc_machine.specs.declared.answer.Stop.{Stop}
-use Rattle.agc_machine.specs.declared.machine.StopAddress.{StopAddress}
+use Rattle.agc_machine.specs.declared.stop_address.StopAddress.{StopAddress}
 use Rattle.agc_processor.specs.declared.processor.Processor.{Processor}
 use Rattle.agc_processor.specs.Start.{start_processor}
 
--- `events` are those that the run has not met yet, `begun` says that a boundary was taken, and `stopped` is the stop's answer.
+-- `events` are those that the run has not met yet, `begun` says that a boundary was taken, and
+-- `stopped` says why it has stopped.
 pub record State : Type 0 where
   pub processor : Processor
   pub events : List Event
@@ -19,7 +20,8 @@ pub record State : Type 0 where
   pub stopped : Option Stop
   pub until : Option StopAddress
 
--- the start of a run of a rope's words with these events, this limit of cycles and perhaps a stop address
+-- the start of a run of a rope's words with these events, this limit of cycles and perhaps a stop
+-- address
 unfoldable pub start_state : List Number → List Event → ℕ → Option StopAddress → State
 start_state words events limit until =
     record {
@@ -32,7 +34,12 @@ start_state words events limit until =
       until = until;
     }
 
+-- a state that is the start of its run
+abbrev pub IsAtStart : State → Type 0
+IsAtStart s = s ≡ start_state s.processor.store.fixed s.events s.limit s.until
+
 -- a live key is an event of the present cycle, before all events left
 abbrev pub with_key : Option Key → State → State
-with_key (Some key) s = record s { events = record { cycle = s.cycle; what = what.Key key } ∷ s.events }
+with_key (Some key) s =
+    record s { events = record { cycle = s.cycle; what = what.Key key } ∷ s.events }
 with_key None s = s

@@ -1,4 +1,5 @@
--- What the plain run on a script with a tape's keys takes: each key of the tape, at a boundary that begins at its own cycle.
+-- What the plain run on a script with a tape's keys takes: each key of the tape, at a boundary that
+-- begins at its own cycle.
 use Rattle.std.specs.Prelude.{◌≡◌, ℕ, zero, suc, ◌+◌, ◌-◌, ◌<◌, ◌≤◌, Bool, true, false, List, [], ◌∷◌, ◌++◌, length, map, take, drop, replicate, All, None}
 use Rattle.agc_script.specs.Merge.{due_at, key_event, merged}
 use Rattle.agc_script.specs.declared.event.Event.{Event}
@@ -15,7 +16,8 @@ met_between s t = take (length s.events - length t.events) s.events
 abbrev pub at_cycle : ℕ → List Event → List (ℕ × Event)
 at_cycle cycle events = map (λ event. (cycle, event)) events
 
--- the events that so many boundaries without live keys take, each with the cycle at which its boundary begins
+-- the events that so many boundaries without live keys take, each with the cycle at which its
+-- boundary begins
 unfoldable pub taken_within : ℕ → State → List (ℕ × Event)
 taken_within zero s = []
 taken_within (suc more) s =
@@ -29,7 +31,8 @@ taken_in s = taken_within (boundaries_left s) s
 unfoldable pub tape_marks : List Event → List (ℕ × Key) → List Bool
 tape_marks events [] = map (λ event. false) events
 tape_marks events (entry ∷ tape) =
-    let due = due_at entry.0 events in replicate due false ++ true ∷ tape_marks (drop due events) tape
+    let due = due_at entry.0 events in
+    replicate due false ++ true ∷ tape_marks (drop due events) tape
 
 -- what stands at the places that are marked
 unfoldable pub marked : List Bool → List (ℕ × Event) → List (ℕ × Event)
@@ -42,27 +45,27 @@ marked (false ∷ marks) (taking ∷ takings) = marked marks takings
 abbrev pub at_own_cycle : ℕ × Key → ℕ × Event
 at_own_cycle entry = (entry.0, key_event entry)
 
--- The run on the events merged with a tape takes each key of the tape, and each at its own cycle. What a run takes is the beginning of its
--- events, so the marks of the merge are those of what is taken; a script's event that is the same key is not marked.
+-- The run on the events merged with a tape takes each key of the tape, and each at its own cycle.
+-- What a run takes is the beginning of its events, so the marks of the merge are those of what is
+-- taken; a script's event that is the same key is not marked.
 abbrev pub TakesTape : State → List (ℕ × Key) → State → Type 0
-TakesTape start tape merged_start = marked (tape_marks start.events tape) (taken_in merged_start) ≡ map at_own_cycle tape
+TakesTape start tape merged_start =
+    marked (tape_marks start.events tape) (taken_in merged_start) ≡ map at_own_cycle tape
 
 -- keys that follow each other are at least so many cycles apart
 unfoldable pub AreApart : ℕ → List (ℕ × Key) → Type 0
 AreApart spacing [] = Unit {0}
 AreApart spacing (entry ∷ []) = Unit {0}
-AreApart spacing (entry ∷ later ∷ tape) = (entry.0 + spacing ≤ later.0) × AreApart spacing (later ∷ tape)
+AreApart spacing (entry ∷ later ∷ tape) =
+    (entry.0 + spacing ≤ later.0) × AreApart spacing (later ∷ tape)
 
--- a state that is the start of its run
-abbrev pub IsAtStart : State → Type 0
-IsAtStart s = s ≡ start_state s.processor.store.fixed s.events s.limit s.until
-
--- the start at which a run with live keys can be played again: the script has the tape's keys among its events
+-- the start at which a run with live keys can be played again: the script has the tape's keys among
+-- its events
 abbrev pub replayed : List (ℕ × Key) → State → State
 replayed tape s = start_state s.processor.store.fixed (merged s.events tape) s.limit s.until
 
--- A tape that a live run from a start took: its keys come below the limit and far enough apart, and the plain run on the merged events takes
--- each of them at its own cycle.
+-- A tape that a live run from a start took: its keys come below the limit and far enough apart, and
+-- the plain run on the merged events takes each of them at its own cycle.
 pub record IsTakenTape (spacing : ℕ) (start : State) (tape : List (ℕ × Key)) : Type 0 where
   pub below : All (λ entry. entry.0 < start.limit) tape
   pub apart : AreApart spacing tape

@@ -1,4 +1,4 @@
-//! What a boundary of the machine answers.
+//! What a boundary of the machine returns.
 ghost use Rattle.std.specs.Prelude.{◌≡◌};
 ghost use Rattle.agc_machine.specs.Boundary.{stop_of};
 
@@ -44,14 +44,19 @@ impl Stop {
 /// What one boundary did.
 #[derive(Clone, Copy, Debug, PartialEq, Eq)]
 pub enum Stepped {
+    /// Nothing that the outside sees: an event, a timer's step, an interrupt or an order.
     Quiet,
+    /// The order in hand wrote to a channel.
     Wrote(ChannelWrite),
+    /// The machine has stopped, now or at an earlier boundary.
     Stopped(Stop),
 }
 
 /// The next thing that the outside sees of a run: a channel write, or the stop.
 #[derive(Clone, Copy, Debug, PartialEq, Eq)]
 pub enum Next {
+    /// The next channel write; the run may go on.
     Wrote(ChannelWrite),
+    /// No write comes any more: the machine has stopped.
     Stopped(Stop),
 }

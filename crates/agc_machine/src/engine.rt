@@ -4,9 +4,11 @@ ghost use Rattle.agc_machine.specs.Engine.{state_of, IsSound};
 
 use crate::answer::{ChannelWrite, Next, Stepped, Stop};
 use crate::happening::{meet, press};
-use crate::machine::StopAddress;
-use agc_processor::{Processor, Ran, TIME6_SWITCH};
-use agc_script::{Key, Script};
+use crate::quiet::Pace;
+use crate::stop_address::StopAddress;
+use agc_processor::channel::CHAN13;
+use agc_processor::{INTERRUPT_MCT, Processor, Ran, WRITE_MCT};
+use agc_script::{Event, Key, Script};
 use agc_store::Rope;
 
 /// The run's state and the script that it takes its events from.
@@ -21,17 +23,20 @@ pub(crate) struct Engine {
     pub(crate) begun: bool,
     pub(crate) stopped: Option<Stop>,
     pub(crate) until: Option<StopAddress>,
-    /// Below this cycle nothing can happen but the order in hand; 0 where that is not known.
+    /// Below this cycle the clock brings nothing; 0 where that is not known.
     pub(crate) quiet_until: u64,
+    /// What may come before the order in hand below that cycle.
+    pub(crate) pace: Pace,
 }
 
 impl Engine {
-    ghost use Rattle.std.specs.Prelude.{◌≡◌, ℕ, ◌<◌, ◌≤◌, ◌+◌, ◌↔◌, length, drop, true, false, IsTrue, IsSome, Some, None};
+    ghost use Rattle.std.specs.Prelude.{◌≡◌, ℕ, ◌<◌, ◌≤◌, ◌+◌, ◌^◌, ◌↔◌, ◌||◌, length, drop, slice_get, true, false, IsTrue, IsSome, IfSome, IfNone, Some, None};
+    ghost use Rattle.agc_script.specs.Event.{IsInRange};
     ghost use Rattle.agc_machine.specs.Engine.{state_of, IsSound, IsRunning};
-    ghost use Rattle.agc_machine.specs.Quiet.{IsQuiet};
+    ghost use Rattle.agc_machine.specs.Quiet.{IsLongest, IsQuiet, Serves, pace_of};
     ghost use Rattle.agc_machine.specs.State.{start_state};
     ghost use Rattle.agc_machine.specs.Run.{next_before, next_of};
-    ghost use Rattle.agc_machine.specs.Boundary.{boundary, WantsKey, IsBefore, by_event, by_timer, by_interrupt, by_address, by_order, stops, is_reached, bank_agrees};
+    ghost use Rattle.agc_machine.specs.Boundary.{boundary, WantsKey, IsBefore, by_event, by_timer, by_interrupt, by_order, stops, is_reached, bank_agrees};
 
     /// The state at the start of a run.
     #[tactic(auto, unfolding(crate::specs::State::start_state))]
@@ -51,6 +56,7 @@ impl Engine {
             stopped: None,
             until: None,
             quiet_until: 0,
+            pace: Pace::Held,
         }
     }
 
@@ -60,11 +66,9 @@ impl Engine {
         ensures next { (state_of self.new, result) ≡ next_of (state_of self.old) }
         ensures sound { IsSound self.new }
     {
-        // One match for each kind of boundary: where both meet in one, what an order answers goes
-        // through memory, at half the speed.
         loop {
             if self.cycle < self.quiet_until {
-                match self.step_quickly() {
+                match self.go_quickly(self.quiet_until) {
                     Stepped::Quiet => {}
                     Stepped::Wrote(write) => return Next::Wrote(write),
                     Stepped::Stopped(why) => return Next::Stopped(why),
@@ -87,7 +91,7 @@ impl Engine {
     {
         loop {
             if self.cycle < self.quiet_until {
-                match self.step_quickly() {
+                match self.go_quickly(self.quiet_until.min(cycle)) {
                     Stepped::Quiet => {
                         if cycle <= self.cycle {
                             return Stepped::Quiet;
@@ -122,10 +126,10 @@ impl Engine {
     fn is_before_events(&self) -> bool
         ensures { IsTrue result ↔ IsBefore self.now.cycle (drop self.now.next self.now.script) }
     {
-        if self.next >= self.script.len() {
-            return true;
+        match self.next_event() {
+            Some(event) => self.cycle < event.cycle,
+            None => true,
         }
-        self.cycle < self.script.at(self.next).cycle
     }
 
     /// One boundary.
@@ -142,18 +146,7 @@ impl Engine {
         self.step_slowly(live)
     }
 
-    /// One boundary at which nothing but the order in hand can happen.
-    #[inline(always)]
-    fn step_quickly(&mut self) -> Stepped
-        requires sound { IsSound self.old }
-        requires quiet { self.old.cycle < self.old.quiet_until }
-        ensures step { (state_of self.new, result) ≡ boundary None (state_of self.old) }
-        ensures sound { IsSound self.new }
-    {
-        self.run_order()
-    }
-
-    /// One boundary at which more than the order in hand may happen.
+    /// One boundary at which the clock may bring something.
     #[cold]
     #[inline(never)]
     fn step_slowly(&mut self, live: Option<Key>) -> Stepped
@@ -161,15 +154,18 @@ impl Engine {
         requires wanted { IsSome live → WantsKey (state_of self.old) }
         ensures step { (state_of self.new, result) ≡ boundary live (state_of self.old) }
         ensures sound { IsSound self.new }
+        ensures longest { IsLongest self.new.quiet_until (state_of self.new) }
+        ensures pace { self.new.pace ≡ pace_of (state_of self.new) }
     {
         self.quiet_until = 0;
         let stepped = self.step_by_cases(live);
         self.quiet_until = self.quiet_from_here();
+        self.pace = self.pace_from_here();
         stepped
     }
 
     /// Of the things that may happen at a boundary the first that applies.
-    #[tactic(auto, unfolding(crate::specs::Boundary::boundary, crate::specs::Boundary::by_limit, crate::specs::Boundary::by_event, crate::specs::Happening::happened, crate::specs::Happening::cycles_of))]
+    #[tactic(auto, unfolding(crate::specs::Boundary::boundary, crate::specs::Boundary::by_limit, crate::specs::Boundary::by_event, crate::specs::Boundary::by_address, crate::specs::Happening::happened, crate::specs::Happening::cycles_of))]
     fn step_by_cases(&mut self, live: Option<Key>) -> Stepped
         requires sound { IsSound self.old }
         requires wanted { IsSome live → WantsKey (state_of self.old) }
@@ -184,110 +180,108 @@ impl Engine {
         if self.cycle >= self.limit {
             return self.stop(Stop::Limit);
         }
-        match live {
-            Some(key) => {
-                press(&mut self.processor, key);
-                Stepped::Quiet
-            }
-            None => self.meet_event(),
-        }
-    }
-
-    /// The cycle below which nothing but orders can happen from here on; 0 where that cannot be said.
-    fn quiet_from_here(&self) -> u64
-        ensures { 0 < result → IsQuiet result (state_of self.now) }
-    {
-        if !self.begun
-            || self.stopped.is_some()
-            || self.until.is_some()
-            || self.processor.is_requested()
-        {
-            return 0;
-        }
-        let timers = self.processor.timers_quiet_until();
-        timers.min(self.limit).min(self.next_event_cycle())
-    }
-
-    /// The cycle of the next event, or a cycle beyond every limit.
-    #[tactic(auto, using(crate::proofs::Events::events_from, crate::proofs::Events::no_events))]
-    fn next_event_cycle(&self) -> u64
-        ensures { (cycle : ℕ) → cycle < result → IsBefore cycle (drop self.now.next self.now.script) }
-    {
-        if self.next >= self.script.len() {
-            return u64::MAX;
-        }
-        self.script.at(self.next).cycle
-    }
-
-    /// An event of the script that is due happens, else what comes after events.
-    #[tactic(auto, using(crate::proofs::Events::events_from, crate::proofs::Events::no_events), unfolding(crate::specs::Boundary::by_event, agc_script::specs::Event::IsInRange))]
-    fn meet_event(&mut self) -> Stepped
-        requires running { IsRunning self.old }
-        requires not_quiet { self.old.quiet_until ≡ 0 }
-        ensures step { (state_of self.new, result) ≡ by_event (state_of self.old) }
-        ensures sound { IsSound self.new }
-    {
-        if self.next >= self.script.len() {
-            return self.step_timer();
-        }
-        let event = self.script.at(self.next);
-        if event.cycle > self.cycle {
-            return self.step_timer();
-        }
-        let what = event.what;
-        self.next += 1;
-        self.cycle += meet(&mut self.processor, self.cycle, what);
-        Stepped::Quiet
-    }
-
-    /// A timer's step that is due is taken, else what comes after timers.
-    #[tactic(auto, unfolding(crate::specs::Boundary::by_timer))]
-    fn step_timer(&mut self) -> Stepped
-        requires running { IsRunning self.old }
-        requires not_quiet { self.old.quiet_until ≡ 0 }
-        ensures step { (state_of self.new, result) ≡ by_timer (state_of self.old) }
-        ensures sound { IsSound self.new }
-    {
-        match self.processor.step_timers(self.cycle) {
-            Some(cycles) => {
-                self.cycle += cycles;
-                Stepped::Quiet
-            }
-            None => self.take_interrupt(),
-        }
-    }
-
-    /// An interrupt that is requested and allowed is taken, else what comes after interrupts.
-    #[tactic(auto, unfolding(crate::specs::Boundary::by_interrupt))]
-    fn take_interrupt(&mut self) -> Stepped
-        requires running { IsRunning self.old }
-        requires not_quiet { self.old.quiet_until ≡ 0 }
-        ensures step { (state_of self.new, result) ≡ by_interrupt (state_of self.old) }
-        ensures sound { IsSound self.new }
-    {
-        if self.processor.interrupt() {
-            self.cycle += 3;
+        if let Some(key) = live {
+            press(&mut self.processor, key);
             return Stepped::Quiet;
         }
-        self.stop_at_address()
-    }
-
-    /// The stop address stops the machine, else the order in hand runs.
-    #[tactic(auto, unfolding(crate::specs::Boundary::by_address))]
-    fn stop_at_address(&mut self) -> Stepped
-        requires running { IsRunning self.old }
-        requires not_quiet { self.old.quiet_until ≡ 0 }
-        ensures step { (state_of self.new, result) ≡ by_address (state_of self.old) }
-        ensures sound { IsSound self.new }
-    {
+        if self.meet_event() || self.step_timer() || self.take_interrupt() {
+            return Stepped::Quiet;
+        }
         if self.is_reached() {
             return self.stop(Stop::Reached);
         }
         self.run_order()
     }
 
+    /// The first event that the run has not met.
+    pub(crate) fn next_event(&self) -> Option<Event>
+        ensures event { IfSome result (λ event. slice_get self.now.script self.now.next ≡ Some event) }
+        ensures place { IfSome result (λ event. self.now.next < 2 ^ 16) }
+        ensures none { IfNone result (length self.now.script ≤ self.now.next) }
+        ensures range { IfSome result (λ event. IsInRange event) }
+    {
+        if self.next < self.script.len() {
+            Some(self.script.at(self.next))
+        } else {
+            None
+        }
+    }
+
+    /// An event of the script happens where it is due; says whether one did.
+    #[tactic(auto, using(crate::proofs::Events::events_from, crate::proofs::Events::no_events), unfolding(crate::specs::Boundary::by_event, agc_script::specs::Event::IsInRange))]
+    fn meet_event(&mut self) -> bool
+        requires running { IsRunning self.old }
+        requires not_quiet { self.old.quiet_until ≡ 0 }
+        ensures met { result ≡ true → by_event (state_of self.old) ≡ Some (state_of self.new, Stepped.Quiet) }
+        ensures none { result ≡ false → by_event (state_of self.old) ≡ None }
+        ensures unchanged { result ≡ false → self.new ≡ self.old }
+        ensures sound { IsSound self.new }
+    {
+        let Some(event) = self.next_event() else {
+            return false;
+        };
+        if event.cycle > self.cycle {
+            return false;
+        }
+        self.next += 1;
+        self.cycle += meet(&mut self.processor, self.cycle, event.what);
+        true
+    }
+
+    /// A timer's step is taken where one is due; says whether one was.
+    #[tactic(auto, unfolding(crate::specs::Boundary::by_timer))]
+    fn step_timer(&mut self) -> bool
+        requires running { IsRunning self.old }
+        requires not_quiet { self.old.quiet_until ≡ 0 }
+        ensures stepped { result ≡ true → by_timer (state_of self.old) ≡ Some (state_of self.new, Stepped.Quiet) }
+        ensures none { result ≡ false → by_timer (state_of self.old) ≡ None }
+        ensures unchanged { result ≡ false → self.new ≡ self.old }
+        ensures sound { IsSound self.new }
+    {
+        match self.processor.step_timers(self.cycle) {
+            Some(cycles) => {
+                self.cycle += cycles;
+                true
+            }
+            None => false,
+        }
+    }
+
+    /// An interrupt is taken where one is requested and allowed; says whether one was.
+    #[tactic(auto, unfolding(crate::specs::Boundary::by_interrupt))]
+    #[inline(always)]
+    pub(crate) fn take_interrupt(&mut self) -> bool
+        requires running { IsRunning self.old }
+        requires quiet { 0 < self.old.quiet_until → IsQuiet self.old.quiet_until (state_of self.old) }
+        requires pace { 0 < self.old.quiet_until → Serves self.old.pace (state_of self.old) }
+        ensures taken { result ≡ true → by_interrupt (state_of self.old) ≡ Some (state_of self.new, Stepped.Quiet) }
+        ensures none { result ≡ false → by_interrupt (state_of self.old) ≡ None }
+        ensures unchanged { result ≡ false → self.new ≡ self.old }
+        ensures quiet_until { self.new.quiet_until ≡ self.old.quiet_until }
+        ensures sound { IsSound self.new }
+    {
+        if self.is_held_off() {
+            return false;
+        }
+        let taken = self.processor.interrupt();
+        if taken {
+            self.cycle += INTERRUPT_MCT;
+            self.pace = self.pace_from_here();
+        }
+        taken
+    }
+
+    /// A service or INHINT holds every interrupt off.
+    #[inline(always)]
+    fn is_held_off(&self) -> bool
+        ensures { result ≡ self.now.processor.serving || self.now.processor.inhibited }
+    {
+        self.processor.serving || self.processor.inhibited
+    }
+
     /// The order at the stop address is in hand.
-    fn is_reached(&self) -> bool
+    #[inline(always)]
+    pub(crate) fn is_reached(&self) -> bool
         ensures { result ≡ is_reached self.now.until self.now.processor }
     {
         match self.until {
@@ -312,11 +306,14 @@ impl Engine {
     /// The order in hand runs.
     #[inline(always)]
     #[tactic(auto, unfolding(crate::specs::Boundary::by_order))]
-    fn run_order(&mut self) -> Stepped
+    pub(crate) fn run_order(&mut self) -> Stepped
         requires running { IsRunning self.old }
         requires quiet { 0 < self.old.quiet_until → IsQuiet self.old.quiet_until (state_of self.old) }
+        requires pace { 0 < self.old.quiet_until → Serves self.old.pace (state_of self.old) }
         ensures step { (state_of self.new, result) ≡ by_order (state_of self.old) }
         ensures sound { IsSound self.new }
+        ensures quiet_until { result ≡ Stepped.Quiet → self.new.quiet_until ≡ self.old.quiet_until }
+        ensures pace { self.new.pace ≡ self.old.pace }
     {
         let cycle = self.cycle;
         match self.processor.run(cycle) {
@@ -325,10 +322,10 @@ impl Engine {
                 Stepped::Quiet
             }
             Ran::Wrote(channel, value) => {
-                if channel == TIME6_SWITCH {
+                if channel == CHAN13 {
                     self.quiet_until = 0;
                 }
-                self.cycle += 2;
+                self.cycle += WRITE_MCT;
                 Stepped::Wrote(ChannelWrite {
                     cycle,
                     channel,
@@ -342,8 +339,8 @@ impl Engine {
         }
     }
 
-    /// Stops with this answer; nothing else changes.
-    fn stop(&mut self, why: Stop) -> Stepped
+    /// Stops for this reason; nothing else changes.
+    pub(crate) fn stop(&mut self, why: Stop) -> Stepped
         ensures step { (state_of self.new, result) ≡ stops why (state_of self.old) }
         ensures rest { self.new ≡ record self.old { stopped = Some why } }
     {

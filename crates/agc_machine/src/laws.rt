@@ -1,11 +1,17 @@
 //! Laws of every run, each the contract of a function that does nothing. The machine's own calls
 //! are proved equal to the definitions that these laws are about.
-ghost use Rattle.std.specs.Prelude.{◌≡◌, ℕ, ◌≤◌, List, length, replicate, Option, Some, None, IsSome};
+ghost use Rattle.std.specs.Prelude.{◌≡◌, ℕ, ◌<◌, ◌≤◌, ◌^◌, List, length, replicate, Option, Some, None, IsSome};
 ghost use Rattle.agc_script.specs.declared.key.Key.{Key};
-ghost use Rattle.agc_machine.specs.State.{State, with_key};
+ghost use Rattle.agc_store.specs.Registers.{HoldsRegisters};
+ghost use Rattle.agc_processor.specs.Basic.{resume_of};
+ghost use Rattle.agc_processor.specs.Interrupt.{interrupted};
+ghost use Rattle.agc_processor.specs.Processor.{◌▷◌};
+ghost use Rattle.agc_processor.specs.declared.interrupt.Rupt.{Rupt};
+ghost use Rattle.agc_processor.specs.declared.processor.Processor.{Processor};
+ghost use Rattle.agc_machine.specs.State.{IsAtStart, State, with_key};
 ghost use Rattle.agc_machine.specs.Boundary.{boundary};
 ghost use Rattle.agc_machine.specs.Run.{boundaries_left, next_of, run_of, unless_stopped_run};
-ghost use Rattle.agc_machine.specs.Laws.{Falls, Comes, AreRising, after};
+ghost use Rattle.agc_machine.specs.Laws.{Falls, Comes, AreRising, ComesBack, IsSameRun, after};
 ghost use Rattle.agc_machine.specs.Replay.{chain, tape_of, AreWanted, with_tape, run_in};
 ghost use Rattle.agc_machine.specs.Taken.{TakesTape};
 ghost use Rattle.agc_machine.specs.declared.answer.Stop.{Stop};
@@ -18,7 +24,26 @@ pub fn boundaries_fall()
     ensures { (s : State) → Falls s (boundary None s) }
 {}
 
-/// A machine that has stopped stays as it is and answers the same, by boundaries and by writes.
+/// A rerun is exact: two machines at their starts, with the same fixed words, events, limit and
+/// stop address, make the same run.
+pub fn reruns_are_exact()
+    ensures { (s t : State) → IsAtStart s → IsAtStart t → IsSameRun s t → s.events ≡ t.events → run_of s ≡ run_of t }
+{}
+
+/// No boundary, with a live key or without one, changes the fixed words, the limit or the stop
+/// address.
+pub fn the_rope_stays()
+    ensures { (live : Option Key) (s : State) → IsSameRun s (boundary live s).0 }
+{}
+
+/// An interrupt that RESUME follows comes back: to the same Z and the same order in hand, with no
+/// service. Every store holds its registers, and the order in hand is narrow.
+pub fn interrupts_come_back()
+    ensures { (r : Rupt) (p : Processor) → HoldsRegisters p.store.erasable → p.hand.magnitude < 2 ^ 14
+        → ComesBack p (p ▷ interrupted r ▷ resume_of) }
+{}
+
+/// A machine that has stopped stays as it is and returns the same stop, by boundaries and by writes.
 pub fn a_stop_is_final()
     ensures boundary { (s : State) (why : Stop) → s.stopped ≡ Some why → boundary None s ≡ (s, stepped.Stopped why) }
     ensures next { (s : State) (why : Stop) → s.stopped ≡ Some why → next_of s ≡ (s, next.Stopped why) }

@@ -7,8 +7,13 @@ mod engine;
 mod happening;
 pub mod laws;
 mod machine;
+mod quiet;
+mod stop_address;
 #[cfg(test)]
 mod tests;
+mod upcoming;
 
 pub use answer::{ChannelWrite, Next, Stepped, Stop};
-pub use machine::{LimitFault, Machine, Refused, StopAddress};
+pub use machine::{LimitFault, Machine, Refused};
+pub use stop_address::StopAddress;
+pub use upcoming::{InHand, Upcoming, the_upcoming_comes};

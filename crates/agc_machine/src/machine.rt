@@ -3,6 +3,7 @@ ghost use Rattle.std.specs.Prelude.{◌≡◌, ◌<◌, ◌≤◌, ◌↔◌, Is
 
 use crate::answer::{Next, Stepped, Stop};
 use crate::engine::Engine;
+use crate::stop_address::StopAddress;
 use agc_processor::Processor;
 use agc_script::{Key, Script};
 use agc_store::{Addr, Rope, Store};
@@ -10,19 +11,10 @@ use agc_word::Narrow;
 use std::marker::Model;
 use thiserror::Error;
 
-/// An address at which a run stops when its order comes into hand.
-#[derive(Clone, Copy, Debug, PartialEq, Eq)]
-pub struct StopAddress {
-    /// 0 to 47 octal: for 1400 to 1777 the erasable bank, for 2000 to 3777 the fixed bank, with
-    /// the superbank's ten added; elsewhere it is ignored.
-    pub bank: u8,
-    pub address: Addr,
-}
-
 /// A run of a rope and a script, up to a limit of cycles.
 #[derive(Drop)]
 pub struct Machine {
-    engine: Engine,
+    pub(crate) engine: Engine,
 }
 
 impl Model for Machine {
@@ -56,7 +48,7 @@ pub struct Refused {
 
 impl Machine {
     ghost use Rattle.std.specs.Prelude.{◌≡◌, ◌<◌, ◌≤◌, ◌↔◌, IsTrue, IsSome, IfOk, IfErr, IsOk, None, Some, not, true, false};
-    ghost use Rattle.agc_machine.specs.State.{start_state};
+    ghost use Rattle.agc_machine.specs.State.{start_state, IsAtStart};
     ghost use Rattle.agc_machine.specs.Boundary.{boundary, WantsKey};
     ghost use Rattle.agc_machine.specs.Run.{next_before, next_of};
     ghost use Rattle.agc_machine.specs.Laws.{HasChannel, HasNextChannel};
@@ -119,7 +111,7 @@ impl Machine {
     }
 
     /// Goes on as `next_write` does, but no further than to the first quiet boundary that ends at a
-    /// cycle or later; answers `Quiet` there. At least one boundary is taken.
+    /// cycle or later; returns `Quiet` there. At least one boundary is taken.
     pub fn next_write_before(&mut self, cycle: u64) -> Stepped
         ensures next { (self.new, result) ≡ next_before cycle self.old }
         ensures channel { HasChannel result }
@@ -139,7 +131,7 @@ impl Machine {
     /// No boundary was taken yet: the machine is at the start of its run.
     pub fn fresh(&self) -> bool
         ensures fresh { result ≡ not self.now.begun }
-        ensures start { IsTrue result → self.now ≡ start_state self.now.processor.store.fixed self.now.events self.now.limit self.now.until }
+        ensures start { IsTrue result → IsAtStart self.now }
     {
         !self.engine.begun
     }

@@ -1,38 +1,30 @@
 //! Runs of small programs, worked out by hand. The numbers are octal, but for cycles.
 mod events;
-mod orders;
 mod runs;
 mod timing;
+mod upcoming;
 
 use crate::{Machine, Next, Stepped, Stop};
+use agc_listing::rope_file;
 use agc_script::Script;
 use agc_store::{Addr, Rope};
 use std::process::Abort;
 use std::test::Fail;
 
-/// A rope with words from these addresses on, 4000 octal or above and ascending, and +0 between.
-/// Its file begins with bank 02, which is address 4000, and has two bytes a word.
-fn rope(rt: &impl AllocGlobal, parts: &[(usize, &[u16])]) -> Result<Rope, Fail> {
-    let mut bytes = Vec::new(rt.alloc());
-    for (address, words) in parts {
-        bytes.resize(address.saturating_sub(0o4000) % 2048 * 2, 0)?;
-        for word in words.iter() {
-            let [high, low] = (word % 32768 * 2).to_be_bytes();
-            bytes.push(high)?;
-            bytes.push(low)?;
-        }
-    }
+/// The rope of this listing, with +0 between its words.
+fn rope(rt: &impl AllocGlobal, listing: &str) -> Result<Rope, Fail> {
+    let bytes = rope_file(rt.alloc(), listing)?;
     Ok(Rope::read(rt.alloc(), bytes.as_slice())?)
 }
 
-/// The machine at the start of a run of the words from 4000 octal on, and of these at a vector.
-fn machine_with(
+/// The machine at the start of a run of this listing.
+fn machine(
     rt: &(impl AllocGlobal + Abort),
-    parts: &[(usize, &[u16])],
+    listing: &str,
     script: &str,
     limit: u64,
 ) -> Result<Machine, Fail> {
-    let rope = rope(rt, parts)?;
+    let rope = rope(rt, listing)?;
     let script = Script::parse(rt.alloc(), script.as_bytes())?;
     Ok(
         Machine::new(rope, script, limit)
@@ -41,37 +33,16 @@ fn machine_with(
     )
 }
 
-/// The machine at the start of a run of these words, from 4000 octal on.
-fn machine(
-    rt: &(impl AllocGlobal + Abort),
-    words: &[u16],
-    script: &str,
-    limit: u64,
-) -> Result<Machine, Fail> {
-    machine_with(rt, &[(0o4000, words)], script, limit)
-}
-
 /// The machine where such a run has stopped at its very limit, without a channel write.
-fn run_with(
-    rt: &(impl AllocGlobal + Abort),
-    parts: &[(usize, &[u16])],
-    script: &str,
-    limit: u64,
-) -> Result<Machine, Fail> {
-    let mut machine = machine_with(rt, parts, script, limit)?;
-    stopped(rt, &mut machine, Stop::Limit, limit);
-    Ok(machine)
-}
-
-/// The machine where a run of these words, from 4000 octal on, has stopped at its very limit,
-/// without a channel write.
 fn run(
     rt: &(impl AllocGlobal + Abort),
-    words: &[u16],
+    listing: &str,
     script: &str,
     limit: u64,
 ) -> Result<Machine, Fail> {
-    run_with(rt, &[(0o4000, words)], script, limit)
+    let mut machine = machine(rt, listing, script, limit)?;
+    stopped(rt, &mut machine, Stop::Limit, limit);
+    Ok(machine)
 }
 
 /// The pattern of a cell of erasable bank 0.
@@ -95,7 +66,7 @@ fn channel(machine: &Machine, number: u8) -> u16 {
     machine.channel(u16::from(number)).bits()
 }
 
-/// The next write is of this value to this channel; answers its cycle.
+/// The next write is of this value to this channel; returns its cycle.
 fn next_cycle(rt: &impl Abort, machine: &mut Machine, channel: u16, value: u16) -> u64 {
     let Next::Wrote(write) = machine.next_write() else {
         panic!(rt; "stopped before the write");

@@ -1,3 +1,7 @@
 pub mod Taken
 pub mod Numbers
-pub mod Pieces
+pub mod Entries
+pub mod Lines
+pub mod LampLemmas
+pub mod LawLemmas
+pub mod TextLemmas

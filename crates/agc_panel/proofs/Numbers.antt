@@ -8,50 +8,50 @@ use Rattle.std.proofs.lemmas.Bool.Decides.{nat_tests}
 use Rattle.std.proofs.lemmas.List.Folds.{list_all_at}
 use Rattle.std.proofs.lemmas.List.Splits.{slice_split_first, slice_split_none, length-slice_split}
 use Rattle.std.proofs.lemmas.List.Sums.{fails_before_first, passes_at_first}
-use Rattle.agc_panel.specs.Octal.{octal_number, is_octal_digit}
-use Rattle.agc_panel.specs.WatchSpec.{is_comma, with_number, numbers_of, numbers_in, spec_from, spec_of, HasFewer, HasMore}
+use Rattle.agc_word.specs.Numeral.{octal_number, number_of, is_digit}
+use Rattle.agc_panel.specs.WatchSpec.{is_separator, with_number, numbers_in_pieces, numbers_in, spec_from, spec_of, HasFewer, HasMore}
 
 -- a text with a comma: the number before it, and those after it
-first_then_rest : (text : List ℕ) → position_or_len is_comma text < length text
-    → numbers_in text ≡ option_and_then (λ number. with_number number (numbers_in (after_first is_comma text))) (octal_number (before_first is_comma text))
+first_then_rest : (text : List ℕ) → position_or_len is_separator text < length text
+    → numbers_in text ≡ option_and_then (λ number. with_number number (numbers_in (after_first is_separator text))) (octal_number 6 (before_first is_separator text))
 unfolding numbers_in
-first_then_rest text h = rw (slice_split_first is_comma text 0 h) refl
+first_then_rest text h = rw (slice_split_first is_separator text 0 h) refl
 
 -- a text without a comma: one number
-alone : (text : List ℕ) → length text ≤ position_or_len is_comma text → numbers_in text ≡ option_and_then (λ number. Some (number ∷ [])) (octal_number text)
+alone : (text : List ℕ) → length text ≤ position_or_len is_separator text → numbers_in text ≡ option_and_then (λ number. Some (number ∷ [])) (octal_number 6 text)
 unfolding numbers_in
 alone text h =
-    let none : All (λ b. is_comma b ≡ false) text = λ k d l. fails_before_first is_comma text k d (omega arith) in
-    rw (slice_split_none is_comma text none) refl
+    let none : All (λ b. is_separator b ≡ false) text = λ k d l. fails_before_first is_separator text k d (omega arith) in
+    rw (slice_split_none is_separator text none) refl
 
 -- a comma is no octal digit
-number_without_comma : (text : List ℕ) → position_or_len is_comma text < length text → octal_number text ≡ None
-unfolding octal_number
+number_without_comma : (text : List ℕ) → position_or_len is_separator text < length text → octal_number 6 text ≡ None
+unfolding number_of
 number_without_comma text h =
-    let comma = passes_at_first is_comma text 0 h in
-    let no_digit : is_octal_digit (get_or text (position_or_len is_comma text) 0) ≡ false = grind (arith, nat_tests) in
-    let none = list_all_at is_octal_digit text _ 0 h no_digit in
+    let comma = passes_at_first is_separator text 0 h in
+    let no_digit : is_digit 8 (get_or text (position_or_len is_separator text) 0) ≡ false = grind (arith, nat_tests) in
+    let none = list_all_at (is_digit 8) text _ 0 h no_digit in
     grind (arith, nat_tests)
 
 -- the number before the first comma, where one stands there, and else fewer than two numbers
-pub first_number : (text : List ℕ) (n : ℕ) → position_or_len is_comma text < length text → octal_number (before_first is_comma text) ≡ Some n
-    → numbers_in text ≡ with_number n (numbers_in (after_first is_comma text))
+pub first_number : (text : List ℕ) (n : ℕ) → position_or_len is_separator text < length text → octal_number 6 (before_first is_separator text) ≡ Some n
+    → numbers_in text ≡ with_number n (numbers_in (after_first is_separator text))
 first_number text n h e = first_then_rest text h ∙ rw e refl
 
-pub fewer_without_number : (text : List ℕ) → position_or_len is_comma text < length text → octal_number (before_first is_comma text) ≡ None → HasFewer 2 text
+pub fewer_without_number : (text : List ℕ) → position_or_len is_separator text < length text → octal_number 6 (before_first is_separator text) ≡ None → HasFewer 2 text
 fewer_without_number text h e = record { fewer = rw (first_then_rest text h, e) tt }
 
-pub fewer_without_comma : (text : List ℕ) → position_or_len is_comma text ≡ length text → HasFewer 2 text
-fewer_without_comma text h = record { fewer = rw (alone text (omega arith)) (at_most_one (octal_number text)) }
+pub fewer_without_comma : (text : List ℕ) → position_or_len is_separator text ≡ length text → HasFewer 2 text
+fewer_without_comma text h = record { fewer = rw (alone text (omega arith)) (at_most_one (octal_number 6 text)) }
   where
     at_most_one : (o : Option ℕ) → IfSome (option_and_then (λ number. Some (number ∷ [])) o) (λ numbers. length numbers < 2)
     at_most_one None = tt
     at_most_one (Some n) = omega arith
 
 -- as many numbers as pieces
-length-numbers_of : (pieces : List (List ℕ)) → IfSome (numbers_of pieces) (λ numbers. length numbers ≡ length pieces)
-length-numbers_of [] = refl
-length-numbers_of (piece ∷ pieces) = onto (octal_number piece) (numbers_of pieces) (length pieces) (length-numbers_of pieces)
+length-numbers_in_pieces : (pieces : List (List ℕ)) → IfSome (numbers_in_pieces pieces) (λ numbers. length numbers ≡ length pieces)
+length-numbers_in_pieces [] = refl
+length-numbers_in_pieces (piece ∷ pieces) = onto (octal_number 6 piece) (numbers_in_pieces pieces) (length pieces) (length-numbers_in_pieces pieces)
   where
     onto : (o : Option ℕ) (rest : Option (List ℕ)) (k : ℕ) → IfSome rest (λ numbers. length numbers ≡ k) → IfSome (option_and_then (λ number. with_number number rest) o) (λ numbers. length numbers ≡ suc k)
     onto None rest k h = tt
@@ -61,11 +61,11 @@ length-numbers_of (piece ∷ pieces) = onto (octal_number piece) (numbers_of pie
 -- some number stands in each text, where each piece is one
 some_number : (text : List ℕ) → IfSome (numbers_in text) (λ numbers. 0 < length numbers)
 unfolding numbers_in
-some_number text = counted (numbers_of (slice_split is_comma text)) (length-numbers_of (slice_split is_comma text))
+some_number text = counted (numbers_in_pieces (slice_split is_separator text)) (length-numbers_in_pieces (slice_split is_separator text))
   where
-    counted : (o : Option (List ℕ)) → IfSome o (λ numbers. length numbers ≡ length (slice_split is_comma text)) → IfSome o (λ numbers. 0 < length numbers)
+    counted : (o : Option (List ℕ)) → IfSome o (λ numbers. length numbers ≡ length (slice_split is_separator text)) → IfSome o (λ numbers. 0 < length numbers)
     counted None h = tt
-    counted (Some numbers) h = omega (arith, length-slice_split is_comma text, h)
+    counted (Some numbers) h = omega (arith, length-slice_split is_separator text, h)
 
 -- one number more in front
 fewer_onto : (count n : ℕ) (o : Option (List ℕ)) → IfSome o (λ numbers. length numbers < count) → IfSome (with_number n o) (λ numbers. length numbers < suc count)
@@ -83,25 +83,25 @@ pub more_after : (count n : ℕ) (text rest : List ℕ) → numbers_in text ≡ 
 more_after count n text rest e h = record { more = rw e (more_onto count n (numbers_in rest) h.more) }
 
 -- a text with a comma has more than one number
-more_with_comma : (text : List ℕ) → position_or_len is_comma text < length text → HasMore 1 text
-more_with_comma text h = record { more = rw (first_then_rest text h) (onto (octal_number (before_first is_comma text))) }
+more_with_comma : (text : List ℕ) → position_or_len is_separator text < length text → HasMore 1 text
+more_with_comma text h = record { more = rw (first_then_rest text h) (onto (octal_number 6 (before_first is_separator text))) }
   where
-    onto : (o : Option ℕ) → IfSome (option_and_then (λ number. with_number number (numbers_in (after_first is_comma text))) o) (λ numbers. 1 < length numbers)
+    onto : (o : Option ℕ) → IfSome (option_and_then (λ number. with_number number (numbers_in (after_first is_separator text))) o) (λ numbers. 1 < length numbers)
     onto None = tt
-    onto (Some n) = more_onto 0 n (numbers_in (after_first is_comma text)) (some_number (after_first is_comma text))
+    onto (Some n) = more_onto 0 n (numbers_in (after_first is_separator text)) (some_number (after_first is_separator text))
 
 -- the last number is the whole text
-pub last_number : (text : List ℕ) → MatchOption (octal_number text) (HasMore 1 text) (λ number. numbers_in text ≡ Some (number ∷ []))
+pub last_number : (text : List ℕ) → MatchOption (octal_number 6 text) (HasMore 1 text) (λ number. numbers_in text ≡ Some (number ∷ []))
 last_number text = ⊎_elim
     (λ h. rw (number_without_comma text h) (more_with_comma text h))
-    (λ h. by_alone (octal_number text) (alone text h))
-    (cases_lt (position_or_len is_comma text) (length text))
+    (λ h. by_alone (octal_number 6 text) (alone text h))
+    (cases_lt (position_or_len is_separator text) (length text))
   where
     by_alone : (o : Option ℕ) → numbers_in text ≡ option_and_then (λ number. Some (number ∷ [])) o → MatchOption o (HasMore 1 text) (λ number. numbers_in text ≡ Some (number ∷ []))
     by_alone None e = record { more = rw e tt }
     by_alone (Some n) e = e
 
--- seven numbers are wanted
+-- a spec has seven numbers
 none_from_fewer : (numbers : List ℕ) → length numbers < 7 → spec_from numbers ≡ None
 none_from_fewer [] h = refl
 none_from_fewer (a ∷ []) h = refl

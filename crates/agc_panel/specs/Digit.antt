@@ -1,29 +1,35 @@
 -- The digits of the panel: what a relay code stands for, and how it is printed.
-use Rattle.std.specs.Prelude.{ℕ, ◌==◌, List, [], ◌∷◌, find}
+use Rattle.std.specs.Prelude.{ℕ, ◌==◌, Bool, List, [], ◌∷◌, codes, find}
 use Rattle.std.specs.Option.{option_map_or}
 use Rattle.agc_panel.specs.declared.digit.Digit.{Digit}
-use Rattle.agc_panel.specs.declared.digit.Digit.TheVariants.{Blank, Zero, One, Two, Three, Four, Five, Six, Seven, Eight, Nine, Unknown}
+use Rattle.agc_panel.specs.declared.digit.Digit.TheVariants.{Blank, Zero, One, Two, Three, Four}
+use Rattle.agc_panel.specs.declared.digit.Digit.TheVariants.{Five, Six, Seven, Eight, Nine, Unknown}
 
 -- the five relays of each digit, as a number
-abbrev pub codes_of_digits : List (ℕ × Digit)
-codes_of_digits =
-    (0, Blank) ∷ (21, Zero) ∷ (3, One) ∷ (25, Two) ∷ (27, Three) ∷ (15, Four) ∷ (30, Five) ∷ (28, Six) ∷ (19, Seven) ∷ (29, Eight) ∷ (31, Nine) ∷ []
+abbrev pub relay_codes : List (ℕ × Digit)
+relay_codes =
+    (0o00, Blank) ∷ (0o25, Zero) ∷ (0o03, One) ∷ (0o31, Two) ∷ (0o33, Three) ∷ (0o17, Four)
+    ∷ (0o36, Five) ∷ (0o34, Six) ∷ (0o23, Seven) ∷ (0o35, Eight) ∷ (0o37, Nine) ∷ []
+
+-- whether a row of that table has a code
+abbrev pub has_code : ℕ → ℕ × Digit → Bool
+has_code code row = row.0 == code
 
 -- the digit that a code stands for
 unfoldable pub digit_of : ℕ → Digit
-digit_of code = option_map_or (λ row. row.1) (find (λ row. row.0 == code) codes_of_digits) Unknown
+digit_of code = option_map_or (λ row. row.1) (find (has_code code) relay_codes) Unknown
 
 -- the character that a digit is printed as
-unfoldable pub glyph : Digit → ℕ
-glyph Blank = 95
-glyph Zero = 48
-glyph One = 49
-glyph Two = 50
-glyph Three = 51
-glyph Four = 52
-glyph Five = 53
-glyph Six = 54
-glyph Seven = 55
-glyph Eight = 56
-glyph Nine = 57
-glyph Unknown = 63
+unfoldable pub glyph : Digit → List ℕ
+glyph Blank = codes "_"
+glyph Zero = codes "0"
+glyph One = codes "1"
+glyph Two = codes "2"
+glyph Three = codes "3"
+glyph Four = codes "4"
+glyph Five = codes "5"
+glyph Six = codes "6"
+glyph Seven = codes "7"
+glyph Eight = codes "8"
+glyph Nine = codes "9"
+glyph Unknown = codes "?"

@@ -1,7 +1,12 @@
 pub mod Digit
+pub mod RelayWord
+pub mod Field
 pub mod Lamp
 pub mod Face
 pub mod Text
-pub mod Octal
 pub mod WatchSpec
-pub mod Watch
+pub mod CoreSet
+pub mod Tables
+pub mod TablesText
+pub mod Watcher
+pub mod Laws

@@ -1,81 +1,88 @@
-//! One core set of the Executive, and its line in print.
-ghost use Rattle.std.specs.Prelude.{◌≡◌, ◌++◌, OnOk, Some, string_bytes};
-ghost use Rattle.agc_panel.specs.Watch.{state_of, state_text, job_text, priority_text, core_set_line};
+//! One core set of the Executive, as the erasable memory holds it.
+ghost use Rattle.std.specs.Prelude.{◌≡◌, ◌+◌, ◌<◌, ◌≤◌};
+ghost use Rattle.agc_panel.specs.CoreSet.{erasable_word, priority_number, job_at, set_with};
+ghost use Rattle.agc_panel.specs.CoreSet.{core_set_at};
 
+use crate::watch_spec::{BANK_CELLS, CORE_SET_CELLS, ERASABLE_CELLS};
+use agc_store::Store;
 use agc_word::Narrow;
-use std::alloc::AllocError;
-use std::fmt;
 
-/// The words of a core set that are printed.
-#[derive(Clone, Copy)]
-pub(crate) struct CoreSet {
-    pub(crate) loc: Narrow,
-    pub(crate) bankset: Narrow,
-    pub(crate) priority: Narrow,
-}
+/// Where the word LOC stands in a core set.
+const LOC: u32 = 0o10;
+
+/// Where the word BANKSET stands in a core set.
+const BANKSET: u32 = 0o11;
+
+/// Where the word PRIORITY stands in a core set.
+const PRIORITY: u32 = 0o13;
 
 /// What a core set holds: nothing, a job that waits to be woken, or a job that may run.
-#[derive(Clone, Copy)]
-pub(crate) enum SetState {
+#[derive(Clone, Copy, Debug, PartialEq, Eq)]
+pub enum CoreSet {
     Free,
-    Asleep,
-    Ready,
+    Asleep(Job),
+    Ready(Job),
 }
 
-/// The state that PRIORITY marks: -0 is free, any other negative word asleep.
-#[tactic(auto, unfolding(crate::specs::Watch::state_of))]
-fn state_of(priority: Narrow) -> SetState
-    ensures { result ≡ state_of priority }
+/// A job of the Executive.
+#[derive(Clone, Copy, Debug, PartialEq, Eq)]
+pub struct Job {
+    pub priority: JobPriority,
+    /// Where the job goes on.
+    pub loc: Narrow,
+    /// The banks in which it goes on.
+    pub bankset: Narrow,
+}
+
+/// The word PRIORITY of a job.
+#[derive(Clone, Copy, Debug, PartialEq, Eq)]
+pub struct JobPriority(pub Narrow);
+
+impl JobPriority {
+    /// The priority, 0 to 37 octal: bits 14 to 10 of the word's magnitude.
+    pub fn number(self) -> u16
+        ensures number { result ≡ priority_number self }
+        ensures range { result < 0o40 }
+    {
+        self.0.magnitude() / 0o1000 % 0o40
+    }
+}
+
+/// A word of the erasable memory as one list.
+#[tactic(auto, unfolding(crate::specs::CoreSet::erasable_word, agc_store::specs::Cells::cell_of))]
+pub(crate) fn erasable_word(store: &Store, place: u32) -> Narrow
+    requires { place < ERASABLE_CELLS }
+    ensures { result ≡ erasable_word store.now place }
 {
+    store.cell((place / BANK_CELLS) as u8, (place % BANK_CELLS) as u16)
+}
+
+/// The job in the core set that begins at a cell.
+#[tactic(auto, unfolding(crate::specs::CoreSet::job_at))]
+fn job_at(store: &Store, first: u32) -> Job
+    requires { first + CORE_SET_CELLS ≤ ERASABLE_CELLS }
+    ensures { result ≡ job_at store.now first }
+{
+    Job {
+        priority: JobPriority(erasable_word(store, first + PRIORITY)),
+        loc: erasable_word(store, first + LOC),
+        bankset: erasable_word(store, first + BANKSET),
+    }
+}
+
+/// The core set that begins at a cell: -0 in PRIORITY marks a free one, and any other negative
+/// word a sleeping job.
+#[tactic(auto, unfolding(crate::specs::CoreSet::set_with))]
+pub(crate) fn core_set_at(store: &Store, first: u32) -> CoreSet
+    requires { first + CORE_SET_CELLS ≤ ERASABLE_CELLS }
+    ensures { result ≡ core_set_at store.now first }
+{
+    let priority = erasable_word(store, first + PRIORITY);
     if !priority.is_minus() {
-        SetState::Ready
+        CoreSet::Ready(job_at(store, first))
     } else if priority.magnitude() == 0 {
-        SetState::Free
+        CoreSet::Free
     } else {
-        SetState::Asleep
+        CoreSet::Asleep(job_at(store, first))
     }
-}
-
-/// A job's priority in print: bits 14 to 10 of the magnitude of PRIORITY.
-#[derive(Clone, Copy)]
-struct JobPriority(Narrow);
-
-impl fmt::Display for JobPriority {
-    ghost output = { λ job. Some (priority_text job.0) };
-
-    fn fmt<W: fmt::Write>(&self, f: &mut fmt::Formatter<W>) -> fmt::Result {
-        let priority = self.0.magnitude() / 0o1000 % 0o40;
-        write!(f, "{priority:02o}")
-    }
-}
-
-/// Adds a job: its state, its priority and where it goes on.
-#[tactic(auto, unfolding(crate::specs::Watch::job_text))]
-fn push_job(text: &mut String, state: &str, set: &CoreSet) -> Result<(), AllocError>
-    ensures { OnOk result (string_bytes text.new ≡ string_bytes text.old ++ job_text state.now set.now) }
-{
-    let priority = JobPriority(set.priority);
-    let CoreSet { loc, bankset, .. } = *set;
-    write!(text, " {state} {priority} LOC {loc} BANKSET {bankset}")
-}
-
-/// Adds what stands in a core set.
-fn push_state(text: &mut String, set: &CoreSet) -> Result<(), AllocError>
-    ensures { OnOk result (string_bytes text.new ≡ string_bytes text.old ++ state_text (state_of set.now.priority) set.now) }
-{
-    match state_of(set.priority) {
-        SetState::Free => text.push_str(" FREE"),
-        SetState::Asleep => push_job(text, "ASLEEP", set),
-        SetState::Ready => push_job(text, "READY", set),
-    }
-}
-
-/// Adds the line of a core set with its number.
-#[tactic(auto, unfolding(crate::specs::Watch::core_set_line))]
-pub(crate) fn push_core_set(text: &mut String, number: u32, set: &CoreSet) -> Result<(), AllocError>
-    ensures { OnOk result (string_bytes text.new ≡ string_bytes text.old ++ core_set_line number set.now) }
-{
-    write!(text, "SET {number}")?;
-    push_state(text, set)?;
-    text.push_str("\n")
 }

@@ -1,5 +1,5 @@
 //! One digit of the panel: five relays that light up to seven segments.
-ghost use Rattle.std.specs.Prelude.{◌≡◌, Some, [], ◌∷◌};
+ghost use Rattle.std.specs.Prelude.{◌≡◌, Some};
 ghost use Rattle.agc_panel.specs.Digit.{digit_of, glyph};
 
 use std::fmt;
@@ -23,23 +23,23 @@ pub enum Digit {
 }
 
 impl Digit {
-    /// The digit that a code of the relay word stands for, 0 to 31 (decimal).
+    /// The digit that a code of the relay word stands for, 0 to 37 octal.
     #[tactic(auto, unfolding(crate::specs::Digit::digit_of))]
     pub fn from_code(code: u16) -> Digit
         ensures { result ≡ digit_of code }
     {
         match code {
-            0 => Digit::Blank,
-            21 => Digit::Zero,
-            3 => Digit::One,
-            25 => Digit::Two,
-            27 => Digit::Three,
-            15 => Digit::Four,
-            30 => Digit::Five,
-            28 => Digit::Six,
-            19 => Digit::Seven,
-            29 => Digit::Eight,
-            31 => Digit::Nine,
+            0o00 => Digit::Blank,
+            0o25 => Digit::Zero,
+            0o03 => Digit::One,
+            0o31 => Digit::Two,
+            0o33 => Digit::Three,
+            0o17 => Digit::Four,
+            0o36 => Digit::Five,
+            0o34 => Digit::Six,
+            0o23 => Digit::Seven,
+            0o35 => Digit::Eight,
+            0o37 => Digit::Nine,
             _ => Digit::Unknown,
         }
     }
@@ -47,7 +47,7 @@ impl Digit {
     /// The one character that the digit is printed as: `_` for a blank, `?` for an unknown code.
     #[tactic(auto, unfolding(crate::specs::Digit::glyph))]
     pub fn glyph(self) -> &'static str
-        ensures { result.now ≡ glyph self ∷ [] }
+        ensures { result.now ≡ glyph self }
     {
         match self {
             Digit::Blank => "_",
@@ -67,7 +67,7 @@ impl Digit {
 }
 
 impl fmt::Display for Digit {
-    ghost output = { λ digit. Some (glyph digit ∷ []) };
+    ghost output = { λ digit. Some (glyph digit) };
 
     fn fmt<W: fmt::Write>(&self, f: &mut fmt::Formatter<W>) -> fmt::Result {
         f.write_str(self.glyph())

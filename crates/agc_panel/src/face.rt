@@ -1,20 +1,16 @@
 //! The fields of the panel, and what a channel write puts into them.
-#![tactic(auto, unfolding(crate::specs::Face::face_after, crate::specs::Face::shown, crate::specs::Face::sign, crate::specs::Face::left, crate::specs::Face::right, crate::specs::Face::lamp, crate::specs::Face::relay_lamp))]
+#![tactic(auto, unfolding(crate::specs::Face::face_after, crate::specs::Face::pair_after, crate::specs::Field::field_after, crate::specs::RelayWord::sign_of_row, crate::specs::RelayWord::left_of_row, crate::specs::RelayWord::right_of_row))]
 
-ghost use Rattle.std.specs.Prelude.{◌≡◌, ◌≤◌, [], ◌∷◌};
-ghost use Rattle.agc_panel.specs.Digit.{digit_of};
-ghost use Rattle.agc_panel.specs.Face.{bits, is_on, blank_face, face_after};
+ghost use Rattle.std.specs.Prelude.{◌≡◌, [], ◌∷◌};
+ghost use Rattle.agc_panel.specs.Face.{blank_face, face_after};
 
 use crate::digit::Digit;
-use crate::lamp::Lamps;
+use crate::lamp::{Lamps, Source};
+use crate::relay_word::{OUT0, RelayWord};
 use agc_machine::ChannelWrite;
-use agc_word::Narrow;
 
-/// The channel of relay words.
-pub const RELAY_CHANNEL: u16 = 0o10;
-
-/// The channel of the lamps that stand on no relay, and of the flash.
-pub const LAMP_CHANNEL: u16 = 0o11;
+/// The bit of DSALMOUT that lets verb and noun flash.
+const FLASH_BIT: u32 = 6;
 
 /// Two digits side by side, as of a program, a verb or a noun.
 #[derive(Clone, Copy, Debug, PartialEq, Eq)]
@@ -47,31 +43,6 @@ pub struct Face {
     /// Whether verb and noun flash.
     pub flash: bool,
     pub lamps: Lamps,
-}
-
-/// A word on the relay channel, in its parts.
-struct RelayWord {
-    row: u16,
-    sign: bool,
-    left: Digit,
-    right: Digit,
-}
-
-/// The parts of a relay word.
-#[tactic(auto, unfolding(crate::specs::Face::bits))]
-fn relay_word(word: Narrow) -> RelayWord
-    ensures row { result.row ≡ bits 15 12 word }
-    ensures sign { result.sign ≡ is_on 11 word }
-    ensures left { result.left ≡ digit_of (bits 10 6 word) }
-    ensures right { result.right ≡ digit_of (bits 5 1 word) }
-{
-    let pattern = word.bits();
-    RelayWord {
-        row: pattern >> 11,
-        sign: word.bit(11),
-        left: Digit::from_code((pattern >> 5) % 32),
-        right: Digit::from_code(pattern % 32),
-    }
 }
 
 impl Face {
@@ -109,23 +80,29 @@ impl Face {
     pub(crate) fn take(&mut self, write: &ChannelWrite)
         ensures { self.new ≡ face_after self.old (write.now ∷ []) }
     {
-        match write.channel {
-            RELAY_CHANNEL => self.take_relay_word(write),
-            LAMP_CHANNEL => self.take_lamps(write),
-            _ => {}
+        if write.channel == OUT0 {
+            self.take_digits(write);
         }
+        if let Some(flash) = Source::Dsalmout.bit_given(FLASH_BIT, write) {
+            self.flash = flash;
+        }
+        self.lamps.take(write);
     }
 
-    fn take_relay_word(&mut self, write: &ChannelWrite)
-        requires { write.now.channel ≡ RELAY_CHANNEL }
-        ensures { self.new ≡ face_after self.old (write.now ∷ []) }
+    /// Puts the sign and the digits of a relay word into the fields of its row.
+    fn take_digits(&mut self, write: &ChannelWrite)
+        requires { write.now.channel ≡ OUT0 }
+        ensures { self.new ≡ record (face_after self.old (write.now ∷ [])) {
+          flash = self.old.flash;
+          lamps = self.old.lamps;
+        } }
     {
         let RelayWord {
             row,
             sign,
             left,
             right,
-        } = relay_word(write.value);
+        } = RelayWord::of(write.value);
         match row {
             1 => {
                 self.r3.minus = sign;
@@ -165,34 +142,7 @@ impl Face {
             9 => self.noun = Pair { left, right },
             10 => self.verb = Pair { left, right },
             11 => self.program = Pair { left, right },
-            12 => self.take_relay_lamps(write),
             _ => {}
         }
-    }
-
-    fn take_relay_lamps(&mut self, write: &ChannelWrite)
-        requires channel { write.now.channel ≡ RELAY_CHANNEL }
-        requires row { bits 15 12 write.now.value ≡ 12 }
-        ensures { self.new ≡ face_after self.old (write.now ∷ []) }
-    {
-        self.lamps.vel = write.value.bit(3);
-        self.lamps.no_att = write.value.bit(4);
-        self.lamps.alt = write.value.bit(5);
-        self.lamps.gimbal_lock = write.value.bit(6);
-        self.lamps.tracker = write.value.bit(8);
-        self.lamps.prog = write.value.bit(9);
-    }
-
-    fn take_lamps(&mut self, write: &ChannelWrite)
-        requires { write.now.channel ≡ LAMP_CHANNEL }
-        ensures { self.new ≡ face_after self.old (write.now ∷ []) }
-    {
-        self.lamps.iss = write.value.bit(1);
-        self.lamps.comp_acty = write.value.bit(2);
-        self.lamps.uplink_acty = write.value.bit(3);
-        self.lamps.temp = write.value.bit(4);
-        self.lamps.key_rel = write.value.bit(5);
-        self.flash = write.value.bit(6);
-        self.lamps.opr_err = write.value.bit(7);
     }
 }

@@ -1,8 +1,50 @@
 //! The warning and caution lamps beside the digits.
-ghost use Rattle.std.specs.Prelude.{◌≡◌};
-ghost use Rattle.agc_panel.specs.Lamp.{lamp_name, is_lit, dark_lamps};
+ghost use Rattle.std.specs.Prelude.{◌≡◌, ◌<◌, ◌≤◌, [], ◌∷◌, length};
+ghost use Rattle.agc_panel.specs.Lamp.{wiring, words_on, lamp_place, is_from, bit_given};
+ghost use Rattle.agc_panel.specs.Lamp.{lamp_given, is_lit, dark_lamps, lit_after, lamps_after};
+ghost use Rattle.agc_panel.specs.Lamp.{printed_order};
 
+use crate::relay_word::{OUT0, row_of};
+use agc_machine::ChannelWrite;
 use std::convert::AsStr;
+
+/// The channel of the lamps that stand on no relay, and of the flash.
+pub(crate) const DSALMOUT: u16 = 0o11;
+
+/// A word whose bits light lamps.
+#[derive(Clone, Copy, Debug, PartialEq, Eq)]
+pub(crate) enum Source {
+    /// Row 12 of the relay words, which has no digits.
+    LampRow,
+    /// The word of channel DSALMOUT.
+    Dsalmout,
+}
+
+impl Source {
+    /// Whether a write is such a word.
+    fn is_written_by(self, write: &ChannelWrite) -> bool
+        ensures { result ≡ is_from self write.now }
+    {
+        match self {
+            Source::LampRow => write.channel == OUT0 && row_of(write.value) == 12,
+            Source::Dsalmout => write.channel == DSALMOUT,
+        }
+    }
+
+    /// What a write gives a bit of the word, where it is such a word.
+    #[tactic(auto, unfolding(crate::specs::Lamp::bit_given))]
+    pub(crate) fn bit_given(self, bit: u32, write: &ChannelWrite) -> Option<bool>
+        requires counted { 1 ≤ bit }
+        requires within { bit ≤ 15 }
+        ensures { result ≡ bit_given self bit write.now }
+    {
+        if self.is_written_by(write) {
+            Some(write.value.bit(bit))
+        } else {
+            None
+        }
+    }
+}
 
 /// A lamp. The order is that of print.
 #[derive(Clone, Copy, Debug, PartialEq, Eq)]
@@ -22,8 +64,11 @@ pub enum Lamp {
 }
 
 impl Lamp {
+    /// How many lamps there are.
+    const COUNT: usize = 12;
+
     /// All lamps, in the order in which they are printed.
-    pub const PRINTED: [Lamp; 12] = [
+    pub const PRINTED: [Lamp; Lamp::COUNT] = [
         Lamp::CompActy,
         Lamp::UplinkActy,
         Lamp::NoAtt,
@@ -38,29 +83,57 @@ impl Lamp {
         Lamp::Iss,
     ];
 
-    /// The words on the lamp.
-    pub fn name(self) -> &'static str
-        ensures { result.now ≡ lamp_name self }
+    /// The lamp's row of the wiring table: the word that lights it, its bit there, and the words on
+    /// the lamp.
+    fn wiring(self) -> (Source, u32, &'static str)
+        ensures source { result.0 ≡ (wiring self).source }
+        ensures bit { result.1 ≡ (wiring self).bit }
+        ensures words { result.2.now ≡ (wiring self).words }
+        ensures counted { 1 ≤ result.1 }
+        ensures within { result.1 ≤ 15 }
     {
         match self {
-            Lamp::CompActy => "COMP ACTY",
-            Lamp::UplinkActy => "UPLINK ACTY",
-            Lamp::NoAtt => "NO ATT",
-            Lamp::Temp => "TEMP",
-            Lamp::GimbalLock => "GIMBAL LOCK",
-            Lamp::Prog => "PROG",
-            Lamp::KeyRel => "KEY REL",
-            Lamp::OprErr => "OPR ERR",
-            Lamp::Tracker => "TRACKER",
-            Lamp::Alt => "ALT",
-            Lamp::Vel => "VEL",
-            Lamp::Iss => "ISS",
+            Lamp::CompActy => (Source::Dsalmout, 2, "COMP ACTY"),
+            Lamp::UplinkActy => (Source::Dsalmout, 3, "UPLINK ACTY"),
+            Lamp::NoAtt => (Source::LampRow, 4, "NO ATT"),
+            Lamp::Temp => (Source::Dsalmout, 4, "TEMP"),
+            Lamp::GimbalLock => (Source::LampRow, 6, "GIMBAL LOCK"),
+            Lamp::Prog => (Source::LampRow, 9, "PROG"),
+            Lamp::KeyRel => (Source::Dsalmout, 5, "KEY REL"),
+            Lamp::OprErr => (Source::Dsalmout, 7, "OPR ERR"),
+            Lamp::Tracker => (Source::LampRow, 8, "TRACKER"),
+            Lamp::Alt => (Source::LampRow, 5, "ALT"),
+            Lamp::Vel => (Source::LampRow, 3, "VEL"),
+            Lamp::Iss => (Source::Dsalmout, 1, "ISS"),
         }
+    }
+
+    /// The words on the lamp.
+    pub fn name(self) -> &'static str
+        ensures { result.now ≡ words_on self }
+    {
+        self.wiring().2
+    }
+
+    /// What a write gives the lamp, where it names it.
+    fn given(self, write: &ChannelWrite) -> Option<bool>
+        ensures { result ≡ lamp_given self write.now }
+    {
+        let (source, bit, _) = self.wiring();
+        source.bit_given(bit, write)
+    }
+
+    /// The lamp's place in the order of print.
+    fn place(self) -> usize
+        ensures place { result ≡ lamp_place self }
+        ensures within { result < length printed_order }
+    {
+        self as usize
     }
 }
 
 impl AsStr for Lamp {
-    ghost text = { lamp_name };
+    ghost text = { words_on };
 
     fn as_str(&self) -> &str {
         self.name()
@@ -70,18 +143,8 @@ impl AsStr for Lamp {
 /// Which lamps are on.
 #[derive(Clone, Copy, Debug, PartialEq, Eq)]
 pub struct Lamps {
-    pub comp_acty: bool,
-    pub uplink_acty: bool,
-    pub no_att: bool,
-    pub temp: bool,
-    pub gimbal_lock: bool,
-    pub prog: bool,
-    pub key_rel: bool,
-    pub opr_err: bool,
-    pub tracker: bool,
-    pub alt: bool,
-    pub vel: bool,
-    pub iss: bool,
+    /// In the order of print.
+    lit: [bool; Lamp::COUNT],
 }
 
 impl Lamps {
@@ -90,18 +153,7 @@ impl Lamps {
         ensures { result ≡ dark_lamps }
     {
         Lamps {
-            comp_acty: false,
-            uplink_acty: false,
-            no_att: false,
-            temp: false,
-            gimbal_lock: false,
-            prog: false,
-            key_rel: false,
-            opr_err: false,
-            tracker: false,
-            alt: false,
-            vel: false,
-            iss: false,
+            lit: [false; Lamp::COUNT],
         }
     }
 
@@ -109,19 +161,29 @@ impl Lamps {
     pub fn is_lit(&self, lamp: Lamp) -> bool
         ensures { result ≡ is_lit self.now lamp }
     {
-        match lamp {
-            Lamp::CompActy => self.comp_acty,
-            Lamp::UplinkActy => self.uplink_acty,
-            Lamp::NoAtt => self.no_att,
-            Lamp::Temp => self.temp,
-            Lamp::GimbalLock => self.gimbal_lock,
-            Lamp::Prog => self.prog,
-            Lamp::KeyRel => self.key_rel,
-            Lamp::OprErr => self.opr_err,
-            Lamp::Tracker => self.tracker,
-            Lamp::Alt => self.alt,
-            Lamp::Vel => self.vel,
-            Lamp::Iss => self.iss,
+        self.lit[lamp.place()]
+    }
+
+    /// Whether a lamp is on after a write.
+    #[tactic(auto, unfolding(crate::specs::Field::field_after))]
+    fn lit_after(&self, lamp: Lamp, write: &ChannelWrite) -> bool
+        ensures { result ≡ lit_after self.now (write.now ∷ []) lamp }
+    {
+        lamp.given(write).unwrap_or(self.is_lit(lamp))
+    }
+
+    /// Turns each lamp that a write names on or off, and leaves all others.
+    #[tactic(auto, using(crate::proofs::LampLemmas::no_lamp_named))]
+    pub(crate) fn take(&mut self, write: &ChannelWrite)
+        ensures { self.new ≡ lamps_after self.old (write.now ∷ []) }
+    {
+        if !Source::LampRow.is_written_by(write) && !Source::Dsalmout.is_written_by(write) {
+            return;
         }
+        let mut lit = [false; Lamp::COUNT];
+        for lamp in Lamp::PRINTED {
+            lit[lamp.place()] = self.lit_after(lamp, write);
+        }
+        self.lit = lit;
     }
 }

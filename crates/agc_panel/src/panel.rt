@@ -1,6 +1,6 @@
 //! The panel as the display keeps it up, write by write.
 ghost use Rattle.std.specs.Prelude.{◌≡◌, List, [], ◌∷◌, ◌++◌, IfOk, string_bytes};
-ghost use Rattle.agc_machine.specs.declared.answer.ChannelWrite.{ChannelWrite as Write};
+ghost use Rattle.agc_machine.specs.declared.answer.ChannelWrite.{ChannelWrite};
 ghost use Rattle.agc_panel.specs.Face.{face_after, panel_of};
 ghost use Rattle.agc_panel.specs.Text.{panel_text};
 
@@ -17,9 +17,9 @@ pub struct Panel {
 }
 
 impl Model for Panel {
-    ghost use Rattle.agc_panel.specs.declared.face.Face.{Face as Fields};
+    ghost use Rattle.agc_panel.specs.declared.face.Face.{Face};
 
-    ghost Value = { Fields };
+    ghost Value = { Face };
 
     ghost view = { λ panel. panel.face };
 
@@ -28,7 +28,7 @@ impl Model for Panel {
 
 impl Panel {
     /// The panel before any write: every digit blank, every sign and lamp and the flash off.
-    #[tactic(auto, unfolding(crate::specs::Face::face_after, crate::specs::Face::shown, crate::specs::Face::blank_face))]
+    #[tactic(auto, unfolding(crate::specs::Face::face_after, crate::specs::Face::pair_after, crate::specs::Face::blank_face, crate::specs::Field::field_after))]
     pub fn new() -> Panel
         ensures { result ≡ panel_of [] }
     {
@@ -42,7 +42,8 @@ impl Panel {
     #[tactic(auto, using(crate::proofs::Taken::takes_all))]
     pub fn take(&mut self, write: &ChannelWrite)
         ensures named { self.new ≡ face_after self.old (write.now ∷ []) }
-        ensures all { (taken : List Write) → self.old ≡ panel_of taken → self.new ≡ panel_of (taken ++ write.now ∷ []) }
+        ensures all { (taken : List ChannelWrite) → self.old ≡ panel_of taken
+            → self.new ≡ panel_of (taken ++ write.now ∷ []) }
     {
         self.face.take(write);
     }

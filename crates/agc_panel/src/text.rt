@@ -1,7 +1,7 @@
-//! The panel in print: eight lines, one push each.
-ghost use Rattle.std.specs.Prelude.{◌≡◌, ◌++◌, IfOk, OnOk, Some, [], ◌∷◌, string_bytes, filter};
-ghost use Rattle.agc_panel.specs.Lamp.{is_lit, printed_order};
-ghost use Rattle.agc_panel.specs.Text.{sign_of, sign_glyph, pair_line, register_line, flash_line, lamps_line, panel_text};
+//! The panel in print: eight lines.
+ghost use Rattle.std.specs.Prelude.{◌≡◌, ◌++◌, IfOk, OnOk, Some, string_bytes};
+ghost use Rattle.agc_panel.specs.Text.{lit_lamps, sign_of, sign_glyph, pair_line, digits_text};
+ghost use Rattle.agc_panel.specs.Text.{register_line, flash_line, lamps_line, panel_text};
 
 use crate::face::{Face, Pair, Register};
 use crate::lamp::{Lamp, Lamps};
@@ -32,7 +32,7 @@ impl Register {
 }
 
 impl fmt::Display for Sign {
-    ghost output = { λ sign. Some (sign_glyph sign ∷ []) };
+    ghost output = { λ sign. Some (sign_glyph sign) };
 
     fn fmt<W: fmt::Write>(&self, f: &mut fmt::Formatter<W>) -> fmt::Result {
         f.write_str(match self {
@@ -45,7 +45,8 @@ impl fmt::Display for Sign {
 
 #[tactic(auto, unfolding(crate::specs::Text::pair_line))]
 fn push_pair(text: &mut String, name: &str, pair: Pair) -> Result<(), AllocError>
-    ensures { OnOk result (string_bytes text.new ≡ string_bytes text.old ++ pair_line name.now pair) }
+    ensures { OnOk result (string_bytes text.new
+        ≡ string_bytes text.old ++ pair_line name.now pair) }
 {
     let Pair { left, right } = pair;
     writeln!(text, "{name} {left}{right}")
@@ -53,9 +54,20 @@ fn push_pair(text: &mut String, name: &str, pair: Pair) -> Result<(), AllocError
 
 #[tactic(auto, unfolding(crate::specs::Text::register_line))]
 fn push_register(text: &mut String, name: &str, register: &Register) -> Result<(), AllocError>
-    ensures { OnOk result (string_bytes text.new ≡ string_bytes text.old ++ register_line name.now register.now) }
+    ensures { OnOk result (string_bytes text.new
+        ≡ string_bytes text.old ++ register_line name.now register.now) }
 {
     let sign = register.sign();
+    write!(text, "{name} {sign}")?;
+    push_digits(text, register)?;
+    text.push_str("\n")
+}
+
+#[tactic(auto, unfolding(crate::specs::Text::digits_text))]
+fn push_digits(text: &mut String, register: &Register) -> Result<(), AllocError>
+    ensures { OnOk result (string_bytes text.new
+        ≡ string_bytes text.old ++ digits_text register.now) }
+{
     let Register {
         d1,
         d2,
@@ -64,7 +76,7 @@ fn push_register(text: &mut String, name: &str, register: &Register) -> Result<(
         d5,
         ..
     } = *register;
-    writeln!(text, "{name} {sign}{d1}{d2}{d3}{d4}{d5}")
+    write!(text, "{d1}{d2}{d3}{d4}{d5}")
 }
 
 #[tactic(auto, unfolding(crate::specs::Text::flash_line))]
@@ -76,7 +88,7 @@ fn push_flash(text: &mut String, flash: bool) -> Result<(), AllocError>
 
 /// The lamps that are on, in the order of print.
 fn lit_lamps(alloc: Global, lamps: &Lamps) -> Result<Vec<Lamp>, AllocError>
-    ensures { IfOk result (λ lit. lit.items ≡ filter (is_lit lamps.now) printed_order) }
+    ensures { IfOk result (λ lit. lit.items ≡ lit_lamps lamps.now) }
 {
     Lamp::PRINTED
         .iter()

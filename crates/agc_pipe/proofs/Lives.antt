@@ -6,8 +6,8 @@ use Rattle.agc_machine.specs.Laws.{KeepsStop}
 use Rattle.agc_machine.specs.Live.{IsLive}
 use Rattle.agc_machine.specs.Replay.{writes_in}
 use Rattle.agc_machine.specs.Run.{Run, run_of}
-use Rattle.agc_machine.specs.State.{State}
-use Rattle.agc_machine.specs.Taken.{IsAtStart, TakesTape, replayed}
+use Rattle.agc_machine.specs.State.{State, IsAtStart}
+use Rattle.agc_machine.specs.Taken.{TakesTape, replayed}
 use Rattle.agc_machine.specs.declared.answer.ChannelWrite.{ChannelWrite}
 use Rattle.agc_machine.specs.declared.answer.Stepped.{Stepped}
 use Rattle.agc_machine.specs.declared.answer.Stepped.TheVariants as stepped

@@ -1,5 +1,5 @@
 -- Items that were taken block by block: the writes before the first end.
-use Rattle.std.proofs.Common.{◌≡◌, List, [], ◌∷◌, ◌++◌, true, false, refl, ap, sym, ◌∙◌, subst, append_assoc}
+use Rattle.std.proofs.Common.{◌≡◌, ◌<◌, ℕ, zero, suc, List, [], ◌∷◌, ◌++◌, length, take, get_or, true, false, refl, ap, sym, ◌∙◌, subst, arith}
 use Rattle.agc_machine.specs.declared.answer.ChannelWrite.{ChannelWrite}
 use Rattle.agc_pipe.specs.Screen.{IsShowing}
 use Rattle.agc_pipe.specs.Shown.{has_end, shown_in, items_of}
@@ -19,13 +19,30 @@ shown_after [] items h = refl
 shown_after (item.Write write ∷ taken) items h = ap (λ (writes : List ChannelWrite). write ∷ writes) (shown_after taken items h)
 shown_after (item.End ∷ taken) items h = cc
 
--- a write and what follows it
-pub showing_next : (screen : Screen) (writes : List ChannelWrite) (write : ChannelWrite) (items rest : List Item) →
-    items ≡ item.Write write ∷ rest → IsShowing screen ((writes ++ write ∷ []) ++ shown_in rest) → IsShowing screen (writes ++ shown_in items)
-unfolding shown_in
-showing_next screen writes write items rest e h =
-    subst (λ (all : List ChannelWrite). IsShowing screen all)
-    (append_assoc writes (write ∷ []) (shown_in rest) ∙ sym (ap (λ (i : List Item). writes ++ shown_in i) e)) h
+-- the writes before the end of a list of items, where the first end stands at this place
+pub at_end : (items : List Item) (i : ℕ) → i < length items → item.End ≡ get_or items i item.End → has_end (take i items) ≡ false
+    → (has_end items ≡ true) × (shown_in items ≡ shown_in (take i items))
+unfolding has_end shown_in
+at_end [] i lt e h = absurd (omega arith)
+at_end (item.End ∷ items) zero lt e h = (refl, refl)
+at_end (item.Write write ∷ items) zero lt e h = cc
+at_end (item.End ∷ items) (suc i) lt e h = cc
+at_end (item.Write write ∷ items) (suc i) lt e h =
+    let later = at_end items i (omega arith) e h in
+    (later.0, ap (λ (writes : List ChannelWrite). write ∷ writes) later.1)
+
+-- one more write behind those before a place
+pub at_write : (items : List Item) (i : ℕ) (write : ChannelWrite) → i < length items → item.Write write ≡ get_or items i (item.Write write)
+    → has_end (take i items) ≡ false
+    → (has_end (take (suc i) items) ≡ false) × (shown_in (take (suc i) items) ≡ shown_in (take i items) ++ write ∷ [])
+unfolding has_end shown_in
+at_write [] i write lt e h = absurd (omega arith)
+at_write (item.End ∷ items) zero write lt e h = cc
+at_write (item.Write first ∷ items) zero write lt e h = (refl, cc)
+at_write (item.End ∷ items) (suc i) write lt e h = cc
+at_write (item.Write first ∷ items) (suc i) write lt e h =
+    let later = at_write items i write (omega arith) e h in
+    (later.0, ap (λ (writes : List ChannelWrite). first ∷ writes) later.1)
 
 -- a block after what was taken, in which there was no end
 pub showing_all : (screen : Screen) (taken items all : List Item) → all ≡ taken ++ items → has_end taken ≡ false →

@@ -7,7 +7,7 @@ use Rattle.agc_machine.specs.Taken.{AreApart}
 use Rattle.agc_machine.proofs.Taken.{apart_snoc}
 use Rattle.agc_pipe.specs.Keys.{key_in}
 
--- what a taker keeps: its keys come far enough apart, and while no growth was refused they are those received
+-- what a taker keeps: its keys come far enough apart, and while the tape has memory they are those received
 abbrev pub Keeps : ℕ → List (ℕ × Key) → Bool → List Key → Type 0
 Keeps spacing tape refused received = (0 < spacing) × AreApart spacing tape × (refused ≡ false → map key_in tape ≡ received)
 

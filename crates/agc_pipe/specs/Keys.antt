@@ -14,8 +14,8 @@ pub record Feeding : Type 0 where
   pub ring : End Key Global AnyItems
   pub keys : List Key
 
--- The end that takes: its ring, the cycles that lie between two keys at least, the tape of the keys taken, and whether a growth of the
--- tape was refused.
+-- The end that takes: its ring, the cycles that lie between two keys at least, the tape of the keys
+-- taken, and whether the tape is out of memory.
 pub record Taking : Type 0 where
   pub ring : End Key Global AnyItems
   pub spacing : ℕ

@@ -11,14 +11,16 @@ use Rattle.agc_pipe.specs.declared.live.Live.{Live}
 use Rattle.agc_pipe.specs.declared.live_sending.LiveSent.{LiveSent}
 
 -- the run on the script merged with the tape was sent, and that run takes the tape
-pub record IsSentLive (start : State) (fresh : Sending) (keys : Taking) (live : LiveSent) : Type 0 where
+pub record IsSentLive (start : State) (fresh : Sending) (keys : Taking)
+    (live : LiveSent) : Type 0 where
   pub sent : IsSentRun (run_of (replayed live.taker.tape start)) fresh live.sent
   pub below : All (λ entry. entry.0 < start.limit) live.taker.tape
   pub taken : TakesTape start live.taker.tape (replayed live.taker.tape start)
   pub ring : live.taker.ring ≡ keys.ring
   pub spacing : live.taker.spacing ≡ keys.spacing
 
--- What is handed back of a live run: the run on the script merged with the tape, a tape that was taken, and no key lost.
+-- What is handed back of a live run: the run on the script merged with the tape, a tape that was
+-- taken, and no key lost.
 pub record ShowsLive (start : State) (spacing : ℕ) (handed : List Key) (live : Live) : Type 0 where
   pub shown : ShowsRun (run_of (replayed live.tape start)) live.shown
   pub tape : IsTakenTape spacing start live.tape

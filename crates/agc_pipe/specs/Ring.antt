@@ -13,7 +13,8 @@ ring_of end = record end { role = 0; past = []; ahead = []; limit = 0 }
 abbrev pub Ring : Type 0
 Ring = End Item Global Outside
 
--- The end that sends: its ring, how many items that holds at most, and every item that was sent, oldest first.
+-- The end that sends: its ring, how many items that holds at most, and every item that was sent,
+-- oldest first.
 pub record Sending : Type 0 where
   pub ring : Ring
   pub slots : ℕ

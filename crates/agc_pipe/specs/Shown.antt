@@ -25,7 +25,8 @@ has_end [] = false
 has_end (item.Write write ∷ items) = has_end items
 has_end (item.End ∷ items) = true
 
--- What a call hands back of a run: every channel write in order, the panel that they make, and the memory, the stop and the cycle at its end.
+-- What a call hands back of a run: every channel write in order, the panel that they make, and the
+-- memory, the stop and the cycle at its end.
 pub record ShowsRun (run : Run) (shown : Shown) : Type 0 where
   pub log : shown.log.items ≡ run.writes
   pub panel : shown.panel ≡ panel_of run.writes
@@ -33,7 +34,8 @@ pub record ShowsRun (run : Run) (shown : Shown) : Type 0 where
   pub stop : run.last.stopped ≡ Some shown.stop
   pub cycle : shown.cycle ≡ run.last.cycle
 
--- What the machine's thread hands back: the sender has sent the run's writes and the end, and the machine stands at its stop.
+-- What the machine's thread hands back: the sender has sent the run's writes and the end, and the
+-- machine stands at its stop.
 pub record IsSentRun (run : Run) (fresh : Sending) (sent : Sent) : Type 0 where
   pub sender : sent.sender ≡ record fresh { sent = items_of run.writes }
   pub machine : sent.machine ≡ run.last

@@ -1,12 +1,12 @@
 //! The display's thread: it takes items until the end, and keeps the log and the panel.
 ghost use Rattle.std.specs.Prelude.{◌≡◌, [], true, false};
-ghost use Rattle.agc_pipe.specs.Screen.{IsShowing};
+ghost use Rattle.agc_pipe.specs.Screen.{IsShowing, is_end};
 ghost use Rattle.agc_pipe.specs.Shown.{has_end, shown_in};
 
-use crate::gate::Gate;
 use crate::item::{BLOCK, Item};
 use crate::keys::Feed;
 use crate::receiver::Receiver;
+use agc_gate::Gate;
 use agc_machine::ChannelWrite;
 use agc_panel::Panel;
 use arrayvec::ArrayVec;
@@ -27,7 +27,7 @@ const SLEEP: u64 = 50;
 pub(crate) struct Screen {
     pub(crate) log: Vec<ChannelWrite>,
     pub(crate) panel: Panel,
-    /// A growth of the log was refused; nothing was kept since.
+    /// The log is out of memory; nothing was kept since.
     pub(crate) refused: bool,
     /// The writes that were taken, kept or not.
     taken: u64,
@@ -52,7 +52,8 @@ impl Screen {
 
     /// Takes a write into log and panel.
     fn show<G: Gate>(&mut self, gate: &G, write: ChannelWrite)
-        ensures { (writes : List ChannelWrite) → IsShowing self.old writes → IsShowing self.new (writes ++ write ∷ []) }
+        ensures { (writes : List ChannelWrite) → IsShowing self.old writes
+            → IsShowing self.new (writes ++ write ∷ []) }
     {
         if !self.refused {
             match self.log.push(write) {
@@ -64,22 +65,20 @@ impl Screen {
         gate.after_receive(self.taken);
     }
 
-    /// Takes the writes before the first end; answers whether there is an end.
+    /// Takes the writes before the first end, and returns whether there is an end.
     #[tactic(auto, unfolding(crate::specs::Shown::has_end, crate::specs::Shown::shown_in))]
     fn show_all<G: Gate>(&mut self, gate: &G, items: &[Item]) -> bool
         ensures end { result ≡ has_end items.now }
-        ensures shown { (writes : List ChannelWrite) → IsShowing self.old writes → IsShowing self.new (writes ++ shown_in items.now) }
+        ensures shown { (writes : List ChannelWrite) → IsShowing self.old writes
+            → IsShowing self.new (writes ++ shown_in items.now) }
     {
-        let Some((item, rest)) = items.split_first() else {
-            return false;
-        };
-        match *item {
-            Item::End => true,
-            Item::Write(write) => {
-                self.show(gate, write);
-                self.show_all(gate, rest)
+        for item in items {
+            match *item {
+                Item::Write(write) => self.show(gate, write),
+                Item::End => return true,
             }
         }
+        false
     }
 }
 
@@ -106,45 +105,60 @@ pub(crate) fn take_all<R: Wait, G: Gate, F: Feed>(
     ensures shown { IsShowing result.screen (shown_in result.receiver.received) }
 {
     let mut screen = Screen::new(alloc);
-    let mut idle = 0;
+    let mut idle = 0u32;
     for _ in rt.forever() {
         feed.offer(gate);
-        if take_block(gate, &mut receiver, &mut screen, &mut idle) {
-            return Taken { receiver, screen };
-        }
-        if idle > 0 {
-            pause(rt, idle);
+        match take_block(gate, &mut receiver, &mut screen) {
+            Look::End => return Taken { receiver, screen },
+            Look::Items => idle = 0,
+            Look::Nothing => {
+                idle = idle.saturating_add(1);
+                pause(rt, idle);
+            }
         }
     }
     unreachable!()
 }
 
-/// Takes the items that are there; answers whether the end is among them. `idle` counts the turns
-/// since an item was there.
-fn take_block<G: Gate>(
-    gate: &G,
-    receiver: &mut Receiver,
-    screen: &mut Screen,
-    idle: &mut u32,
-) -> bool
+/// What a look into the ring found.
+enum Look {
+    Nothing,
+    /// Items, and the end is not among them.
+    Items,
+    End,
+}
+
+/// Takes the items that are there.
+fn take_block<G: Gate>(gate: &G, receiver: &mut Receiver, screen: &mut Screen) -> Look
     requires open { has_end receiver.old.received ≡ false }
     requires shown { IsShowing screen.old (shown_in receiver.old.received) }
     ensures ring { receiver.new.ring ≡ receiver.old.ring }
-    ensures end { result ≡ has_end receiver.new.received }
+    ensures end { is_end result ≡ has_end receiver.new.received }
     ensures shown { IsShowing screen.new (shown_in receiver.new.received) }
 {
     let mut block = ArrayVec::<Item, BLOCK>::new();
     let count = receiver.next_block(&mut block);
-    *idle = if count == 0 {
-        idle.saturating_add(1)
+    let is_over = screen.show_all(gate, block.as_slice());
+    look_of(count, is_over)
+}
+
+/// A look that found so many items, the end among them or not.
+fn look_of(count: usize, is_over: bool) -> Look
+    ensures { is_end result ≡ is_over }
+{
+    if is_over {
+        Look::End
+    } else if count == 0 {
+        Look::Nothing
     } else {
-        0
-    };
-    screen.show_all(gate, block.as_slice())
+        Look::Items
+    }
 }
 
 /// Waits before the next look into an empty ring: at first other threads go first, and after some
-/// turns the thread sleeps, since looking all the time would slow the machine's thread.
+/// turns the thread sleeps, since looking all the time would slow the machine's thread. It sleeps
+/// by waiting for an atomic that nobody else has: `thread::sleep` takes a clock, which the caller
+/// of a run need not have, and this wait takes no more than the leave to wait.
 fn pause<R: Wait>(rt: &R, idle: u32) {
     if idle < PATIENCE {
         thread::yield_now();

@@ -1,10 +1,10 @@
-//! The key ring: keys on their way from the display's thread to the machine's, and the tape of those
-//! that the machine took.
+//! The key ring: keys on their way from the display's thread to the machine's, and the tape of
+//! those that the machine took.
 ghost use Rattle.std.specs.Prelude.{◌≡◌, ◌<◌, ◌≤◌, [], ◌++◌, map, length, drop, IfOk, IfSome};
 ghost use Rattle.agc_pipe.specs.Keys.{key_in};
 ghost use Rattle.agc_machine.specs.Taken.{AreApart};
 
-use crate::gate::Gate;
+use agc_gate::Gate;
 use agc_machine::Machine;
 use agc_script::{Key, Tape};
 use rtrb::{Consumer, Producer, RingBuffer};
@@ -58,7 +58,8 @@ impl Model for KeyFeed {
 
     ghost view = { λ f. record { ring = ring_of f.producer.end; keys = f.keys.items } };
 
-    ghost invariant = { λ f. (f.fed ≤ length f.keys.items) × (sent f.producer ≡ take f.fed f.keys.items) };
+    ghost invariant = { λ f. (f.fed ≤ length f.keys.items)
+        × (sent f.producer ≡ take f.fed f.keys.items) };
 }
 
 impl Feed for KeyFeed {
@@ -81,7 +82,7 @@ pub(crate) struct KeyTaker {
     tape: Tape,
     /// How many cycles lie between two keys at least.
     spacing: u64,
-    /// A growth of the tape was refused; no key was taken since.
+    /// The tape is out of memory; no key was taken since.
     refused: bool,
     /// The cycle before which no key is looked for.
     next_look: u64,
@@ -101,7 +102,8 @@ impl Model for KeyTaker {
 
     ghost view = { λ t. record { ring = ring_of t.consumer.end; spacing = t.spacing; tape = t.tape; refused = t.refused } };
 
-    ghost invariant = { λ t. (0 < t.spacing) × AreApart t.spacing t.tape × (t.refused ≡ false → map key_in t.tape ≡ received t.consumer) };
+    ghost invariant = { λ t. (0 < t.spacing) × AreApart t.spacing t.tape
+        × (t.refused ≡ false → map key_in t.tape ≡ received t.consumer) };
 }
 
 /// The two ends of a new key ring: one with the keys that are to be fed, one with an empty tape.
@@ -136,13 +138,18 @@ pub(crate) fn link_keys(
 }
 
 impl KeyTaker {
-    ghost use Rattle.std.specs.Prelude.{◌≡◌, ◌+◌, ◌-◌, ◌≤◌, ◌↔◌, [], ◌∷◌, ◌++◌, length, slice_get, IfSome, IfNone, IsTrue};
+    ghost use Rattle.std.specs.Prelude.{◌≡◌, ◌+◌, ◌-◌, ◌≤◌, ◌↔◌, [], ◌∷◌, ◌++◌, length, slice_get};
+    ghost use Rattle.std.specs.Prelude.{IfSome, IfNone, IsTrue};
     ghost use Rattle.agc_machine.specs.Boundary.{WantsKey};
 
     /// The next key, where it is time to look for one, the machine wants one, the last one is far
     /// enough behind and one is there. It stands on the tape then, at the machine's cycle.
     pub(crate) fn take(&mut self, machine: &Machine) -> Option<Key>
-        ensures some { IfSome result (λ key. self.new ≡ record self.old { tape = self.old.tape ++ (machine.now.cycle, key) ∷ [] }) }
+        ensures some { IfSome result
+            (λ key. self.new ≡ record self.old {
+              tape = self.old.tape
+                  ++ (machine.now.cycle, key) ∷ [];
+            }) }
         ensures wanted { IfSome result (λ key. WantsKey machine.now) }
         ensures none { IfNone result (self.new ≡ record self.old { refused = self.new.refused }) }
     {
@@ -178,7 +185,8 @@ impl KeyTaker {
 
     /// No key was taken yet, or the last one at least `spacing` cycles before this one.
     fn is_far_enough(&self, cycle: u64) -> bool
-        ensures { IsTrue result ↔ IfSome (slice_get self.now.tape (length self.now.tape - 1)) (λ last. last.0 + self.now.spacing ≤ cycle) }
+        ensures { IsTrue result ↔ IfSome (slice_get self.now.tape (length self.now.tape - 1))
+            (λ last. last.0 + self.now.spacing ≤ cycle) }
     {
         let count = self.tape.len();
         if count == 0 {
@@ -189,8 +197,8 @@ impl KeyTaker {
     }
 }
 
-/// The tape, and the keys that were handed in and not taken; `None` where a growth of the tape was
-/// refused.
+/// The tape, and the keys that were handed in and not taken; `None` where the tape is out of
+/// memory.
 pub(crate) fn part_keys(feed: KeyFeed, taker: KeyTaker) -> Option<(Tape, Vec<Key>)>
     requires { feed.ring ≡ taker.ring }
     ensures tape { IfSome result (λ parts. parts.0 ≡ taker.tape) }

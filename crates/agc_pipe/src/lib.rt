@@ -2,7 +2,6 @@
 #![tactic(auto)]
 
 mod display;
-mod gate;
 mod item;
 mod keys;
 mod live;
@@ -16,7 +15,7 @@ mod shown;
 #[cfg(test)]
 mod tests;
 
-pub use gate::{Gate, Open};
+pub use agc_gate::{Gate, Open};
 pub use item::{BLOCK, Item};
 pub use live::{Live, run_live};
 pub use receiver::Receiver;

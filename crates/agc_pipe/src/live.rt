@@ -1,9 +1,10 @@
 //! A live run: the machine takes keys while it runs, which the display's thread feeds it through a
 //! ring of their own.
-ghost use Rattle.std.specs.Prelude.{◌≡◌, ◌<◌, ◌≤◌, ◌⊎◌, ◌↔◌, [], ◌++◌, true, false, map, IfOk, IfErr, IsErrOf, Some};
+ghost use Rattle.std.specs.Prelude.{◌≡◌, ◌<◌, ◌≤◌, ◌⊎◌, ◌↔◌, [], ◌++◌, true, false, map, IfOk};
+ghost use Rattle.std.specs.Prelude.{IfErr, IsErrOf, Some};
 ghost use Rattle.agc_machine.specs.Run.{run_of};
-ghost use Rattle.agc_machine.specs.State.{State};
-ghost use Rattle.agc_machine.specs.Taken.{IsAtStart, IsTakenTape, replayed};
+ghost use Rattle.agc_machine.specs.State.{State, IsAtStart};
+ghost use Rattle.agc_machine.specs.Taken.{IsTakenTape, replayed};
 ghost use Rattle.agc_panel.specs.Face.{panel_of};
 ghost use Rattle.agc_pipe.specs.Keys.{Taking, key_in};
 ghost use Rattle.agc_pipe.specs.Live.{IsSentLive, ShowsLive};
@@ -13,13 +14,13 @@ ghost use Rattle.agc_pipe.specs.Shown.{has_end, shown_in};
 ghost use Rattle.agc_pipe.specs.declared.shown.ShowFault.TheVariants as fault;
 
 use crate::display::{Taken, take_all};
-use crate::gate::Gate;
 use crate::keys::{KeyFeed, KeyTaker, link_keys, part_keys};
 use crate::live_sending::{LiveSent, send_live_run};
 use crate::receiver::Receiver;
 use crate::ring::MOST_SLOTS;
 use crate::sender::Sender;
 use crate::shown::{ShowFault, Shown, link_shown, put_together};
+use agc_gate::Gate;
 use agc_machine::Machine;
 use agc_script::{Key, Tape};
 use std::alloc::Global;
@@ -53,11 +54,11 @@ impl Promise<LiveSent> for SendsLiveRun {
     ghost kept_by = { λ promise live. IsSentLive promise.machine.value promise.sender.value promise.taker.value live };
 }
 
-/// Runs a fresh machine to its stop on a thread of its own, as `run_shown` does, while the display's
-/// thread feeds it keys, of which it takes one only where at least `spacing` machine cycles have
-/// passed since the last. Whatever the schedule of the two threads, what is shown is the run on the
-/// machine's script merged with the tape of the keys that were taken, each at its own cycle; the
-/// tape's keys and then the rest are the keys handed in.
+/// Runs a fresh machine to its stop on a thread of its own, as `run_shown` does, while the
+/// display's thread feeds it keys, of which it takes one only where at least `spacing` machine
+/// cycles have passed since the last. Whatever the schedule of the two threads, what is shown is
+/// the run on the machine's script merged with the tape of the keys that were taken, each at its
+/// own cycle; the tape's keys and then the rest are the keys handed in.
 pub fn run_live<R: Threads + Wait + Sync, G: Gate + Sync>(
     rt: &R,
     alloc: Global,
@@ -68,15 +69,21 @@ pub fn run_live<R: Threads + Wait + Sync, G: Gate + Sync>(
     gate: &G,
 ) -> Result<Live, ShowFault>
     requires { machine.begun ≡ false }
-    ensures log { IfOk result (λ live. live.shown.log.items ≡ (run_of (replayed live.tape machine)).writes) }
-    ensures panel { IfOk result (λ live. live.shown.panel ≡ panel_of (run_of (replayed live.tape machine)).writes) }
-    ensures store { IfOk result (λ live. live.shown.store ≡ (run_of (replayed live.tape machine)).last.processor.store) }
-    ensures stop { IfOk result (λ live. (run_of (replayed live.tape machine)).last.stopped ≡ Some live.shown.stop) }
-    ensures cycle { IfOk result (λ live. live.shown.cycle ≡ (run_of (replayed live.tape machine)).last.cycle) }
+    ensures log { IfOk result
+        (λ live. live.shown.log.items ≡ (run_of (replayed live.tape machine)).writes) }
+    ensures panel { IfOk result
+        (λ live. live.shown.panel ≡ panel_of (run_of (replayed live.tape machine)).writes) }
+    ensures store { IfOk result
+        (λ live. live.shown.store ≡ (run_of (replayed live.tape machine)).last.processor.store) }
+    ensures stop { IfOk result
+        (λ live. (run_of (replayed live.tape machine)).last.stopped ≡ Some live.shown.stop) }
+    ensures cycle { IfOk result
+        (λ live. live.shown.cycle ≡ (run_of (replayed live.tape machine)).last.cycle) }
     ensures tape { IfOk result (λ live. IsTakenTape spacing machine live.tape) }
     ensures keys { IfOk result (λ live. map key_in live.tape ++ live.rest.items ≡ keys.items) }
     ensures slots { IsErrOf result fault.Slots ↔ ((slots ≡ 0) ⊎ (65536 < slots)) }
-    ensures spacing { IsErrOf result fault.Spacing ↔ ((spacing ≡ 0) × (0 < slots) × (slots ≤ 65536)) }
+    ensures spacing { IsErrOf result fault.Spacing
+        ↔ ((spacing ≡ 0) × (0 < slots) × (slots ≤ 65536)) }
 {
     if slots == 0 || slots > MOST_SLOTS {
         return Err(ShowFault::Slots);
@@ -90,14 +97,29 @@ pub fn run_live<R: Threads + Wait + Sync, G: Gate + Sync>(
         Ok(ends) => ends,
         Err(why) => return Err(why),
     };
-    let Ok((feed, taker)) = link_keys(alloc, keys, spacing) else {
-        return Err(ShowFault::Memory);
+    let (feed, taker) = match link_fed(alloc, keys, spacing) {
+        Ok(ends) => ends,
+        Err(why) => return Err(why),
     };
     show_live_between(rt, alloc, machine, gate, sender, receiver, feed, taker)
 }
 
-/// Runs the machine into one end of a ring and shows what comes out at the other, with keys going the
-/// other way through theirs.
+/// The two ends of a new key ring for a live run.
+fn link_fed(alloc: Global, keys: Vec<Key>, spacing: u64) -> Result<(KeyFeed, KeyTaker), ShowFault>
+    requires { 0 < spacing }
+    ensures ring { IfOk result (λ ends. ends.0.ring ≡ ends.1.ring) }
+    ensures keys { IfOk result (λ ends. ends.0.keys ≡ keys.items) }
+    ensures taker { IfOk result (λ ends. (ends.1.spacing ≡ spacing) × (ends.1.tape ≡ [])) }
+    ensures fault { IfErr result (λ why. why ≡ fault.Memory) }
+{
+    match link_keys(alloc, keys, spacing) {
+        Ok(ends) => Ok(ends),
+        Err(_) => Err(ShowFault::Memory),
+    }
+}
+
+/// Runs the machine into one end of a ring and shows what comes out at the other, with keys going
+/// the other way through theirs.
 fn show_live_between<R: Threads + Wait + Sync, G: Gate + Sync>(
     rt: &R,
     alloc: Global,
@@ -126,9 +148,11 @@ fn show_live_between<R: Threads + Wait + Sync, G: Gate + Sync>(
         thread::scope_env(),
         rt,
         |scope| -> Result<Live, ShowFault>
-            requires ring { (sender.ring ≡ receiver.ring) × (sender.sent ≡ []) × (receiver.received ≡ []) }
+            requires ring { (sender.ring ≡ receiver.ring) × (sender.sent ≡ [])
+                × (receiver.received ≡ []) }
             requires keys { IsAtStart machine × (feed.ring ≡ taker.ring) × (taker.tape ≡ []) }
-            requires promise { (promise.machine.value ≡ machine) × (promise.sender.value ≡ sender) × (promise.taker.value ≡ taker) }
+            requires promise { (promise.machine.value ≡ machine) × (promise.sender.value ≡ sender)
+                × (promise.taker.value ≡ taker) }
             ensures live { IfOk result (ShowsLive machine taker.spacing feed.keys) }
             ensures fault { IfErr result (λ why. (why ≡ fault.Memory) ⊎ (why ≡ fault.Thread)) }
         {
@@ -154,7 +178,8 @@ fn put_live_together(live: LiveSent, taken: Taken, feed: KeyFeed) -> Result<Live
     requires end { has_end taken.receiver.received ≡ true }
     requires shown { IsShowing taken.screen (shown_in taken.receiver.received) }
     requires key_ring { feed.ring ≡ live.taker.ring }
-    ensures live { (start : State) (sender : Sending) (keys : Taking) → IsSentLive start sender keys live
+    ensures live { (start : State) (sender : Sending) (keys : Taking)
+        → IsSentLive start sender keys live
         → IfOk result (ShowsLive start keys.spacing feed.keys) }
     ensures fault { IfErr result (λ why. why ≡ fault.Memory) }
 {

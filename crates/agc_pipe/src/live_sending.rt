@@ -4,15 +4,14 @@ ghost use Rattle.std.specs.Prelude.{◌≡◌, [], ◌∷◌, ◌++◌, List};
 ghost use Rattle.agc_machine.specs.Laws.{HasChannel, KeepsStop};
 ghost use Rattle.agc_machine.specs.Live.{IsLive};
 ghost use Rattle.agc_machine.specs.Replay.{writes_in};
-ghost use Rattle.agc_machine.specs.State.{State};
-ghost use Rattle.agc_machine.specs.Taken.{IsAtStart};
+ghost use Rattle.agc_machine.specs.State.{State, IsAtStart};
 ghost use Rattle.agc_machine.specs.declared.answer.ChannelWrite.{ChannelWrite};
 ghost use Rattle.agc_pipe.specs.Live.{IsSentLive};
 
-use crate::gate::Gate;
 use crate::keys::KeyTaker;
 use crate::sender::Sender;
 use crate::sending::{Outgoing, Sent};
+use agc_gate::Gate;
 use agc_machine::{Machine, Stepped};
 use std::sync::Wait;
 
@@ -60,7 +59,8 @@ pub(crate) fn send_live_run<R: Wait, G: Gate>(
 /// Gives the machine a key, where one is to be had now; else goes on to the next write, the stop or
 /// the next look for a key.
 fn go_on(machine: &mut Machine, taker: &mut KeyTaker) -> Stepped
-    ensures live { (start : State) (writes : List ChannelWrite) → IsLive start taker.old.tape writes machine.old
+    ensures live { (start : State) (writes : List ChannelWrite)
+        → IsLive start taker.old.tape writes machine.old
         → IsLive start taker.new.tape (writes ++ writes_in (result ∷ [])) machine.new }
     ensures channel { HasChannel result }
     ensures stop { KeepsStop (machine.new, result) }

@@ -29,18 +29,24 @@ impl Receiver {
 
     /// The next item, where one is there.
     pub fn try_next(&mut self) -> Option<Item>
-        ensures some { IfSome result (λ item. self.new ≡ record self.old { received = self.old.received ++ item ∷ [] }) }
+        ensures some { IfSome result
+            (λ item. self.new ≡ record self.old { received = self.old.received ++ item ∷ [] }) }
         ensures outside { IfSome result IsOutside }
         ensures none { IfNone result (self.new ≡ self.old) }
     {
         self.consumer.pop().ok()
     }
 
-    /// Appends the next items to a block, as many as are there and as it has room for, and tells how
-    /// many those are.
+    /// Appends the next items to a block, as many as are there and as it has room for, and tells
+    /// how many those are.
     pub fn next_block(&mut self, block: &mut ArrayVec<Item, 64>) -> usize
-        ensures received { self.new ≡ record self.old { received = self.old.received ++ drop (array_vec_len block.old) block.new.items } }
-        ensures block { block.new.items ≡ block.old.items ++ drop (array_vec_len block.old) block.new.items }
+        ensures received { self.new
+            ≡ record self.old {
+              received = self.old.received
+                  ++ drop (array_vec_len block.old) block.new.items;
+            } }
+        ensures block { block.new.items ≡ block.old.items
+            ++ drop (array_vec_len block.old) block.new.items }
         ensures count { array_vec_len block.new ≡ array_vec_len block.old + result }
         ensures outside { All IsOutside (drop (array_vec_len block.old) block.new.items) }
     {

@@ -21,11 +21,13 @@ impl Model for Sender {
 
     ghost view = { λ s. record { ring = ring_of s.producer.end; slots = producer_capacity s.producer; sent = sent s.producer } };
 
-    ghost invariant = { λ s. (0 < producer_capacity s.producer) × (producer_capacity s.producer ≤ 65536) };
+    ghost invariant = { λ s. (0 < producer_capacity s.producer)
+        × (producer_capacity s.producer ≤ 65536) };
 }
 
 impl Sender {
-    ghost use Rattle.std.specs.Prelude.{◌≡◌, ◌<◌, ◌≤◌, [], ◌∷◌, ◌++◌, length, All, OnOk, IfErr, IsTrue, IsFalse};
+    ghost use Rattle.std.specs.Prelude.{◌≡◌, ◌<◌, ◌≤◌, [], ◌∷◌, ◌++◌, length, All, OnOk, IfErr};
+    ghost use Rattle.std.specs.Prelude.{IsTrue, IsFalse};
     ghost use Rattle.agc_pipe.specs.Item.{IsOutside};
 
     /// How many items the ring holds at most, 1 to 65,536.
@@ -40,7 +42,8 @@ impl Sender {
     /// Sends an item, or gives it back where no slot is free; nothing was sent then.
     pub fn try_send(&mut self, item: Item) -> Result<(), Item>
         requires { IsOutside item }
-        ensures ok { OnOk result (self.new ≡ record self.old { sent = self.old.sent ++ item ∷ [] }) }
+        ensures ok { OnOk result
+            (self.new ≡ record self.old { sent = self.old.sent ++ item ∷ [] }) }
         ensures err { IfErr result (λ back. (back ≡ item) × (self.new ≡ self.old)) }
     {
         match self.producer.push(item) {
@@ -49,14 +52,15 @@ impl Sender {
         }
     }
 
-    /// Sends all items of a block, or none where they do not all fit. A block has 1 to 64 items, and
-    /// no more than the ring holds.
+    /// Sends all items of a block, or none where they do not all fit. A block has 1 to 64 items,
+    /// and no more than the ring holds.
     pub fn send_block(&mut self, items: &[Item]) -> bool
         requires some { 0 < length items.now }
         requires block { length items.now ≤ 64 }
         requires fits { length items.now ≤ self.old.slots }
         requires outside { All IsOutside items.now }
-        ensures sent { IsTrue result → self.new ≡ record self.old { sent = self.old.sent ++ items.now } }
+        ensures sent { IsTrue result → self.new
+            ≡ record self.old { sent = self.old.sent ++ items.now } }
         ensures none { IsFalse result → self.new ≡ self.old }
     {
         self.producer.push_entire_slice(items).is_ok()

@@ -1,13 +1,14 @@
-//! The machine's thread: it runs the machine to its stop and sends each channel write, then the end.
+//! The machine's thread: it runs the machine to its stop and sends each channel write, then the
+//! end.
 ghost use Rattle.std.specs.Prelude.{◌≡◌, ◌<◌, ◌≤◌, [], ◌∷◌, ◌++◌, length, All, Some};
 ghost use Rattle.agc_machine.specs.Run.{run_of};
 ghost use Rattle.agc_pipe.specs.Item.{IsOutside};
 ghost use Rattle.agc_pipe.specs.Shown.{items_of};
 ghost use Rattle.arrayvec.specs.ArrayVec.{array_vec_len};
 
-use crate::gate::Gate;
 use crate::item::{BLOCK, Item};
 use crate::sender::Sender;
+use agc_gate::Gate;
 use agc_machine::{ChannelWrite, Machine, Next, Stop};
 use arrayvec::ArrayVec;
 use std::marker::Model;
@@ -70,7 +71,8 @@ impl Model for Outgoing {
 
     ghost view = { λ o. record o.sender { sent = o.sender.sent ++ o.block.items } };
 
-    ghost invariant = { λ o. All IsOutside o.block.items × (array_vec_len o.block < 64) × (array_vec_len o.block < o.sender.slots) };
+    ghost invariant = { λ o. All IsOutside o.block.items × (array_vec_len o.block < 64)
+        × (array_vec_len o.block < o.sender.slots) };
 }
 
 impl Outgoing {
@@ -114,7 +116,7 @@ impl Outgoing {
     }
 }
 
-/// Sends a block whole, and leaves it empty. The gate is told of each of its writes before; answers
+/// Sends a block whole, and leaves it empty. The gate is told of each of its writes before. Returns
 /// how many writes it was told of.
 fn send<R: Wait, G: Gate>(
     rt: &R,

@@ -1,5 +1,6 @@
 //! A run shown: the machine on a thread of its own, the display on the caller's, a ring between.
-ghost use Rattle.std.specs.Prelude.{◌≡◌, ◌≢◌, ◌<◌, ◌⊎◌, ◌↔◌, [], true, false, IfOk, IfErr, IsErrOf, Some, Err};
+ghost use Rattle.std.specs.Prelude.{◌≡◌, ◌≢◌, ◌<◌, ◌⊎◌, ◌↔◌, [], true, false, IfOk, IfErr, IsErrOf};
+ghost use Rattle.std.specs.Prelude.{Some, Err};
 ghost use Rattle.agc_machine.specs.Run.{Run, run_of};
 ghost use Rattle.agc_panel.specs.Face.{panel_of};
 ghost use Rattle.agc_pipe.specs.Screen.{IsShowing};
@@ -7,13 +8,13 @@ ghost use Rattle.agc_pipe.specs.Shown.{IsSentRun, ShowsRun, has_end, items_of, s
 ghost use Rattle.agc_pipe.specs.declared.shown.ShowFault.TheVariants as fault;
 
 use crate::display::{Screen, Taken, take_all};
-use crate::gate::Gate;
 use crate::keys::NoKeys;
 use crate::receiver::Receiver;
 use crate::rest::rejoin;
 use crate::ring::{LinkFault, link};
 use crate::sender::Sender;
 use crate::sending::{Sent, send_run};
+use agc_gate::Gate;
 use agc_machine::{ChannelWrite, Machine, Stop};
 use agc_panel::Panel;
 use agc_store::Store;
@@ -62,7 +63,8 @@ impl Promise<Sent> for SendsRun {
     ghost use Rattle.agc_machine.specs.Run.{run_of};
     ghost use Rattle.agc_pipe.specs.Shown.{IsSentRun};
 
-    ghost kept_by = { λ promise sent. IsSentRun (run_of promise.machine.value) promise.sender.value sent };
+    ghost kept_by = { λ promise sent. IsSentRun
+        (run_of promise.machine.value) promise.sender.value sent };
 }
 
 /// Runs a fresh machine to its stop on a thread of its own, and shows its channel writes on the
@@ -128,7 +130,8 @@ fn show_between<R: Threads + Wait + Sync, G: Gate + Sync>(
         thread::scope_env(),
         rt,
         |scope| -> Result<Shown, ShowFault>
-            requires { (sender.ring ≡ receiver.ring) × (sender.sent ≡ []) × (receiver.received ≡ []) × (promise.machine.value ≡ machine) × (promise.sender.value ≡ sender) }
+            requires { (sender.ring ≡ receiver.ring) × (sender.sent ≡ []) × (receiver.received ≡ [])
+                × (promise.machine.value ≡ machine) × (promise.sender.value ≡ sender) }
             ensures shown { IfOk result (ShowsRun (run_of machine)) }
             ensures fault { IfErr result (λ why. (why ≡ fault.Memory) ⊎ (why ≡ fault.Thread)) }
         {
@@ -152,7 +155,8 @@ pub(crate) fn put_together(sent: Sent, taken: Taken) -> Result<Shown, ShowFault>
     requires ring { sent.sender.ring ≡ taken.receiver.ring }
     requires end { has_end taken.receiver.received ≡ true }
     requires shown { IsShowing taken.screen (shown_in taken.receiver.received) }
-    ensures shown { (run : Run) → (sent.sender.sent ≡ items_of run.writes) × (sent.machine ≡ run.last) × (run.last.stopped ≡ Some sent.stop)
+    ensures shown { (run : Run) → (sent.sender.sent ≡ items_of run.writes)
+        × (sent.machine ≡ run.last) × (run.last.stopped ≡ Some sent.stop)
         → IfOk result (ShowsRun run) }
     ensures fault { IfErr result (λ why. why ≡ fault.Memory) }
 {

@@ -1,6 +1,6 @@
 //! The ring at work: slots, blocks, and what is left when both ends come together.
-mod gates;
 mod live;
+mod memory;
 mod shown;
 
 ghost use Rattle.std.specs.Prelude.{◌≡◌};

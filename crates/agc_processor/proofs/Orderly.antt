@@ -1,15 +1,18 @@
--- Every order that runs takes at least a cycle and at most six, and shows a channel from 5 to 777 octal.
-use Rattle.std.proofs.Common.{◌≡◌, ℕ, ◌<◌, Bool, true, false, Option, Some, None, arith, lit≤, refl}
-use Rattle.std.specs.Prelude.{nat_lt, if◌then◌else◌}
+-- Every order that runs takes at least a cycle and at most six, and shows a channel that outside
+-- sees.
+use Rattle.std.proofs.Common.{◌≡◌, ℕ, Bool, true, false, Option, Some, None, arith, lit≤, refl}
+use Rattle.std.specs.Prelude.{if◌then◌else◌}
 use Rattle.std.proofs.lemmas.Bool.Decides.{nat_tests}
+use Rattle.agc_word.specs.Channels.{is_io_channel}
 use Rattle.agc_word.specs.Number.{Number}
-use Rattle.agc_processor.specs.declared.order.Basic.{Basic}
-use Rattle.agc_processor.specs.declared.order.Basic.TheVariants as basic
-use Rattle.agc_processor.specs.declared.order.Extracode.{Extracode}
-use Rattle.agc_processor.specs.declared.order.Extracode.TheVariants as extra
+use Rattle.agc_order.specs.declared.order.Basic.{Basic}
+use Rattle.agc_order.specs.declared.order.Basic.TheVariants as basic
+use Rattle.agc_order.specs.declared.order.Extracode.{Extracode}
+use Rattle.agc_order.specs.declared.order.Extracode.TheVariants as extra
 use Rattle.agc_processor.specs.declared.processor.Processor.{Processor}
 use Rattle.agc_processor.specs.declared.processor.Ran.TheVariants as ran
-use Rattle.agc_processor.specs.Effect.{basic_effect, extracode_effect, order_effect, IsOrderly, branches, divides, shows, channel_number, short_address, is_zero, is_minus_or_plus_zero}
+use Rattle.agc_processor.specs.Signs.{is_zero, is_minus_or_plus_zero}
+use Rattle.agc_processor.specs.Effect.{basic_effect, extracode_effect, order_effect, IsOrderly, branches, divides, shows, write_cycles, channel_number, short_address}
 use Rattle.agc_processor.specs.Processor.{a_of}
 use Rattle.agc_processor.specs.Channel.{write_order, wand_order, wor_order}
 use Rattle.agc_processor.specs.Extra.{dv_of}
@@ -22,12 +25,13 @@ divides-orderly : (after : Option Processor) (p : Processor) → IsOrderly (divi
 divides-orderly (Some after) p = (lit≤ tt, lit≤ tt)
 divides-orderly None p = tt
 
-shown : (b : Bool) (h : ℕ) (value : Number) → nat_lt h 5 ≡ b → h < 512 → IsOrderly (if b then ran.Quiet 2 else ran.Wrote h value)
-shown true h value e l = (lit≤ tt, lit≤ tt)
-shown false h value e l = (grind (arith, nat_tests), l)
+shown-orderly : (b : Bool) (h : ℕ) (value : Number) → is_io_channel h ≡ b →
+    IsOrderly (if b then ran.Wrote h value else ran.Quiet write_cycles)
+shown-orderly true h value e = (grind (arith, nat_tests), grind (arith, nat_tests))
+shown-orderly false h value e = (lit≤ tt, lit≤ tt)
 
-shows-orderly : (h : ℕ) (p : Processor) → h < 512 → IsOrderly (shows h p).1
-shows-orderly h p l = shown (nat_lt h 5) h _ refl l
+shows-orderly : (h : ℕ) (p : Processor) → IsOrderly (shows h p).1
+shows-orderly h p = shown-orderly (is_io_channel h) h _ refl
 
 -- what any order does is orderly
 basic-orderly : (o : Basic) (p : Processor) → IsOrderly (basic_effect o p).1
@@ -37,9 +41,9 @@ basic-orderly o p = (lit≤ tt, lit≤ tt)
 
 extracode-orderly : (o : Extracode) (c : ℕ) (p : Processor) → IsOrderly (extracode_effect o c p).1
 unfolding extracode_effect
-extracode-orderly extra.Write c p = shows-orderly (channel_number p) (write_order c (channel_number p) p) (omega arith)
-extracode-orderly extra.Wand c p = shows-orderly (channel_number p) (wand_order c (channel_number p) p) (omega arith)
-extracode-orderly extra.Wor c p = shows-orderly (channel_number p) (wor_order c (channel_number p) p) (omega arith)
+extracode-orderly extra.Write c p = shows-orderly (channel_number p) (write_order c (channel_number p) p)
+extracode-orderly extra.Wand c p = shows-orderly (channel_number p) (wand_order c (channel_number p) p)
+extracode-orderly extra.Wor c p = shows-orderly (channel_number p) (wor_order c (channel_number p) p)
 extracode-orderly extra.Edrupt c p = tt
 extracode-orderly extra.Dv c p = divides-orderly (dv_of (short_address p) p) p
 extracode-orderly extra.Bzf c p = branches-orderly (is_zero (a_of p)) p

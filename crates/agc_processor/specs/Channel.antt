@@ -1,84 +1,150 @@
--- The channels as a program and a script see them, and the orders that read and write them. h is the channel's number.
-use Rattle.std.specs.Prelude.{ℕ, ◌*◌, ◌/◌, ◌%◌, ◌==◌, ◌&&◌, not, List, get_or, set, if◌then◌else◌}
+-- The channels as a program and a script see them, and the orders that read and write them. h is
+-- the channel's number.
+use Rattle.std.specs.Prelude.{ℕ, ◌*◌, ◌/◌, ◌%◌, ◌==◌, ◌&&◌, not, Bool, get_or, set, if◌then◌else◌}
 use Rattle.agc_word.specs.Number.{Number, pattern_of, bit_of}
 use Rattle.agc_word.specs.Arithmetic.{narrow_of}
 use Rattle.agc_store.specs.Cells.{narrow_number, superbank_set}
 use Rattle.agc_processor.specs.declared.processor.Processor.{Processor}
-use Rattle.agc_processor.specs.Processor.{plus_zero, a_of, l_of, q_of, set_a, set_l, set_q}
-use Rattle.agc_processor.specs.Logic.{and_words, or_words, xor_words}
+use Rattle.agc_processor.specs.Period.{pulses_at, scaler_period, time6_period}
+use Rattle.agc_processor.specs.Signs.{plus_zero}
+use Rattle.agc_processor.specs.Processor.{◌▷◌, a_of, l_of, q_of, set_a, set_l, set_q}
+use Rattle.agc_processor.specs.Logic.{and_words_of, or_words_of, xor_words_of}
 
--- the content of a channel's cell
-abbrev pub channel_cell : ℕ → List Number → Number
-channel_cell h cells = get_or cells h plus_zero
+-- L and Q, which are channels too
+abbrev pub l_channel : ℕ
+l_channel = 0o1
 
--- The scaler counts periods of 320 pulses; a cycle has 12 pulses.
+abbrev pub q_channel : ℕ
+q_channel = 0o2
+
+-- the scaler, in two halves
+abbrev pub high_scaler_channel : ℕ
+high_scaler_channel = 0o3
+
+abbrev pub low_scaler_channel : ℕ
+low_scaler_channel = 0o4
+
+-- the superbank's channel, and the one with TIME6's switch
+abbrev pub superbank_channel : ℕ
+superbank_channel = 0o7
+
+abbrev pub time6_channel : ℕ
+time6_channel = 0o13
+
+-- the code of the key that was pressed last
+abbrev pub keyboard_channel : ℕ
+keyboard_channel = 0o15
+
+-- the inputs from the spacecraft, of which the third has the PRO key
+abbrev pub input_channel_30 : ℕ
+input_channel_30 = 0o30
+
+abbrev pub input_channel_31 : ℕ
+input_channel_31 = 0o31
+
+abbrev pub input_channel_32 : ℕ
+input_channel_32 = 0o32
+
+abbrev pub input_channel_33 : ℕ
+input_channel_33 = 0o33
+
+-- the word in a channel's cell, and the state where the cell has taken another
+abbrev pub channel_cell : ℕ → Processor → Number
+channel_cell h p = get_or p.channels h plus_zero
+
+abbrev pub set_channel_cell : ℕ → Number → Processor → Processor
+set_channel_cell h w p = record p { channels = set p.channels h w }
+
+-- the periods that the scaler has counted
 abbrev pub scaler : ℕ → ℕ
-scaler cycle = 12 * cycle / 320
+scaler cycle = pulses_at cycle / scaler_period
 
--- What a channel shows at a cycle: 1 is L and 2 is Q, 4 and 3 the scaler's low and high fourteen digits, any other a cell.
+-- What a channel shows at a cycle: L, Q, the scaler's high or low fourteen digits, else its cell.
 unfoldable pub channel_word : ℕ → ℕ → Processor → Number
 channel_word cycle h p =
-    if h == 1 then l_of p
-    else if h == 2 then q_of p
-    else if h == 3 then narrow_number (scaler cycle / 16384 % 16384)
-    else if h == 4 then narrow_number (scaler cycle % 16384)
-    else channel_cell h p.channels
+    if h == l_channel then l_of p
+    else if h == q_channel then q_of p
+    else if h == high_scaler_channel then narrow_number (scaler cycle / 0o40000 % 0o40000)
+    else if h == low_scaler_channel then narrow_number (scaler cycle % 0o40000)
+    else channel_cell h p
 
--- Channel 7 keeps bits 7 to 5, of which bit 7 is the superbank.
+-- the superbank goes on or off
+abbrev pub set_superbank : Bool → Processor → Processor
+set_superbank on p = record p { store = superbank_set p.store on }
+
+-- The superbank's channel keeps bits 7 to 5, of which bit 7 is the superbank.
 abbrev pub superbank_switched : Number → Processor → Processor
 superbank_switched w p =
-    record p { channels = set p.channels 7 (narrow_number (pattern_of 15 w / 16 % 8 * 16)); store = superbank_set p.store (bit_of 7 w == 1) }
+    let kept = narrow_number (pattern_of 15 w / 0o20 % 0o10 * 0o20) in
+    p ▷ set_channel_cell superbank_channel kept ▷ set_superbank (bit_of 7 w == 1)
 
--- TIME6's periods of 640 pulses go by the scaler, on or off: where bit 15 of channel 13 octal goes from off to on, all that have gone by
--- are taken as counted.
+-- TIME6's switch is bit 15 of its channel's word.
+abbrev pub switch_word : Processor → Number
+switch_word p = channel_cell time6_channel p
+
+abbrev pub is_on : Number → Bool
+is_on switch = bit_of 15 switch == 1
+
+-- the periods of TIME6 that have gone by, whether it was on or off
+abbrev pub time6_periods : ℕ → ℕ
+time6_periods cycle = pulses_at cycle / time6_period
+
+-- Where the switch goes from off to on, all periods that have gone by are taken as counted.
 abbrev pub mark_after : ℕ → Number → Number → ℕ → ℕ
-mark_after cycle old new mark = if (bit_of 15 new == 1) && not (bit_of 15 old == 1) then 12 * cycle / 640 else mark
+mark_after cycle old new mark = if is_on new && not (is_on old) then time6_periods cycle else mark
+
+abbrev pub set_mark : ℕ → Processor → Processor
+set_mark mark p = record p { timers = record p.timers { mark = mark } }
 
 abbrev pub time6_switched : ℕ → Number → Processor → Processor
 time6_switched cycle w p =
-    record p {
-      channels = set p.channels 11 w;
-      timers = record p.timers { mark = mark_after cycle (channel_cell 11 p.channels) w p.timers.mark };
-    }
+    p ▷ set_mark (mark_after cycle (switch_word p) w p.timers.mark)
+    ▷ set_channel_cell time6_channel w
 
 -- A word comes into a channel's cell, from the program or from outside.
 unfoldable pub set_channel : ℕ → ℕ → Number → Processor → Processor
 set_channel cycle h w p =
-    if h == 7 then superbank_switched w p
-    else if h == 11 then time6_switched cycle w p
-    else record p { channels = set p.channels h w }
+    if h == superbank_channel then p ▷ superbank_switched w
+    else if h == time6_channel then p ▷ time6_switched cycle w
+    else (p ▷ set_channel_cell h w)
 
--- What a program's write does: 1 sets L and 2 sets Q, the scaler ignores it, any other channel's cell takes the corrected word.
+-- What a program's write does: it sets L or Q, the scaler ignores it, and else the channel's cell
+-- takes the corrected word.
 unfoldable pub write_channel : ℕ → ℕ → Number → Processor → Processor
 write_channel cycle h w p =
-    if h == 1 then set_l (narrow_of w) p
-    else if h == 2 then set_q w p
-    else if h == 3 then p
-    else if h == 4 then p
-    else set_channel cycle h (narrow_of w) p
+    if h == l_channel then p ▷ set_l (narrow_of w)
+    else if h == q_channel then p ▷ set_q w
+    else if h == high_scaler_channel then p
+    else if h == low_scaler_channel then p
+    else (p ▷ set_channel cycle h (narrow_of w))
 
--- READ and WRITE
+-- READ sets A, and WRITE the channel.
 unfoldable pub read_order : ℕ → ℕ → Processor → Processor
-read_order cycle h p = set_a (channel_word cycle h p) p
+read_order cycle h p = p ▷ set_a (channel_word cycle h p)
 
 unfoldable pub write_order : ℕ → ℕ → Processor → Processor
-write_order cycle h p = write_channel cycle h (a_of p) p
+write_order cycle h p = p ▷ write_channel cycle h (a_of p)
 
--- RAND, ROR and RXOR set A alone; logic is wide on channel 2, which is Q.
+-- RAND, ROR and RXOR set A alone; logic is wide on Q.
 unfoldable pub rand_order : ℕ → ℕ → Processor → Processor
-rand_order cycle h p = set_a (and_words (h == 2) (a_of p) (channel_word cycle h p)) p
+rand_order cycle h p =
+    p ▷ set_a (and_words_of (h == q_channel) (a_of p) (channel_word cycle h p))
 
 unfoldable pub ror_order : ℕ → ℕ → Processor → Processor
-ror_order cycle h p = set_a (or_words (h == 2) (a_of p) (channel_word cycle h p)) p
+ror_order cycle h p =
+    p ▷ set_a (or_words_of (h == q_channel) (a_of p) (channel_word cycle h p))
 
 unfoldable pub rxor_order : ℕ → ℕ → Processor → Processor
-rxor_order cycle h p = set_a (xor_words (h == 2) (a_of p) (channel_word cycle h p)) p
+rxor_order cycle h p =
+    p ▷ set_a (xor_words_of (h == q_channel) (a_of p) (channel_word cycle h p))
 
 -- WAND and WOR put the result into the channel and into A, which takes it whole.
 unfoldable pub wand_order : ℕ → ℕ → Processor → Processor
 wand_order cycle h p =
-    let r = and_words (h == 2) (a_of p) (channel_word cycle h p) in set_a r (write_channel cycle h r p)
+    let r = and_words_of (h == q_channel) (a_of p) (channel_word cycle h p) in
+    p ▷ write_channel cycle h r ▷ set_a r
 
 unfoldable pub wor_order : ℕ → ℕ → Processor → Processor
 wor_order cycle h p =
-    let r = or_words (h == 2) (a_of p) (channel_word cycle h p) in set_a r (write_channel cycle h r p)
+    let r = or_words_of (h == q_channel) (a_of p) (channel_word cycle h p) in
+    p ▷ write_channel cycle h r ▷ set_a r

@@ -1,9 +1,10 @@
-pub mod Decode
+pub mod Signs
 pub mod Processor
 pub mod Logic
 pub mod Basic
 pub mod Double
 pub mod Extra
+pub mod Period
 pub mod Channel
 pub mod Effect
 pub mod Timer

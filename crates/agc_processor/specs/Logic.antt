@@ -4,14 +4,17 @@ use Rattle.agc_word.specs.Number.{Number}
 use Rattle.agc_word.specs.Arithmetic.{narrow_of}
 use Rattle.agc_word.specs.Logic.{and_of, or_of, xor_of}
 
-abbrev pub and_words : Bool → Number → Number → Number
-and_words true x y = and_of x y
-and_words false x y = and_of (narrow_of x) (narrow_of y)
+-- AND: 1 where both digits are 1
+abbrev pub and_words_of : Bool → Number → Number → Number
+and_words_of true x y = and_of x y
+and_words_of false x y = and_of (narrow_of x) (narrow_of y)
 
-abbrev pub or_words : Bool → Number → Number → Number
-or_words true x y = or_of x y
-or_words false x y = or_of (narrow_of x) (narrow_of y)
+-- OR: 1 where either is
+abbrev pub or_words_of : Bool → Number → Number → Number
+or_words_of true x y = or_of x y
+or_words_of false x y = or_of (narrow_of x) (narrow_of y)
 
-abbrev pub xor_words : Bool → Number → Number → Number
-xor_words true x y = xor_of x y
-xor_words false x y = xor_of (narrow_of x) (narrow_of y)
+-- exclusive OR: 1 where they differ
+abbrev pub xor_words_of : Bool → Number → Number → Number
+xor_words_of true x y = xor_of x y
+xor_words_of false x y = xor_of (narrow_of x) (narrow_of y)

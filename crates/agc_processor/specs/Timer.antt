@@ -1,79 +1,140 @@
--- The five timers, which count pulses: 12 pulses a cycle, 1,024,000 a second.
-use Rattle.std.specs.Prelude.{ℕ, ◌+◌, ◌-◌, ◌*◌, ◌/◌, ◌%◌, ◌==◌, ◌&&◌, Bool, true, set, Option, Some, None, nat_lt, nat_le, if◌then◌else◌}
-use Rattle.agc_word.specs.Number.{Number, pattern_of, bit_of}
+-- The five timers, which count pulses.
+use Rattle.std.specs.Prelude.{ℕ, ◌≤◌, ◌+◌, ◌*◌, ◌%◌, ◌^◌, ◌&&◌, ◌||◌, Bool}
+use Rattle.std.specs.Prelude.{Option, Some, None, option_map, nat_lt, nat_le, if◌then◌else◌}
+use Rattle.agc_word.specs.Number.{Number, pattern_of}
 use Rattle.agc_word.specs.Pulses.{pulsed}
 use Rattle.agc_word.specs.declared.pulse.Pulse.TheVariants as pulse
 use Rattle.agc_word.specs.declared.pulse.Carry.{Carry}
 use Rattle.agc_word.specs.declared.pulse.Carry.TheVariants as carry
-use Rattle.agc_store.specs.Cells.{narrow_number, cell_of, poke_of}
+use Rattle.agc_store.specs.Cells.{narrow_number, cell_of}
+use Rattle.agc_store.specs.Places.{time1_cell, time2_cell, time3_cell, time4_cell, time5_cell, time6_cell}
+use Rattle.agc_processor.specs.declared.interrupt.Rupt.{Rupt}
+use Rattle.agc_processor.specs.declared.interrupt.Rupt.TheVariants as rupt
 use Rattle.agc_processor.specs.declared.processor.Processor.{Processor}
-use Rattle.agc_processor.specs.Channel.{channel_cell}
+use Rattle.agc_processor.specs.declared.processor.Timers.{Timers}
+use Rattle.agc_processor.specs.declared.timer.Timer.{Timer}
+use Rattle.agc_processor.specs.declared.timer.Timer.TheVariants as timer
+use Rattle.agc_processor.specs.Channel.{set_channel_cell, is_on, switch_word, time6_channel, time6_periods}
+use Rattle.agc_processor.specs.Processor.{◌▷◌, poke}
+use Rattle.agc_processor.specs.Interrupt.{request}
+use Rattle.agc_processor.specs.Period.{pulses_at, timer_period, time1_first}
+use Rattle.agc_processor.specs.Period.{time3_first, time4_first, time5_first}
 
--- A timer steps every 10240 pulses: its next step is due where its first and all that were taken have gone by.
+-- A timer's next step is due where its first and all that were taken have gone by.
 abbrev pub is_due : ℕ → ℕ → ℕ → Bool
-is_due cycle first taken = nat_le (first + 10240 * taken) (12 * cycle)
+is_due cycle first taken = nat_le (first + timer_period * taken) (pulses_at cycle)
 
--- TIME6 counts every 640 pulses while bit 15 of channel 13 octal is on.
-abbrev pub is_time6_due : ℕ → Processor → Bool
-is_time6_due cycle p = (bit_of 15 (channel_cell 11 p.channels) == 1) && nat_lt p.timers.mark (12 * cycle / 640)
+-- TIME6's is due while it is on and a period has gone by that it has not counted.
+abbrev pub is_time6_due : ℕ → Timers → Number → Bool
+is_time6_due cycle t switch = is_on switch && nat_lt t.mark (time6_periods cycle)
 
--- an interrupt is requested by its number, from 1; a request that waits already stays one
-abbrev pub request : ℕ → Processor → Processor
-request n p = record p { timers = record p.timers { requests = set p.timers.requests (n - 1) true } }
+-- some timer's step is due at a cycle, where TIME6's switch is in this word
+abbrev pub is_any_due : ℕ → Timers → Number → Bool
+is_any_due cycle t switch =
+    is_due cycle time1_first t.time1 || is_due cycle time3_first t.time3
+    || is_due cycle time4_first t.time4 || is_due cycle time5_first t.time5
+    || is_time6_due cycle t switch
 
--- the word of a counter, which is a cell of bank 0, and the state where it has taken another
+-- no timer has taken more steps than can be counted with, which are more than any run takes
+abbrev pub IsCounted : Timers → Type 0
+IsCounted t =
+    (t.time1 ≤ 2 ^ 48) × (t.time3 ≤ 2 ^ 48) × (t.time4 ≤ 2 ^ 48) × (t.time5 ≤ 2 ^ 48)
+    × (t.mark ≤ 2 ^ 48)
+
+-- the steps that a timer has taken
+abbrev pub steps_of : Timer → Timers → ℕ
+steps_of timer.Time1 t = t.time1
+steps_of timer.Time3 t = t.time3
+steps_of timer.Time4 t = t.time4
+steps_of timer.Time5 t = t.time5
+steps_of timer.Time6 t = t.mark
+
+-- the word of a counter, and the state where it has taken another
 abbrev pub counter : ℕ → Processor → Number
 counter place p = cell_of p.store 0 place
 
-abbrev pub counted : ℕ → Number → Processor → Processor
-counted place w p = record p { store = poke_of p.store 0 place w }
+abbrev pub set_counter : ℕ → Number → Processor → Processor
+set_counter place w p = p ▷ poke 0 place w
 
 -- a carry asks for the interrupt
-abbrev pub carried : ℕ → Carry → Processor → Processor
-carried n carry.Out p = request n p
-carried n carry.None p = p
+abbrev pub carried : Rupt → Carry → Processor → Processor
+carried r carry.Out p = p ▷ request r
+carried r carry.None p = p
 
 -- a counter in bank 0 gains one, and its carry asks for an interrupt
-abbrev pub tick : ℕ → ℕ → Processor → Processor
-tick place n p = let stepped = pulsed pulse.Pinc (counter place p) in carried n stepped.1 (counted place stepped.0 p)
+abbrev pub tick : ℕ → Rupt → Processor → Processor
+tick place r p =
+    let stepped = pulsed pulse.Pinc (counter place p) in
+    p ▷ set_counter place stepped.0 ▷ carried r stepped.1
 
 -- TIME1's carry steps TIME2, at a cycle of its own; a carry of TIME2 is lost.
 abbrev pub time2_by : Carry → Processor → Processor × ℕ
-time2_by carry.Out p = (counted 0o24 (pulsed pulse.Pinc (counter 0o24 p)).0 p, 2)
+time2_by carry.Out p =
+    let stepped = pulsed pulse.Pinc (counter time2_cell p) in
+    (p ▷ set_counter time2_cell stepped.0, 2)
 time2_by carry.None p = (p, 1)
 
 -- TIME6 goes towards zero; the step that finds zero asks for T6RUPT and puts its switch off.
 abbrev pub switched_off : Carry → Processor → Processor
 switched_off carry.Out p =
-    request 1 (record p { channels = set p.channels 11 (narrow_number (pattern_of 15 (channel_cell 11 p.channels) % 16384)) })
+    let off = narrow_number (pattern_of 15 (switch_word p) % 0o40000) in
+    p ▷ set_channel_cell time6_channel off ▷ request rupt.T6rupt
 switched_off carry.None p = p
+
+-- one more step of a timer is taken
+abbrev pub time1_taken : Processor → Processor
+time1_taken p = record p { timers = record p.timers { time1 = p.timers.time1 + 1 } }
+
+abbrev pub time3_taken : Processor → Processor
+time3_taken p = record p { timers = record p.timers { time3 = p.timers.time3 + 1 } }
+
+abbrev pub time4_taken : Processor → Processor
+time4_taken p = record p { timers = record p.timers { time4 = p.timers.time4 + 1 } }
+
+abbrev pub time5_taken : Processor → Processor
+time5_taken p = record p { timers = record p.timers { time5 = p.timers.time5 + 1 } }
+
+abbrev pub time6_taken : Processor → Processor
+time6_taken p = record p { timers = record p.timers { mark = p.timers.mark + 1 } }
 
 -- a step of each timer, and the cycles that it takes
 unfoldable pub time1_step : Processor → Processor × ℕ
 time1_step p =
-    let stepped = pulsed pulse.Pinc (counter 0o25 p) in
-    time2_by stepped.1 (counted 0o25 stepped.0 (record p { timers = record p.timers { time1 = p.timers.time1 + 1 } }))
+    let stepped = pulsed pulse.Pinc (counter time1_cell p) in
+    p ▷ time1_taken ▷ set_counter time1_cell stepped.0 ▷ time2_by stepped.1
 
 unfoldable pub time3_step : Processor → Processor × ℕ
-time3_step p = (tick 0o26 3 (record p { timers = record p.timers { time3 = p.timers.time3 + 1 } }), 1)
+time3_step p = (p ▷ time3_taken ▷ tick time3_cell rupt.T3rupt, 1)
 
 unfoldable pub time4_step : Processor → Processor × ℕ
-time4_step p = (tick 0o27 4 (record p { timers = record p.timers { time4 = p.timers.time4 + 1 } }), 1)
+time4_step p = (p ▷ time4_taken ▷ tick time4_cell rupt.T4rupt, 1)
 
 unfoldable pub time5_step : Processor → Processor × ℕ
-time5_step p = (tick 0o30 2 (record p { timers = record p.timers { time5 = p.timers.time5 + 1 } }), 1)
+time5_step p = (p ▷ time5_taken ▷ tick time5_cell rupt.T5rupt, 1)
 
 unfoldable pub time6_step : Processor → Processor × ℕ
 time6_step p =
-    let stepped = pulsed pulse.Dinc (counter 0o31 p) in
-    (switched_off stepped.1 (counted 0o31 stepped.0 (record p { timers = record p.timers { mark = p.timers.mark + 1 } })), 1)
+    let stepped = pulsed pulse.Dinc (counter time6_cell p) in
+    (p ▷ time6_taken ▷ set_counter time6_cell stepped.0 ▷ switched_off stepped.1, 1)
 
--- The first timer whose step is due takes it. The first steps of TIME3, TIME4 and TIME5 are apart by quarters, as the hardware spreads them.
-unfoldable pub timer_stepped : ℕ → Processor → Option (Processor × ℕ)
-timer_stepped cycle p =
-    if is_due cycle 10240 p.timers.time1 then Some (time1_step p)
-    else if is_due cycle 10240 p.timers.time3 then Some (time3_step p)
-    else if is_due cycle 7680 p.timers.time4 then Some (time4_step p)
-    else if is_due cycle 5120 p.timers.time5 then Some (time5_step p)
-    else if is_time6_due cycle p then Some (time6_step p)
+-- the step of a timer
+abbrev pub timer_step : Timer → Processor → Processor × ℕ
+timer_step timer.Time1 p = time1_step p
+timer_step timer.Time3 p = time3_step p
+timer_step timer.Time4 p = time4_step p
+timer_step timer.Time5 p = time5_step p
+timer_step timer.Time6 p = time6_step p
+
+-- the first timer whose step is due, in the order in which the timers step
+unfoldable pub due_timer : ℕ → Processor → Option Timer
+due_timer cycle p =
+    if is_due cycle time1_first p.timers.time1 then Some timer.Time1
+    else if is_due cycle time3_first p.timers.time3 then Some timer.Time3
+    else if is_due cycle time4_first p.timers.time4 then Some timer.Time4
+    else if is_due cycle time5_first p.timers.time5 then Some timer.Time5
+    else if is_time6_due cycle p.timers (switch_word p) then Some timer.Time6
     else None
+
+-- The first timer whose step is due takes it.
+unfoldable pub timer_stepped : ℕ → Processor → Option (Processor × ℕ)
+timer_stepped cycle p = option_map (λ t. timer_step t p) (due_timer cycle p)

@@ -1,52 +1,14 @@
 //! The basic orders, up to the fetch of the order that follows.
-ghost use Rattle.std.specs.Prelude.{◌≡◌, ℕ, ◌<◌, ◌^◌};
-ghost use Rattle.agc_store.specs.Memory.{read_of};
-
 use crate::logic::and_words;
 use crate::processor::Processor;
-use crate::words::{orders_left_out, overflow_word, plus_one};
+use crate::signs::{orders_left_out, word_of_overflow};
 use agc_store::Addr;
+use agc_store::place::{A, BRUPT, ZRUPT};
 use agc_word::{Over, Wide, complement, dabs, sum, widen};
-
-/// ZRUPT, where an interrupt leaves Z.
-pub(crate) const ZRUPT: u16 = 0o15;
-/// BRUPT, where an interrupt leaves the order in hand.
-pub(crate) const BRUPT: u16 = 0o17;
 
 impl Processor {
     ghost use Rattle.std.specs.Prelude.{◌≡◌, ℕ, ◌<◌, ◌+◌, ◌%◌, false};
-    ghost use Rattle.agc_store.specs.Memory.{read_of};
-    ghost use Rattle.agc_processor.specs.Processor.{edit_again, skip, jump, fetched, names_wide as is_wide_place, names as is_place, put, set_a, a_of};
     ghost use Rattle.agc_processor.specs.Basic.{tc_of, ccs_of, tcf_of, lxch_of, incr_of, ads_of, ca_of, cs_of, index_of, resume_of, ts_of, ts_with_overflow, xch_of, ad_of, mask_of};
-
-    /// Reads a word; an editing register is edited again.
-    #[inline]
-    pub(crate) fn read_again(&mut self, k: Addr) -> Wide
-        ensures word { result ≡ read_of self.old.store k }
-        ensures after { self.new ≡ edit_again k self.old }
-    {
-        self.store.read_and_edit(k)
-    }
-
-    /// Leaves out so many of the orders that follow.
-    #[inline]
-    pub(crate) fn skip(&mut self, count: u8)
-        ensures { self.new ≡ skip count self.old }
-    {
-        let z = self.store.z();
-        self.store.set_z(z.skip(count));
-    }
-
-    /// Takes the word at Z in hand, and counts Z on.
-    #[inline]
-    #[tactic(auto, unfolding(crate::specs::Processor::fetched))]
-    pub(crate) fn fetch_next(&mut self)
-        ensures { self.new ≡ fetched self.old }
-    {
-        let z = self.store.z();
-        self.hand = self.store.fetch(z);
-        self.store.set_z(z.next());
-    }
 
     #[inline]
     #[tactic(auto, unfolding(crate::specs::Basic::tc_of))]
@@ -79,7 +41,7 @@ impl Processor {
 
     #[tactic(auto, unfolding(crate::specs::Basic::lxch_of))]
     pub(crate) fn lxch(&mut self, k: Addr)
-        requires { k < 1024 }
+        requires { k < 0o2000 }
         ensures { self.new ≡ lxch_of k self.old }
     {
         let x = self.store.read(k);
@@ -90,16 +52,16 @@ impl Processor {
 
     #[tactic(auto, unfolding(crate::specs::Basic::incr_of))]
     pub(crate) fn incr(&mut self, k: Addr)
-        requires { k < 1024 }
+        requires { k < 0o2000 }
         ensures { self.new ≡ incr_of k self.old }
     {
         let x = self.store.read(k);
-        self.store.write(k, sum(x, plus_one()));
+        self.store.write(k, sum(x, Wide::PLUS_ONE));
     }
 
     #[tactic(auto, unfolding(crate::specs::Basic::ads_of))]
     pub(crate) fn ads(&mut self, k: Addr)
-        requires { k < 1024 }
+        requires { k < 0o2000 }
         ensures { self.new ≡ ads_of k self.old }
     {
         let total = sum(self.store.a(), self.store.read(k));
@@ -150,7 +112,7 @@ impl Processor {
     #[inline]
     #[tactic(auto, unfolding(crate::specs::Basic::ts_of))]
     pub(crate) fn ts(&mut self, k: Addr)
-        requires { k < 1024 }
+        requires { k < 0o2000 }
         ensures { self.new ≡ ts_of k self.old }
     {
         let a = self.store.a();
@@ -164,40 +126,21 @@ impl Processor {
     /// A stays where K names A, else K takes it and A keeps its overflow alone.
     #[inline(never)]
     fn ts_with_overflow(&mut self, k: Addr)
-        requires { k < 1024 }
+        requires { k < 0o2000 }
         ensures { self.new ≡ ts_with_overflow k self.old }
     {
         let a = self.store.a();
-        let stays = self.names(0, k);
+        let stays = self.names(A, k);
         self.skip(1);
         if !stays {
             self.store.write(k, a);
-            self.store.set_a(overflow_word(a.over()));
+            self.store.set_a(word_of_overflow(a.over()));
         }
-    }
-
-    /// The address names this erasable cell.
-    #[inline]
-    fn names(&self, cell: u16, k: Addr) -> bool
-        ensures { result ≡ is_place cell k self.now }
-    {
-        match self.store.named_cell(k) {
-            Some(named) => named == cell,
-            None => false,
-        }
-    }
-
-    /// The address names A or Q.
-    #[inline]
-    fn names_wide(&self, k: Addr) -> bool
-        ensures { result ≡ is_wide_place k self.now }
-    {
-        self.names(0, k) || self.names(2, k)
     }
 
     #[tactic(auto, unfolding(crate::specs::Basic::xch_of))]
     pub(crate) fn xch(&mut self, k: Addr)
-        requires { k < 1024 }
+        requires { k < 0o2000 }
         ensures { self.new ≡ xch_of k self.old }
     {
         let x = self.store.read(k);

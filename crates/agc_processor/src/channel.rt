@@ -1,103 +1,142 @@
-//! The channels, and the orders that read and write them.
+//! The channels by the names of the field, and the orders that read and write them.
 ghost use Rattle.agc_store.specs.Cells.{narrow_number};
+ghost use Rattle.agc_processor.specs.Channel.{is_on};
 ghost use Rattle.std.specs.Prelude.{◌≡◌, ◌<◌, ◌≤◌, ◌^◌, ◌%◌};
 
 use crate::logic::{and_words, or_words, xor_words};
+use crate::period::{PULSES_IN_CYCLE, SCALER_PERIOD, TIME6_PERIOD};
 use crate::processor::Processor;
 use agc_word::{Narrow, Wide, widen};
 
-/// Channel 1 is L.
-const L: u16 = 0o1;
-/// Channel 2 is Q.
-const Q: u16 = 0o2;
-/// Channel 3 is the high half of the scaler.
-const HIGH_SCALER: u16 = 0o3;
-/// Channel 4 is the low half of the scaler.
-const LOW_SCALER: u16 = 0o4;
-/// Channel 7 has the superbank bit.
-const SUPERBANK: u16 = 0o7;
-/// Channel 13 has TIME6's switch.
-pub const TIME6_SWITCH: u16 = 0o13;
+/// L, which is a channel too.
+pub const L: u16 = 0o1;
+/// Q, which is a channel too.
+pub const Q: u16 = 0o2;
+/// The high half of the scaler.
+pub const HISCALAR: u16 = 0o3;
+/// The low half of the scaler.
+pub const LOSCALAR: u16 = 0o4;
+/// Bit 7 is the superbank.
+pub const SUPERBNK: u16 = 0o7;
+/// The relay words of the display.
+pub const OUT0: u16 = 0o10;
+/// The lamps of the display.
+pub const DSALMOUT: u16 = 0o11;
+/// Bit 15 is TIME6's switch.
+pub const CHAN13: u16 = 0o13;
+/// The code of the key that was pressed last.
+pub const MNKEYIN: u16 = 0o15;
+/// Inputs from the spacecraft, 0 where something is asserted.
+pub const CHAN30: u16 = 0o30;
+/// Further inputs from the spacecraft.
+pub const CHAN31: u16 = 0o31;
+/// Further inputs, of which bit 14 is the PRO key.
+pub const CHAN32: u16 = 0o32;
+/// Further inputs from the spacecraft.
+pub const CHAN33: u16 = 0o33;
 
 impl Processor {
     ghost use Rattle.std.specs.Prelude.{◌≡◌, ◌<◌, ◌≤◌, ◌^◌, ◌%◌};
-    ghost use Rattle.agc_processor.specs.Channel.{channel_word, channel_cell, superbank_switched, time6_switched, set_channel, write_channel, read_order, write_order, rand_order, ror_order, rxor_order, wand_order, wor_order};
+    ghost use Rattle.agc_processor.specs.Channel.{channel_word, channel_cell, set_channel_cell, switch_word, superbank_switched, time6_switched, set_channel, write_channel, read_order, write_order, rand_order, ror_order, rxor_order, wand_order, wor_order};
+
+    /// The word in a channel's cell, which the channels 1 to 4 do not show.
+    #[inline]
+    pub fn channel_cell(&self, h: u16) -> Narrow
+        requires { h < 0o1000 }
+        ensures { result ≡ channel_cell h self.now }
+    {
+        let cell = usize::from(h);
+        self.channels[cell]
+    }
+
+    /// Puts a word into a channel's cell; neither the superbank nor TIME6's switch follows.
+    #[inline]
+    pub fn set_channel_cell(&mut self, h: u16, word: Narrow)
+        requires { h < 0o1000 }
+        ensures { self.new ≡ set_channel_cell h word self.old }
+    {
+        self.channels[usize::from(h)] = word;
+    }
 
     /// The word that a channel shows at a cycle.
     #[tactic(auto, unfolding(crate::specs::Channel::channel_word))]
     pub fn channel(&self, cycle: u64, h: u16) -> Wide
-        requires channel { h < 512 }
+        requires channel { h < 0o1000 }
         requires cycle { cycle < 2 ^ 41 }
         ensures { result ≡ channel_word cycle h self.now }
     {
         match h {
             L => widen(self.store.l()),
             Q => self.store.q(),
-            HIGH_SCALER => scaler_word(12 * cycle / 320 / 16384),
-            LOW_SCALER => scaler_word(12 * cycle / 320),
-            _ => widen(self.channels[h as usize]),
+            HISCALAR => scaler_word(PULSES_IN_CYCLE * cycle / SCALER_PERIOD / 0o40000),
+            LOSCALAR => scaler_word(PULSES_IN_CYCLE * cycle / SCALER_PERIOD),
+            _ => widen(self.channel_cell(h)),
         }
     }
 
-    /// Puts a word into a channel's cell, as a script does too: channel 7 keeps its three bits,
-    /// and channel 13 octal has TIME6's switch.
+    /// Puts a word into a channel's cell, as a script does too: the superbank's channel keeps three
+    /// bits, and a word with TIME6's switch switches it.
     #[tactic(auto, unfolding(crate::specs::Channel::set_channel))]
     pub fn set_channel(&mut self, cycle: u64, h: u16, word: Narrow)
-        requires channel { h < 512 }
+        requires channel { h < 0o1000 }
         requires cycle { cycle < 2 ^ 41 }
         ensures { self.new ≡ set_channel cycle h word self.old }
     {
         match h {
-            SUPERBANK => self.set_superbank(word),
-            TIME6_SWITCH => self.set_time6_switch(cycle, word),
-            _ => self.channels[h as usize] = word,
+            SUPERBNK => self.set_superbank(word),
+            CHAN13 => self.set_time6_switch(cycle, word),
+            _ => self.set_channel_cell(h, word),
         }
     }
 
-    /// Channel 7 keeps bits 7 to 5, of which bit 7 is the superbank.
-    #[tactic(auto, unfolding(crate::specs::Channel::set_channel, agc_word::specs::Number::bit_of))]
+    /// The superbank's channel keeps bits 7 to 5, of which bit 7 is the superbank.
     fn set_superbank(&mut self, word: Narrow)
         ensures { self.new ≡ superbank_switched word self.old }
     {
-        let bits = word.bits();
-        self.channels[7] = Narrow::with_bits(bits / 16 % 8 * 16);
-        self.store.set_superbank(bits / 64 % 2 == 1);
+        let kept = word.bits() / 0o20 % 0o10 * 0o20;
+        self.set_channel_cell(SUPERBNK, Narrow::with_bits(kept));
+        self.store.set_superbank(word.bit(7));
     }
 
-    /// Where bit 15 of channel 13 octal goes from off to on, TIME6 counts the periods that end from
-    /// now on.
-    #[tactic(auto, unfolding(crate::specs::Channel::set_channel, agc_word::specs::Number::bit_of))]
+    /// Where the switch goes from off to on, TIME6 counts the periods that end from now on.
     fn set_time6_switch(&mut self, cycle: u64, word: Narrow)
         requires { cycle < 2 ^ 41 }
         ensures { self.new ≡ time6_switched cycle word self.old }
     {
-        let was_on = self.channels[11].bits() / 0o40000 % 2 == 1;
-        let is_on = word.bits() / 0o40000 % 2 == 1;
-        self.channels[11] = word;
-        if is_on && !was_on {
-            self.timers.mark = 12 * cycle / 640;
+        let was_on = self.is_time6_on();
+        self.set_channel_cell(CHAN13, word);
+        if self.is_time6_on() && !was_on {
+            self.timers.mark = PULSES_IN_CYCLE * cycle / TIME6_PERIOD;
         }
+    }
+
+    /// TIME6's switch is on.
+    #[inline]
+    pub(crate) fn is_time6_on(&self) -> bool
+        ensures { result ≡ is_on (switch_word self.now) }
+    {
+        self.channel_cell(CHAN13).bit(15)
     }
 
     /// What a program's write to a channel does.
     #[tactic(auto, unfolding(crate::specs::Channel::write_channel))]
     fn write_channel(&mut self, cycle: u64, h: u16, word: Wide)
-        requires channel { h < 512 }
+        requires channel { h < 0o1000 }
         requires cycle { cycle < 2 ^ 41 }
         ensures { self.new ≡ write_channel cycle h word self.old }
     {
         match h {
             L => self.store.set_l(word.narrow()),
             Q => self.store.set_q(word),
-            HIGH_SCALER => {}
-            LOW_SCALER => {}
+            HISCALAR => {}
+            LOSCALAR => {}
             _ => self.set_channel(cycle, h, word.narrow()),
         }
     }
 
     #[tactic(auto, unfolding(crate::specs::Channel::read_order))]
     pub(crate) fn read_channel(&mut self, cycle: u64, h: u16)
-        requires channel { h < 512 }
+        requires channel { h < 0o1000 }
         requires cycle { cycle < 2 ^ 41 }
         ensures { self.new ≡ read_order cycle h self.old }
     {
@@ -107,7 +146,7 @@ impl Processor {
 
     #[tactic(auto, unfolding(crate::specs::Channel::write_order))]
     pub(crate) fn write_a(&mut self, cycle: u64, h: u16)
-        requires channel { h < 512 }
+        requires channel { h < 0o1000 }
         requires cycle { cycle < 2 ^ 41 }
         ensures { self.new ≡ write_order cycle h self.old }
     {
@@ -117,7 +156,7 @@ impl Processor {
 
     #[tactic(auto, unfolding(crate::specs::Channel::rand_order))]
     pub(crate) fn rand(&mut self, cycle: u64, h: u16)
-        requires channel { h < 512 }
+        requires channel { h < 0o1000 }
         requires cycle { cycle < 2 ^ 41 }
         ensures { self.new ≡ rand_order cycle h self.old }
     {
@@ -127,7 +166,7 @@ impl Processor {
 
     #[tactic(auto, unfolding(crate::specs::Channel::ror_order))]
     pub(crate) fn ror(&mut self, cycle: u64, h: u16)
-        requires channel { h < 512 }
+        requires channel { h < 0o1000 }
         requires cycle { cycle < 2 ^ 41 }
         ensures { self.new ≡ ror_order cycle h self.old }
     {
@@ -137,7 +176,7 @@ impl Processor {
 
     #[tactic(auto, unfolding(crate::specs::Channel::rxor_order))]
     pub(crate) fn rxor(&mut self, cycle: u64, h: u16)
-        requires channel { h < 512 }
+        requires channel { h < 0o1000 }
         requires cycle { cycle < 2 ^ 41 }
         ensures { self.new ≡ rxor_order cycle h self.old }
     {
@@ -147,7 +186,7 @@ impl Processor {
 
     #[tactic(auto, unfolding(crate::specs::Channel::wand_order))]
     pub(crate) fn wand(&mut self, cycle: u64, h: u16)
-        requires channel { h < 512 }
+        requires channel { h < 0o1000 }
         requires cycle { cycle < 2 ^ 41 }
         ensures { self.new ≡ wand_order cycle h self.old }
     {
@@ -158,7 +197,7 @@ impl Processor {
 
     #[tactic(auto, unfolding(crate::specs::Channel::wor_order))]
     pub(crate) fn wor(&mut self, cycle: u64, h: u16)
-        requires channel { h < 512 }
+        requires channel { h < 0o1000 }
         requires cycle { cycle < 2 ^ 41 }
         ensures { self.new ≡ wor_order cycle h self.old }
     {
@@ -170,7 +209,7 @@ impl Processor {
 
 /// The low fourteen digits of a count, which a scaler channel shows.
 fn scaler_word(count: u64) -> Wide
-    ensures { result ≡ narrow_number (count % 16384) }
+    ensures { result ≡ narrow_number (count % 0o40000) }
 {
-    widen(Narrow::with_bits((count % 16384) as u16))
+    widen(Narrow::with_bits((count % 0o40000) as u16))
 }

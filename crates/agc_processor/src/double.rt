@@ -1,9 +1,9 @@
 //! The double orders, whose lower word comes first.
 ghost use Rattle.std.specs.Prelude.{◌≡◌, ◌<◌};
-ghost use Rattle.agc_processor.specs.Double.{with_carry as carried_into};
+ghost use Rattle.agc_processor.specs.Double.{with_carry};
 
 use crate::processor::Processor;
-use crate::words::{minus_one, overflow_word, plus_one};
+use crate::signs::word_of_overflow;
 use agc_store::Addr;
 use agc_word::{Narrow, Over, Wide, complement, sum, widen};
 
@@ -14,19 +14,19 @@ impl Processor {
     #[inline(never)]
     #[tactic(auto, unfolding(crate::specs::Double::das_of))]
     pub(crate) fn das(&mut self, f: Addr)
-        requires { f < 1024 }
+        requires { f < 0o2000 }
         ensures { self.new ≡ das_of f self.old }
     {
         let low = sum(widen(self.store.l()), self.store.read(f));
         self.store.write(f, widen(low.narrow()));
         let upper = sum(self.store.a(), self.store.read(f.previous_low_ten()));
-        self.das_upper(f, with_carry(low.over(), upper));
+        self.das_upper(f, add_carry(low.over(), upper));
     }
 
     /// The upper word of DAS, and what is left in A and L.
     #[inline]
     fn das_upper(&mut self, f: Addr, t: Wide)
-        requires { f < 1024 }
+        requires { f < 0o2000 }
         ensures { self.new ≡ das_upper f t self.old }
     {
         if f.bits() == 1 {
@@ -34,14 +34,14 @@ impl Processor {
         } else {
             self.store.write(f.previous_low_ten(), widen(t.narrow()));
             self.store.set_l(Narrow::PLUS_ZERO);
-            self.store.set_a(overflow_word(t.over()));
+            self.store.set_a(word_of_overflow(t.over()));
         }
     }
 
     #[inline(never)]
     #[tactic(auto, unfolding(crate::specs::Double::dxch_of))]
     pub(crate) fn dxch(&mut self, f: Addr)
-        requires { f < 1024 }
+        requires { f < 0o2000 }
         ensures { self.new ≡ dxch_of f self.old }
     {
         let u = f.previous_low_ten();
@@ -79,12 +79,12 @@ impl Processor {
 }
 
 /// An upper sum with the carry of the lower word's overflow.
-fn with_carry(low: Over, t: Wide) -> Wide
-    ensures { result ≡ carried_into low t }
+fn add_carry(low: Over, t: Wide) -> Wide
+    ensures { result ≡ with_carry low t }
 {
     match low {
         Over::None => t,
-        Over::Plus => sum(t, plus_one()),
-        Over::Minus => sum(t, minus_one()),
+        Over::Plus => sum(t, Wide::PLUS_ONE),
+        Over::Minus => sum(t, Wide::MINUS_ONE),
     }
 }

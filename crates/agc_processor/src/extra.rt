@@ -2,13 +2,13 @@
 ghost use Rattle.std.specs.Prelude.{◌≡◌, ◌<◌};
 
 use crate::processor::Processor;
-use crate::words::{is_minus, is_zero, minus_one, plus_one};
+use crate::signs::{is_minus, is_zero};
 use agc_store::Addr;
-use agc_word::{Narrow, complement, modular_difference, product, quotient, sum, widen};
+use agc_word::{Narrow, Wide, complement, modular_difference, product, quotient, sum, widen};
 
 impl Processor {
     ghost use Rattle.std.specs.Prelude.{◌≡◌, ◌<◌, Some, None, true, false};
-    ghost use Rattle.agc_processor.specs.Extra.{dv_of, divided, msu_of, qxch_of, aug_of, dim_of, su_of, mp_of};
+    ghost use Rattle.agc_processor.specs.Extra.{dv_of, in_a_and_l, msu_of, qxch_of, aug_of, dim_of, su_of, mp_of};
 
     /// Divides A and L; where there is no quotient nothing changes.
     #[inline(never)]
@@ -19,18 +19,16 @@ impl Processor {
         ensures unchanged { result ≡ false → self.new ≡ self.old }
     {
         let divisor = self.store.read(k).narrow();
-        match quotient(self.store.a().narrow(), self.store.l(), divisor) {
-            Some(words) => {
-                self.set_a_and_l(words);
-                true
-            }
-            None => false,
-        }
+        let Some(words) = quotient(self.store.a().narrow(), self.store.l(), divisor) else {
+            return false;
+        };
+        self.set_a_and_l(words);
+        true
     }
 
     #[inline]
     fn set_a_and_l(&mut self, words: (Narrow, Narrow))
-        ensures { self.new ≡ divided self.old words }
+        ensures { self.new ≡ in_a_and_l self.old words }
     {
         self.store.set_a(widen(words.0));
         self.store.set_l(words.1);
@@ -48,7 +46,7 @@ impl Processor {
 
     #[tactic(auto, unfolding(crate::specs::Extra::qxch_of))]
     pub(crate) fn qxch(&mut self, k: Addr)
-        requires { k < 1024 }
+        requires { k < 0o2000 }
         ensures { self.new ≡ qxch_of k self.old }
     {
         let x = self.store.read(k);
@@ -59,25 +57,33 @@ impl Processor {
 
     #[tactic(auto, unfolding(crate::specs::Extra::aug_of))]
     pub(crate) fn aug(&mut self, k: Addr)
-        requires { k < 1024 }
+        requires { k < 0o2000 }
         ensures { self.new ≡ aug_of k self.old }
     {
         let x = self.store.read(k);
-        let step = if is_minus(x) { minus_one() } else { plus_one() };
-        self.store.write(k, sum(x, step));
+        let growth = if is_minus(x) {
+            Wide::MINUS_ONE
+        } else {
+            Wide::PLUS_ONE
+        };
+        self.store.write(k, sum(x, growth));
     }
 
     #[tactic(auto, unfolding(crate::specs::Extra::dim_of))]
     pub(crate) fn dim(&mut self, k: Addr)
-        requires { k < 1024 }
+        requires { k < 0o2000 }
         ensures { self.new ≡ dim_of k self.old }
     {
         let x = self.store.read(k);
         if is_zero(x) {
             return;
         }
-        let step = if is_minus(x) { plus_one() } else { minus_one() };
-        self.store.write(k, sum(x, step));
+        let loss = if is_minus(x) {
+            Wide::PLUS_ONE
+        } else {
+            Wide::MINUS_ONE
+        };
+        self.store.write(k, sum(x, loss));
     }
 
     #[tactic(auto, unfolding(crate::specs::Extra::su_of))]

@@ -1,52 +1,158 @@
-//! Interrupts: which one is taken, and what that does.
+//! Interrupts: the ten of them, which one is taken, and what that does.
 ghost use Rattle.std.specs.Prelude.{◌≡◌, ◌<◌, length, position, IfSome};
-ghost use Rattle.agc_processor.specs.Interrupt.{vector};
 
-use crate::basic::{BRUPT, ZRUPT};
 use crate::processor::Processor;
 use agc_store::Addr;
+use agc_store::place::{BRUPT, ZRUPT};
 use agc_word::Over;
 
-/// The vector of the first request: each has four words from here on.
-const VECTORS: u16 = 0o4004;
+/// The cycles of an interrupt: Z and the order in hand are saved, and the vector's order is fetched.
+pub const INTERRUPT_MCT: u64 = 3;
+
+/// The vectors begin four words behind this address.
+const VECTORS: u16 = 0o4000;
+
+/// The interrupts, in the order of their numbers, which is that of their vectors.
+#[derive(Clone, Copy, Debug, PartialEq, Eq)]
+pub enum Rupt {
+    /// TIME6 was at zero.
+    T6rupt,
+    /// TIME5 has carried.
+    T5rupt,
+    /// TIME3 has carried.
+    T3rupt,
+    /// TIME4 has carried.
+    T4rupt,
+    /// A key of the main keyboard was pressed.
+    Keyrupt1,
+    /// A key of the second keyboard was pressed.
+    Keyrupt2,
+    /// The uplink's word is whole.
+    Uprupt,
+    /// The downlink has sent its words.
+    Downrupt,
+    /// The radar's word is whole.
+    Radarupt,
+    /// The hand controller has moved.
+    Rupt10,
+}
+
+impl Rupt {
+    ghost use Rattle.std.specs.Prelude.{◌≡◌, ℕ, ◌<◌, ◌≤◌, ◌-◌};
+    ghost use Rattle.agc_processor.specs.Interrupt.{rupt_number, rupt_at, rupt_numbered, vector_of};
+
+    /// Its number, as a script names it.
+    pub fn number(self) -> u8
+        ensures number { result ≡ rupt_number self }
+        ensures first { 1 ≤ result }
+        ensures last { result ≤ 10 }
+    {
+        match self {
+            Rupt::T6rupt => 1,
+            Rupt::T5rupt => 2,
+            Rupt::T3rupt => 3,
+            Rupt::T4rupt => 4,
+            Rupt::Keyrupt1 => 5,
+            Rupt::Keyrupt2 => 6,
+            Rupt::Uprupt => 7,
+            Rupt::Downrupt => 8,
+            Rupt::Radarupt => 9,
+            Rupt::Rupt10 => 10,
+        }
+    }
+
+    /// The interrupt with a number.
+    pub fn numbered(number: u8) -> Rupt
+        requires first { 1 ≤ number }
+        requires last { number ≤ 10 }
+        ensures { result ≡ rupt_numbered number }
+    {
+        Rupt::at(usize::from(number) - 1)
+    }
+
+    /// The interrupt at a place in the order of the numbers, from 0.
+    fn at(place: usize) -> Rupt
+        requires { place < 10 }
+        ensures { result ≡ rupt_at place }
+    {
+        match place {
+            0 => Rupt::T6rupt,
+            1 => Rupt::T5rupt,
+            2 => Rupt::T3rupt,
+            3 => Rupt::T4rupt,
+            4 => Rupt::Keyrupt1,
+            5 => Rupt::Keyrupt2,
+            6 => Rupt::Uprupt,
+            7 => Rupt::Downrupt,
+            8 => Rupt::Radarupt,
+            9 => Rupt::Rupt10,
+            _ => unreachable!(),
+        }
+    }
+
+    /// Its place in the order of the numbers, from 0.
+    fn place(self) -> usize
+        ensures place { result ≡ rupt_number self - 1 }
+        ensures range { result < 10 }
+    {
+        usize::from(self.number()) - 1
+    }
+
+    /// Where its program begins, which has four words there.
+    pub fn vector(self) -> Addr
+        ensures { result ≡ vector_of self }
+    {
+        Addr::new(VECTORS + 4 * u16::from(self.number())).unwrap()
+    }
+}
 
 impl Processor {
-    ghost use Rattle.std.specs.Prelude.{◌≡◌, ◌<◌, IfNone, IfSome, OnSome, IsSome, Some, None, true, false, position};
-    ghost use Rattle.agc_processor.specs.Interrupt.{interrupt_taken, is_allowed, pending, interrupted};
+    ghost use Rattle.std.specs.Prelude.{◌≡◌, ◌<◌, IfNone, IfSome, OnSome, IsSome, Some, None, true, false};
+    ghost use Rattle.agc_processor.specs.Interrupt.{interrupt_taken, is_allowed, pending, interrupted, request, first_request};
 
-    /// Takes the interrupt that is requested and allowed; answers whether there was one.
+    /// Requests an interrupt; a request that waits already stays one.
+    pub fn request(&mut self, rupt: Rupt)
+        ensures { self.new ≡ request rupt self.old }
+    {
+        self.requests[rupt.place()] = true;
+    }
+
+    /// Takes the interrupt that is requested and allowed; returns whether there was one.
     #[tactic(auto, unfolding(crate::specs::Interrupt::interrupt_taken))]
     pub fn interrupt(&mut self) -> bool
         ensures taken { result ≡ true → interrupt_taken self.old ≡ Some self.new }
         ensures none { result ≡ false → interrupt_taken self.old ≡ None }
         ensures unchanged { result ≡ false → self.new ≡ self.old }
     {
-        match self.pending() {
-            Some(place) => {
-                self.enter_service(place);
-                true
-            }
-            None => false,
-        }
+        let Some(rupt) = self.pending() else {
+            return false;
+        };
+        self.enter_service(rupt);
+        true
     }
 
     /// Some interrupt waits.
     pub fn is_requested(&self) -> bool
-        ensures none { result ≡ false → position (λ waits. waits) self.now.timers.requests ≡ None }
-        ensures some { result ≡ true → IsSome (position (λ waits. waits) self.now.timers.requests) }
+        ensures none { result ≡ false → first_request self.now ≡ None }
+        ensures some { result ≡ true → IsSome (first_request self.now) }
     {
-        first_request(&self.timers.requests).is_some()
+        self.first_request().is_some()
     }
 
-    /// The place of the request that is taken next: of those that wait the one with the lowest
-    /// vector, where an interrupt is allowed at all.
+    /// Of the interrupts that wait the one with the lowest vector.
+    fn first_request(&self) -> Option<Rupt>
+        ensures { result ≡ first_request self.now }
+    {
+        Some(Rupt::at(first_waiting(&self.requests)?))
+    }
+
+    /// The interrupt that is taken next, where one is allowed at all.
     #[tactic(auto, unfolding(crate::specs::Interrupt::pending))]
-    fn pending(&self) -> Option<usize>
-        ensures place { result ≡ pending self.now }
-        ensures range { IfSome result (λ place. place < 10) }
+    pub fn pending(&self) -> Option<Rupt>
+        ensures { result ≡ pending self.now }
     {
         if self.is_allowed() {
-            first_request(&self.timers.requests)
+            self.first_request()
         } else {
             None
         }
@@ -61,30 +167,21 @@ impl Processor {
 
     /// ZRUPT and BRUPT keep Z and the order in hand, and the order at the vector comes into hand.
     #[tactic(auto, unfolding(crate::specs::Interrupt::interrupted))]
-    fn enter_service(&mut self, place: usize)
-        requires { place < 10 }
-        ensures { self.new ≡ interrupted place self.old }
+    fn enter_service(&mut self, rupt: Rupt)
+        ensures { self.new ≡ interrupted rupt self.old }
     {
-        let vector = vector_of(place);
+        let vector = rupt.vector();
         self.store.poke(0, ZRUPT, self.store.z().word());
         self.store.poke(0, BRUPT, self.hand);
         self.hand = self.store.fetch(vector);
-        self.timers.requests[place] = false;
+        self.requests[rupt.place()] = false;
         self.serving = true;
         self.store.set_z(vector.next());
     }
 }
 
-/// The vector of the request at a place.
-fn vector_of(place: usize) -> Addr
-    requires { place < 10 }
-    ensures { result ≡ vector place }
-{
-    Addr::new(VECTORS + 4 * place as u16).unwrap()
-}
-
 /// The place of the first request that waits.
-fn first_request(requests: &[bool]) -> Option<usize>
+fn first_waiting(requests: &[bool]) -> Option<usize>
     ensures place { result ≡ position (λ waits. waits) requests.now }
     ensures range { IfSome result (λ place. place < length requests.now) }
 {

@@ -1,20 +1,21 @@
-//! The processor: what one order, one timer step and one interrupt do, as functions of the
-//! processor and the cycle alone.
+//! What one order, one timer's step and one interrupt do, as functions of processor and cycle alone.
 #![tactic(auto)]
 
 mod basic;
-mod channel;
+pub mod channel;
 mod double;
+mod effect;
 mod extra;
 mod interrupt;
 mod logic;
-mod order;
+mod period;
 mod processor;
-mod run;
+mod signs;
+mod start;
 #[cfg(test)]
 mod tests;
 mod timer;
-mod words;
 
-pub use channel::TIME6_SWITCH;
-pub use processor::{Halt, Processor, Ran, Timers};
+pub use interrupt::{INTERRUPT_MCT, Rupt};
+pub use processor::{Halt, Processor, Ran, Timers, WRITE_MCT};
+pub use timer::Timer;

@@ -1,11 +1,11 @@
 //! Logic on words: wide where A or Q is the other operand, else on words corrected for overflow.
 ghost use Rattle.std.specs.Prelude.{◌≡◌};
-ghost use Rattle.agc_processor.specs.Logic.{and_words as both, or_words as either, xor_words as one_of};
+ghost use Rattle.agc_processor.specs.Logic.{and_words_of, or_words_of, xor_words_of};
 
 use agc_word::{Wide, and, or, widen, xor};
 
 pub(crate) fn and_words(wide: bool, x: Wide, y: Wide) -> Wide
-    ensures { result ≡ both wide x y }
+    ensures { result ≡ and_words_of wide x y }
 {
     if wide {
         and(x, y)
@@ -15,7 +15,7 @@ pub(crate) fn and_words(wide: bool, x: Wide, y: Wide) -> Wide
 }
 
 pub(crate) fn or_words(wide: bool, x: Wide, y: Wide) -> Wide
-    ensures { result ≡ either wide x y }
+    ensures { result ≡ or_words_of wide x y }
 {
     if wide {
         or(x, y)
@@ -25,7 +25,7 @@ pub(crate) fn or_words(wide: bool, x: Wide, y: Wide) -> Wide
 }
 
 pub(crate) fn xor_words(wide: bool, x: Wide, y: Wide) -> Wide
-    ensures { result ≡ one_of wide x y }
+    ensures { result ≡ xor_words_of wide x y }
 {
     if wide {
         xor(x, y)

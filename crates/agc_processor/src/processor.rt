@@ -1,15 +1,12 @@
-//! The processor: memory, channels, the order in hand, and the flags and timers between orders.
-ghost use Rattle.std.specs.Prelude.{◌≡◌, ◌<◌};
-ghost use Rattle.agc_processor.specs.Start.{start_channels as channels_at_start};
+//! The processor: memory, channels, the order in hand, and the flags and timers between orders; and
+//! the words in which the orders are told.
+use agc_store::place::{A, Q};
+use agc_store::{Addr, Store};
+use agc_word::{Narrow, Wide};
 
-use agc_store::{Addr, Rope, Store};
-use agc_word::Narrow;
-
-/// What timers and interrupts count: no order but those on channel 13 octal touches it.
+/// What the timers have counted: no order but those on channel 13 octal touches it.
 #[derive(Drop)]
 pub struct Timers {
-    /// Whether each interrupt waits, T6RUPT first.
-    pub requests: [bool; 10],
     /// The steps that TIME1 has taken.
     pub time1: u64,
     /// The steps that TIME3 has taken.
@@ -28,7 +25,7 @@ pub struct Processor {
     /// The fixed words, and the erasable cells with A, L, Q, Z and the bank registers among them.
     pub store: Store,
     /// The cells of the channels 0 to 777 octal; 1 to 4 show registers and the scaler instead.
-    pub channels: [Narrow; 512],
+    pub channels: [Narrow; 0o1000],
     /// The order in hand, which runs next.
     pub hand: Narrow,
     /// After EXTEND and the extracode INDEX: the next order is an extracode.
@@ -39,7 +36,9 @@ pub struct Processor {
     pub inhibited: bool,
     /// An interrupt is being served, until RESUME.
     pub serving: bool,
-    /// The requests that wait, and the steps that the timers have taken.
+    /// Whether each interrupt waits, by number, T6RUPT first.
+    pub requests: [bool; 10],
+    /// The steps that the timers have taken.
     pub timers: Timers,
 }
 
@@ -52,64 +51,67 @@ pub enum Halt {
     Edrupt,
 }
 
+/// The cycles of an order that writes a channel: WRITE, WAND and WOR.
+pub const WRITE_MCT: u64 = 2;
+
 /// What an order did.
 #[derive(Clone, Copy, Debug, PartialEq, Eq)]
 pub enum Ran {
     /// Nothing shows outside; the order took so many cycles.
     Quiet(u64),
-    /// It wrote a channel from 5 to 777 octal, which then had this word. It took two cycles.
+    /// It wrote a channel from 5 to 777 octal, which then had this word. It took `WRITE_MCT` cycles.
     Wrote(u16, Narrow),
     /// It did not run, and changed nothing.
     Halted(Halt),
 }
 
-/// Where a run begins.
-const START: u16 = 0o4000;
-
 impl Processor {
-    ghost use Rattle.std.specs.Prelude.{◌≡◌, ◌<◌};
-    ghost use Rattle.agc_processor.specs.Start.{start_processor};
+    ghost use Rattle.std.specs.Prelude.{◌≡◌};
+    ghost use Rattle.agc_store.specs.Memory.{read_of};
+    ghost use Rattle.agc_processor.specs.Processor.{edit_again, skip, fetched, names, names_wide};
 
-    /// The processor at the start of a run: the order at 4000 octal is in hand.
-    #[tactic(auto, unfolding(crate::specs::Start::start_processor, agc_store::specs::Cells::start_memory, agc_store::specs::Cells::put_of))]
-    pub fn new(rope: Rope) -> Processor
-        ensures start { result ≡ start_processor rope }
-        ensures fixed { result.store.fixed ≡ rope }
+    /// Reads a word; an editing register is edited again.
+    #[inline]
+    pub(crate) fn read_again(&mut self, k: Addr) -> Wide
+        ensures word { result ≡ read_of self.old.store k }
+        ensures after { self.new ≡ edit_again k self.old }
     {
-        let start = Addr::new(START).unwrap();
-        let mut store = Store::new(rope);
-        let hand = store.fetch(start);
-        store.set_z(start.next());
-        Processor {
-            store,
-            channels: start_channels(),
-            hand,
-            extracode: false,
-            midway: false,
-            inhibited: false,
-            serving: false,
-            timers: Timers {
-                requests: [false; 10],
-                time1: 0,
-                time3: 0,
-                time4: 0,
-                time5: 0,
-                mark: 0,
-            },
-        }
+        self.store.read_and_edit(k)
     }
-}
 
-/// The channels at the start: the inputs from the spacecraft in 30 to 33 octal are not asserted.
-#[tactic(auto, unfolding(crate::specs::Start::start_channels))]
-fn start_channels<const N: usize>() -> [Narrow; N]
-    requires { 27 < N }
-    ensures { result ≡ channels_at_start N }
-{
-    let mut channels = [Narrow::with_bits(0); N];
-    channels[0o30] = Narrow::with_bits(0o37777);
-    channels[0o31] = Narrow::with_bits(0o77777);
-    channels[0o32] = Narrow::with_bits(0o77777);
-    channels[0o33] = Narrow::with_bits(0o77777);
-    channels
+    /// Leaves out so many of the orders that follow.
+    #[inline]
+    pub(crate) fn skip(&mut self, count: u8)
+        ensures { self.new ≡ skip count self.old }
+    {
+        let z = self.store.z();
+        self.store.set_z(z.skip(count));
+    }
+
+    /// Takes the word at Z in hand, and counts Z on.
+    #[inline]
+    #[tactic(auto, unfolding(crate::specs::Processor::fetched))]
+    pub(crate) fn fetch_next(&mut self)
+        ensures { self.new ≡ fetched self.old }
+    {
+        let z = self.store.z();
+        self.hand = self.store.fetch(z);
+        self.store.set_z(z.next());
+    }
+
+    /// The address names this erasable cell.
+    #[inline]
+    pub(crate) fn names(&self, cell: u16, k: Addr) -> bool
+        ensures { result ≡ names cell k self.now }
+    {
+        self.store.named_cell(k) == Some(cell)
+    }
+
+    /// The address names A or Q.
+    #[inline]
+    pub(crate) fn names_wide(&self, k: Addr) -> bool
+        ensures { result ≡ names_wide k self.now }
+    {
+        self.names(A, k) || self.names(Q, k)
+    }
 }

@@ -1,31 +1,37 @@
 //! The five timers: which step is due, and what it does.
 ghost use Rattle.std.specs.Prelude.{◌≡◌, ℕ, ◌<◌, ◌≤◌, ◌^◌, ◌*◌, ◌/◌, nat_lt, true, false};
+ghost use Rattle.agc_processor.specs.Period.{timer_period};
+ghost use Rattle.agc_processor.specs.Channel.{time6_periods};
 ghost use Rattle.agc_processor.specs.Timer.{is_due};
 
+use crate::channel::CHAN13;
+use crate::interrupt::Rupt;
+use crate::period::{
+    PULSES_IN_CYCLE, TIME1_FIRST, TIME3_FIRST, TIME4_FIRST, TIME5_FIRST, TIME6_PERIOD, TIMER_PERIOD,
+};
 use crate::processor::Processor;
+use agc_store::place::{TIME1, TIME2, TIME3, TIME4, TIME5, TIME6};
 use agc_word::{Carry, Narrow, Pulse};
 
-const TIME2: u16 = 0o24;
-
-const TIME1: u16 = 0o25;
-
-const TIME3: u16 = 0o26;
-
-const TIME4: u16 = 0o27;
-
-const TIME5: u16 = 0o30;
-
-const TIME6: u16 = 0o31;
+/// A timer that steps at boundaries of its own. TIME2 does not: TIME1's carry steps it.
+#[derive(Clone, Copy, Debug, PartialEq, Eq)]
+pub enum Timer {
+    Time1,
+    Time3,
+    Time4,
+    Time5,
+    Time6,
+}
 
 /// A step is due: the timer's first and all that were taken have gone by.
 #[inline]
 fn step_is_due(cycle: u64, first: u64, taken: u64) -> bool
     requires cycle { cycle < 2 ^ 41 }
-    requires first { first ≤ 10240 }
+    requires first { first ≤ timer_period }
     ensures { result ≡ is_due cycle first taken }
 {
-    let pulses = 12 * cycle;
-    pulses >= first && (pulses - first) / 10240 >= taken
+    let pulses = PULSES_IN_CYCLE * cycle;
+    pulses >= first && (pulses - first) / TIMER_PERIOD >= taken
 }
 
 /// More steps than any run takes: no cycle is known for the next one.
@@ -34,7 +40,7 @@ const BEYOND_COUNTING: u64 = 1 << 48;
 /// The cycle from which a timer's next step is due.
 fn due_from(first: u64, taken: u64) -> u64
     requires later { 0 < first }
-    requires first { first ≤ 10240 }
+    requires first { first ≤ timer_period }
     ensures none { (cycle : ℕ) → cycle < result → is_due cycle first taken ≡ false }
     ensures due { 0 < result → is_due result first taken ≡ true }
     ensures known { taken ≤ 2 ^ 48 → 0 < result }
@@ -42,29 +48,28 @@ fn due_from(first: u64, taken: u64) -> u64
     if taken > BEYOND_COUNTING {
         return 0;
     }
-    (first + 10240 * taken).div_ceil(12)
+    (first + TIMER_PERIOD * taken).div_ceil(PULSES_IN_CYCLE)
 }
 
 /// The cycle from which TIME6's next step is due while it is on.
 fn time6_due_from(mark: u64) -> u64
-    ensures none { (cycle : ℕ) → cycle < result → nat_lt mark (12 * cycle / 640) ≡ false }
-    ensures due { 0 < result → nat_lt mark (12 * result / 640) ≡ true }
+    ensures none { (cycle : ℕ) → cycle < result → nat_lt mark (time6_periods cycle) ≡ false }
+    ensures due { 0 < result → nat_lt mark (time6_periods result) ≡ true }
     ensures known { mark ≤ 2 ^ 48 → 0 < result }
 {
     if mark > BEYOND_COUNTING {
         return 0;
     }
-    (640 * (mark + 1)).div_ceil(12)
+    (TIME6_PERIOD * (mark + 1)).div_ceil(PULSES_IN_CYCLE)
 }
 
 impl Processor {
     ghost use Rattle.std.specs.Prelude.{◌≡◌, ◌<◌, ◌≤◌, ◌^◌, ◌+◌, ◌*◌, option_map, IfNone, IfSome, ℕ, true, false};
     ghost use Rattle.agc_word.specs.Pulses.{pulsed};
-    ghost use Rattle.agc_processor.specs.Keeps.{is_any_due, IsCounted};
-    ghost use Rattle.agc_processor.specs.Channel.{channel_cell};
-    ghost use Rattle.agc_processor.specs.Timer.{timer_stepped, time1_step, time3_step, time4_step, time5_step, time6_step, is_time6_due, request, counted, counter, tick};
+    ghost use Rattle.agc_processor.specs.Channel.{switch_word};
+    ghost use Rattle.agc_processor.specs.Timer.{is_any_due, due_timer, IsCounted, steps_of, timer_step, timer_stepped, time1_step, time3_step, time4_step, time5_step, time6_step, is_time6_due, set_counter, counter, tick};
 
-    /// The first timer whose step is due at a cycle takes it; answers the cycles that it costs.
+    /// The first timer whose step is due at a cycle takes it; returns the cycles that it costs.
     #[tactic(auto, unfolding(crate::specs::Timer::timer_stepped))]
     pub fn step_timers(&mut self, cycle: u64) -> Option<u64>
         requires { cycle < 2 ^ 41 }
@@ -72,67 +77,80 @@ impl Processor {
         ensures none { IfNone result (self.new ≡ self.old) }
         ensures few { IfSome result (λ cycles. cycles ≤ 2) }
     {
-        if step_is_due(cycle, 10240, self.timers.time1) {
-            return Some(self.step_time1());
+        let timer = self.due_timer(cycle)?;
+        Some(self.step_timer(timer))
+    }
+
+    /// The first timer whose step is due at a cycle.
+    #[tactic(auto, unfolding(crate::specs::Timer::due_timer))]
+    pub fn due_timer(&self, cycle: u64) -> Option<Timer>
+        requires { cycle < 2 ^ 41 }
+        ensures due { result ≡ due_timer cycle self.now }
+        ensures counted { IfSome result (λ timer. steps_of timer self.now.timers < 2 ^ 60) }
+    {
+        let timers = &self.timers;
+        if step_is_due(cycle, TIME1_FIRST, timers.time1) {
+            Some(Timer::Time1)
+        } else if step_is_due(cycle, TIME3_FIRST, timers.time3) {
+            Some(Timer::Time3)
+        } else if step_is_due(cycle, TIME4_FIRST, timers.time4) {
+            Some(Timer::Time4)
+        } else if step_is_due(cycle, TIME5_FIRST, timers.time5) {
+            Some(Timer::Time5)
+        } else if self.is_time6_due(cycle) {
+            Some(Timer::Time6)
+        } else {
+            None
         }
-        if step_is_due(cycle, 10240, self.timers.time3) {
-            return Some(self.step_time3());
+    }
+
+    /// A timer takes its step; returns the cycles that it costs.
+    fn step_timer(&mut self, timer: Timer) -> u64
+        requires { steps_of timer self.old.timers < 2 ^ 60 }
+        ensures step { (self.new, result) ≡ timer_step timer self.old }
+        ensures few { result ≤ 2 }
+    {
+        match timer {
+            Timer::Time1 => self.step_time1(),
+            Timer::Time3 => self.step_time3(),
+            Timer::Time4 => self.step_time4(),
+            Timer::Time5 => self.step_time5(),
+            Timer::Time6 => self.step_time6(),
         }
-        if step_is_due(cycle, 7680, self.timers.time4) {
-            return Some(self.step_time4());
-        }
-        if step_is_due(cycle, 5120, self.timers.time5) {
-            return Some(self.step_time5());
-        }
-        if self.is_time6_due(cycle) {
-            return Some(self.step_time6());
-        }
-        None
     }
 
     /// TIME6 is on, and a period has gone by that it has not counted.
-    #[tactic(auto, unfolding(agc_word::specs::Number::bit_of))]
     fn is_time6_due(&self, cycle: u64) -> bool
         requires { cycle < 2 ^ 41 }
-        ensures { result ≡ is_time6_due cycle self.now }
+        ensures { result ≡ is_time6_due cycle self.now.timers (switch_word self.now) }
     {
-        self.channels[11].bits() / 0o40000 % 2 == 1 && self.timers.mark < 12 * cycle / 640
+        self.is_time6_on() && self.timers.mark < PULSES_IN_CYCLE * cycle / TIME6_PERIOD
     }
 
     /// The first cycle at which some timer's step is due; 0 where that is beyond counting.
-    #[tactic(auto, unfolding(agc_word::specs::Number::bit_of))]
     pub fn timers_quiet_until(&self) -> u64
-        ensures none { (cycle : ℕ) → cycle < result → is_any_due cycle self.now.timers (channel_cell 11 self.now.channels) ≡ false }
-        ensures due { 0 < result → is_any_due result self.now.timers (channel_cell 11 self.now.channels) ≡ true }
+        ensures none { (cycle : ℕ) → cycle < result → is_any_due cycle self.now.timers (switch_word self.now) ≡ false }
+        ensures due { 0 < result → is_any_due result self.now.timers (switch_word self.now) ≡ true }
         ensures known { IsCounted self.now.timers → 0 < result }
     {
         let timers = &self.timers;
-        let time6 = if self.channels[11].bits() / 0o40000 % 2 == 1 {
+        let time6 = if self.is_time6_on() {
             time6_due_from(timers.mark)
         } else {
             u64::MAX
         };
-        due_from(10240, timers.time1)
-            .min(due_from(10240, timers.time3))
-            .min(due_from(7680, timers.time4))
-            .min(due_from(5120, timers.time5))
+        due_from(TIME1_FIRST, timers.time1)
+            .min(due_from(TIME3_FIRST, timers.time3))
+            .min(due_from(TIME4_FIRST, timers.time4))
+            .min(due_from(TIME5_FIRST, timers.time5))
             .min(time6)
     }
 
-    /// Requests an interrupt by its number, 1 to 10.
-    pub fn request(&mut self, number: u8)
-        requires low { 1 ≤ number }
-        requires high { number ≤ 10 }
-        ensures { self.new ≡ request number self.old }
-    {
-        self.timers.requests[usize::from(number) - 1] = true;
-    }
-
-    /// Pulses a counter of bank 0 and answers the carry.
+    /// Pulses a counter of bank 0 and returns the carry.
     pub fn pulse(&mut self, place: u16, kind: Pulse) -> Carry
-        requires low { 8 ≤ place }
-        requires high { place < 256 }
-        ensures word { self.new ≡ counted place (pulsed kind (counter place self.old)).0 self.old }
+        requires low { 0o10 ≤ place }
+        requires high { place < 0o400 }
+        ensures word { self.new ≡ set_counter place (pulsed kind (counter place self.old)).0 self.old }
         ensures carry { result ≡ (pulsed kind (counter place self.old)).1 }
     {
         let (word, carry) = self.store.cell(0, place).pulse(kind);
@@ -141,15 +159,13 @@ impl Processor {
     }
 
     /// Counts in a counter of bank 0, whose carry requests an interrupt.
-    fn tick(&mut self, place: u16, number: u8)
-        requires low { 8 ≤ place }
-        requires high { place < 256 }
-        requires first { 1 ≤ number }
-        requires last { number ≤ 10 }
-        ensures { self.new ≡ tick place number self.old }
+    fn tick(&mut self, place: u16, rupt: Rupt)
+        requires low { 0o10 ≤ place }
+        requires high { place < 0o400 }
+        ensures { self.new ≡ tick place rupt self.old }
     {
         if self.pulse(place, Pulse::Pinc) == Carry::Out {
-            self.request(number);
+            self.request(rupt);
         }
     }
 
@@ -177,7 +193,7 @@ impl Processor {
         ensures few { result ≤ 2 }
     {
         self.timers.time3 += 1;
-        self.tick(TIME3, 3);
+        self.tick(TIME3, Rupt::T3rupt);
         1
     }
 
@@ -188,7 +204,7 @@ impl Processor {
         ensures few { result ≤ 2 }
     {
         self.timers.time4 += 1;
-        self.tick(TIME4, 4);
+        self.tick(TIME4, Rupt::T4rupt);
         1
     }
 
@@ -199,7 +215,7 @@ impl Processor {
         ensures few { result ≤ 2 }
     {
         self.timers.time5 += 1;
-        self.tick(TIME5, 2);
+        self.tick(TIME5, Rupt::T5rupt);
         1
     }
 
@@ -212,8 +228,9 @@ impl Processor {
     {
         self.timers.mark += 1;
         if self.pulse(TIME6, Pulse::Dinc) == Carry::Out {
-            self.channels[11] = Narrow::with_bits(self.channels[11].bits() % 0o40000);
-            self.request(1);
+            let off = self.channel_cell(CHAN13).bits() % 0o40000;
+            self.set_channel_cell(CHAN13, Narrow::with_bits(off));
+            self.request(Rupt::T6rupt);
         }
         1
     }

@@ -10,16 +10,18 @@ ghost use Rattle.agc_run.specs.Ending.{EndsMistaken};
 
 #[cfg(test)]
 mod tests;
+mod words;
 
-use agc_args::{ArgsFault, parse_args};
+use agc_args::ArgsFault;
 use agc_pipe::Open;
 use agc_session::{DONE, InputFile, Options, REFUSED, Refusal, session, status_of};
 use std::io::{Read, Write};
 use std::process::ExitCode;
-use std::rt::{Env, Files};
+use std::rt::Files;
 use std::sync::Wait;
 use std::thread::Threads;
-use std::{env, fs, io};
+use std::{fs, io};
+use words::options;
 
 /// The status of a mistake in the command line.
 const MISUSED: u8 = 2;
@@ -36,24 +38,10 @@ fn stand_ins<R: Files>(rt: &R) -> [io::Result<R::File>; 3] {
     [fs::open(rt, "/"), fs::open(rt, "/"), fs::open(rt, "/")]
 }
 
-/// What the words of the command line ask for.
-fn options<R: Env + AllocGlobal>(rt: &R) -> Result<Options, ArgsFault> {
-    let alloc = rt.alloc();
-    let words: Vec<String> = match env::args(rt) {
-        Ok(words) => words.collect(alloc)?,
-        Err(error) if error.kind() == io::ErrorKind::OutOfMemory => return Err(ArgsFault::Memory),
-        Err(_) => {
-            let text = String::from_str(alloc, "error: a word of the command line is not text\n")?;
-            return Err(ArgsFault::Command(text));
-        }
-    };
-    let words: Vec<&str> = words.iter().map(|word| word.as_str()).collect(alloc)?;
-    parse_args(alloc, words.as_slice())
-}
-
 /// Does what the command line asks for: a session over the two files, with the keys of `keys` where
 /// it is live. Without a session the text of help goes to `out` with status 0, that of a mistake to
-/// `err` with status 2, and want of memory to `err` with status 1. A write that fails gives status 3.
+/// `err` with status 2, and want of memory to `err` with status 1. A write that fails gives status
+/// 3.
 fn run<R, K: Read, W: Write, E: Write>(
     rt: &R,
     asked: Result<Options, ArgsFault>,
@@ -64,10 +52,16 @@ fn run<R, K: Read, W: Write, E: Write>(
 where
     R: Files + AllocGlobal + Threads + Wait + Sync,
     ensures session { IfOk asked (λ _. (result ≡ 0) ⊎ ((result ≡ 1) ⊎ (result ≡ 3))) }
-    ensures silent { IfOk asked (λ _. result ≡ 0 → Keeps (E.contents err.old) (E.contents err.new)) }
-    ensures refused { IfOk asked (λ _. result ≡ 1 → (r : Refusal) × Appends (E.contents err.old) (E.contents err.new) (refusal_line r)) }
-    ensures nothing { IfOk asked (λ _. result ≡ 1 → Keeps (W.contents out.old) (W.contents out.new)) }
-    ensures told { IfErr asked (λ fault. EndsMistaken fault result (W.contents out.old) (W.contents out.new) (E.contents err.old) (E.contents err.new)) }
+    ensures silent { IfOk asked
+        (λ _. result ≡ 0 → Keeps (E.contents err.old) (E.contents err.new)) }
+    ensures refused { IfOk asked
+        (λ _. result ≡ 1 → (r : Refusal)
+        × Appends (E.contents err.old) (E.contents err.new) (refusal_line r)) }
+    ensures nothing { IfOk asked
+        (λ _. result ≡ 1 → Keeps (W.contents out.old) (W.contents out.new)) }
+    ensures told { IfErr asked
+        (λ fault. EndsMistaken fault result (W.contents out.old) (W.contents out.new)
+        (E.contents err.old) (E.contents err.new)) }
 {
     match asked {
         Ok(options) => {

@@ -1,15 +1,19 @@
-//! Whole sessions and whole programs: the worked runs, every refusal in its place, gates that hold a
-//! thread up, live keys, and streams that fail.
-mod gates;
+//! Whole sessions and whole programs: the worked runs, every refusal in its place, gates that hold
+//! a thread up, live keys, and streams that fail.
+mod interrupts;
 mod limits;
 mod live;
+mod memory;
+mod orders;
 mod program;
 mod rows;
 mod streams;
 mod threads;
 mod unread;
+mod until;
 
 use agc_args::parse_args;
+use agc_listing::{DIVISION, EDRUPT, IDLE, KEYED_WRITES, RELAY_WORD, WRITES, rope_file};
 use agc_pipe::{Gate, Open};
 use agc_session::{DONE, Options, REFUSED, session};
 use std::process::Abort;
@@ -20,23 +24,6 @@ use std::thread::Threads;
 trait Host: AllocGlobal + Abort + Threads + Wait + Sync {}
 
 impl<H: AllocGlobal + Abort + Threads + Wait + Sync> Host for H {}
-
-/// TCF 4000.
-const IDLE: [u8; 2] = [0x30, 0x00];
-
-/// Writes the relay word of PROG 12, and waits.
-const RELAY_WORD: [u8; 10] = [0x70, 0x08, 0x00, 0x0C, 0x04, 0x10, 0x30, 0x06, 0xB0, 0xF2];
-
-/// Divides 2 by 1.
-const DIVISION: [u8; 16] = [
-    0x70, 0x0E, 0x00, 0x0C, 0x04, 0x10, 0x00, 0x0C, 0x20, 0x80, 0, 0, 0, 0, 0, 4,
-];
-
-/// Writes +0 to channel 10 every four cycles.
-const WRITES: [u8; 6] = [0x00, 0x0C, 0x04, 0x10, 0x30, 0x00];
-
-/// Writes +0 to channel 10 once, and stops at EDRUPT.
-const EDRUPT: [u8; 8] = [0x00, 0x0C, 0x04, 0x10, 0x00, 0x0C, 0x1C, 0x00];
 
 /// The panel's lines after `PROG ..`, where no write names their fields.
 const REST: &str = "VERB __
@@ -57,20 +44,42 @@ const DIVIDED: &str = "DivisionUndefined CYCLE 6 WRITES 1\n3 010 00002\n";
 /// The lines of EDRUPT after `STOP `, with the log.
 const EDRUPTED: &str = "Edrupt CYCLE 4 WRITES 1\n1 010 00000\n";
 
-/// A session: the words after `agc rope script`, and the bytes of its files.
+/// What a session has for a rope: the words of a listing, or a file as it stands.
+#[derive(Clone, Copy)]
+enum GivenRope<'a> {
+    Listing(&'a str),
+    File(&'a [u8]),
+}
+
+/// The rope file of a listing.
+fn file_of(rt: &(impl AllocGlobal + Abort), listing: &str) -> Vec<u8> {
+    rope_file(rt.alloc(), listing).expect(rt, "a good listing")
+}
+
+/// A session: the words after `agc rope script`, its rope, and the bytes of its other files.
 #[derive(Clone, Copy)]
 struct Asked<'a> {
     line: &'a str,
-    rope: &'a [u8],
+    rope: GivenRope<'a>,
     script: &'a [u8],
     keys: &'a [u8],
 }
 
-/// A session without live keys.
-fn without_keys<'a>(line: &'a str, rope: &'a [u8], script: &'a [u8]) -> Asked<'a> {
+/// A session on the words of a listing, without live keys.
+fn without_keys<'a>(line: &'a str, listing: &'a str, script: &'a [u8]) -> Asked<'a> {
     Asked {
         line,
-        rope,
+        rope: GivenRope::Listing(listing),
+        script,
+        keys: b"",
+    }
+}
+
+/// A session on a rope file as it stands, without live keys.
+fn on_file<'a>(line: &'a str, file: &'a [u8], script: &'a [u8]) -> Asked<'a> {
+    Asked {
+        line,
+        rope: GivenRope::File(file),
         script,
         keys: b"",
     }
@@ -100,8 +109,16 @@ fn options(rt: &(impl AllocGlobal + Abort), line: &str) -> Options {
 
 /// Runs a session over memory through a gate.
 fn run_gated<G: Gate + Sync>(rt: &impl Host, asked: Asked<'_>, gate: &G) -> Ended {
+    match asked.rope {
+        GivenRope::Listing(listing) => run_on(rt, asked, file_of(rt, listing).as_slice(), gate),
+        GivenRope::File(file) => run_on(rt, asked, file, gate),
+    }
+}
+
+/// The same on the bytes of its rope.
+fn run_on<G: Gate + Sync>(rt: &impl Host, asked: Asked<'_>, mut rope: &[u8], gate: &G) -> Ended {
     let options = options(rt, asked.line);
-    let (mut rope, mut script, mut keys) = (asked.rope, asked.script, asked.keys);
+    let (mut script, mut keys) = (asked.script, asked.keys);
     let mut out = Vec::new(rt.alloc());
     let mut err = Vec::new(rt.alloc());
     let status = session(

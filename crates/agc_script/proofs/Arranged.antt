@@ -117,7 +117,7 @@ unfolding arranged IsInOrder
 arranged-in_order [] = tt
 arranged-in_order (event ∷ events) = put_in-in_order event (arranged events) (arranged-in_order events)
 
-filter-arranged : (c : ℕ) (events : List Event) → filter (at_cycle c) (arranged events) ≡ filter (at_cycle c) events
+pub filter-arranged : (c : ℕ) (events : List Event) → filter (at_cycle c) (arranged events) ≡ filter (at_cycle c) events
 unfolding arranged
 filter-arranged c [] = refl
 filter-arranged c (event ∷ events) =

@@ -57,7 +57,7 @@ take-in_order zero events h = tt
 take-in_order (suc n) [] h = tt
 take-in_order (suc n) (event ∷ events) h = (All-take (λ later. event.cycle ≤ later.cycle) n events h.0, take-in_order n events h.1)
 
-drop-in_order : (n : ℕ) (events : List Event) → IsInOrder events → IsInOrder (drop n events)
+pub drop-in_order : (n : ℕ) (events : List Event) → IsInOrder events → IsInOrder (drop n events)
 unfolding IsInOrder
 drop-in_order zero events h = h
 drop-in_order (suc n) [] h = tt
@@ -74,7 +74,7 @@ append-in_order c (x ∷ xs) ys a b h k =
     )
 
 -- the events before a key, and those after it
-due_before : (c : ℕ) (events : List Event) → All (λ e. e.cycle ≤ c) (take (due_at c events) events)
+pub due_before : (c : ℕ) (events : List Event) → All (λ e. e.cycle ≤ c) (take (due_at c events) events)
 due_before c events i d l =
     let bound : due_at c events ≤ length events = prefix_len-le-length _ events in
     let near : i < due_at c events = omega (arith, length-take-le (due_at c events) events bound) in

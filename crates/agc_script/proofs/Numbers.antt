@@ -1,40 +1,108 @@
--- One more digit of a number.
-use Rattle.std.specs.Prelude.{◌≡◌, ℕ, ◌+◌, ◌-◌, ◌*◌, ◌^◌, ◌≤◌, ◌<◌, Bool, true, false, List, take, length, Some, None, if◌then◌else◌}
-use Rattle.std.specs.List.{list_all}
-use Rattle.std.proofs.Common.{refl, arith, get_or, lit<}
-use Rattle.std.proofs.Math.Nat.{mul-le-mul_left, mul-le-mul_right, pow-le-pow_right}
-use Rattle.std.proofs.lemmas.Bool.Decides.{nat_tests}
-use Rattle.std.proofs.lemmas.Grind.{common_steps, pow_more}
-use Rattle.std.proofs.lemmas.List.Folds.{list_all_more}
-use Rattle.agc_script.specs.Text.{is_digit, digits_value}
+-- The fault of a command with numbers is the lowest of those that its words have.
+use Rattle.std.specs.Prelude.{◌≡◌, ℕ, Bool, true, false, not, ◌&&◌, ◌||◌, nat_le, List, [], ◌∷◌, Option, Some, None, is_none, Ok, Err, if◌then◌else◌, codes}
+use Rattle.std.specs.List.{list_any}
+use Rattle.std.specs.Result.{result_err}
+use Rattle.std.proofs.Common.{refl, arith}
+use Rattle.std.proofs.lemmas.Bool.{le-leb}
+use Rattle.agc_word.specs.Number.{number_from_pattern}
+use Rattle.agc_word.specs.Numeral.{number_of}
+use Rattle.agc_word.specs.declared.pulse.Pulse.{Pulse}
+use Rattle.agc_script.specs.declared.event.What.{What}
+use Rattle.agc_script.specs.declared.event.What.TheVariants as what
+use Rattle.agc_script.specs.declared.fault.FaultKind.{FaultKind}
+use Rattle.agc_script.specs.declared.fault.FaultKind.TheVariants.{UnknownWord, BadNumber, OutOfRange}
+use Rattle.agc_script.specs.Event.{last_bank, last_offset, first_offset}
+use Rattle.agc_script.specs.Command.{is_within, one_of, two_of, three_of, octal_of, decimal_of, input_event, input_of, pulse_named, pulse_event, pulse_of, raise_event, raise_of, poke_event, poke_what_of, command_of}
+use Rattle.agc_script.specs.Fault.{known_and, numbers_of, is_bad, is_beyond_range}
 
--- with a digit more the number is below the next power of ten
-pub next_below : (value base digit i : ℕ) → base ≤ 10 → digit < base → value < 10 ^ i → value * base + digit < 10 ^ (i + 1)
-next_below value base digit i b d v =
-    omega (arith, mul-le-mul_right base v, mul-le-mul_left (10 ^ i) b, pow_more 10 i)
+-- the lowest of three faults
+abbrev pub lowest_of_three : Bool → Bool → Bool → Option FaultKind
+lowest_of_three unknown bad beyond =
+    if unknown then Some UnknownWord else (if bad then Some BadNumber else (if beyond then Some OutOfRange else None))
 
--- thirteen digits fit
-pub digits_fit : (i : ℕ) → i < 13 → 10 ^ (i + 1) ≤ 10 ^ 13
-digits_fit i h = let l : i + 1 ≤ 13 = omega arith in pow-le-pow_right (lit< tt) l
+abbrev pub Judged : List (List ℕ) → Type 0
+Judged words =
+    result_err (command_of words) ≡ lowest_of_three (is_none (numbers_of words)) (known_and (list_any is_bad) (numbers_of words))
+    (known_and (list_any is_beyond_range) (numbers_of words))
 
--- the number without its next digit fits too
-pub product_fits : (value base i : ℕ) → base ≤ 10 → value < 10 ^ i → i < 13 → value * base < 2 ^ 64
-product_fits value base i b v h =
-    omega (arith, mul-le-mul_right base v, mul-le-mul_left (10 ^ i) b, pow_more 10 i, digits_fit i h)
+-- numbers in range, or one that is not
+one_range : (t : Bool) (event : What) → result_err (if t then Ok event else Err OutOfRange) ≡ lowest_of_three false false (not t || false)
+one_range true event = refl
+one_range false event = refl
 
-read_by : (base b digit : ℕ) (t : Bool) → is_digit base b ≡ t → Some digit ≡ (if t then Some (b - 48) else None) → (is_digit base b ≡ true) × (digit ≡ b - 48) × (digit < base)
-read_by base b digit true h e = let same : digit ≡ b - 48 = cc in (h, same, grind (arith, nat_tests))
-read_by base b digit false h e = cc
+two_ranges : (s t : Bool) (event : What) → result_err (if s && t then Ok event else Err OutOfRange) ≡ lowest_of_three false false (not s || (not t || false))
+two_ranges true true event = refl
+two_ranges true false event = refl
+two_ranges false true event = refl
+two_ranges false false event = refl
 
-pub digit_read : (base b digit : ℕ) → Some digit ≡ (if is_digit base b then Some (b - 48) else None) → (is_digit base b ≡ true) × (digit ≡ b - 48) × (digit < base)
-digit_read base b digit e = read_by base b digit (is_digit base b) refl e
+three_ranges : (s t u : Bool) (event : What)
+    → result_err (if (s && t) && u then Ok event else Err OutOfRange) ≡ lowest_of_three false false (not s || (not t || (not u || false)))
+three_ranges true t u event = two_ranges t u event
+three_ranges false t u event = refl
 
--- a digit more, after digits alone
-pub all_digits-more : (base : ℕ) (digits : List ℕ) (i : ℕ) → i < length digits → list_all (is_digit base) (take i digits) ≡ true
-    → is_digit base (get_or digits i 0) ≡ true → list_all (is_digit base) (take (i + 1) digits) ≡ true
-all_digits-more base digits i h all here = rw (list_all_more (is_digit base) digits i 0 h, all, here)
+-- no number is below 0
+none_below : (n : ℕ) → nat_le 0 n ≡ true
+none_below n = le-leb 0 n (omega arith)
 
--- the next digit counts at the end
-pub digits_value-more : (base : ℕ) (digits : List ℕ) (i : ℕ) → i < length digits
-    → digits_value base (take (i + 1) digits) ≡ digits_value base (take i digits) * base + (get_or digits i 0 - 48)
-digits_value-more base digits i h = grind (arith, common_steps)
+-- `input CH VALUE`
+input_known : (a b : List ℕ) (x y : Option ℕ) → number_of 8 6 a ≡ x → number_of 8 6 b ≡ y → Judged (codes "input" ∷ a ∷ b ∷ [])
+unfolding command_of input_of two_of one_of octal_of input_event numbers_of
+input_known a b None y e f = rw e
+input_known a b (Some channel) None e f = rw (e, f)
+input_known a b (Some channel) (Some value) e f = rw (e, f, none_below value) (two_ranges _ _ _)
+
+pub input_judged : (words : List (List ℕ)) → Judged (codes "input" ∷ words)
+unfolding command_of input_of two_of one_of octal_of numbers_of
+input_judged [] = refl
+input_judged (a ∷ []) = refl
+input_judged (a ∷ b ∷ []) = input_known a b (number_of 8 6 a) (number_of 8 6 b) refl refl
+input_judged (a ∷ b ∷ c ∷ []) = refl
+input_judged (a ∷ b ∷ c ∷ d ∷ words) = refl
+
+-- `pulse COUNTER KIND`
+pulse_known : (a b : List ℕ) (x : Option ℕ) (kind : Option Pulse) → number_of 8 6 a ≡ x → pulse_named b ≡ kind → Judged (codes "pulse" ∷ a ∷ b ∷ [])
+unfolding command_of pulse_of two_of one_of octal_of pulse_event numbers_of
+pulse_known a b x None e f = rw f
+pulse_known a b None (Some kind) e f = rw (f, e)
+pulse_known a b (Some counter) (Some kind) e f = rw (f, e) (one_range _ _)
+
+pub pulse_judged : (words : List (List ℕ)) → Judged (codes "pulse" ∷ words)
+unfolding command_of pulse_of two_of one_of octal_of numbers_of
+pulse_judged [] = refl
+pulse_judged (a ∷ []) = refl
+pulse_judged (a ∷ b ∷ []) = pulse_known a b (number_of 8 6 a) (pulse_named b) refl refl
+pulse_judged (a ∷ b ∷ c ∷ []) = refl
+pulse_judged (a ∷ b ∷ c ∷ d ∷ words) = refl
+
+-- `raise N`
+raise_known : (a : List ℕ) (x : Option ℕ) → number_of 10 6 a ≡ x → Judged (codes "raise" ∷ a ∷ [])
+unfolding command_of raise_of one_of decimal_of raise_event numbers_of
+raise_known a None e = rw e
+raise_known a (Some number) e = rw e (one_range _ _)
+
+pub raise_judged : (words : List (List ℕ)) → Judged (codes "raise" ∷ words)
+unfolding command_of raise_of one_of decimal_of numbers_of
+raise_judged [] = refl
+raise_judged (a ∷ []) = raise_known a (number_of 10 6 a) refl
+raise_judged (a ∷ b ∷ []) = refl
+raise_judged (a ∷ b ∷ c ∷ []) = refl
+raise_judged (a ∷ b ∷ c ∷ d ∷ words) = refl
+
+-- `poke BANK OFFSET VALUE`
+poke_known : (a b c : List ℕ) (x y z : Option ℕ) → number_of 8 6 a ≡ x → number_of 8 6 b ≡ y → number_of 8 6 c ≡ z → Judged (codes "poke" ∷ a ∷ b ∷ c ∷ [])
+unfolding command_of poke_what_of three_of two_of one_of octal_of poke_event numbers_of
+poke_known a b c None y z e f g = rw e
+poke_known a b c (Some bank) None z e f g = rw (e, f)
+poke_known a b c (Some bank) (Some offset) None e f g = rw (e, f, g)
+poke_known a b c (Some bank) (Some offset) (Some value) e f g =
+    rw (e, f, g, none_below bank, none_below value)
+    (three_ranges (nat_le bank last_bank) (is_within (first_offset bank) last_offset offset) (nat_le value 0o77777) (what.Poke bank offset (number_from_pattern 15 value)))
+
+pub poke_judged : (words : List (List ℕ)) → Judged (codes "poke" ∷ words)
+unfolding command_of poke_what_of three_of two_of one_of octal_of numbers_of
+poke_judged [] = refl
+poke_judged (a ∷ []) = refl
+poke_judged (a ∷ b ∷ []) = refl
+poke_judged (a ∷ b ∷ c ∷ []) = poke_known a b c (number_of 8 6 a) (number_of 8 6 b) (number_of 8 6 c) refl refl refl
+poke_judged (a ∷ b ∷ c ∷ d ∷ words) = refl

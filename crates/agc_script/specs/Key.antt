@@ -1,4 +1,5 @@
--- The keyboard's keys, by the names that scripts write and the codes that the computer reads in channel 15.
+-- The keyboard's keys, by the names that scripts write and the codes that the computer reads in
+-- channel 15 octal.
 use Rattle.std.specs.Prelude.{ℕ, List, [], ◌∷◌, Option, find, codes}
 use Rattle.std.specs.Str.{bytes_eq}
 use Rattle.agc_script.specs.declared.key.Key.{Key}
@@ -25,7 +26,7 @@ name_of key.Minus = codes "-"
 name_of key.Enter = codes "ENTR"
 name_of key.Clear = codes "CLR"
 
--- the code of a key: five bits, which the keyboard puts into channel 15
+-- the code of a key: five bits, which the keyboard puts into channel 15 octal
 unfoldable pub code_of : Key → ℕ
 code_of key.Zero = 0o20
 code_of key.One = 0o1
@@ -49,8 +50,9 @@ code_of key.Clear = 0o36
 -- every key, once
 unfoldable pub all_keys : List Key
 all_keys =
-    key.Zero ∷ key.One ∷ key.Two ∷ key.Three ∷ key.Four ∷ key.Five ∷ key.Six ∷ key.Seven ∷ key.Eight ∷ key.Nine ∷ key.Verb
-    ∷ key.Noun ∷ key.Reset ∷ key.KeyRelease ∷ key.Plus ∷ key.Minus ∷ key.Enter ∷ key.Clear ∷ []
+    key.Zero ∷ key.One ∷ key.Two ∷ key.Three ∷ key.Four ∷ key.Five ∷ key.Six ∷ key.Seven
+    ∷ key.Eight ∷ key.Nine ∷ key.Verb ∷ key.Noun ∷ key.Reset ∷ key.KeyRelease ∷ key.Plus
+    ∷ key.Minus ∷ key.Enter ∷ key.Clear ∷ []
 
 -- the key with this name, where there is one
 unfoldable pub key_named : List ℕ → Option Key

@@ -7,3 +7,6 @@ pub mod Line
 pub mod Parse
 pub mod Tape
 pub mod Merge
+pub mod Said
+pub mod Fault
+pub mod Laws

@@ -1,5 +1,7 @@
 -- A script with the live keys of a tape in it.
-use Rattle.std.specs.Prelude.{ℕ, nat_lt, List, [], ◌∷◌, ◌++◌, take, drop}
+use Rattle.std.specs.Prelude.{◌≡◌, ◌⊎◌, ℕ, ◌≤◌, ◌<◌, nat_lt, List, [], ◌∷◌, ◌++◌, map, take, drop}
+use Rattle.std.specs.Prelude.{filter_map, All, Option, Some, None}
+use Rattle.std.proofs.Common.{inl, inr}
 use Rattle.std.specs.List.{position_or_len}
 use Rattle.agc_script.specs.declared.key.Key.{Key}
 use Rattle.agc_script.specs.declared.event.Event.{Event}
@@ -15,12 +17,52 @@ key_event entry = record { cycle = entry.0; what = what.Key entry.1 }
 abbrev pub due_at : ℕ → List Event → ℕ
 due_at cycle events = position_or_len (λ event. nat_lt cycle event.cycle) events
 
--- The events of a script and of a tape in one list: each live key stands after all script events of its cycle or less, and
--- before all others.
+-- The events of a script and of a tape in one list: each live key stands after all script events of
+-- its cycle or less, and before all others.
 unfoldable pub merged : List Event → List (ℕ × Key) → List Event
 merged events [] = events
 merged events (entry ∷ tape) =
-    let due = due_at entry.0 events in take due events ++ key_event entry ∷ merged (drop due events) tape
+    let due = due_at entry.0 events in
+    take due events ++ key_event entry ∷ merged (drop due events) tape
+
+-- an entry of a merge: an event of the script, or a live key of the tape
+abbrev pub Entry : Type 0
+Entry = Event ⊎ (ℕ × Key)
+
+-- what an entry is as an event
+abbrev pub event_of : Entry → Event
+event_of (inl event) = event
+event_of (inr key) = key_event key
+
+-- the script's event that an entry is, or the tape's key
+abbrev pub scripted : Entry → Option Event
+scripted (inl event) = Some event
+scripted (inr key) = None
+
+abbrev pub live : Entry → Option (ℕ × Key)
+live (inl event) = None
+live (inr key) = Some key
+
+-- Of an event and a live key the event stands first where it is due at the key's cycle, and else
+-- the key.
+abbrev pub ComesBefore : Entry → Entry → Type 0
+ComesBefore (inl event) (inr key) = event.cycle ≤ key.0
+ComesBefore (inr key) (inl event) = key.0 < event.cycle
+ComesBefore (inl event) (inl later) = Unit {0}
+ComesBefore (inr key) (inr later) = Unit {0}
+
+unfoldable pub AreInPlace : List Entry → Type 0
+AreInPlace [] = Unit {0}
+AreInPlace (entry ∷ entries) = All (ComesBefore entry) entries × AreInPlace entries
+
+-- A merge has both lists in it, each in its order, and nothing else; before each live key stand the
+-- events of its cycle or less, and no others.
+pub record IsMerge (events : List Event) (tape : List (ℕ × Key)) (all : List Event) : Type 0 where
+  pub entries : List Entry
+  pub all_are : all ≡ map event_of entries
+  pub events_are : filter_map scripted entries ≡ events
+  pub keys_are : filter_map live entries ≡ tape
+  pub in_place : AreInPlace entries
 
 -- a merge is refused with no line
 abbrev pub too_many : ScriptFault

@@ -1,5 +1,6 @@
 -- The script that a file of lines is, or its first faulty line.
-use Rattle.std.specs.Prelude.{ℕ, ◌+◌, ◌*◌, ◌<◌, ◌≤◌, nat_le, List, [], ◌∷◌, ◌++◌, length, map, Option, Some, None, Result, Ok, Err, IfErr, if◌then◌else◌}
+use Rattle.std.specs.Prelude.{ℕ, ◌+◌, ◌*◌, ◌<◌, ◌≤◌, nat_le, List, [], ◌∷◌, ◌++◌, length, map}
+use Rattle.std.specs.Prelude.{Option, Some, None, Result, Ok, Err, IfErr, if◌then◌else◌}
 use Rattle.std.specs.List.{range_with_len}
 use Rattle.agc_script.specs.Text.{lines_of}
 use Rattle.agc_script.specs.Command.{and_then}
@@ -26,13 +27,15 @@ abbrev pub start_said : ℕ → Option Repeat → ℕ
 start_said last None = last
 start_said last (Some repeat) = repeat.start
 
--- The start and the events after one more line, where the last event line started at `last` and these events stand before.
+-- The start and the events after one more line, where the last event line started at `last` and
+-- these events stand before.
 unfoldable pub taken : ℕ → List Event → List ℕ → Result (ℕ × List Event) FaultKind
 taken last events line =
-    and_then (meaning_of last (length events) line) (λ said. Ok (start_said last said, events ++ events_said said))
+    and_then (meaning_of last (length events) line)
+    (λ said. Ok (start_said last said, events ++ events_said said))
 
--- The events that lines bring, in the order of the lines, or the first faulty line with its lowest kind of fault; n is the
--- number of the first of the lines.
+-- The events that lines bring, in the order of the lines, or the first faulty line with its lowest
+-- kind of fault; n is the number of the first of the lines.
 unfoldable pub reading : ℕ → ℕ → List Event → List (List ℕ) → Result (List Event) ScriptFault
 reading n last events [] = Ok events
 reading n last events (line ∷ lines) =
@@ -44,7 +47,8 @@ reading n last events (line ∷ lines) =
 -- a list in the order of the cycles with one more event, which stands before those of its cycle
 unfoldable pub put_in : Event → List Event → List Event
 put_in event [] = event ∷ []
-put_in event (first ∷ events) = if nat_le event.cycle first.cycle then event ∷ first ∷ events else first ∷ put_in event events
+put_in event (first ∷ events) =
+    if nat_le event.cycle first.cycle then event ∷ first ∷ events else first ∷ put_in event events
 
 -- the events in the order of their cycles; events of one cycle keep the order of their lines
 unfoldable pub arranged : List Event → List Event

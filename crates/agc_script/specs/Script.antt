@@ -1,15 +1,16 @@
 -- The list of events that a script is.
 use Rattle.std.specs.Prelude.{◌≤◌, List, [], ◌∷◌, length, All}
 use Rattle.agc_script.specs.declared.event.Event.{Event}
-use Rattle.agc_script.specs.Event.{IsInRange}
+use Rattle.agc_script.specs.Event.{IsInRange, most_events}
 
 -- the cycles never fall: no later event has a lower cycle
 unfoldable pub IsInOrder : List Event → Type 0
 IsInOrder [] = Unit {0}
 IsInOrder (event ∷ events) = All (λ later. event.cycle ≤ later.cycle) events × IsInOrder events
 
--- what holds of every script: each event in its ranges, cycles that never fall, and 65,536 events at most
+-- what holds of every script: each event in its ranges, cycles that never fall, and no more events
+-- than there may be
 pub record IsScript (events : List Event) : Type 0 where
   pub in_range : All IsInRange events
   pub in_order : IsInOrder events
-  pub few : length events ≤ 65536
+  pub few : length events ≤ most_events

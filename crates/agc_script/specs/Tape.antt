@@ -1,4 +1,4 @@
--- Keys that were pressed live, with the cycles at which the machine took them, and their merge with a script.
+-- Keys that were pressed live, with the cycles at which the machine took them.
 use Rattle.std.specs.Prelude.{ℕ, ◌-◌, ◌≤◌, ◌<◌, List, [], ◌∷◌, length, slice_get, All, IfSome}
 use Rattle.agc_script.specs.declared.key.Key.{Key}
 use Rattle.agc_script.specs.Event.{last_cycle}

@@ -3,14 +3,37 @@ ghost use Rattle.std.specs.Prelude.{◌≡◌, IfOk, IfSome, MatchOption, Some, 
 ghost use Rattle.std.specs.Str.{bytes_eq};
 ghost use Rattle.agc_script.specs.Text.{words_of};
 ghost use Rattle.agc_script.specs.Event.{IsWhatInRange};
-ghost use Rattle.agc_script.specs.Command.{one_of, two_of, three_of, octal_of, decimal_of, key_of, direction_named, pro_of, input_event, input_of, pulse_named, pulse_event, pulse_of, raise_event, raise_of, poke_event, poke_of, command_of};
+ghost use Rattle.agc_script.specs.Command.{one_of, two_of, three_of, octal_of, decimal_of, key_of};
+ghost use Rattle.agc_script.specs.Command.{direction_named, pro_of, input_event, input_of};
+ghost use Rattle.agc_script.specs.Command.{pulse_named, pulse_event, pulse_of, raise_event};
+ghost use Rattle.agc_script.specs.Command.{raise_of, poke_event, poke_what_of, command_of};
 
 use crate::event::What;
 use crate::fault::FaultKind;
 use crate::key::Key;
-use crate::number::{narrow, read_number};
 use crate::text::next_word;
-use agc_word::Pulse;
+use agc_word::{FIRST_IO_CHANNEL, LAST_IO_CHANNEL, Narrow, Pulse};
+
+/// The first cell of bank 0 that pulses step, TIME2.
+const FIRST_COUNTER: u64 = 0o24;
+
+/// The last cell of bank 0 that pulses step.
+const LAST_COUNTER: u64 = 0o60;
+
+/// The number of RUPT10; that of T6RUPT is 1.
+const LAST_INTERRUPT: u64 = 10;
+
+/// The last bank of erasable memory.
+const LAST_BANK: u64 = 0o7;
+
+/// The last offset in a bank of erasable memory.
+const LAST_OFFSET: u64 = 0o377;
+
+/// The first offset of bank 0 behind the registers.
+const FIRST_BEHIND_REGISTERS: u64 = 0o10;
+
+/// The greatest pattern of a word.
+const LAST_PATTERN: u64 = 0o77777;
 
 /// The event that a command and its arguments say.
 #[tactic(auto, unfolding(crate::specs::Command::command_of))]
@@ -87,12 +110,15 @@ fn input(channel: u64, value: u64) -> Result<What, FaultKind>
     ensures input { result ≡ input_event channel value }
     ensures range { IfOk result IsWhatInRange }
 {
-    if channel < 0o5 || channel > 0o777 || value > 0o77777 {
+    if channel < FIRST_IO_CHANNEL.into()
+        || channel > LAST_IO_CHANNEL.into()
+        || value > LAST_PATTERN
+    {
         return Err(FaultKind::OutOfRange);
     }
     Ok(What::Input {
         channel: channel as u16,
-        value: narrow(value as u16),
+        value: Narrow::with_bits(value as u16),
     })
 }
 
@@ -104,7 +130,7 @@ fn read_pulse(words: &[u8]) -> Result<What, FaultKind>
     let (counter, kind) = two_words(words).ok_or(FaultKind::UnknownWord)?;
     let kind = read_kind(kind).ok_or(FaultKind::UnknownWord)?;
     let counter = read_octal(counter)?;
-    pulse(counter, kind)
+    pulse(kind, counter)
 }
 
 /// The pulse of a name; a script has no Dinc.
@@ -132,12 +158,12 @@ fn read_kind(name: &[u8]) -> Option<Pulse>
 
 /// The pulse of a counter, where that is in range.
 #[tactic(auto, unfolding(crate::specs::Command::pulse_event, crate::specs::Event::IsWhatInRange))]
-fn pulse(counter: u64, kind: Pulse) -> Result<What, FaultKind>
+fn pulse(kind: Pulse, counter: u64) -> Result<What, FaultKind>
     requires { kind ≢ Pulse.Dinc }
-    ensures pulse { result ≡ pulse_event counter kind }
+    ensures pulse { result ≡ pulse_event kind counter }
     ensures range { IfOk result IsWhatInRange }
 {
-    if counter < 0o24 || counter > 0o60 {
+    if counter < FIRST_COUNTER || counter > LAST_COUNTER {
         return Err(FaultKind::OutOfRange);
     }
     Ok(What::Pulse {
@@ -162,15 +188,15 @@ fn raise(number: u64) -> Result<What, FaultKind>
     ensures raise { result ≡ raise_event number }
     ensures range { IfOk result IsWhatInRange }
 {
-    if number < 1 || number > 10 {
+    if number < 1 || number > LAST_INTERRUPT {
         return Err(FaultKind::OutOfRange);
     }
     Ok(What::Raise(number as u8))
 }
 
-#[tactic(auto, unfolding(crate::specs::Command::poke_of))]
+#[tactic(auto, unfolding(crate::specs::Command::poke_what_of))]
 fn read_poke(words: &[u8]) -> Result<What, FaultKind>
-    ensures poke { result ≡ poke_of (words_of words.now) }
+    ensures poke { result ≡ poke_what_of (words_of words.now) }
     ensures range { IfOk result IsWhatInRange }
 {
     let (bank, offset, value) = three_words(words).ok_or(FaultKind::UnknownWord)?;
@@ -186,14 +212,14 @@ fn poke(bank: u64, offset: u64, value: u64) -> Result<What, FaultKind>
     ensures poke { result ≡ poke_event bank offset value }
     ensures range { IfOk result IsWhatInRange }
 {
-    let first = if bank == 0 { 0o10 } else { 0 };
-    if bank > 7 || offset < first || offset > 0o377 || value > 0o77777 {
+    let first = if bank == 0 { FIRST_BEHIND_REGISTERS } else { 0 };
+    if bank > LAST_BANK || offset < first || offset > LAST_OFFSET || value > LAST_PATTERN {
         return Err(FaultKind::OutOfRange);
     }
     Ok(What::Poke {
         bank: bank as u8,
         offset: offset as u16,
-        value: narrow(value as u16),
+        value: Narrow::with_bits(value as u16),
     })
 }
 
@@ -207,7 +233,8 @@ pub(crate) fn is(word: &[u8], name: &str) -> bool
 /// The only word of a text.
 #[tactic(auto, unfolding(crate::specs::Command::one_of))]
 fn one_word(text: &[u8]) -> Option<&[u8]>
-    ensures { MatchOption result (one_of (words_of text.now) ≡ None) (λ w. one_of (words_of text.now) ≡ Some w.now) }
+    ensures { MatchOption result (one_of (words_of text.now) ≡ None)
+        (λ w. one_of (words_of text.now) ≡ Some w.now) }
 {
     let (word, rest) = next_word(text)?;
     match next_word(rest) {
@@ -219,7 +246,8 @@ fn one_word(text: &[u8]) -> Option<&[u8]>
 /// The words of a text of two.
 #[tactic(auto, unfolding(crate::specs::Command::two_of))]
 fn two_words(text: &[u8]) -> Option<(&[u8], &[u8])>
-    ensures { MatchOption result (two_of (words_of text.now) ≡ None) (λ w. two_of (words_of text.now) ≡ Some (w.0.now, w.1.now)) }
+    ensures { MatchOption result (two_of (words_of text.now) ≡ None)
+        (λ w. two_of (words_of text.now) ≡ Some (w.0.now, w.1.now)) }
 {
     let (first, rest) = next_word(text)?;
     let second = one_word(rest)?;
@@ -229,7 +257,8 @@ fn two_words(text: &[u8]) -> Option<(&[u8], &[u8])>
 /// The words of a text of three.
 #[tactic(auto, unfolding(crate::specs::Command::three_of))]
 fn three_words(text: &[u8]) -> Option<(&[u8], &[u8], &[u8])>
-    ensures { MatchOption result (three_of (words_of text.now) ≡ None) (λ w. three_of (words_of text.now) ≡ Some (w.0.now, w.1.now, w.2.now)) }
+    ensures { MatchOption result (three_of (words_of text.now) ≡ None)
+        (λ w. three_of (words_of text.now) ≡ Some (w.0.now, w.1.now, w.2.now)) }
 {
     let (first, rest) = next_word(text)?;
     let (second, third) = two_words(rest)?;
@@ -241,7 +270,7 @@ fn three_words(text: &[u8]) -> Option<(&[u8], &[u8], &[u8])>
 fn read_octal(word: &[u8]) -> Result<u64, FaultKind>
     ensures { result ≡ octal_of word.now }
 {
-    read_number(8, 6, word).ok_or(FaultKind::BadNumber)
+    agc_word::read_octal(6, word).ok_or(FaultKind::BadNumber)
 }
 
 /// The decimal number that a word writes.
@@ -249,5 +278,5 @@ fn read_octal(word: &[u8]) -> Result<u64, FaultKind>
 fn read_decimal(word: &[u8]) -> Result<u64, FaultKind>
     ensures { result ≡ decimal_of word.now }
 {
-    read_number(10, 6, word).ok_or(FaultKind::BadNumber)
+    agc_word::read_decimal(6, word).ok_or(FaultKind::BadNumber)
 }

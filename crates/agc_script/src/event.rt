@@ -11,9 +11,10 @@ pub(crate) const MOST_EVENTS: usize = 65_536;
 /// Something that happens from outside, as the machine takes it between two orders.
 #[derive(Clone, Copy, Debug, PartialEq, Eq)]
 pub enum What {
-    /// A key of the keyboard is pressed: its code goes into channel 15, and KEYRUPT1 is requested.
+    /// A key of the keyboard is pressed: its code goes into channel 15 octal, and KEYRUPT1 is
+    /// requested.
     Key(Key),
-    /// The PRO key goes down, or up again where false: bit 14 of channel 32.
+    /// The PRO key goes down, or up again where false: bit 14 of channel 32 octal.
     Pro(bool),
     /// A channel, 5 to 777 octal, gets a word.
     Input {

@@ -1,7 +1,7 @@
 //! Why a script is refused.
 use thiserror::Error;
 
-/// What is wrong with a line. Of several faults of one line the first of this list is told.
+/// What is wrong with a line. Of several faults of one line the first in this list is told.
 #[derive(Clone, Copy, Debug, Error, PartialEq, Eq)]
 pub enum FaultKind {
     /// More than 120 bytes.
@@ -28,7 +28,7 @@ pub enum FaultKind {
     /// With this line there would be more than 65,536 events.
     #[error("there are more than 65536 events")]
     TooMany,
-    /// A growth was refused at this line.
+    /// Out of memory at this line.
     #[error("out of memory")]
     Memory,
 }

@@ -3,10 +3,9 @@ ghost use Rattle.std.specs.Prelude.{◌≡◌, IfSome};
 ghost use Rattle.agc_word.specs.Number.{number_from_pattern};
 ghost use Rattle.agc_script.specs.Key.{name_of, code_of, key_named};
 
-use crate::number::narrow;
 use agc_word::Narrow;
 
-/// A key of the keyboard with a code. PRO has none: it is a switch of its own in channel 32.
+/// A key of the keyboard with a code. PRO has none: it is a switch of its own in channel 32 octal.
 #[derive(Clone, Copy, Debug, PartialEq, Eq)]
 pub enum Key {
     Zero,
@@ -69,7 +68,7 @@ impl Key {
         }
     }
 
-    /// The code that the key puts into channel 15, five bits.
+    /// The code that the key puts into channel 15 octal, five bits.
     #[tactic(auto, unfolding(crate::specs::Key::code_of))]
     pub fn code(self) -> Narrow
         ensures { result ≡ number_from_pattern 15 (code_of self) }
@@ -94,7 +93,7 @@ impl Key {
             Key::Enter => 0o34,
             Key::Clear => 0o36,
         };
-        narrow(bits)
+        Narrow::with_bits(bits)
     }
 }
 

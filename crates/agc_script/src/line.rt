@@ -1,14 +1,15 @@
 //! One line of a script: no event, one, or one that comes again and again.
-ghost use Rattle.std.specs.Prelude.{◌≡◌, ◌-◌, ◌*◌, ◌+◌, ◌≤◌, length, IfOk, IfErr, IfSome, ◌≢◌, nat_le};
+ghost use Rattle.std.specs.Prelude.{◌≡◌, ◌-◌, ◌*◌, ◌+◌, ◌≤◌, length, IfOk, IfErr, IfSome, ◌≢◌};
 ghost use Rattle.std.specs.List.{list_any};
-ghost use Rattle.agc_script.specs.Event.{IsWhatInRange};
+ghost use Rattle.agc_script.specs.Event.{IsWhatInRange, last_cycle, most_events};
 ghost use Rattle.agc_script.specs.Text.{words_of};
-ghost use Rattle.agc_script.specs.Line.{IsRepeatInRange, cycle_word, in_turn, once_of, repeat_of, every_of, within_bound, words_meaning, meaning_of};
+ghost use Rattle.agc_script.specs.Line.{IsRepeatInRange, is_beyond_ascii, cycle_of, cycle_word};
+ghost use Rattle.agc_script.specs.Line.{in_turn, once_of, repeat_of, every_of, within_bound};
+ghost use Rattle.agc_script.specs.Line.{words_meaning, meaning_of};
 
 use crate::command::{is, read_command};
-use crate::event::{MOST_EVENTS, What};
+use crate::event::{LAST_CYCLE, MOST_EVENTS, What};
 use crate::fault::FaultKind;
-use crate::number::read_cycle;
 use crate::text::next_word;
 
 /// The most bytes that a line may have, its end apart.
@@ -27,11 +28,12 @@ pub(crate) struct Repeat {
 /// and so many events stand before this line.
 #[tactic(auto, unfolding(crate::specs::Line::meaning_of))]
 pub(crate) fn read_line(last: u64, before: usize, line: &[u8]) -> Result<Option<Repeat>, FaultKind>
-    requires { before ≤ 65536 }
+    requires { before ≤ most_events }
     ensures meaning { result ≡ meaning_of last before line.now }
     ensures kind { IfErr result (λ kind. kind ≢ FaultKind.Memory) }
     ensures range { IfOk result (λ said. IfSome said IsRepeatInRange) }
-    ensures room { IfOk result (λ said. IfSome said (λ repeat. before + repeat.times ≤ 65536)) }
+    ensures room { IfOk result
+        (λ said. IfSome said (λ repeat. before + repeat.times ≤ most_events)) }
 {
     if line.len() > LONGEST_LINE {
         Err(FaultKind::LineTooLong)
@@ -44,17 +46,18 @@ pub(crate) fn read_line(last: u64, before: usize, line: &[u8]) -> Result<Option<
 
 /// Whether a byte is beyond ASCII.
 fn has_high_byte(line: &[u8]) -> bool
-    ensures { result ≡ list_any (λ b. nat_le 128 b) line.now }
+    ensures { result ≡ list_any is_beyond_ascii line.now }
 {
-    line.iter().any(|b| *b >= 128)
+    line.iter().any(|b| *b >= 0x80)
 }
 
 #[tactic(auto, unfolding(crate::specs::Line::words_meaning))]
 fn read_words(last: u64, before: usize, line: &[u8]) -> Result<Option<Repeat>, FaultKind>
-    requires { before ≤ 65536 }
+    requires { before ≤ most_events }
     ensures meaning { result ≡ words_meaning last before (words_of line.now) }
     ensures range { IfOk result (λ said. IfSome said IsRepeatInRange) }
-    ensures room { IfOk result (λ said. IfSome said (λ repeat. before + repeat.times ≤ 65536)) }
+    ensures room { IfOk result
+        (λ said. IfSome said (λ repeat. before + repeat.times ≤ most_events)) }
 {
     let Some((first, words)) = next_word(line) else {
         return Ok(None);
@@ -73,11 +76,12 @@ fn read_words(last: u64, before: usize, line: &[u8]) -> Result<Option<Repeat>, F
 /// The events of a line, if the script has room for them.
 #[tactic(auto, unfolding(crate::specs::Line::within_bound))]
 fn bounded(before: usize, repeat: Repeat) -> Result<Option<Repeat>, FaultKind>
-    requires before { before ≤ 65536 }
+    requires before { before ≤ most_events }
     requires range { IsRepeatInRange repeat }
     ensures bound { result ≡ within_bound before repeat }
     ensures range { IfOk result (λ said. IfSome said IsRepeatInRange) }
-    ensures room { IfOk result (λ said. IfSome said (λ repeat. before + repeat.times ≤ 65536)) }
+    ensures room { IfOk result
+        (λ said. IfSome said (λ repeat. before + repeat.times ≤ most_events)) }
 {
     if before as u64 + repeat.times > MOST_EVENTS as u64 {
         return Err(FaultKind::TooMany);
@@ -101,11 +105,20 @@ fn read_once(last: u64, first: &[u8], words: &[u8]) -> Result<Repeat, FaultKind>
     })
 }
 
+/// The cycle that a word writes: one to thirteen decimal digits, at most 1,000,000,000,000.
+#[tactic(auto, unfolding(crate::specs::Line::cycle_of))]
+fn read_cycle(word: &[u8]) -> Option<u64>
+    ensures cycle { result ≡ cycle_of word.now }
+    ensures range { IfSome result (λ cycle. cycle ≤ last_cycle) }
+{
+    agc_word::read_decimal(13, word).filter(|cycle| *cycle <= LAST_CYCLE)
+}
+
 /// The cycle that a word has to write.
 #[tactic(auto, unfolding(crate::specs::Line::cycle_word))]
 fn read_cycle_word(word: &[u8]) -> Result<u64, FaultKind>
     ensures cycle { result ≡ cycle_word word.now }
-    ensures range { IfOk result (λ cycle. cycle ≤ 1000000000000) }
+    ensures range { IfOk result (λ cycle. cycle ≤ last_cycle) }
 {
     read_cycle(word).ok_or(FaultKind::BadCycle)
 }
@@ -145,7 +158,7 @@ fn read_every(last: u64, words: &[u8]) -> Result<Repeat, FaultKind>
 /// What happens each so many cycles from a start up to an end.
 #[tactic(auto, unfolding(crate::specs::Line::repeat_of))]
 fn repeated(period: u64, start: u64, end: u64, what: What) -> Result<Repeat, FaultKind>
-    requires end { end ≤ 1000000000000 }
+    requires end { end ≤ last_cycle }
     requires what { IsWhatInRange what }
     ensures repeat { result ≡ repeat_of period start end what }
     ensures range { IfOk result IsRepeatInRange }

@@ -1,5 +1,7 @@
 //! The merge: a script with the live keys of a tape in it.
-ghost use Rattle.std.specs.Prelude.{◌≡◌, ◌+◌, ◌<◌, ◌≤◌, [], ◌∷◌, ◌++◌, length, take, position, nat_lt, OnOk, IfOk, IfSome};
+ghost use Rattle.std.specs.Prelude.{◌≡◌, ◌+◌, ◌<◌, ◌≤◌, [], ◌∷◌, ◌++◌, length, take, position};
+ghost use Rattle.std.specs.Prelude.{nat_lt, OnOk, IfOk, IfSome};
+ghost use Rattle.agc_script.specs.Event.{most_events};
 ghost use Rattle.agc_script.specs.Merge.{merged, due_at, key_event};
 
 use crate::event::{Event, What};
@@ -12,7 +14,7 @@ pub(crate) fn merge_events(
     script: &[Event],
     tape: &[(u64, Key)],
 ) -> Result<Vec<Event>, AllocError>
-    requires { length script.now + length tape.now ≤ 65536 }
+    requires { length script.now + length tape.now ≤ most_events }
     ensures { IfOk result (λ events. events.items ≡ merged script.now tape.now) }
 {
     let mut events = Vec::with_capacity(alloc, script.len() + tape.len())?;
@@ -27,7 +29,7 @@ fn push_merged(
     script: &[Event],
     tape: &[(u64, Key)],
 ) -> Result<(), AllocError>
-    requires { length script.now ≤ 65536 }
+    requires { length script.now ≤ most_events }
     ensures { OnOk result (events.new.items ≡ events.old.items ++ merged script.now tape.now) }
 {
     let mut rest = script;
@@ -48,7 +50,9 @@ fn push_key(
 ) -> Result<usize, AllocError>
     ensures due { IfOk result (λ due. due ≡ due_at cycle script.now) }
     ensures bound { IfOk result (λ due. due ≤ length script.now) }
-    ensures events { IfOk result (λ due. events.new.items ≡ (events.old.items ++ take due script.now) ++ key_event (cycle, key) ∷ []) }
+    ensures events { IfOk result
+        (λ due. events.new.items ≡ (events.old.items ++ take due script.now)
+        ++ key_event (cycle, key) ∷ []) }
 {
     let due = first_later(script, cycle).unwrap_or(script.len());
     events.extend_from_slice(&script[..due])?;

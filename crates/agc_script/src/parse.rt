@@ -1,10 +1,13 @@
 //! The parser: a file's lines, one after another, and their events in the order of their cycles.
-ghost use Rattle.std.specs.Prelude.{◌≡◌, ◌≢◌, ◌+◌, ◌*◌, ◌<◌, ◌≤◌, [], ◌++◌, length, Ok, Err, IsOk, IfOk, IfErr, OnOk, OnErr, All};
+ghost use Rattle.std.specs.Prelude.{◌≡◌, ◌≢◌, ◌+◌, ◌*◌, ◌<◌, ◌≤◌, [], ◌++◌, length, Ok, Err, IsOk};
+ghost use Rattle.std.specs.Prelude.{IfOk, IfErr, OnOk, OnErr, All};
 ghost use Rattle.std.specs.List.Sorted.{IsPermutation};
 ghost use Rattle.agc_script.specs.Text.{lines_of};
-ghost use Rattle.agc_script.specs.Event.{IsInRange};
+ghost use Rattle.agc_script.specs.Event.{IsInRange, most_events};
+ghost use Rattle.agc_script.specs.Fault.{AreFaultless, IsFirstFault};
 ghost use Rattle.agc_script.specs.Line.{IsRepeatInRange};
-ghost use Rattle.agc_script.specs.Parse.{events_of, taken, reading, arranged, script_of, IsSoundLine};
+ghost use Rattle.agc_script.specs.Parse.{events_of, taken, reading, arranged, script_of};
+ghost use Rattle.agc_script.specs.Parse.{IsSoundLine};
 
 use crate::event::Event;
 use crate::fault::{FaultKind, ScriptFault};
@@ -25,9 +28,17 @@ pub(crate) fn read_lines(alloc: Global, file: &[u8]) -> Result<Reading, ScriptFa
     ensures ok { IfOk result (λ read. reading 1 0 [] (lines_of file.now) ≡ Ok read.events.items) }
     ensures lines { IfOk result (λ read. read.lines ≡ length (lines_of file.now)) }
     ensures range { IfOk result (λ read. All IsInRange read.events.items) }
-    ensures few { IfOk result (λ read. length read.events.items ≤ 65536) }
-    ensures fault { IfErr result (λ fault. fault.kind ≢ FaultKind.Memory → script_of file.now ≡ Err fault) }
-    ensures memory { IfErr result (λ fault. fault.kind ≡ FaultKind.Memory → IsSoundLine file.now fault.line) }
+    ensures few { IfOk result (λ read. length read.events.items ≤ most_events) }
+    ensures faultless { IfOk result
+        (λ _. AreFaultless (lines_of file.now) (length (lines_of file.now))) }
+    ensures fault { IfErr result
+        (λ fault. fault.kind ≢ FaultKind.Memory → script_of file.now ≡ Err fault) }
+    ensures first_fault { IfErr result
+        (λ fault. fault.kind ≢ FaultKind.Memory → IsFirstFault (lines_of file.now) fault) }
+    ensures sound { IfErr result
+        (λ fault. fault.kind ≡ FaultKind.Memory → AreFaultless (lines_of file.now) fault.line) }
+    ensures memory { IfErr result
+        (λ fault. fault.kind ≡ FaultKind.Memory → IsSoundLine file.now fault.line) }
 {
     let mut events = Vec::new(alloc);
     let mut last = 0;
@@ -48,12 +59,15 @@ pub(crate) fn read_lines(alloc: Global, file: &[u8]) -> Result<Reading, ScriptFa
 #[tactic(auto, unfolding(crate::specs::Parse::taken))]
 fn take_line(events: &mut Vec<Event>, last: u64, line: &[u8]) -> Result<u64, FaultKind>
     requires range { All IsInRange events.old.items }
-    requires few { length events.old.items ≤ 65536 }
-    ensures ok { IfOk result (λ start. taken last events.old.items line.now ≡ Ok (start, events.new.items)) }
+    requires few { length events.old.items ≤ most_events }
+    ensures ok { IfOk result
+        (λ start. taken last events.old.items line.now ≡ Ok (start, events.new.items)) }
     ensures range { OnOk result (All IsInRange events.new.items) }
-    ensures few { OnOk result (length events.new.items ≤ 65536) }
-    ensures fault { IfErr result (λ kind. kind ≢ FaultKind.Memory → taken last events.old.items line.now ≡ Err kind) }
-    ensures memory { IfErr result (λ kind. kind ≡ FaultKind.Memory → IsOk (taken last events.old.items line.now)) }
+    ensures few { OnOk result (length events.new.items ≤ most_events) }
+    ensures fault { IfErr result
+        (λ kind. kind ≢ FaultKind.Memory → taken last events.old.items line.now ≡ Err kind) }
+    ensures memory { IfErr result
+        (λ kind. kind ≡ FaultKind.Memory → IsOk (taken last events.old.items line.now)) }
 {
     match read_line(last, events.len(), line)? {
         None => Ok(last),
@@ -73,7 +87,8 @@ fn push_events(events: &mut Vec<Event>, repeat: &Repeat) -> Result<(), AllocErro
     requires range { All IsInRange events.old.items }
     ensures ok { OnOk result (events.new.items ≡ events.old.items ++ events_of repeat.now) }
     ensures range { OnOk result (All IsInRange events.new.items) }
-    ensures len { OnOk result (length events.new.items ≡ length events.old.items + repeat.now.times) }
+    ensures len { OnOk result (length events.new.items
+        ≡ length events.old.items + repeat.now.times) }
 {
     events.reserve(repeat.times as usize)?;
     for i in 0..repeat.times {
@@ -85,7 +100,8 @@ fn push_events(events: &mut Vec<Event>, repeat: &Repeat) -> Result<(), AllocErro
     Ok(())
 }
 
-/// Puts the events in the order of their cycles; those of one cycle stay in the order of their lines.
+/// Puts the events in the order of their cycles; those of one cycle stay in the order of their
+/// lines.
 pub(crate) fn arrange(events: &mut Vec<Event>) -> Result<(), AllocError>
     ensures ok { OnOk result (events.new.items ≡ arranged events.old.items) }
     ensures same { IsPermutation events.old.items events.new.items }

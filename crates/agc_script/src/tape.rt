@@ -1,5 +1,7 @@
 //! The tape: the keys that were pressed live, so that a run can be played again.
-ghost use Rattle.std.specs.Prelude.{◌≡◌, ◌≤◌, ◌<◌, [], ◌∷◌, ◌++◌, length, slice_get, Some, OnOk, OnErr};
+ghost use Rattle.std.specs.Prelude.{◌≡◌, ◌==◌, ◌≤◌, ◌<◌, [], ◌∷◌, ◌++◌, length, slice_get, Some};
+ghost use Rattle.std.specs.Prelude.{OnOk, OnErr};
+ghost use Rattle.agc_script.specs.Event.{last_cycle};
 ghost use Rattle.agc_script.specs.Tape.{IsTape, IsAfter};
 
 use crate::key::Key;
@@ -35,7 +37,7 @@ impl Tape {
         }
     }
 
-    /// How many keys were taken.
+    /// The number of keys that were taken.
     pub fn len(&self) -> usize
         ensures count { result ≡ length self.now }
         ensures tape { IsTape self.now }
@@ -43,20 +45,28 @@ impl Tape {
         self.entries.len()
     }
 
-    /// The entry at a place, counted from 0: the cycle at which the machine took the key, and the key.
+    /// Whether no key was taken.
+    pub fn is_empty(&self) -> bool
+        ensures { result ≡ (length self.now == 0) }
+    {
+        self.entries.is_empty()
+    }
+
+    /// The entry at a place, counted from 0: the cycle at which the machine took the key, and the
+    /// key.
     pub fn at(&self, i: usize) -> (u64, Key)
         requires { i < length self.now }
         ensures entry { slice_get self.now i ≡ Some result }
-        ensures range { result.0 ≤ 1000000000000 }
+        ensures range { result.0 ≤ last_cycle }
     {
         self.entries[i]
     }
 
-    /// Adds an entry. Its cycle lies above the last one's and is at most 1,000,000,000,000. Where
-    /// memory is wanting nothing changes.
+    /// Adds an entry. Its cycle lies above the last one's and is at most 1,000,000,000,000. Out
+    /// of memory the tape stays as it was.
     pub fn push(&mut self, cycle: u64, key: Key) -> Result<(), AllocError>
         requires later { IsAfter self.old cycle }
-        requires range { cycle ≤ 1000000000000 }
+        requires range { cycle ≤ last_cycle }
         ensures ok { OnOk result (self.new ≡ self.old ++ (cycle, key) ∷ []) }
         ensures err { OnErr result (self.new ≡ self.old) }
     {

@@ -6,13 +6,10 @@ mod keys;
 mod lines;
 mod merges;
 
+use crate::event::{LAST_CYCLE, MOST_EVENTS};
 use crate::{Event, FaultKind, Key, Script, ScriptFault, Tape, What};
 use agc_word::{Narrow, Pulse};
 use std::process::Abort;
-
-fn narrow(rt: &impl Abort, bits: u16) -> Narrow {
-    Narrow::from_bits(bits).expect(rt, "at most 77777")
-}
 
 fn parse(rt: &(impl Abort + AllocGlobal), file: &[u8]) -> Script {
     Script::parse(rt.alloc(), file).expect(rt, "a script")
@@ -58,7 +55,8 @@ fn refuses(rt: &(impl Abort + AllocGlobal), faults: &[(&[u8], usize, FaultKind)]
     }
 }
 
-/// Looks that each of these lines, with semicolons between, is refused for this where it stands alone.
+/// Looks that each of these lines, with semicolons between, is refused for this where it stands
+/// alone.
 fn refuses_each(rt: &(impl Abort + AllocGlobal), kind: FaultKind, lines: &[u8]) {
     for line in lines.split(|b| *b == b';') {
         assert_eq!(rt;

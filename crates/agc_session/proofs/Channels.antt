@@ -1,5 +1,5 @@
 -- The channels of a run's writes fit three octal digits.
-use Rattle.std.proofs.Common.{ℕ, ◌+◌, ◌<◌, List, [], ◌∷◌}
+use Rattle.std.proofs.Common.{ℕ, ◌+◌, ◌<◌, List, [], ◌∷◌, arith}
 use Rattle.std.specs.Prelude.{All}
 use Rattle.std.proofs.lemmas.List.Elements.{All-nil, All-cons}
 use Rattle.agc_machine.specs.declared.answer.ChannelWrite.{ChannelWrite}
@@ -13,7 +13,7 @@ InRange write = write.channel < 512
 
 rising_in_range : (from : ℕ) (writes : List ChannelWrite) → AreRising from writes → All InRange writes
 rising_in_range from [] rising = All-nil InRange
-rising_in_range from (write ∷ writes) rising = All-cons InRange write writes rising.2 (rising_in_range (write.cycle + 1) writes rising.3)
+rising_in_range from (write ∷ writes) rising = All-cons InRange write writes (omega (arith, rising.1.1)) (rising_in_range (write.cycle + 1) writes rising.2)
 
 pub run_in_range : (s : State) → All InRange (run_of s).writes
 run_in_range s = rising_in_range s.cycle (run_of s).writes (run_rises s)

@@ -3,7 +3,7 @@ use Rattle.std.proofs.Common.{◌≡◌, ◌≢◌, ◌<◌, ◌≤◌, ◌⊎�
 use Rattle.std.specs.Prelude.{Option, None, Some, IfSome, unwrap_or, Err, nat_lt, false, true}
 use Rattle.std.specs.Io.KnownBytes.{Consumes, IsAtEnd}
 use Rattle.std.proofs.lemmas.Bool.Decides.{nat_tests}
-use Rattle.agc_store.specs.Rope.{fault_of}
+use Rattle.agc_store.specs.RopeFile.{rope_fault_of}
 use Rattle.agc_store.specs.declared.rope_file.RopeForm.{RopeForm}
 use Rattle.agc_store.specs.declared.rope_file.RopeFault.{RopeFault}
 use Rattle.agc_store.specs.declared.rope_file.RopeFault.TheVariants as rope
@@ -15,7 +15,8 @@ use Rattle.agc_script.specs.Parse.{script_of, IsSoundLine}
 use Rattle.agc_session.proofs.Whole.{of_all}
 use Rattle.agc_session.specs.Input.{ExplainsUnread}
 use Rattle.agc_session.specs.Keys.{keys_of}
-use Rattle.agc_session.specs.Steps.{IsTold, IsScriptRefused, keys_steps, refusal_in, rope_steps, script_steps, script_refused}
+use Rattle.agc_session.specs.Files.{IsScriptRefused, keys_steps, rope_steps, script_steps, script_refused}
+use Rattle.agc_session.specs.Steps.{IsTold, refusal_in}
 use Rattle.agc_session.specs.declared.input.ReadFault.{ReadFault}
 use Rattle.agc_session.specs.declared.input.ReadFault.TheVariants as read
 use Rattle.agc_session.specs.declared.input.Unread.TheVariants as unread
@@ -40,15 +41,15 @@ module _ (form : RopeForm) (file : List ℕ) where
   unfolding rope_steps
   rope_memory = inr (inl refl)
 
-  rope_found : (found : Option RopeFault) → length file ≤ 1048576 → fault_of form file ≡ found → IsTold (rope_steps form file) (refusal.Rope (unwrap_or found rope.Memory))
+  rope_found : (found : Option RopeFault) → length file ≤ 1048576 → rope_fault_of form file ≡ found → IsTold (rope_steps form file) (refusal.Rope (unwrap_or found rope.Memory))
   unfolding rope_steps
   rope_found (Some fault) h is = inr (inr (rw (not_over 1048576 (length file) h, is) refl))
   rope_found None h is = inr (inr (rw (not_over 1048576 (length file) h, is) (inl refl)))
 
-  pub rope_faulty : length file ≤ 1048576 → IsTold (rope_steps form file) (refusal.Rope (unwrap_or (fault_of form file) rope.Memory))
-  rope_faulty h = rope_found (fault_of form file) h refl
+  pub rope_faulty : length file ≤ 1048576 → IsTold (rope_steps form file) (refusal.Rope (unwrap_or (rope_fault_of form file) rope.Memory))
+  rope_faulty h = rope_found (rope_fault_of form file) h refl
 
-  pub rope_accepted : length file ≤ 1048576 → fault_of form file ≡ None → refusal_in (rope_steps form file) ≡ None
+  pub rope_accepted : length file ≤ 1048576 → rope_fault_of form file ≡ None → refusal_in (rope_steps form file) ≡ None
   unfolding rope_steps
   rope_accepted h none = rw (not_over 1048576 (length file) h, none) refl
 
@@ -65,11 +66,11 @@ module _ (form : RopeForm) where
   rope_known_memory (Some file) = rope_memory form file
 
   pub rope_known_faulty : (before after : Option (List ℕ)) (all : List ℕ) (r : Refusal) → Consumes before after all → IsAtEnd after → length all ≤ 1048576
-      → r ≡ refusal.Rope (unwrap_or (fault_of form all) rope.Memory) → IfSome before (λ file. IsTold (rope_steps form file) r)
+      → r ≡ refusal.Rope (unwrap_or (rope_fault_of form all) rope.Memory) → IfSome before (λ file. IsTold (rope_steps form file) r)
   rope_known_faulty before after all r c end few is = of_all before after all (λ file. IsTold (rope_steps form file) r) c end (rw is (rope_faulty form all few))
 
   pub rope_known_accepted : (before after : Option (List ℕ)) (all : List ℕ) → Consumes before after all → IsAtEnd after → length all ≤ 1048576
-      → fault_of form all ≡ None → IfSome before (λ file. refusal_in (rope_steps form file) ≡ None)
+      → rope_fault_of form all ≡ None → IfSome before (λ file. refusal_in (rope_steps form file) ≡ None)
   rope_known_accepted before after all c end few none = of_all before after all (λ file. refusal_in (rope_steps form file) ≡ None) c end (rope_accepted form all few none)
 
 -- ---- a script

@@ -1,6 +1,5 @@
 pub mod Channels
 pub mod Denied
-pub mod Place
 pub mod Printed
 pub mod Refused
 pub mod There

@@ -1,81 +1,100 @@
--- The text of what a run left is that of the run.
-use Rattle.std.proofs.Common.{◌≡◌, ℕ, List, [], ◌++◌, ◌∙◌, map, Bool, true, false, length, vec_len, ap, subst, sym, refl}
+-- What a run left is what is reported of it.
+use Rattle.std.proofs.Common.{◌≡◌, ◌⊎◌, inl, inr, ℕ, List, ◌++◌, ◌∙◌, Bool, true, false, subst, sym, refl}
 use Rattle.agc_word.specs.Number.{Number}
-use Rattle.std.specs.Prelude.{Option, None, Some, IfSome}
-use Rattle.agc_store.specs.Rope.{rope_words}
+use Rattle.std.specs.Prelude.{Option, None, Some, IfSome, IfOk, IfErr, Result, Ok, Err, string_bytes}
+use Rattle.std.specs.declared.alloc.Global.{Global}
+use Rattle.std.specs.declared.string.String.{String}
+use Rattle.agc_store.specs.RopeFile.{rope_words}
 use Rattle.agc_script.specs.Parse.{script_of}
 use Rattle.agc_script.specs.declared.event.Event.{Event}
 use Rattle.agc_script.specs.declared.key.Key.{Key}
-use Rattle.agc_machine.specs.Run.{Run, run_of}
 use Rattle.agc_machine.specs.State.{State, start_state}
-use Rattle.agc_panel.specs.Text.{panel_text}
-use Rattle.agc_panel.specs.WatchSpec.{spec_of}
-use Rattle.agc_pipe.specs.Shown.{ShowsRun}
-use Rattle.agc_pipe.specs.declared.shown.Shown.{Shown}
-use Rattle.agc_session.specs.Given.{events_in, files_of, keys_read, said_by}
+use Rattle.agc_session.specs.Report.{IsLiveReport}
+use Rattle.agc_session.specs.Print.{report_text}
+use Rattle.agc_session.specs.Entry.{ComesOf, IsAnswered, IsKeysReport, IsReported, IsReportWhere, IsRunReport, IsSessionReport, machine_of, steps_of}
+use Rattle.agc_session.specs.Files.{Files, events_in, files_of, given_files, keys_steps, keys_steps_where, rope_steps, script_steps}
+use Rattle.agc_session.specs.Options.{said_by}
+use Rattle.agc_session.specs.Prepare.{machine_steps, run_steps}
+use Rattle.agc_session.specs.Steps.{IsTold, refusal_in}
 use Rattle.agc_session.specs.Keys.{keys_of}
-use Rattle.agc_session.specs.Session.{IsLiveText, IsSessionText, IsTextWhere, log_asked, machine_of, run_text, watcher_text}
-use Rattle.agc_machine.specs.Taken.{IsTakenTape, replayed}
-use Rattle.agc_pipe.specs.Keys.{key_in}
-use Rattle.agc_session.specs.Text.{live_text, stop_line}
-use Rattle.agc_session.specs.Until.{until_place}
+use Rattle.agc_machine.specs.StopAddress.{stop_address_of}
 use Rattle.agc_session.specs.declared.options.Options.{Options}
-use Rattle.agc_session.proofs.Refused.{keys_are_read}
+use Rattle.agc_session.specs.declared.refusal.Refusal.{Refusal}
+use Rattle.agc_session.specs.declared.report.Report.{Report}
+use Rattle.agc_session.specs.declared.refusal.Refusal.TheVariants as refusal
+use Rattle.agc_panel.specs.declared.watch_spec.WatchFault.TheVariants as watch
+use Rattle.agc_session.proofs.Refused.{at_last, at_memory, at_tables, keys_are_read}
 
-pub text_shown : (options : Options) (run : Run) (shown : Shown) (keys : List ℕ) → ShowsRun run shown →
-    panel_text shown.panel ++ stop_line shown.stop shown.cycle (vec_len shown.log) ++ log_asked options.log shown.log.items
-    ++ keys ++ watcher_text (said_by spec_of options.watch) shown.store ≡ run_text options run keys
-unfolding run_text
-text_shown options run shown keys shows =
-    let count : vec_len shown.log ≡ length run.writes = shown.log.ok.0 ∙ ap length shows.log in
-    rw (count, shows.log, shows.panel, shows.store, shows.cycle, shows.stop) refl
-
--- the machine that was made of both files and the options
+-- the machine that was made of both files and the options, and what comes of its run
 
 module _ (options : Options) (words : List Number) (events : List Event) (machine : State)
-    (made : machine ≡ start_state words events options.limit (said_by until_place options.until)) where
+    (made : machine ≡ start_state words events options.limit (said_by stop_address_of options.until))
+    (checked : refusal_in (machine_steps options) ≡ None) where
   machine_made : (rope script keys : List ℕ) → words ≡ rope_words options.form rope → events ≡ events_in (script_of script)
       → machine ≡ machine_of options (record { rope = rope; script = script; keys = keys })
   unfolding machine_of
   machine_made rope script keys k l = made ∙ rw (k, l) refl
 
-  -- the text of both files, where the readers tell their bytes
-  pub plain_text_known : (rope script keys : Option (List ℕ)) (text : List ℕ) → options.live ≡ false
+  comes_where : (live : Bool) (rope script keys : List ℕ) (result : Result Report Refusal) → options.live ≡ live
+      → words ≡ rope_words options.form rope → events ≡ events_in (script_of script)
+      → refusal_in (rope_steps options.form rope) ≡ None → refusal_in (script_steps script) ≡ None
+      → ComesOf (keys_steps_where live keys ++ run_steps options)
+      (IsReportWhere live options (record { rope = rope; script = script; keys = keys }) machine) result
+      → IsReported options result (record { rope = rope; script = script; keys = keys })
+  comes_where live rope script keys result is k l m n h =
+      let files : Files = record { rope = rope; script = script; keys = keys } in
+      at_last options files (IsSessionReport options files) result m n checked
+      (subst (λ (s : State). ComesOf (keys_steps_where options.live keys ++ run_steps options) (IsReportWhere options.live options files s) result)
+      (machine_made rope script keys k l)
+      (subst (λ (there : Bool). ComesOf (keys_steps_where there keys ++ run_steps options) (IsReportWhere there options files machine) result) (sym is) h))
+
+  -- the same where the readers tell their bytes; where one does not, nothing is said
+
+  pub plain_known : (rope script keys : Option (List ℕ)) (result : Result Report Refusal) → options.live ≡ false
       → IfSome rope (λ file. words ≡ rope_words options.form file) → IfSome script (λ file. events ≡ events_in (script_of file))
-      → text ≡ run_text options (run_of machine) [] → IfSome (files_of rope script keys) (λ files. IsSessionText options files text)
-  plain_text_known None script keys text live k l h = tt
-  plain_text_known (Some a) None keys text live k l h = tt
-  plain_text_known (Some a) (Some b) None text live k l h = tt
-  plain_text_known (Some a) (Some b) (Some c) text live k l h =
-      subst (λ (there : Bool). IsTextWhere there options (record { rope = a; script = b; keys = c }) text) (sym live)
-      (h ∙ ap (λ (s : State). run_text options (run_of s) []) (machine_made a b c k l))
+      → IfSome rope (λ file. refusal_in (rope_steps options.form file) ≡ None) → IfSome script (λ file. refusal_in (script_steps file) ≡ None)
+      → ComesOf (run_steps options) (IsRunReport options machine) result → IfSome (files_of rope script keys) (IsReported options result)
+  plain_known None script keys result is k l m n h = tt
+  plain_known (Some a) None keys result is k l m n h = tt
+  plain_known (Some a) (Some b) None result is k l m n h = tt
+  plain_known (Some a) (Some b) (Some c) result is k l m n h = comes_where false a b c result is k l m n h
 
-  live_text_told : (rope script keys : Option (List ℕ)) (text : List ℕ) → options.live ≡ true
+  live_told : (rope script keys : Option (List ℕ)) (result : Result Report Refusal) → options.live ≡ true
       → IfSome rope (λ file. words ≡ rope_words options.form file) → IfSome script (λ file. events ≡ events_in (script_of file))
-      → IfSome keys (λ file. (keys : List Key) × (keys_of file ≡ Some keys) × IsLiveText options machine keys text)
-      → IfSome (files_of rope script keys) (λ files. IsSessionText options files text)
-  live_text_told None script keys text live k l h = tt
-  live_text_told (Some a) None keys text live k l h = tt
-  live_text_told (Some a) (Some b) None text live k l h = tt
-  live_text_told (Some a) (Some b) (Some c) text live k l h =
-      subst (λ (there : Bool). IsTextWhere there options (record { rope = a; script = b; keys = c }) text) (sym live)
-      (h.0, h.1, subst (λ (s : State). IsLiveText options s h.0 text) (machine_made a b c k l) h.2)
+      → IfSome rope (λ file. refusal_in (rope_steps options.form file) ≡ None) → IfSome script (λ file. refusal_in (script_steps file) ≡ None)
+      → IfSome keys (λ file. ComesOf (keys_steps file ++ run_steps options) (IsKeysReport options machine file) result)
+      → IfSome (files_of rope script keys) (IsReported options result)
+  live_told None script keys result is k l m n h = tt
+  live_told (Some a) None keys result is k l m n h = tt
+  live_told (Some a) (Some b) None result is k l m n h = tt
+  live_told (Some a) (Some b) (Some c) result is k l m n h = comes_where true a b c result is k l m n h
 
-  pub live_text_known : (rope script keys : Option (List ℕ)) (text : List ℕ) → options.live ≡ true
+  pub live_known : (rope script keys : Option (List ℕ)) (result : Result Report Refusal) → options.live ≡ true
       → IfSome rope (λ file. words ≡ rope_words options.form file) → IfSome script (λ file. events ≡ events_in (script_of file))
-      → IfSome keys (λ file. (keys : List Key) × (keys_of file ≡ Some keys) × IsLiveText options machine keys text)
-      → IfSome (files_of rope script (keys_read options.live keys)) (λ files. IsSessionText options files text)
-  live_text_known rope script keys text live k l h = rw (keys_are_read options keys live) (live_text_told rope script keys text live k l h)
+      → IfSome rope (λ file. refusal_in (rope_steps options.form file) ≡ None) → IfSome script (λ file. refusal_in (script_steps file) ≡ None)
+      → IfSome keys (λ file. ComesOf (keys_steps file ++ run_steps options) (IsKeysReport options machine file) result)
+      → IfSome (given_files options rope script keys) (IsReported options result)
+  live_known rope script keys result is k l m n h = rw (keys_are_read options keys is) (live_told rope script keys result is k l m n h)
 
--- the keys of a text that was read
-pub with_keys : (options : Options) (machine : State) (known : Option (List ℕ)) (keys : List Key) (text : List ℕ)
-    → IfSome known (λ file. keys_of file ≡ Some keys) → IsLiveText options machine keys text
-    → IfSome known (λ file. (all : List Key) × (keys_of file ≡ Some all) × IsLiveText options machine all text)
-with_keys options machine None keys text h live = tt
-with_keys options machine (Some file) keys text h live = (keys, h, live)
+-- the live keys of a text that was read
+pub with_keys : (options : Options) (machine : State) (known : Option (List ℕ)) (keys : List Key) (result : Result Report Refusal)
+    → refusal_in (run_steps options) ≡ None → IfSome known (λ file. keys_of file ≡ Some keys)
+    → IfOk result (IsLiveReport options machine keys) → IfErr result (IsTold (run_steps options))
+    → IfSome known (λ file. ComesOf (run_steps options) (IsKeysReport options machine file) result)
+with_keys options machine None keys result none is right told = tt
+with_keys options machine (Some file) keys (Ok report) none is right told = (none, (keys, is, right))
+with_keys options machine (Some file) keys (Err r) none is right told = told
 
--- what a live run left is its text
-pub live_shown : (options : Options) (start : State) (tape : List (ℕ × Key)) (rest keys : List Key) (text : List ℕ)
-    → IsTakenTape options.spacing start tape → map key_in tape ++ rest ≡ keys
-    → text ≡ run_text options (run_of (replayed tape start)) (live_text tape (length rest)) → IsLiveText options start keys text
-live_shown options start tape rest keys text taken kept is = record { tape = tape; rest = rest; taken = taken; kept = kept; text = is }
+-- what comes of printing a report that was made
+
+print_told : (options : Options) (files : Files) (r : Refusal) → refusal_in (steps_of options files) ≡ None
+    → (r ≡ refusal.Memory) ⊎ (r ≡ refusal.Watch watch.Memory) → IsTold (steps_of options files) r
+print_told options files r none (inl is) = rw is (at_memory options files)
+print_told options files r none (inr is) = rw is (at_tables options files none)
+
+pub answered_known : (known : Option Files) (options : Options) (report : Report) (result : Result (String Global) Refusal)
+    → IfOk result (λ text. string_bytes text ≡ report_text report) → IfErr result (λ r. (r ≡ refusal.Memory) ⊎ (r ≡ refusal.Watch watch.Memory))
+    → IfSome known (IsReported options (Ok report)) → IfSome known (IsAnswered options result)
+answered_known None options report result text memory h = tt
+answered_known (Some files) options report (Ok text) is memory h = (h.0, (report, h.1, is))
+answered_known (Some files) options report (Err r) text is h = print_told options files r h.0 is

@@ -1,23 +1,39 @@
 -- Each place at which a session refuses tells what may be told there.
-use Rattle.std.proofs.Common.{◌≡◌, ◌⊎◌, ℕ, List, ◌++◌, Bool, true, false, refl, inl, inr, subst, sym}
-use Rattle.std.specs.Prelude.{Option, None, Some, IfSome}
+use Rattle.std.proofs.Common.{◌≡◌, ◌⊎◌, ℕ, List, ◌∷◌, ◌++◌, true, refl, inl, inr}
+use Rattle.std.specs.Prelude.{Option, None, Some, IfSome, Result}
 use Rattle.agc_panel.specs.WatchSpec.{spec_of}
 use Rattle.agc_panel.specs.declared.watch_spec.WatchFault.TheVariants as watch
-use Rattle.agc_session.proofs.Told.{told_first, told_later, told_found, none_in_both}
-use Rattle.agc_session.specs.Given.{Files, files_of, keys_read, said_by}
-use Rattle.agc_session.specs.Steps.{Step, IsTold, refusal_in, rope_steps, script_steps, machine_steps, keys_steps, keys_steps_where, run_steps, slots_refusal, spacing_refusal, tables_refusal, steps_of}
+use Rattle.agc_session.proofs.Told.{comes_later, none_first, none_later, told_first, told_later, told_found}
+use Rattle.agc_session.specs.Entry.{ComesOf, steps_of}
+use Rattle.agc_session.specs.Files.{Files, files_of, keys_read, rope_steps, script_steps, keys_steps_where}
+use Rattle.agc_session.specs.Options.{said_by}
+use Rattle.agc_session.specs.Prepare.{machine_steps, run_steps, slots_refusal, spacing_refusal, tables_refusal}
+use Rattle.agc_session.specs.Steps.{Step, looks, asks, IsTold, refusal_in}
 use Rattle.agc_session.specs.declared.options.Options.{Options}
 use Rattle.agc_session.specs.declared.refusal.Refusal.{Refusal}
 use Rattle.agc_session.specs.declared.refusal.Refusal.TheVariants as refusal
 
 -- what may be told of a run whose options were accepted
 pub run_told : (options : Options) (r : Refusal) → slots_refusal options.slots ≡ None → spacing_refusal options.live options.spacing ≡ None
-    → tables_refusal (said_by spec_of options.watch) ≡ None
-    → (r ≡ refusal.Thread) ⊎ ((r ≡ refusal.Memory) ⊎ (r ≡ refusal.Watch watch.Memory)) → IsTold (run_steps options) r
+    → tables_refusal (said_by spec_of options.watch) ≡ None → (r ≡ refusal.Thread) ⊎ (r ≡ refusal.Memory) → IsTold (run_steps options) r
 unfolding run_steps
 run_told options r slots spacing tables (inl is) = rw (slots, spacing, tables) (inl is)
-run_told options r slots spacing tables (inr (inl is)) = rw (slots, spacing, tables) (inr (inl is))
-run_told options r slots spacing tables (inr (inr is)) = rw (slots, spacing, tables) (inr (inr (inl is)))
+run_told options r slots spacing tables (inr is) = rw (slots, spacing, tables) (inr (inl is))
+
+-- and after the run, when it is put into words
+tables_told : (slots spacing tables : Option Refusal) (later : List Step)
+    → refusal_in (looks slots ∷ looks spacing ∷ looks tables ∷ asks refusal.Thread ∷ asks refusal.Memory ∷ later) ≡ None
+    → IsTold later (refusal.Watch watch.Memory)
+    → IsTold (looks slots ∷ looks spacing ∷ looks tables ∷ asks refusal.Thread ∷ asks refusal.Memory ∷ later) (refusal.Watch watch.Memory)
+tables_told (Some r) spacing tables later none h = cc
+tables_told None (Some r) tables later none h = cc
+tables_told None None (Some r) later none h = cc
+tables_told None None None later none h = inr (inr h)
+
+printing_told : (options : Options) → refusal_in (run_steps options) ≡ None → IsTold (run_steps options) (refusal.Watch watch.Memory)
+unfolding run_steps
+printing_told options none =
+    tables_told (slots_refusal options.slots) (spacing_refusal options.live options.spacing) (tables_refusal (said_by spec_of options.watch)) _ none (inl refl)
 
 -- ---- the whole session
 
@@ -47,15 +63,33 @@ module _ (options : Options) (files : Files) where
   at_machine r rope script h =
       told_later at_start (next ++ (then ++ last)) r rope (told_later next (then ++ last) r script (told_first then last r h))
 
-  at_last : (r : Refusal) → refusal_in at_start ≡ None → refusal_in next ≡ None → refusal_in then ≡ None → IsTold last r → IsTold (steps_of options files) r
+  -- what comes of the last steps comes of all, where none of those before refuses
+  pub at_last : {A : Type 0} (IsRight : A → Type 0) (result : Result A Refusal) → refusal_in at_start ≡ None → refusal_in next ≡ None
+      → refusal_in then ≡ None → ComesOf last IsRight result → ComesOf (steps_of options files) IsRight result
   unfolding steps_of
-  at_last r rope script machine h =
-      told_later at_start (next ++ (then ++ last)) r rope (told_later next (then ++ last) r script (told_later then last r machine h))
+  at_last IsRight result rope script machine h =
+      comes_later IsRight at_start (next ++ (then ++ last)) result rope
+      (comes_later IsRight next (then ++ last) result script (comes_later IsRight then last result machine h))
 
-  at_end : refusal_in at_start ≡ None → refusal_in next ≡ None → refusal_in then ≡ None → refusal_in last ≡ None → refusal_in (steps_of options files) ≡ None
+  -- the watcher may be out of memory at the end
+  pub at_tables : refusal_in (steps_of options files) ≡ None → IsTold (steps_of options files) (refusal.Watch watch.Memory)
   unfolding steps_of
-  at_end rope script machine later =
-      none_in_both at_start (next ++ (then ++ last)) rope (none_in_both next (then ++ last) script (none_in_both then last machine later))
+  at_tables none =
+      let none_then = none_later at_start (next ++ (then ++ last)) none in
+      let none_last = none_later next (then ++ last) none_then in
+      let none_keys = none_later then last none_last in
+      let keys = keys_steps_where options.live files.keys in
+      let r = refusal.Watch watch.Memory in
+      told_later at_start (next ++ (then ++ last)) r (none_first at_start (next ++ (then ++ last)) none)
+      (told_later next (then ++ last) r (none_first next (then ++ last) none_then)
+      (told_later then last r (none_first then last none_last)
+      (told_later keys (run_steps options) r (none_first keys (run_steps options) none_keys)
+      (printing_told options (none_later keys (run_steps options) none_keys)))))
+
+  -- a session may be out of memory from the first read on
+  pub at_memory : IsTold (steps_of options files) refusal.Memory
+  unfolding steps_of rope_steps
+  at_memory = inr (inl refl)
 
 -- the same where the readers tell their bytes; where one does not, nothing is said
 
@@ -82,57 +116,5 @@ module _ (options : Options) where
   machine_known (Some a) (Some b) None r k l h = tt
   machine_known (Some a) (Some b) (Some c) r k l h = at_machine options _ r k l (told_found (machine_steps options) r h)
 
-  -- a run without live keys
-
-  pub plain_known : (rope script keys : Option (List ℕ)) (r : Refusal) → options.live ≡ false → IfSome rope (λ file. refusal_in (rope_steps options.form file) ≡ None)
-      → IfSome script (λ file. refusal_in (script_steps file) ≡ None) → refusal_in (machine_steps options) ≡ None → IsTold (run_steps options) r
-      → IfSome (files_of rope script keys) (λ files. IsTold (steps_of options files) r)
-  plain_known None script keys r live k l m h = tt
-  plain_known (Some a) None keys r live k l m h = tt
-  plain_known (Some a) (Some b) None r live k l m h = tt
-  plain_known (Some a) (Some b) (Some c) r live k l m h = at_last options (record { rope = a; script = b; keys = c }) r k l m
-      (subst (λ (there : Bool). IsTold (keys_steps_where there c ++ run_steps options) r) (sym live) h)
-
-  pub plain_accepted : (rope script keys : Option (List ℕ)) → options.live ≡ false → IfSome rope (λ file. refusal_in (rope_steps options.form file) ≡ None)
-      → IfSome script (λ file. refusal_in (script_steps file) ≡ None) → refusal_in (machine_steps options) ≡ None → refusal_in (run_steps options) ≡ None
-      → IfSome (files_of rope script keys) (λ files. refusal_in (steps_of options files) ≡ None)
-  plain_accepted None script keys live k l m n = tt
-  plain_accepted (Some a) None keys live k l m n = tt
-  plain_accepted (Some a) (Some b) None live k l m n = tt
-  plain_accepted (Some a) (Some b) (Some c) live k l m n = at_end options (record { rope = a; script = b; keys = c }) k l m
-      (subst (λ (there : Bool). refusal_in (keys_steps_where there c ++ run_steps options) ≡ None) (sym live) n)
-
-  -- a run with live keys
-
   pub keys_are_read : (keys : Option (List ℕ)) → options.live ≡ true → keys_read options.live keys ≡ keys
   keys_are_read keys live = rw live refl
-
-  live_told : (rope script keys : Option (List ℕ)) (r : Refusal) → options.live ≡ true → IfSome rope (λ file. refusal_in (rope_steps options.form file) ≡ None)
-      → IfSome script (λ file. refusal_in (script_steps file) ≡ None) → refusal_in (machine_steps options) ≡ None
-      → IfSome keys (λ file. IsTold (keys_steps file ++ run_steps options) r) → IfSome (files_of rope script keys) (λ files. IsTold (steps_of options files) r)
-  live_told None script keys r live k l m h = tt
-  live_told (Some a) None keys r live k l m h = tt
-  live_told (Some a) (Some b) None r live k l m h = tt
-  live_told (Some a) (Some b) (Some c) r live k l m h = at_last options (record { rope = a; script = b; keys = c }) r k l m
-      (subst (λ (there : Bool). IsTold (keys_steps_where there c ++ run_steps options) r) (sym live) h)
-
-  pub live_known : (rope script keys : Option (List ℕ)) (r : Refusal) → options.live ≡ true → IfSome rope (λ file. refusal_in (rope_steps options.form file) ≡ None)
-      → IfSome script (λ file. refusal_in (script_steps file) ≡ None) → refusal_in (machine_steps options) ≡ None
-      → IfSome keys (λ file. IsTold (keys_steps file ++ run_steps options) r)
-      → IfSome (files_of rope script (keys_read options.live keys)) (λ files. IsTold (steps_of options files) r)
-  live_known rope script keys r live k l m h = rw (keys_are_read keys live) (live_told rope script keys r live k l m h)
-
-  live_none : (rope script keys : Option (List ℕ)) → options.live ≡ true → IfSome rope (λ file. refusal_in (rope_steps options.form file) ≡ None)
-      → IfSome script (λ file. refusal_in (script_steps file) ≡ None) → refusal_in (machine_steps options) ≡ None
-      → IfSome keys (λ file. refusal_in (keys_steps file ++ run_steps options) ≡ None) → IfSome (files_of rope script keys) (λ files. refusal_in (steps_of options files) ≡ None)
-  live_none None script keys live k l m h = tt
-  live_none (Some a) None keys live k l m h = tt
-  live_none (Some a) (Some b) None live k l m h = tt
-  live_none (Some a) (Some b) (Some c) live k l m h = at_end options (record { rope = a; script = b; keys = c }) k l m
-      (subst (λ (there : Bool). refusal_in (keys_steps_where there c ++ run_steps options) ≡ None) (sym live) h)
-
-  pub live_accepted : (rope script keys : Option (List ℕ)) → options.live ≡ true → IfSome rope (λ file. refusal_in (rope_steps options.form file) ≡ None)
-      → IfSome script (λ file. refusal_in (script_steps file) ≡ None) → refusal_in (machine_steps options) ≡ None
-      → IfSome keys (λ file. refusal_in (keys_steps file ++ run_steps options) ≡ None)
-      → IfSome (files_of rope script (keys_read options.live keys)) (λ files. refusal_in (steps_of options files) ≡ None)
-  live_accepted rope script keys live k l m h = rw (keys_are_read keys live) (live_none rope script keys live k l m h)

@@ -13,6 +13,7 @@ left_of remaining input.Refused = None
 
 -- a file of which it is told that it has too many bytes has more than the limit
 abbrev pub ExplainsUnread : ℕ → Option (List ℕ) → Unread → Type 0
-ExplainsUnread limit known (unread.CannotRead read.TooMany) = IfSome known (λ file. limit < length file)
+ExplainsUnread limit known (unread.CannotRead read.TooMany) =
+    IfSome known (λ file. limit < length file)
 ExplainsUnread limit known (unread.CannotRead read.Failed) = Unit {0}
 ExplainsUnread limit known unread.Memory = Unit {0}

@@ -1,5 +1,6 @@
 -- The text of live keys: names of keys with white space between.
-use Rattle.std.specs.Prelude.{ℕ, ◌==◌, ◌||◌, Bool, not, List, [], ◌∷◌, filter, length, map, Option, Some, None, option_map}
+use Rattle.std.specs.Prelude.{ℕ, ◌==◌, ◌||◌, Bool, not, List, [], ◌∷◌, filter, length, map, Option}
+use Rattle.std.specs.Prelude.{Some, None, option_map}
 use Rattle.std.specs.List.{slice_split}
 use Rattle.agc_script.specs.Key.{key_named}
 use Rattle.agc_script.specs.declared.key.Key.{Key}

@@ -1,8 +1,11 @@
-pub mod Given
 pub mod Input
 pub mod Keys
+pub mod Options
 pub mod Refusal
-pub mod Session
 pub mod Steps
+pub mod Files
+pub mod Prepare
+pub mod Report
 pub mod Text
-pub mod Until
+pub mod Print
+pub mod Entry

@@ -53,7 +53,8 @@ abbrev pub refusal_text : Refusal → List ℕ
 refusal_text (refusal.CannotReadRope why) = codes "cannot read rope"
 refusal_text (refusal.Rope fault) = codes "rope: " ++ rope_fault_name fault
 refusal_text (refusal.CannotReadScript why) = codes "cannot read script"
-refusal_text (refusal.Script fault) = codes "script line " ++ decimal fault.line ++ codes ": " ++ script_fault_name fault.kind
+refusal_text (refusal.Script fault) =
+    codes "script line " ++ decimal fault.line ++ codes ": " ++ script_fault_name fault.kind
 refusal_text (refusal.Limit fault) = codes "limit: " ++ limit_fault_name fault
 refusal_text refusal.BadWatchSpec = codes "watch: BadSpec"
 refusal_text refusal.BadUntilSpec = codes "until: BadSpec"

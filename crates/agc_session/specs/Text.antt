@@ -9,6 +9,7 @@ use Rattle.agc_script.specs.declared.key.Key.{Key}
 use Rattle.agc_machine.specs.declared.answer.ChannelWrite.{ChannelWrite}
 use Rattle.agc_machine.specs.declared.answer.Stop.{Stop}
 use Rattle.agc_machine.specs.declared.answer.Stop.TheVariants as stop
+use Rattle.agc_session.specs.declared.report.LiveKeys.{LiveKeys}
 
 -- a stop as the program names it
 abbrev pub stop_name : Stop → List ℕ
@@ -20,12 +21,15 @@ stop_name stop.Reached = codes "Reached"
 -- why the run ended, at which cycle, and after how many channel writes
 abbrev pub stop_line : Stop → ℕ → ℕ → List ℕ
 stop_line why cycle writes =
-    codes "STOP " ++ stop_name why ++ codes " CYCLE " ++ decimal cycle ++ codes " WRITES " ++ decimal writes ++ codes "\n"
+    codes "STOP " ++ stop_name why
+    ++ codes " CYCLE " ++ decimal cycle
+    ++ codes " WRITES " ++ decimal writes ++ codes "\n"
 
 -- one channel write: the cycle in decimal, the channel in three octal digits, the word in five
 abbrev pub log_line : ChannelWrite → List ℕ
 log_line w =
-    decimal w.cycle ++ codes " " ++ octal_digits 3 w.channel ++ codes " " ++ octal_digits 5 (pattern_of 15 w.value) ++ codes "\n"
+    decimal w.cycle ++ codes " " ++ octal_digits 3 w.channel
+    ++ codes " " ++ octal_digits 5 (pattern_of 15 w.value) ++ codes "\n"
 
 -- a line for each channel write, in their order
 unfoldable pub log_text : List ChannelWrite → List ℕ
@@ -40,5 +44,5 @@ unfoldable pub tape_text : List (ℕ × Key) → List ℕ
 tape_text tape = flat_map tape_line tape
 
 -- the lines of live keys: the tape, and how many keys are left
-abbrev pub live_text : List (ℕ × Key) → ℕ → List ℕ
-live_text tape left = tape_text tape ++ codes "REST " ++ decimal left ++ codes "\n"
+abbrev pub live_text : LiveKeys → List ℕ
+live_text keys = tape_text keys.tape ++ codes "REST " ++ decimal keys.left ++ codes "\n"

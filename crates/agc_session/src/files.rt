@@ -1,12 +1,13 @@
 //! From the files to a rope, a script and live keys.
 ghost use Rattle.std.specs.Prelude.{◌≡◌, ◌⊎◌, IfOk, IfErr, IfSome, OnOk, None, Some, unwrap_or};
 ghost use Rattle.std.specs.Io.KnownBytes.{IsAtEnd};
-ghost use Rattle.agc_store.specs.Rope.{rope_words, fault_of};
+ghost use Rattle.agc_store.specs.RopeFile.{rope_words, rope_fault_of};
 ghost use Rattle.agc_store.specs.declared.rope_file.RopeFault.TheVariants as rope_fault;
 ghost use Rattle.agc_script.specs.Parse.{script_of};
-ghost use Rattle.agc_session.specs.Given.{events_in};
+ghost use Rattle.agc_session.specs.Files.{events_in, keys_steps, rope_steps, script_steps};
+ghost use Rattle.agc_session.specs.Files.{script_refused, IsScriptRefused};
+ghost use Rattle.agc_session.specs.Steps.{IsTold, refusal_in};
 ghost use Rattle.agc_session.specs.Keys.{keys_of};
-ghost use Rattle.agc_session.specs.Steps.{keys_steps, rope_steps, script_steps, script_refused, IsScriptRefused, IsTold, refusal_in};
 ghost use Rattle.agc_session.specs.declared.refusal.Refusal.TheVariants as refusal;
 
 use crate::input::{KEY_BYTES, ROPE_BYTES, SCRIPT_BYTES, Unread, read_limited};
@@ -19,10 +20,13 @@ use std::io::Read;
 
 /// Reads a rope file.
 pub fn read_rope<R: Read>(alloc: Global, form: RopeForm, reader: &mut R) -> Result<Rope, Refusal>
-    ensures words { IfOk result (λ rope. IfSome (R.remaining reader.old) (λ file. rope ≡ rope_words form file)) }
-    ensures accepted { OnOk result (IfSome (R.remaining reader.old) (λ file. refusal_in (rope_steps form file) ≡ None)) }
+    ensures words { IfOk result
+        (λ rope. IfSome (R.remaining reader.old) (λ file. rope ≡ rope_words form file)) }
+    ensures accepted { OnOk result
+        (IfSome (R.remaining reader.old) (λ file. refusal_in (rope_steps form file) ≡ None)) }
     ensures end { OnOk result (IsAtEnd (R.remaining reader.new)) }
-    ensures refused { IfErr result (λ r. IfSome (R.remaining reader.old) (λ file. IsTold (rope_steps form file) r)) }
+    ensures refused { IfErr result
+        (λ r. IfSome (R.remaining reader.old) (λ file. IsTold (rope_steps form file) r)) }
 {
     let bytes = match read_limited(alloc, reader, ROPE_BYTES) {
         Ok(bytes) => bytes,
@@ -34,8 +38,9 @@ pub fn read_rope<R: Read>(alloc: Global, form: RopeForm, reader: &mut R) -> Resu
 
 fn rope_of(alloc: Global, form: RopeForm, bytes: &[u8]) -> Result<Rope, Refusal>
     ensures words { IfOk result (λ rope. rope ≡ rope_words form bytes.now) }
-    ensures accepted { OnOk result (fault_of form bytes.now ≡ None) }
-    ensures refused { IfErr result (λ r. r ≡ Refusal.Rope (unwrap_or (fault_of form bytes.now) rope_fault.Memory)) }
+    ensures accepted { OnOk result (rope_fault_of form bytes.now ≡ None) }
+    ensures refused { IfErr result
+        (λ r. r ≡ Refusal.Rope (unwrap_or (rope_fault_of form bytes.now) rope_fault.Memory)) }
 {
     match Rope::read_as(alloc, form, bytes) {
         Ok(rope) => Ok(rope),
@@ -45,10 +50,13 @@ fn rope_of(alloc: Global, form: RopeForm, bytes: &[u8]) -> Result<Rope, Refusal>
 
 /// Reads a script file.
 pub fn read_script<S: Read>(alloc: Global, reader: &mut S) -> Result<Script, Refusal>
-    ensures events { IfOk result (λ script. IfSome (S.remaining reader.old) (λ file. script ≡ events_in (script_of file))) }
-    ensures accepted { OnOk result (IfSome (S.remaining reader.old) (λ file. refusal_in (script_steps file) ≡ None)) }
+    ensures events { IfOk result
+        (λ script. IfSome (S.remaining reader.old) (λ file. script ≡ events_in (script_of file))) }
+    ensures accepted { OnOk result
+        (IfSome (S.remaining reader.old) (λ file. refusal_in (script_steps file) ≡ None)) }
     ensures end { OnOk result (IsAtEnd (S.remaining reader.new)) }
-    ensures refused { IfErr result (λ r. IfSome (S.remaining reader.old) (λ file. IsTold (script_steps file) r)) }
+    ensures refused { IfErr result
+        (λ r. IfSome (S.remaining reader.old) (λ file. IsTold (script_steps file) r)) }
 {
     let bytes = match read_limited(alloc, reader, SCRIPT_BYTES) {
         Ok(bytes) => bytes,
@@ -71,10 +79,13 @@ fn script_of(alloc: Global, bytes: &[u8]) -> Result<Script, Refusal>
 
 /// Reads the text of live keys.
 pub fn read_keys<K: Read>(alloc: Global, reader: &mut K) -> Result<Vec<Key>, Refusal>
-    ensures keys { IfOk result (λ keys. IfSome (K.remaining reader.old) (λ file. keys_of file ≡ Some keys.items)) }
-    ensures accepted { OnOk result (IfSome (K.remaining reader.old) (λ file. refusal_in (keys_steps file) ≡ None)) }
+    ensures keys { IfOk result
+        (λ keys. IfSome (K.remaining reader.old) (λ file. keys_of file ≡ Some keys.items)) }
+    ensures accepted { OnOk result
+        (IfSome (K.remaining reader.old) (λ file. refusal_in (keys_steps file) ≡ None)) }
     ensures end { OnOk result (IsAtEnd (K.remaining reader.new)) }
-    ensures refused { IfErr result (λ r. IfSome (K.remaining reader.old) (λ file. IsTold (keys_steps file) r)) }
+    ensures refused { IfErr result
+        (λ r. IfSome (K.remaining reader.old) (λ file. IsTold (keys_steps file) r)) }
 {
     let bytes = match read_limited(alloc, reader, KEY_BYTES) {
         Ok(bytes) => bytes,
@@ -86,7 +97,8 @@ pub fn read_keys<K: Read>(alloc: Global, reader: &mut K) -> Result<Vec<Key>, Ref
 
 fn keys_named(alloc: Global, bytes: &[u8]) -> Result<Vec<Key>, Refusal>
     ensures keys { IfOk result (λ keys. keys_of bytes.now ≡ Some keys.items) }
-    ensures refused { IfErr result (λ r. (r ≡ Refusal.Memory) ⊎ ((r ≡ Refusal.BadKey) × (keys_of bytes.now ≡ None))) }
+    ensures refused { IfErr result
+        (λ r. (r ≡ Refusal.Memory) ⊎ ((r ≡ Refusal.BadKey) × (keys_of bytes.now ≡ None))) }
 {
     match keys_of(alloc, bytes)? {
         Some(keys) => Ok(keys),

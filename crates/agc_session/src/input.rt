@@ -48,7 +48,8 @@ pub enum InputFile<F> {
 impl<F> InputFile<F> {
     /// The file, or the refusal.
     pub fn new(opened: io::Result<F>) -> InputFile<F>
-        ensures { MatchResult opened (λ file. result ≡ InputFile.Open file) (λ _. result ≡ InputFile.Refused) }
+        ensures { MatchResult opened (λ file. result ≡ InputFile.Open file)
+            (λ _. result ≡ InputFile.Refused) }
     {
         match opened {
             Ok(file) => InputFile::Open(file),
@@ -68,7 +69,8 @@ impl<F: Read> Read for InputFile<F> {
 
     fn read(&mut self, buf: &mut [u8]) -> io::Result<usize>
         ensures bound { ReadsAtMost result buf.new }
-        ensures bytes { ReadConsumes (left_of F.remaining self.old) (left_of F.remaining self.new) result buf.new }
+        ensures bytes { ReadConsumes (left_of F.remaining self.old)
+            (left_of F.remaining self.new) result buf.new }
         ensures refused { self.old ≡ Refused → IsErr result }
     {
         match self {
@@ -81,7 +83,8 @@ impl<F: Read> Read for InputFile<F> {
 /// All bytes that the reader has left, at most `limit` of them.
 pub fn read_limited<R: Read>(alloc: Global, reader: &mut R, limit: usize) -> Result<Vec<u8>, Unread>
     requires { limit < 33554432 }
-    ensures bytes { IfOk result (λ all. Consumes (R.remaining reader.old) (R.remaining reader.new) all.items) }
+    ensures bytes { IfOk result
+        (λ all. Consumes (R.remaining reader.old) (R.remaining reader.new) all.items) }
     ensures end { IfOk result (λ all. IsAtEnd (R.remaining reader.new)) }
     ensures bound { IfOk result (λ all. vec_len all ≤ limit) }
     ensures unread { IfErr result (ExplainsUnread limit (R.remaining reader.old)) }

@@ -9,9 +9,9 @@ mod options;
 mod prepare;
 mod print;
 mod refusal;
+mod report;
 mod run;
 mod text;
-mod until;
 
 pub use entry::{DONE, REFUSED, UNWRITTEN, session, status_of};
 pub use input::{InputFile, KEY_BYTES, ROPE_BYTES, ReadFault, SCRIPT_BYTES, Unread, read_limited};

@@ -2,15 +2,17 @@
 ghost use Rattle.std.specs.Prelude.{◌≡◌, false, IfOk, OnOk, MatchResult, None, Some};
 ghost use Rattle.agc_machine.specs.State.{start_state};
 ghost use Rattle.agc_panel.specs.WatchSpec.{spec_of};
-ghost use Rattle.agc_session.specs.Given.{said_by};
-ghost use Rattle.agc_session.specs.Steps.{limit_refusal, watch_spec_refusal, until_spec_refusal, machine_steps, slots_refusal, spacing_refusal, tables_refusal, run_steps, refusal_in};
-ghost use Rattle.agc_session.specs.Until.{until_place};
+ghost use Rattle.agc_session.specs.Options.{said_by};
+ghost use Rattle.agc_session.specs.Prepare.{limit_refusal, watch_spec_refusal, until_spec_refusal};
+ghost use Rattle.agc_session.specs.Prepare.{machine_steps, slots_refusal, spacing_refusal};
+ghost use Rattle.agc_session.specs.Prepare.{tables_refusal, run_steps};
+ghost use Rattle.agc_session.specs.Steps.{refusal_in};
+ghost use Rattle.agc_machine.specs.StopAddress.{stop_address_of};
 
 use crate::options::Options;
 use crate::refusal::Refusal;
-use crate::until::read_until;
 use agc_machine::{Machine, StopAddress};
-use agc_panel::WatchSpec;
+use agc_panel::{CheckedSpec, WatchSpec};
 use agc_pipe::MOST_SLOTS;
 use agc_script::Script;
 use agc_store::Rope;
@@ -24,12 +26,12 @@ pub struct Prepared {
 }
 
 /// Makes the machine that the options ask for.
-#[tactic(auto, unfolding(crate::specs::Steps::machine_steps, agc_machine::specs::State::start_state))]
+#[tactic(auto, unfolding(crate::specs::Prepare::machine_steps, agc_machine::specs::State::start_state))]
 pub fn prepare(options: &Options, rope: Rope, script: Script) -> Result<Prepared, Refusal>
     ensures checked { MatchResult result (λ _. refusal_in (machine_steps options.now) ≡ None)
         (λ refusal. refusal_in (machine_steps options.now) ≡ Some refusal) }
     ensures machine { IfOk result (λ prepared. prepared.machine
-        ≡ start_state rope script options.now.limit (said_by until_place options.now.until)) }
+        ≡ start_state rope script options.now.limit (said_by stop_address_of options.now.until)) }
     ensures watch { IfOk result (λ prepared. prepared.watch ≡ said_by spec_of options.now.watch) }
     ensures fresh { IfOk result (λ prepared. prepared.machine.begun ≡ false) }
 {
@@ -42,7 +44,7 @@ pub fn prepare(options: &Options, rope: Rope, script: Script) -> Result<Prepared
     })
 }
 
-#[tactic(auto, unfolding(crate::specs::Steps::limit_refusal))]
+#[tactic(auto, unfolding(crate::specs::Prepare::limit_refusal))]
 fn limited_machine(rope: Rope, script: Script, limit: u64) -> Result<Machine, Refusal>
     ensures checked { MatchResult result (λ _. limit_refusal limit ≡ None)
         (λ refusal. limit_refusal limit ≡ Some refusal) }
@@ -54,7 +56,7 @@ fn limited_machine(rope: Rope, script: Script, limit: u64) -> Result<Machine, Re
     }
 }
 
-#[tactic(auto, unfolding(crate::specs::Steps::watch_spec_refusal))]
+#[tactic(auto, unfolding(crate::specs::Prepare::watch_spec_refusal))]
 fn watch_spec(options: &Options) -> Result<Option<WatchSpec>, Refusal>
     ensures checked { MatchResult result (λ _. watch_spec_refusal options.now ≡ None)
         (λ refusal. watch_spec_refusal options.now ≡ Some refusal) }
@@ -69,16 +71,16 @@ fn watch_spec(options: &Options) -> Result<Option<WatchSpec>, Refusal>
     }
 }
 
-#[tactic(auto, unfolding(crate::specs::Steps::until_spec_refusal))]
+#[tactic(auto, unfolding(crate::specs::Prepare::until_spec_refusal))]
 fn stop_address(options: &Options) -> Result<Option<StopAddress>, Refusal>
     ensures checked { MatchResult result (λ _. until_spec_refusal options.now ≡ None)
         (λ refusal. until_spec_refusal options.now ≡ Some refusal) }
-    ensures said { IfOk result (λ at. at ≡ said_by until_place options.now.until) }
+    ensures said { IfOk result (λ at. at ≡ said_by stop_address_of options.now.until) }
 {
     let Some(text) = &options.until else {
         return Ok(None);
     };
-    match read_until(text.as_str()) {
+    match StopAddress::read(text.as_str()) {
         Some(at) => Ok(Some(at)),
         None => Err(Refusal::BadUntilSpec),
     }
@@ -96,23 +98,27 @@ fn with_until(machine: Machine, until: Option<StopAddress>) -> Machine
     }
 }
 
-/// Looks at the options of the run itself. Whether the tables can be watched is known before the
-/// run, so a long run is not made in vain.
-#[tactic(auto, unfolding(crate::specs::Steps::run_steps))]
-pub fn check_run(options: &Options, watch: &Option<WatchSpec>) -> Result<(), Refusal>
+/// Looks at the options of the run itself, and returns the tables that are to be watched. Whether
+/// they can be is known before the run, so a long run is not made in vain.
+#[tactic(auto, unfolding(crate::specs::Prepare::run_steps))]
+pub fn check_run(
+    options: &Options,
+    watch: &Option<WatchSpec>,
+) -> Result<Option<CheckedSpec>, Refusal>
     requires { watch.now ≡ said_by spec_of options.now.watch }
     ensures checked { MatchResult result (λ _. refusal_in (run_steps options.now) ≡ None)
         (λ refusal. refusal_in (run_steps options.now) ≡ Some refusal) }
     ensures slots { OnOk result (slots_refusal options.now.slots ≡ None) }
     ensures spacing { OnOk result (spacing_refusal options.now.live options.now.spacing ≡ None) }
     ensures tables { OnOk result (tables_refusal watch.now ≡ None) }
+    ensures watch { IfOk result (λ checked. checked ≡ watch.now) }
 {
     check_slots(options.slots)?;
     check_spacing(options.live, options.spacing)?;
     check_tables(watch)
 }
 
-#[tactic(auto, unfolding(crate::specs::Steps::slots_refusal))]
+#[tactic(auto, unfolding(crate::specs::Prepare::slots_refusal))]
 fn check_slots(slots: usize) -> Result<(), Refusal>
     ensures { MatchResult result (λ _. slots_refusal slots ≡ None)
         (λ refusal. slots_refusal slots ≡ Some refusal) }
@@ -123,7 +129,7 @@ fn check_slots(slots: usize) -> Result<(), Refusal>
     Ok(())
 }
 
-#[tactic(auto, unfolding(crate::specs::Steps::spacing_refusal))]
+#[tactic(auto, unfolding(crate::specs::Prepare::spacing_refusal))]
 fn check_spacing(live: bool, spacing: u64) -> Result<(), Refusal>
     ensures { MatchResult result (λ _. spacing_refusal live spacing ≡ None)
         (λ refusal. spacing_refusal live spacing ≡ Some refusal) }
@@ -134,13 +140,17 @@ fn check_spacing(live: bool, spacing: u64) -> Result<(), Refusal>
     Ok(())
 }
 
-#[tactic(auto, unfolding(crate::specs::Steps::tables_refusal))]
-fn check_tables(watch: &Option<WatchSpec>) -> Result<(), Refusal>
-    ensures { MatchResult result (λ _. tables_refusal watch.now ≡ None)
+#[tactic(auto, unfolding(crate::specs::Prepare::tables_refusal))]
+fn check_tables(watch: &Option<WatchSpec>) -> Result<Option<CheckedSpec>, Refusal>
+    ensures checked { MatchResult result (λ _. tables_refusal watch.now ≡ None)
         (λ refusal. tables_refusal watch.now ≡ Some refusal) }
+    ensures watch { IfOk result (λ checked. checked ≡ watch.now) }
 {
-    match watch.as_ref().and_then(|spec| spec.fault()) {
-        Some(fault) => Err(Refusal::Watch(fault)),
-        None => Ok(()),
+    let Some(spec) = watch else {
+        return Ok(None);
+    };
+    match spec.checked() {
+        Ok(checked) => Ok(Some(checked)),
+        Err(fault) => Err(Refusal::Watch(fault)),
     }
 }

@@ -1,71 +1,66 @@
-//! The whole text of a run: the panel, the stop, the log, the live keys and the watcher's tables.
-ghost use Rattle.std.specs.Prelude.{◌≡◌, ◌⊎◌, ◌++◌, ◌<◌, ◌^◌, All, IfOk, IfErr, OnOk, None, vec_len, string_bytes};
-ghost use Rattle.agc_panel.specs.Text.{panel_text};
+//! A report in words: the panel, the stop, the log, the live keys and the watched tables.
+ghost use Rattle.std.specs.Prelude.{◌≡◌, ◌⊎◌, ◌++◌, IfOk, IfErr, OnOk, string_bytes};
+ghost use Rattle.agc_panel.specs.TablesText.{tables_text};
 ghost use Rattle.agc_panel.specs.declared.watch_spec.WatchFault.TheVariants as fault;
-ghost use Rattle.agc_session.specs.Session.{log_asked, watcher_text};
-ghost use Rattle.agc_session.specs.Steps.{tables_refusal};
-ghost use Rattle.agc_session.specs.Text.{stop_line};
+ghost use Rattle.agc_session.specs.Print.{part_text, report_text};
+ghost use Rattle.agc_session.specs.Text.{live_text, log_text};
 ghost use Rattle.agc_session.specs.declared.refusal.Refusal.TheVariants as refusal;
 
 use crate::refusal::Refusal;
-use crate::text::{push_log, push_stop_line};
-use agc_machine::ChannelWrite;
-use agc_panel::{WatchSpec, watch};
-use agc_pipe::Shown;
-use agc_store::Store;
+use crate::report::{LiveKeys, Log, Report};
+use crate::text::{push_live, push_log, push_stop_line};
+use agc_panel::{Tables, WatchFault};
 use std::alloc::{AllocError, Global};
 
-/// The text of a run, with the lines of its live keys, if any.
-pub fn print_run(
-    alloc: Global,
-    log: bool,
-    shown: &Shown,
-    keys: &str,
-    tables: &Option<WatchSpec>,
-) -> Result<String, Refusal>
-    requires channels { All (λ write. write.channel < 2 ^ 9) shown.now.log.items }
-    requires tables { tables_refusal tables.now ≡ None }
-    ensures text { IfOk result (λ text. string_bytes text ≡ panel_text shown.now.panel
-        ++ stop_line shown.now.stop shown.now.cycle (vec_len shown.now.log) ++ log_asked log shown.now.log.items
-        ++ keys.now ++ watcher_text tables.now shown.now.store) }
+/// The text of a report. Out of memory for the tables' text is told as the watcher's fault.
+#[tactic(auto, unfolding(crate::specs::Print::report_text))]
+pub fn print(alloc: Global, report: &Report) -> Result<String, Refusal>
+    ensures text { IfOk result (λ text. string_bytes text ≡ report_text report.now) }
     ensures memory { IfErr result (λ r. (r ≡ Refusal.Memory) ⊎ (r ≡ Refusal.Watch fault.Memory)) }
 {
-    let mut text = shown.panel.text(alloc)?;
-    push_stop_line(&mut text, shown.stop, shown.cycle, shown.log.len())?;
-    push_log_asked(&mut text, log, shown.log.as_slice())?;
-    text.push_str(keys)?;
-    push_tables(alloc, &mut text, &shown.store, tables)?;
+    let mut text = report.panel.text(alloc)?;
+    push_stop_line(&mut text, report.stop, report.cycle, report.writes)?;
+    push_log_part(&mut text, &report.log)?;
+    push_keys_part(&mut text, &report.keys)?;
+    push_tables_part(alloc, &mut text, &report.tables)?;
     Ok(text)
 }
 
-/// Adds the log, where it is asked for.
-fn push_log_asked(text: &mut String, asked: bool, log: &[ChannelWrite]) -> Result<(), AllocError>
-    requires { All (λ write. write.channel < 2 ^ 9) log.now }
-    ensures { OnOk result (string_bytes text.new ≡ string_bytes text.old ++ log_asked asked log.now) }
+fn push_log_part(text: &mut String, log: &Option<Log>) -> Result<(), AllocError>
+    ensures { OnOk result
+        (string_bytes text.new ≡ string_bytes text.old ++ part_text log_text log.now) }
 {
-    if asked { push_log(text, log) } else { Ok(()) }
+    match log {
+        Some(log) => push_log(text, log.writes()),
+        None => Ok(()),
+    }
 }
 
-/// Adds the watcher's tables, where they are asked for.
-#[tactic(auto, unfolding(crate::specs::Steps::tables_refusal))]
-fn push_tables(
+fn push_keys_part(text: &mut String, keys: &Option<LiveKeys>) -> Result<(), AllocError>
+    ensures { OnOk result
+        (string_bytes text.new ≡ string_bytes text.old ++ part_text live_text keys.now) }
+{
+    match keys {
+        Some(keys) => push_live(text, keys),
+        None => Ok(()),
+    }
+}
+
+fn push_tables_part(
     alloc: Global,
     text: &mut String,
-    store: &Store,
-    tables: &Option<WatchSpec>,
+    tables: &Option<Tables>,
 ) -> Result<(), Refusal>
-    requires { tables_refusal tables.now ≡ None }
-    ensures text { OnOk result (string_bytes text.new ≡ string_bytes text.old ++ watcher_text tables.now store.now) }
+    ensures text { OnOk result (string_bytes text.new
+        ≡ string_bytes text.old ++ part_text tables_text tables.now) }
     ensures memory { IfErr result (λ r. (r ≡ Refusal.Memory) ⊎ (r ≡ Refusal.Watch fault.Memory)) }
 {
-    let Some(spec) = tables else {
+    let Some(tables) = tables else {
         return Ok(());
     };
-    match watch(alloc, store, spec) {
-        Ok(tables) => {
-            text.push_str(tables.as_str())?;
-            Ok(())
-        }
-        Err(fault) => Err(Refusal::Watch(fault)),
-    }
+    let Ok(lines) = tables.text(alloc) else {
+        return Err(Refusal::Watch(WatchFault::Memory));
+    };
+    text.push_str(lines.as_str())?;
+    Ok(())
 }

@@ -2,7 +2,8 @@
 ghost use Rattle.std.specs.Prelude.{◌≡◌, ◌++◌, codes, OnOk};
 ghost use Rattle.std.specs.Io.KnownBytes.{Appends};
 ghost use Rattle.agc_session.specs.declared.refusal.Refusal.TheVariants.{Memory};
-ghost use Rattle.agc_session.specs.Refusal.{rope_fault_name, script_fault_name, limit_fault_name, watch_fault_name, refusal_line};
+ghost use Rattle.agc_session.specs.Refusal.{rope_fault_name, script_fault_name, limit_fault_name};
+ghost use Rattle.agc_session.specs.Refusal.{watch_fault_name, refusal_line};
 
 use crate::input::ReadFault;
 use agc_machine::LimitFault;
@@ -15,7 +16,7 @@ use std::fmt;
 use std::io::{self, Write};
 
 /// Why there is no run. The program looks for them in this order, `Memory` apart, which comes
-/// wherever memory is wanted for something else.
+/// wherever something else is out of memory.
 #[derive(Clone, Copy, Debug, PartialEq, Eq)]
 pub enum Refusal {
     /// The rope file cannot be opened or read, or has more than 1,048,576 bytes.
@@ -48,7 +49,8 @@ pub enum Refusal {
 impl Refusal {
     /// Writes the line of this refusal.
     pub fn write_to<W: Write>(self, err: &mut W) -> io::Result<()>
-        ensures { OnOk result (Appends (W.contents err.old) (W.contents err.new) (refusal_line self)) }
+        ensures { OnOk result
+            (Appends (W.contents err.old) (W.contents err.new) (refusal_line self)) }
     {
         writeln!(err, "agc: {self}")
     }

@@ -1,66 +1,63 @@
-//! The run itself: the machine is run to its stop, and what it leaves is put into words.
-ghost use Rattle.std.specs.Prelude.{◌≡◌, ◌⊎◌, [], false, true, IfOk, IfErr, None, string_bytes};
-ghost use Rattle.agc_machine.specs.Run.{run_of};
+//! The run itself: the machine is run to its stop, and what it leaves is reported.
+ghost use Rattle.std.specs.Prelude.{◌≡◌, ◌⊎◌, ◌<◌, ◌^◌, All, false, true, IfOk, IfErr, None, Some};
+ghost use Rattle.agc_machine.specs.Run.{Run, run_of};
 ghost use Rattle.agc_panel.specs.WatchSpec.{spec_of};
-ghost use Rattle.agc_panel.specs.declared.watch_spec.WatchFault.TheVariants as watch_fault;
-ghost use Rattle.agc_session.specs.Given.{said_by};
-ghost use Rattle.agc_session.specs.Session.{IsLiveText, run_text};
-ghost use Rattle.agc_session.specs.Steps.{slots_refusal, spacing_refusal, tables_refusal};
-ghost use Rattle.agc_session.specs.Text.{live_text};
+ghost use Rattle.agc_pipe.specs.Shown.{ShowsRun};
+ghost use Rattle.agc_session.specs.Options.{said_by};
+ghost use Rattle.agc_session.specs.Prepare.{slots_refusal, spacing_refusal};
+ghost use Rattle.agc_session.specs.Report.{IsLiveReport, IsReport, log_asked, tables_asked};
 ghost use Rattle.agc_session.specs.declared.refusal.Refusal.TheVariants as refusal;
 
 use crate::options::Options;
-use crate::print::print_run;
 use crate::refusal::Refusal;
-use crate::text::push_live;
-use agc_machine::Machine;
-use agc_panel::WatchSpec;
-use agc_pipe::{Gate, Live, run_live, run_shown};
-use agc_script::{Key, Tape};
-use std::alloc::{AllocError, Global};
+use crate::report::{LiveKeys, Log, Report};
+use agc_machine::{ChannelWrite, Machine};
+use agc_panel::{CheckedSpec, Tables};
+use agc_pipe::{Gate, Live, Shown, run_live, run_shown};
+use agc_script::Key;
+use agc_store::Store;
+use std::alloc::Global;
 use std::sync::Wait;
 use std::thread::Threads;
 
-/// Runs a machine that is at its start, and makes the text.
-#[tactic(auto, unfolding(crate::specs::Steps::slots_refusal))]
-pub fn text_of_run<H: Threads + Wait + Sync, G: Gate + Sync>(
+/// Runs a machine that is at its start.
+#[tactic(auto, unfolding(crate::specs::Prepare::slots_refusal))]
+pub fn report_run<H: Threads + Wait + Sync, G: Gate + Sync>(
     rt: &H,
     alloc: Global,
     options: &Options,
     machine: Machine,
-    watch: &Option<WatchSpec>,
+    watch: &Option<CheckedSpec>,
     gate: &G,
-) -> Result<String, Refusal>
+) -> Result<Report, Refusal>
     requires fresh { machine.begun ≡ false }
     requires slots { slots_refusal options.now.slots ≡ None }
-    requires tables { tables_refusal watch.now ≡ None }
     requires watch { watch.now ≡ said_by spec_of options.now.watch }
-    ensures text { IfOk result (λ text. string_bytes text ≡ run_text options.now (run_of machine) []) }
-    ensures refused { IfErr result (λ r. (r ≡ Refusal.Thread) ⊎ ((r ≡ Refusal.Memory) ⊎ (r ≡ Refusal.Watch watch_fault.Memory))) }
+    ensures report { IfOk result (IsReport options.now (run_of machine) None) }
+    ensures refused { IfErr result (λ r. (r ≡ Refusal.Thread) ⊎ (r ≡ Refusal.Memory)) }
 {
     let shown = run_shown(rt, alloc, machine, options.slots, gate)?;
-    print_run(alloc, options.log, &shown, "", watch)
+    Ok(put_together(options, shown, None, watch))
 }
 
-/// Runs a machine that is at its start with live keys, and makes the text.
-#[tactic(auto, unfolding(crate::specs::Steps::slots_refusal, crate::specs::Steps::spacing_refusal))]
-pub fn text_of_live_run<H: Threads + Wait + Sync, G: Gate + Sync>(
+/// Runs a machine that is at its start with live keys.
+#[tactic(auto, unfolding(crate::specs::Prepare::slots_refusal, crate::specs::Prepare::spacing_refusal))]
+pub fn report_live_run<H: Threads + Wait + Sync, G: Gate + Sync>(
     rt: &H,
     alloc: Global,
     options: &Options,
     machine: Machine,
     keys: Vec<Key>,
-    watch: &Option<WatchSpec>,
+    watch: &Option<CheckedSpec>,
     gate: &G,
-) -> Result<String, Refusal>
+) -> Result<Report, Refusal>
     requires fresh { machine.begun ≡ false }
     requires slots { slots_refusal options.now.slots ≡ None }
     requires live { options.now.live ≡ true }
     requires spacing { spacing_refusal options.now.live options.now.spacing ≡ None }
-    requires tables { tables_refusal watch.now ≡ None }
     requires watch { watch.now ≡ said_by spec_of options.now.watch }
-    ensures text { IfOk result (λ text. IsLiveText options.now machine keys.items (string_bytes text)) }
-    ensures refused { IfErr result (λ r. (r ≡ Refusal.Thread) ⊎ ((r ≡ Refusal.Memory) ⊎ (r ≡ Refusal.Watch watch_fault.Memory))) }
+    ensures report { IfOk result (IsLiveReport options.now machine keys.items) }
+    ensures refused { IfErr result (λ r. (r ≡ Refusal.Thread) ⊎ (r ≡ Refusal.Memory)) }
 {
     let Live { shown, tape, rest } = run_live(
         rt,
@@ -71,15 +68,55 @@ pub fn text_of_live_run<H: Threads + Wait + Sync, G: Gate + Sync>(
         options.slots,
         gate,
     )?;
-    let lines = live_lines(alloc, &tape, rest.len())?;
-    print_run(alloc, options.log, &shown, lines.as_str(), watch)
+    let left = rest.len();
+    let keys = LiveKeys { tape, left };
+    Ok(put_together(options, shown, Some(keys), watch))
 }
 
-/// The lines of live keys.
-fn live_lines(alloc: Global, tape: &Tape, left: usize) -> Result<String, AllocError>
-    ensures { IfOk result (λ text. string_bytes text ≡ live_text tape.now left) }
+/// Puts together what the options ask for of what a run left.
+fn put_together(
+    options: &Options,
+    shown: Shown,
+    keys: Option<LiveKeys>,
+    watch: &Option<CheckedSpec>,
+) -> Report
+    requires channels { All (λ write. write.channel < 2 ^ 9) shown.log.items }
+    requires watch { watch.now ≡ said_by spec_of options.now.watch }
+    ensures { (run : Run) → ShowsRun run shown → IsReport options.now run keys result }
 {
-    let mut text = String::new(alloc);
-    push_live(&mut text, tape, left)?;
-    Ok(text)
+    let tables = watched_tables(&shown.store, watch);
+    let Shown {
+        log,
+        panel,
+        stop,
+        cycle,
+        ..
+    } = shown;
+    Report {
+        panel,
+        stop,
+        cycle,
+        writes: log.len(),
+        log: asked_log(options.log, log),
+        keys,
+        tables,
+    }
+}
+
+/// The log, where it is asked for.
+fn asked_log(asked: bool, writes: Vec<ChannelWrite>) -> Option<Log>
+    requires { All (λ write. write.channel < 2 ^ 9) writes.items }
+    ensures { result ≡ log_asked asked writes.items }
+{
+    if asked { Some(Log::new(writes)) } else { None }
+}
+
+/// The watched tables, where there are any.
+fn watched_tables(store: &Store, places: &Option<CheckedSpec>) -> Option<Tables>
+    ensures { result ≡ tables_asked places.now store.now }
+{
+    match places {
+        Some(places) => Some(Tables::read(store, places)),
+        None => None,
+    }
 }

@@ -1,12 +1,10 @@
 //! A session of each kind over memory: a run that stops, and a refusal.
 use crate::{DONE, Options, REFUSED, session};
+use agc_listing::{RELAY_WORD, rope_file};
 use agc_pipe::Open;
 use agc_store::RopeForm;
 use std::process::Abort;
 use std::test::Fail;
-
-/// CA 4004, EXTEND, WRITE 10, TCF 4003, and the relay word of PROG 12.
-const RELAY_WORD: [u8; 10] = [0x70, 0x08, 0x00, 0x0C, 0x04, 0x10, 0x30, 0x06, 0xB0, 0xF2];
 
 /// The options of a run of ten cycles with its log.
 fn options(rt: &(impl AllocGlobal + Abort), slots: usize) -> Options {
@@ -39,8 +37,9 @@ LAMPS none
 STOP Limit CYCLE 10 WRITES 1
 3 010 54171
 ";
+    let file = rope_file(rt.alloc(), RELAY_WORD)?;
     for (slots, status, told, refused) in [(1, DONE, text, ""), (0, REFUSED, "", "agc: slots\n")] {
-        let (mut rope, mut script, mut keys): (&[u8], &[u8], &[u8]) = (&RELAY_WORD, b"", b"");
+        let (mut rope, mut script, mut keys): (&[u8], &[u8], &[u8]) = (file.as_slice(), b"", b"");
         let mut out = Vec::new(rt.alloc());
         let mut err = Vec::new(rt.alloc());
         let ended = session(

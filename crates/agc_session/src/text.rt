@@ -1,7 +1,9 @@
 //! The lines that the program prints of its own: the stop, the log and the live keys.
 ghost use Rattle.std.specs.Prelude.{◌≡◌, ◌++◌, ◌<◌, ◌^◌, All, OnOk, string_bytes};
-ghost use Rattle.agc_session.specs.Text.{stop_name, stop_line, log_line, log_text, tape_line, tape_text, live_text};
+ghost use Rattle.agc_session.specs.Text.{stop_name, stop_line, log_line, log_text, tape_line};
+ghost use Rattle.agc_session.specs.Text.{tape_text, live_text};
 
+use crate::report::LiveKeys;
 use agc_machine::{ChannelWrite, Stop};
 use agc_script::{Key, Tape};
 use std::alloc::AllocError;
@@ -26,7 +28,8 @@ pub fn push_stop_line(
     cycle: u64,
     writes: usize,
 ) -> Result<(), AllocError>
-    ensures { OnOk result (string_bytes text.new ≡ string_bytes text.old ++ stop_line stop cycle writes) }
+    ensures { OnOk result
+        (string_bytes text.new ≡ string_bytes text.old ++ stop_line stop cycle writes) }
 {
     let name = stop_name(stop);
     writeln!(text, "STOP {name} CYCLE {cycle} WRITES {writes}")
@@ -57,17 +60,19 @@ pub fn push_log(text: &mut String, log: &[ChannelWrite]) -> Result<(), AllocErro
 
 /// Adds the line of a key of the tape, with the machine cycle at which it was taken.
 pub fn push_tape_line(text: &mut String, cycle: u64, key: Key) -> Result<(), AllocError>
-    ensures { OnOk result (string_bytes text.new ≡ string_bytes text.old ++ tape_line (cycle, key)) }
+    ensures { OnOk result
+        (string_bytes text.new ≡ string_bytes text.old ++ tape_line (cycle, key)) }
 {
     let name = key.name();
     writeln!(text, "{cycle} key {name}")
 }
 
 /// Adds the lines of a tape, and the number of keys that are left.
-pub fn push_live(text: &mut String, tape: &Tape, left: usize) -> Result<(), AllocError>
-    ensures { OnOk result (string_bytes text.new ≡ string_bytes text.old ++ live_text tape.now left) }
+pub fn push_live(text: &mut String, keys: &LiveKeys) -> Result<(), AllocError>
+    ensures { OnOk result (string_bytes text.new ≡ string_bytes text.old ++ live_text keys.now) }
 {
-    push_tape(text, tape)?;
+    push_tape(text, &keys.tape)?;
+    let left = keys.left;
     writeln!(text, "REST {left}")
 }
 

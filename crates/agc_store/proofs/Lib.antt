@@ -1,4 +1,5 @@
 pub mod Woven
 pub mod Kept
 pub mod RopeWords
+pub mod BankOrder
 pub mod Laws

@@ -6,9 +6,9 @@ use Rattle.agc_word.specs.Number.{Number}
 use Rattle.agc_store.specs.declared.rope_file.RopeForm.{RopeForm}
 use Rattle.agc_store.specs.Memory.{nothing, cell_at}
 use Rattle.agc_store.specs.Cells.{cleared_cells}
-use Rattle.agc_store.specs.Woven.{IsWoven}
+use Rattle.agc_store.specs.Rope.{IsWoven}
 use Rattle.agc_store.proofs.Kept.{length-cleared, cell_at-cleared}
-use Rattle.agc_store.specs.Rope.{word_at, first_words}
+use Rattle.agc_store.specs.RopeFile.{rope_word_at, first_words}
 
 -- no words yet
 pub first_words_none : (form : RopeForm) (bytes : List ℕ) → first_words 0 form bytes ≡ []
@@ -16,14 +16,14 @@ unfolding first_words
 first_words_none form bytes = refl
 
 -- one word more
-pub first_words_more : (form : RopeForm) (bytes : List ℕ) (count : ℕ) → first_words (count + 1) form bytes ≡ first_words count form bytes ++ word_at form bytes count ∷ []
+pub first_words_more : (form : RopeForm) (bytes : List ℕ) (count : ℕ) → first_words (count + 1) form bytes ≡ first_words count form bytes ++ rope_word_at form bytes count ∷ []
 unfolding first_words
-first_words_more form bytes count = map-range_with_len_more (word_at form bytes) 0 count count (zero-add count)
+first_words_more form bytes count = map-range_with_len_more (rope_word_at form bytes) 0 count count (zero-add count)
 
 -- so many words
 pub length_first_words : (count : ℕ) (form : RopeForm) (bytes : List ℕ) → length (first_words count form bytes) ≡ count
 unfolding first_words
-length_first_words count form bytes = length-map-range_with_len (word_at form bytes) 0 count
+length_first_words count form bytes = length-map-range_with_len (rope_word_at form bytes) 0 count
 
 -- the words that were woven, and +0 behind them
 pub resized_words : (form : RopeForm) (bytes : List ℕ) (woven resized : List Number) (len count places : ℕ) → len ≡ length woven → count ≤ places → woven ≡ first_words count form bytes → resized ≡ take places woven ++ replicate (places - len) nothing → resized ≡ first_words count form bytes ++ cleared_cells (places - count)

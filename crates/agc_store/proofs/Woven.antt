@@ -4,7 +4,7 @@ use Rattle.std.proofs.lemmas.List.{get_or-take, get_or_past, get_or_default, len
 use Rattle.std.proofs.lemmas.Bool.{cases_lt}
 use Rattle.agc_word.specs.Number.{Number}
 use Rattle.agc_store.specs.Memory.{nothing, fixed_at}
-use Rattle.agc_store.specs.Woven.{IsWoven}
+use Rattle.agc_store.specs.Rope.{IsWoven}
 
 -- a list whose places from n on read +0 may be cut there
 pub get_or-cut : (n : ℕ) (words : List Number) → ((place : ℕ) → n ≤ place → get_or words place nothing ≡ nothing) → (place : ℕ) → get_or (take n words) place nothing ≡ get_or words place nothing

@@ -1,5 +1,6 @@
+pub mod Places
 pub mod Memory
 pub mod Cells
 pub mod Registers
-pub mod Woven
 pub mod Rope
+pub mod RopeFile

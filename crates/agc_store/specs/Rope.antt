@@ -1,52 +1,9 @@
--- What a rope file says: which word stands at each place, and why a file is refused.
-use Rattle.std.specs.Prelude.{ℕ, ◌+◌, ◌-◌, ◌*◌, ◌/◌, ◌%◌, ◌==◌, ◌&&◌, not, Bool, List, map, length, get_or, find, count_ones, Option, Some, None, option_map, nat_lt, if◌then◌else◌}
-use Rattle.std.specs.List.{range_with_len}
+-- How a rope keeps its words: 36 banks, and four more of +0 behind them.
+use Rattle.std.specs.Prelude.{◌≡◌, ℕ, ◌≤◌, List, length, get_or}
 use Rattle.agc_word.specs.Number.{Number}
-use Rattle.agc_store.specs.Cells.{narrow_number}
-use Rattle.agc_store.specs.declared.rope_file.RopeForm.{RopeForm}
-use Rattle.agc_store.specs.declared.rope_file.RopeForm.TheVariants as form
-use Rattle.agc_store.specs.declared.rope_file.RopeFault.{RopeFault}
-use Rattle.agc_store.specs.declared.rope_file.RopeFault.TheVariants as fault
+use Rattle.agc_store.specs.Memory.{nothing}
 
--- the number of 16 bits in a file's word, the higher byte first; past the end of the file it is 0
-unfoldable pub file_word : List ℕ → ℕ → ℕ
-file_word bytes index = 256 * get_or bytes (2 * index) 0 + get_or bytes (2 * index + 1) 0
-
--- Where a bank stands among a file's banks. The classic order is 02, 03, 00, 01, as the banks 02 and 03 are always at hand, then 04
--- to 43 octal; the form with parity has the plain order.
-unfoldable pub file_bank : RopeForm → ℕ → ℕ
-file_bank form.Classic bank = if nat_lt bank 2 then bank + 2 else if nat_lt bank 4 then bank - 2 else bank
-file_bank form.Parity bank = bank
-
--- the word of a rope at a place: its fifteen bits are the left ones of the file's sixteen
-unfoldable pub word_at : RopeForm → List ℕ → ℕ → Number
-word_at form bytes place = narrow_number (file_word bytes (1024 * file_bank form (place / 1024) + place % 1024) / 2)
-
--- the words of a rope at the first so many places
-unfoldable pub first_words : ℕ → RopeForm → List ℕ → List Number
-first_words count form bytes = map (word_at form bytes) (range_with_len 0 count)
-
--- the words of a rope, 36 banks of 1024
-unfoldable pub rope_words : RopeForm → List ℕ → List Number
-rope_words form bytes = first_words 36864 form bytes
-
--- Whether a word has an even count of one bits, so that its parity is wrong. A word of 0 is a place without a word.
-unfoldable pub is_bad : ℕ → Bool
-is_bad word = not (word == 0) && (count_ones word % 2 == 0)
-
--- the first word of a file whose parity is wrong
-unfoldable pub first_bad : List ℕ → Option ℕ
-first_bad bytes = find (λ index. is_bad (file_word bytes index)) (range_with_len 0 (length bytes / 2))
-
--- the fault of a file's parity, which the classic form has not
-unfoldable pub parity_fault : RopeForm → List ℕ → Option RopeFault
-parity_fault form.Classic bytes = None
-parity_fault form.Parity bytes = option_map (λ index. fault.Parity (index / 1024) (index % 1024)) (first_bad bytes)
-
--- why a file is refused, if it is: the first fault that applies
-unfoldable pub fault_of : RopeForm → List ℕ → Option RopeFault
-fault_of form bytes =
-    if length bytes == 0 then Some fault.Empty
-    else if length bytes % 2 == 1 then Some fault.OddLength
-    else if nat_lt 73728 (length bytes) then Some fault.TooLong
-    else parity_fault form bytes
+-- forty banks of which the last four are empty
+pub record IsWoven (words : List Number) : Type 0 where
+  pub count : length words ≡ 40960
+  pub empty : (place : ℕ) → 36864 ≤ place → get_or words place nothing ≡ nothing

@@ -20,7 +20,7 @@ impl Model for Addr {
 
     ghost view = { λ a. a.bits };
 
-    ghost invariant = { λ a. a.bits < 4096 };
+    ghost invariant = { λ a. a.bits < 0o10000 };
 
     ghost inverse = { λ n. record { bits = n } };
 }
@@ -29,10 +29,10 @@ impl Addr {
     /// The address with this number; `None` above `7777` octal.
     #[inline]
     pub fn new(bits: u16) -> Option<Addr>
-        ensures fits { IsSome result ↔ (bits < 4096) }
+        ensures fits { IsSome result ↔ (bits < 0o10000) }
         ensures address { IfSome result (λ a. a ≡ bits) }
     {
-        if bits < 4096 {
+        if bits < 0o10000 {
             Some(Addr { bits })
         } else {
             None
@@ -42,15 +42,17 @@ impl Addr {
     /// The address in the low twelve bits of a number.
     #[inline]
     pub fn wrapped(bits: u16) -> Addr
-        ensures { result ≡ bits % 4096 }
+        ensures { result ≡ bits % 0o10000 }
     {
-        Addr { bits: bits % 4096 }
+        Addr {
+            bits: bits % 0o10000,
+        }
     }
 
     /// The address in bits 12 to 1 of a word, as Z keeps it.
     #[inline]
     pub fn of_word(word: Narrow) -> Addr
-        ensures { result ≡ pattern_of 15 word % 4096 }
+        ensures { result ≡ pattern_of 15 word % 0o10000 }
     {
         Addr::wrapped(word.bits())
     }
@@ -59,7 +61,7 @@ impl Addr {
     #[inline]
     pub fn bits(self) -> u16
         ensures address { result ≡ self }
-        ensures range { result < 4096 }
+        ensures range { result < 0o10000 }
     {
         self.bits
     }
@@ -69,56 +71,56 @@ impl Addr {
     pub fn word(self) -> Narrow
         ensures { result ≡ narrow_number self }
     {
-        Narrow::from_bits(self.bits).unwrap()
+        Narrow::with_bits(self.bits)
     }
 
     /// The address so many places on; after `7777` octal comes 0.
     #[inline]
     pub fn skip(self, count: u8) -> Addr
-        ensures { result ≡ (self + count) % 4096 }
+        ensures { result ≡ (self + count) % 0o10000 }
     {
         Addr {
-            bits: (self.bits + u16::from(count)) % 4096,
+            bits: (self.bits + u16::from(count)) % 0o10000,
         }
     }
 
     /// The next address; after `7777` octal comes 0.
     #[inline]
     pub fn next(self) -> Addr
-        ensures { result ≡ (self + 1) % 4096 }
+        ensures { result ≡ (self + 1) % 0o10000 }
     {
         Addr {
-            bits: (self.bits + 1) % 4096,
+            bits: (self.bits + 1) % 0o10000,
         }
     }
 
     /// The address before; before 0 comes `7777` octal.
     #[inline]
     pub fn previous(self) -> Addr
-        ensures { result ≡ (self + 4095) % 4096 }
+        ensures { result ≡ (self + 0o7777) % 0o10000 }
     {
         Addr {
-            bits: (self.bits + 4095) % 4096,
+            bits: (self.bits + 0o7777) % 0o10000,
         }
     }
 
     /// The ten-bit address in an order chosen by quarter.
     #[inline]
     pub fn low_ten(self) -> Addr
-        ensures { result ≡ self % 1024 }
+        ensures { result ≡ self % 0o2000 }
     {
         Addr {
-            bits: self.bits % 1024,
+            bits: self.bits % 0o2000,
         }
     }
 
     /// The ten-bit address before; before 0 comes `1777` octal, as in DAS and DXCH.
     #[inline]
     pub fn previous_low_ten(self) -> Addr
-        ensures { result ≡ (self + 1023) % 1024 }
+        ensures { result ≡ (self + 0o1777) % 0o2000 }
     {
         Addr {
-            bits: (self.bits + 1023) % 1024,
+            bits: (self.bits + 0o1777) % 0o2000,
         }
     }
 }

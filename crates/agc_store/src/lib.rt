@@ -3,10 +3,10 @@
 #![tactic(auto)]
 
 mod addr;
+pub mod place;
 mod rope;
 mod rope_file;
 mod store;
-mod words;
 
 pub use addr::Addr;
 pub use rope::Rope;

@@ -1,8 +1,9 @@
 //! The rope: the fixed words, as they were woven.
 ghost use Rattle.std.specs.Prelude.{◌≡◌, ℕ, ◌<◌, ◌≤◌, ◌-◌, ◌%◌, ◌++◌, length, unwrap_or, IfOk, IfErr, IsNone};
+ghost use Rattle.agc_word.specs.Arithmetic.{narrow_of};
 ghost use Rattle.agc_store.specs.Memory.{fixed_at};
 ghost use Rattle.agc_store.specs.Cells.{cleared_cells};
-ghost use Rattle.agc_store.specs.Rope.{first_words, rope_words, fault_of};
+ghost use Rattle.agc_store.specs.RopeFile.{FollowsBanks, first_words, rope_words, rope_fault_of};
 ghost use Rattle.agc_store.specs.declared.rope_file.RopeForm.TheVariants as form;
 
 use crate::rope_file::{RopeFault, RopeForm, fault, woven_word};
@@ -21,7 +22,7 @@ pub struct Rope {
 impl Model for Rope {
     ghost use Rattle.std.specs.Prelude.{List, take};
     ghost use Rattle.agc_word.specs.Number.{Number};
-    ghost use Rattle.agc_store.specs.Woven.{IsWoven};
+    ghost use Rattle.agc_store.specs.Rope.{IsWoven};
 
     ghost Value = { List Number };
 
@@ -35,8 +36,9 @@ impl Rope {
     /// higher byte first, of which the left fifteen count. The words past the file's end are +0.
     pub fn read(alloc: Global, bytes: &[u8]) -> Result<Rope, RopeFault>
         ensures words { IfOk result (λ rope. rope ≡ rope_words RopeForm.Classic bytes.now) }
-        ensures accepted { IfOk result (λ _. fault_of RopeForm.Classic bytes.now ≡ None) }
-        ensures fault { IfErr result (λ fault. fault ≡ unwrap_or (fault_of RopeForm.Classic bytes.now) RopeFault.Memory) }
+        ensures order { IfOk result (λ rope. FollowsBanks RopeForm.Classic bytes.now rope) }
+        ensures accepted { IfOk result (λ _. rope_fault_of RopeForm.Classic bytes.now ≡ None) }
+        ensures fault { IfErr result (λ fault. fault ≡ unwrap_or (rope_fault_of RopeForm.Classic bytes.now) RopeFault.Memory) }
     {
         Rope::read_as(alloc, RopeForm::Classic, bytes)
     }
@@ -45,10 +47,11 @@ impl Rope {
     /// applies, in the order of `RopeFault`.
     pub fn read_as(alloc: Global, form: RopeForm, bytes: &[u8]) -> Result<Rope, RopeFault>
         ensures words { IfOk result (λ rope. rope ≡ rope_words form bytes.now) }
-        ensures accepted { IfOk result (λ _. fault_of form bytes.now ≡ None) }
+        ensures order { IfOk result (λ rope. FollowsBanks form bytes.now rope) }
+        ensures accepted { IfOk result (λ _. rope_fault_of form bytes.now ≡ None) }
 
-        // `Memory` is answered only where a growth was refused.
-        ensures fault { IfErr result (λ fault. fault ≡ unwrap_or (fault_of form bytes.now) RopeFault.Memory) }
+        // `Memory` is returned only where there is no memory.
+        ensures fault { IfErr result (λ fault. fault ≡ unwrap_or (rope_fault_of form bytes.now) RopeFault.Memory) }
     {
         if let Some(fault) = fault(form, bytes) {
             return Err(fault);
@@ -58,14 +61,19 @@ impl Rope {
             Err(_) => Err(RopeFault::Memory),
         }
     }
-    /// The word at a place, 1024 times its bank plus its offset; +0 in the banks 44 to 47 octal.
+
+    /// The word at a place, 1024 times its bank plus its offset; +0 in the banks 44 to 47 octal. A
+    /// fixed word has no overflow, so that a fetch finds nothing to correct.
     #[inline]
-    #[tactic(auto, using(crate::proofs::Woven::fixed_at_read))]
+    #[tactic(auto, using(crate::proofs::Woven::fixed_at_read), unfolding(agc_word::specs::Arithmetic::narrow_of))]
     pub(crate) fn word(&self, place: usize) -> Narrow
         requires { place < 40960 }
-        ensures { result ≡ fixed_at place self.now }
+        ensures word { result ≡ fixed_at place self.now }
+        ensures narrow { narrow_of result ≡ result }
     {
-        self.words[place]
+        let word = self.words[place];
+        let _fifteen_bits = word.bits();
+        word
     }
 }
 

@@ -1,8 +1,8 @@
 //! Rope files: their two forms, and why a file is refused.
-#![tactic(auto, unfolding(crate::specs::Rope::file_word, crate::specs::Rope::file_bank, crate::specs::Rope::word_at, crate::specs::Rope::is_bad, crate::specs::Rope::first_bad, crate::specs::Rope::parity_fault, crate::specs::Rope::fault_of))]
+#![tactic(auto, unfolding(crate::specs::RopeFile::file_word, crate::specs::RopeFile::file_bank, crate::specs::RopeFile::rope_word_at, crate::specs::RopeFile::is_bad_parity, crate::specs::RopeFile::first_bad, crate::specs::RopeFile::parity_fault, crate::specs::RopeFile::rope_fault_of))]
 
 ghost use Rattle.std.specs.Prelude.{◌≡◌, ℕ, ◌<◌, ◌≤◌, ◌/◌, ◌%◌, length, IfSome, IfNone};
-ghost use Rattle.agc_store.specs.Rope.{file_word, file_bank, word_at, is_bad, first_bad, parity_fault, fault_of};
+ghost use Rattle.agc_store.specs.RopeFile.{file_word, file_bank, rope_word_at, is_bad_parity, first_bad, parity_fault, rope_fault_of};
 
 use agc_word::Narrow;
 use byteorder::{BigEndian, ByteOrder};
@@ -38,7 +38,7 @@ pub enum RopeFault {
 
 /// The fault of a file; `None` where it is a rope.
 pub(crate) fn fault(form: RopeForm, bytes: &[u8]) -> Option<RopeFault>
-    ensures fault { result ≡ fault_of form bytes.now }
+    ensures fault { result ≡ rope_fault_of form bytes.now }
     ensures even { IfNone result (length bytes.now % 2 ≡ 0) }
 {
     if bytes.is_empty() {
@@ -63,8 +63,8 @@ fn find_parity_fault(form: RopeForm, bytes: &[u8]) -> Option<RopeFault>
         RopeForm::Classic => None,
         RopeForm::Parity => match find_bad(bytes) {
             Some(index) => Some(RopeFault::Parity {
-                bank: (index / 1024) as u8,
-                offset: (index % 1024) as u16,
+                bank: (index / 0o2000) as u8,
+                offset: (index % 0o2000) as u16,
             }),
             None => None,
         },
@@ -82,7 +82,7 @@ fn find_bad(bytes: &[u8]) -> Option<usize>
 
 /// Whether a word of 16 bits is no odd one: 0 is a place without a word.
 fn is_even(word: u16) -> bool
-    ensures { result ≡ is_bad word }
+    ensures { result ≡ is_bad_parity word }
 {
     word != 0 && word.count_ones() % 2 == 0
 }
@@ -119,8 +119,8 @@ fn bank_in_file(form: RopeForm, bank: usize) -> usize
 pub(crate) fn woven_word(form: RopeForm, bytes: &[u8], place: usize) -> Narrow
     requires even { length bytes.now % 2 ≡ 0 }
     requires place { place < 36864 }
-    ensures { result ≡ word_at form bytes.now place }
+    ensures { result ≡ rope_word_at form bytes.now place }
 {
-    let index = 1024 * bank_in_file(form, place / 1024) + place % 1024;
-    Narrow::from_bits(number_at(bytes, index) / 2).unwrap()
+    let index = 0o2000 * bank_in_file(form, place / 0o2000) + place % 0o2000;
+    Narrow::with_bits(number_at(bytes, index) / 2)
 }

@@ -1,7 +1,8 @@
-//! The store: the cells, the rope, and what each access answers and leaves.
+//! The store: the cells, the rope, and what each access returns and leaves.
 #![tactic(auto, unfolding(crate::specs::Memory::cell_at, crate::specs::Memory::fixed_at, crate::specs::Memory::selected_bank, crate::specs::Memory::read_of, crate::specs::Cells::write_of, crate::specs::Cells::fetch_of, crate::specs::Cells::named_cell, crate::specs::Cells::reedit_of, crate::specs::Cells::cell_of, crate::specs::Cells::fixed_of, crate::specs::Cells::poke_of, crate::specs::Cells::superbank_set))]
 
 ghost use Rattle.std.specs.Prelude.{◌≡◌, ℕ, ◌+◌, ◌*◌, ◌<◌, ◌≤◌};
+ghost use Rattle.agc_store.specs.Places.{zero_cell, fixed_window};
 ghost use Rattle.agc_store.specs.Memory.{read_of};
 ghost use Rattle.agc_store.specs.Cells.{
   write_of,
@@ -16,13 +17,17 @@ ghost use Rattle.agc_store.specs.Cells.{
 };
 ghost use Rattle.agc_store.specs.Registers.{HoldsRegisters};
 
+mod banks;
 mod cells;
+mod narrow_cells;
 mod registers;
 
 use crate::addr::Addr;
+use crate::place::{CYR, EDOP, ERASABLE_BANK_SIZE, FIXED_BANK_SIZE, FIXED_WINDOW};
 use crate::rope::Rope;
-use crate::words::{cleared, corrected, selected};
 use agc_word::{Narrow, Wide, widen};
+use banks::selected;
+use narrow_cells::cleared;
 use std::marker::Model;
 
 /// The memory of the machine: 2048 erasable cells in 8 banks of 256, the first of which are the
@@ -76,7 +81,7 @@ impl Store {
         ensures registers { HoldsRegisters self.now.erasable }
     {
         let number = usize::from(address.bits());
-        if number < 1024 {
+        if number < FIXED_WINDOW as usize {
             self.cells[self.erasable_place(number)]
         } else {
             widen(self.rope.word(self.fixed_place(number)))
@@ -89,10 +94,10 @@ impl Store {
         ensures { result ≡ fetch_of self.now address }
     {
         let number = usize::from(address.bits());
-        if number < 1024 {
+        if number < FIXED_WINDOW as usize {
             self.cells[self.erasable_place(number)].narrow()
         } else {
-            corrected(self.rope.word(self.fixed_place(number)))
+            self.rope.word(self.fixed_place(number))
         }
     }
 
@@ -102,7 +107,7 @@ impl Store {
     /// to 23 octal (CYR, SR, CYL and EDOP) keep the edited word.
     #[inline]
     pub fn write(&mut self, address: Addr, word: Wide)
-        requires { address < 1024 }
+        requires { address < fixed_window }
         ensures { self.new ≡ write_of self.old address word }
     {
         let place = self.erasable_place(usize::from(address.bits()));
@@ -116,9 +121,9 @@ impl Store {
         ensures { self.new ≡ reedit_of self.old address }
     {
         let number = usize::from(address.bits());
-        if number < 1024 {
+        if number < FIXED_WINDOW as usize {
             let place = self.erasable_place(number);
-            if 16 <= place && place < 20 {
+            if CYR as usize <= place && place <= EDOP as usize {
                 let word = self.cells[place];
                 self.put_low(place, word);
             }
@@ -143,7 +148,7 @@ impl Store {
         ensures { result ≡ named_cell self.now address }
     {
         let number = usize::from(address.bits());
-        if number < 1024 {
+        if number < FIXED_WINDOW as usize {
             Some(self.erasable_place(number) as u16)
         } else {
             None
@@ -162,39 +167,38 @@ impl Store {
     pub fn set_superbank(&mut self, on: bool)
         ensures { self.new ≡ superbank_set self.old on }
     {
-        self.fixed_base = 1024 * selected(self.fixed_bank(), on);
+        self.fixed_base = (FIXED_BANK_SIZE * selected(self.fixed_bank(), on)) as usize;
         self.superbank = on;
     }
 
     /// The fixed word at an offset, 0 to 1777 octal, of a bank, 00 to 43 octal, whatever FB holds.
     pub fn fixed(&self, bank: u8, offset: u16) -> Narrow
-        requires bank { bank ≤ 35 }
-        requires offset { offset ≤ 1023 }
+        requires bank { bank ≤ 0o43 }
+        requires offset { offset ≤ 0o1777 }
         ensures { result ≡ fixed_of self.now bank offset }
     {
-        self.rope
-            .word(1024 * usize::from(bank) + usize::from(offset))
+        self.rope.word(FIXED_BANK_SIZE as usize * usize::from(bank) + usize::from(offset))
     }
 
     /// The erasable cell at an offset, 0 to 377 octal, of a bank, 0 to 7, whatever EB holds. A and Q
     /// show their words with the overflow corrected.
     pub fn cell(&self, bank: u8, offset: u16) -> Narrow
         requires bank { bank ≤ 7 }
-        requires offset { offset ≤ 255 }
+        requires offset { offset ≤ 0o377 }
         ensures { result ≡ cell_of self.now bank offset }
     {
-        self.cells[256 * usize::from(bank) + usize::from(offset)].narrow()
+        self.cells[ERASABLE_BANK_SIZE as usize * usize::from(bank) + usize::from(offset)].narrow()
     }
 
     /// Puts a word into a cell as it is, also into an editing register, as the hardware does with
     /// counters and interrupt registers. The registers 0 to 7 of bank 0 are out of reach.
     pub fn poke(&mut self, bank: u8, offset: u16, word: Narrow)
         requires bank { bank ≤ 7 }
-        requires offset { offset ≤ 255 }
-        requires no_register { bank ≡ 0 → 8 ≤ offset }
+        requires offset { offset ≤ 0o377 }
+        requires no_register { bank ≡ 0 → zero_cell < offset }
         ensures { self.new ≡ poke_of self.old bank offset word }
     {
-        let place = 256 * usize::from(bank) + usize::from(offset);
-        self.set_plain(place, widen(corrected(word)));
+        let place = ERASABLE_BANK_SIZE as usize * usize::from(bank) + usize::from(offset);
+        self.set_plain(place, widen(word));
     }
 }

@@ -2,6 +2,7 @@
 ghost use Rattle.std.specs.Prelude.{◌≡◌, ◌<◌};
 
 use crate::addr::Addr;
+use crate::place::{A, BB, CYL, CYR, EB, EDOP, FB, L, Q, SR, Z, ZERO};
 use crate::rope::Rope;
 use crate::rope_file::{RopeFault, RopeForm};
 use crate::store::Store;
@@ -67,7 +68,7 @@ fn at(number: u16) -> Addr
 fn word(bits: u16) -> Narrow
     requires { bits < 32768 }
 {
-    Narrow::from_bits(bits).unwrap()
+    Narrow::with_bits(bits)
 }
 
 fn empty_store(alloc: Global) -> Result<Store, RopeFault> {
@@ -196,23 +197,23 @@ fn parity_fault_place(rt: HostRuntime) -> Result<(), Fail> {
 #[test]
 fn editing_registers(rt: HostRuntime) -> Result<(), Fail> {
     let mut store = empty_store(rt.alloc())?;
-    store.write(at(0o20), Wide::from_bits(1));
-    store.write(at(0o21), Wide::from_bits(1));
-    store.write(at(0o22), Wide::from_bits(1));
-    store.write(at(0o23), Wide::from_bits(1));
-    assert_eq!(rt; store.read(at(0o20)).bits(), 0o140000);
-    assert_eq!(rt; store.read(at(0o21)).bits(), 0o000000);
-    assert_eq!(rt; store.read(at(0o22)).bits(), 0o000002);
-    assert_eq!(rt; store.read(at(0o23)).bits(), 0o000000);
-    store.reedit(at(0o20));
-    assert_eq!(rt; store.read(at(0o20)).bits(), 0o020000);
-    assert_eq!(rt; store.read(at(0o22)).bits(), 0o000002);
+    store.write(at(CYR), Wide::from_bits(1));
+    store.write(at(SR), Wide::from_bits(1));
+    store.write(at(CYL), Wide::from_bits(1));
+    store.write(at(EDOP), Wide::from_bits(1));
+    assert_eq!(rt; store.read(at(CYR)).bits(), 0o140000);
+    assert_eq!(rt; store.read(at(SR)).bits(), 0o000000);
+    assert_eq!(rt; store.read(at(CYL)).bits(), 0o000002);
+    assert_eq!(rt; store.read(at(EDOP)).bits(), 0o000000);
+    store.reedit(at(CYR));
+    assert_eq!(rt; store.read(at(CYR)).bits(), 0o020000);
+    assert_eq!(rt; store.read(at(CYL)).bits(), 0o000002);
 
     // A read that edits again, by the window at 1400 octal with EB 0; and a poke, which does not.
     assert_eq!(rt; store.read_and_edit(at(0o1422)).bits(), 0o000002);
-    assert_eq!(rt; store.read(at(0o22)).bits(), 0o000004);
-    store.poke(0, 0o23, word(0o77777));
-    assert_eq!(rt; store.cell(0, 0o23).bits(), 0o77777);
+    assert_eq!(rt; store.read(at(CYL)).bits(), 0o000004);
+    store.poke(0, EDOP, word(0o77777));
+    assert_eq!(rt; store.cell(0, EDOP).bits(), 0o77777);
     Ok(())
 }
 
@@ -225,7 +226,7 @@ fn fixed_banks_and_superbank(rt: HostRuntime) -> Result<(), Fail> {
         (0o156000, 0o27, 0o27),
         (0o170000, 0o34, 0),
     ] {
-        store.write(at(4), Wide::from_bits(fb));
+        store.write(at(FB), Wide::from_bits(fb));
         store.set_superbank(false);
         assert_eq!(rt; store.fetch(at(0o2000)).bits(), off, "FB {fb:o}");
         store.set_superbank(true);
@@ -237,10 +238,10 @@ fn fixed_banks_and_superbank(rt: HostRuntime) -> Result<(), Fail> {
         );
     }
     assert_eq!(rt; store.selected_bank(), 0o44);
-    store.write(at(6), Wide::from_bits(0o160005));
-    assert_eq!(rt; store.read(at(4)).bits(), 0o160000);
-    assert_eq!(rt; store.read(at(3)).bits(), 0o002400);
-    assert_eq!(rt; store.read(at(6)).bits(), 0o160005);
+    store.write(at(BB), Wide::from_bits(0o160005));
+    assert_eq!(rt; store.read(at(FB)).bits(), 0o160000);
+    assert_eq!(rt; store.read(at(EB)).bits(), 0o002400);
+    assert_eq!(rt; store.read(at(BB)).bits(), 0o160005);
     assert_eq!(rt; store.fetch(at(0o4000)).bits(), 0o02);
     assert_eq!(rt; store.fetch(at(0o6000)).bits(), 0o03);
     Ok(())
@@ -253,9 +254,9 @@ fn kept_erasable_bank(rt: HostRuntime) -> Result<(), Fail> {
     store.write(at(0o1403), Wide::from_bits(0o002400));
     store.write(at(0o1400), Wide::from_bits(0o000007));
     assert_eq!(rt; store.cell(5, 0), word(0o00007));
-    assert_eq!(rt; store.read(at(3)).bits(), 0o002400);
+    assert_eq!(rt; store.read(at(EB)).bits(), 0o002400);
     assert_eq!(rt; store.erasable_bank(), 5);
-    assert_eq!(rt; store.named_cell(at(0o1400)), Some(5 * 256));
+    assert_eq!(rt; store.named_cell(at(0o1400)), Some(5 * 0o400));
     assert_eq!(rt; store.named_cell(at(0o2000)), None);
     Ok(())
 }
@@ -272,22 +273,22 @@ fn registers_keep_their_bits(rt: HostRuntime) -> Result<(), Fail> {
     assert_eq!(rt; store.l().bits(), 0o12345);
     assert_eq!(rt; store.z().bits(), 0o7777);
     assert_eq!(rt;
-        store.fetch(at(0)).bits(),
+        store.fetch(at(A)).bits(),
         0o00001,
         "the overflow is corrected"
     );
-    assert_eq!(rt; store.cell(0, 2).bits(), 0o77776);
+    assert_eq!(rt; store.cell(0, Q).bits(), 0o77776);
     for (cell, kept) in [
-        (1, 0o177777),
-        (3, 0o003400),
-        (4, 0o176000),
-        (5, 0o007777),
-        (7, 0),
+        (L, 0o177777),
+        (EB, 0o003400),
+        (FB, 0o176000),
+        (Z, 0o007777),
+        (ZERO, 0),
     ] {
         store.write(at(cell), Wide::from_bits(0o177777));
-        assert_eq!(rt; store.read(at(cell)).bits(), kept, "register {cell}");
+        assert_eq!(rt; store.read(at(cell)).bits(), kept, "register {cell:o}");
     }
-    assert_eq!(rt; store.read(at(6)).bits(), 0o176007);
+    assert_eq!(rt; store.read(at(BB)).bits(), 0o176007);
     Ok(())
 }
 

@@ -4,5 +4,7 @@ pub mod Digits
 pub mod Divisions
 pub mod Edits
 pub mod LogicLemmas
+pub mod Multiplications
+pub mod Numerals
 pub mod Octal
 pub mod Pulses

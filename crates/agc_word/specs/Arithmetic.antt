@@ -1,5 +1,6 @@
 -- What the adder does: sums, overflow and its correction, by signed integers with two zeros.
-use Rattle.std.specs.Prelude.{zero, suc, ◌-◌, ◌%◌, ◌==◌, Bool, true, false, not, ◌&&◌, ℤ, pos, negsuc, ◌+ℤ◌, ◌-ℤ◌, int_lt, if◌then◌else◌}
+use Rattle.std.specs.Prelude.{zero, suc, ◌-◌, ◌%◌, ◌==◌, Bool, true, false, not, ◌&&◌}
+use Rattle.std.specs.Prelude.{ℤ, pos, negsuc, ◌+ℤ◌, ◌-ℤ◌, int_lt, if◌then◌else◌}
 use Rattle.agc_word.specs.Number.{Number, value}
 use Rattle.agc_word.specs.declared.wide.Over.{Over}
 use Rattle.agc_word.specs.declared.wide.Over.TheVariants as over
@@ -14,19 +15,28 @@ signed_number sign_of_zero (negsuc n) = record { minus = true; magnitude = suc n
 abbrev pub is_plus_zero : Number → Bool
 is_plus_zero x = not x.minus && (x.magnitude == 0)
 
--- A sum beyond the sixteen digits: the carry out of the top digit comes in again at the bottom, so that 65535 goes away.
+-- A sum beyond the sixteen digits: the carry out of the top digit comes in again at the bottom, so
+-- that 65535 goes away.
 abbrev pub wrapped : ℤ → ℤ
-wrapped s = if int_lt (pos 32767) s then s -ℤ pos 65535 else (if int_lt s (negsuc 32766) then s +ℤ pos 65535 else s)
+wrapped s =
+    if int_lt (pos 32767) s
+    then s -ℤ pos 65535
+    else (if int_lt s (negsuc 32766) then s +ℤ pos 65535 else s)
 
--- The adder's sum. It gives +0 only where both terms are +0: every other zero sum has all its digits 1.
+-- The adder's sum. It gives +0 only where both terms are +0: every other zero sum is -0, all ones.
 unfoldable pub sum_of : Number → Number → Number
-sum_of x y = signed_number (not (is_plus_zero x && is_plus_zero y)) (wrapped (value x +ℤ value y))
+sum_of x y =
+    signed_number (not (is_plus_zero x && is_plus_zero y)) (wrapped (value x +ℤ value y))
 
--- Overflow, which the machine sees as bits 16 and 15 that differ: a magnitude that a narrow word cannot hold.
+-- Overflow, which the machine sees as bits 16 and 15 that differ: a magnitude that no narrow word
+-- can hold.
 unfoldable pub over_of : Number → Over
-over_of x = if int_lt (pos 16383) (value x) then over.Plus else (if int_lt (value x) (negsuc 16382) then over.Minus else over.None)
+over_of x =
+    if int_lt (pos 16383) (value x)
+    then over.Plus
+    else (if int_lt (value x) (negsuc 16382) then over.Minus else over.None)
 
--- Overflow correction: a word that is stored keeps its sign and the low fourteen digits of its magnitude.
+-- Overflow correction: a word that is stored keeps its sign, and fourteen digits of its magnitude.
 unfoldable pub narrow_of : Number → Number
 narrow_of x = record x { magnitude = x.magnitude % 16384 }
 

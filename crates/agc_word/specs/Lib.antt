@@ -7,4 +7,6 @@ pub mod Edits
 pub mod Logic
 pub mod Pulses
 pub mod Octal
+pub mod Numeral
 pub mod Patterns
+pub mod Channels

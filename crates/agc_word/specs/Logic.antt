@@ -16,6 +16,10 @@ and_of x y = number_of_digits (digit_by_digit min (digits 16 x) (digits 16 y))
 unfoldable pub or_of : Number → Number → Number
 or_of x y = number_of_digits (digit_by_digit max (digits 16 x) (digits 16 y))
 
+-- whether two digits differ
+abbrev pub differing : ℕ → ℕ → ℕ
+differing d e = if d == e then 0 else 1
+
 -- 1 where the digits differ
 unfoldable pub xor_of : Number → Number → Number
-xor_of x y = number_of_digits (digit_by_digit (λ d e. if d == e then 0 else 1) (digits 16 x) (digits 16 y))
+xor_of x y = number_of_digits (digit_by_digit differing (digits 16 x) (digits 16 y))

@@ -1,17 +1,22 @@
 -- Multiplication and division of signed numbers, in one and in two words.
-use Rattle.std.specs.Prelude.{◌≡◌, ◌+◌, ◌-◌, ◌*◌, ◌/◌, ◌%◌, ◌<◌, ◌≤◌, ◌==◌, ◌⊎◌, min, nat_le, Bool, not, ◌&&◌, ℤ, pos, ◌+ℤ◌, ◌*ℤ◌, nat_abs, Option, Some, None, if◌then◌else◌}
+use Rattle.std.specs.Prelude.{◌≡◌, ◌+◌, ◌-◌, ◌*◌, ◌/◌, ◌%◌, ◌<◌, ◌≤◌, ◌==◌, ◌⊎◌}
+use Rattle.std.specs.Prelude.{min, nat_le, Bool, not, ◌&&◌, ℤ, pos, ◌+ℤ◌, ◌*ℤ◌}
+use Rattle.std.specs.Prelude.{nat_abs, Option, Some, None, if◌then◌else◌}
 use Rattle.agc_word.specs.Number.{Number, value}
 
 -- whether one of two numbers is minus and the other plus, which makes a product or a quotient minus
 abbrev pub signs_differ : Bool → Bool → Bool
 signs_differ one other = if one then not other else other
 
--- The product's magnitude stands in two words of fourteen digits, both with its sign, also where a word is zero. To multiply by +0 or -0 gives +0 in both.
+-- The product's magnitude stands in two words of fourteen digits, both with its sign, also where a
+-- word is zero. To multiply by +0 or -0 gives +0 in both.
 unfoldable pub product_of : Number → Number → Number × Number
 product_of a k =
     let size = a.magnitude * k.magnitude in
     let sign = signs_differ a.minus k.minus && not (k.magnitude == 0) in
-    (record { minus = sign; magnitude = size / 16384 }, record { minus = sign; magnitude = size % 16384 })
+    let upper : Number = record { minus = sign; magnitude = size / 16384 } in
+    let lower : Number = record { minus = sign; magnitude = size % 16384 } in
+    (upper, lower)
 
 -- the number in two words that division takes: the lower one may have another sign than the upper
 abbrev pub dividend_of : Number → Number → ℤ
@@ -21,17 +26,21 @@ dividend_of a l = pos 16384 *ℤ value a +ℤ value l
 abbrev pub dividend_is_minus : Number → Number → Bool
 dividend_is_minus a l = if a.magnitude == 0 then l.minus else a.minus
 
--- The quotient and the remainder, where the divisor is no zero and the quotient fits a word. At equality the quotient is the largest one, and the remainder as large as the divisor.
+-- The quotient and the remainder, where the divisor is no zero and the quotient fits a word. At
+-- equality the quotient is the largest one, and the remainder as large as the divisor.
 unfoldable pub quotient_of : Number → Number → Number → Option (Number × Number)
 quotient_of a l k =
     let size = nat_abs (dividend_of a l) in
     let sign = dividend_is_minus a l in
     let whole = min (size / k.magnitude) 16383 in
-    if not (k.magnitude == 0) && nat_le size (16384 * k.magnitude)
-    then Some (record { minus = signs_differ sign k.minus; magnitude = whole }, record { minus = sign; magnitude = size - whole * k.magnitude })
-    else None
+    let quotient : Number = record { minus = signs_differ sign k.minus; magnitude = whole } in
+    let remainder : Number = record { minus = sign; magnitude = size - whole * k.magnitude } in
+    let fits = not (k.magnitude == 0) && nat_le size (16384 * k.magnitude) in
+    if fits then Some (quotient, remainder) else None
 
--- The law of division: quotient q and remainder r make up the dividend, and the remainder is below the divisor, or equal to it where the quotient is the largest word. The quotient is minus where the signs differ, and the remainder has the dividend's sign.
+-- The law of division: quotient q and remainder r make up the dividend, and the remainder is below
+-- the divisor, or equal to it where the quotient is the largest word. The quotient is minus where
+-- the signs differ, and the remainder has the dividend's sign.
 pub record IsDivision (a l k q r : Number) : Type 0 where
   pub divisor : 0 < k.magnitude
   pub fits : q.magnitude ≤ 16383

@@ -1,6 +1,7 @@
 -- What a counter cell becomes when a pulse steps it, and whether a carry comes out.
-use Rattle.std.specs.Prelude.{◌+◌, ◌-◌, ◌%◌, ◌==◌, ℕ, false, true, List, [], ◌∷◌, ◌++◌, get_or, drop, if◌then◌else◌}
-use Rattle.agc_word.specs.Number.{Number, number_from_pattern, pattern_of}
+use Rattle.std.specs.Prelude.{◌+◌, ◌-◌, ◌%◌, ◌==◌, ℕ, false, true, List}
+use Rattle.std.specs.Prelude.{[], ◌∷◌, ◌++◌, get_or, drop, if◌then◌else◌}
+use Rattle.agc_word.specs.Number.{Number, plus_one, minus_one, number_from_pattern, pattern_of}
 use Rattle.agc_word.specs.Arithmetic.{sum_of, narrow_of, over_of}
 use Rattle.agc_word.specs.Digits.{digits, number_of_digits}
 use Rattle.agc_word.specs.declared.wide.Over.{Over}
@@ -9,14 +10,6 @@ use Rattle.agc_word.specs.declared.pulse.Pulse.{Pulse}
 use Rattle.agc_word.specs.declared.pulse.Pulse.TheVariants as pulse
 use Rattle.agc_word.specs.declared.pulse.Carry.{Carry}
 use Rattle.agc_word.specs.declared.pulse.Carry.TheVariants as carry
-
--- what PINC adds
-abbrev pub plus_one : Number
-plus_one = record { minus = false; magnitude = 1 }
-
--- what MINC adds
-abbrev pub minus_one : Number
-minus_one = record { minus = true; magnitude = 1 }
 
 -- where DINC ends, from either side
 abbrev pub minus_zero : Number
@@ -35,13 +28,17 @@ counted s = (narrow_of s, carry_of (over_of s))
 -- one step towards zero, which ends at -0; a counter that is at zero stays there and carries
 abbrev pub diminished : Number → Number × Carry
 diminished x =
-    if x.magnitude == 0 then (x, carry.Out) else (if x.magnitude == 1 then minus_zero else record x { magnitude = x.magnitude - 1 }, carry.None)
+    let less : Number = record x { magnitude = x.magnitude - 1 } in
+    let nearer = if x.magnitude == 1 then minus_zero else less in
+    if x.magnitude == 0 then (x, carry.Out) else (nearer, carry.None)
 
--- the digits move left one place, a new one enters on the right, and the first one leaves as the carry
+-- the digits move left one place, a new one enters on the right, and the first leaves as the carry
 abbrev pub shifted_in : ℕ → List ℕ → Number × Carry
-shifted_in d ds = (number_of_digits (drop 1 ds ++ d ∷ []), if get_or ds 0 0 == 1 then carry.Out else carry.None)
+shifted_in d ds =
+    (number_of_digits (drop 1 ds ++ d ∷ []), if get_or ds 0 0 == 1 then carry.Out else carry.None)
 
--- PINC and MINC count by one, DINC counts towards zero, PCDU and MCDU count an angle round its circle of 32768 patterns, SHINC and SHANC shift in a 0 or a 1.
+-- PINC and MINC count by one, DINC counts towards zero, PCDU and MCDU count an angle round its
+-- circle of 32768 patterns, SHINC and SHANC shift in a 0 or a 1.
 unfoldable pub pulsed : Pulse → Number → Number × Carry
 pulsed pulse.Pinc x = counted (sum_of x plus_one)
 pulsed pulse.Minc x = counted (sum_of x minus_one)

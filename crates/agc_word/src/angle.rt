@@ -15,6 +15,6 @@ pub fn modular_difference(a: Narrow, k: Narrow) -> Wide
     ensures law { IsModularDifference a k result }
     ensures only { (d : Number) → IsModularDifference a k d → d ≡ result }
 {
-    let way = (a.bits() + 32768 - k.bits()) % 32768;
-    Wide::from_bits(if way < 16384 { way } else { way + 32767 })
+    let way = (a.bits() + 0o100000 - k.bits()) % 0o100000;
+    Wide::from_bits(if way < 0o40000 { way } else { way + 0o77777 })
 }

@@ -30,6 +30,10 @@ pub fn dabs(x: Wide) -> Wide
     ensures { result ≡ dabs_of x }
 {
     let bits = x.bits();
-    let magnitude = if bits < 32768 { bits } else { u16::MAX - bits };
+    let magnitude = if bits < 0o100000 {
+        bits
+    } else {
+        u16::MAX - bits
+    };
     Wide::from_bits(magnitude.saturating_sub(1))
 }

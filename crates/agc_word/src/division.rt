@@ -1,16 +1,18 @@
 //! Multiplication and division, on magnitudes and signs.
-ghost use Rattle.std.specs.Prelude.{◌≡◌, ◌<◌, ◌^◌, ◌≤◌, ◌↔◌, ◌+◌, ◌*◌, ◌/◌, ◌⊎◌, ℕ, min, nat_abs, IsNone, IfSome};
-ghost use Rattle.agc_word.specs.Number.{Number};
+ghost use Rattle.std.specs.Prelude.{◌≡◌, ◌<◌, ◌^◌, ◌≤◌, ◌↔◌, ◌+◌, ◌*◌, ◌*ℤ◌, ◌/◌, ◌⊎◌, ℕ, min, nat_abs, IsNone, IfSome};
+ghost use Rattle.agc_word.specs.Number.{Number, value};
 ghost use Rattle.agc_word.specs.Products.{product_of, quotient_of, dividend_of, dividend_is_minus, IsDivision};
 
 use crate::narrow::Narrow;
 
 /// The product in two words: its magnitude divided by 16384, and the rest. Both have its sign,
-/// also where a word is zero; where `k` is a zero of either sign both are +0.
+/// also where a word is zero; where `k` is a zero of either sign both are +0. Together they are the
+/// product of the values, as a dividend is read.
 #[inline]
 #[tactic(auto, unfolding(crate::specs::Products::product_of))]
 pub fn product(a: Narrow, k: Narrow) -> (Narrow, Narrow)
-    ensures { result ≡ product_of a k }
+    ensures pair { result ≡ product_of a k }
+    ensures law { dividend_of result.0 result.1 ≡ value a *ℤ value k }
 {
     let size = u32::from(a.magnitude()) * u32::from(k.magnitude());
     let minus = a.is_minus() != k.is_minus() && k.magnitude() != 0;

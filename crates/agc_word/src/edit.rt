@@ -22,10 +22,10 @@ impl Narrow {
     {
         let bits = self.bits();
         match how {
-            Edit::Cyr => Narrow::with_bits(bits % 2 * 16384 + bits / 2),
-            Edit::Sr => Narrow::with_bits(bits / 16384 * 16384 + bits / 2),
-            Edit::Cyl => Narrow::with_bits(bits % 16384 * 2 + bits / 16384),
-            Edit::Edop => Narrow::with_bits(bits % 16384 / 128),
+            Edit::Cyr => Narrow::with_bits(bits % 2 * 0o40000 + bits / 2),
+            Edit::Sr => Narrow::with_bits(bits / 0o40000 * 0o40000 + bits / 2),
+            Edit::Cyl => Narrow::with_bits(bits % 0o40000 * 2 + bits / 0o40000),
+            Edit::Edop => Narrow::with_bits(bits % 0o40000 / 0o200),
         }
     }
 }

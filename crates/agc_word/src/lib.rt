@@ -3,19 +3,23 @@
 
 mod angle;
 mod arithmetic;
+mod channels;
 mod division;
 mod edit;
 mod logic;
 mod narrow;
+mod numeral;
 mod pulse;
 mod wide;
 
 pub use angle::modular_difference;
 pub use arithmetic::{complement, dabs, sum};
+pub use channels::{FIRST_IO_CHANNEL, LAST_IO_CHANNEL};
 pub use division::{product, quotient};
 pub use edit::Edit;
 pub use logic::{and, or, xor};
 pub use narrow::Narrow;
+pub use numeral::{read_decimal, read_octal};
 pub use pulse::{Carry, Pulse};
 pub use wide::{Over, Wide, widen};
 

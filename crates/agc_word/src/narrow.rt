@@ -73,7 +73,7 @@ impl Narrow {
     pub fn is_minus(self) -> bool
         ensures { result ≡ self.minus }
     {
-        self.bits >= 16384
+        self.bits >= 0o40000
     }
 
     /// Whether a bit is 1. Bits are counted from 1 on the right to 15.
@@ -93,10 +93,10 @@ impl Narrow {
         ensures size { result ≡ self.magnitude }
         ensures range { result < 2 ^ 14 }
     {
-        if self.bits < 16384 {
+        if self.bits < 0o40000 {
             self.bits
         } else {
-            32767 - self.bits
+            0o77777 - self.bits
         }
     }
 
@@ -107,7 +107,11 @@ impl Narrow {
         ensures { result ≡ record { minus = minus; magnitude = magnitude } }
     {
         Narrow {
-            bits: if minus { 32767 - magnitude } else { magnitude },
+            bits: if minus {
+                0o77777 - magnitude
+            } else {
+                magnitude
+            },
         }
     }
 }

@@ -37,15 +37,15 @@ impl Narrow {
             Pulse::Pinc => counted(sum(widen(self), Wide::PLUS_ONE)),
             Pulse::Minc => counted(sum(widen(self), Wide::MINUS_ONE)),
             Pulse::Dinc => diminished(self),
-            Pulse::Pcdu => (Narrow::with_bits((bits + 1) % 32768), Carry::None),
-            Pulse::Mcdu => (Narrow::with_bits((bits + 32767) % 32768), Carry::None),
+            Pulse::Pcdu => (Narrow::with_bits((bits + 1) % 0o100000), Carry::None),
+            Pulse::Mcdu => (Narrow::with_bits((bits + 0o77777) % 0o100000), Carry::None),
             Pulse::Shinc => (
-                Narrow::with_bits(bits % 16384 * 2),
-                carry_from(bits / 16384),
+                Narrow::with_bits(bits % 0o40000 * 2),
+                carry_from(bits / 0o40000),
             ),
             Pulse::Shanc => (
-                Narrow::with_bits(bits % 16384 * 2 + 1),
-                carry_from(bits / 16384),
+                Narrow::with_bits(bits % 0o40000 * 2 + 1),
+                carry_from(bits / 0o40000),
             ),
         }
     }
@@ -65,10 +65,10 @@ fn diminished(x: Narrow) -> (Narrow, Carry)
     ensures { result ≡ diminished x }
 {
     match x.bits() {
-        0 | 32767 => (x, Carry::Out),
-        1 | 32766 => (Narrow::MINUS_ZERO, Carry::None),
+        0 | 0o77777 => (x, Carry::Out),
+        1 | 0o77776 => (Narrow::MINUS_ZERO, Carry::None),
         bits => {
-            if bits < 16384 {
+            if bits < 0o40000 {
                 (Narrow::with_bits(bits - 1), Carry::None)
             } else {
                 (Narrow::with_bits(bits + 1), Carry::None)

@@ -1,7 +1,7 @@
 //! Worked values, in octal: what the definitions are to mean.
 use crate::{
     Carry, Edit, Narrow, Over, Pulse, Wide, and, complement, dabs, modular_difference, or, product,
-    quotient, sum, widen, xor,
+    quotient, read_decimal, read_octal, sum, widen, xor,
 };
 use std::process::Abort;
 
@@ -215,4 +215,24 @@ fn signs_bits_and_text(rt: HostRuntime) {
         &rt, "memory",
     );
     assert_eq!(rt; text.as_str(), "00005 177776");
+}
+
+#[test]
+fn numerals(rt: HostRuntime) {
+    for (text, octal, decimal) in [
+        ("7", Some(7), Some(7)),
+        ("007", Some(7), Some(7)),
+        ("777", Some(511), Some(777)),
+        ("789", None, Some(789)),
+        ("0777", None, None),
+        ("", None, None),
+        ("+7", None, None),
+        ("7 ", None, None),
+    ] {
+        assert_eq!(rt; read_octal(3, text.as_bytes()), octal, "octal {text}");
+        assert_eq!(rt; read_decimal(3, text.as_bytes()), decimal, "decimal {text}");
+    }
+    let last = b"7777777777777777777";
+    assert_eq!(rt; read_octal(19, last), Some((1 << 57) - 1));
+    assert_eq!(rt; read_octal(18, last), None);
 }

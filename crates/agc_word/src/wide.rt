@@ -1,6 +1,7 @@
 //! The wide word: sixteen digits, as the adder and the registers A and Q hold them.
-ghost use Rattle.std.specs.Prelude.{◌≡◌, false, Some};
+ghost use Rattle.std.specs.Prelude.{◌≡◌, ◌<◌, ◌^◌, false, Some};
 ghost use Rattle.agc_word.specs.Number.{number_from_pattern, pattern_of};
+ghost use Rattle.agc_word.specs.Arithmetic.{narrow_of, over_of};
 ghost use Rattle.agc_word.specs.Octal.{octal_digits};
 
 use crate::narrow::Narrow;
@@ -39,8 +40,6 @@ impl Model for Wide {
 }
 
 impl Wide {
-    ghost use Rattle.agc_word.specs.Arithmetic.{narrow_of, over_of};
-
     /// +0, `000000` in octal.
     pub const PLUS_ZERO: Wide = Wide { bits: 0 };
 
@@ -76,7 +75,7 @@ impl Wide {
     pub fn narrow(self) -> Narrow
         ensures { result ≡ narrow_of self }
     {
-        Narrow::with_bits(self.bits / 32768 * 16384 + self.bits % 16384)
+        Narrow::with_bits(self.bits / 0o100000 * 0o40000 + self.bits % 0o40000)
     }
 
     /// The overflow: plus or minus where bits 16 and 15 differ, by the sign in bit 16.
@@ -85,7 +84,7 @@ impl Wide {
     pub fn over(self) -> Over
         ensures { result ≡ over_of self }
     {
-        match self.bits / 16384 {
+        match self.bits / 0o40000 {
             1 => Over::Plus,
             2 => Over::Minus,
             _ => Over::None,
@@ -112,13 +111,21 @@ impl fmt::Display for Wide {
     }
 }
 
-/// The same number in sixteen bits: bit 15 is copied into bit 16.
+/// The same number in sixteen bits: bit 15 is copied into bit 16. It has no overflow, so that
+/// narrowing gives the word back.
 #[inline]
+#[tactic(auto, unfolding(crate::specs::Arithmetic::narrow_of))]
 pub fn widen(x: Narrow) -> Wide
-    ensures { result ≡ x }
+    ensures same { result ≡ x }
+    ensures back { narrow_of result ≡ x }
+    ensures range { result.magnitude < 2 ^ 14 }
 {
     let bits = x.bits();
     Wide {
-        bits: if bits < 16384 { bits } else { bits + 32768 },
+        bits: if bits < 0o40000 {
+            bits
+        } else {
+            bits + 0o100000
+        },
     }
 }

@@ -1,13 +1,17 @@
 //! What comes from outside: keys, inputs, pulses, and the channels that show them.
 use super::*;
+use agc_listing::IDLE;
 use agc_script::{Key, Tape};
 use std::test::Fail;
 
 /// KEYRUPT1 is taken at cycle 0 before INHINT runs; RESUME at 3, INHINT at 5, TCF 4001 from 6 on.
 #[test]
 fn key_interrupt(rt: HostRuntime) -> Result<(), Fail> {
-    let parts: [(usize, &[u16]); 2] = [(0o4000, &[0o00004, 0o14001]), (0o4024, &[0o50017])];
-    let machine = run_with(&rt, &parts, "0 key VERB", 10)?;
+    let listing = "
+4000 00004 INHINT
+4001 14001 TCF 4001
+4024 50017 RESUME";
+    let machine = run(&rt, listing, "0 key VERB", 10)?;
     assert_eq!(rt; cell(&machine, 0o15), 0o04001);
     assert_eq!(rt; cell(&machine, 0o17), 0o00004);
     assert_eq!(rt; channel(&machine, 0o15), 0o00021);
@@ -18,7 +22,7 @@ fn key_interrupt(rt: HostRuntime) -> Result<(), Fail> {
 /// while an event is due, nor at the limit.
 #[test]
 fn live_key(rt: HostRuntime) -> Result<(), Fail> {
-    let mut machine = machine(&rt, &[0o14000], "0 pro down", 3)?;
+    let mut machine = machine(&rt, IDLE, "0 pro down", 3)?;
     assert_eq!(rt; machine.wants_key(), false);
     quiet(&rt, &mut machine);
     assert!(rt; machine.wants_key());
@@ -35,7 +39,7 @@ fn live_key(rt: HostRuntime) -> Result<(), Fail> {
 #[test]
 fn pro_key(rt: HostRuntime) -> Result<(), Fail> {
     let script = "0 pro down\n0 pro up\n0 input 32 0\n0 pro up\n";
-    let mut machine = machine(&rt, &[0o14000], script, 10)?;
+    let mut machine = machine(&rt, IDLE, script, 10)?;
     for word in [0o57777, 0o77777, 0o00000, 0o20000] {
         quiet(&rt, &mut machine);
         assert_eq!(rt; channel(&machine, 0o32), word);
@@ -49,7 +53,7 @@ fn pro_key(rt: HostRuntime) -> Result<(), Fail> {
 #[test]
 fn uprupt_by_a_shift(rt: HostRuntime) -> Result<(), Fail> {
     let script = "0 poke 0 46 40000\n0 pulse 46 shinc\n10 poke 0 45 40001\n10 pulse 45 shanc\n";
-    let fresh = machine(&rt, &[0o14000], script, 20)?;
+    let fresh = machine(&rt, IDLE, script, 20)?;
     let mut machine = until(&rt, fresh, 0, 0o4034);
     stopped(&rt, &mut machine, Stop::Reached, 14);
     assert_eq!(rt;
@@ -62,8 +66,13 @@ fn uprupt_by_a_shift(rt: HostRuntime) -> Result<(), Fail> {
 /// CA, EXTEND, WRITE 7 of 37777: the channel keeps bits 7 to 5.
 #[test]
 fn channel_seven_keeps_three_bits(rt: HostRuntime) -> Result<(), Fail> {
-    let words = [0o34004, 0o00006, 0o01007, 0o14003, 0o37777];
-    let mut machine = machine(&rt, &words, "", 10)?;
+    let listing = "
+4000 34004 CA 4004
+4001 00006 EXTEND
+4002 01007 WRITE 7
+4003 14003 TCF 4003
+4004 37777";
+    let mut machine = machine(&rt, listing, "", 10)?;
     wrote(&rt, &mut machine, 3, 0o7, 0o00160);
     assert_eq!(rt; channel(&machine, 7), 0o00160);
     assert!(rt; machine.store().superbank());
@@ -74,10 +83,18 @@ fn channel_seven_keeps_three_bits(rt: HostRuntime) -> Result<(), Fail> {
 /// 00127 leaves 00120 in both. Bit 7 is the superbank.
 #[test]
 fn or_and_and_to_channel_seven(rt: HostRuntime) -> Result<(), Fail> {
-    let words = [
-        0o34010, 0o00006, 0o05007, 0o54100, 0o34011, 0o00006, 0o03007, 0o14007, 0o00777, 0o00127,
-    ];
-    let mut machine = machine(&rt, &words, "", 15)?;
+    let listing = "
+4000 34010 CA 4010
+4001 00006 EXTEND
+4002 05007 WOR 7
+4003 54100 TS 100
+4004 34011 CA 4011
+4005 00006 EXTEND
+4006 03007 WAND 7
+4007 14007 TCF 4007
+4010 00777
+4011 00127";
+    let mut machine = machine(&rt, listing, "", 15)?;
     wrote(&rt, &mut machine, 3, 0o7, 0o00160);
     wrote(&rt, &mut machine, 10, 0o7, 0o00120);
     stopped(&rt, &mut machine, Stop::Limit, 15);
@@ -90,7 +107,7 @@ fn or_and_and_to_channel_seven(rt: HostRuntime) -> Result<(), Fail> {
 /// A script's input switches the superbank too, and is no channel write.
 #[test]
 fn input_switches_the_superbank(rt: HostRuntime) -> Result<(), Fail> {
-    let mut machine = machine(&rt, &[0o14000], "0 input 7 77777\n5 input 7 37\n", 10)?;
+    let mut machine = machine(&rt, IDLE, "0 input 7 77777\n5 input 7 37\n", 10)?;
     quiet(&rt, &mut machine);
     assert_eq!(rt; channel(&machine, 7), 0o00160);
     assert!(rt; machine.store().superbank());
@@ -102,17 +119,20 @@ fn input_switches_the_superbank(rt: HostRuntime) -> Result<(), Fail> {
 
 /// A service of KEYRUPT1 that shows the key's code in channel 10: it begins 3 cycles after the key,
 /// and its WRITE, behind TCF, EXTEND, READ and EXTEND, 5 cycles after that.
-const ECHO: [(usize, &[u16]); 3] = [
-    (0o4000, &[0o14000]),
-    (0o4024, &[0o14100]),
-    (0o4100, &[0o00006, 0o00015, 0o00006, 0o01010, 0o50017]),
-];
+const ECHO: &str = "
+4000 14000 TCF 4000
+4024 14100 TCF 4100
+4100 00006 EXTEND
+4101 00015 READ 15
+4102 00006 EXTEND
+4103 01010 WRITE 10
+4104 50017 RESUME";
 
 /// Two live keys, at 5 and at 30, where the script's own key comes first and is overtaken; then the
 /// same run from the script with their tape in it.
 #[test]
 fn live_keys_replay(rt: HostRuntime) -> Result<(), Fail> {
-    let mut live = machine_with(&rt, &ECHO, "30 key 1", 100)?;
+    let mut live = machine(&rt, ECHO, "30 key 1", 100)?;
     press_at(&rt, &mut live, 5, Key::Verb);
     wrote(&rt, &mut live, 13, 0o10, 0o00021);
     press_at(&rt, &mut live, 30, Key::Seven);
@@ -123,7 +143,7 @@ fn live_keys_replay(rt: HostRuntime) -> Result<(), Fail> {
     tape.push(5, Key::Verb)?;
     tape.push(30, Key::Seven)?;
     let script = Script::parse(rt.alloc(), b"30 key 1")?.merge(rt.alloc(), &tape)?;
-    let mut again = Machine::new(rope(&rt, &ECHO)?, script, 100)
+    let mut again = Machine::new(rope(&rt, ECHO)?, script, 100)
         .ok()
         .expect(&rt, "the limit is in range");
     wrote(&rt, &mut again, 13, 0o10, 0o00021);

@@ -1,6 +1,7 @@
 //! Whole runs: their channel writes, their limits and their stops.
 use super::*;
-use crate::{ChannelWrite, LimitFault, Refused};
+use crate::{ChannelWrite, LimitFault, Refused, StopAddress};
+use agc_listing::{DIVISION, IDLE, RELAY_WORD, WRITES};
 use agc_store::Store;
 use agc_word::Narrow;
 use std::test::Fail;
@@ -9,7 +10,7 @@ use std::test::Fail;
 /// and the last, after 17 timer steps of one cycle, at 4 * 999 + 1 + 17.
 #[test]
 fn thousand_writes(rt: HostRuntime) -> Result<(), Fail> {
-    let mut machine = machine(&rt, &[0o00006, 0o01010, 0o14000], "", 4018)?;
+    let mut machine = machine(&rt, WRITES, "", 4018)?;
     let mut cycles = Vec::new(rt.alloc());
     for _ in 0..1000 {
         cycles.push(next_cycle(&rt, &mut machine, 0o10, 0o00000))?;
@@ -24,7 +25,7 @@ fn thousand_writes(rt: HostRuntime) -> Result<(), Fail> {
 /// DV of 2 by 1: a stop that leaves A, L and the cycle, after the write of A.
 #[test]
 fn undefined_division_stops(rt: HostRuntime) -> Result<(), Fail> {
-    let mut machine = machine(&rt, &DIVISION, "0 poke 0 100 1", 100)?;
+    let mut machine = machine(&rt, DIVISION, "0 poke 0 100 1", 100)?;
     division_stops(&rt, &mut machine);
     Ok(())
 }
@@ -32,15 +33,10 @@ fn undefined_division_stops(rt: HostRuntime) -> Result<(), Fail> {
 /// The same run under the largest limit.
 #[test]
 fn largest_limit(rt: HostRuntime) -> Result<(), Fail> {
-    let mut machine = machine(&rt, &DIVISION, "0 poke 0 100 1", 1_000_000_000_000)?;
+    let mut machine = machine(&rt, DIVISION, "0 poke 0 100 1", 1_000_000_000_000)?;
     division_stops(&rt, &mut machine);
     Ok(())
 }
-
-/// A = 2, WRITE 10, then DV 100.
-const DIVISION: [u16; 8] = [
-    0o34007, 0o00006, 0o01010, 0o00006, 0o10100, 0o00000, 0o00000, 0o00002,
-];
 
 /// One write, then the stop at cycle 6, which stays.
 fn division_stops(rt: &impl Abort, machine: &mut Machine) {
@@ -64,7 +60,7 @@ fn write_at(cycle: u64) -> ChannelWrite {
 /// TCF at 4 and EXTEND again at 5, which are as far as a way to the cycle 1, 5, 4 and 5 goes.
 #[test]
 fn the_way_to_a_cycle(rt: HostRuntime) -> Result<(), Fail> {
-    let mut machine = machine(&rt, &[0o00006, 0o01010, 0o14000], "", 7)?;
+    let mut machine = machine(&rt, WRITES, "", 7)?;
     assert_eq!(rt; machine.next_write_before(1), Stepped::Quiet);
     assert_eq!(rt; machine.cycle(), 1);
     assert_eq!(rt; machine.next_write_before(5), Stepped::Wrote(write_at(1)));
@@ -88,27 +84,27 @@ fn the_way_to_a_cycle(rt: HostRuntime) -> Result<(), Fail> {
 /// EXTEND, EDRUPT: the stop is at cycle 1, as EDRUPT takes none.
 #[test]
 fn edrupt_stops(rt: HostRuntime) -> Result<(), Fail> {
-    let mut machine = machine(&rt, &[0o00006, 0o07000], "", 10)?;
+    let listing = "
+4000 00006 EXTEND
+4001 07000 EDRUPT";
+    let mut machine = machine(&rt, listing, "", 10)?;
     assert_eq!(rt; machine.fresh(), true);
     stopped(&rt, &mut machine, Stop::Edrupt, 1);
     assert_eq!(rt; machine.fresh(), false);
     Ok(())
 }
 
-/// CA, EXTEND, WRITE 10 of 54171.
-const PROG12: [u16; 5] = [0o34004, 0o00006, 0o01010, 0o14003, 0o54171];
-
 /// Limit 1: CA, which takes two cycles, ends past it.
 #[test]
 fn last_order_passes_limit(rt: HostRuntime) -> Result<(), Fail> {
-    let mut machine = machine(&rt, &PROG12, "", 1)?;
+    let mut machine = machine(&rt, RELAY_WORD, "", 1)?;
     stopped(&rt, &mut machine, Stop::Limit, 2);
     Ok(())
 }
 
 #[test]
 fn until_an_order(rt: HostRuntime) -> Result<(), Fail> {
-    let fresh = machine(&rt, &PROG12, "", 10)?;
+    let fresh = machine(&rt, RELAY_WORD, "", 10)?;
     let mut machine = until(&rt, fresh, 0, 0o4003);
     wrote(&rt, &mut machine, 3, 0o10, 0o54171);
     stopped(&rt, &mut machine, Stop::Reached, 5);
@@ -118,7 +114,7 @@ fn until_an_order(rt: HostRuntime) -> Result<(), Fail> {
 /// The order at 4000 is in hand at the start.
 #[test]
 fn until_the_start(rt: HostRuntime) -> Result<(), Fail> {
-    let fresh = machine(&rt, &PROG12, "", 10)?;
+    let fresh = machine(&rt, RELAY_WORD, "", 10)?;
     let mut machine = until(&rt, fresh, 0, 0o4000);
     stopped(&rt, &mut machine, Stop::Reached, 0);
     Ok(())
@@ -128,7 +124,7 @@ fn until_the_start(rt: HostRuntime) -> Result<(), Fail> {
 #[test]
 fn until_a_bank(rt: HostRuntime) -> Result<(), Fail> {
     for (bank, stop, cycle) in [(0, Stop::Reached, 1), (1, Stop::Limit, 10)] {
-        let fresh = machine(&rt, &[0o12000], "", 10)?;
+        let fresh = machine(&rt, "4000 12000 TCF 2000", "", 10)?;
         let mut machine = until(&rt, fresh, bank, 0o2000);
         stopped(&rt, &mut machine, stop, cycle);
     }
@@ -142,7 +138,7 @@ fn limits(rt: HostRuntime) -> Result<(), Fail> {
         (0, LimitFault::Zero),
         (1_000_000_000_001, LimitFault::TooLarge),
     ] {
-        let rope = rope(&rt, &[(0o4000, &[0o14000])])?;
+        let rope = rope(&rt, IDLE)?;
         let script = Script::parse(rt.alloc(), b"0 raise 1")?;
         match Machine::new(rope, script, limit) {
             Ok(_) => panic!(rt; "the limit {limit} is accepted"),
@@ -167,10 +163,36 @@ fn assert_refused(rt: &impl Abort, refused: Refused, fault: LimitFault) {
 /// The largest limit is accepted, and the memory comes out with the rope's words.
 #[test]
 fn machine_gives_its_store(rt: HostRuntime) -> Result<(), Fail> {
-    let machine = machine(&rt, &PROG12, "", 1_000_000_000_000)?;
+    let machine = machine(&rt, RELAY_WORD, "", 1_000_000_000_000)?;
     assert_eq!(rt; machine.fresh(), true);
     let store = machine.into_store();
     assert_eq!(rt; store.fixed(2, 4).bits(), 0o54171);
     assert_eq!(rt; store.z().bits(), 0o4001);
     Ok(())
+}
+
+/// Bank and address are octal numbers, up to 47 and 7777, and nothing else may stand beside them.
+#[test]
+fn stop_addresses_are_read(rt: HostRuntime) {
+    reads_the_last(&rt, "47,7777");
+    reads_the_last(&rt, "000047,007777");
+    for text in [
+        "",
+        "47",
+        "47,",
+        "50,7777",
+        "47,10000",
+        "47,7778",
+        "47, 7777",
+        "0000047,7777",
+    ] {
+        assert_eq!(rt; StopAddress::read(text), None);
+    }
+}
+
+/// The text names the last address of the last bank.
+fn reads_the_last(rt: &impl Abort, text: &str) {
+    let at = StopAddress::read(text).expect(rt, "a stop address");
+    assert_eq!(rt; at.bank, 0o47);
+    assert_eq!(rt; at.address.bits(), 0o7777);
 }

@@ -1,15 +1,13 @@
 //! Timers, the scaler and interrupts: when they come, and what they leave.
 use super::*;
+use agc_listing::IDLE;
 use std::test::Fail;
-
-/// RESUME, at a vector.
-const RESUME: u16 = 0o50017;
 
 /// The scaler counts each 320 pulses, 12 a cycle: 12 * 54 / 320 is 2, and 12 * 53 / 320 is 1.
 #[test]
 fn scaler_channels(rt: HostRuntime) -> Result<(), Fail> {
     for (limit, low) in [(54, 0o00002), (53, 0o00001)] {
-        let machine = run(&rt, &[0o14000], "", limit)?;
+        let machine = run(&rt, IDLE, "", limit)?;
         assert_eq!(rt; [channel(&machine, 3), channel(&machine, 4)], [0, low]);
     }
     Ok(())
@@ -18,7 +16,7 @@ fn scaler_channels(rt: HostRuntime) -> Result<(), Fail> {
 /// TIME5 steps at 427, TIME4 at 640, TIME1 with its carry into TIME2 at 854, TIME3 at 856.
 #[test]
 fn timers_step(rt: HostRuntime) -> Result<(), Fail> {
-    let machine = run(&rt, &[0o14000], "0 poke 0 25 37777", 900)?;
+    let machine = run(&rt, IDLE, "0 poke 0 25 37777", 900)?;
     assert_eq!(rt; timers(&machine), [1, 0, 1, 1, 1]);
     Ok(())
 }
@@ -26,7 +24,7 @@ fn timers_step(rt: HostRuntime) -> Result<(), Fail> {
 /// With limit 854 the step of TIME1 does not come; TIME3's would come after it.
 #[test]
 fn timers_before_the_step(rt: HostRuntime) -> Result<(), Fail> {
-    let machine = run(&rt, &[0o14000], "0 poke 0 25 37777", 854)?;
+    let machine = run(&rt, IDLE, "0 poke 0 25 37777", 854)?;
     assert_eq!(rt; timers(&machine), [0, 0o37777, 0, 1, 1]);
     Ok(())
 }
@@ -45,9 +43,11 @@ fn timers(machine: &Machine) -> [u16; 5] {
 /// TIME6 goes from 1 to -0 at 54; its next step at 107 finds zero: T6RUPT at 108, switch off.
 #[test]
 fn time6_interrupt(rt: HostRuntime) -> Result<(), Fail> {
-    let parts: [(usize, &[u16]); 2] = [(0o4000, &[0o14000]), (0o4004, &[RESUME])];
+    let listing = "
+4000 14000 TCF 4000
+4004 50017 RESUME";
     let script = "0 poke 0 31 1\n0 input 13 40000\n";
-    let machine = run_with(&rt, &parts, script, 120)?;
+    let machine = run(&rt, listing, script, 120)?;
     assert_eq!(rt; cell(&machine, 0o31), 0o77777);
     assert_eq!(rt; cell(&machine, 0o15), 0o04001);
     assert_eq!(rt; cell(&machine, 0o17), 0o14000);
@@ -62,7 +62,7 @@ fn time6_interrupt(rt: HostRuntime) -> Result<(), Fail> {
 fn time6_mark_at_a_second_switching(rt: HostRuntime) -> Result<(), Fail> {
     let script = "0 poke 0 31 5\n0 input 13 40000\n60 input 13 0\n\
                   200 input 13 40000\n214 input 13 50000\n";
-    let machine = run(&rt, &[0o14000], script, 215)?;
+    let machine = run(&rt, IDLE, script, 215)?;
     assert_eq!(rt; cell(&machine, 0o31), 0o00003);
     assert_eq!(rt; channel(&machine, 0o13), 0o50000);
     Ok(())
@@ -72,7 +72,7 @@ fn time6_mark_at_a_second_switching(rt: HostRuntime) -> Result<(), Fail> {
 /// first, which takes no cycle, then the step with one, then the interrupt with three.
 #[test]
 fn event_before_timer_before_interrupt(rt: HostRuntime) -> Result<(), Fail> {
-    let mut machine = machine(&rt, &[0o14000], "427 key 5", 900)?;
+    let mut machine = machine(&rt, IDLE, "427 key 5", 900)?;
     for _ in 0..427 {
         quiet(&rt, &mut machine);
     }
@@ -100,9 +100,14 @@ fn seen(machine: &Machine) -> (u64, [u16; 3]) {
 /// begins before the order at 4003.
 #[test]
 fn inhint_holds_a_request(rt: HostRuntime) -> Result<(), Fail> {
-    let words = [0o00004, 0o34004, 0o00003, 0o14003, 0o12345];
-    let parts: [(usize, &[u16]); 2] = [(0o4000, &words), (0o4014, &[RESUME])];
-    let machine = run_with(&rt, &parts, "1 raise 3", 10)?;
+    let listing = "
+4000 00004 INHINT
+4001 34004 CA 4004
+4002 00003 RELINT
+4003 14003 TCF 4003
+4004 12345
+4014 50017 RESUME";
+    let machine = run(&rt, listing, "1 raise 3", 10)?;
     assert_eq!(rt; cell(&machine, 0o15), 0o04004);
     assert_eq!(rt; cell(&machine, 0o17), 0o14003);
     assert_eq!(rt; registers(&machine), [0o012345, 0, 0, 0o4004]);
@@ -113,13 +118,16 @@ fn inhint_holds_a_request(rt: HostRuntime) -> Result<(), Fail> {
 /// served once. Each service writes a channel: interrupt 3, EXTEND 1, WRITE 2, RESUME 2 cycles.
 #[test]
 fn interrupts_in_order_of_vectors(rt: HostRuntime) -> Result<(), Fail> {
-    let parts: [(usize, &[u16]); 3] = [
-        (0o4000, &[0o14000]),
-        (0o4014, &[0o00006, 0o01010, RESUME]),
-        (0o4050, &[0o00006, 0o01011, RESUME]),
-    ];
+    let listing = "
+4000 14000 TCF 4000
+4014 00006 EXTEND
+4015 01010 WRITE 10
+4016 50017 RESUME
+4050 00006 EXTEND
+4051 01011 WRITE 11
+4052 50017 RESUME";
     let script = "0 raise 10\n0 raise 3\n0 raise 3\n";
-    let mut machine = machine_with(&rt, &parts, script, 30)?;
+    let mut machine = machine(&rt, listing, script, 30)?;
     wrote(&rt, &mut machine, 4, 0o10, 0o00000);
     wrote(&rt, &mut machine, 12, 0o11, 0o00000);
     stopped(&rt, &mut machine, Stop::Limit, 30);
@@ -129,9 +137,12 @@ fn interrupts_in_order_of_vectors(rt: HostRuntime) -> Result<(), Fail> {
 /// DOWNRUPT each 20 cycles, whose service writes channel 10 four cycles later.
 #[test]
 fn every_downrupt(rt: HostRuntime) -> Result<(), Fail> {
-    let service = [0o00006, 0o01010, RESUME];
-    let parts: [(usize, &[u16]); 2] = [(0o4000, &[0o14000]), (0o4040, &service)];
-    let mut machine = machine_with(&rt, &parts, "every 20 0 100 raise 8", 120)?;
+    let listing = "
+4000 14000 TCF 4000
+4040 00006 EXTEND
+4041 01010 WRITE 10
+4042 50017 RESUME";
+    let mut machine = machine(&rt, listing, "every 20 0 100 raise 8", 120)?;
     for cycle in [4, 24, 44, 64, 84, 104] {
         wrote(&rt, &mut machine, cycle, 0o10, 0o00000);
     }

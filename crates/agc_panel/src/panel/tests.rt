@@ -180,7 +180,8 @@ fn every_lamp_alone(rt: HostRuntime) -> Result<(), Fail> {
 #[test]
 fn last_write_of_a_field_shows(rt: HostRuntime) -> Result<(), Fail> {
     let mut panel = Panel::new();
-    // all lamps on, both signs of R1 on, then relay row 6 and channel 11 again, and relay row 12 dark
+    // all lamps on, both signs of R1 on, then relay row 6 and channel 11 again, and relay row 12
+    // dark
     for (channel, bits) in [
         (0o10, 0o60674),
         (0o11, 0o00177),

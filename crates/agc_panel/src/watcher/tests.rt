@@ -1,8 +1,10 @@
 //! The watcher over known cells: the worked tables, the registers, the edges of erasable memory.
 use super::*;
+use crate::core_set::{CoreSet, Job, JobPriority};
 use crate::watch_spec::Table;
+use agc_listing::{IDLE, rope_file};
 use agc_store::{Addr, Rope};
-use agc_word::Wide;
+use agc_word::{Narrow, Wide};
 use std::process::Abort;
 use std::test::Fail;
 
@@ -21,7 +23,8 @@ LST2 8 00000 00000
 
 /// A memory where every cell is +0.
 fn cleared(rt: &(impl AllocGlobal + Abort)) -> Store {
-    Store::new(Rope::read(rt.alloc(), &[0x30, 0x00]).expect(rt, "a rope of one word"))
+    let bytes = rope_file(rt.alloc(), IDLE).expect(rt, "a listing of one word");
+    Store::new(Rope::read(rt.alloc(), bytes.as_slice()).expect(rt, "a rope of one word"))
 }
 
 fn word(rt: &impl Abort, bits: u16) -> Narrow {
@@ -33,7 +36,7 @@ fn spec(rt: &impl Abort, text: &str) -> WatchSpec {
 }
 
 /// The fault of watching a cleared memory, if there is one.
-fn fault_of(rt: &(impl AllocGlobal + Abort), text: &str) -> Option<WatchFault> {
+fn fault_where(rt: &(impl AllocGlobal + Abort), text: &str) -> Option<WatchFault> {
     watch(rt.alloc(), &cleared(rt), &spec(rt, text)).err()
 }
 
@@ -55,15 +58,48 @@ fn watcher_tables(rt: HostRuntime) -> Result<(), Fail> {
     assert_eq!(rt; text.as_str().strip_prefix(asleep), Some(NO_TIMES));
 
     assert_eq!(rt;
-        fault_of(&rt, "1,0,21,1,100,1,200"),
+        fault_where(&rt, "1,0,21,1,100,1,200"),
         Some(WatchFault::TooManySets)
     );
     assert_eq!(rt;
-        fault_of(&rt, "1,0,2,1,100,7,357"),
+        fault_where(&rt, "1,0,2,1,100,7,357"),
         Some(WatchFault::OutOfErasable { table: Table::Lst2 })
     );
-    assert_eq!(rt; fault_of(&rt, "1,0,2,1,100,7,356"), None);
+    assert_eq!(rt; fault_where(&rt, "1,0,2,1,100,7,356"), None);
     Ok(())
+}
+
+#[test]
+fn tables_are_values(rt: HostRuntime) {
+    let mut store = cleared(&rt);
+    store.poke(1, 0o13, word(&rt, 0o77777));
+    store.poke(1, 0o24, word(&rt, 0o02345));
+    store.poke(1, 0o25, word(&rt, 0o60102));
+    store.poke(1, 0o27, word(&rt, 0o57777));
+    store.poke(1, 0o101, word(&rt, 0o77770));
+    store.poke(1, 0o221, word(&rt, 0o00067));
+    let places = spec(&rt, "1,0,2,1,100,1,200");
+    let tables = Tables::read(&store, &places.checked().expect(&rt, "places in range"));
+
+    let sleeping = Job {
+        priority: JobPriority(word(&rt, 0o57777)),
+        loc: word(&rt, 0o02345),
+        bankset: word(&rt, 0o60102),
+    };
+    assert_eq!(rt; tables.core_sets().len(), 2);
+    assert_eq!(rt; tables.core_sets().first(), Some(&CoreSet::Free));
+    assert_eq!(rt; tables.core_sets().last(), Some(&CoreSet::Asleep(sleeping)));
+    assert_eq!(rt; tables.lst1().get(1), Some(&word(&rt, 0o77770)));
+    assert_eq!(rt;
+        tables.lst2().last().map(|task| task.bbcon),
+        Some(word(&rt, 0o00067))
+    );
+}
+
+#[test]
+fn priority_of_a_word(rt: HostRuntime) {
+    assert_eq!(rt; JobPriority(word(&rt, 0o20000)).number(), 0o20);
+    assert_eq!(rt; JobPriority(word(&rt, 0o57777)).number(), 0o20);
 }
 
 #[test]
@@ -76,32 +112,32 @@ fn watch_without_sets(rt: HostRuntime) -> Result<(), Fail> {
 #[test]
 fn watch_out_of_erasable(rt: HostRuntime) {
     let core = Some(WatchFault::OutOfErasable { table: Table::Core });
-    assert_eq!(rt; fault_of(&rt, "7,377,1,1,0,1,0"), core);
-    assert_eq!(rt; fault_of(&rt, "7,377,21,1,0,1,0"), core);
+    assert_eq!(rt; fault_where(&rt, "7,377,1,1,0,1,0"), core);
+    assert_eq!(rt; fault_where(&rt, "7,377,21,1,0,1,0"), core);
     let lst1 = Some(WatchFault::OutOfErasable { table: Table::Lst1 });
-    assert_eq!(rt; fault_of(&rt, "0,0,21,7,377,10,0"), lst1);
+    assert_eq!(rt; fault_where(&rt, "0,0,21,7,377,10,0"), lst1);
 }
 
 #[test]
 fn tables_reach_the_last_cell(rt: HostRuntime) {
     let core = Some(WatchFault::OutOfErasable { table: Table::Core });
-    assert_eq!(rt; fault_of(&rt, "7,364,1,1,0,1,0"), None);
-    assert_eq!(rt; fault_of(&rt, "7,365,1,1,0,1,0"), core);
-    assert_eq!(rt; fault_of(&rt, "7,377,0,1,0,1,0"), None);
-    assert_eq!(rt; fault_of(&rt, "10,0,0,1,0,1,0"), core);
-    assert_eq!(rt; fault_of(&rt, "0,400,0,1,0,1,0"), core);
-    assert_eq!(rt; fault_of(&rt, "0,0,777777,1,0,1,0"), core);
-    assert_eq!(rt; fault_of(&rt, "0,0,20,1,0,1,0"), None);
+    assert_eq!(rt; fault_where(&rt, "7,364,1,1,0,1,0"), None);
+    assert_eq!(rt; fault_where(&rt, "7,365,1,1,0,1,0"), core);
+    assert_eq!(rt; fault_where(&rt, "7,377,0,1,0,1,0"), None);
+    assert_eq!(rt; fault_where(&rt, "10,0,0,1,0,1,0"), core);
+    assert_eq!(rt; fault_where(&rt, "0,400,0,1,0,1,0"), core);
+    assert_eq!(rt; fault_where(&rt, "0,0,777777,1,0,1,0"), core);
+    assert_eq!(rt; fault_where(&rt, "0,0,20,1,0,1,0"), None);
 
     let lst1 = Some(WatchFault::OutOfErasable { table: Table::Lst1 });
-    assert_eq!(rt; fault_of(&rt, "0,0,0,7,370,1,0"), None);
-    assert_eq!(rt; fault_of(&rt, "0,0,0,7,371,1,0"), lst1);
-    assert_eq!(rt; fault_of(&rt, "0,0,0,10,0,1,0"), lst1);
+    assert_eq!(rt; fault_where(&rt, "0,0,0,7,370,1,0"), None);
+    assert_eq!(rt; fault_where(&rt, "0,0,0,7,371,1,0"), lst1);
+    assert_eq!(rt; fault_where(&rt, "0,0,0,10,0,1,0"), lst1);
 
     let lst2 = Some(WatchFault::OutOfErasable { table: Table::Lst2 });
-    assert_eq!(rt; fault_of(&rt, "0,0,0,1,0,7,356"), None);
-    assert_eq!(rt; fault_of(&rt, "0,0,0,1,0,7,357"), lst2);
-    assert_eq!(rt; fault_of(&rt, "0,0,0,1,0,1,400"), lst2);
+    assert_eq!(rt; fault_where(&rt, "0,0,0,1,0,7,356"), None);
+    assert_eq!(rt; fault_where(&rt, "0,0,0,1,0,7,357"), lst2);
+    assert_eq!(rt; fault_where(&rt, "0,0,0,1,0,1,400"), lst2);
 }
 
 #[test]

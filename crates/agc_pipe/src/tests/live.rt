@@ -1,8 +1,9 @@
 //! Live runs: keys that are taken while the machine runs, and the same run played again.
 ghost use Rattle.std.specs.Prelude.{◌≡◌, false, IfOk};
 
-use super::gates::{KeysMeet, Meeting, Slow};
 use crate::{Gate, Live, Open, ShowFault, Shown, run_live, run_shown};
+use agc_gate::{KeysMeet, Meeting, Slow};
+use agc_listing::{KEYED_WRITES, rope_file};
 use agc_machine::Machine;
 use agc_script::{Key, Script};
 use agc_store::{Rope, Store};
@@ -10,12 +11,6 @@ use std::process::Abort;
 use std::sync::Wait;
 use std::test::Fail;
 use std::thread::Threads;
-
-/// The words from 4000 octal on: EXTEND, WRITE 10, TCF 4000, a write of +0 to channel 10 in four
-/// cycles; and RESUME at 4024, where the interrupt of a key goes.
-const WRITES: [u16; 21] = [
-    0o00006, 0o01010, 0o14000, 0, 0, 0, 0, 0, 0, 0, 0, 0, 0, 0, 0, 0, 0, 0, 0, 0, 0o50017,
-];
 
 const LIMIT: u64 = 100_000;
 
@@ -34,20 +29,12 @@ trait Host: AllocGlobal + Abort + Threads + Wait + Sync {}
 
 impl<H: AllocGlobal + Abort + Threads + Wait + Sync> Host for H {}
 
-/// The rope's file: each word shifted left by one, in two bytes.
-fn rope(rt: &(impl AllocGlobal + Abort)) -> Result<Rope, Fail> {
-    let mut bytes = Vec::new(rt.alloc());
-    for word in WRITES {
-        bytes.extend_from_slice(&word.wrapping_mul(2).to_be_bytes())?;
-    }
-    Ok(Rope::read(rt.alloc(), bytes.as_slice())?)
-}
-
-/// The machine at its start with this script.
+/// The machine of the writes at its start with this script.
 fn machine(rt: &(impl AllocGlobal + Abort), script: Script, limit: u64) -> Result<Machine, Fail>
     ensures { IfOk result (λ machine. machine.begun ≡ false) }
 {
-    let machine = Machine::new(rope(rt)?, script, limit)
+    let rope = rope_file(rt.alloc(), KEYED_WRITES)?;
+    let machine = Machine::new(Rope::read(rt.alloc(), rope.as_slice())?, script, limit)
         .ok()
         .expect(rt, "the limit is in range");
     assert!(rt; machine.fresh());

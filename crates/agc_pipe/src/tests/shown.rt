@@ -1,8 +1,10 @@
 //! Runs shown by two threads, with gates that hold one of them up.
 ghost use Rattle.std.specs.Prelude.{◌≡◌, false, IfOk};
 
-use super::gates::{Counting, Meeting, Slow};
+use super::memory::{AFTER_DIVISION, AFTER_EDRUPT, AFTER_WRITES, holds};
 use crate::{Gate, Open, ShowFault, Shown, run_shown};
+use agc_gate::{Counting, Meeting, Slow};
+use agc_listing::{DIVISION, EDRUPT, WRITES, rope_file};
 use agc_machine::{Machine, Next, Stop};
 use agc_panel::Panel;
 use agc_script::Script;
@@ -12,20 +14,8 @@ use std::sync::Wait;
 use std::test::Fail;
 use std::thread::Threads;
 
-/// EXTEND, WRITE 10, TCF 4000: a write of +0 to channel 10 in four cycles.
-const WRITES: [u8; 6] = [0x00, 0x0C, 0x04, 0x10, 0x30, 0x00];
-
 /// The thousandth write begins at cycle 4014, and the run ends at 4018.
 const LIMIT: u64 = 4018;
-
-/// EXTEND, WRITE 10, EXTEND, EDRUPT: one write of +0 to channel 10, and the stop.
-const EDRUPT: [u8; 8] = [0x00, 0x0C, 0x04, 0x10, 0x00, 0x0C, 0x1C, 0x00];
-
-/// CA 4007, EXTEND, WRITE 10, EXTEND, DV 100: a write of +2 to channel 10, and the stop, as cell 100
-/// holds 1, which does not divide it.
-const DIVISION: [u8; 16] = [
-    0x70, 0x0E, 0x00, 0x0C, 0x04, 0x10, 0x00, 0x0C, 0x20, 0x80, 0x00, 0x00, 0x00, 0x00, 0x00, 0x04,
-];
 
 /// How often a gate looks for what must come.
 const TURNS: u32 = 1_000_000;
@@ -36,15 +26,17 @@ const FEW_TURNS: u32 = 20_000;
 /// How long a slow thread spins at each write.
 const SPIN: u32 = 1000;
 
+/// The machine of a listing at its start.
 fn machine(
     rt: &(impl AllocGlobal + Abort),
-    rope: &[u8],
+    listing: &str,
     script: &[u8],
     limit: u64,
 ) -> Result<Machine, Fail>
     ensures { IfOk result (λ machine. machine.begun ≡ false) }
 {
-    let rope = Rope::read(rt.alloc(), rope)?;
+    let rope = rope_file(rt.alloc(), listing)?;
+    let rope = Rope::read(rt.alloc(), rope.as_slice())?;
     let script = Script::parse(rt.alloc(), script)?;
     let machine = Machine::new(rope, script, limit)
         .ok()
@@ -82,9 +74,10 @@ fn assert_shown<G: Gate + Sync>(
     slots: usize,
     gate: &G,
 ) -> Result<(), Fail> {
-    let machine = machine(rt, &WRITES, b"", LIMIT)?;
+    let machine = machine(rt, WRITES, b"", LIMIT)?;
     let shown = run_shown(rt, rt.alloc(), machine, slots, gate)?;
     assert!(rt; is_thousand(&shown));
+    assert!(rt; holds(&shown.store, &AFTER_WRITES));
     Ok(())
 }
 
@@ -94,22 +87,25 @@ fn assert_edrupt<G: Gate + Sync>(
     slots: usize,
     gate: &G,
 ) -> Result<(), Fail> {
-    let machine = machine(rt, &EDRUPT, b"", 100)?;
+    let machine = machine(rt, EDRUPT, b"", 100)?;
     let shown = run_shown(rt, rt.alloc(), machine, slots, gate)?;
     assert!(rt; is_one_write(&shown, 1, 0));
+    assert!(rt; holds(&shown.store, &AFTER_EDRUPT));
     assert_eq!(rt; (shown.stop, shown.cycle), (Stop::Edrupt, 4));
     Ok(())
 }
 
-/// Shows through this gate the run that a division ends: the accumulator stays 2, and the divisor 1.
+/// Shows through this gate the run that a division ends: the accumulator stays 2, and the divisor
+/// 1.
 fn assert_division<G: Gate + Sync>(
     rt: &(impl AllocGlobal + Abort + Threads + Wait + Sync),
     slots: usize,
     gate: &G,
 ) -> Result<(), Fail> {
-    let machine = machine(rt, &DIVISION, b"0 poke 0 100 1\n", 100)?;
+    let machine = machine(rt, DIVISION, b"0 poke 0 100 1\n", 100)?;
     let shown = run_shown(rt, rt.alloc(), machine, slots, gate)?;
     assert!(rt; is_one_write(&shown, 3, 2));
+    assert!(rt; holds(&shown.store, &AFTER_DIVISION));
     assert_eq!(rt; (shown.stop, shown.cycle), (Stop::DivisionUndefined, 6));
     assert_eq!(rt; shown.store.cell(0, 0).bits(), 2);
     assert_eq!(rt; shown.store.cell(0, 0o100).bits(), 1);
@@ -128,11 +124,11 @@ fn hundred_thousand_writes(rt: HostRuntime) -> Result<(), Fail> {
     let shown = run_shown(
         &rt,
         rt.alloc(),
-        machine(&rt, &WRITES, b"", 450_000)?,
+        machine(&rt, WRITES, b"", 450_000)?,
         256,
         &Open,
     )?;
-    let mut machine = machine(&rt, &WRITES, b"", 450_000)?;
+    let mut machine = machine(&rt, WRITES, b"", 450_000)?;
     for write in shown.log.as_slice() {
         assert_eq!(rt; machine.next_write(), Next::Wrote(*write));
     }
@@ -147,7 +143,7 @@ fn slots_are_refused(rt: HostRuntime) -> Result<(), Fail> {
         let shown = run_shown(
             &rt,
             rt.alloc(),
-            machine(&rt, &WRITES, b"", 10)?,
+            machine(&rt, WRITES, b"", 10)?,
             slots,
             &Open,
         );
@@ -156,9 +152,9 @@ fn slots_are_refused(rt: HostRuntime) -> Result<(), Fail> {
     Ok(())
 }
 
-/// In one slot a block is one write, so write 1 is in the ring when the machine comes to write 2. It
-/// waits there until the display took write 1, and the display waits with write 1 taken until the
-/// machine came to write 2: both get on only where each is on a thread of its own.
+/// In one slot a block is one write, so write 1 is in the ring when the machine comes to write 2.
+/// It waits there until the display took write 1, and the display waits with write 1 taken until
+/// the machine came to write 2: both get on only where each is on a thread of its own.
 #[test]
 fn both_threads_run(rt: HostRuntime) -> Result<(), Fail> {
     let meeting = Meeting::new(2, TURNS, TURNS);
@@ -208,12 +204,14 @@ fn each_write_is_counted(rt: HostRuntime) -> Result<(), Fail> {
     for slots in [1, 256] {
         let counting = Counting::new();
         assert_shown(&rt, slots, &counting)?;
-        assert!(rt; counting.counted_to(1000));
+        assert!(rt; counting.is_whole());
+        assert_eq!(rt; counting.received(), 1000);
     }
     Ok(())
 }
 
-/// A slow machine leaves the ring empty, and a slow display leaves it full: what is shown is the same.
+/// A slow machine leaves the ring empty, and a slow display leaves it full: what is shown is the
+/// same.
 #[test]
 fn slow_threads(rt: HostRuntime) -> Result<(), Fail> {
     for slots in [1, 2, 65_536] {

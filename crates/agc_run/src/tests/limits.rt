@@ -11,33 +11,33 @@ fn reading_limits(rt: HostRuntime) -> Result<(), Fail> {
     let mut rope = vec![in rt.alloc(); 0u8; 1_048_576]?;
     refuses(
         &rt,
-        without_keys("--limit 10", rope.as_slice(), b""),
+        on_file("--limit 10", rope.as_slice(), b""),
         "rope: TooLong",
     );
     rope.push(0)?;
     refuses(
         &rt,
-        without_keys("--limit 10", rope.as_slice(), b""),
+        on_file("--limit 10", rope.as_slice(), b""),
         "cannot read rope",
     );
 
     let mut script = vec![in rt.alloc(); b'\n'; 16_777_216]?;
     stops(
         &rt,
-        without_keys("--limit 10", &IDLE, script.as_slice()),
+        without_keys("--limit 10", IDLE, script.as_slice()),
         "__",
         IDLED,
     );
     script.push(b'\n')?;
     refuses(
         &rt,
-        without_keys("--limit 10", &IDLE, script.as_slice()),
+        without_keys("--limit 10", IDLE, script.as_slice()),
         "cannot read script",
     );
     Ok(())
 }
 
-/// A rope that gives one byte a read and never ends.
+/// A rope that fills each read and never ends.
 #[test]
 fn endless_rope(rt: HostRuntime) {
     let options = options(&rt, "--limit 10");
@@ -98,7 +98,7 @@ fn one_byte_a_read(rt: HostRuntime) -> Result<(), Fail> {
 fn long_text(rt: HostRuntime) -> Result<(), Fail> {
     let ended = run_gated(
         &rt,
-        without_keys("--limit 400000 --log", &WRITES, b""),
+        without_keys("--limit 400000 --log", WRITES, b""),
         &Open,
     );
     assert_eq!(rt; ended.status, DONE);

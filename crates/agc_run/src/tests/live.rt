@@ -1,7 +1,7 @@
 //! Live keys: the key text, its refusals, and what is printed of the tape and of the keys left.
-use super::gates::{Keyboard, Slow};
 use super::streams::Source;
 use super::*;
+use agc_gate::{KeysMeet, Slow};
 use std::alloc::Global;
 use std::test::Fail;
 
@@ -12,19 +12,10 @@ const TURNS: u32 = 1_000_000;
 fn relayed<'a>(line: &'a str, keys: &'a [u8]) -> Asked<'a> {
     Asked {
         line,
-        rope: &RELAY_WORD,
+        rope: GivenRope::Listing(RELAY_WORD),
         script: b"",
         keys,
     }
-}
-
-/// Writes +0 to channel 10 every four cycles, and ends the interrupt of a key at once.
-fn keyboard_rope(rt: &(impl AllocGlobal + Abort)) -> Vec<u8> {
-    let mut rope = Vec::new(rt.alloc());
-    rope.extend_from_slice(&WRITES).expect(rt, "memory");
-    rope.resize(40, 0).expect(rt, "memory");
-    rope.extend_from_slice(&[0xA0, 0x1E]).expect(rt, "memory");
-    rope
 }
 
 #[test]
@@ -62,7 +53,8 @@ fn live_session(rt: HostRuntime) -> Result<(), Fail> {
     Ok(())
 }
 
-/// The key text is looked at after the specs and before the slots, and the spacing before the tables.
+/// The key text is looked at after the specs and before the slots, and the spacing before the
+/// tables.
 #[test]
 fn keys_come_in_their_place(rt: HostRuntime) {
     let bad = "--live --spacing 0 --slots 0 --watch 10,0,0,0,0,0,0";
@@ -81,8 +73,8 @@ fn keys_come_in_their_place(rt: HostRuntime) {
     refuses(&rt, relayed(line, b""), "watch: OutOfErasable");
 }
 
-/// Names of keys are divided by spaces, tabs, carriage returns and line feeds, and by nothing else. Of
-/// the 18 keys a run of one cycle takes the first, at its start, or none.
+/// Names of keys are divided by spaces, tabs, carriage returns and line feeds, and by nothing else.
+/// Of the 18 keys a run of one cycle takes the first, at its start, or none.
 #[test]
 fn key_names(rt: HostRuntime) -> Result<(), Fail> {
     let keys = b"0 1\t2\r3\n4 5  6\t\t7\r\n8 9 VERB NOUN RSET KEYREL + - ENTR CLR\n";
@@ -123,7 +115,8 @@ fn keys_are_not_read(rt: HostRuntime) {
         ),
     ] {
         let options = options(&rt, line);
-        let (mut rope, mut script): (&[u8], &[u8]) = (&IDLE, b"");
+        let file = file_of(&rt, IDLE);
+        let (mut rope, mut script): (&[u8], &[u8]) = (file.as_slice(), b"");
         let mut keys = Source::new(b"FOO", 4, 1);
         let mut out = Vec::new(rt.alloc());
         let mut err = Vec::new(rt.alloc());
@@ -204,16 +197,15 @@ fn is_tape(tape: &str, spacing: u64) -> bool {
     true
 }
 
-/// Presses VERB, 3 and 5 on the keyboard rope, and looks at the lines of the tape and of the keys
+/// Presses VERB, 3 and 5 while the writes run, and looks at the lines of the tape and of the keys
 /// left: the keys are in order, and none is lost. Then plays the run again: the tape's lines are
-/// lines of a script, and the text of the plain run is the same but for them. Answers how many keys
+/// lines of a script, and the text of the plain run is the same but for them. Returns how many keys
 /// were taken.
 fn pressed<G: Gate + Sync>(rt: &impl Host, spacing: u64, gate: &G) -> Result<usize, Fail> {
-    let rope = keyboard_rope(rt);
     let line = format!(in rt.alloc(); "--limit 100000 --log --live --spacing {spacing}")?;
     let asked_live = Asked {
         line: line.as_str(),
-        rope: rope.as_slice(),
+        rope: GivenRope::Listing(KEYED_WRITES),
         script: b"",
         keys: b"VERB 3 5\n",
     };
@@ -226,7 +218,7 @@ fn pressed<G: Gate + Sync>(rt: &impl Host, spacing: u64, gate: &G) -> Result<usi
     assert!(rt; is_tape(tape.as_str(), spacing), "{tape}");
     assert_eq!(rt; taken.saturating_add(left), 3);
 
-    let plain = without_keys("--limit 100000 --log", rope.as_slice(), tape.as_bytes());
+    let plain = without_keys("--limit 100000 --log", KEYED_WRITES, tape.as_bytes());
     let again = run_gated(rt, plain, &Open);
     assert_eq!(rt; again.status, DONE);
     assert!(rt; again.out.as_slice() == shown.as_bytes(), "another run");
@@ -237,7 +229,7 @@ fn pressed<G: Gate + Sync>(rt: &impl Host, spacing: u64, gate: &G) -> Result<usi
 fn live_keys_replay(rt: HostRuntime) -> Result<(), Fail> {
     for spacing in [8533, 1] {
         pressed(&rt, spacing, &Open)?;
-        let gate = Keyboard::new(TURNS);
+        let gate = KeysMeet::new(TURNS);
         assert_eq!(rt; pressed(&rt, spacing, &gate)?, 3);
         assert!(rt; gate.machine_met.is_up() && gate.display_met.is_up());
     }
@@ -248,9 +240,9 @@ fn live_keys_replay(rt: HostRuntime) -> Result<(), Fail> {
 #[test]
 fn slow_keyboards(rt: HostRuntime) -> Result<(), Fail> {
     for gate in [
-        Slow::new(1000, 0, 0),
-        Slow::new(0, 1000, 0),
-        Slow::new(0, 0, 100_000),
+        Slow::machine(1000),
+        Slow::display(1000),
+        Slow::keys(100_000),
     ] {
         pressed(&rt, 8533, &gate)?;
     }

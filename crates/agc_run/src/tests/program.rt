@@ -24,7 +24,8 @@ fn names(rt: &(impl AllocGlobal + Abort), text: Vec<u8>, words: &[&str]) {
     }
 }
 
-/// Help names the program, its files and each option, and nothing stands on the other stream.
+/// Help names the program, its files and each option and says how long a cycle is, and nothing stands
+/// on the other stream.
 #[test]
 fn help(rt: HostRuntime) {
     for line in ["agc --help", "agc -h"] {
@@ -50,6 +51,8 @@ fn help(rt: HostRuntime) {
                 "256",
                 "classic",
                 "parity",
+                "85,333 a second",
+                "not standard input",
             ],
         );
     }

@@ -19,7 +19,7 @@ LST2 8 00000 00000
 fn idle_loop(rt: HostRuntime) {
     stops(
         &rt,
-        without_keys("--limit 10", &IDLE, b""),
+        without_keys("--limit 10", IDLE, b""),
         "__",
         "Limit CYCLE 10 WRITES 0\n",
     );
@@ -30,7 +30,7 @@ fn relay_word_shows_prog(rt: HostRuntime) {
     let after = "Limit CYCLE 10 WRITES 1\n3 010 54171\n";
     stops(
         &rt,
-        without_keys("--limit 10 --log", &RELAY_WORD, b""),
+        without_keys("--limit 10 --log", RELAY_WORD, b""),
         "12",
         after,
     );
@@ -40,7 +40,7 @@ fn relay_word_shows_prog(rt: HostRuntime) {
 fn undefined_division_stops(rt: HostRuntime) {
     stops(
         &rt,
-        without_keys("--limit 100 --log --slots 1", &DIVISION, ONE_POKED),
+        without_keys("--limit 100 --log --slots 1", DIVISION, ONE_POKED),
         "__",
         DIVIDED,
     );
@@ -50,7 +50,7 @@ fn undefined_division_stops(rt: HostRuntime) {
 fn largest_limit(rt: HostRuntime) {
     stops(
         &rt,
-        without_keys("--limit 1000000000000 --log", &DIVISION, ONE_POKED),
+        without_keys("--limit 1000000000000 --log", DIVISION, ONE_POKED),
         "__",
         DIVIDED,
     );
@@ -60,7 +60,7 @@ fn largest_limit(rt: HostRuntime) {
 fn write_then_edrupt(rt: HostRuntime) {
     stops(
         &rt,
-        without_keys("--limit 100 --slots 1 --log", &EDRUPT, b""),
+        without_keys("--limit 100 --slots 1 --log", EDRUPT, b""),
         "__",
         EDRUPTED,
     );
@@ -70,7 +70,7 @@ fn write_then_edrupt(rt: HostRuntime) {
 fn last_order_passes_limit(rt: HostRuntime) {
     stops(
         &rt,
-        without_keys("--limit 1", &RELAY_WORD, b""),
+        without_keys("--limit 1", RELAY_WORD, b""),
         "__",
         "Limit CYCLE 2 WRITES 0\n",
     );
@@ -81,7 +81,7 @@ fn watch_without_sets(rt: HostRuntime) -> Result<(), Fail> {
     let after = format!(in rt.alloc(); "Limit CYCLE 10 WRITES 0\n{NO_TIMES}")?;
     stops(
         &rt,
-        without_keys("--limit 10 --watch 0,0,0,1,0,1,10", &IDLE, b""),
+        without_keys("--limit 10 --watch 0,0,0,1,0,1,10", IDLE, b""),
         "__",
         after.as_str(),
     );
@@ -96,7 +96,7 @@ fn watch_out_of_erasable(rt: HostRuntime) {
         );
         refuses(
             &rt,
-            without_keys(line.as_str(), &IDLE, b""),
+            without_keys(line.as_str(), IDLE, b""),
             "watch: OutOfErasable",
         );
     }
@@ -107,14 +107,14 @@ fn until_an_order(rt: HostRuntime) {
     let reached = "Reached CYCLE 5 WRITES 1\n";
     stops(
         &rt,
-        without_keys("--limit 10 --until 0,4003", &RELAY_WORD, b""),
+        without_keys("--limit 10 --until 0,4003", RELAY_WORD, b""),
         "12",
         reached,
     );
     let at_start = "Reached CYCLE 0 WRITES 0\n";
     stops(
         &rt,
-        without_keys("--limit 10 --until 0,4000", &RELAY_WORD, b""),
+        without_keys("--limit 10 --until 0,4000", RELAY_WORD, b""),
         "__",
         at_start,
     );
@@ -122,32 +122,32 @@ fn until_an_order(rt: HostRuntime) {
 
 #[test]
 fn until_a_bank(rt: HostRuntime) {
-    let rope = [0x28, 0x00];
+    let rope = "4000 12000 TCF 2000";
     stops(
         &rt,
-        without_keys("--limit 10 --until 0,2000", &rope, b""),
+        without_keys("--limit 10 --until 0,2000", rope, b""),
         "__",
         "Reached CYCLE 1 WRITES 0\n",
     );
     stops(
         &rt,
-        without_keys("--limit 10 --until 1,2000", &rope, b""),
+        without_keys("--limit 10 --until 1,2000", rope, b""),
         "__",
         "Limit CYCLE 10 WRITES 0\n",
     );
     refuses(
         &rt,
-        without_keys("--limit 10 --until 50,2000", &rope, b""),
+        without_keys("--limit 10 --until 50,2000", rope, b""),
         "until: BadSpec",
     );
 }
 
 #[test]
 fn command_line_refusals(rt: HostRuntime) {
-    refuses(&rt, without_keys("--limit 0", &IDLE, b""), "limit: Zero");
+    refuses(&rt, without_keys("--limit 0", IDLE, b""), "limit: Zero");
     refuses(
         &rt,
-        without_keys("--limit 10 --watch 1,2", &IDLE, b""),
+        without_keys("--limit 10 --watch 1,2", IDLE, b""),
         "watch: BadSpec",
     );
 }
@@ -157,22 +157,18 @@ fn command_line_refusals(rt: HostRuntime) {
 fn first_refusal_decides(rt: HostRuntime) {
     let bad = "--watch 1 --until 1 --slots 0";
     let all = format!(in rt.alloc(); "--limit 0 {bad}").expect(&rt, "memory");
-    refuses(&rt, without_keys(all.as_str(), b"", b"x"), "rope: Empty");
+    refuses(&rt, on_file(all.as_str(), b"", b"x"), "rope: Empty");
+    refuses(&rt, on_file(all.as_str(), b"1", b"x"), "rope: OddLength");
     refuses(
         &rt,
-        without_keys(all.as_str(), b"1", b"x"),
-        "rope: OddLength",
-    );
-    refuses(
-        &rt,
-        without_keys(all.as_str(), &IDLE, b"\nx"),
+        without_keys(all.as_str(), IDLE, b"\nx"),
         "script line 2: BadCycle",
     );
-    refuses(&rt, without_keys(all.as_str(), &IDLE, b""), "limit: Zero");
+    refuses(&rt, without_keys(all.as_str(), IDLE, b""), "limit: Zero");
     let large = format!(in rt.alloc(); "--limit 1000000000001 {bad}").expect(&rt, "memory");
     refuses(
         &rt,
-        without_keys(large.as_str(), &IDLE, b""),
+        without_keys(large.as_str(), IDLE, b""),
         "limit: TooLarge",
     );
     for (line, err) in [
@@ -195,10 +191,11 @@ fn first_refusal_decides(rt: HostRuntime) {
         ),
         ("--limit 1 --watch 0,0,21,0,0,0,0", "watch: TooManySets"),
     ] {
-        refuses(&rt, without_keys(line, &IDLE, b""), err);
+        refuses(&rt, without_keys(line, IDLE, b""), err);
     }
 }
 
+/// In the parity form the banks 00 and 01 stand first: TCF 4000 is the word behind their 2048.
 #[test]
 fn parity_session(rt: HostRuntime) -> Result<(), Fail> {
     let mut rope = Vec::new(rt.alloc());
@@ -209,19 +206,23 @@ fn parity_session(rt: HostRuntime) -> Result<(), Fail> {
     let line = "--limit 10 --form parity";
     stops(
         &rt,
-        without_keys(line, rope.as_slice(), b""),
+        on_file(line, rope.as_slice(), b""),
         "__",
         "Limit CYCLE 10 WRITES 0\n",
     );
-    refuses(&rt, without_keys(line, &IDLE, b""), "rope: Parity");
+    refuses(&rt, without_keys(line, IDLE, b""), "rope: Parity");
     Ok(())
 }
 
+/// Waits, and writes +0 to channel 10 at each DOWNRUPT.
+const DOWNLINK: &str = "
+4000 14000 TCF 4000
+4040 00006 EXTEND
+4041 01010 WRITE 10
+4042 50017 RESUME";
+
 #[test]
-fn every_downrupt(rt: HostRuntime) -> Result<(), Fail> {
-    let mut rope = vec![in rt.alloc(); 0u8; 64]?;
-    rope[0] = 0x30;
-    rope.extend_from_slice(&[0x00, 0x0C, 0x04, 0x10, 0xA0, 0x1E])?;
+fn every_downrupt(rt: HostRuntime) {
     let after = "Limit CYCLE 120 WRITES 6
 4 010 00000
 24 010 00000
@@ -233,11 +234,10 @@ fn every_downrupt(rt: HostRuntime) -> Result<(), Fail> {
     let script = b"every 20 0 100 raise 8";
     stops(
         &rt,
-        without_keys("--limit 120 --log", rope.as_slice(), script),
+        without_keys("--limit 120 --log", DOWNLINK, script),
         "__",
         after,
     );
-    Ok(())
 }
 
 #[test]
@@ -252,12 +252,12 @@ fn script_edges(rt: HostRuntime) -> Result<(), Fail> {
         match told {
             Some(err) => refuses(
                 &rt,
-                without_keys("--limit 10", &IDLE, script.as_slice()),
+                without_keys("--limit 10", IDLE, script.as_slice()),
                 err,
             ),
             None => stops(
                 &rt,
-                without_keys("--limit 10", &IDLE, script.as_slice()),
+                without_keys("--limit 10", IDLE, script.as_slice()),
                 "__",
                 "Limit CYCLE 10 WRITES 0\n",
             ),
@@ -265,7 +265,7 @@ fn script_edges(rt: HostRuntime) -> Result<(), Fail> {
     }
     stops(
         &rt,
-        without_keys("--limit 10", &IDLE, b"1000000000000 raise 1"),
+        without_keys("--limit 10", IDLE, b"1000000000000 raise 1"),
         "__",
         "Limit CYCLE 10 WRITES 0\n",
     );
@@ -280,7 +280,7 @@ fn script_edges(rt: HostRuntime) -> Result<(), Fail> {
     ] {
         refuses(
             &rt,
-            without_keys("--limit 10", &IDLE, script.as_bytes()),
+            without_keys("--limit 10", IDLE, script.as_bytes()),
             err,
         );
     }

@@ -12,8 +12,8 @@ pub struct Source<'a> {
 }
 
 impl<'a> Source<'a> {
-    /// A file that gives `most` bytes a read at most, and whose read number `fails_at`, counted from
-    /// 1, fails; none for 0.
+    /// A file that gives `most` bytes a read at most, and whose read number `fails_at`, counted
+    /// from 1, fails; none for 0.
     pub fn new(bytes: &'a [u8], most: usize, fails_at: u32) -> Source<'a> {
         Source {
             left: bytes,

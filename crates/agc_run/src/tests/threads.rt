@@ -1,7 +1,7 @@
 //! The two threads of a session, with gates that hold one of them up: a session that runs the
 //! machine itself, drops the gate or the number of slots does not get through.
-use super::gates::{Meeting, Slow};
 use super::*;
+use agc_gate::{Meeting, Slow};
 use std::test::Fail;
 
 /// How often a gate looks for what must come.
@@ -24,7 +24,7 @@ fn shows_thousand<G: Gate + Sync>(
     gate: &G,
 ) -> Result<(), Fail> {
     let line = format!(in rt.alloc(); "--limit 4018 --log{slots}{}", way.0)?;
-    let ended = run_gated(rt, without_keys(line.as_str(), &WRITES, b""), gate);
+    let ended = run_gated(rt, without_keys(line.as_str(), WRITES, b""), gate);
     assert_eq!(rt; ended.status, DONE, "{line}");
     assert!(rt; ended.err.is_empty(), "{line}");
     let text = String::from_utf8(ended.out)?;
@@ -49,9 +49,9 @@ fn thousand_writes(rt: HostRuntime) -> Result<(), Fail> {
     shows_thousand(&rt, "", WAYS[0], &Open)
 }
 
-/// In one slot a block is one write, so write 1 is in the ring when the machine comes to write 2. It
-/// waits there until the display took write 1, and the display waits with write 1 taken until the
-/// machine came to write 2: both get on only where each is on a thread of its own.
+/// In one slot a block is one write, so write 1 is in the ring when the machine comes to write 2.
+/// It waits there until the display took write 1, and the display waits with write 1 taken until
+/// the machine came to write 2: both get on only where each is on a thread of its own.
 #[test]
 fn both_threads_run(rt: HostRuntime) -> Result<(), Fail> {
     for way in WAYS {
@@ -78,8 +78,8 @@ fn ring_has_no_more_room(rt: HostRuntime) -> Result<(), Fail> {
 }
 
 /// Where no slots are named there are 256. The first block carries 64 writes, and the gate is told
-/// of write 2 before the block is sent: however long the machine waits there, the display has nothing
-/// to take.
+/// of write 2 before the block is sent: however long the machine waits there, the display has
+/// nothing to take.
 #[test]
 fn ring_has_256_slots_by_default(rt: HostRuntime) -> Result<(), Fail> {
     for way in WAYS {
@@ -100,7 +100,7 @@ fn ring_has_256_slots_by_default(rt: HostRuntime) -> Result<(), Fail> {
 fn slow_threads(rt: HostRuntime) -> Result<(), Fail> {
     for slots in ["1", "2", "65536"] {
         let slots = format!(in rt.alloc(); " --slots {slots}")?;
-        for gate in [Slow::new(SPIN, 0, 0), Slow::new(0, SPIN, 0)] {
+        for gate in [Slow::machine(SPIN), Slow::display(SPIN)] {
             for way in WAYS {
                 shows_thousand(&rt, slots.as_str(), way, &gate)?;
                 stops_slowly(
@@ -108,11 +108,11 @@ fn slow_threads(rt: HostRuntime) -> Result<(), Fail> {
                     slots.as_str(),
                     way,
                     &gate,
-                    &DIVISION,
+                    DIVISION,
                     ONE_POKED,
                     DIVIDED,
                 )?;
-                stops_slowly(&rt, slots.as_str(), way, &gate, &EDRUPT, b"", EDRUPTED)?;
+                stops_slowly(&rt, slots.as_str(), way, &gate, EDRUPT, b"", EDRUPTED)?;
             }
         }
     }
@@ -125,12 +125,12 @@ fn stops_slowly(
     slots: &str,
     way: (&str, &str),
     gate: &Slow,
-    rope: &[u8],
+    listing: &str,
     script: &[u8],
     after: &str,
 ) -> Result<(), Fail> {
     let line = format!(in rt.alloc(); "--limit 100 --log{slots}{}", way.0)?;
-    let ended = run_gated(rt, without_keys(line.as_str(), rope, script), gate);
+    let ended = run_gated(rt, without_keys(line.as_str(), listing, script), gate);
     let out = format!(in rt.alloc(); "PROG __\n{REST}STOP {after}{}", way.1)?;
     assert_eq!(rt; ended.status, DONE, "{line}");
     assert!(rt; ended.out.as_slice() == out.as_bytes(), "{line}");

@@ -3,11 +3,12 @@ use super::streams::{Sink, Source};
 use super::*;
 use agc_session::UNWRITTEN;
 
-/// Runs the relay word with `0 raise 1` and one live key, from sources of few bytes a read that fail
-/// at a read each.
+/// Runs the relay word with `0 raise 1` and one live key, from sources of few bytes a read that
+/// fail at a read each.
 fn reads_fail(rt: &impl Host, fails_at: [u32; 3], told: &str) {
     let options = options(rt, "--limit 2 --live");
-    let mut rope = Source::new(&RELAY_WORD, 4, fails_at[0]);
+    let file = file_of(rt, RELAY_WORD);
+    let mut rope = Source::new(file.as_slice(), 4, fails_at[0]);
     let mut script = Source::new(b"0 raise 1", 4, fails_at[1]);
     let mut keys = Source::new(b" \tKEYREL\n", 4, fails_at[2]);
     let mut out = Vec::new(rt.alloc());
@@ -46,7 +47,8 @@ fn one_read_fails(rt: HostRuntime) {
 /// Writes to `out` of few bytes each that fail at a write; the status.
 fn output_fails(rt: &impl Host, at: u32) -> u8 {
     let options = options(rt, "--limit 10 --log");
-    let (mut rope, mut script, mut keys): (&[u8], &[u8], &[u8]) = (&RELAY_WORD, b"", b"");
+    let file = file_of(rt, RELAY_WORD);
+    let (mut rope, mut script, mut keys): (&[u8], &[u8], &[u8]) = (file.as_slice(), b"", b"");
     let mut out = Sink::new(rt.alloc(), 5, at);
     let mut err = Vec::new(rt.alloc());
     let status = session(
@@ -76,7 +78,8 @@ fn one_write_fails(rt: HostRuntime) {
 #[test]
 fn refusal_is_not_written(rt: HostRuntime) {
     let options = options(&rt, "--limit 0");
-    let (mut rope, mut script, mut keys): (&[u8], &[u8], &[u8]) = (&IDLE, b"", b"");
+    let file = file_of(&rt, IDLE);
+    let (mut rope, mut script, mut keys): (&[u8], &[u8], &[u8]) = (file.as_slice(), b"", b"");
     let mut out = Vec::new(rt.alloc());
     let mut err = Sink::new(rt.alloc(), 100, 1);
     let status = session(

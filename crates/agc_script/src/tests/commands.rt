@@ -19,7 +19,7 @@ fn commands(rt: HostRuntime) {
         What::Pro(false),
         What::Input {
             channel: 0o777,
-            value: narrow(&rt, 0o77777),
+            value: Narrow::with_bits(0o77777),
         },
         What::Pulse {
             counter: 0o24,
@@ -33,12 +33,12 @@ fn commands(rt: HostRuntime) {
         What::Poke {
             bank: 7,
             offset: 0o377,
-            value: narrow(&rt, 0o40000),
+            value: Narrow::with_bits(0o40000),
         },
         What::Poke {
             bank: 0,
             offset: 0o10,
-            value: narrow(&rt, 0),
+            value: Narrow::PLUS_ZERO,
         },
     ];
     assert_eq!(rt; script.len(), 9);
@@ -47,7 +47,7 @@ fn commands(rt: HostRuntime) {
         assert_eq!(rt; event.cycle, i as u64);
         assert_eq!(rt; event.what, whats[i]);
     }
-    assert_eq!(rt; script.at(8).cycle, 1_000_000_000_000);
+    assert_eq!(rt; script.at(8).cycle, LAST_CYCLE);
     assert_eq!(rt; script.at(8).what, whats[8]);
 }
 

@@ -29,7 +29,7 @@ fn every_interleaves(rt: HostRuntime) {
 
 #[test]
 fn every_faults(rt: HostRuntime) {
-    assert_eq!(rt; parse(&rt, b"every 1 0 65535 raise 1").len(), 65_536);
+    assert_eq!(rt; parse(&rt, b"every 1 0 65535 raise 1").len(), MOST_EVENTS);
     refuses(
         &rt,
         &[

@@ -5,8 +5,10 @@ use super::*;
 fn command_line_tape(rt: HostRuntime) {
     let mut tape = Tape::new(rt.alloc());
     assert_eq!(rt; tape.len(), 0);
+    assert!(rt; tape.is_empty());
     assert!(rt; tape.push(5, Key::Verb).is_ok());
     assert_eq!(rt; tape.len(), 1);
+    assert!(rt; !tape.is_empty());
     assert_eq!(rt; tape.at(0), (5, Key::Verb));
     assert!(rt; tape.push(6, Key::Noun).is_ok());
     assert_eq!(rt; tape.len(), 2);
@@ -40,18 +42,18 @@ fn keys_between_events(rt: HostRuntime) {
     let mut tape = Tape::new(rt.alloc());
     let nothing = Script::empty(rt.alloc());
     let merged = nothing.merge(rt.alloc(), &tape).expect(&rt, "room");
-    assert_eq!(rt; merged.len(), 0);
+    assert!(rt; merged.is_empty());
 
     assert!(rt; tape.push(0, Key::Verb).is_ok());
     assert!(rt; tape.push(6, Key::Three).is_ok());
     assert!(rt; tape.push(8, Key::Five).is_ok());
-    assert!(rt; tape.push(1_000_000_000_000, Key::Enter).is_ok());
+    assert!(rt; tape.push(LAST_CYCLE, Key::Enter).is_ok());
     let merged = nothing.merge(rt.alloc(), &tape).expect(&rt, "room");
     let want = [
         key(0, Key::Verb),
         key(6, Key::Three),
         key(8, Key::Five),
-        key(1_000_000_000_000, Key::Enter),
+        key(LAST_CYCLE, Key::Enter),
     ];
     assert_eq!(rt; listed(&rt, &merged).as_slice(), want.as_slice());
 
@@ -64,7 +66,7 @@ fn keys_between_events(rt: HostRuntime) {
         key(8, Key::Five),
         raise(9, 2),
         raise(9, 3),
-        key(1_000_000_000_000, Key::Enter),
+        key(LAST_CYCLE, Key::Enter),
     ];
     assert_eq!(rt; listed(&rt, &merged).as_slice(), want.as_slice());
 }
@@ -78,7 +80,7 @@ fn merge_limit(rt: HostRuntime) {
     assert!(rt; tape.push(5, Key::Verb).is_ok());
     let nearly = parse(&rt, b"every 1 0 65534 raise 1");
     let merged = nearly.merge(rt.alloc(), &tape).expect(&rt, "room");
-    assert_eq!(rt; merged.len(), 65_536);
+    assert_eq!(rt; merged.len(), MOST_EVENTS);
     let (line, kind) = (0, FaultKind::TooMany);
     let refused = full.merge(rt.alloc(), &tape).err();
     assert_eq!(rt; refused, Some(ScriptFault { line, kind }));

@@ -6,10 +6,10 @@ use Rattle.agc_pipe.proofs.display.take_block.Goals as goal
 pub returns-clause-end : goal.returns-clause-end
 returns-clause-end g c =
     let all : c.next_block-count.new.self.received ≡ c.args.receiver.now.received ++ c.as_slice.result.now = grind (arith, common_steps) in
-    c.show_all.ensures.end ∙ end_all c.args.receiver.now.received c.as_slice.result.now c.next_block-count.new.self.received all c.requires.open
+    c.look_of.ensures ∙ c.show_all-is_over.ensures.end ∙ end_all c.args.receiver.now.received c.as_slice.result.now c.next_block-count.new.self.received all c.requires.open
 
 pub returns-clause-shown : goal.returns-clause-shown
 returns-clause-shown g c =
     let all : c.next_block-count.new.self.received ≡ c.args.receiver.now.received ++ c.as_slice.result.now = grind (arith, common_steps) in
-    showing_all c.show_all.new.self c.args.receiver.now.received c.as_slice.result.now c.next_block-count.new.self.received all c.requires.open
-    (c.show_all.ensures.shown _ c.requires.shown)
+    showing_all c.show_all-is_over.new.self c.args.receiver.now.received c.as_slice.result.now c.next_block-count.new.self.received all c.requires.open
+    (c.show_all-is_over.ensures.shown _ c.requires.shown)

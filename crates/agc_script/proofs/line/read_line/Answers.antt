@@ -1,4 +1,4 @@
-use Rattle.agc_script.proofs.Refusals.{words_other}
+use Rattle.agc_script.proofs.Faults.{words_other}
 use Rattle.agc_script.proofs.line.read_line.Goals as goal
 
 pub returns-else-has_high_byte-clause-kind : goal.returns-else-has_high_byte-clause-kind

@@ -1,5 +1,6 @@
 use Rattle.std.proofs.Common.{arith, sym, ◌∙◌}
 use Rattle.agc_script.proofs.Lines.{next_lines, faulty_line, takable_line, all_lines}
+use Rattle.agc_script.proofs.Told.{first_fault, sound_line, faultless_file}
 use Rattle.agc_script.proofs.parse.read_lines.Goals as goal
 
 pub returns-in-Err-clause-fault : goal.returns-in-Err-clause-fault
@@ -16,6 +17,17 @@ returns-in-Err-clause-memory c = λ memory.
       last = omega (arith, count);
       sound = takable_line _ _ _ _ _ _ same (c.in-Err.ensures.memory memory);
     }
+
+pub returns-in-Err-clause-first_fault : goal.returns-in-Err-clause-first_fault
+returns-in-Err-clause-first_fault c = λ other. first_fault _ _ (returns-in-Err-clause-fault c other)
+
+pub returns-in-Err-clause-sound : goal.returns-in-Err-clause-sound
+returns-in-Err-clause-sound c = λ memory. sound_line _ _ (returns-in-Err-clause-memory c memory)
+
+pub returns-clause-faultless : goal.returns-clause-faultless
+returns-clause-faultless c =
+    let same = rw c.in_default.ensures.lines at c.loop-line.invariant.same in
+    faultless_file _ _ (sym same ∙ all_lines _ _ _)
 
 pub loop-line-preserved : goal.loop-line-preserved
 loop-line-preserved c =

@@ -1,6 +1,6 @@
 use Rattle.std.proofs.Common.{◌≡◌, ◌≤◌, length, arith}
 use Rattle.std.proofs.lemmas.Result.{IfOk-weaker, IfErr-weaker}
-use Rattle.agc_store.specs.Rope.{rope_words}
+use Rattle.agc_store.specs.RopeFile.{rope_words}
 use Rattle.agc_session.proofs.Denied.{rope_known_accepted, rope_known_faulty, rope_known_memory, rope_known_unread}
 use Rattle.agc_session.proofs.Whole.{of_all}
 use Rattle.agc_session.proofs.files.read_rope.Goals as goal

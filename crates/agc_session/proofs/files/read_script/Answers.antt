@@ -1,7 +1,7 @@
 use Rattle.std.proofs.Common.{◌≡◌, ◌≤◌, length, arith}
 use Rattle.std.proofs.lemmas.Result.{IfOk-weaker, IfErr-weaker}
 use Rattle.agc_script.specs.Parse.{script_of}
-use Rattle.agc_session.specs.Given.{events_in}
+use Rattle.agc_session.specs.Files.{events_in}
 use Rattle.agc_session.proofs.Denied.{script_known_accepted, script_known_memory, script_known_told, script_known_unread}
 use Rattle.agc_session.proofs.Whole.{of_all}
 use Rattle.agc_session.proofs.files.read_script.Goals as goal

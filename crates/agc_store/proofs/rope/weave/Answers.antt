@@ -1,5 +1,5 @@
 use Rattle.std.proofs.Common.{◌≡◌, ap, ◌∙◌, arith}
-use Rattle.agc_store.specs.Rope.{first_words}
+use Rattle.agc_store.specs.RopeFile.{first_words}
 use Rattle.agc_store.proofs.RopeWords.{resized_words}
 use Rattle.agc_store.proofs.rope.weave.Goals as goal
 

@@ -1,5 +1,5 @@
 use Rattle.std.proofs.Common.{◌≡◌}
-use Rattle.agc_store.specs.Rope.{first_words}
+use Rattle.agc_store.specs.RopeFile.{first_words}
 use Rattle.agc_store.proofs.rope.weave.Given as goal
 
 -- the words that are woven so far

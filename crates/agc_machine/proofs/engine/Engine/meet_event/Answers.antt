@@ -3,7 +3,7 @@ use Rattle.agc_machine.proofs.Events.{events_from, met}
 use Rattle.agc_machine.specs.Engine.{state_of}
 use Rattle.agc_machine.proofs.engine.Engine.meet_event.Goals as goal
 
-pub returns-clause-step : goal.returns-clause-step
-returns-clause-step c =
-    met (state_of c.args.self.now) c.at-event.result (drop (c.args.self.now.next + 1) c.args.self.now.script) c.meet.new.processor c.meet.result
-    (events_from c.args.self.now.script c.args.self.now.next c.at-event.result c.at-event.ensures.event) c.if-event-self.false c.meet.ensures.state c.meet.ensures.cycles
+pub returns-clause-met : goal.returns-clause-met
+returns-clause-met c t =
+    met (state_of c.args.self.now) c.in-Some.event (drop (c.args.self.now.next + 1) c.args.self.now.script) c.meet.new.processor c.meet.result
+    (events_from c.args.self.now.script c.args.self.now.next c.in-Some.event c.in-Some.ensures.event) c.if-event-self.false c.meet.ensures.state c.meet.ensures.cycles

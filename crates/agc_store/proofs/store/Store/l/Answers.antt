@@ -1,5 +1,5 @@
 use Rattle.std.proofs.Common.{◌∙◌}
-use Rattle.agc_store.specs.Cells.{register}
+use Rattle.agc_store.specs.Registers.{register}
 use Rattle.agc_store.proofs.Kept.{narrow_of-l}
 use Rattle.agc_store.proofs.store.Store.l.Goals as goal
 

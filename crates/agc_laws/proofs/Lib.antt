@@ -1,0 +1,7 @@
+mod Extends
+mod Returns
+mod Steps
+mod Pairs
+mod Frame
+mod Still
+mod Rows

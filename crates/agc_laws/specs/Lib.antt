@@ -1,0 +1,4 @@
+pub mod Leaves
+pub mod Service
+pub mod Row
+pub mod Table

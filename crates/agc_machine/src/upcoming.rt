@@ -1,0 +1,142 @@
+//! What the next boundary will be: the cases of the boundary, told and not done.
+ghost use Rattle.std.specs.Prelude.{◌≡◌, ◌<◌};
+ghost use Rattle.agc_machine.specs.State.{State};
+ghost use Rattle.agc_store.specs.Places.{fixed_window};
+ghost use Rattle.agc_machine.specs.Upcoming.{ComesAsTold, HasPlace, TellsEachCase, bank_behind, in_hand, upcoming_of};
+
+use crate::answer::Stop;
+use crate::engine::Engine;
+use crate::machine::Machine;
+use agc_processor::{Processor, Rupt, Timer};
+use agc_script::What;
+use agc_store::Addr;
+use agc_word::Narrow;
+
+/// The order in hand, which runs where nothing else happens.
+#[derive(Clone, Copy, Debug, PartialEq, Eq)]
+pub struct InHand {
+    /// For 1400 to 1777 octal the erasable bank, for 2000 to 3777 the fixed bank, 0 to 47 octal with
+    /// the superbank's ten added; elsewhere 0.
+    pub bank: u8,
+    /// One before Z.
+    pub address: Addr,
+    /// The word that runs: what INDEX has added is in it.
+    pub word: Narrow,
+    /// The word is run as an extracode.
+    pub extracode: bool,
+}
+
+/// What a boundary without a live key will be.
+#[derive(Clone, Copy, Debug, PartialEq, Eq)]
+pub enum Upcoming {
+    /// The machine has stopped, or it stops at its limit or its stop address.
+    Stop(Stop),
+    /// An event of the script happens.
+    Event(What),
+    /// A timer steps.
+    Timer(Timer),
+    /// An interrupt is taken.
+    Interrupt(Rupt),
+    /// The order in hand runs; of the orders alone DV and EDRUPT may stop the machine.
+    Order(InHand),
+}
+
+/// What is told of a state comes: each case of the boundary applies exactly where it is told, and the
+/// boundary does what is told.
+pub fn the_upcoming_comes()
+    ensures cases { (s : State) → TellsEachCase s }
+    ensures boundary { (s : State) → ComesAsTold s (upcoming_of s) }
+{}
+
+impl Machine {
+    ghost use Rattle.std.specs.Prelude.{◌≡◌};
+    ghost use Rattle.agc_machine.specs.Upcoming.{ComesAsTold, HasPlace, upcoming_of};
+
+    /// What the next boundary will be, as long as no live key is given.
+    pub fn upcoming(&self) -> Upcoming
+        ensures told { result ≡ upcoming_of self.now }
+        ensures comes { ComesAsTold self.now result }
+        ensures place { HasPlace result }
+    {
+        self.engine.upcoming()
+    }
+}
+
+impl Engine {
+    ghost use Rattle.std.specs.Prelude.{◌≡◌, drop, option_map};
+    ghost use Rattle.agc_machine.specs.Engine.{state_of, IsSound};
+    ghost use Rattle.agc_machine.specs.Upcoming.{HasPlace, due_told, upcoming_of};
+
+    /// Of the things that may happen at the next boundary the first that applies.
+    #[tactic(auto, unfolding(crate::specs::Upcoming::upcoming_of, crate::specs::Upcoming::limit_told, crate::specs::Upcoming::event_told, crate::specs::Upcoming::timer_told, crate::specs::Upcoming::interrupt_told, crate::specs::Upcoming::address_told, crate::specs::Upcoming::order_told))]
+    fn upcoming(&self) -> Upcoming
+        requires sound { IsSound self.now }
+        ensures told { result ≡ upcoming_of (state_of self.now) }
+        ensures place { HasPlace result }
+    {
+        if let Some(why) = self.stopped {
+            return Upcoming::Stop(why);
+        }
+        if self.cycle >= self.limit {
+            return Upcoming::Stop(Stop::Limit);
+        }
+        if let Some(what) = self.due_event() {
+            return Upcoming::Event(what);
+        }
+        if let Some(timer) = self.processor.due_timer(self.cycle) {
+            return Upcoming::Timer(timer);
+        }
+        if let Some(rupt) = self.processor.pending() {
+            return Upcoming::Interrupt(rupt);
+        }
+        if self.is_reached() {
+            return Upcoming::Stop(Stop::Reached);
+        }
+        Upcoming::Order(in_hand(&self.processor))
+    }
+
+    /// The first event that the run has not met, where it is due.
+    #[tactic(auto, using(crate::proofs::Events::events_from, crate::proofs::Events::no_events))]
+    fn due_event(&self) -> Option<What>
+        ensures { option_map (λ what. Upcoming.Event what) result ≡ due_told self.now.cycle (drop self.now.next self.now.script) }
+    {
+        if self.next >= self.script.len() {
+            return None;
+        }
+        let event = self.script.at(self.next);
+        if event.cycle <= self.cycle {
+            Some(event.what)
+        } else {
+            None
+        }
+    }
+}
+
+/// The order in hand, with its place.
+#[tactic(auto, unfolding(crate::specs::Upcoming::in_hand))]
+fn in_hand(processor: &Processor) -> InHand
+    ensures order { result ≡ in_hand processor.now }
+    ensures place { HasPlace (Upcoming.Order result) }
+{
+    let address = processor.store.z().previous();
+    InHand {
+        bank: bank_behind(processor, address),
+        address,
+        word: processor.hand,
+        extracode: processor.extracode,
+    }
+}
+
+/// The bank that an address stands in, in the two windows; elsewhere 0.
+fn bank_behind(processor: &Processor, address: Addr) -> u8
+    ensures bank { result ≡ bank_behind address processor.now }
+    ensures range { result < 0o50 }
+    ensures erasable { address < fixed_window → result < 0o10 }
+{
+    match address.bits() {
+        0..0o1400 => 0,
+        0o1400..0o2000 => processor.store.erasable_bank(),
+        0o2000..0o4000 => processor.store.selected_bank(),
+        _ => 0,
+    }
+}

@@ -1,0 +1,8 @@
+//! The orders of the Block II computer by name, and the order that a word names.
+#![tactic(auto)]
+
+mod order;
+#[cfg(test)]
+mod tests;
+
+pub use order::{Basic, Extracode};

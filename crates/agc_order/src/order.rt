@@ -1,0 +1,173 @@
+//! The orders, and the order that a word names.
+//!
+//! In the decode each arm is one number, so that the compiler makes one jump by a table; of ranges and
+//! of alternatives in an arm it makes chains of comparisons.
+
+use agc_word::Narrow;
+
+/// The basic orders of the instruction memos, in the order of their codes.
+#[derive(Clone, Copy, Debug, PartialEq, Eq)]
+pub enum Basic {
+    Tc,
+    Relint,
+    Inhint,
+    Extend,
+    Ccs,
+    Tcf,
+    Das,
+    Lxch,
+    Incr,
+    Ads,
+    Ca,
+    Cs,
+    Index,
+    Resume,
+    Dxch,
+    Ts,
+    Xch,
+    Ad,
+    Mask,
+}
+
+/// The extracodes, which a word names after EXTEND and after the extracode INDEX.
+#[derive(Clone, Copy, Debug, PartialEq, Eq)]
+pub enum Extracode {
+    Read,
+    Write,
+    Rand,
+    Wand,
+    Ror,
+    Wor,
+    Rxor,
+    Edrupt,
+    Dv,
+    Bzf,
+    Msu,
+    Qxch,
+    Aug,
+    Dim,
+    Dca,
+    Dcs,
+    Index,
+    Su,
+    Bzmf,
+    Mp,
+}
+
+impl Basic {
+    ghost use Rattle.std.specs.Prelude.{◌≡◌};
+    ghost use Rattle.agc_word.specs.Number.{pattern_of};
+    ghost use Rattle.agc_order.specs.Order.{basic_of};
+
+    /// The basic order that a word names: bits 15 to 11, code and quarter, choose it, and RELINT,
+    /// INHINT, EXTEND and RESUME are whole words.
+    #[tactic(auto, unfolding(crate::specs::Order::basic_of, crate::specs::Order::basic_orders))]
+    #[inline(always)]
+    pub fn named_by(word: Narrow) -> Basic
+        ensures { result ≡ basic_of (pattern_of 15 word) }
+    {
+        let bits = word.bits();
+        match bits / 0o2000 {
+            0o00 => match bits {
+                0o00003 => Basic::Relint,
+                0o00004 => Basic::Inhint,
+                0o00006 => Basic::Extend,
+                _ => Basic::Tc,
+            },
+            0o01 => Basic::Tc,
+            0o02 => Basic::Tc,
+            0o03 => Basic::Tc,
+            0o04 => Basic::Ccs,
+            0o05 => Basic::Tcf,
+            0o06 => Basic::Tcf,
+            0o07 => Basic::Tcf,
+            0o10 => Basic::Das,
+            0o11 => Basic::Lxch,
+            0o12 => Basic::Incr,
+            0o13 => Basic::Ads,
+            0o14 => Basic::Ca,
+            0o15 => Basic::Ca,
+            0o16 => Basic::Ca,
+            0o17 => Basic::Ca,
+            0o20 => Basic::Cs,
+            0o21 => Basic::Cs,
+            0o22 => Basic::Cs,
+            0o23 => Basic::Cs,
+            0o24 => match bits {
+                0o50017 => Basic::Resume,
+                _ => Basic::Index,
+            },
+            0o25 => Basic::Dxch,
+            0o26 => Basic::Ts,
+            0o27 => Basic::Xch,
+            0o30 => Basic::Ad,
+            0o31 => Basic::Ad,
+            0o32 => Basic::Ad,
+            0o33 => Basic::Ad,
+            _ => Basic::Mask,
+        }
+    }
+}
+
+impl Extracode {
+    ghost use Rattle.std.specs.Prelude.{◌≡◌};
+    ghost use Rattle.agc_word.specs.Number.{pattern_of};
+    ghost use Rattle.agc_order.specs.Order.{extracode_of};
+
+    /// The extracode that a word names: bits 15 to 11, code and quarter, choose it, and where the code
+    /// is 0 the eighth, bits 12 to 10.
+    #[tactic(auto, unfolding(crate::specs::Order::extracode_of, crate::specs::Order::extracodes))]
+    #[inline(always)]
+    pub fn named_by(word: Narrow) -> Extracode
+        ensures { result ≡ extracode_of (pattern_of 15 word) }
+    {
+        let bits = word.bits();
+        match bits / 0o2000 {
+            0o00 => if bits < 0o1000 {
+                Extracode::Read
+            } else {
+                Extracode::Write
+            },
+            0o01 => if bits < 0o3000 {
+                Extracode::Rand
+            } else {
+                Extracode::Wand
+            },
+            0o02 => if bits < 0o5000 {
+                Extracode::Ror
+            } else {
+                Extracode::Wor
+            },
+            0o03 => if bits < 0o7000 {
+                Extracode::Rxor
+            } else {
+                Extracode::Edrupt
+            },
+            0o04 => Extracode::Dv,
+            0o05 => Extracode::Bzf,
+            0o06 => Extracode::Bzf,
+            0o07 => Extracode::Bzf,
+            0o10 => Extracode::Msu,
+            0o11 => Extracode::Qxch,
+            0o12 => Extracode::Aug,
+            0o13 => Extracode::Dim,
+            0o14 => Extracode::Dca,
+            0o15 => Extracode::Dca,
+            0o16 => Extracode::Dca,
+            0o17 => Extracode::Dca,
+            0o20 => Extracode::Dcs,
+            0o21 => Extracode::Dcs,
+            0o22 => Extracode::Dcs,
+            0o23 => Extracode::Dcs,
+            0o24 => Extracode::Index,
+            0o25 => Extracode::Index,
+            0o26 => Extracode::Index,
+            0o27 => Extracode::Index,
+            0o30 => Extracode::Su,
+            0o31 => Extracode::Bzmf,
+            0o32 => Extracode::Bzmf,
+            0o33 => Extracode::Bzmf,
+            _ => Extracode::Mp,
+        }
+    }
+}

@@ -1,0 +1,2 @@
+pub mod RopeLines
+pub mod Woven

@@ -1,0 +1,5 @@
+pub mod Place
+pub mod Order
+pub mod List
+pub mod Line
+pub mod Weave

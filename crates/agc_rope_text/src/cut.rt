@@ -1,0 +1,67 @@
+//! The text cut up: its next line, and the next word of a line.
+ghost use Rattle.std.specs.Prelude.{◌≡◌, ◌≤◌, ◌<◌, [], ◌∷◌, length, not, position, MatchOption, IfSome};
+ghost use Rattle.std.specs.Str.Lines.{strip_carriage_return};
+ghost use Rattle.agc_script.specs.Text.{lines_of, words_of, is_blank, is_line_feed};
+
+/// The first line of a file, without its end, and what follows it; `None` at the end of the file.
+pub(crate) fn next_line(file: &[u8]) -> Option<(&[u8], &[u8])>
+    ensures lines { MatchOption result (lines_of file.now ≡ []) (λ cut. lines_of file.now ≡ cut.0.now ∷ lines_of cut.1.now) }
+    ensures shorter { IfSome result (λ cut. length cut.1.now < length file.now) }
+{
+    if file.is_empty() {
+        return None;
+    }
+    let end = first_line_feed(file).unwrap_or(file.len());
+    let rest = file.len().min(end + 1);
+    Some((without_return(&file[..end]), &file[rest..]))
+}
+
+/// The first word of a text and what follows it; `None` where there is no word.
+pub(crate) fn next_word(text: &[u8]) -> Option<(&[u8], &[u8])>
+    ensures { MatchOption result (words_of text.now ≡ []) (λ cut. words_of text.now ≡ cut.0.now ∷ words_of cut.1.now) }
+{
+    let start = first_other(text)?;
+    let text = &text[start..];
+    let end = first_blank(text).unwrap_or(text.len());
+    Some((&text[..end], &text[end..]))
+}
+
+/// The line without one carriage return at its end.
+fn without_return(line: &[u8]) -> &[u8]
+    ensures { result.now ≡ strip_carriage_return line.now }
+{
+    match line {
+        [start @ .., b'\r'] => start,
+        _ => line,
+    }
+}
+
+/// The place of the first line feed.
+fn first_line_feed(file: &[u8]) -> Option<usize>
+    ensures place { result ≡ position is_line_feed file.now }
+    ensures bound { IfSome result (λ place. place < length file.now) }
+{
+    file.iter().position(|b| *b == b'\n')
+}
+
+/// The place of the first space or tab.
+fn first_blank(text: &[u8]) -> Option<usize>
+    ensures place { result ≡ position is_blank text.now }
+    ensures bound { IfSome result (λ place. place < length text.now) }
+{
+    text.iter().position(|b| is_space_or_tab(*b))
+}
+
+/// The place of the first byte that is neither space nor tab.
+fn first_other(text: &[u8]) -> Option<usize>
+    ensures place { result ≡ position (λ b. not (is_blank b)) text.now }
+    ensures bound { IfSome result (λ place. place < length text.now) }
+{
+    text.iter().position(|b| !is_space_or_tab(*b))
+}
+
+fn is_space_or_tab(b: u8) -> bool
+    ensures { result ≡ is_blank b }
+{
+    b == b' ' || b == b'\t'
+}

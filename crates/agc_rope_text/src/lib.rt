@@ -1,0 +1,23 @@
+//! Ropes as texts: places and orders as listings print them.
+#![tactic(auto)]
+
+mod cut;
+mod fault;
+mod line;
+mod listed;
+mod loom;
+mod order;
+mod place;
+mod weaving;
+
+pub use fault::{LineFault, WeaveFault};
+pub use listed::list;
+pub use order::{
+    Operand, basic_mnemonic, basic_operand, extracode_mnemonic, extracode_operand, leads_extracode,
+    push_order,
+};
+pub use place::{Place, push_place};
+pub use weaving::weave;
+
+#[cfg(test)]
+mod tests;

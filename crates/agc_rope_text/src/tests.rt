@@ -1,0 +1,166 @@
+//! Words and places of the instruction memos, as their listings print them.
+use crate::{LineFault, Place, WeaveFault, list, push_order, push_place, weave};
+use agc_store::{Rope, RopeForm, Store};
+use agc_word::Narrow;
+use std::test::Fail;
+
+#[test]
+fn orders_with_their_operands(rt: HostRuntime) -> Result<(), Fail> {
+    for (word, extracode, printed) in [
+        (0o34004, false, "CA 4004"),
+        (0o00006, false, "EXTEND"),
+        (0o01010, true, "WRITE 010"),
+        (0o01010, false, "TC 1010"),
+        (0o14003, false, "TCF 4003"),
+        (0o50017, false, "RESUME"),
+        (0o50017, true, "INDEX 0017"),
+        (0o10777, false, "CCS 0777"),
+        (0o77777, false, "MASK 7777"),
+        (0o07000, true, "EDRUPT 000"),
+        (0o61777, true, "SU 1777"),
+    ] {
+        let mut text = String::new(rt.alloc());
+        push_order(&mut text, extracode, Narrow::with_bits(word % 0o100000))?;
+        assert_eq!(rt; text.as_str(), printed);
+    }
+    Ok(())
+}
+
+/// DAS and DXCH have ten bits of address, DCA and DCS twelve, and all show the upper word's.
+#[test]
+fn double_orders_show_the_upper_word(rt: HostRuntime) -> Result<(), Fail> {
+    for (word, extracode, printed) in [
+        (0o20001, false, "DAS 0000"),
+        (0o20000, false, "DAS 1777"),
+        (0o52101, false, "DXCH 0100"),
+        (0o34005, true, "DCA 4004"),
+        (0o30000, true, "DCA 7777"),
+        (0o42001, true, "DCS 2000"),
+    ] {
+        let mut text = String::new(rt.alloc());
+        push_order(&mut text, extracode, Narrow::with_bits(word % 0o100000))?;
+        assert_eq!(rt; text.as_str(), printed);
+    }
+    Ok(())
+}
+
+#[test]
+fn places(rt: HostRuntime) -> Result<(), Fail> {
+    let mut text = String::new(rt.alloc());
+    push_place(&mut text, Place::Plain(0o61))?;
+    text.push_str(" ")?;
+    push_place(
+        &mut text,
+        Place::Erasable {
+            bank: 3,
+            address: 0o1400,
+        },
+    )?;
+    text.push_str(" ")?;
+    push_place(
+        &mut text,
+        Place::Fixed {
+            bank: 0o43,
+            address: 0o3777,
+        },
+    )?;
+    assert_eq!(rt; text.as_str(), "0061 E3,1400 43,3777");
+    Ok(())
+}
+
+/// The text of the rope that a text weaves to in this form.
+fn woven_and_listed(rt: &impl AllocGlobal, form: RopeForm, text: &str) -> Result<String, Fail> {
+    let file = weave(rt.alloc(), form, text.as_bytes())?;
+    let rope = Rope::read_as(rt.alloc(), form, file.as_slice())?;
+    Ok(list(rt.alloc(), &Store::new(rope), None)?)
+}
+
+/// What `list` prints weaves to the same words, in both forms: the edges of the banks, orders behind
+/// EXTEND and INDEX, -0, and a bank that begins anew.
+#[test]
+fn a_listing_weaves_to_its_words(rt: HostRuntime) -> Result<(), Fail> {
+    let text = "00,2000 00006 EXTEND
+00,2001 50100 INDEX 0100
+00,2002 30001 DCA 0000
+00,3777 00006 EXTEND
+01,2000 12000 TCF 2000
+02,4000 52101 DXCH 0100
+02,5777 00006 EXTEND
+03,6000 01010 WRITE 010
+03,7777 77777 MASK 7777
+43,3777 00001 TC 0001
+";
+    for form in [RopeForm::Classic, RopeForm::Parity] {
+        assert_eq!(rt; woven_and_listed(&rt, form, text)?.as_str(), text);
+    }
+    Ok(())
+}
+
+/// Comments, empty lines, addresses without a bank, and lines in any order.
+#[test]
+fn lines_for_readers(rt: HostRuntime) -> Result<(), Fail> {
+    let text = "# a rope\n\n4001\t00002 behind it\r\n  # more\n7777 77777\n04,2000 00003";
+    let listed = "02,4001 00002 TC 0002\n03,7777 77777 MASK 7777\n04,2000 00003 RELINT\n";
+    assert_eq!(rt;
+        woven_and_listed(&rt, RopeForm::Classic, text)?.as_str(),
+        listed
+    );
+    Ok(())
+}
+
+/// Files by hand: as long as their words need, and one word at least.
+#[test]
+fn files(rt: HostRuntime) -> Result<(), Fail> {
+    let alloc = rt.alloc();
+    let classic = weave(alloc, RopeForm::Classic, b"4000 34004\n4002 00001")?;
+    assert!(rt; classic.as_slice() == [0x70, 0x08, 0, 0, 0, 2].as_slice());
+    let parity = weave(
+        alloc,
+        RopeForm::Parity,
+        b"00,2001 00003\n00,2000 00001\n00,2002 00000",
+    )?;
+    assert!(rt; parity.as_slice() == [0, 2, 0, 7, 0, 1].as_slice());
+    let nothing = weave(alloc, RopeForm::Parity, b"# nothing")?;
+    assert!(rt; nothing.as_slice() == [0, 0].as_slice());
+    Ok(())
+}
+
+/// One bank alone.
+#[test]
+fn one_bank(rt: HostRuntime) -> Result<(), Fail> {
+    let file = weave(
+        rt.alloc(),
+        RopeForm::Classic,
+        b"02,4000 00001\n03,6000 00003\n04,2000 00004",
+    )?;
+    let store = Store::new(Rope::read(rt.alloc(), file.as_slice())?);
+    let text = list(rt.alloc(), &store, Some(3))?;
+    assert_eq!(rt; text.as_str(), "03,6000 00003 RELINT\n");
+    Ok(())
+}
+
+#[test]
+fn faulty_lines(rt: HostRuntime) {
+    for (text, line, fault) in [
+        ("4000 00001\n3777 00001", 2, LineFault::BadAddress),
+        ("44,2000 00001", 1, LineFault::BadAddress),
+        ("02,2000 00001", 1, LineFault::BadAddress),
+        ("04,4000 00001", 1, LineFault::BadAddress),
+        ("4,2000 00001", 1, LineFault::BadAddress),
+        ("; words", 1, LineFault::BadAddress),
+        ("\n4000", 2, LineFault::BadWord),
+        ("4000 1", 1, LineFault::BadWord),
+        ("4000 00008", 1, LineFault::BadWord),
+        ("4000 000001", 1, LineFault::BadWord),
+        (
+            "4000 00001\n# 4001\n02,4000 00001",
+            3,
+            LineFault::NamedTwice,
+        ),
+        ("4000 00001 \u{e9}", 1, LineFault::NotText),
+        ("4000 00001\n\0", 2, LineFault::NotText),
+    ] {
+        let woven = weave(rt.alloc(), RopeForm::Classic, text.as_bytes());
+        assert_eq!(rt; woven.err(), Some(WeaveFault::Line(line, fault)), "{text}");
+    }
+}

@@ -1,0 +1,34 @@
+//! What a run leaves in the memory, as the watcher prints it.
+use super::*;
+use std::test::Fail;
+
+/// A run of a rope's listing with a script, and what it leaves.
+#[derive(Clone, Copy)]
+pub struct Run<'a> {
+    pub listing: &'a str,
+    pub script: &'a str,
+    /// The options before those of the watcher.
+    pub line: &'a str,
+    /// The stop's line after `STOP `, and the lines of the log.
+    pub after: &'a str,
+    /// A, L, Q, EB, FB, Z, BB and ZERO at the stop.
+    pub registers: &'a str,
+    /// The address of the first of the pairs below.
+    pub from: &'a str,
+    /// Pairs of cells at the stop; those up to the ninth that are not given are +0.
+    pub pairs: &'a [&'a str],
+}
+
+/// Runs it as a session and looks at the whole text: the panel stays blank, LST1 is the registers and
+/// LST2 begins with these pairs.
+pub fn leaves(rt: &impl Host, run: Run<'_>) -> Result<(), Fail> {
+    let line = format!(in rt.alloc(); "{} --watch 0,0,0,0,0,0,{}", run.line, run.from)?;
+    let mut after = format!(in rt.alloc(); "{}LST1 {}\n", run.after, run.registers)?;
+    for k in 0..9 {
+        let pair = run.pairs.get(k).copied().unwrap_or("00000 00000");
+        after.push_str(format!(in rt.alloc(); "LST2 {k} {pair}\n")?.as_str())?;
+    }
+    let asked = without_keys(line.as_str(), run.listing, run.script.as_bytes());
+    stops(rt, asked, "__", after.as_str());
+    Ok(())
+}

@@ -1,0 +1,279 @@
+//! Stops at an address: in live runs, in the window of the switched erasable banks, and with the
+//! superbank on.
+use super::*;
+use std::sync::atomic::{AtomicBool, Ordering};
+use std::test::Fail;
+use std::thread;
+
+/// A run of a rope's listing that stops the same way with live keys of which none is pressed.
+#[derive(Clone, Copy)]
+struct Until<'a> {
+    listing: &'a str,
+    script: &'a str,
+    line: &'a str,
+    prog: &'a str,
+    /// The stop's line after `STOP `, and the lines of the log.
+    after: &'a str,
+}
+
+/// Runs it plainly and live, and looks at both texts.
+fn stops_twice(rt: &impl Host, run: Until<'_>) -> Result<(), Fail> {
+    let plain = without_keys(run.line, run.listing, run.script.as_bytes());
+    stops(rt, plain, run.prog, run.after);
+    let line = format!(in rt.alloc(); "{} --live", run.line)?;
+    let live = without_keys(line.as_str(), run.listing, run.script.as_bytes());
+    let after = format!(in rt.alloc(); "{}REST 0\n", run.after)?;
+    stops(rt, live, run.prog, after.as_str());
+    Ok(())
+}
+
+/// CA, EXTEND and WRITE take 5 cycles. The word at 4004 is no order of the run.
+#[test]
+fn until_an_order_live(rt: HostRuntime) -> Result<(), Fail> {
+    for (line, prog, after) in [
+        ("--until 0,4000", "__", "Reached CYCLE 0 WRITES 0\n"),
+        (
+            "--until 0,4003",
+            "12",
+            "Reached CYCLE 5 WRITES 1\n3 010 54171\n",
+        ),
+        (
+            "--until 0,4004",
+            "12",
+            "Limit CYCLE 10 WRITES 1\n3 010 54171\n",
+        ),
+    ] {
+        let line = format!(in rt.alloc(); "--limit 10 --log {line}")?;
+        let run = Until {
+            listing: RELAY_WORD,
+            script: "",
+            line: line.as_str(),
+            prog,
+            after,
+        };
+        stops_twice(&rt, run)?;
+    }
+    Ok(())
+}
+
+/// TC 1400 with EB 3 brings the first cell of erasable bank 3 into hand, at cycle 5.
+const TO_THE_WINDOW: &str = "
+4000 34005 CA 4005
+4001 54003 TS EB
+4002 01400 TC 1400
+4005 01400";
+
+/// The same with its last cell, by TC 1777.
+const TO_ITS_LAST_CELL: &str = "
+4000 34005 CA 4005
+4001 54003 TS EB
+4002 01777 TC 1777
+4005 01400";
+
+/// The same with the last cell below the window, which is that of erasable bank 2.
+const BELOW_THE_WINDOW: &str = "
+4000 34005 CA 4005
+4001 54003 TS EB
+4002 01377 TC 1377
+4005 01400";
+
+/// In the window the stop is where EB's bank agrees, and below it whatever the bank. The words that are
+/// poked jump to themselves.
+#[test]
+fn until_a_cell_of_an_erasable_bank(rt: HostRuntime) -> Result<(), Fail> {
+    for (line, listing, script, is_reached) in [
+        ("--until 3,1400", TO_THE_WINDOW, "0 poke 3 0 1400", true),
+        ("--until 2,1400", TO_THE_WINDOW, "0 poke 3 0 1400", false),
+        ("--until 0,1400", TO_THE_WINDOW, "0 poke 3 0 1400", false),
+        ("--until 3,1401", TO_THE_WINDOW, "0 poke 3 0 1400", false),
+        (
+            "--until 3,1777",
+            TO_ITS_LAST_CELL,
+            "0 poke 3 377 1777",
+            true,
+        ),
+        (
+            "--until 4,1777",
+            TO_ITS_LAST_CELL,
+            "0 poke 3 377 1777",
+            false,
+        ),
+        (
+            "--until 2,1377",
+            BELOW_THE_WINDOW,
+            "0 poke 2 377 1377",
+            true,
+        ),
+        (
+            "--until 3,1377",
+            BELOW_THE_WINDOW,
+            "0 poke 2 377 1377",
+            true,
+        ),
+    ] {
+        stops_at_five_or_limit(&rt, line, listing, script, is_reached)?;
+    }
+    Ok(())
+}
+
+/// TCF 2000 with FB 30 brings the first word of bank 30 into hand at cycle 5, or of bank 40 where the
+/// superbank is on.
+const TO_BANK_THIRTY: &str = "
+4000 34005 CA 4005
+4001 54004 TS FB
+4002 12000 TCF 2000
+4005 60000
+30,2000 12000 TCF 2000
+40,2000 12000 TCF 2000";
+
+/// The same with the last word of bank 27, which the superbank leaves where it is.
+const TO_BANK_TWENTY_SEVEN: &str = "
+4000 34005 CA 4005
+4001 54004 TS FB
+4002 13777 TCF 3777
+4005 56000
+27,3777 13777 TCF 3777";
+
+/// Bit 7 of channel 7 switches the superbank: the bank that counts is the one that is selected then.
+#[test]
+fn until_a_bank_with_the_superbank(rt: HostRuntime) -> Result<(), Fail> {
+    for (line, listing, script, is_reached) in [
+        ("--until 40,2000", TO_BANK_THIRTY, "0 input 7 100", true),
+        ("--until 30,2000", TO_BANK_THIRTY, "0 input 7 100", false),
+        ("--until 30,2000", TO_BANK_THIRTY, "", true),
+        ("--until 40,2000", TO_BANK_THIRTY, "", false),
+        (
+            "--until 27,3777",
+            TO_BANK_TWENTY_SEVEN,
+            "0 input 7 100",
+            true,
+        ),
+        (
+            "--until 37,3777",
+            TO_BANK_TWENTY_SEVEN,
+            "0 input 7 100",
+            false,
+        ),
+    ] {
+        stops_at_five_or_limit(&rt, line, listing, script, is_reached)?;
+    }
+    Ok(())
+}
+
+/// Whether a run of 10 cycles stops at the address, at cycle 5, or at its limit.
+fn stops_at_five_or_limit(
+    rt: &impl Host,
+    line: &str,
+    listing: &str,
+    script: &str,
+    is_reached: bool,
+) -> Result<(), Fail> {
+    let line = format!(in rt.alloc(); "--limit 10 {line}")?;
+    let after = if is_reached {
+        "Reached CYCLE 5 WRITES 0\n"
+    } else {
+        "Limit CYCLE 10 WRITES 0\n"
+    };
+    let run = Until {
+        listing,
+        script,
+        line: line.as_str(),
+        prog: "__",
+        after,
+    };
+    stops_twice(rt, run)
+}
+
+/// The text of a live run of VERB and 3 that stops at the service of a key, which is the order at 4024.
+fn run_to_the_service<G: Gate + Sync>(
+    rt: &impl Host,
+    listing: &str,
+    limit: u64,
+    gate: &G,
+) -> Result<String, Fail> {
+    let line = format!(in rt.alloc(); "--limit {limit} --log --live --until 0,4024")?;
+    let asked = Asked {
+        line: line.as_str(),
+        rope: GivenRope::Listing(listing),
+        script: b"",
+        keys: b"VERB 3",
+    };
+    let ended = run_gated(rt, asked, gate);
+    assert_eq!(rt; ended.status, DONE);
+    Ok(String::from_utf8(ended.out)?)
+}
+
+/// TCF 4000 takes a cycle, and an interrupt 3: the stop is 3 cycles behind the key, and the second key
+/// is left. Without a key it is the limit, which is below the first step of a timer.
+#[test]
+fn until_the_service_of_a_key(rt: HostRuntime) -> Result<(), Fail> {
+    let idle = "
+4000 14000 TCF 4000
+4024 50017 RESUME";
+    let text = run_to_the_service(&rt, idle, 400, &Open)?;
+    let want = match text.as_str().split_once(" key VERB\n") {
+        Some((before, _)) => {
+            let cycle = before
+                .lines()
+                .last()
+                .unwrap_or("")
+                .parse::<u64>()
+                .unwrap_or(0);
+            let stop = cycle.saturating_add(3);
+            format!(in rt.alloc(); "Reached CYCLE {stop} WRITES 0\n{cycle} key VERB\nREST 1\n")?
+        }
+        None => format!(in rt.alloc(); "Limit CYCLE 400 WRITES 0\nREST 2\n")?,
+    };
+    let want = format!(in rt.alloc(); "PROG __\n{REST}STOP {want}")?;
+    assert!(rt; text.as_str() == want.as_str(), "{text}");
+    Ok(())
+}
+
+/// Holds the machine up before write 1 until a key is in the key ring.
+#[derive(Drop)]
+struct KeyFirst {
+    fed: AtomicBool,
+}
+
+impl Gate for KeyFirst {
+    fn before_send(&self, n: u64) {
+        for _ in 0..1_000_000u32 {
+            if n != 1 || self.fed.load(Ordering::SeqCst) {
+                return;
+            }
+            thread::yield_now();
+        }
+    }
+
+    fn after_receive(&self, _n: u64) {}
+
+    fn key_sent(&self, _n: u64) {
+        self.fed.store(true, Ordering::SeqCst);
+    }
+}
+
+/// With a key at hand before the first block of writes is sent, the run reaches the service, with one
+/// key on the tape. The tape as a script reaches it at the same cycle, after the same writes.
+#[test]
+fn until_the_service_of_a_key_that_comes(rt: HostRuntime) -> Result<(), Fail> {
+    let gate = KeyFirst {
+        fed: AtomicBool::new(false),
+    };
+    let text = run_to_the_service(&rt, KEYED_WRITES, 100_000, &gate)?;
+    let text = text.as_str();
+    assert!(rt; text.contains("STOP Reached CYCLE "), "{text}");
+    let tape = text
+        .lines()
+        .find(|line| line.ends_with(" key VERB"))
+        .unwrap_or("none");
+    let line = "--limit 100000 --log --until 0,4024";
+    let again = run_gated(
+        &rt,
+        without_keys(line, KEYED_WRITES, tape.as_bytes()),
+        &Open,
+    );
+    let shown = String::from_utf8(again.out)?;
+    let want = format!(in rt.alloc(); "{shown}{tape}\nREST 1\n")?;
+    assert!(rt; text == want.as_str(), "{text}");
+    Ok(())
+}

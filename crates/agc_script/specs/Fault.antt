@@ -1,0 +1,144 @@
+-- Which faults a line has, each kind looked at by itself, and which of all faults a script is
+-- refused for.
+use Rattle.std.specs.Prelude.{◌≡◌, ℕ, ◌+◌, ◌-◌, ◌*◌, ◌≤◌, ◌<◌, ◌==◌, nat_lt, nat_le, Bool, true}
+use Rattle.std.specs.Prelude.{false, not, ◌||◌, List, [], ◌∷◌, length, take, Option, Some, None}
+use Rattle.std.specs.Prelude.{is_some, is_none, if◌then◌else◌, codes, slice_index_or}
+use Rattle.std.specs.List.{list_any}
+use Rattle.std.specs.Option.{option_map_or}
+use Rattle.std.specs.Str.{bytes_eq}
+use Rattle.agc_word.specs.Channels.{first_io_channel, last_io_channel}
+use Rattle.agc_word.specs.Numeral.{number_of, octal_number}
+use Rattle.agc_script.specs.Text.{words_of}
+use Rattle.agc_script.specs.Event.{most_events, first_counter, last_counter, last_interrupt}
+use Rattle.agc_script.specs.Event.{last_bank, first_offset, last_offset}
+use Rattle.agc_script.specs.Key.{key_named}
+use Rattle.agc_script.specs.Command.{direction_named, pulse_named, is_within}
+use Rattle.agc_script.specs.Line.{cycle_of, longest_line, is_beyond_ascii}
+use Rattle.agc_script.specs.Said.{spelt_out, cycle_at, timing_of, command_words, last_start}
+use Rattle.agc_script.specs.Said.{events_of_lines}
+use Rattle.agc_script.specs.declared.fault.FaultKind.{FaultKind}
+use Rattle.agc_script.specs.declared.fault.FaultKind.TheVariants.{LineTooLong, NotAscii, BadCycle}
+use Rattle.agc_script.specs.declared.fault.FaultKind.TheVariants.{OutOfOrder, UnknownWord}
+use Rattle.agc_script.specs.declared.fault.FaultKind.TheVariants.{BadNumber, OutOfRange, TooMany}
+use Rattle.agc_script.specs.declared.fault.FaultKind.TheVariants.{Memory}
+use Rattle.agc_script.specs.declared.fault.ScriptFault.{ScriptFault}
+
+-- a number of a command: the word that writes it, its base and its range
+pub record Numeral : Type 0 where
+  pub word : List ℕ
+  pub base : ℕ
+  pub low : ℕ
+  pub high : ℕ
+
+abbrev pub octal : List ℕ → ℕ → ℕ → Numeral
+octal word low high = record { word = word; base = 8; low = low; high = high }
+
+abbrev pub decimal : List ℕ → ℕ → ℕ → Numeral
+decimal word low high = record { word = word; base = 10; low = low; high = high }
+
+-- a word's fifteen bits
+abbrev pub pattern : List ℕ → Numeral
+pattern word = octal word 0 0o77777
+
+-- what the number is, where its word writes one of at most six digits
+abbrev pub value_of : Numeral → Option ℕ
+value_of n = number_of n.base 6 n.word
+
+abbrev pub known_and : {T : Type 0} → (T → Bool) → Option T → Bool
+known_and test value = option_map_or test value false
+
+-- the lowest offset of a poke, as far as its bank is a number
+abbrev pub lowest_offset : Option ℕ → ℕ
+lowest_offset None = 0
+lowest_offset (Some bank) = first_offset bank
+
+abbrev pub where_known : Bool → List Numeral → Option (List Numeral)
+where_known known numbers = if known then Some numbers else None
+
+-- The numbers of a command, where it is known and so are the names among its words, of which there
+-- are as many as there should be.
+unfoldable pub numbers_of : List (List ℕ) → Option (List Numeral)
+numbers_of (name ∷ a ∷ []) =
+    if bytes_eq name (codes "key") then where_known (is_some (key_named a)) []
+    else (if bytes_eq name (codes "pro") then where_known (is_some (direction_named a)) []
+    else where_known (bytes_eq name (codes "raise")) (decimal a 1 last_interrupt ∷ []))
+numbers_of (name ∷ a ∷ b ∷ []) =
+    if bytes_eq name (codes "input")
+    then Some (octal a first_io_channel last_io_channel ∷ pattern b ∷ [])
+    else (if bytes_eq name (codes "pulse")
+    then where_known (is_some (pulse_named b)) (octal a first_counter last_counter ∷ [])
+    else None)
+numbers_of (name ∷ a ∷ b ∷ c ∷ []) =
+    where_known (bytes_eq name (codes "poke"))
+    (octal a 0 last_bank ∷ octal b (lowest_offset (octal_number 6 a)) last_offset ∷ pattern c ∷ [])
+numbers_of words = None
+
+abbrev pub is_no_cycle : List ℕ → Bool
+is_no_cycle word = is_none (cycle_of word)
+
+abbrev pub is_bad : Numeral → Bool
+is_bad n = is_none (value_of n)
+
+abbrev pub is_beyond_range : Numeral → Bool
+is_beyond_range n = known_and (λ value. not (is_within n.low n.high value)) (value_of n)
+
+-- N is 0, or TO comes before FROM
+abbrev pub is_no_span : ℕ × ℕ × ℕ → Bool
+is_no_span t = (t.0 == 0) || nat_lt t.2 t.1
+
+-- after so many events a line goes on as far as event 65,537
+abbrev pub goes_beyond : ℕ → ℕ × ℕ × ℕ → Bool
+goes_beyond before t = nat_le (t.1 + (most_events - before) * t.0) t.2
+
+-- Which kinds of fault an event line has, by its words as they are spelt out.
+unfoldable pub words_have : FaultKind → ℕ → ℕ → List (List ℕ) → Bool
+words_have BadCycle last before words = list_any is_no_cycle (take 3 words)
+words_have OutOfOrder last before words = known_and (λ from. nat_lt from last) (cycle_at 1 words)
+words_have UnknownWord last before words = is_none (numbers_of (command_words words))
+words_have BadNumber last before words =
+    known_and (list_any is_bad) (numbers_of (command_words words))
+words_have OutOfRange last before words =
+    known_and is_no_span (timing_of words)
+    || known_and (list_any is_beyond_range) (numbers_of (command_words words))
+words_have TooMany last before words = known_and (goes_beyond before) (timing_of words)
+words_have kind last before words = false
+
+-- Which kinds of fault a line has. Before it stand so many events, and the last event line started
+-- at `last`.
+unfoldable pub has_fault : FaultKind → ℕ → ℕ → List ℕ → Bool
+has_fault LineTooLong last before line = nat_lt longest_line (length line)
+has_fault NotAscii last before line = list_any is_beyond_ascii line
+has_fault kind last before line =
+    known_and (words_have kind last before) (spelt_out (words_of line))
+
+-- the place of a kind in the list of kinds, of which the lowest is told
+abbrev pub rank : FaultKind → ℕ
+rank LineTooLong = 1
+rank NotAscii = 2
+rank BadCycle = 3
+rank OutOfOrder = 4
+rank UnknownWord = 5
+rank BadNumber = 6
+rank OutOfRange = 7
+rank TooMany = 8
+rank Memory = 9
+
+-- which kinds of fault the n-th line has, counted from 1, behind the lines before it
+unfoldable pub fault_at : List (List ℕ) → ℕ → FaultKind → Bool
+fault_at lines n kind =
+    let before = take (n - 1) lines in
+    has_fault kind (last_start before) (length (events_of_lines before))
+    (slice_index_or lines (n - 1) [])
+
+-- the first so many lines have no fault of any kind
+pub record AreFaultless (lines : List (List ℕ)) (count : ℕ) : Type 0 where
+  pub none : (n : ℕ) (kind : FaultKind) → 1 ≤ n → n ≤ count → fault_at lines n kind ≡ false
+
+-- a fault that its line has, the lowest of that line, with no fault in any line before it
+pub record IsFirstFault (lines : List (List ℕ)) (fault : ScriptFault) : Type 0 where
+  pub has : fault_at lines fault.line fault.kind ≡ true
+  pub lowest : (lower : FaultKind) → rank lower < rank fault.kind
+      → fault_at lines fault.line lower ≡ false
+  pub before : AreFaultless lines (fault.line - 1)
+  pub first : 1 ≤ fault.line
+  pub last : fault.line ≤ length lines

@@ -1,0 +1,87 @@
+-- What a session reports and prints of the files that it is given, or how it refuses.
+use Rattle.std.specs.Prelude.{◌≡◌, ℕ, Bool, true, false, List, ◌++◌, Option, Some, None, Result, Ok}
+use Rattle.std.specs.Prelude.{Err, string_bytes}
+use Rattle.std.specs.declared.alloc.Global.{Global}
+use Rattle.std.specs.declared.string.String.{String}
+use Rattle.std.specs.Io.KnownBytes.{Appends}
+use Rattle.agc_store.specs.RopeFile.{rope_words}
+use Rattle.agc_script.specs.Parse.{script_of}
+use Rattle.agc_script.specs.declared.key.Key.{Key}
+use Rattle.agc_machine.specs.Run.{run_of}
+use Rattle.agc_machine.specs.State.{State, start_state}
+use Rattle.agc_machine.specs.StopAddress.{stop_address_of}
+use Rattle.agc_session.specs.Files.{Files, events_in, keys_steps_where, rope_steps, script_steps}
+use Rattle.agc_session.specs.Keys.{keys_of}
+use Rattle.agc_session.specs.Options.{said_by}
+use Rattle.agc_session.specs.Prepare.{machine_steps, run_steps}
+use Rattle.agc_session.specs.Print.{report_text}
+use Rattle.agc_session.specs.Report.{IsLiveReport, IsReport}
+use Rattle.agc_session.specs.Steps.{Step, IsTold, refusal_in}
+use Rattle.agc_session.specs.declared.options.Options.{Options}
+use Rattle.agc_session.specs.declared.refusal.Refusal.{Refusal}
+use Rattle.agc_session.specs.declared.report.Report.{Report}
+
+-- the steps of a session
+unfoldable pub steps_of : Options → Files → List Step
+steps_of options files =
+    rope_steps options.form files.rope
+    ++ (script_steps files.script
+    ++ (machine_steps options
+    ++ (keys_steps_where options.live files.keys
+    ++ run_steps options)))
+
+-- the machine that the files and the options ask for, at its start
+unfoldable pub machine_of : Options → Files → State
+machine_of options files =
+    start_state (rope_words options.form files.rope) (events_in (script_of files.script))
+    options.limit (said_by stop_address_of options.until)
+
+-- the report of a run without live keys
+abbrev pub IsRunReport : Options → State → Report → Type 0
+IsRunReport options start report = IsReport options (run_of start) None report
+
+-- the report of a run with the live keys of a key text
+abbrev pub IsKeysReport : Options → State → List ℕ → Report → Type 0
+IsKeysReport options start file report =
+    (keys : List Key) × (keys_of file ≡ Some keys) × IsLiveReport options start keys report
+
+-- the report of a run, with live keys or without
+abbrev pub IsReportWhere : Bool → Options → Files → State → Report → Type 0
+IsReportWhere false options files start report = IsRunReport options start report
+IsReportWhere true options files start report = IsKeysReport options start files.keys report
+
+-- what a session reports where nothing is refused
+abbrev pub IsSessionReport : Options → Files → Report → Type 0
+IsSessionReport options files report =
+    IsReportWhere options.live options files (machine_of options files) report
+
+-- what a session prints where nothing is refused: the text of its report
+abbrev pub IsSessionText : Options → Files → List ℕ → Type 0
+IsSessionText options files text =
+    (report : Report) × IsSessionReport options files report × (text ≡ report_text report)
+
+-- nothing is refused
+abbrev pub IsAccepted : Options → Files → Type 0
+IsAccepted options files = refusal_in (steps_of options files) ≡ None
+
+-- What comes of steps: a value as it is to be, where no look refuses, or a refusal that they may
+-- tell.
+abbrev pub ComesOf : {A : Type 0} → List Step → (A → Type 0) → Result A Refusal → Type 0
+ComesOf steps IsRight (Ok value) = (refusal_in steps ≡ None) × IsRight value
+ComesOf steps IsRight (Err r) = IsTold steps r
+
+-- a session's report, or its refusal
+abbrev pub IsReported : Options → Result Report Refusal → Files → Type 0
+IsReported options result files =
+    ComesOf (steps_of options files) (IsSessionReport options files) result
+
+-- a session's text, or its refusal
+abbrev pub IsAnswered : Options → Result (String Global) Refusal → Files → Type 0
+IsAnswered options result files =
+    ComesOf (steps_of options files)
+    (λ text. IsSessionText options files (string_bytes text)) result
+
+-- a session's text was written behind what a stream had
+abbrev pub IsPrinted : Options → Option (List ℕ) → Option (List ℕ) → Files → Type 0
+IsPrinted options old new files =
+    (text : List ℕ) × IsSessionText options files text × Appends old new text

@@ -1,0 +1,79 @@
+//! The places that have a name: cells of the first erasable bank, and where the windows stand.
+
+/// A, the accumulator: sixteen bits, of which the two highest tell overflow.
+pub const A: u16 = 0o0;
+
+/// L, the low register: the lower half of a double word that A begins.
+pub const L: u16 = 0o1;
+
+/// Q, which TC gives the address to return to: sixteen bits.
+pub const Q: u16 = 0o2;
+
+/// EB, the erasable bank register: bits 11 to 9.
+pub const EB: u16 = 0o3;
+
+/// FB, the fixed bank register: bits 15 to 11.
+pub const FB: u16 = 0o4;
+
+/// Z, the address of the next order.
+pub const Z: u16 = 0o5;
+
+/// BB, both bank registers: FB's bits 15 to 11, and EB's bank in bits 3 to 1.
+pub const BB: u16 = 0o6;
+
+/// ZERO, which is +0 whatever is written.
+pub const ZERO: u16 = 0o7;
+
+/// ZRUPT, which keeps Z while an interrupt runs.
+pub const ZRUPT: u16 = 0o15;
+
+/// BRUPT, which keeps the order that an interrupt came before.
+pub const BRUPT: u16 = 0o17;
+
+/// CYR, which turns a word right one place.
+pub const CYR: u16 = 0o20;
+
+/// SR, which shifts a word right one place and keeps the sign.
+pub const SR: u16 = 0o21;
+
+/// CYL, which turns a word left one place.
+pub const CYL: u16 = 0o22;
+
+/// EDOP, which keeps bits 14 to 8 of a word as its bits 7 to 1.
+pub const EDOP: u16 = 0o23;
+
+/// TIME2, the clock's upper word, which counts TIME1's overflows.
+pub const TIME2: u16 = 0o24;
+
+/// TIME1, the clock's lower word, in hundredths of a second.
+pub const TIME1: u16 = 0o25;
+
+/// TIME3, whose overflow asks for T3RUPT: the Waitlist's timer.
+pub const TIME3: u16 = 0o26;
+
+/// TIME4, whose overflow asks for T4RUPT: the timer of the displays.
+pub const TIME4: u16 = 0o27;
+
+/// TIME5, whose overflow asks for T5RUPT: the autopilot's timer.
+pub const TIME5: u16 = 0o30;
+
+/// TIME6, which counts down to T6RUPT in steps of 1/1600 of a second: the jets' timer.
+pub const TIME6: u16 = 0o31;
+
+/// INLINK, into which the uplink shifts its words.
+pub const INLINK: u16 = 0o45;
+
+/// The cells of an erasable bank.
+pub const ERASABLE_BANK_SIZE: u16 = 0o400;
+
+/// The words of a fixed bank.
+pub const FIXED_BANK_SIZE: u16 = 0o2000;
+
+/// The first address of the window onto the erasable bank that EB names.
+pub const ERASABLE_WINDOW: u16 = 0o1400;
+
+/// The first address of the window onto the fixed bank that FB names, and of all fixed memory.
+pub const FIXED_WINDOW: u16 = 0o2000;
+
+/// The first address of fixed-fixed memory: the banks 02 and 03, which are always at hand.
+pub const FIXED_FIXED: u16 = 0o4000;

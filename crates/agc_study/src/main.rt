@@ -1,0 +1,126 @@
+//! `agc-study`: looks inside ropes and runs. `list` prints a rope's words as orders, `weave` makes a
+//! rope of such a text, and `trace` prints what a run does, boundary by boundary.
+#![tactic(auto)]
+
+ghost use Rattle.std.specs.Prelude.{◌≡◌, ◌⊎◌};
+ghost use Rattle.std.specs.Io.KnownBytes.{Keeps};
+
+mod asked;
+mod ropes;
+mod runs;
+#[cfg(test)]
+mod tests;
+mod trouble;
+
+use agc_args::ArgsFault;
+use agc_session::{DONE, InputFile, Refusal, UNWRITTEN, status_of};
+use agc_trace::{TraceFault, trace};
+use asked::{Asked, asked_by};
+use ropes::{list_rope, weave_text};
+use runs::read_machine;
+use std::io::Write;
+use std::process::ExitCode;
+use std::rt::{Env, Files};
+use std::{env, fs, io};
+use trouble::Trouble;
+
+/// The status where nothing is printed: a mistake in the command line, or a file at fault.
+const TROUBLE: u8 = 2;
+
+fn main(rt: HostRuntime) -> ExitCode {
+    let _stand_ins = stand_ins(&rt);
+    let (mut out, mut err) = (rt.stdout(), rt.stderr());
+    ExitCode::from(run(&rt, wanted(&rt), &mut out, &mut err))
+}
+
+/// Three files that can be neither read nor written, which take the numbers of closed standard
+/// streams, so that no file that is opened later does.
+fn stand_ins<R: Files>(rt: &R) -> [io::Result<R::File>; 3] {
+    [fs::open(rt, "/"), fs::open(rt, "/"), fs::open(rt, "/")]
+}
+
+/// What the words of the command line ask for.
+fn wanted<R: Env + AllocGlobal>(rt: &R) -> Result<Asked, ArgsFault> {
+    let alloc = rt.alloc();
+    let words: Vec<String> = match env::args(rt) {
+        Ok(words) => words.collect(alloc)?,
+        Err(error) if error.kind() == io::ErrorKind::OutOfMemory => return Err(ArgsFault::Memory),
+        Err(_) => {
+            let text = String::from_str(alloc, "error: a word of the command line is not text\n")?;
+            return Err(ArgsFault::Command(text));
+        }
+    };
+    let words: Vec<&str> = words.iter().map(|word| word.as_str()).collect(alloc)?;
+    asked_by(alloc, words.as_slice())
+}
+
+/// Does what the command line asks for. With status 0 the answer, or the text of help, stands on
+/// `out` and nothing on `err`; with status 2 one line on `err`, or clap's text of a mistake, and
+/// nothing on `out`. A write that fails gives status 3, and so does a trace that is cut off.
+fn run<R, W: Write, E: Write>(
+    rt: &R,
+    asked: Result<Asked, ArgsFault>,
+    out: &mut W,
+    err: &mut E,
+) -> u8
+where
+    R: Files + AllocGlobal,
+    ensures status { (result ≡ 0) ⊎ ((result ≡ 2) ⊎ (result ≡ 3)) }
+    ensures silent { result ≡ 0 → Keeps (E.contents err.old) (E.contents err.new) }
+    ensures nothing { result ≡ 2 → Keeps (W.contents out.old) (W.contents out.new) }
+{
+    match asked {
+        Ok(Asked::List(listing)) => {
+            let mut rope = InputFile::new(fs::open(rt, listing.rope.as_str()));
+            match list_rope(rt.alloc(), listing.form, &listing.bank, &mut rope) {
+                Ok(text) => status_of(DONE, out.write_all(text.as_bytes())),
+                Err(trouble) => status_of(TROUBLE, trouble.write_to(err)),
+            }
+        }
+        Ok(Asked::Weave(weaving)) => {
+            let mut text = InputFile::new(fs::open(rt, weaving.text.as_str()));
+            match weave_text(rt.alloc(), weaving.form, &mut text) {
+                Ok(bytes) => status_of(DONE, out.write_all(bytes.as_slice())),
+                Err(trouble) => status_of(TROUBLE, trouble.write_to(err)),
+            }
+        }
+        Ok(Asked::Trace(asked)) => {
+            let mut rope = InputFile::new(fs::open(rt, asked.rope.as_str()));
+            let mut script = InputFile::new(fs::open(rt, asked.script.as_str()));
+            let alloc = rt.alloc();
+            match read_machine(
+                alloc,
+                asked.form,
+                asked.limit,
+                &asked.until,
+                &mut rope,
+                &mut script,
+            ) {
+                Ok(mut machine) => {
+                    status_of_trace(trace(alloc, &mut machine, asked.from, asked.to, out), err)
+                }
+                Err(trouble) => status_of(TROUBLE, trouble.write_to(err)),
+            }
+        }
+        Err(ArgsFault::Help(text)) => status_of(DONE, out.write_all(text.as_bytes())),
+        Err(ArgsFault::Command(text)) => status_of(TROUBLE, err.write_all(text.as_bytes())),
+        Err(ArgsFault::Memory) => {
+            status_of(TROUBLE, Trouble::Refused(Refusal::Memory).write_to(err))
+        }
+    }
+}
+
+/// The status of a trace: one that is cut off is not whole, whatever stands there already.
+fn status_of_trace<E: Write>(traced: Result<(), TraceFault>, err: &mut E) -> u8
+    ensures status { (result ≡ 0) ⊎ (result ≡ 3) }
+    ensures silent { result ≡ 0 → Keeps (E.contents err.old) (E.contents err.new) }
+{
+    match traced {
+        Ok(()) => DONE,
+        Err(TraceFault::Write) => UNWRITTEN,
+        Err(TraceFault::Memory) => {
+            let _told = Trouble::Refused(Refusal::Memory).write_to(err);
+            UNWRITTEN
+        }
+    }
+}

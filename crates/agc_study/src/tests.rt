@@ -1,0 +1,143 @@
+//! The program on its command lines, over files that are not there; `examples/study` runs it on files.
+use crate::asked::asked_by;
+use crate::ropes::{list_rope, weave_text};
+use crate::run;
+use crate::trouble::Trouble;
+use agc_rope_text::{LineFault, WeaveFault};
+use agc_session::Refusal;
+use agc_store::{RopeFault, RopeForm};
+use std::process::Abort;
+use std::rt::Files;
+use std::test::Fail;
+
+/// How the program ends on this command line.
+#[derive(Drop)]
+struct Ended {
+    status: u8,
+    out: String,
+    err: String,
+}
+
+fn program(rt: &(impl AllocGlobal + Files + Abort), line: &str) -> Ended {
+    let mut words = Vec::new(rt.alloc());
+    for word in line.split(' ') {
+        words.push(word).expect(rt, "memory");
+    }
+    let asked = asked_by(rt.alloc(), words.as_slice());
+    let mut out = Vec::new(rt.alloc());
+    let mut err = Vec::new(rt.alloc());
+    let status = run(rt, asked, &mut out, &mut err);
+    Ended {
+        status,
+        out: String::from_utf8(out).ok().expect(rt, "text"),
+        err: String::from_utf8(err).ok().expect(rt, "text"),
+    }
+}
+
+/// Help names the subcommands, and each of them its files and options.
+#[test]
+fn help(rt: HostRuntime) {
+    for (line, word) in [
+        ("agc-study --help", "list"),
+        ("agc-study --help", "weave"),
+        ("agc-study list --help", "ROPE"),
+        ("agc-study list --help", "--bank"),
+        ("agc-study list -h", "--form"),
+        ("agc-study weave --help", "FILE"),
+        ("agc-study weave --help", "--form"),
+        ("agc-study trace --help", "SCRIPT"),
+        ("agc-study trace --help", "--until"),
+    ] {
+        let ended = program(&rt, line);
+        assert_eq!(rt; ended.status, 0, "{line}");
+        assert!(rt; ended.out.as_str().contains(word), "{word} in {line}");
+        assert!(rt; ended.err.is_empty(), "{line}");
+    }
+}
+
+/// Mistakes in the command line have status 2, and nothing stands on standard output.
+#[test]
+fn mistakes(rt: HostRuntime) {
+    for line in [
+        "agc-study",
+        "agc-study lists",
+        "agc-study list",
+        "agc-study list rope more",
+        "agc-study list rope --form other",
+        "agc-study weave",
+        "agc-study weave text --bank 02",
+        "agc-study trace rope script",
+        "agc-study trace rope --limit 10",
+        "agc-study trace rope script --limit ten",
+    ] {
+        let ended = program(&rt, line);
+        assert_eq!(rt; ended.status, 2, "{line}");
+        assert!(rt; ended.out.is_empty(), "{line}");
+        assert!(rt; !ended.err.is_empty(), "{line}");
+    }
+}
+
+/// Files that are not there, and a bank that no rope has, which is looked at first.
+#[test]
+fn troubles(rt: HostRuntime) {
+    for (line, told) in [
+        ("agc-study list nothing", "agc-study: cannot read rope\n"),
+        ("agc-study weave nothing", "agc-study: cannot read text\n"),
+        (
+            "agc-study trace nothing nothing --limit 10",
+            "agc-study: cannot read rope\n",
+        ),
+        (
+            "agc-study list nothing --bank 44",
+            "agc-study: bank: BadSpec\n",
+        ),
+        (
+            "agc-study list nothing --bank=8",
+            "agc-study: bank: BadSpec\n",
+        ),
+    ] {
+        let ended = program(&rt, line);
+        assert_eq!(rt; ended.status, 2, "{line}");
+        assert!(rt; ended.out.is_empty(), "{line}");
+        assert_eq!(rt; ended.err.as_str(), told, "{line}");
+    }
+}
+
+/// A rope of ten bytes, and one that ends within a word.
+#[test]
+fn a_rope_is_listed(rt: HostRuntime) -> Result<(), Fail> {
+    let alloc = rt.alloc();
+    let mut rope: &[u8] = &[0x70, 0x08, 0x00, 0x0C];
+    let text = list_rope(alloc, RopeForm::Classic, &None, &mut rope)
+        .ok()
+        .ok_or("a text")?;
+    assert_eq!(rt;
+        text.as_str(),
+        "02,4000 34004 CA 4004\n02,4001 00006 EXTEND\n"
+    );
+    let mut odd: &[u8] = &[0x70];
+    let refused = list_rope(alloc, RopeForm::Classic, &None, &mut odd);
+    assert_eq!(rt;
+        refused.err(),
+        Some(Trouble::Refused(Refusal::Rope(RopeFault::OddLength)))
+    );
+    Ok(())
+}
+
+/// A text of one word, and one at fault.
+#[test]
+fn a_text_is_woven(rt: HostRuntime) -> Result<(), Fail> {
+    let alloc = rt.alloc();
+    let mut text: &[u8] = b"4000 34004 CA 4004";
+    let file = weave_text(alloc, RopeForm::Classic, &mut text)
+        .ok()
+        .ok_or("a file")?;
+    assert!(rt; file.as_slice() == [0x70, 0x08].as_slice());
+    let mut faulty: &[u8] = b"4000 34004\n4001";
+    let refused = weave_text(alloc, RopeForm::Classic, &mut faulty);
+    assert_eq!(rt;
+        refused.err(),
+        Some(Trouble::Text(WeaveFault::Line(2, LineFault::BadWord)))
+    );
+    Ok(())
+}

@@ -1,0 +1,62 @@
+//! What the program says where it cannot do what was asked for: one line.
+ghost use Rattle.std.specs.Prelude.{◌≡◌, OnOk};
+ghost use Rattle.std.specs.Io.KnownBytes.{Appends};
+ghost use Rattle.agc_study.specs.Trouble.{line_fault_name, trouble_line};
+
+use agc_rope_text::{LineFault, WeaveFault};
+use agc_session::Refusal;
+use std::fmt;
+use std::io::{self, Write};
+
+/// Why nothing is printed.
+#[derive(Clone, Copy, Debug, PartialEq, Eq)]
+pub enum Trouble {
+    /// `agc` refuses this too: a rope at fault, or no memory.
+    Refused(Refusal),
+    /// The text file cannot be opened or read, or has more than 16,777,216 bytes.
+    CannotReadText,
+    /// The text is no rope's.
+    Text(WeaveFault),
+    /// The text of `--bank` is no bank.
+    BadBankSpec,
+}
+
+impl Trouble {
+    /// Writes the line of this trouble.
+    pub fn write_to<W: Write>(self, err: &mut W) -> io::Result<()>
+        ensures { OnOk result
+            (Appends (W.contents err.old) (W.contents err.new) (trouble_line self)) }
+    {
+        writeln!(err, "agc-study: {self}")
+    }
+}
+
+impl fmt::Display for Trouble {
+    ghost use Rattle.std.specs.Prelude.{Some};
+    ghost use Rattle.agc_study.specs.Trouble.{trouble_text};
+
+    ghost output = { λ t. Some (trouble_text t) };
+
+    fn fmt<W: fmt::Write>(&self, f: &mut fmt::Formatter<W>) -> fmt::Result {
+        match *self {
+            Trouble::Refused(refusal) => write!(f, "{refusal}"),
+            Trouble::CannotReadText => f.write_str("cannot read text"),
+            Trouble::Text(WeaveFault::Line(line, fault)) => {
+                write!(f, "text line {line}: {}", line_fault_name(fault))
+            }
+            Trouble::Text(WeaveFault::Memory) => f.write_str("memory"),
+            Trouble::BadBankSpec => f.write_str("bank: BadSpec"),
+        }
+    }
+}
+
+fn line_fault_name(fault: LineFault) -> &'static str
+    ensures { result.now ≡ line_fault_name fault }
+{
+    match fault {
+        LineFault::NotText => "NotText",
+        LineFault::BadAddress => "BadAddress",
+        LineFault::BadWord => "BadWord",
+        LineFault::NamedTwice => "NamedTwice",
+    }
+}

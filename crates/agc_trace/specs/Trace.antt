@@ -1,0 +1,47 @@
+-- The trace: an entry for each boundary of the chain without live keys, up to the stop.
+use Rattle.std.specs.Prelude.{ℕ, zero, suc, ◌+◌, ◌&&◌, Bool, true, false, List, [], ◌∷◌, filter, flat_map, Option, Some, None, nat_le, if◌then◌else◌}
+use Rattle.agc_machine.specs.Boundary.{boundary}
+use Rattle.agc_machine.specs.Run.{boundaries_left}
+use Rattle.agc_machine.specs.State.{State}
+use Rattle.agc_machine.specs.Upcoming.{upcoming_of}
+use Rattle.agc_machine.specs.declared.answer.Stop.{Stop}
+use Rattle.agc_machine.specs.declared.upcoming.Upcoming.{Upcoming}
+use Rattle.agc_machine.specs.declared.upcoming.Upcoming.TheVariants as upcoming
+use Rattle.agc_trace.specs.Entry.{entry_of}
+use Rattle.agc_trace.specs.Line.{line_of}
+use Rattle.agc_trace.specs.declared.entry.Entry.{Entry}
+
+-- a stop, with which a trace ends
+abbrev pub is_stop : Upcoming → Bool
+is_stop (upcoming.Stop why) = true
+is_stop (upcoming.Event what) = false
+is_stop (upcoming.Timer t) = false
+is_stop (upcoming.Interrupt r) = false
+is_stop (upcoming.Order order) = false
+
+-- the entries of so many boundaries, of which there are enough
+unfoldable pub trace_within : ℕ → State → List Entry
+trace_within zero s = []
+trace_within (suc more) s =
+    entry_of s ∷ (if is_stop (upcoming_of s) then [] else trace_within more (boundary None s).0)
+
+-- No trace has more entries than this: a machine that has stopped has its stop to tell, and any
+-- other one boundary more than it may have left.
+abbrev pub entries_unless : Option Stop → State → ℕ
+entries_unless (Some why) s = 1
+entries_unless None s = boundaries_left s + 1
+
+unfoldable pub entries_left : State → ℕ
+entries_left s = entries_unless s.stopped s
+
+-- the trace from a state on: the last entry is the stop
+unfoldable pub trace_of : State → List Entry
+trace_of s = trace_within (entries_left s) s
+
+-- an entry whose boundary begins at a cycle of a range
+abbrev pub is_between : ℕ → ℕ → Entry → Bool
+is_between from to entry = nat_le from entry.cycle && nat_le entry.cycle to
+
+-- the lines of the entries in a range of cycles
+unfoldable pub lines_between : ℕ → ℕ → List Entry → List ℕ
+lines_between from to entries = flat_map line_of (filter (is_between from to) entries)

@@ -1,0 +1,12 @@
+//! The trace of a run: what each boundary did, as values and as lines.
+#![tactic(auto)]
+
+mod entry;
+mod line;
+#[cfg(test)]
+mod tests;
+mod tracing;
+
+pub use entry::{Entry, Registers, next_entry};
+pub use line::push_line;
+pub use tracing::{TraceFault, trace};

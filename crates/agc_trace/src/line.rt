@@ -1,0 +1,247 @@
+//! An entry of the trace as a line.
+ghost use Rattle.std.specs.Prelude.{◌≡◌, ◌++◌, ◌<◌, OnOk, codes, string_bytes};
+ghost use Rattle.agc_store.specs.Places.{fixed_window};
+ghost use Rattle.agc_machine.specs.Upcoming.{HasPlace};
+ghost use Rattle.agc_rope_text.specs.Place.{IsInPrint};
+ghost use Rattle.agc_trace.specs.Entry.{FitsLine, FitsWrite};
+ghost use Rattle.agc_trace.specs.Line.{
+  event_text,
+  happening_text,
+  interrupt_name,
+  line_of,
+  order_place,
+  pro_name,
+  pulse_name,
+  reason_name,
+  registers_text,
+  shown_text,
+  timer_name,
+  word_digits,
+};
+
+use crate::entry::{Entry, Registers};
+use agc_machine::{ChannelWrite, InHand, Stop, Upcoming};
+use agc_processor::{Rupt, Timer};
+use agc_rope_text::{Place, push_order, push_place};
+use agc_script::What;
+use agc_store::Addr;
+use agc_word::{Narrow, Pulse};
+use std::alloc::AllocError;
+
+/// Adds the line of an entry: `CYCLE PLACE WORD ORDER operand | A .. FB ff`, with ` > ccc vvvvv`
+/// before the bar for a channel write, and `- event ..`, `- timer ..`, `- interrupt ..` or
+/// `- stop ..` where no order ran. Fails where memory runs out.
+#[tactic(auto, unfolding(crate::specs::Line::line_of))]
+pub fn push_line(text: &mut String, entry: &Entry) -> Result<(), AllocError>
+    requires { FitsLine entry.now }
+    ensures { OnOk result (string_bytes text.new ≡ string_bytes text.old ++ line_of entry.now) }
+{
+    let cycle = entry.cycle;
+    write!(text, "{cycle} ")?;
+    push_happening(text, entry.happening)?;
+    push_write(text, entry.write)?;
+    text.push_str(" | ")?;
+    push_registers(text, entry.registers)?;
+    text.push_str("\n")
+}
+
+/// Adds what happened.
+#[tactic(auto, unfolding(crate::specs::Line::happening_text))]
+fn push_happening(text: &mut String, happening: Upcoming) -> Result<(), AllocError>
+    requires { HasPlace happening }
+    ensures { OnOk result
+        (string_bytes text.new ≡ string_bytes text.old ++ happening_text happening) }
+{
+    match happening {
+        Upcoming::Order(order) => push_in_hand(text, order),
+        Upcoming::Event(what) => {
+            text.push_str("- event ")?;
+            push_event(text, what)
+        }
+        Upcoming::Timer(timer) => {
+            text.push_str("- timer ")?;
+            text.push_str(timer_name(timer))
+        }
+        Upcoming::Interrupt(rupt) => {
+            text.push_str("- interrupt ")?;
+            text.push_str(interrupt_name(rupt))
+        }
+        Upcoming::Stop(why) => {
+            text.push_str("- stop ")?;
+            text.push_str(reason_name(why))
+        }
+    }
+}
+
+/// Adds an order with its place and its word.
+#[tactic(auto, unfolding(crate::specs::Line::happening_text))]
+fn push_in_hand(text: &mut String, order: InHand) -> Result<(), AllocError>
+    requires { HasPlace (Upcoming.Order order) }
+    ensures { OnOk result
+        (string_bytes text.new ≡ string_bytes text.old ++ happening_text (Upcoming.Order order)) }
+{
+    let InHand {
+        bank,
+        address,
+        word,
+        extracode,
+    } = order;
+    let place = order_place(bank, address);
+    push_place(text, place)?;
+    push_word(text, word)?;
+    push_order(text, extracode, word)
+}
+
+/// Adds a word between spaces.
+fn push_word(text: &mut String, word: Narrow) -> Result<(), AllocError>
+    ensures { OnOk result (string_bytes text.new
+        ≡ string_bytes text.old ++ codes " " ++ word_digits word ++ codes " ") }
+{
+    write!(text, " {word} ")
+}
+
+/// The place of an order.
+fn order_place(bank: u8, address: Addr) -> Place
+    requires bank { bank < 0o50 }
+    requires erasable { address < fixed_window → bank < 0o10 }
+    ensures place { result ≡ order_place bank address }
+    ensures range { IsInPrint result }
+{
+    let address = address.bits();
+    match address {
+        0o1400..0o2000 => Place::Erasable { bank, address },
+        0o2000..0o4000 => Place::Fixed { bank, address },
+        _ => Place::Plain(address),
+    }
+}
+
+/// Adds an event as a script names it.
+#[tactic(auto, unfolding(crate::specs::Line::event_text))]
+fn push_event(text: &mut String, what: What) -> Result<(), AllocError>
+    ensures { OnOk result (string_bytes text.new ≡ string_bytes text.old ++ event_text what) }
+{
+    match what {
+        What::Key(key) => {
+            text.push_str("key ")?;
+            text.push_str(key.name())
+        }
+        What::Pro(down) => {
+            text.push_str("pro ")?;
+            text.push_str(pro_name(down))
+        }
+        What::Input { channel, value } => write!(text, "input {channel:o} {value}"),
+        What::Pulse { counter, kind } => {
+            write!(text, "pulse {counter:o} ")?;
+            text.push_str(pulse_name(kind))
+        }
+        What::Raise(number) => write!(text, "raise {number}"),
+        What::Poke {
+            bank,
+            offset,
+            value,
+        } => write!(text, "poke {bank:o} {offset:o} {value}"),
+    }
+}
+
+/// Adds a channel write, where there is one.
+fn push_write(text: &mut String, write: Option<ChannelWrite>) -> Result<(), AllocError>
+    requires { FitsWrite write }
+    ensures { OnOk result (string_bytes text.new ≡ string_bytes text.old ++ shown_text write) }
+{
+    match write {
+        Some(write) => {
+            let channel = write.channel;
+            let value = write.value;
+            write!(text, " > {channel:03o} {value}")
+        }
+        None => Ok(()),
+    }
+}
+
+/// Adds the registers.
+#[tactic(auto, unfolding(crate::specs::Line::registers_text))]
+fn push_registers(text: &mut String, registers: Registers) -> Result<(), AllocError>
+    requires erasable { registers.erasable_bank < 0o10 }
+    requires fixed { registers.fixed_bank < 0o100 }
+    ensures { OnOk result
+        (string_bytes text.new ≡ string_bytes text.old ++ registers_text registers) }
+{
+    let Registers {
+        a,
+        l,
+        q,
+        z,
+        erasable_bank,
+        fixed_bank,
+    } = registers;
+    let z = z.bits();
+    write!(
+        text,
+        "A {a} L {l} Q {q} Z {z:04o} EB {erasable_bank:01o} FB {fixed_bank:02o}"
+    )
+}
+
+/// The name of a stop.
+fn reason_name(why: Stop) -> &'static str
+    ensures { result.now ≡ reason_name why }
+{
+    match why {
+        Stop::Limit => "Limit",
+        Stop::DivisionUndefined => "DivisionUndefined",
+        Stop::Edrupt => "Edrupt",
+        Stop::Reached => "Reached",
+    }
+}
+
+/// The name of a timer.
+fn timer_name(timer: Timer) -> &'static str
+    ensures { result.now ≡ timer_name timer }
+{
+    match timer {
+        Timer::Time1 => "TIME1",
+        Timer::Time3 => "TIME3",
+        Timer::Time4 => "TIME4",
+        Timer::Time5 => "TIME5",
+        Timer::Time6 => "TIME6",
+    }
+}
+
+/// The name of an interrupt.
+fn interrupt_name(rupt: Rupt) -> &'static str
+    ensures { result.now ≡ interrupt_name rupt }
+{
+    match rupt {
+        Rupt::T6rupt => "T6RUPT",
+        Rupt::T5rupt => "T5RUPT",
+        Rupt::T3rupt => "T3RUPT",
+        Rupt::T4rupt => "T4RUPT",
+        Rupt::Keyrupt1 => "KEYRUPT1",
+        Rupt::Keyrupt2 => "KEYRUPT2",
+        Rupt::Uprupt => "UPRUPT",
+        Rupt::Downrupt => "DOWNRUPT",
+        Rupt::Radarupt => "RADARUPT",
+        Rupt::Rupt10 => "RUPT10",
+    }
+}
+
+/// A pulse as scripts name it.
+fn pulse_name(kind: Pulse) -> &'static str
+    ensures { result.now ≡ pulse_name kind }
+{
+    match kind {
+        Pulse::Pinc => "pinc",
+        Pulse::Minc => "minc",
+        Pulse::Dinc => "dinc",
+        Pulse::Pcdu => "pcdu",
+        Pulse::Mcdu => "mcdu",
+        Pulse::Shinc => "shinc",
+        Pulse::Shanc => "shanc",
+    }
+}
+
+/// The direction of the PRO key, as scripts name it.
+fn pro_name(down: bool) -> &'static str
+    ensures { result.now ≡ pro_name down }
+{
+    if down { "down" } else { "up" }
+}
