@@ -3,6 +3,7 @@ use Rattle.std.proofs.Common.{◌≡◌, ℕ, Bool, true, false, Option, Some, N
 use Rattle.std.specs.Prelude.{if◌then◌else◌}
 use Rattle.agc_word.specs.Channels.{is_io_channel}
 use Rattle.agc_word.specs.Number.{Number}
+use Rattle.agc_order.specs.Order.{is_extend, is_extracode_index}
 use Rattle.agc_order.specs.declared.order.Basic.{Basic}
 use Rattle.agc_order.specs.declared.order.Basic.TheVariants as basic
 use Rattle.agc_order.specs.declared.order.Extracode.{Extracode}
@@ -14,7 +15,7 @@ use Rattle.agc_processor.specs.Effect.{basic_effect, extracode_effect, order_eff
 use Rattle.agc_processor.specs.Processor.{fetched, plain, a_of}
 use Rattle.agc_processor.specs.Channel.{write_order, wand_order, wor_order}
 use Rattle.agc_processor.specs.Extra.{dv_of}
-use Rattle.agc_laws.specs.Leaves.{Leaves, extends, is_extend, is_index}
+use Rattle.agc_laws.specs.Leaves.{Leaves, extends}
 
 branches_leave : (test : Bool) (p : Processor) → Leaves false (branches test p)
 unfolding fetched
@@ -40,7 +41,7 @@ unfolding basic_effect fetched
 basic_leaves basic.Extend p = refl
 basic_leaves o p = refl
 
-extracode_leaves : (o : Extracode) (c : ℕ) (p : Processor) → Leaves (is_index o) (extracode_effect o c p)
+extracode_leaves : (o : Extracode) (c : ℕ) (p : Processor) → Leaves (is_extracode_index o) (extracode_effect o c p)
 unfolding extracode_effect fetched
 extracode_leaves extra.Write c p = shows_leave (channel_number p) (write_order c (channel_number p) p)
 extracode_leaves extra.Wand c p = shows_leave (channel_number p) (wand_order c (channel_number p) p)
@@ -52,7 +53,7 @@ extracode_leaves extra.Bzmf c p = branches_leave (is_minus_or_plus_zero (a_of p)
 extracode_leaves o c p = refl
 
 by_state : (extracode : Bool) (o : Basic) (x : Extracode) (c : ℕ) (p : Processor)
-    → Leaves (if extracode then is_index x else is_extend o) (if extracode then extracode_effect x c p else basic_effect o p)
+    → Leaves (if extracode then is_extracode_index x else is_extend o) (if extracode then extracode_effect x c p else basic_effect o p)
 by_state true o x c p = extracode_leaves x c p
 by_state false o x c p = basic_leaves o p
 

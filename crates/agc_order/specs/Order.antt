@@ -1,5 +1,5 @@
 -- The orders, and which order a word names.
-use Rattle.std.specs.Prelude.{ℕ, List, [], ◌∷◌, nat_le, if◌then◌else◌}
+use Rattle.std.specs.Prelude.{ℕ, Bool, true, false, List, [], ◌∷◌, nat_le, if◌then◌else◌}
 use Rattle.agc_order.specs.declared.order.Basic.{Basic}
 use Rattle.agc_order.specs.declared.order.Basic.TheVariants as basic
 use Rattle.agc_order.specs.declared.order.Extracode.{Extracode}
@@ -74,3 +74,13 @@ basic_of word = last_row word basic.Tc basic_orders
 -- the extracode that a word names, after EXTEND and after the extracode INDEX
 unfoldable pub extracode_of : ℕ → Extracode
 extracode_of word = last_row word extra.Read extracodes
+
+-- Of the basic orders EXTEND alone makes the next order an extracode, and of the extracodes INDEX
+-- alone.
+abbrev pub is_extend : Basic → Bool
+is_extend basic.Extend = true
+is_extend _ = false
+
+abbrev pub is_extracode_index : Extracode → Bool
+is_extracode_index extra.Index = true
+is_extracode_index _ = false

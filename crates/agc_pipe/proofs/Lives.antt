@@ -1,6 +1,6 @@
 -- A live run that is being sent: its writes so far were sent, and at its stop all of them.
 use Rattle.std.proofs.Common.{◌≡◌, ℕ, ◌<◌, ◌⊎◌, List, [], ◌∷◌, ◌++◌, refl, ap, sym, ◌∙◌, subst, append-nil, inl}
-use Rattle.std.specs.Prelude.{Some, All, Result, Ok, Err, IfErr, IsErrOf, ◌↔◌}
+use Rattle.std.specs.Prelude.{Some, All, Result, Ok, Err, IfErr}
 use Rattle.agc_script.specs.declared.key.Key.{Key}
 use Rattle.agc_machine.specs.Laws.{KeepsStop}
 use Rattle.agc_machine.specs.Live.{IsLive}
@@ -101,13 +101,3 @@ pub memory_or_thread : {A : Type 0} → (r : Result A ShowFault) → IfErr r (λ
     IfErr r (λ why. (why ≡ fault.Memory) ⊎ (why ≡ fault.Thread))
 memory_or_thread (Ok a) h = tt
 memory_or_thread (Err why) h = inl h
-
-err_parts : {A : Type 0} → (why other : ShowFault) → IsErrOf {T = A} (Err why) other → why ≡ other
-err_parts why other e = cc
-
--- a fault handed on is the same of another result
-pub handed_on : {A B : Type 0} → (why other : ShowFault) → (P : Type 0) → (IsErrOf {T = A} (Err why) other ↔ P) → (IsErrOf {T = B} (Err why) other ↔ P)
-handed_on {A} {B} why other P h = (
-  λ e. h.0 (ap (λ (w : ShowFault). Err w) (err_parts {A = B} why other e)),
-  λ p. ap (λ (w : ShowFault). Err w) (err_parts {A = A} why other (h.1 p)),
-)

@@ -12,14 +12,16 @@ mod ring;
 mod sender;
 mod sending;
 mod shown;
+mod slots;
 #[cfg(test)]
 mod tests;
 
 pub use agc_gate::{Gate, Open};
 pub use item::{BLOCK, Item};
-pub use live::{Live, run_live};
+pub use live::{Live, run_live, show_live_run};
 pub use receiver::Receiver;
 pub use rest::{Rest, rejoin};
-pub use ring::{LinkFault, MOST_SLOTS, link};
+pub use ring::{LinkFault, link};
 pub use sender::Sender;
-pub use shown::{ShowFault, Shown, run_shown};
+pub use shown::{ShowFault, Shown, run_shown, show_run};
+pub use slots::{MOST_SLOTS, Slots, Spacing};

@@ -17,9 +17,9 @@ use crate::display::{Taken, take_all};
 use crate::keys::{KeyFeed, KeyTaker, link_keys, part_keys};
 use crate::live_sending::{LiveSent, send_live_run};
 use crate::receiver::Receiver;
-use crate::ring::MOST_SLOTS;
 use crate::sender::Sender;
 use crate::shown::{ShowFault, Shown, link_shown, put_together};
+use crate::slots::{Slots, Spacing};
 use agc_gate::Gate;
 use agc_machine::Machine;
 use agc_script::{Key, Tape};
@@ -85,34 +85,49 @@ pub fn run_live<R: Threads + Wait + Sync, G: Gate + Sync>(
     ensures spacing { IsErrOf result fault.Spacing
         ↔ ((spacing ≡ 0) × (0 < slots) × (slots ≤ 65536)) }
 {
-    if slots == 0 || slots > MOST_SLOTS {
+    let Ok(slots) = Slots::new(slots) else {
         return Err(ShowFault::Slots);
-    }
-    if spacing == 0 {
+    };
+    let Some(spacing) = Spacing::new(spacing) else {
         return Err(ShowFault::Spacing);
-    }
+    };
+    show_live_run(rt, alloc, machine, keys, spacing, slots, gate)
+}
+
+/// What `run_live` does, for slots and a spacing that were looked at: it is refused for want of
+/// memory or of a thread alone.
+pub fn show_live_run<R: Threads + Wait + Sync, G: Gate + Sync>(
+    rt: &R,
+    alloc: Global,
+    machine: Machine,
+    keys: Vec<Key>,
+    spacing: Spacing,
+    slots: Slots,
+    gate: &G,
+) -> Result<Live, ShowFault>
+    requires { machine.begun ≡ false }
+    ensures live { IfOk result (ShowsLive machine spacing keys.items) }
+    ensures fault { IfErr result (λ why. (why ≡ fault.Memory) ⊎ (why ≡ fault.Thread)) }
+{
     let at_start = machine.fresh();
     prove!(at_start);
-    let (sender, receiver) = match link_shown(alloc, slots) {
-        Ok(ends) => ends,
-        Err(why) => return Err(why),
-    };
-    let (feed, taker) = match link_fed(alloc, keys, spacing) {
-        Ok(ends) => ends,
-        Err(why) => return Err(why),
-    };
+    let (sender, receiver) = link_shown(alloc, slots)?;
+    let (feed, taker) = link_fed(alloc, keys, spacing)?;
     show_live_between(rt, alloc, machine, gate, sender, receiver, feed, taker)
 }
 
 /// The two ends of a new key ring for a live run.
-fn link_fed(alloc: Global, keys: Vec<Key>, spacing: u64) -> Result<(KeyFeed, KeyTaker), ShowFault>
-    requires { 0 < spacing }
+fn link_fed(
+    alloc: Global,
+    keys: Vec<Key>,
+    spacing: Spacing,
+) -> Result<(KeyFeed, KeyTaker), ShowFault>
     ensures ring { IfOk result (λ ends. ends.0.ring ≡ ends.1.ring) }
     ensures keys { IfOk result (λ ends. ends.0.keys ≡ keys.items) }
     ensures taker { IfOk result (λ ends. (ends.1.spacing ≡ spacing) × (ends.1.tape ≡ [])) }
     ensures fault { IfErr result (λ why. why ≡ fault.Memory) }
 {
-    match link_keys(alloc, keys, spacing) {
+    match link_keys(alloc, keys, spacing.cycles()) {
         Ok(ends) => Ok(ends),
         Err(_) => Err(ShowFault::Memory),
     }

@@ -1,16 +1,14 @@
 //! Making a ring.
-ghost use Rattle.std.specs.Prelude.{◌≡◌, ◌<◌, ◌↔◌, [], IfOk, IsErrOf};
+ghost use Rattle.std.specs.Prelude.{◌≡◌, ◌<◌, ◌↔◌, [], IfOk, IfErr, IsErrOf};
 ghost use Rattle.agc_pipe.specs.declared.ring.LinkFault.TheVariants as fault;
 
 use crate::item::{Item, Outside};
 use crate::receiver::Receiver;
 use crate::sender::Sender;
+use crate::slots::Slots;
 use rtrb::RingBuffer;
 use std::alloc::Global;
 use thiserror::Error;
-
-/// The most items that a ring may hold.
-pub const MOST_SLOTS: usize = 65_536;
 
 /// Why there is no ring.
 #[derive(Clone, Copy, Debug, Error, PartialEq, Eq)]
@@ -31,13 +29,17 @@ pub fn link(alloc: Global, slots: usize) -> Result<(Sender, Receiver), LinkFault
     ensures no_slots { IsErrOf result fault.NoSlots ↔ (slots ≡ 0) }
     ensures too_many { IsErrOf result fault.TooManySlots ↔ (65536 < slots) }
 {
-    if slots == 0 {
-        return Err(LinkFault::NoSlots);
-    }
-    if slots > MOST_SLOTS {
-        return Err(LinkFault::TooManySlots);
-    }
-    match RingBuffer::with_protocol::<Global, Outside>(alloc, slots) {
+    link_of(alloc, Slots::new(slots)?)
+}
+
+/// The two ends of a new ring of slots that were looked at; its only fault is `Memory`.
+pub(crate) fn link_of(alloc: Global, slots: Slots) -> Result<(Sender, Receiver), LinkFault>
+    ensures ring { IfOk result (λ ends. ends.0.ring ≡ ends.1.ring) }
+    ensures sender { IfOk result (λ ends. (ends.0.slots ≡ slots) × (ends.0.sent ≡ [])) }
+    ensures receiver { IfOk result (λ ends. ends.1.received ≡ []) }
+    ensures fault { IfErr result (λ why. why ≡ fault.Memory) }
+{
+    match RingBuffer::with_protocol::<Global, Outside>(alloc, slots.count()) {
         Ok((producer, consumer)) => Ok((Sender { producer }, Receiver { consumer })),
         Err(_) => Err(LinkFault::Memory),
     }

@@ -11,9 +11,10 @@ use crate::display::{Screen, Taken, take_all};
 use crate::keys::NoKeys;
 use crate::receiver::Receiver;
 use crate::rest::rejoin;
-use crate::ring::{LinkFault, link};
+use crate::ring::link_of;
 use crate::sender::Sender;
 use crate::sending::{Sent, send_run};
+use crate::slots::Slots;
 use agc_gate::Gate;
 use agc_machine::{ChannelWrite, Machine, Stop};
 use agc_panel::Panel;
@@ -86,24 +87,39 @@ pub fn run_shown<R: Threads + Wait + Sync, G: Gate + Sync>(
     ensures slots { IsErrOf result fault.Slots ↔ ((slots ≡ 0) ⊎ (65536 < slots)) }
     ensures spacing { result ≢ Err fault.Spacing }
 {
-    match link_shown(alloc, slots) {
-        Ok((sender, receiver)) => show_between(rt, alloc, machine, gate, sender, receiver),
-        Err(why) => Err(why),
+    match Slots::new(slots) {
+        Ok(slots) => show_run(rt, alloc, machine, slots, gate),
+        Err(_) => Err(ShowFault::Slots),
     }
 }
 
+/// What `run_shown` does, for slots that were looked at: it is refused for want of memory or of a
+/// thread alone.
+pub fn show_run<R: Threads + Wait + Sync, G: Gate + Sync>(
+    rt: &R,
+    alloc: Global,
+    machine: Machine,
+    slots: Slots,
+    gate: &G,
+) -> Result<Shown, ShowFault>
+    requires { machine.begun ≡ false }
+    ensures shown { IfOk result (ShowsRun (run_of machine)) }
+    ensures fault { IfErr result (λ why. (why ≡ fault.Memory) ⊎ (why ≡ fault.Thread)) }
+{
+    let (sender, receiver) = link_shown(alloc, slots)?;
+    show_between(rt, alloc, machine, gate, sender, receiver)
+}
+
 /// The two ends of a new ring for a run to be shown.
-pub(crate) fn link_shown(alloc: Global, slots: usize) -> Result<(Sender, Receiver), ShowFault>
+pub(crate) fn link_shown(alloc: Global, slots: Slots) -> Result<(Sender, Receiver), ShowFault>
     ensures ring { IfOk result (λ ends. ends.0.ring ≡ ends.1.ring) }
     ensures sent { IfOk result (λ ends. ends.0.sent ≡ []) }
     ensures received { IfOk result (λ ends. ends.1.received ≡ []) }
-    ensures slots { IsErrOf result fault.Slots ↔ ((slots ≡ 0) ⊎ (65536 < slots)) }
-    ensures fault { IfErr result (λ why. (why ≡ fault.Slots) ⊎ (why ≡ fault.Memory)) }
+    ensures fault { IfErr result (λ why. why ≡ fault.Memory) }
 {
-    match link(alloc, slots) {
+    match link_of(alloc, slots) {
         Ok(ends) => Ok(ends),
-        Err(LinkFault::Memory) => Err(ShowFault::Memory),
-        Err(LinkFault::NoSlots | LinkFault::TooManySlots) => Err(ShowFault::Slots),
+        Err(_) => Err(ShowFault::Memory),
     }
 }
 

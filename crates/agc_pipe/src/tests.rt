@@ -6,7 +6,7 @@ mod shown;
 ghost use Rattle.std.specs.Prelude.{◌≡◌};
 ghost use Rattle.agc_pipe.specs.Item.{IsOutside};
 
-use crate::{Item, LinkFault, Receiver, Sender, link, rejoin};
+use crate::{Item, LinkFault, Receiver, Sender, Slots, Spacing, link, rejoin};
 use agc_machine::ChannelWrite;
 use agc_word::Narrow;
 use arrayvec::ArrayVec;
@@ -48,6 +48,17 @@ fn limits_and_slots(rt: HostRuntime) -> Result<(), Fail> {
     );
     assert_eq!(rt; link(rt.alloc(), 1)?.0.capacity(), 1);
     assert_eq!(rt; link(rt.alloc(), 65_536)?.0.capacity(), 65_536);
+    Ok(())
+}
+
+#[test]
+fn slots_and_spacings_are_looked_at(rt: HostRuntime) -> Result<(), Fail> {
+    assert_eq!(rt; Slots::new(0).err(), Some(LinkFault::NoSlots));
+    assert_eq!(rt; Slots::new(65_537).err(), Some(LinkFault::TooManySlots));
+    assert_eq!(rt; Slots::new(65_536)?.count(), 65_536);
+    assert_eq!(rt; Spacing::new(0), None);
+    let spacing = Spacing::new(1).map(|spacing| spacing.cycles());
+    assert_eq!(rt; spacing, Some(1));
     Ok(())
 }
 

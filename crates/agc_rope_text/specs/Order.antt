@@ -2,7 +2,7 @@
 use Rattle.std.specs.Prelude.{ℕ, ◌+◌, ◌%◌, ◌<◌, Bool, true, false, List, [], ◌++◌, codes}
 use Rattle.agc_word.specs.Number.{Number, pattern_of}
 use Rattle.agc_word.specs.Octal.{octal_digits}
-use Rattle.agc_order.specs.Order.{basic_of, extracode_of}
+use Rattle.agc_order.specs.Order.{basic_of, extracode_of, is_extend, is_extracode_index}
 use Rattle.agc_order.specs.declared.order.Basic.{Basic}
 use Rattle.agc_order.specs.declared.order.Basic.TheVariants as basic
 use Rattle.agc_order.specs.declared.order.Extracode.{Extracode}
@@ -145,16 +145,6 @@ extracode_text word =
 abbrev pub order_text : Bool → Number → List ℕ
 order_text true word = extracode_text (pattern_of 15 word)
 order_text false word = basic_text (pattern_of 15 word)
-
--- whether the word after a basic order is an extracode
-abbrev pub is_extend : Basic → Bool
-is_extend basic.Extend = true
-is_extend _ = false
-
--- whether the word after an extracode is one too
-abbrev pub is_extracode_index : Extracode → Bool
-is_extracode_index extra.Index = true
-is_extracode_index _ = false
 
 -- whether the word after a word is an extracode: after EXTEND, and after the extracode INDEX
 unfoldable pub leads_extracode : Bool → Number → Bool

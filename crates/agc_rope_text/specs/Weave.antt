@@ -1,5 +1,7 @@
 -- The rope file that a text of a rope weaves to.
-use Rattle.std.specs.Prelude.{◌≡◌, ◌<◌, ℕ, ◌+◌, ◌-◌, ◌*◌, ◌/◌, ◌%◌, ◌==◌, Bool, false, All, get_or, List, [], ◌∷◌, ◌++◌, length, replicate, set, fold, count_ones, Option, Some, None, Result, Ok, Err, if◌then◌else◌}
+use Rattle.std.specs.Prelude.{◌≡◌, ◌<◌, ℕ, ◌+◌, ◌-◌, ◌*◌, ◌/◌, ◌%◌, ◌==◌, Bool, false, All, get_or, List, []}
+use Rattle.std.specs.Prelude.{◌∷◌, ◌++◌, length, replicate, set, fold, count_ones, Option, Some, None, Result}
+use Rattle.std.specs.Prelude.{Ok, Err, if◌then◌else◌}
 use Rattle.std.specs.List.{list_any}
 use Rattle.agc_word.specs.Number.{pattern_of}
 use Rattle.agc_store.specs.RopeFile.{file_bank}

@@ -1,7 +1,6 @@
 //! Ropes as texts: places and orders as listings print them.
 #![tactic(auto)]
 
-mod cut;
 mod fault;
 mod line;
 mod listed;

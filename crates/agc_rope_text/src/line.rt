@@ -16,9 +16,9 @@ ghost use Rattle.agc_rope_text.specs.Line.{
   words_named,
 };
 
-use crate::cut::next_word;
 use crate::fault::LineFault;
 use crate::listed::listed_address;
+use agc_script::next_word;
 use agc_word::{Narrow, read_octal};
 
 /// A word and its place in the rope: 2000 octal times its bank, and its offset; below 36,864.

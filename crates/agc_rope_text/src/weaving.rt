@@ -12,10 +12,10 @@ ghost use Rattle.agc_rope_text.specs.Weave.{
 };
 ghost use Rattle.agc_rope_text.specs.declared.fault.WeaveFault.TheVariants.{Memory};
 
-use crate::cut::next_line;
 use crate::fault::WeaveFault;
 use crate::line::Named;
 use crate::loom::Loom;
+use agc_script::next_line;
 use agc_store::RopeForm;
 use agc_word::Narrow;
 use std::alloc::{AllocError, Global};

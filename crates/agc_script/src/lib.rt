@@ -19,6 +19,7 @@ pub use fault::{FaultKind, ScriptFault};
 pub use key::Key;
 pub use script::Script;
 pub use tape::Tape;
+pub use text::{next_line, next_word};
 
 #[cfg(test)]
 mod tests;

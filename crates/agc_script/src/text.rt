@@ -5,7 +5,7 @@ ghost use Rattle.std.specs.Str.Lines.{strip_carriage_return};
 ghost use Rattle.agc_script.specs.Text.{lines_of, words_of, is_blank, is_line_feed};
 
 /// The first line of a file, without its end, and what follows it; `None` at the end of the file.
-pub(crate) fn next_line(file: &[u8]) -> Option<(&[u8], &[u8])>
+pub fn next_line(file: &[u8]) -> Option<(&[u8], &[u8])>
     ensures lines { MatchOption result (lines_of file.now ≡ [])
         (λ cut. lines_of file.now ≡ cut.0.now ∷ lines_of cut.1.now) }
     ensures shorter { IfSome result (λ cut. length cut.1.now < length file.now) }
@@ -19,7 +19,7 @@ pub(crate) fn next_line(file: &[u8]) -> Option<(&[u8], &[u8])>
 }
 
 /// The first word of a text and what follows it; `None` where there is no word.
-pub(crate) fn next_word(text: &[u8]) -> Option<(&[u8], &[u8])>
+pub fn next_word(text: &[u8]) -> Option<(&[u8], &[u8])>
     ensures { MatchOption result (words_of text.now ≡ [])
         (λ cut. words_of text.now ≡ cut.0.now ∷ words_of cut.1.now) }
 {

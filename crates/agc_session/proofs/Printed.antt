@@ -11,7 +11,7 @@ use Rattle.agc_script.specs.declared.key.Key.{Key}
 use Rattle.agc_machine.specs.State.{State, start_state}
 use Rattle.agc_session.specs.Report.{IsLiveReport}
 use Rattle.agc_session.specs.Print.{report_text}
-use Rattle.agc_session.specs.Entry.{ComesOf, IsAnswered, IsKeysReport, IsReported, IsReportWhere, IsRunReport, IsSessionReport, machine_of, steps_of}
+use Rattle.agc_session.specs.Entry.{ComesOf, IsAnswered, IsKeysReport, IsReported, IsReportWhere, IsRunReport, IsSessionReport, machine_of, session_steps}
 use Rattle.agc_session.specs.Files.{Files, events_in, files_of, given_files, keys_steps, keys_steps_where, rope_steps, script_steps}
 use Rattle.agc_session.specs.Options.{said_by}
 use Rattle.agc_session.specs.Prepare.{machine_steps, run_steps}
@@ -87,8 +87,8 @@ with_keys options machine (Some file) keys (Err r) none is right told = told
 
 -- what comes of printing a report that was made
 
-print_told : (options : Options) (files : Files) (r : Refusal) → refusal_in (steps_of options files) ≡ None
-    → (r ≡ refusal.Memory) ⊎ (r ≡ refusal.Watch watch.Memory) → IsTold (steps_of options files) r
+print_told : (options : Options) (files : Files) (r : Refusal) → refusal_in (session_steps options files) ≡ None
+    → (r ≡ refusal.Memory) ⊎ (r ≡ refusal.Watch watch.Memory) → IsTold (session_steps options files) r
 print_told options files r none (inl is) = rw is (at_memory options files)
 print_told options files r none (inr is) = rw is (at_tables options files none)
 

@@ -4,7 +4,7 @@ use Rattle.std.specs.Prelude.{Option, None, Some, IfSome, Result}
 use Rattle.agc_panel.specs.WatchSpec.{spec_of}
 use Rattle.agc_panel.specs.declared.watch_spec.WatchFault.TheVariants as watch
 use Rattle.agc_session.proofs.Told.{comes_later, none_first, none_later, told_first, told_later, told_found}
-use Rattle.agc_session.specs.Entry.{ComesOf, steps_of}
+use Rattle.agc_session.specs.Entry.{ComesOf, session_steps}
 use Rattle.agc_session.specs.Files.{Files, files_of, keys_read, rope_steps, script_steps, keys_steps_where}
 use Rattle.agc_session.specs.Options.{said_by}
 use Rattle.agc_session.specs.Prepare.{machine_steps, run_steps, slots_refusal, spacing_refusal, tables_refusal}
@@ -50,30 +50,30 @@ module _ (options : Options) (files : Files) where
   abbrev last : List Step
   last = keys_steps_where options.live files.keys ++ run_steps options
 
-  at_rope : (r : Refusal) → IsTold at_start r → IsTold (steps_of options files) r
-  unfolding steps_of
+  at_rope : (r : Refusal) → IsTold at_start r → IsTold (session_steps options files) r
+  unfolding session_steps
   at_rope r h = told_first at_start (next ++ (then ++ last)) r h
 
-  at_script : (r : Refusal) → refusal_in at_start ≡ None → IsTold next r → IsTold (steps_of options files) r
-  unfolding steps_of
+  at_script : (r : Refusal) → refusal_in at_start ≡ None → IsTold next r → IsTold (session_steps options files) r
+  unfolding session_steps
   at_script r rope h = told_later at_start (next ++ (then ++ last)) r rope (told_first next (then ++ last) r h)
 
-  at_machine : (r : Refusal) → refusal_in at_start ≡ None → refusal_in next ≡ None → IsTold then r → IsTold (steps_of options files) r
-  unfolding steps_of
+  at_machine : (r : Refusal) → refusal_in at_start ≡ None → refusal_in next ≡ None → IsTold then r → IsTold (session_steps options files) r
+  unfolding session_steps
   at_machine r rope script h =
       told_later at_start (next ++ (then ++ last)) r rope (told_later next (then ++ last) r script (told_first then last r h))
 
   -- what comes of the last steps comes of all, where none of those before refuses
   pub at_last : {A : Type 0} (IsRight : A → Type 0) (result : Result A Refusal) → refusal_in at_start ≡ None → refusal_in next ≡ None
-      → refusal_in then ≡ None → ComesOf last IsRight result → ComesOf (steps_of options files) IsRight result
-  unfolding steps_of
+      → refusal_in then ≡ None → ComesOf last IsRight result → ComesOf (session_steps options files) IsRight result
+  unfolding session_steps
   at_last IsRight result rope script machine h =
       comes_later IsRight at_start (next ++ (then ++ last)) result rope
       (comes_later IsRight next (then ++ last) result script (comes_later IsRight then last result machine h))
 
   -- the watcher may be out of memory at the end
-  pub at_tables : refusal_in (steps_of options files) ≡ None → IsTold (steps_of options files) (refusal.Watch watch.Memory)
-  unfolding steps_of
+  pub at_tables : refusal_in (session_steps options files) ≡ None → IsTold (session_steps options files) (refusal.Watch watch.Memory)
+  unfolding session_steps
   at_tables none =
       let none_then = none_later at_start (next ++ (then ++ last)) none in
       let none_last = none_later next (then ++ last) none_then in
@@ -87,22 +87,22 @@ module _ (options : Options) (files : Files) where
       (printing_told options (none_later keys (run_steps options) none_keys)))))
 
   -- a session may be out of memory from the first read on
-  pub at_memory : IsTold (steps_of options files) refusal.Memory
-  unfolding steps_of rope_steps
+  pub at_memory : IsTold (session_steps options files) refusal.Memory
+  unfolding session_steps rope_steps
   at_memory = inr (inl refl)
 
 -- the same where the readers tell their bytes; where one does not, nothing is said
 
 module _ (options : Options) where
   pub rope_known : (rope script keys : Option (List ℕ)) (r : Refusal) → IfSome rope (λ file. IsTold (rope_steps options.form file) r)
-      → IfSome (files_of rope script keys) (λ files. IsTold (steps_of options files) r)
+      → IfSome (files_of rope script keys) (λ files. IsTold (session_steps options files) r)
   rope_known None script keys r h = tt
   rope_known (Some a) None keys r h = tt
   rope_known (Some a) (Some b) None r h = tt
   rope_known (Some a) (Some b) (Some c) r h = at_rope options _ r h
 
   pub script_known : (rope script keys : Option (List ℕ)) (r : Refusal) → IfSome rope (λ file. refusal_in (rope_steps options.form file) ≡ None)
-      → IfSome script (λ file. IsTold (script_steps file) r) → IfSome (files_of rope script keys) (λ files. IsTold (steps_of options files) r)
+      → IfSome script (λ file. IsTold (script_steps file) r) → IfSome (files_of rope script keys) (λ files. IsTold (session_steps options files) r)
   script_known None script keys r k h = tt
   script_known (Some a) None keys r k h = tt
   script_known (Some a) (Some b) None r k h = tt
@@ -110,7 +110,7 @@ module _ (options : Options) where
 
   pub machine_known : (rope script keys : Option (List ℕ)) (r : Refusal) → IfSome rope (λ file. refusal_in (rope_steps options.form file) ≡ None)
       → IfSome script (λ file. refusal_in (script_steps file) ≡ None) → refusal_in (machine_steps options) ≡ Some r
-      → IfSome (files_of rope script keys) (λ files. IsTold (steps_of options files) r)
+      → IfSome (files_of rope script keys) (λ files. IsTold (session_steps options files) r)
   machine_known None script keys r k l h = tt
   machine_known (Some a) None keys r k l h = tt
   machine_known (Some a) (Some b) None r k l h = tt

@@ -22,8 +22,8 @@ use Rattle.agc_session.specs.declared.refusal.Refusal.{Refusal}
 use Rattle.agc_session.specs.declared.report.Report.{Report}
 
 -- the steps of a session
-unfoldable pub steps_of : Options → Files → List Step
-steps_of options files =
+unfoldable pub session_steps : Options → Files → List Step
+session_steps options files =
     rope_steps options.form files.rope
     ++ (script_steps files.script
     ++ (machine_steps options
@@ -62,7 +62,7 @@ IsSessionText options files text =
 
 -- nothing is refused
 abbrev pub IsAccepted : Options → Files → Type 0
-IsAccepted options files = refusal_in (steps_of options files) ≡ None
+IsAccepted options files = refusal_in (session_steps options files) ≡ None
 
 -- What comes of steps: a value as it is to be, where no look refuses, or a refusal that they may
 -- tell.
@@ -73,12 +73,12 @@ ComesOf steps IsRight (Err r) = IsTold steps r
 -- a session's report, or its refusal
 abbrev pub IsReported : Options → Result Report Refusal → Files → Type 0
 IsReported options result files =
-    ComesOf (steps_of options files) (IsSessionReport options files) result
+    ComesOf (session_steps options files) (IsSessionReport options files) result
 
 -- a session's text, or its refusal
 abbrev pub IsAnswered : Options → Result (String Global) Refusal → Files → Type 0
 IsAnswered options result files =
-    ComesOf (steps_of options files)
+    ComesOf (session_steps options files)
     (λ text. IsSessionText options files (string_bytes text)) result
 
 -- a session's text was written behind what a stream had

@@ -4,7 +4,7 @@ ghost use Rattle.std.specs.Prelude.{if◌then◌else◌};
 ghost use Rattle.std.specs.Io.KnownBytes.{Keeps, Appends, IsAtEnd};
 ghost use Rattle.agc_panel.specs.WatchSpec.{spec_of};
 ghost use Rattle.agc_session.specs.Entry.{ComesOf, IsAccepted, IsAnswered, IsKeysReport, IsPrinted};
-ghost use Rattle.agc_session.specs.Entry.{IsReported, IsRunReport, steps_of};
+ghost use Rattle.agc_session.specs.Entry.{IsReported, IsRunReport, session_steps};
 ghost use Rattle.agc_session.specs.Files.{given_files, keys_steps};
 ghost use Rattle.agc_session.specs.Options.{said_by};
 ghost use Rattle.agc_session.specs.Prepare.{run_steps};
@@ -14,7 +14,7 @@ ghost use Rattle.agc_session.specs.declared.refusal.Refusal.{Refusal};
 
 use crate::files::{read_keys, read_rope, read_script};
 use crate::options::Options;
-use crate::prepare::{Prepared, check_run, prepare};
+use crate::prepare::{Prepared, check_live_run, check_run, prepare};
 use crate::print::print;
 use crate::refusal::Refusal;
 use crate::report::Report;
@@ -66,7 +66,7 @@ where
     ensures refused { result ≡ REFUSED → (r : Refusal)
         × Appends (E.contents err.old) (E.contents err.new) (refusal_line r)
         × IfSome (given_files options.now (R.remaining rope.old) (S.remaining script.old)
-        (K.remaining keys.old)) (λ files. IsTold (steps_of options.now files) r) }
+        (K.remaining keys.old)) (λ files. IsTold (session_steps options.now files) r) }
     ensures nothing { result ≡ REFUSED → Keeps (W.contents out.old) (W.contents out.new) }
 
     // Whichever write failed, the other stream has nothing new.
@@ -145,13 +145,14 @@ fn plain_report<H: Threads + Wait + Sync, G: Gate + Sync>(
     prepared: Prepared,
     gate: &G,
 ) -> Result<Report, Refusal>
+    requires live { options.now.live ≡ false }
     requires fresh { prepared.machine.begun ≡ false }
     requires watch { prepared.watch ≡ said_by spec_of options.now.watch }
     ensures { ComesOf (run_steps options.now) (IsRunReport options.now prepared.machine) result }
 {
     let Prepared { machine, watch } = prepared;
-    let watch = check_run(options, &watch)?;
-    report_run(rt, alloc, options, machine, &watch, gate)
+    let run = check_run(options, &watch)?;
+    report_run(rt, alloc, options, machine, &run, gate)
 }
 
 /// The report of a run with live keys, or why there is none.
@@ -173,6 +174,6 @@ fn live_report<H: Threads + Wait + Sync, K: Read, G: Gate + Sync>(
 {
     let Prepared { machine, watch } = prepared;
     let keys = read_keys(alloc, keys)?;
-    let watch = check_run(options, &watch)?;
-    report_live_run(rt, alloc, options, machine, keys, &watch, gate)
+    let (run, spacing) = check_live_run(options, &watch)?;
+    report_live_run(rt, alloc, options, machine, keys, spacing, &run, gate)
 }

@@ -1,5 +1,5 @@
 //! Before the run: the options are looked at, one after another, and the machine is made.
-ghost use Rattle.std.specs.Prelude.{◌≡◌, false, IfOk, OnOk, MatchResult, None, Some};
+ghost use Rattle.std.specs.Prelude.{◌≡◌, false, true, IfOk, OnOk, MatchResult, None, Some};
 ghost use Rattle.agc_machine.specs.State.{start_state};
 ghost use Rattle.agc_panel.specs.WatchSpec.{spec_of};
 ghost use Rattle.agc_session.specs.Options.{said_by};
@@ -13,7 +13,7 @@ use crate::options::Options;
 use crate::refusal::Refusal;
 use agc_machine::{Machine, StopAddress};
 use agc_panel::{CheckedSpec, WatchSpec};
-use agc_pipe::MOST_SLOTS;
+use agc_pipe::{Slots, Spacing};
 use agc_script::Script;
 use agc_store::Rope;
 
@@ -98,50 +98,82 @@ fn with_until(machine: Machine, until: Option<StopAddress>) -> Machine
     }
 }
 
-/// Looks at the options of the run itself, and returns the tables that are to be watched. Whether
-/// they can be is known before the run, so a long run is not made in vain.
-#[tactic(auto, unfolding(crate::specs::Prepare::run_steps))]
-pub fn check_run(
-    options: &Options,
-    watch: &Option<WatchSpec>,
-) -> Result<Option<CheckedSpec>, Refusal>
-    requires { watch.now ≡ said_by spec_of options.now.watch }
+/// What a run goes by, once its options were looked at.
+#[derive(Drop)]
+pub struct RunOptions {
+    pub slots: Slots,
+    /// The tables that the watcher prints.
+    pub watch: Option<CheckedSpec>,
+}
+
+/// Looks at the options of the run itself, where no keys are live. Whether tables can be watched is
+/// known before the run, so a long run is not made in vain.
+#[tactic(auto, unfolding(crate::specs::Prepare::run_steps, crate::specs::Prepare::spacing_refusal))]
+pub fn check_run(options: &Options, watch: &Option<WatchSpec>) -> Result<RunOptions, Refusal>
+    requires live { options.now.live ≡ false }
+    requires watch { watch.now ≡ said_by spec_of options.now.watch }
     ensures checked { MatchResult result (λ _. refusal_in (run_steps options.now) ≡ None)
         (λ refusal. refusal_in (run_steps options.now) ≡ Some refusal) }
     ensures slots { OnOk result (slots_refusal options.now.slots ≡ None) }
     ensures spacing { OnOk result (spacing_refusal options.now.live options.now.spacing ≡ None) }
     ensures tables { OnOk result (tables_refusal watch.now ≡ None) }
-    ensures watch { IfOk result (λ checked. checked ≡ watch.now) }
+    ensures ring { IfOk result (λ run. run.slots ≡ options.now.slots) }
+    ensures watch { IfOk result (λ run. run.watch ≡ watch.now) }
 {
-    check_slots(options.slots)?;
-    check_spacing(options.live, options.spacing)?;
-    check_tables(watch)
+    let slots = checked_slots(options.slots)?;
+    let watch = checked_tables(watch)?;
+    Ok(RunOptions { slots, watch })
+}
+
+/// Looks at the options of the run itself, with live keys.
+#[tactic(auto, unfolding(crate::specs::Prepare::run_steps))]
+pub fn check_live_run(
+    options: &Options,
+    watch: &Option<WatchSpec>,
+) -> Result<(RunOptions, Spacing), Refusal>
+    requires live { options.now.live ≡ true }
+    requires watch { watch.now ≡ said_by spec_of options.now.watch }
+    ensures checked { MatchResult result (λ _. refusal_in (run_steps options.now) ≡ None)
+        (λ refusal. refusal_in (run_steps options.now) ≡ Some refusal) }
+    ensures slots { OnOk result (slots_refusal options.now.slots ≡ None) }
+    ensures spacing { OnOk result (spacing_refusal options.now.live options.now.spacing ≡ None) }
+    ensures tables { OnOk result (tables_refusal watch.now ≡ None) }
+    ensures apart { IfOk result (λ checked. checked.1 ≡ options.now.spacing) }
+    ensures ring { IfOk result (λ checked. checked.0.slots ≡ options.now.slots) }
+    ensures watch { IfOk result (λ checked. checked.0.watch ≡ watch.now) }
+{
+    let slots = checked_slots(options.slots)?;
+    let spacing = checked_spacing(options.spacing)?;
+    let watch = checked_tables(watch)?;
+    Ok((RunOptions { slots, watch }, spacing))
 }
 
 #[tactic(auto, unfolding(crate::specs::Prepare::slots_refusal))]
-fn check_slots(slots: usize) -> Result<(), Refusal>
-    ensures { MatchResult result (λ _. slots_refusal slots ≡ None)
+fn checked_slots(slots: usize) -> Result<Slots, Refusal>
+    ensures checked { MatchResult result (λ _. slots_refusal slots ≡ None)
         (λ refusal. slots_refusal slots ≡ Some refusal) }
+    ensures slots { IfOk result (λ checked. checked ≡ slots) }
 {
-    if slots == 0 || slots > MOST_SLOTS {
-        return Err(Refusal::Slots);
+    match Slots::new(slots) {
+        Ok(slots) => Ok(slots),
+        Err(_) => Err(Refusal::Slots),
     }
-    Ok(())
 }
 
 #[tactic(auto, unfolding(crate::specs::Prepare::spacing_refusal))]
-fn check_spacing(live: bool, spacing: u64) -> Result<(), Refusal>
-    ensures { MatchResult result (λ _. spacing_refusal live spacing ≡ None)
-        (λ refusal. spacing_refusal live spacing ≡ Some refusal) }
+fn checked_spacing(spacing: u64) -> Result<Spacing, Refusal>
+    ensures checked { MatchResult result (λ _. spacing_refusal true spacing ≡ None)
+        (λ refusal. spacing_refusal true spacing ≡ Some refusal) }
+    ensures spacing { IfOk result (λ checked. checked ≡ spacing) }
 {
-    if live && spacing == 0 {
-        return Err(Refusal::Spacing);
+    match Spacing::new(spacing) {
+        Some(spacing) => Ok(spacing),
+        None => Err(Refusal::Spacing),
     }
-    Ok(())
 }
 
 #[tactic(auto, unfolding(crate::specs::Prepare::tables_refusal))]
-fn check_tables(watch: &Option<WatchSpec>) -> Result<Option<CheckedSpec>, Refusal>
+fn checked_tables(watch: &Option<WatchSpec>) -> Result<Option<CheckedSpec>, Refusal>
     ensures checked { MatchResult result (λ _. tables_refusal watch.now ≡ None)
         (λ refusal. tables_refusal watch.now ≡ Some refusal) }
     ensures watch { IfOk result (λ checked. checked ≡ watch.now) }

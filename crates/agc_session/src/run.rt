@@ -4,16 +4,16 @@ ghost use Rattle.agc_machine.specs.Run.{Run, run_of};
 ghost use Rattle.agc_panel.specs.WatchSpec.{spec_of};
 ghost use Rattle.agc_pipe.specs.Shown.{ShowsRun};
 ghost use Rattle.agc_session.specs.Options.{said_by};
-ghost use Rattle.agc_session.specs.Prepare.{slots_refusal, spacing_refusal};
 ghost use Rattle.agc_session.specs.Report.{IsLiveReport, IsReport, log_asked, tables_asked};
 ghost use Rattle.agc_session.specs.declared.refusal.Refusal.TheVariants as refusal;
 
 use crate::options::Options;
+use crate::prepare::RunOptions;
 use crate::refusal::Refusal;
 use crate::report::{LiveKeys, Log, Report};
 use agc_machine::{ChannelWrite, Machine};
 use agc_panel::{CheckedSpec, Tables};
-use agc_pipe::{Gate, Live, Shown, run_live, run_shown};
+use agc_pipe::{Gate, Live, Shown, Spacing, show_live_run, show_run};
 use agc_script::Key;
 use agc_store::Store;
 use std::alloc::Global;
@@ -21,56 +21,46 @@ use std::sync::Wait;
 use std::thread::Threads;
 
 /// Runs a machine that is at its start.
-#[tactic(auto, unfolding(crate::specs::Prepare::slots_refusal))]
 pub fn report_run<H: Threads + Wait + Sync, G: Gate + Sync>(
     rt: &H,
     alloc: Global,
     options: &Options,
     machine: Machine,
-    watch: &Option<CheckedSpec>,
+    run: &RunOptions,
     gate: &G,
 ) -> Result<Report, Refusal>
     requires fresh { machine.begun ≡ false }
-    requires slots { slots_refusal options.now.slots ≡ None }
-    requires watch { watch.now ≡ said_by spec_of options.now.watch }
+    requires watch { run.now.watch ≡ said_by spec_of options.now.watch }
     ensures report { IfOk result (IsReport options.now (run_of machine) None) }
     ensures refused { IfErr result (λ r. (r ≡ Refusal.Thread) ⊎ (r ≡ Refusal.Memory)) }
 {
-    let shown = run_shown(rt, alloc, machine, options.slots, gate)?;
-    Ok(put_together(options, shown, None, watch))
+    let shown = show_run(rt, alloc, machine, run.slots, gate)?;
+    Ok(put_together(options, shown, None, &run.watch))
 }
 
 /// Runs a machine that is at its start with live keys.
-#[tactic(auto, unfolding(crate::specs::Prepare::slots_refusal, crate::specs::Prepare::spacing_refusal))]
 pub fn report_live_run<H: Threads + Wait + Sync, G: Gate + Sync>(
     rt: &H,
     alloc: Global,
     options: &Options,
     machine: Machine,
     keys: Vec<Key>,
-    watch: &Option<CheckedSpec>,
+    spacing: Spacing,
+    run: &RunOptions,
     gate: &G,
 ) -> Result<Report, Refusal>
     requires fresh { machine.begun ≡ false }
-    requires slots { slots_refusal options.now.slots ≡ None }
-    requires live { options.now.live ≡ true }
-    requires spacing { spacing_refusal options.now.live options.now.spacing ≡ None }
-    requires watch { watch.now ≡ said_by spec_of options.now.watch }
+    requires spacing { spacing ≡ options.now.spacing }
+    requires watch { run.now.watch ≡ said_by spec_of options.now.watch }
     ensures report { IfOk result (IsLiveReport options.now machine keys.items) }
     ensures refused { IfErr result (λ r. (r ≡ Refusal.Thread) ⊎ (r ≡ Refusal.Memory)) }
 {
-    let Live { shown, tape, rest } = run_live(
-        rt,
-        alloc,
-        machine,
-        keys,
-        options.spacing,
-        options.slots,
-        gate,
+    let Live { shown, tape, rest } = show_live_run(
+        rt, alloc, machine, keys, spacing, run.slots, gate,
     )?;
     let left = rest.len();
     let keys = LiveKeys { tape, left };
-    Ok(put_together(options, shown, Some(keys), watch))
+    Ok(put_together(options, shown, Some(keys), &run.watch))
 }
 
 /// Puts together what the options ask for of what a run left.

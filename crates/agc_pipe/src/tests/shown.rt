@@ -2,7 +2,7 @@
 ghost use Rattle.std.specs.Prelude.{◌≡◌, false, IfOk};
 
 use super::memory::{AFTER_DIVISION, AFTER_EDRUPT, AFTER_WRITES, holds};
-use crate::{Gate, Open, ShowFault, Shown, run_shown};
+use crate::{Gate, Open, ShowFault, Shown, Slots, run_shown, show_run};
 use agc_gate::{Counting, Meeting, Slow};
 use agc_listing::{DIVISION, EDRUPT, WRITES, rope_file};
 use agc_machine::{Machine, Next, Stop};
@@ -149,6 +149,17 @@ fn slots_are_refused(rt: HostRuntime) -> Result<(), Fail> {
         );
         assert_eq!(rt; shown.err(), Some(ShowFault::Slots));
     }
+    Ok(())
+}
+
+/// WRITE 10 comes at cycle 1, and again four cycles later.
+#[test]
+fn slots_looked_at_before_serve(rt: HostRuntime) -> Result<(), Fail> {
+    let machine = machine(&rt, WRITES, b"", 6)?;
+    let shown = show_run(&rt, rt.alloc(), machine, Slots::new(1)?, &Open)?;
+    assert_eq!(rt; shown.log.len(), 2);
+    let last = shown.log.as_slice().last().map(|write| write.cycle);
+    assert_eq!(rt; last, Some(5));
     Ok(())
 }
 

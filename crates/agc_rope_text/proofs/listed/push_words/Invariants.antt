@@ -1,4 +1,4 @@
-use Rattle.std.proofs.Common.{◌≡◌, ◌++◌, ◌-◌, ◌&&◌, not, string_bytes}
+use Rattle.std.proofs.Common.{◌≡◌, ◌++◌, ◌&&◌, not, string_bytes}
 use Rattle.agc_rope_text.specs.List.{begins_anew, is_extracode_at, listed_lines}
 use Rattle.agc_rope_text.proofs.listed.push_words.Given as goal
 

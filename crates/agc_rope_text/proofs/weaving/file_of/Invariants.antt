@@ -1,4 +1,4 @@
-use Rattle.std.specs.Prelude.{◌≡◌, [], ◌∷◌, take}
+use Rattle.std.specs.Prelude.{◌≡◌, take}
 use Rattle.agc_rope_text.specs.Weave.{woven_file}
 use Rattle.agc_rope_text.proofs.weaving.file_of.Given as goal
 

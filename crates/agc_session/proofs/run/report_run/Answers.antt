@@ -1,14 +1,9 @@
 use Rattle.agc_machine.specs.Run.{run_of}
-use Rattle.agc_pipe.specs.Shown.{ShowsRun}
 use Rattle.agc_session.proofs.Channels.{run_in_range}
 use Rattle.agc_session.proofs.run.report_run.Goals as goal
 
 pub put_together-requires-clause-channels : goal.put_together-requires-clause-channels
-put_together-requires-clause-channels g c = rw c.in_ok-shown.ensures.log (run_in_range c.args.machine)
+put_together-requires-clause-channels g c = rw c.in_ok-shown.ensures.shown.log (run_in_range c.args.machine)
 
 pub returns-clause-report : goal.returns-clause-report
-returns-clause-report g c =
-    let left = c.in_ok-shown.ensures in
-    let shows : ShowsRun (run_of c.args.machine) c.in_ok-shown.shown =
-    record { log = left.log; panel = left.panel; store = left.store; stop = left.stop; cycle = left.cycle } in
-    c.put_together.ensures (run_of c.args.machine) shows
+returns-clause-report g c = c.put_together.ensures (run_of c.args.machine) c.in_ok-shown.ensures.shown
