@@ -128,8 +128,23 @@ enum Look {
     End,
 }
 
-/// Takes the items that are there.
+/// Looks into the ring, and takes the items that are there. An empty ring costs no more than the
+/// look: while the machine makes no writes, that is all that the display does.
 fn take_block<G: Gate>(gate: &G, receiver: &mut Receiver, screen: &mut Screen) -> Look
+    requires open { has_end receiver.old.received ≡ false }
+    requires shown { IsShowing screen.old (shown_in receiver.old.received) }
+    ensures ring { receiver.new.ring ≡ receiver.old.ring }
+    ensures end { is_end result ≡ has_end receiver.new.received }
+    ensures shown { IsShowing screen.new (shown_in receiver.new.received) }
+{
+    if receiver.is_empty() {
+        return Look::Nothing;
+    }
+    take_items(gate, receiver, screen)
+}
+
+/// Takes a block of items.
+fn take_items<G: Gate>(gate: &G, receiver: &mut Receiver, screen: &mut Screen) -> Look
     requires open { has_end receiver.old.received ≡ false }
     requires shown { IsShowing screen.old (shown_in receiver.old.received) }
     ensures ring { receiver.new.ring ≡ receiver.old.ring }

@@ -37,6 +37,13 @@ impl Receiver {
         self.consumer.pop().ok()
     }
 
+    /// No item is there. No contract speaks of the answer: one may come at any time.
+    pub(crate) fn is_empty(&mut self) -> bool
+        ensures { self.new ≡ self.old }
+    {
+        self.consumer.is_empty()
+    }
+
     /// Appends the next items to a block, as many as are there and as it has room for, and tells
     /// how many those are.
     pub fn next_block(&mut self, block: &mut ArrayVec<Item, 64>) -> usize

@@ -1,7 +1,7 @@
 use Rattle.std.proofs.Common.{arith, ◌≡◌, ◌++◌, ◌∙◌}
 use Rattle.std.proofs.lemmas.Grind.{common_steps}
 use Rattle.agc_pipe.proofs.Takes.{showing_all, end_all}
-use Rattle.agc_pipe.proofs.display.take_block.Goals as goal
+use Rattle.agc_pipe.proofs.display.take_items.Goals as goal
 
 pub returns-clause-end : goal.returns-clause-end
 returns-clause-end g c =
