@@ -185,7 +185,8 @@ impl Engine {
         self.step_watched()
     }
 
-    /// The cycle below which the clock brings nothing from here on; 0 where that cannot be said.
+    /// The cycle from which the clock brings something again; 0 where the machine has not begun or
+    /// has stopped.
     pub(crate) fn quiet_from_here(&self) -> u64
         requires sound { IsSound (record self.now { quiet_until = 0 }) }
         ensures quiet { 0 < result → IsQuiet result (state_of self.now) }
