@@ -64,9 +64,8 @@ set_channel_in_time c h w p t = set_channel_timed (IsInTime c) c h w p t (with_p
 effect_in_time : (c : ℕ) (p : Processor) → IsInTime c p.timers → IsInTime c (order_effect c p).0.timers
 effect_in_time c p t = order_timed (IsInTime c) c p t (with_periods_in_time c p.timers t)
 
-pub order_in_time : (c d : ℕ) (p q : Processor) (r : Ran) → IsInTime c p.timers → (q, r) ≡ order_effect c p → c ≤ d → IsInTime d q.timers
-order_in_time c d p q r t e l =
-    later_in_time c d q.timers (subst (λ (x : Processor × Ran). IsInTime c x.0.timers) (sym e) (effect_in_time c p t)) l
+pub order_in_time : (c : ℕ) (p q : Processor) (r : Ran) → IsInTime c p.timers → (q, r) ≡ order_effect c p → IsInTime c q.timers
+order_in_time c p q r t e = subst (λ (x : Processor × Ran). IsInTime c x.0.timers) (sym e) (effect_in_time c p t)
 
 -- an interrupt
 taken_in_time : (c d : ℕ) (p : Processor) (o : Option Rupt) → IsInTime c p.timers → c ≤ d →

@@ -1,5 +1,5 @@
 -- Below the quiet cycle a boundary is an interrupt, the stop at the stop address, or the order in hand.
-use Rattle.std.proofs.Common.{◌≡◌, ℕ, ◌<◌, ◌≤◌, ◌⊎◌, inl, inr, min, List, [], ◌∷◌, Bool, true, false, Option, Some, None, refl, ap, subst, sym, ◌∙◌, arith}
+use Rattle.std.proofs.Common.{◌≡◌, ℕ, ◌<◌, List, [], ◌∷◌, Bool, true, false, Option, Some, None, refl, ap, subst, sym, ◌∙◌, arith}
 use Rattle.std.specs.Prelude.{nat_le, ◌||◌, ◌&&◌, not, if◌then◌else◌, option_map, IfSome}
 use Rattle.std.proofs.lemmas.Bool.Decides.{nat_tests}
 use Rattle.agc_script.specs.declared.event.Event.{Event}
@@ -15,7 +15,7 @@ use Rattle.agc_processor.specs.Processor.{a_of}
 use Rattle.agc_word.specs.Arithmetic.{over_of}
 use Rattle.agc_processor.specs.declared.interrupt.Rupt.{Rupt}
 use Rattle.agc_processor.specs.Keeps.{IsSame}
-use Rattle.agc_machine.specs.Quiet.{IsDue, IsEventDue, IsQuiet, Serves}
+use Rattle.agc_machine.specs.Quiet.{IsQuiet, Serves}
 use Rattle.agc_machine.specs.declared.quiet.Pace.{Pace}
 use Rattle.agc_machine.specs.declared.quiet.Pace.TheVariants as pace
 use Rattle.agc_machine.specs.State.{State}
@@ -163,16 +163,3 @@ pub serves_kept : (pace : Pace) (s : State) (p : Processor) (cycle : ℕ) → Se
 serves_kept pace.Bare s p cycle h same = (rw same.1 h.0, h.1)
 serves_kept pace.Watched s p cycle h same = rw same.1 h
 serves_kept pace.Held s p cycle h same = tt
-
--- the least of what is due is due
-least_of : (t l e r : ℕ) → r ≡ min (min t l) e → (l ≤ r) ⊎ ((r ≡ e) ⊎ (r ≡ t))
-least_of t l e r h = grind arith
-
-pub least_is_due : (t e r : ℕ) (s : State) → r ≡ min (min t s.limit) e → s.limit ≤ 1000000000000 → is_any_due t s.processor.timers (switch_word s.processor) ≡ true →
-    (e ≤ 1000000000000 → IsEventDue e s.events) → IsDue r s
-least_is_due t e r s h limit timer event =
-    elim (least_of t s.limit e r h) [
-      | inl at_limit ↦ inl at_limit
-      | inr (inl at_event) ↦ inr (inl (subst (λ (x : ℕ). IsEventDue x s.events) (sym at_event) (event (omega (arith, h, at_event, limit)))))
-      | inr (inr at_timer) ↦ inr (inr (subst (λ (x : ℕ). is_any_due x s.processor.timers (switch_word s.processor) ≡ true) (sym at_timer) timer))
-    ]
