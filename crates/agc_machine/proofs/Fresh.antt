@@ -26,6 +26,7 @@ sound_until m v h not_begun =
       some = h.some;
       limit = h.limit;
       cycle = h.cycle;
+      in_time = h.in_time;
       fresh = λ f. started (state_of m) _ _ _ m.until v (h.fresh f);
     }
 

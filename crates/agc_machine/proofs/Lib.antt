@@ -12,3 +12,4 @@ pub mod Taken
 pub mod Live
 pub mod Place
 pub mod Told
+pub mod InTime

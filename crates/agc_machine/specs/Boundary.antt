@@ -1,6 +1,7 @@
 -- The boundary: of the things that may happen between two orders the first that applies happens,
 -- and no other.
-use Rattle.std.specs.Prelude.{◌≡◌, ℕ, ◌<◌, ◌+◌, ◌%◌, ◌==◌, ◌&&◌, Bool, true, false, List, [], ◌∷◌, Option, Some, None, nat_lt, nat_le, option_map, if◌then◌else◌}
+use Rattle.std.specs.Prelude.{◌≡◌, ℕ, ◌<◌, ◌+◌, ◌%◌, ◌==◌, ◌&&◌, Bool, true, false, List, [], ◌∷◌}
+use Rattle.std.specs.Prelude.{Option, Some, None, nat_lt, nat_le, option_map, if◌then◌else◌}
 use Rattle.agc_store.specs.Memory.{erasable_bank, selected_bank}
 use Rattle.agc_store.specs.Places.{erasable_window, fixed_fixed, fixed_window}
 use Rattle.agc_script.specs.declared.event.Event.{Event}

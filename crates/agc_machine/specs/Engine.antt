@@ -1,5 +1,8 @@
 -- How the machine keeps its state: the script whole, with the place of the next event.
-use Rattle.std.specs.Prelude.{◌≡◌, ◌+◌, ◌<◌, ◌≤◌, false, true, drop, length}
+use Rattle.std.specs.Prelude.{◌≡◌, ℕ, ◌+◌, ◌<◌, ◌≤◌, false, true, drop, length}
+use Rattle.agc_processor.specs.Channel.{time6_periods}
+use Rattle.agc_processor.specs.Period.{pulses_at}
+use Rattle.agc_processor.specs.declared.processor.Timers.{Timers}
 use Rattle.agc_machine.specs.declared.engine.Engine.{Engine}
 use Rattle.agc_machine.specs.Quiet.{IsQuiet, Serves}
 use Rattle.agc_machine.specs.State.{State, IsAtStart}
@@ -17,6 +20,15 @@ state_of m =
       until = m.until;
     }
 
+-- No timer is ahead of a cycle: none has taken more steps than pulses have gone by, and TIME6's mark
+-- is at most the periods that have.
+pub record IsInTime (cycle : ℕ) (t : Timers) : Type 0 where
+  pub time1 : t.time1 ≤ pulses_at cycle
+  pub time3 : t.time3 ≤ pulses_at cycle
+  pub time4 : t.time4 ≤ pulses_at cycle
+  pub time5 : t.time5 ≤ pulses_at cycle
+  pub mark : t.mark ≤ time6_periods cycle
+
 -- What holds of every machine between two boundaries. A machine that no boundary was taken of is at
 -- its start.
 pub record IsSound (m : Engine) : Type 0 where
@@ -24,6 +36,7 @@ pub record IsSound (m : Engine) : Type 0 where
   pub some : 0 < m.limit
   pub limit : m.limit ≤ 1000000000000
   pub cycle : m.cycle < m.limit + 6
+  pub in_time : IsInTime m.cycle m.processor.timers
   pub quiet : 0 < m.quiet_until → IsQuiet m.quiet_until (state_of m)
   pub pace : 0 < m.quiet_until → Serves m.pace (state_of m)
   pub fresh : m.begun ≡ false → IsAtStart (state_of m)
@@ -34,4 +47,5 @@ pub record IsRunning (m : Engine) : Type 0 where
   pub some : 0 < m.limit
   pub limit : m.limit ≤ 1000000000000
   pub cycle : m.cycle < m.limit
+  pub in_time : IsInTime m.cycle m.processor.timers
   pub begun : m.begun ≡ true

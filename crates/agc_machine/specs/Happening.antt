@@ -11,7 +11,8 @@ use Rattle.agc_script.specs.declared.key.Key.{Key}
 use Rattle.agc_store.specs.Cells.{narrow_number}
 use Rattle.agc_store.specs.Places.{inlink_cell}
 use Rattle.agc_processor.specs.declared.processor.Processor.{Processor}
-use Rattle.agc_processor.specs.Channel.{channel_cell, set_channel_cell, set_channel, keyboard_channel, input_channel_32}
+use Rattle.agc_processor.specs.Channel.{channel_cell, set_channel_cell}
+use Rattle.agc_processor.specs.Channel.{set_channel, keyboard_channel, input_channel_32}
 use Rattle.agc_processor.specs.Processor.{◌▷◌, poke}
 use Rattle.agc_processor.specs.Interrupt.{request, rupt_numbered}
 use Rattle.agc_processor.specs.Timer.{counter, set_counter, carried}

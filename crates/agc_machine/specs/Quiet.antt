@@ -4,7 +4,7 @@ use Rattle.std.specs.Prelude.{◌≡◌, ℕ, ◌<◌, ◌≤◌, ◌⊎◌, Boo
 use Rattle.agc_script.specs.declared.event.Event.{Event}
 use Rattle.agc_processor.specs.Channel.{switch_word}
 use Rattle.agc_processor.specs.Interrupt.{first_request}
-use Rattle.agc_processor.specs.Timer.{IsCounted, is_any_due}
+use Rattle.agc_processor.specs.Timer.{is_any_due}
 use Rattle.agc_processor.specs.declared.interrupt.Rupt.{Rupt}
 use Rattle.agc_machine.specs.Boundary.{IsBefore}
 use Rattle.agc_machine.specs.State.{State}
@@ -56,4 +56,4 @@ IsDue cycle s = (s.limit ≤ cycle) ⊎ (IsEventDue cycle s.events ⊎ (is_timer
 
 -- the longest quiet there is: the cycle up to which it is quiet brings something
 abbrev pub IsLongest : ℕ → State → Type 0
-IsLongest until s = IsGoing s → IsCounted s.processor.timers → IsDue until s
+IsLongest until s = IsGoing s → IsDue until s

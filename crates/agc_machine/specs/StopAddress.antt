@@ -1,11 +1,12 @@
 -- The text BANK,ADDR that names a stop address, in octal.
-use Rattle.std.specs.Prelude.{ℕ, ◌==◌, nat_lt, nat_le, Bool, ◌&&◌, List, length, Option, Some, None, if◌then◌else◌}
+use Rattle.std.specs.Prelude.{ℕ, ◌==◌, nat_lt, nat_le, Bool, ◌&&◌, List}
+use Rattle.std.specs.Prelude.{length, Option, Some, None, if◌then◌else◌}
 use Rattle.std.specs.List.{position_or_len, before_first, after_first}
 use Rattle.agc_word.specs.Numeral.{octal_number}
 use Rattle.agc_machine.specs.declared.stop_address.StopAddress.{StopAddress}
 
-abbrev pub is_comma : ℕ → Bool
-is_comma b = b == 44
+abbrev pub is_bank_comma : ℕ → Bool
+is_bank_comma b = b == 44
 
 -- banks go up to 47 octal, addresses up to 7777 octal
 abbrev pub place_in_range : Option ℕ → Option ℕ → Option StopAddress
@@ -19,8 +20,8 @@ place_in_range bank address = None
 -- of one digit up to six. Any other text names none.
 unfoldable pub stop_address_of : List ℕ → Option StopAddress
 stop_address_of text =
-    if nat_lt (position_or_len is_comma text) (length text)
+    if nat_lt (position_or_len is_bank_comma text) (length text)
     then
-    place_in_range (octal_number 6 (before_first is_comma text))
-    (octal_number 6 (after_first is_comma text))
+    place_in_range (octal_number 6 (before_first is_bank_comma text))
+    (octal_number 6 (after_first is_bank_comma text))
     else None

@@ -1,5 +1,6 @@
 -- What the next boundary will be: the boundary's cases in their order, told and not done.
-use Rattle.std.specs.Prelude.{◌≡◌, ◌<◌, ℕ, ◌+◌, ◌%◌, List, [], ◌∷◌, Option, Some, None, option_map, nat_lt, nat_le, true, if◌then◌else◌}
+use Rattle.std.specs.Prelude.{◌≡◌, ◌<◌, ℕ, ◌+◌, ◌%◌, List, [], ◌∷◌, Option, Some}
+use Rattle.std.specs.Prelude.{None, option_map, nat_lt, nat_le, true, if◌then◌else◌}
 use Rattle.agc_script.specs.declared.event.Event.{Event}
 use Rattle.agc_store.specs.Memory.{erasable_bank, selected_bank}
 use Rattle.agc_store.specs.Places.{erasable_window, fixed_fixed, fixed_window}
@@ -7,7 +8,8 @@ use Rattle.agc_processor.specs.Interrupt.{interrupt_cycles, interrupted, pending
 use Rattle.agc_processor.specs.Processor.{z_at}
 use Rattle.agc_processor.specs.Timer.{due_timer, timer_step}
 use Rattle.agc_processor.specs.declared.processor.Processor.{Processor}
-use Rattle.agc_machine.specs.Boundary.{boundary, by_address, by_event, by_interrupt, by_limit, by_order, by_timer, is_reached, passes, stops}
+use Rattle.agc_machine.specs.Boundary.{boundary, by_address, by_event, by_interrupt}
+use Rattle.agc_machine.specs.Boundary.{by_limit, by_order, by_timer, is_reached, passes, stops}
 use Rattle.agc_machine.specs.Happening.{happened, cycles_of}
 use Rattle.agc_machine.specs.State.{State}
 use Rattle.agc_machine.specs.declared.answer.Stepped.{Stepped}

@@ -1,6 +1,8 @@
 //! The boundary: of the things that may happen between two orders, the first that applies.
-ghost use Rattle.std.specs.Prelude.{◌≡◌, ◌<◌, ◌≤◌, ◌+◌, length};
-ghost use Rattle.agc_machine.specs.Engine.{state_of, IsSound};
+ghost use Rattle.std.specs.Prelude.{◌≡◌, ◌<◌, ◌≤◌, ◌+◌, ◌^◌, length};
+ghost use Rattle.agc_processor.specs.Effect.{order_effect, IsOrderly};
+ghost use Rattle.agc_processor.specs.Keeps.{Keeps};
+ghost use Rattle.agc_machine.specs.Engine.{state_of, IsInTime, IsSound};
 
 use crate::answer::{ChannelWrite, Next, Stepped, Stop};
 use crate::happening::{meet, press};
@@ -316,7 +318,7 @@ impl Engine {
         ensures pace { self.new.pace ≡ self.old.pace }
     {
         let cycle = self.cycle;
-        match self.processor.run(cycle) {
+        match run_in_time(&mut self.processor, cycle) {
             Ran::Quiet(cycles) => {
                 self.cycle += cycles;
                 Stepped::Quiet
@@ -347,4 +349,17 @@ impl Engine {
         self.stopped = Some(why);
         Stepped::Stopped(why)
     }
+}
+
+/// The order in hand runs in a processor; its timers stay behind the cycle.
+#[inline(always)]
+fn run_in_time(processor: &mut Processor, cycle: u64) -> Ran
+    requires cycle { cycle < 2 ^ 41 }
+    requires in_time { IsInTime cycle processor.old.timers }
+    ensures effect { (processor.new, result) ≡ order_effect cycle processor.old }
+    ensures orderly { IsOrderly result }
+    ensures keeps { Keeps processor.old (processor.new, result) }
+    ensures in_time { IsInTime cycle processor.new.timers }
+{
+    processor.run(cycle)
 }

@@ -15,10 +15,10 @@ pub(crate) enum Pace {
 }
 
 impl Engine {
-    ghost use Rattle.std.specs.Prelude.{◌≡◌, ℕ, ◌<◌, ◌≤◌, drop, None};
+    ghost use Rattle.std.specs.Prelude.{◌≡◌, ℕ, ◌<◌, ◌≤◌, drop, false, true, None};
     ghost use Rattle.agc_machine.specs.Boundary.{boundary, by_interrupt, IsBefore};
-    ghost use Rattle.agc_machine.specs.Engine.{state_of, IsSound};
-    ghost use Rattle.agc_machine.specs.Quiet.{IsEventDue, IsLongest, IsQuiet, Serves, pace_of};
+    ghost use Rattle.agc_machine.specs.Engine.{state_of, IsInTime, IsSound};
+    ghost use Rattle.agc_machine.specs.Quiet.{IsEventDue, IsLongest, IsQuiet, Serves, is_timer_due, pace_of};
     ghost use Rattle.agc_machine.specs.Run.{next_before};
 
     /// Boundaries below the quiet cycle: up to the next write, the stop, or the first one that ends
@@ -185,7 +185,8 @@ impl Engine {
         self.step_watched()
     }
 
-    /// The cycle below which the clock brings nothing from here on; 0 where that cannot be said.
+    /// The cycle from which the clock brings something again; 0 where the machine has not begun or
+    /// has stopped.
     pub(crate) fn quiet_from_here(&self) -> u64
         requires sound { IsSound (record self.now { quiet_until = 0 }) }
         ensures quiet { 0 < result → IsQuiet result (state_of self.now) }
@@ -194,8 +195,18 @@ impl Engine {
         if !self.begun || self.stopped.is_some() {
             return 0;
         }
-        let timers = self.processor.timers_quiet_until();
+        let timers = self.next_timer_cycle();
         timers.min(self.limit).min(self.next_event_cycle())
+    }
+
+    /// The first cycle at which some timer's step is due.
+    fn next_timer_cycle(&self) -> u64
+        requires in_time { IsInTime self.now.cycle self.now.processor.timers }
+        requires cycle { self.now.cycle ≤ 1000000000006 }
+        ensures none { (cycle : ℕ) → cycle < result → is_timer_due cycle (state_of self.now) ≡ false }
+        ensures due { is_timer_due result (state_of self.now) ≡ true }
+    {
+        self.processor.timers_quiet_until()
     }
 
     /// The cycle of the next event, or a cycle beyond every limit.

@@ -48,11 +48,11 @@ ts_same : (k : ℕ) (p : Processor) → IsSame p (ts_of k p)
 unfolding ts_of
 ts_same k p = ts_by_same (over_of (a_of p)) k p
 
-dim_same : (k : ℕ) (p : Processor) → IsSame p (dim_of k p)
+pub dim_same : (k : ℕ) (p : Processor) → IsSame p (dim_of k p)
 unfolding dim_of
 dim_same k p = either _ p _ _ (refl, refl, refl) (refl, refl, refl)
 
-basic_same : (o : Basic) (p : Processor) → IsSame p (basic_effect o p).0
+pub basic_same : (o : Basic) (p : Processor) → IsSame p (basic_effect o p).0
 unfolding basic_effect tc_of ccs_of tcf_of lxch_of incr_of ads_of ca_of cs_of index_of resume_of xch_of ad_of mask_of dxch_of fetched
 basic_same basic.Das p = das_same (short_address p) p
 basic_same basic.Ts p = ts_same (short_address p) p

@@ -1,3 +1,4 @@
 pub mod Orderly
 pub mod Keeps
 pub mod Fixed
+pub mod Timed

@@ -1,5 +1,6 @@
 use Rattle.std.proofs.Common.{refl, sym, arith}
 use Rattle.agc_machine.specs.Engine.{state_of}
+use Rattle.agc_machine.proofs.InTime.{interrupt_in_time}
 use Rattle.agc_machine.proofs.Stillness.{held_off, quiet_after_interrupt}
 use Rattle.agc_machine.proofs.engine.Engine.take_interrupt.Goals as goal
 
@@ -13,6 +14,7 @@ returns-then-taken-clause-sound c =
       some = c.requires.running.some;
       limit = c.requires.running.limit;
       cycle = omega (arith, c.requires.running.cycle);
+      in_time = interrupt_in_time _ _ _ c.requires.running.in_time (c.if-taken.ensures.taken refl);
       quiet = λ l. quiet_after_interrupt c.args.self.now.quiet_until (state_of c.args.self.now) c.interrupt-taken.new.self _ (c.requires.quiet l) (c.if-taken.ensures.taken refl);
       pace = λ l. c.pace_from_here-self.ensures.serves;
       fresh = λ e. cc;
