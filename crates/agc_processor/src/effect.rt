@@ -191,7 +191,7 @@ impl Processor {
         }
     }
 
-    #[inline]
+    #[inline(always)]
     #[tactic(auto, unfolding(crate::specs::Effect::extracode_effect))]
     fn run_extracode(&mut self, order: Extracode, cycle: u64) -> Ran
         requires { cycle < 2 ^ 41 }
