@@ -67,7 +67,7 @@ impl Basic {
         ensures { result ≡ basic_of (pattern_of 15 word) }
     {
         let bits = word.bits();
-        match bits / 0o2000 {
+        match bits / 0o2000 % 0o40 {
             0o00 => match bits {
                 0o00003 => Basic::Relint,
                 0o00004 => Basic::Inhint,
@@ -104,6 +104,9 @@ impl Basic {
             0o31 => Basic::Ad,
             0o32 => Basic::Ad,
             0o33 => Basic::Ad,
+            0o34 => Basic::Mask,
+            0o35 => Basic::Mask,
+            0o36 => Basic::Mask,
             _ => Basic::Mask,
         }
     }
@@ -122,7 +125,7 @@ impl Extracode {
         ensures { result ≡ extracode_of (pattern_of 15 word) }
     {
         let bits = word.bits();
-        match bits / 0o2000 {
+        match bits / 0o2000 % 0o40 {
             0o00 => if bits < 0o1000 {
                 Extracode::Read
             } else {
@@ -167,6 +170,9 @@ impl Extracode {
             0o31 => Extracode::Bzmf,
             0o32 => Extracode::Bzmf,
             0o33 => Extracode::Bzmf,
+            0o34 => Extracode::Mp,
+            0o35 => Extracode::Mp,
+            0o36 => Extracode::Mp,
             _ => Extracode::Mp,
         }
     }
