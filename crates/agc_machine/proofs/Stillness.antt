@@ -1,5 +1,5 @@
 -- Below the quiet cycle a boundary is an interrupt, the stop at the stop address, or the order in hand.
-use Rattle.std.proofs.Common.{◌≡◌, ℕ, ◌<◌, List, [], ◌∷◌, Bool, true, false, Option, Some, None, refl, ap, subst, sym, ◌∙◌, arith}
+use Rattle.std.proofs.Common.{◌≡◌, ℕ, ◌<◌, ◌≤◌, ◌⊎◌, min, List, [], ◌∷◌, Bool, true, false, Option, Some, None, refl, ap, subst, sym, ◌∙◌, arith}
 use Rattle.std.specs.Prelude.{nat_le, ◌||◌, ◌&&◌, not, if◌then◌else◌, option_map, IfSome}
 use Rattle.std.proofs.lemmas.Bool.Decides.{nat_tests}
 use Rattle.agc_script.specs.declared.event.Event.{Event}
@@ -163,3 +163,7 @@ pub serves_kept : (pace : Pace) (s : State) (p : Processor) (cycle : ℕ) → Se
 serves_kept pace.Bare s p cycle h same = (rw same.1 h.0, h.1)
 serves_kept pace.Watched s p cycle h same = rw same.1 h
 serves_kept pace.Held s p cycle h same = tt
+
+-- the least of three is at most the second, the third or the first
+pub least_of : (t l e : ℕ) → (l ≤ min (min t l) e) ⊎ ((min (min t l) e ≡ e) ⊎ (min (min t l) e ≡ t))
+least_of t l e = grind arith

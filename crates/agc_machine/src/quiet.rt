@@ -187,6 +187,7 @@ impl Engine {
 
     /// The cycle from which the clock brings something again; 0 where the machine has not begun or
     /// has stopped.
+    #[tactic(auto, using(crate::proofs::Stillness::least_of))]
     pub(crate) fn quiet_from_here(&self) -> u64
         requires sound { IsSound (record self.now { quiet_until = 0 }) }
         ensures quiet { 0 < result → IsQuiet result (state_of self.now) }
