@@ -38,9 +38,9 @@ impl Engine {
         }
     }
 
-    /// The same, where nothing comes before an order. It stands in its callers: as a call it would
-    /// cost a write fifty instructions.
-    #[inline(always)]
+    /// The same, where nothing comes before an order. It is a call: a loop of its own keeps the cycle
+    /// and the order in hand in registers.
+    #[inline(never)]
     fn go_bare(&mut self, end: u64) -> Stepped
         requires sound { IsSound self.old }
         requires quiet { self.old.cycle < self.old.quiet_until }
@@ -60,19 +60,6 @@ impl Engine {
                 Stepped::Stopped(why) => return Stepped::Stopped(why),
             }
         }
-    }
-
-    /// The same as a call, for loops that it does not stand in.
-    #[inline(never)]
-    fn go_bare_apart(&mut self, end: u64) -> Stepped
-        requires sound { IsSound self.old }
-        requires quiet { self.old.cycle < self.old.quiet_until }
-        requires end { end ≤ self.old.quiet_until }
-        requires pace { self.old.pace ≡ Pace.Bare }
-        ensures next { (state_of self.new, result) ≡ next_before end (state_of self.old) }
-        ensures sound { IsSound self.new }
-    {
-        self.go_bare(end)
     }
 
     /// The same, where the stop may come before an order.
@@ -113,7 +100,7 @@ impl Engine {
                         return Stepped::Quiet;
                     }
                     match self.pace {
-                        Pace::Bare => return self.go_bare_apart(end),
+                        Pace::Bare => return self.go_bare(end),
                         Pace::Watched => return self.go_watched(end),
                         Pace::Held => {}
                     }

@@ -22,7 +22,7 @@ returns-in-Stopped-clause-next c = before_at_stop _ _ _ _ c.in-Stopped.ensures.s
 
 pub returns-in-Bare-clause-next : goal.returns-in-Bare-clause-next
 returns-in-Bare-clause-next c =
-    c.go_bare_apart.ensures.next ∙ before_after_quiet _ _ _ c.in-Quiet.ensures.step (omega arith) ∙ c.loop-self.invariant.1
+    c.go_bare.ensures.next ∙ before_after_quiet _ _ _ c.in-Quiet.ensures.step (omega arith) ∙ c.loop-self.invariant.1
 
 pub returns-in-Watched-clause-next : goal.returns-in-Watched-clause-next
 returns-in-Watched-clause-next c =
