@@ -1,2 +1,3 @@
 pub mod Trouble
 pub mod Listed
+pub mod Checked

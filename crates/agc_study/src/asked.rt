@@ -12,6 +12,7 @@ static FORMS: [&str; 2] = ["classic", "parity"];
 pub enum Asked {
     List(Listing),
     Weave(Weaving),
+    Check(Checking),
     Trace(Tracing),
 }
 
@@ -28,6 +29,14 @@ pub struct Listing {
 #[derive(Debug, Drop)]
 pub struct Weaving {
     pub text: String,
+    pub form: RopeForm,
+}
+
+/// A rope file and a script file to check.
+#[derive(Debug, Drop)]
+pub struct Checking {
+    pub rope: String,
+    pub script: String,
     pub form: RopeForm,
 }
 
@@ -55,10 +64,11 @@ pub fn asked_by<'a>(alloc: Global, words: &'a [&'a str]) -> Result<Asked, ArgsFa
 
 fn command<'a>(alloc: Global) -> Result<Command<'a>, AllocError> {
     Command::new(alloc, "agc-study")
-        .about("Looks inside the ropes of a Block II computer.")
+        .about("Looks inside the ropes and the runs of a Block II computer.")
         .subcommand_required(true)
         .subcommand(list_command(alloc)?)?
         .subcommand(weave_command(alloc)?)?
+        .subcommand(check_command(alloc)?)?
         .subcommand(trace_command(alloc)?)
 }
 
@@ -74,6 +84,14 @@ fn weave_command<'a>(alloc: Global) -> Result<Command<'a>, AllocError> {
     Command::new(alloc, "weave")
         .about("Writes the rope file of a text: lines BB,AAAA WWWWW, or AAAA WWWWW from 4000 on.")
         .arg(text_file(alloc))?
+        .arg(form_option(alloc))
+}
+
+fn check_command<'a>(alloc: Global) -> Result<Command<'a>, AllocError> {
+    Command::new(alloc, "check")
+        .about("Tells what is wrong with a rope and a script, or what they hold.")
+        .arg(rope_file(alloc))?
+        .arg(script_file(alloc))?
         .arg(form_option(alloc))
 }
 
@@ -171,6 +189,13 @@ fn asked_as(alloc: Global, name: &str, given: &ArgMatches<'_>) -> Result<Asked, 
             rope: path_of(alloc, given, "rope")?,
             form,
             bank: text_of(alloc, given, "bank")?,
+        }));
+    }
+    if name == "check" {
+        return Ok(Asked::Check(Checking {
+            rope: path_of(alloc, given, "rope")?,
+            script: path_of(alloc, given, "script")?,
+            form,
         }));
     }
     if name == "trace" {

@@ -1,11 +1,14 @@
 //! `agc-study`: looks inside ropes and runs. `list` prints a rope's words as orders, `weave` makes a
-//! rope of such a text, and `trace` prints what a run does, boundary by boundary.
+//! rope of such a text, `check` tells what is wrong with a rope and a script, and `trace` prints what a run
+//! does, boundary by boundary.
 #![tactic(auto)]
 
-ghost use Rattle.std.specs.Prelude.{◌≡◌, ◌⊎◌};
+ghost use Rattle.std.specs.Prelude.{◌≡◌, ◌⊎◌, ◌<◌, true, false};
 ghost use Rattle.std.specs.Io.KnownBytes.{Keeps};
+ghost use Rattle.agc_study.specs.Checked.{IsWritten};
 
 mod asked;
+mod checks;
 mod ropes;
 mod runs;
 #[cfg(test)]
@@ -13,9 +16,11 @@ mod tests;
 mod trouble;
 
 use agc_args::ArgsFault;
+use agc_check::Report;
 use agc_session::{DONE, InputFile, Refusal, UNWRITTEN, status_of};
 use agc_trace::{TraceFault, trace};
 use asked::{Asked, asked_by};
+use checks::check_files;
 use ropes::{list_rope, weave_text};
 use runs::read_machine;
 use std::io::Write;
@@ -23,6 +28,9 @@ use std::process::ExitCode;
 use std::rt::{Env, Files};
 use std::{env, fs, io};
 use trouble::Trouble;
+
+/// The status of a report that tells of a fault.
+const FAULTY: u8 = 1;
 
 /// The status where nothing is printed: a mistake in the command line, or a file at fault.
 const TROUBLE: u8 = 2;
@@ -55,8 +63,9 @@ fn wanted<R: Env + AllocGlobal>(rt: &R) -> Result<Asked, ArgsFault> {
 }
 
 /// Does what the command line asks for. With status 0 the answer, or the text of help, stands on
-/// `out` and nothing on `err`; with status 2 one line on `err`, or clap's text of a mistake, and
-/// nothing on `out`. A write that fails gives status 3, and so does a trace that is cut off.
+/// `out` and nothing on `err`, and so does with status 1 the report of `check` on a file at fault; with
+/// status 2 one line on `err`, or clap's text of a mistake, and nothing on `out`. A write that fails
+/// gives status 3, and so does a trace that is cut off.
 fn run<R, W: Write, E: Write>(
     rt: &R,
     asked: Result<Asked, ArgsFault>,
@@ -65,8 +74,8 @@ fn run<R, W: Write, E: Write>(
 ) -> u8
 where
     R: Files + AllocGlobal,
-    ensures status { (result ≡ 0) ⊎ ((result ≡ 2) ⊎ (result ≡ 3)) }
-    ensures silent { result ≡ 0 → Keeps (E.contents err.old) (E.contents err.new) }
+    ensures status { result < 4 }
+    ensures silent { result < 2 → Keeps (E.contents err.old) (E.contents err.new) }
     ensures nothing { result ≡ 2 → Keeps (W.contents out.old) (W.contents out.new) }
 {
     match asked {
@@ -81,6 +90,14 @@ where
             let mut text = InputFile::new(fs::open(rt, weaving.text.as_str()));
             match weave_text(rt.alloc(), weaving.form, &mut text) {
                 Ok(bytes) => status_of(DONE, out.write_all(bytes.as_slice())),
+                Err(trouble) => status_of(TROUBLE, trouble.write_to(err)),
+            }
+        }
+        Ok(Asked::Check(checking)) => {
+            let mut rope = InputFile::new(fs::open(rt, checking.rope.as_str()));
+            let mut script = InputFile::new(fs::open(rt, checking.script.as_str()));
+            match check_files(rt.alloc(), checking.form, &mut rope, &mut script) {
+                Ok(report) => write_report(&report, out),
                 Err(trouble) => status_of(TROUBLE, trouble.write_to(err)),
             }
         }
@@ -108,6 +125,16 @@ where
             status_of(TROUBLE, Trouble::Refused(Refusal::Memory).write_to(err))
         }
     }
+}
+
+/// Writes a report: the status is 0 where nothing is wrong, and 1 where a file is at fault.
+fn write_report<W: Write>(report: &Report, out: &mut W) -> u8
+    ensures sound { result ≡ 0 → IsWritten report.now true (W.contents out.old) (W.contents out.new) }
+    ensures faulty { result ≡ 1 → IsWritten report.now false (W.contents out.old) (W.contents out.new) }
+    ensures status { (result ≡ 0) ⊎ ((result ≡ 1) ⊎ (result ≡ 3)) }
+{
+    let status = if report.is_sound { DONE } else { FAULTY };
+    status_of(status, out.write_all(report.text.as_bytes()))
 }
 
 /// The status of a trace: one that is cut off is not whole, whatever stands there already.
