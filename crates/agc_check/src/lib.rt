@@ -13,3 +13,6 @@ mod shown;
 pub use holdings::{RopeHoldings, ScriptHoldings, Span, holdings_of_rope, holdings_of_script};
 pub use names::nearest;
 pub use reports::{Report, check};
+
+#[cfg(test)]
+mod tests;
