@@ -1,3 +1,4 @@
 pub mod Trouble
 pub mod Listed
 pub mod Checked
+pub mod Started

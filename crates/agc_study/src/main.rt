@@ -5,10 +5,11 @@
 
 ghost use Rattle.std.specs.Prelude.{◌≡◌, ◌⊎◌, ◌<◌, true, false};
 ghost use Rattle.std.specs.Io.KnownBytes.{Keeps};
-ghost use Rattle.agc_study.specs.Checked.{IsWritten};
+ghost use Rattle.agc_study.specs.Checked.{IsWritten, LooksForFaults};
 
 mod asked;
 mod checks;
+mod files;
 mod ropes;
 mod runs;
 #[cfg(test)]
@@ -75,6 +76,7 @@ fn run<R, W: Write, E: Write>(
 where
     R: Files + AllocGlobal,
     ensures status { result < 4 }
+    ensures faulty { result ≡ 1 → LooksForFaults asked }
     ensures silent { result < 2 → Keeps (E.contents err.old) (E.contents err.new) }
     ensures nothing { result ≡ 2 → Keeps (W.contents out.old) (W.contents out.new) }
 {
@@ -116,7 +118,7 @@ where
                 Ok(mut machine) => {
                     status_of_trace(trace(alloc, &mut machine, asked.from, asked.to, out), err)
                 }
-                Err(trouble) => status_of(TROUBLE, trouble.write_to(err)),
+                Err(refusal) => status_of(TROUBLE, Trouble::Refused(refusal).write_to(err)),
             }
         }
         Err(ArgsFault::Help(text)) => status_of(DONE, out.write_all(text.as_bytes())),
