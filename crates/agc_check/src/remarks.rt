@@ -103,7 +103,7 @@ fn push_out_of_order(text: &mut String, words: &[&[u8]], last: u64) -> Result<()
 fn push_unknown(alloc: Global, text: &mut String, words: &[&[u8]]) -> Result<(), AllocError> {
     let place = command_place(words);
     if place >= words.len() {
-        return text.push_str("the command is missing: key, pro, input, pulse, raise or poke\n");
+        return push_missing(text, words);
     }
     let Some(command) = Command::named(words[place]) else {
         push_quoted(text, words[place])?;
@@ -119,6 +119,15 @@ fn push_unknown(alloc: Global, text: &mut String, words: &[&[u8]]) -> Result<(),
         );
     }
     push_unknown_name(alloc, text, command, words)
+}
+
+/// Tells that the command is missing, and with `every` perhaps some of its cycles.
+fn push_missing(text: &mut String, words: &[&[u8]]) -> Result<(), AllocError> {
+    if is_every(words) {
+        text.push_str("`every N FROM TO` wants these three cycles and a command behind them\n")
+    } else {
+        text.push_str("the command is missing: key, pro, input, pulse, raise or poke\n")
+    }
 }
 
 /// Tells the name of a key, a direction or a kind of pulse that there is not.

@@ -113,6 +113,10 @@ fn names(rt: HostRuntime) {
                 "script line 1: UnknownWord\n    20 key\n    `key NAME` is right: here are 0 words behind the command\n",
             ),
             (
+                b"every 5 20",
+                "script line 1: UnknownWord\n    every 5 20\n    `every N FROM TO` wants these three cycles and a command behind them\n",
+            ),
+            (
                 b"20",
                 "script line 1: UnknownWord\n    20\n    the command is missing: key, pro, input, pulse, raise or poke\n",
             ),
