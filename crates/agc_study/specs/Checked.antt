@@ -1,15 +1,12 @@
 -- What `check` tells of the files that it is given.
 use Rattle.std.specs.Prelude.{◌≡◌, ℕ, ◌&&◌, Bool, List, Option, Some, None, is_none, is_ok}
-use Rattle.std.specs.Prelude.{string_bytes, Result, Ok}
+use Rattle.std.specs.Prelude.{string_bytes}
 use Rattle.std.specs.Io.KnownBytes.{Appends}
 use Rattle.agc_store.specs.RopeFile.{rope_fault_of}
 use Rattle.agc_store.specs.declared.rope_file.RopeForm.{RopeForm}
 use Rattle.agc_script.specs.Parse.{script_of}
-use Rattle.agc_args.specs.declared.args.ArgsFault.{ArgsFault}
 use Rattle.agc_check.specs.Report.{IsReport}
 use Rattle.agc_check.specs.declared.reports.Report.{Report}
-use Rattle.agc_study.specs.declared.asked.Asked.{Asked}
-use Rattle.agc_study.specs.declared.asked.Asked.TheVariants as asked
 
 -- a report on the bytes of two files: whether both are sound, and the text
 pub record IsCheckedOf (form : RopeForm) (rope script : List ℕ) (report : Report) : Type 0 where
@@ -26,8 +23,3 @@ IsChecked form (Some rope) (Some script) report = IsCheckedOf form rope script r
 pub record IsWritten (report : Report) (is_sound : Bool) (before after : Option (List ℕ)) : Type 0 where
   pub sound : report.is_sound ≡ is_sound
   pub text : Appends before after (string_bytes report.text)
-
--- the subcommands that tell by their status whether something is wrong
-abbrev pub LooksForFaults : Result Asked ArgsFault → Type 0
-LooksForFaults (Ok (asked.Check checking)) = Unit {0}
-LooksForFaults given = ⊥

@@ -2,3 +2,4 @@ pub mod Trouble
 pub mod Listed
 pub mod Checked
 pub mod Started
+pub mod Ended

@@ -3,9 +3,10 @@
 //! does, boundary by boundary.
 #![tactic(auto)]
 
-ghost use Rattle.std.specs.Prelude.{◌≡◌, ◌⊎◌, ◌<◌, true, false};
+ghost use Rattle.std.specs.Prelude.{◌≡◌, ◌≢◌, ◌⊎◌, ◌<◌, true, false};
 ghost use Rattle.std.specs.Io.KnownBytes.{Keeps};
-ghost use Rattle.agc_study.specs.Checked.{IsWritten, LooksForFaults};
+ghost use Rattle.agc_study.specs.Checked.{IsWritten};
+ghost use Rattle.agc_study.specs.Ended.{IsEnded, LooksForFaults};
 
 mod asked;
 mod checks;
@@ -20,7 +21,7 @@ use agc_args::ArgsFault;
 use agc_check::Report;
 use agc_session::{DONE, InputFile, Refusal, UNWRITTEN, status_of};
 use agc_trace::{TraceFault, trace};
-use asked::{Asked, asked_by};
+use asked::{Asked, Checking, Listing, Tracing, Weaving, asked_by};
 use checks::check_files;
 use ropes::{list_rope, weave_text};
 use runs::read_machine;
@@ -81,51 +82,83 @@ where
     ensures nothing { result ≡ 2 → Keeps (W.contents out.old) (W.contents out.new) }
 {
     match asked {
-        Ok(Asked::List(listing)) => {
-            let mut rope = InputFile::new(fs::open(rt, listing.rope.as_str()));
-            match list_rope(rt.alloc(), listing.form, &listing.bank, &mut rope) {
-                Ok(text) => status_of(DONE, out.write_all(text.as_bytes())),
-                Err(trouble) => status_of(TROUBLE, trouble.write_to(err)),
-            }
-        }
-        Ok(Asked::Weave(weaving)) => {
-            let mut text = InputFile::new(fs::open(rt, weaving.text.as_str()));
-            match weave_text(rt.alloc(), weaving.form, &mut text) {
-                Ok(bytes) => status_of(DONE, out.write_all(bytes.as_slice())),
-                Err(trouble) => status_of(TROUBLE, trouble.write_to(err)),
-            }
-        }
-        Ok(Asked::Check(checking)) => {
-            let mut rope = InputFile::new(fs::open(rt, checking.rope.as_str()));
-            let mut script = InputFile::new(fs::open(rt, checking.script.as_str()));
-            match check_files(rt.alloc(), checking.form, &mut rope, &mut script) {
-                Ok(report) => write_report(&report, out),
-                Err(trouble) => status_of(TROUBLE, trouble.write_to(err)),
-            }
-        }
-        Ok(Asked::Trace(asked)) => {
-            let mut rope = InputFile::new(fs::open(rt, asked.rope.as_str()));
-            let mut script = InputFile::new(fs::open(rt, asked.script.as_str()));
-            let alloc = rt.alloc();
-            match read_machine(
-                alloc,
-                asked.form,
-                asked.limit,
-                &asked.until,
-                &mut rope,
-                &mut script,
-            ) {
-                Ok(mut machine) => {
-                    status_of_trace(trace(alloc, &mut machine, asked.from, asked.to, out), err)
-                }
-                Err(refusal) => status_of(TROUBLE, Trouble::Refused(refusal).write_to(err)),
-            }
-        }
+        Ok(Asked::List(listing)) => list_to(rt, &listing, out, err),
+        Ok(Asked::Weave(weaving)) => weave_to(rt, &weaving, out, err),
+        Ok(Asked::Check(checking)) => check_to(rt, &checking, out, err),
+        Ok(Asked::Trace(tracing)) => trace_to(rt, &tracing, out, err),
         Err(ArgsFault::Help(text)) => status_of(DONE, out.write_all(text.as_bytes())),
         Err(ArgsFault::Command(text)) => status_of(TROUBLE, err.write_all(text.as_bytes())),
         Err(ArgsFault::Memory) => {
             status_of(TROUBLE, Trouble::Refused(Refusal::Memory).write_to(err))
         }
+    }
+}
+
+/// Lists a rope file.
+fn list_to<R, W: Write, E: Write>(rt: &R, listing: &Listing, out: &mut W, err: &mut E) -> u8
+where
+    R: Files + AllocGlobal,
+    ensures ended { IsEnded result (W.contents out.old) (W.contents out.new)
+        (E.contents err.old) (E.contents err.new) }
+    ensures faulty { result ≢ 1 }
+{
+    let mut rope = InputFile::new(fs::open(rt, listing.rope.as_str()));
+    match list_rope(rt.alloc(), listing.form, &listing.bank, &mut rope) {
+        Ok(text) => status_of(DONE, out.write_all(text.as_bytes())),
+        Err(trouble) => status_of(TROUBLE, trouble.write_to(err)),
+    }
+}
+
+/// Weaves a text file.
+fn weave_to<R, W: Write, E: Write>(rt: &R, weaving: &Weaving, out: &mut W, err: &mut E) -> u8
+where
+    R: Files + AllocGlobal,
+    ensures ended { IsEnded result (W.contents out.old) (W.contents out.new)
+        (E.contents err.old) (E.contents err.new) }
+    ensures faulty { result ≢ 1 }
+{
+    let mut text = InputFile::new(fs::open(rt, weaving.text.as_str()));
+    match weave_text(rt.alloc(), weaving.form, &mut text) {
+        Ok(bytes) => status_of(DONE, out.write_all(bytes.as_slice())),
+        Err(trouble) => status_of(TROUBLE, trouble.write_to(err)),
+    }
+}
+
+/// Checks a rope file and a script file.
+fn check_to<R, W: Write, E: Write>(rt: &R, checking: &Checking, out: &mut W, err: &mut E) -> u8
+where
+    R: Files + AllocGlobal,
+    ensures ended { IsEnded result (W.contents out.old) (W.contents out.new)
+        (E.contents err.old) (E.contents err.new) }
+{
+    let mut rope = InputFile::new(fs::open(rt, checking.rope.as_str()));
+    let mut script = InputFile::new(fs::open(rt, checking.script.as_str()));
+    match check_files(rt.alloc(), checking.form, &mut rope, &mut script) {
+        Ok(report) => write_report(&report, out),
+        Err(trouble) => status_of(TROUBLE, trouble.write_to(err)),
+    }
+}
+
+/// Traces the run of a rope file and a script file.
+fn trace_to<R, W: Write, E: Write>(rt: &R, tracing: &Tracing, out: &mut W, err: &mut E) -> u8
+where
+    R: Files + AllocGlobal,
+    ensures ended { IsEnded result (W.contents out.old) (W.contents out.new)
+        (E.contents err.old) (E.contents err.new) }
+    ensures faulty { result ≢ 1 }
+{
+    let alloc = rt.alloc();
+    let (form, limit, until) = (tracing.form, tracing.limit, &tracing.until);
+    let mut rope = InputFile::new(fs::open(rt, tracing.rope.as_str()));
+    let mut script = InputFile::new(fs::open(rt, tracing.script.as_str()));
+    match read_machine(alloc, form, limit, until, &mut rope, &mut script) {
+        Ok(mut machine) => {
+            status_of_trace(
+                trace(alloc, &mut machine, tracing.from, tracing.to, out),
+                err,
+            )
+        }
+        Err(refusal) => status_of(TROUBLE, Trouble::Refused(refusal).write_to(err)),
     }
 }
 
