@@ -1,0 +1,5 @@
+pub mod Common
+pub mod Follower
+pub mod Cells
+pub mod Compare
+pub mod Apart

@@ -1,0 +1,15 @@
+//! Two runs side by side: what they have in common, where they part, and how their ends differ.
+#![tactic(auto)]
+
+mod cells;
+mod common;
+mod comparison;
+mod count;
+mod follower;
+mod runs;
+mod same;
+
+pub use cells::CellPair;
+pub use comparison::{Comparison, Parting};
+pub use follower::{End, WriteParting};
+pub use runs::compare;
