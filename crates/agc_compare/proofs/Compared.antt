@@ -1,5 +1,5 @@
 -- What two runs come to, told from their starts.
-use Rattle.std.proofs.Common.{◌≡◌, ◌≢◌, ℕ, ◌+◌, ◌≤◌, List, [], ◌∷◌, ◌++◌, length, take, Option, Some, None, refl, ap, sym, ◌∙◌, subst, arith, append_assoc, append-nil, length-append, zero-add, suc-add, suc}
+use Rattle.std.proofs.Common.{◌≡◌, ◌≢◌, ℕ, ◌+◌, ◌≤◌, List, [], ◌∷◌, ◌++◌, length, take, Option, Some, None, refl, ap, sym, ◌∙◌, subst, arith, append_assoc, append-nil, length-append, zero-add, suc-add, suc, zero}
 use Rattle.std.proofs.lemmas.Bool.{eqb-true}
 use Rattle.agc_store.specs.Memory.{Memory}
 use Rattle.std.specs.Prelude.{◌-◌, ◌==◌, ◌&&◌, ◌↔◌, All, Bool, true, false, IsTrue, slice_get, unwrap_or}
@@ -10,13 +10,15 @@ use Rattle.agc_machine.specs.Run.{Run, run_of}
 use Rattle.agc_machine.specs.State.{State}
 use Rattle.agc_machine.specs.declared.answer.ChannelWrite.{ChannelWrite}
 use Rattle.agc_panel.specs.Face.{panel_of}
-use Rattle.agc_trace.specs.Entry.{FitsLine}
+use Rattle.agc_trace.specs.Entry.{FitsLine, FitsWrite}
+use Rattle.agc_machine.specs.Laws.{AreRising}
+use Rattle.agc_machine.proofs.Chain.{run_rises}
 use Rattle.agc_trace.specs.Trace.{trace_of}
 use Rattle.agc_trace.specs.declared.entry.Entry.{Entry}
 use Rattle.agc_compare.specs.Apart.{EndsTold, EndsWith, IsParting}
 use Rattle.agc_compare.specs.Cells.{cells_that_differ}
 use Rattle.agc_compare.specs.Common.{ComesApart, HasEnded, HasParted, Tells, held_left, held_right, kept, one_write, run_behind, writes_in}
-use Rattle.agc_compare.specs.Compare.{FitsParting, TellsCommon, TellsEnd, TracesPart, cells_at_end, end_of, is_nowhere, is_same}
+use Rattle.agc_compare.specs.Compare.{FitsParting, FitsWriteParting, TellsCommon, TellsEnd, TracesPart, cells_at_end, end_of, is_nowhere, is_same}
 use Rattle.agc_compare.specs.declared.cells.CellPair.{CellPair}
 use Rattle.agc_compare.specs.declared.comparison.Comparison.{Comparison}
 use Rattle.agc_word.specs.Number.{Number}
@@ -207,3 +209,13 @@ same_cells items xs ys left right e f h = (λ k. sym e ∙ h.0 k ∙ f, λ k. h.
 
 pub differing_cells_told : (items : List CellPair) (xs ys left right : List Number) → xs ≡ left → ys ≡ right → items ≡ cells_that_differ xs ys → items ≡ cells_that_differ left right
 differing_cells_told items xs ys left right e f h = h ∙ ap (λ (zs : List Number). cells_that_differ zs ys) e ∙ ap (cells_that_differ left) f
+
+write_fits : (from n : ℕ) (writes : List ChannelWrite) → AreRising from writes → FitsWrite (slice_get writes n)
+write_fits from n [] h = tt
+write_fits from zero (write ∷ writes) h = omega (arith, h.1.1)
+write_fits from (suc n) (write ∷ writes) h = write_fits (write.cycle + 1) n writes h.2
+
+pub writes_fit : (s t : State) (parting : Option WriteParting) → WritesPart 0 (run_of s).writes (run_of t).writes parting → FitsWriteParting parting
+writes_fit s t None h = tt
+writes_fit s t (Some parting) h =
+    (subst FitsWrite h.2.left (write_fits s.cycle h.0 (run_of s).writes (run_rises s)), subst FitsWrite h.2.right (write_fits t.cycle h.0 (run_of t).writes (run_rises t)))

@@ -1,8 +1,9 @@
 -- The cells of two memories.
-use Rattle.std.proofs.Common.{◌≡◌, ℕ, ◌+◌, ◌<◌, suc, zero, List, [], ◌∷◌, ◌++◌, length, Bool, true, false, refl, ap, sym, ◌∙◌, subst, inl, inr, arith, append-nil, add-one}
-use Rattle.std.specs.Prelude.{◌==◌, ◌&&◌, ◌↔◌, IsTrue, if◌then◌else◌}
+use Rattle.std.proofs.Common.{◌≡◌, ℕ, ◌+◌, ◌≤◌, ◌<◌, suc, zero, List, [], ◌∷◌, ◌++◌, length, Bool, true, false, refl, ap, sym, ◌∙◌, subst, inl, inr, arith, append-nil, add-one}
+use Rattle.std.specs.Prelude.{◌==◌, ◌&&◌, ◌↔◌, All, IsTrue, if◌then◌else◌}
 use Rattle.circular_buffer.proofs.Places.{below_or_not}
 use Rattle.std.proofs.lemmas.List.{ext_get_or}
+use Rattle.std.proofs.lemmas.List.Elements.{All-append, All-cons, All-nil}
 use Rattle.std.proofs.lemmas.Bool.{eq-eqb, eqb-true}
 use Rattle.agc_store.specs.Registers.{HoldsRegisters}
 use Rattle.agc_word.specs.Number.{Number}
@@ -122,3 +123,19 @@ told_none_same place cells m n e t =
     let some : 0 < place = omega (arith, e) in
     let all = told_all place cells m n e t in
     (λ h. memories_same m.erasable n.erasable (t.left some) (t.right some) (sym all ∙ h), λ h. all ∙ none_differ m.erasable n.erasable h)
+
+told_place : (bound place : ℕ) (x y : Number) → place < bound → (s : Bool) → All (λ (cell : CellPair). cell.place < bound) (if s then [] else record { place = place; left = x; right = y } ∷ [])
+told_place bound place x y l true = All-nil (λ (cell : CellPair). cell.place < bound)
+told_place bound place x y l false = All-cons (λ (cell : CellPair). cell.place < bound) (record { place = place; left = x; right = y }) [] l (All-nil (λ (cell : CellPair). cell.place < bound))
+
+places_below : (bound n : ℕ) (xs ys : List Number) → n ≤ bound → All (λ (cell : CellPair). cell.place < bound) (differing_below n xs ys)
+unfolding differing_below
+places_below bound zero xs ys l = All-nil (λ (cell : CellPair). cell.place < bound)
+places_below bound (suc n) xs ys l =
+    All-append (λ (cell : CellPair). cell.place < bound) (differing_below n xs ys) (cell_told n (cell_at n xs) (cell_at n ys)) (places_below bound n xs ys (omega (arith, l)))
+    (told_place bound n (cell_at n xs) (cell_at n ys) (omega (arith, l)) (same_word (cell_at n xs) (cell_at n ys)))
+
+-- the cells that are told have their numbers
+pub places_told : (cells : List CellPair) (xs ys : List Number) → cells ≡ cells_that_differ xs ys → All (λ (cell : CellPair). cell.place < 2048) cells
+unfolding cells_that_differ
+places_told cells xs ys e = subst (All (λ (cell : CellPair). cell.place < 2048)) (sym e) (places_below 2048 2048 xs ys (omega arith))

@@ -1,17 +1,19 @@
 -- What a comparison of two runs tells.
-use Rattle.std.specs.Prelude.{◌≡◌, ℕ, ◌+◌, ◌≤◌, ◌==◌, ◌&&◌, Bool, true, false, All, List, length, take, Option, Some, None}
+use Rattle.std.specs.Prelude.{◌≡◌, ℕ, ◌+◌, ◌≤◌, ◌<◌, ◌==◌, ◌&&◌, Bool, true, false, All, List, length, take, Option, Some, None}
 use Rattle.circular_buffer.specs.Buffer.{keep_last}
 use Rattle.agc_word.specs.Number.{Number}
 use Rattle.agc_machine.specs.Run.{run_of}
 use Rattle.agc_machine.specs.State.{State}
 use Rattle.agc_panel.specs.Face.{panel_of}
-use Rattle.agc_trace.specs.Entry.{FitsLine}
+use Rattle.agc_trace.specs.Entry.{FitsLine, FitsWrite}
 use Rattle.agc_trace.specs.declared.entry.Entry.{Entry}
 use Rattle.agc_compare.specs.Common.{kept, writes_in}
 use Rattle.agc_compare.specs.Follower.{PartBehind}
 use Rattle.agc_compare.specs.declared.comparison.Comparison.{Comparison}
 use Rattle.agc_compare.specs.declared.comparison.Parting.{Parting}
+use Rattle.agc_compare.specs.declared.cells.CellPair.{CellPair}
 use Rattle.agc_compare.specs.declared.follower.End.{End}
+use Rattle.agc_compare.specs.declared.follower.WriteParting.{WriteParting}
 
 -- nothing is told
 abbrev pub is_nowhere : Option Parting → Bool
@@ -50,11 +52,20 @@ pub record TellsEnd (s : State) (end : End) (t : State) : Type 0 where
   pub cycle : (end_of s).cycle ≡ end.cycle
   pub panel : end.panel ≡ panel_of (run_of s).writes
 
--- each number of the entries that are told has its digits in their lines
+-- each number that is told has its digits in the report
 abbrev pub FitsParting : Option Parting → Type 0
 FitsParting None = Unit {0}
 FitsParting (Some parting) = FitsLine parting.left × FitsLine parting.right
 
+abbrev pub FitsWriteParting : Option WriteParting → Type 0
+FitsWriteParting None = Unit {0}
+FitsWriteParting (Some parting) = FitsWrite parting.left × FitsWrite parting.right
+
+abbrev pub IsCell : CellPair → Type 0
+IsCell cell = cell.place < 2048
+
 pub record FitsLines (c : Comparison) : Type 0 where
   pub before : All FitsLine c.before.items
   pub parting : FitsParting c.parting
+  pub write : FitsWriteParting c.write
+  pub cells : All IsCell c.cells.items

@@ -3,3 +3,4 @@ pub mod Follower
 pub mod Cells
 pub mod Compare
 pub mod Apart
+pub mod Report

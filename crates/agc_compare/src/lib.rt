@@ -6,10 +6,14 @@ mod common;
 mod comparison;
 mod count;
 mod follower;
+mod report;
 mod runs;
 mod same;
+#[cfg(test)]
+mod tests;
 
 pub use cells::CellPair;
 pub use comparison::{Comparison, Parting};
 pub use follower::{End, WriteParting};
+pub use report::push_comparison;
 pub use runs::compare;
