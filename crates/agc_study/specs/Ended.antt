@@ -14,4 +14,5 @@ pub record IsEnded (ended : ℕ) (out_old out_new err_old err_new : Option (List
 -- the subcommands that tell by their status whether something is wrong
 abbrev pub LooksForFaults : Result Asked ArgsFault → Type 0
 LooksForFaults (Ok (asked.Check checking)) = Unit {0}
+LooksForFaults (Ok (asked.Compare comparing)) = Unit {0}
 LooksForFaults given = ⊥

@@ -3,3 +3,4 @@ pub mod Listed
 pub mod Checked
 pub mod Started
 pub mod Ended
+pub mod Compared

@@ -1,15 +1,17 @@
 //! `agc-study`: looks inside ropes and runs. `list` prints a rope's words as orders, `weave` makes a
-//! rope of such a text, `check` tells what is wrong with a rope and a script, and `trace` prints what a run
-//! does, boundary by boundary.
+//! rope of such a text, `check` tells what is wrong with a rope and a script, `trace` prints what a run
+//! does, boundary by boundary, and `compare` tells where two runs part.
 #![tactic(auto)]
 
 ghost use Rattle.std.specs.Prelude.{◌≡◌, ◌≢◌, ◌⊎◌, ◌<◌, true, false};
 ghost use Rattle.std.specs.Io.KnownBytes.{Keeps};
 ghost use Rattle.agc_study.specs.Checked.{IsWritten};
+ghost use Rattle.agc_study.specs.Compared.{IsToldTo};
 ghost use Rattle.agc_study.specs.Ended.{IsEnded, LooksForFaults};
 
 mod asked;
 mod checks;
+mod compares;
 mod files;
 mod ropes;
 mod runs;
@@ -21,8 +23,9 @@ use agc_args::ArgsFault;
 use agc_check::Report;
 use agc_session::{DONE, InputFile, Refusal, UNWRITTEN, status_of};
 use agc_trace::{TraceFault, trace};
-use asked::{Asked, Checking, Listing, Tracing, Weaving, asked_by};
+use asked::{Asked, Checking, Comparing, Listing, Tracing, Weaving, asked_by};
 use checks::check_files;
+use compares::{Told, compare_files};
 use ropes::{list_rope, weave_text};
 use runs::read_machine;
 use std::io::Write;
@@ -33,6 +36,9 @@ use trouble::Trouble;
 
 /// The status of a report that tells of a fault.
 const FAULTY: u8 = 1;
+
+/// The status of two runs that are not the same.
+const APART: u8 = 1;
 
 /// The status where nothing is printed: a mistake in the command line, or a file at fault.
 const TROUBLE: u8 = 2;
@@ -65,8 +71,8 @@ fn wanted<R: Env + AllocGlobal>(rt: &R) -> Result<Asked, ArgsFault> {
 }
 
 /// Does what the command line asks for. With status 0 the answer, or the text of help, stands on
-/// `out` and nothing on `err`, and so does with status 1 the report of `check` on a file at fault; with
-/// status 2 one line on `err`, or clap's text of a mistake, and nothing on `out`. A write that fails
+/// `out` and nothing on `err`, and so does with status 1 the report of `check` on a file at fault, or that
+/// of `compare` on runs that are not the same; with status 2 one line on `err`, or clap's text of a mistake, and nothing on `out`. A write that fails
 /// gives status 3, and so does a trace that is cut off.
 fn run<R, W: Write, E: Write>(
     rt: &R,
@@ -86,6 +92,7 @@ where
         Ok(Asked::Weave(weaving)) => weave_to(rt, &weaving, out, err),
         Ok(Asked::Check(checking)) => check_to(rt, &checking, out, err),
         Ok(Asked::Trace(tracing)) => trace_to(rt, &tracing, out, err),
+        Ok(Asked::Compare(comparing)) => compare_to(rt, &comparing, out, err),
         Err(ArgsFault::Help(text)) => status_of(DONE, out.write_all(text.as_bytes())),
         Err(ArgsFault::Command(text)) => status_of(TROUBLE, err.write_all(text.as_bytes())),
         Err(ArgsFault::Memory) => {
@@ -160,6 +167,40 @@ where
         }
         Err(refusal) => status_of(TROUBLE, Trouble::Refused(refusal).write_to(err)),
     }
+}
+
+/// Compares the runs of two rope files and two script files.
+fn compare_to<R, W: Write, E: Write>(rt: &R, asked: &Comparing, out: &mut W, err: &mut E) -> u8
+where
+    R: Files + AllocGlobal,
+    ensures ended { IsEnded result (W.contents out.old) (W.contents out.new)
+        (E.contents err.old) (E.contents err.new) }
+{
+    let mut rope = InputFile::new(fs::open(rt, asked.rope.as_str()));
+    let mut script = InputFile::new(fs::open(rt, asked.script.as_str()));
+    let mut other_rope = InputFile::new(fs::open(rt, asked.other_rope.as_str()));
+    let mut other_script = InputFile::new(fs::open(rt, asked.other_script.as_str()));
+    match compare_files(
+        rt.alloc(),
+        asked,
+        &mut rope,
+        &mut script,
+        &mut other_rope,
+        &mut other_script,
+    ) {
+        Ok(told) => write_told(&told, out),
+        Err(refusal) => status_of(TROUBLE, Trouble::Refused(refusal).write_to(err)),
+    }
+}
+
+/// Writes what is told of two runs: the status is 0 where they are the same, and 1 where they are not.
+fn write_told<W: Write>(told: &Told, out: &mut W) -> u8
+    ensures same { result ≡ 0 → IsToldTo told.now true (W.contents out.old) (W.contents out.new) }
+    ensures apart { result ≡ 1 → IsToldTo told.now false (W.contents out.old) (W.contents out.new) }
+    ensures status { (result ≡ 0) ⊎ ((result ≡ 1) ⊎ (result ≡ 3)) }
+{
+    let status = if told.is_same { DONE } else { APART };
+    status_of(status, out.write_all(told.text.as_bytes()))
 }
 
 /// Writes a report: the status is 0 where nothing is wrong, and 1 where a file is at fault.
