@@ -1,9 +1,12 @@
 -- What `compare` tells of the runs of two ropes and two scripts.
 use Rattle.std.specs.Prelude.{◌≡◌, ◌↔◌, ℕ, Bool, List, Option, IsTrue, string_bytes}
 use Rattle.std.specs.Io.KnownBytes.{Appends}
+use Rattle.agc_machine.specs.Run.{run_of}
 use Rattle.agc_machine.specs.State.{State}
 use Rattle.agc_trace.specs.Trace.{trace_of}
-use Rattle.agc_compare.specs.Compare.{TellsCommon, TracesPart, cells_at_end}
+use Rattle.agc_compare.specs.Cells.{cells_that_differ}
+use Rattle.agc_compare.specs.Compare.{TellsCommon, TellsEnd, TracesPart, cells_at_end}
+use Rattle.agc_compare.specs.Follower.{WritesPart}
 use Rattle.agc_compare.specs.Report.{report_of}
 use Rattle.agc_compare.specs.declared.comparison.Comparison.{Comparison}
 use Rattle.agc_study.specs.Started.{IsStarted}
@@ -20,6 +23,11 @@ pub record IsToldOf (left right : State) (told : Told) : Type 0 where
   pub common : TellsCommon (trace_of left) (trace_of right) comparison
   pub parting : TracesPart comparison.boundaries (trace_of left) (trace_of right)
       comparison.parting
+  pub write : WritesPart 0 (run_of left).writes (run_of right).writes comparison.write
+  pub cells : comparison.cells.items
+      ≡ cells_that_differ (cells_at_end left) (cells_at_end right)
+  pub left_end : (last : State) × TellsEnd left comparison.left last
+  pub right_end : (last : State) × TellsEnd right comparison.right last
 
 -- the same of the machines of two ropes and two scripts, as far as their readers tell their bytes
 pub record IsCompared (asked : Comparing)

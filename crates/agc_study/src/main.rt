@@ -72,8 +72,8 @@ fn wanted<R: Env + AllocGlobal>(rt: &R) -> Result<Asked, ArgsFault> {
 
 /// Does what the command line asks for. With status 0 the answer, or the text of help, stands on
 /// `out` and nothing on `err`, and so does with status 1 the report of `check` on a file at fault, or that
-/// of `compare` on runs that are not the same; with status 2 one line on `err`, or clap's text of a mistake, and nothing on `out`. A write that fails
-/// gives status 3, and so does a trace that is cut off.
+/// of `compare` on runs that are not the same; with status 2 one line on `err`, or clap's text of a
+/// mistake, and nothing on `out`. A write that fails gives status 3, and so does a trace that is cut off.
 fn run<R, W: Write, E: Write>(
     rt: &R,
     asked: Result<Asked, ArgsFault>,

@@ -1,9 +1,10 @@
 //! The program on its command lines, over files that are not there; `examples/study` runs it on files.
-use crate::asked::asked_by;
+use crate::asked::{Comparing, asked_by};
 use crate::checks::check_files;
+use crate::compares::compare_files;
 use crate::ropes::{list_rope, weave_text};
 use crate::trouble::Trouble;
-use crate::{run, write_report};
+use crate::{run, write_report, write_told};
 use agc_rope_text::{LineFault, WeaveFault};
 use agc_session::Refusal;
 use agc_store::{RopeFault, RopeForm};
@@ -49,6 +50,7 @@ fn help(rt: HostRuntime) {
         ("agc-study check --help", "SCRIPT"),
         ("agc-study trace --help", "SCRIPT"),
         ("agc-study trace --help", "--until"),
+        ("agc-study compare --help", "--limit"),
     ] {
         let ended = program(&rt, line);
         assert_eq!(rt; ended.status, 0, "{line}");
@@ -73,6 +75,8 @@ fn mistakes(rt: HostRuntime) {
         "agc-study trace rope script",
         "agc-study trace rope --limit 10",
         "agc-study trace rope script --limit ten",
+        "agc-study compare rope script rope --limit 10",
+        "agc-study compare rope script rope script",
     ] {
         let ended = program(&rt, line);
         assert_eq!(rt; ended.status, 2, "{line}");
@@ -87,6 +91,10 @@ fn troubles(rt: HostRuntime) {
     for (line, told) in [
         ("agc-study list nothing", "agc-study: cannot read rope\n"),
         ("agc-study weave nothing", "agc-study: cannot read text\n"),
+        (
+            "agc-study compare nothing nothing nothing nothing --limit 10",
+            "agc-study: cannot read rope\n",
+        ),
         (
             "agc-study check nothing nothing",
             "agc-study: cannot read rope\n",
@@ -175,6 +183,51 @@ fn files_are_checked(rt: HostRuntime) -> Result<(), Fail> {
         let mut out = Vec::new(alloc);
         assert_eq!(rt; write_report(&report, &mut out), status);
         assert!(rt; out.as_slice() == told.as_bytes());
+    }
+    Ok(())
+}
+
+/// TCF 4000 alone, beside itself and beside a rope that jumps to 4001, where a word of +0 stands.
+#[test]
+fn runs_are_compared(rt: HostRuntime) -> Result<(), Fail> {
+    let alloc = rt.alloc();
+    let others: [(&[u8], u8, &str); 2] = [
+        (
+            &[0x30, 0x00],
+            0,
+            "The runs are the same: 3 boundaries, 0 writes, stop at cycle 2\n",
+        ),
+        (
+            &[0x30, 0x02],
+            1,
+            "The runs part at boundary 1, cycle 0 and 0:\n",
+        ),
+    ];
+    for (other, status, told) in others {
+        let asked = Comparing {
+            rope: String::new(alloc),
+            script: String::new(alloc),
+            other_rope: String::new(alloc),
+            other_script: String::new(alloc),
+            form: RopeForm::Classic,
+            limit: 2,
+            until: None,
+        };
+        let (mut rope, mut script): (&[u8], &[u8]) = (&[0x30, 0x00], b"");
+        let (mut other_rope, mut other_script): (&[u8], &[u8]) = (other, b"");
+        let found = compare_files(
+            alloc,
+            &asked,
+            &mut rope,
+            &mut script,
+            &mut other_rope,
+            &mut other_script,
+        )
+        .ok()
+        .ok_or("a comparison")?;
+        let mut out = Vec::new(alloc);
+        assert_eq!(rt; write_told(&found, &mut out), status);
+        assert!(rt; found.text.as_str().starts_with(told));
     }
     Ok(())
 }

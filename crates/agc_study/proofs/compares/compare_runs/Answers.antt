@@ -7,4 +7,8 @@ returns c = record {
   text = rw c.new-text.ensures.bytes at c.in_ok-push_comparison.ensures;
   common = c.in_ok-comparison.ensures.common;
   parting = c.in_ok-comparison.ensures.parting;
+  write = c.in_ok-comparison.ensures.write;
+  cells = c.in_ok-comparison.ensures.cells;
+  left_end = (_, c.in_ok-comparison.ensures.left_end);
+  right_end = (_, c.in_ok-comparison.ensures.right_end);
 }
