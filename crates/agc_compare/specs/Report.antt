@@ -2,6 +2,11 @@
 use Rattle.std.specs.Prelude.{ℕ, ◌+◌, ◌/◌, ◌%◌, ◌<◌, ◌==◌, ◌||◌, Bool, true, false, nat_lt, if◌then◌else◌}
 use Rattle.std.specs.Prelude.{List, [], ◌++◌, codes, length, flat_map, Option, Some, None}
 use Rattle.std.specs.Fmt.{decimal}
+use Rattle.std.specs.List.{zip}
+use Rattle.std.specs.Str.Lines.{lines}
+use Rattle.std.specs.Str.{bytes_eq}
+use Rattle.agc_panel.specs.Text.{panel_text}
+use Rattle.agc_panel.specs.declared.face.Face.{Face}
 use Rattle.agc_word.specs.Number.{Number, pattern_of}
 use Rattle.agc_word.specs.Arithmetic.{narrow_of}
 use Rattle.agc_word.specs.Octal.{octal_digits}
@@ -65,6 +70,17 @@ write_parting_text (Some parting) =
     write_number_text parting.number ++ codes "< " ++ write_text parting.left ++ codes "> " ++ write_text parting.right
 write_parting_text None = []
 
+-- two lines, where they differ
+unfoldable pub line_pair_text : List ℕ × List ℕ → List ℕ
+line_pair_text (left, right) =
+    if bytes_eq left right then []
+    else codes "< " ++ left ++ codes "\n> " ++ right ++ codes "\n"
+
+-- the lines of two panels that differ
+unfoldable pub panels_text : Face → Face → List ℕ
+panels_text left right =
+    flat_map line_pair_text (zip (lines (panel_text left)) (lines (panel_text right)))
+
 -- an erasable cell by its number: its address, or its bank and its address in the window
 abbrev pub cell_place : ℕ → Place
 cell_place number =
@@ -110,5 +126,5 @@ ends_text left right = codes "< " ++ end_text left ++ codes "> " ++ end_text rig
 unfoldable pub report_of : Comparison → List ℕ
 report_of c =
     if is_same c then same_text c
-    else boundaries_text c c.parting ++ write_parting_text c.write ++ cells_text c.cells.items
-    ++ ends_text c.left c.right
+    else boundaries_text c c.parting ++ write_parting_text c.write
+    ++ panels_text c.left.panel c.right.panel ++ cells_text c.cells.items ++ ends_text c.left c.right

@@ -1,5 +1,7 @@
 //! A comparison in print.
 ghost use Rattle.std.specs.Prelude.{◌≡◌, ◌<◌, ◌++◌, All, OnOk, flat_map, string_bytes};
+ghost use Rattle.std.specs.List.{zip};
+ghost use Rattle.std.specs.Str.Lines.{lines};
 ghost use Rattle.agc_rope_text.specs.Place.{IsInPrint};
 ghost use Rattle.agc_trace.specs.Entry.{FitsLine, FitsWrite};
 ghost use Rattle.agc_compare.specs.Compare.{FitsLines, FitsWriteParting, IsCell};
@@ -12,7 +14,9 @@ ghost use Rattle.agc_compare.specs.Report.{
   end_text,
   ends_text,
   entry_text,
+  line_pair_text,
   number_text,
+  panels_text,
   parting_text,
   report_of,
   same_text,
@@ -26,15 +30,16 @@ use crate::cells::CellPair;
 use crate::comparison::{Comparison, Parting};
 use crate::follower::{End, WriteParting};
 use agc_machine::ChannelWrite;
+use agc_panel::Panel;
 use agc_rope_text::{Place, push_place};
 use agc_store::place::{A, Q};
 use agc_trace::{Entry, push_line, reason_name};
 use agc_word::Wide;
-use std::alloc::AllocError;
+use std::alloc::{AllocError, Global};
 
 /// Adds the report of a comparison. Where the runs are the same it is one line; else it tells, part
 /// by part and only where something differs: the first boundary with up to five lines before it, the
-/// first channel write, the erasable cells, and both stops. Of two lines that differ `<` is that of
+/// first channel write, the panel's lines, the erasable cells, and both stops. Of two lines that differ `<` is that of
 /// the run on the left, `>` that of the run on the right. Fails where memory runs out.
 #[tactic(auto, unfolding(crate::specs::Report::report_of))]
 pub fn push_comparison(text: &mut String, comparison: &Comparison) -> Result<(), AllocError>
@@ -47,6 +52,7 @@ pub fn push_comparison(text: &mut String, comparison: &Comparison) -> Result<(),
     }
     push_boundaries(text, comparison)?;
     push_write_parting(text, comparison.write)?;
+    push_panels(text, &comparison.left.panel, &comparison.right.panel)?;
     push_cells(text, comparison.cells.as_slice())?;
     push_ends(text, comparison.left, comparison.right)
 }
@@ -183,6 +189,55 @@ fn push_write(text: &mut String, write: Option<ChannelWrite>) -> Result<(), Allo
         }
         None => text.push_str("no write\n"),
     }
+}
+
+/// Adds the lines of two panels that differ.
+#[tactic(auto, unfolding(crate::specs::Report::panels_text))]
+fn push_panels(text: &mut String, left: &Panel, right: &Panel) -> Result<(), AllocError>
+    ensures { OnOk result (string_bytes text.new
+        ≡ string_bytes text.old ++ panels_text left.now right.now) }
+{
+    let alloc = *text.allocator();
+    let left_text = left.text(alloc)?;
+    let right_text = right.text(alloc)?;
+    push_lines_apart(text, alloc, left_text.as_str(), right_text.as_str())
+}
+
+/// Adds the lines of two texts that differ, pair by pair.
+fn push_lines_apart(
+    text: &mut String,
+    alloc: Global,
+    left: &str,
+    right: &str,
+) -> Result<(), AllocError>
+    ensures { OnOk result (string_bytes text.new
+        ≡ string_bytes text.old ++ flat_map line_pair_text (zip (lines left.now) (lines right.now))) }
+{
+    let pairs: Vec<(&str, &str)> = left.lines().zip(right.lines()).collect(alloc)?;
+    push_line_pairs(text, pairs.as_slice())
+}
+
+/// Adds each pair of lines that differ.
+fn push_line_pairs(text: &mut String, pairs: &[(&str, &str)]) -> Result<(), AllocError>
+    ensures { OnOk result (string_bytes text.new
+        ≡ string_bytes text.old ++ flat_map (λ pair. line_pair_text (pair.0.now, pair.1.now)) pairs.now) }
+{
+    for pair in pairs {
+        push_line_pair(text, pair.0, pair.1)?;
+    }
+    Ok(())
+}
+
+/// Adds two lines, where they differ.
+#[tactic(auto, unfolding(crate::specs::Report::line_pair_text))]
+fn push_line_pair(text: &mut String, left: &str, right: &str) -> Result<(), AllocError>
+    ensures { OnOk result (string_bytes text.new
+        ≡ string_bytes text.old ++ line_pair_text (left.now, right.now)) }
+{
+    if left == right {
+        return Ok(());
+    }
+    writeln!(text, "< {left}\n> {right}")
 }
 
 /// Adds the cells that differ.

@@ -29,22 +29,22 @@ fn report(rt: &(impl AllocGlobal + Abort), left: &str, right: &str) -> Result<St
     Ok(text)
 }
 
-/// Puts a relay word into channel 10 and the accumulator into cell 100, and waits.
+/// Shows a program's number, and waits.
 static PROG: &str = "
 4000 34004 CA 4004
 4001 00006 EXTEND
 4002 01010 WRITE 10
 4003 14003 TCF 4003
-4004 54171 a relay word: PROG
+4004 54171 a relay word: PROG 12
 ";
 
-/// The same with another relay word.
+/// Writes another relay word, which blanks the verb.
 static OTHER: &str = "
 4000 34004 CA 4004
 4001 00006 EXTEND
 4002 01010 WRITE 10
 4003 14003 TCF 4003
-4004 50000 a relay word: VERB blank
+4004 50000 a relay word: VERB without digits
 ";
 
 /// The orders begin at 0, 2, 3, 5, 6 and 7, and the limit stops at 8: seven boundaries.
@@ -70,8 +70,46 @@ fn another_word(rt: HostRuntime) -> Result<(), Fail> {
         "The first write that differs is number 1:",
         "< 3 > 010 54171",
         "> 3 > 010 50000",
+        "< PROG 12",
+        "> PROG __",
         "The cells that differ at the stops:",
         "0000 154171 150000",
+        "< stop Limit at cycle 8",
+        "> stop Limit at cycle 8",
+    ] {
+        assert_eq!(rt; lines.next(), Some(line));
+    }
+    assert_eq!(rt; lines.next(), None);
+    Ok(())
+}
+
+/// Allows interrupts, and waits.
+static ALLOWED: &str = "
+4000 34004 CA 4004
+4001 00003 RELINT
+4002 14002 TCF 4002
+4004 00001
+";
+
+/// Forbids them.
+static INHIBITED: &str = "
+4000 34004 CA 4004
+4001 00004 INHINT
+4002 14002 TCF 4002
+4004 00001
+";
+
+/// INHINT takes the place of RELINT behind the first order: both take one cycle, and only the lines
+/// tell them apart. The orders begin at 0, 2, 3, 4, 5, 6 and 7.
+#[test]
+fn another_order(rt: HostRuntime) -> Result<(), Fail> {
+    let text = report(&rt, ALLOWED, INHIBITED)?;
+    let mut lines = text.as_str().lines();
+    for line in [
+        "The runs part at boundary 2, cycle 2 and 2:",
+        "  0 4000 34004 CA 4004 | A 000001 L 00000 Q 000000 Z 4002 EB 0 FB 00",
+        "< 2 4001 00003 RELINT | A 000001 L 00000 Q 000000 Z 4003 EB 0 FB 00",
+        "> 2 4001 00004 INHINT | A 000001 L 00000 Q 000000 Z 4003 EB 0 FB 00",
         "< stop Limit at cycle 8",
         "> stop Limit at cycle 8",
     ] {
