@@ -7,6 +7,8 @@ use Rattle.agc_store.specs.RopeFile.{rope_fault_of, rope_words}
 use Rattle.agc_store.specs.declared.rope_file.RopeForm.{RopeForm}
 use Rattle.agc_rope_text.specs.List.{rope_text}
 use Rattle.agc_study.specs.Listed.{IsListing}
+use Rattle.agc_check.specs.declared.reports.Report.{Report}
+use Rattle.agc_study.specs.Checked.{IsChecked, IsCheckedOf}
 
 all_read : (before after : Option (List ℕ)) (read : List ℕ) → Consumes before after read → IsAtEnd after → IfSome before (λ bytes. read ≡ bytes)
 all_read None after read c end = tt
@@ -24,3 +26,13 @@ pub listing : (form : RopeForm) (bank : Option ℕ) (known : Option (List ℕ)) 
     → IfSome known (λ file. IsListing form bank file text)
 listing form bank None rope text words accepted listed = tt
 listing form bank (Some file) rope text words accepted listed = record { rope = accepted; listed = listed ∙ ap (rope_text bank) words }
+
+-- a report on the bytes of two files
+pub checked : (form : RopeForm) (rope rope_left script script_left : Option (List ℕ)) (rope_read script_read : List ℕ) (report : Report)
+    → Consumes rope rope_left rope_read → IsAtEnd rope_left → Consumes script script_left script_read → IsAtEnd script_left
+    → IsCheckedOf form rope_read script_read report → IsChecked form rope script report
+checked form None rope_left script script_left rope_read script_read report c e d f h = tt
+checked form (Some rope) rope_left None script_left rope_read script_read report c e d f h = tt
+checked form (Some rope) rope_left (Some script) script_left rope_read script_read report c e d f h =
+    let of_rope = subst (λ r. IsCheckedOf form r script_read report) (all_read (Some rope) rope_left rope_read c e) h in
+    subst (λ s. IsCheckedOf form rope s report) (all_read (Some script) script_left script_read d f) of_rope

@@ -1,2 +1,6 @@
 pub mod Trouble
 pub mod Listed
+pub mod Checked
+pub mod Started
+pub mod Ended
+pub mod Compared

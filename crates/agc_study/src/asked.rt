@@ -12,7 +12,9 @@ static FORMS: [&str; 2] = ["classic", "parity"];
 pub enum Asked {
     List(Listing),
     Weave(Weaving),
+    Check(Checking),
     Trace(Tracing),
+    Compare(Comparing),
 }
 
 /// A rope file to list, or one bank of it.
@@ -31,6 +33,14 @@ pub struct Weaving {
     pub form: RopeForm,
 }
 
+/// A rope file and a script file to check.
+#[derive(Debug, Drop)]
+pub struct Checking {
+    pub rope: String,
+    pub script: String,
+    pub form: RopeForm,
+}
+
 /// A run to trace, and of which cycles the lines are printed, both ends counted in.
 #[derive(Debug, Drop)]
 pub struct Tracing {
@@ -44,6 +54,19 @@ pub struct Tracing {
     pub to: u64,
 }
 
+/// Two runs to compare.
+#[derive(Debug, Drop)]
+pub struct Comparing {
+    pub rope: String,
+    pub script: String,
+    pub other_rope: String,
+    pub other_script: String,
+    pub form: RopeForm,
+    pub limit: u64,
+    /// The text of `--until`.
+    pub until: Option<String>,
+}
+
 /// What the words of a command line ask for, the program's own name first.
 pub fn asked_by<'a>(alloc: Global, words: &'a [&'a str]) -> Result<Asked, ArgsFault> {
     let command = command(alloc)?;
@@ -55,11 +78,13 @@ pub fn asked_by<'a>(alloc: Global, words: &'a [&'a str]) -> Result<Asked, ArgsFa
 
 fn command<'a>(alloc: Global) -> Result<Command<'a>, AllocError> {
     Command::new(alloc, "agc-study")
-        .about("Looks inside the ropes of a Block II computer.")
+        .about("Looks inside the ropes and the runs of a Block II computer.")
         .subcommand_required(true)
         .subcommand(list_command(alloc)?)?
         .subcommand(weave_command(alloc)?)?
-        .subcommand(trace_command(alloc)?)
+        .subcommand(check_command(alloc)?)?
+        .subcommand(trace_command(alloc)?)?
+        .subcommand(compare_command(alloc)?)
 }
 
 fn list_command<'a>(alloc: Global) -> Result<Command<'a>, AllocError> {
@@ -77,6 +102,14 @@ fn weave_command<'a>(alloc: Global) -> Result<Command<'a>, AllocError> {
         .arg(form_option(alloc))
 }
 
+fn check_command<'a>(alloc: Global) -> Result<Command<'a>, AllocError> {
+    Command::new(alloc, "check")
+        .about("Tells what is wrong with a rope and a script, or what they hold.")
+        .arg(rope_file(alloc))?
+        .arg(script_file(alloc))?
+        .arg(form_option(alloc))
+}
+
 fn trace_command<'a>(alloc: Global) -> Result<Command<'a>, AllocError> {
     Command::new(alloc, "trace")
         .about(
@@ -89,6 +122,35 @@ fn trace_command<'a>(alloc: Global) -> Result<Command<'a>, AllocError> {
         .arg(until_option(alloc))?
         .arg(cycle_option(alloc, "from", "The first cycle whose line is printed"))?
         .arg(cycle_option(alloc, "to", "The last cycle whose line is printed"))
+}
+
+fn compare_command<'a>(alloc: Global) -> Result<Command<'a>, AllocError> {
+    Command::new(alloc, "compare")
+        .about("Runs two ropes with two scripts, and tells where the runs part.")
+        .arg(rope_file(alloc))?
+        .arg(script_file(alloc))?
+        .arg(other_file(
+            alloc,
+            "other-rope",
+            "ROPE",
+            "The rope file of the other run",
+        ))?
+        .arg(other_file(
+            alloc,
+            "other-script",
+            "SCRIPT",
+            "The script file of the other run",
+        ))?
+        .arg(limit_option(alloc))?
+        .arg(form_option(alloc))?
+        .arg(until_option(alloc))
+}
+
+fn other_file<'a>(alloc: Global, id: &'a str, name: &'a str, help: &'a str) -> Arg<'a> {
+    Arg::new(alloc, id)
+        .value_name(name)
+        .required(true)
+        .help(help)
 }
 
 fn script_file<'a>(alloc: Global) -> Arg<'a> {
@@ -173,6 +235,13 @@ fn asked_as(alloc: Global, name: &str, given: &ArgMatches<'_>) -> Result<Asked, 
             bank: text_of(alloc, given, "bank")?,
         }));
     }
+    if name == "check" {
+        return Ok(Asked::Check(Checking {
+            rope: path_of(alloc, given, "rope")?,
+            script: path_of(alloc, given, "script")?,
+            form,
+        }));
+    }
     if name == "trace" {
         return Ok(Asked::Trace(Tracing {
             rope: path_of(alloc, given, "rope")?,
@@ -182,6 +251,17 @@ fn asked_as(alloc: Global, name: &str, given: &ArgMatches<'_>) -> Result<Asked, 
             until: text_of(alloc, given, "until")?,
             from: number_of(given, "from", 0),
             to: number_of(given, "to", u64::MAX),
+        }));
+    }
+    if name == "compare" {
+        return Ok(Asked::Compare(Comparing {
+            rope: path_of(alloc, given, "rope")?,
+            script: path_of(alloc, given, "script")?,
+            other_rope: path_of(alloc, given, "other-rope")?,
+            other_script: path_of(alloc, given, "other-script")?,
+            form,
+            limit: number_of(given, "limit", 0),
+            until: text_of(alloc, given, "until")?,
         }));
     }
     Ok(Asked::Weave(Weaving {

@@ -1,11 +1,18 @@
 //! `agc-study`: looks inside ropes and runs. `list` prints a rope's words as orders, `weave` makes a
-//! rope of such a text, and `trace` prints what a run does, boundary by boundary.
+//! rope of such a text, `check` tells what is wrong with a rope and a script, `trace` prints what a run
+//! does, boundary by boundary, and `compare` tells where two runs part.
 #![tactic(auto)]
 
-ghost use Rattle.std.specs.Prelude.{◌≡◌, ◌⊎◌};
+ghost use Rattle.std.specs.Prelude.{◌≡◌, ◌≢◌, ◌⊎◌, ◌<◌, true, false};
 ghost use Rattle.std.specs.Io.KnownBytes.{Keeps};
+ghost use Rattle.agc_study.specs.Checked.{IsWritten};
+ghost use Rattle.agc_study.specs.Compared.{IsToldTo};
+ghost use Rattle.agc_study.specs.Ended.{IsEnded, LooksForFaults};
 
 mod asked;
+mod checks;
+mod compares;
+mod files;
 mod ropes;
 mod runs;
 #[cfg(test)]
@@ -13,9 +20,12 @@ mod tests;
 mod trouble;
 
 use agc_args::ArgsFault;
+use agc_check::Report;
 use agc_session::{DONE, InputFile, Refusal, UNWRITTEN, status_of};
 use agc_trace::{TraceFault, trace};
-use asked::{Asked, asked_by};
+use asked::{Asked, Checking, Comparing, Listing, Tracing, Weaving, asked_by};
+use checks::check_files;
+use compares::{Told, compare_files};
 use ropes::{list_rope, weave_text};
 use runs::read_machine;
 use std::io::Write;
@@ -23,6 +33,12 @@ use std::process::ExitCode;
 use std::rt::{Env, Files};
 use std::{env, fs, io};
 use trouble::Trouble;
+
+/// The status of a report that tells of a fault.
+const FAULTY: u8 = 1;
+
+/// The status of two runs that are not the same.
+const APART: u8 = 1;
 
 /// The status where nothing is printed: a mistake in the command line, or a file at fault.
 const TROUBLE: u8 = 2;
@@ -55,8 +71,9 @@ fn wanted<R: Env + AllocGlobal>(rt: &R) -> Result<Asked, ArgsFault> {
 }
 
 /// Does what the command line asks for. With status 0 the answer, or the text of help, stands on
-/// `out` and nothing on `err`; with status 2 one line on `err`, or clap's text of a mistake, and
-/// nothing on `out`. A write that fails gives status 3, and so does a trace that is cut off.
+/// `out` and nothing on `err`, and so does with status 1 the report of `check` on a file at fault, or that
+/// of `compare` on runs that are not the same; with status 2 one line on `err`, or clap's text of a
+/// mistake, and nothing on `out`. A write that fails gives status 3, and so does a trace that is cut off.
 fn run<R, W: Write, E: Write>(
     rt: &R,
     asked: Result<Asked, ArgsFault>,
@@ -65,49 +82,135 @@ fn run<R, W: Write, E: Write>(
 ) -> u8
 where
     R: Files + AllocGlobal,
-    ensures status { (result ≡ 0) ⊎ ((result ≡ 2) ⊎ (result ≡ 3)) }
-    ensures silent { result ≡ 0 → Keeps (E.contents err.old) (E.contents err.new) }
+    ensures status { result < 4 }
+    ensures faulty { result ≡ 1 → LooksForFaults asked }
+    ensures silent { result < 2 → Keeps (E.contents err.old) (E.contents err.new) }
     ensures nothing { result ≡ 2 → Keeps (W.contents out.old) (W.contents out.new) }
 {
     match asked {
-        Ok(Asked::List(listing)) => {
-            let mut rope = InputFile::new(fs::open(rt, listing.rope.as_str()));
-            match list_rope(rt.alloc(), listing.form, &listing.bank, &mut rope) {
-                Ok(text) => status_of(DONE, out.write_all(text.as_bytes())),
-                Err(trouble) => status_of(TROUBLE, trouble.write_to(err)),
-            }
-        }
-        Ok(Asked::Weave(weaving)) => {
-            let mut text = InputFile::new(fs::open(rt, weaving.text.as_str()));
-            match weave_text(rt.alloc(), weaving.form, &mut text) {
-                Ok(bytes) => status_of(DONE, out.write_all(bytes.as_slice())),
-                Err(trouble) => status_of(TROUBLE, trouble.write_to(err)),
-            }
-        }
-        Ok(Asked::Trace(asked)) => {
-            let mut rope = InputFile::new(fs::open(rt, asked.rope.as_str()));
-            let mut script = InputFile::new(fs::open(rt, asked.script.as_str()));
-            let alloc = rt.alloc();
-            match read_machine(
-                alloc,
-                asked.form,
-                asked.limit,
-                &asked.until,
-                &mut rope,
-                &mut script,
-            ) {
-                Ok(mut machine) => {
-                    status_of_trace(trace(alloc, &mut machine, asked.from, asked.to, out), err)
-                }
-                Err(trouble) => status_of(TROUBLE, trouble.write_to(err)),
-            }
-        }
+        Ok(Asked::List(listing)) => list_to(rt, &listing, out, err),
+        Ok(Asked::Weave(weaving)) => weave_to(rt, &weaving, out, err),
+        Ok(Asked::Check(checking)) => check_to(rt, &checking, out, err),
+        Ok(Asked::Trace(tracing)) => trace_to(rt, &tracing, out, err),
+        Ok(Asked::Compare(comparing)) => compare_to(rt, &comparing, out, err),
         Err(ArgsFault::Help(text)) => status_of(DONE, out.write_all(text.as_bytes())),
         Err(ArgsFault::Command(text)) => status_of(TROUBLE, err.write_all(text.as_bytes())),
         Err(ArgsFault::Memory) => {
             status_of(TROUBLE, Trouble::Refused(Refusal::Memory).write_to(err))
         }
     }
+}
+
+/// Lists a rope file.
+fn list_to<R, W: Write, E: Write>(rt: &R, listing: &Listing, out: &mut W, err: &mut E) -> u8
+where
+    R: Files + AllocGlobal,
+    ensures ended { IsEnded result (W.contents out.old) (W.contents out.new)
+        (E.contents err.old) (E.contents err.new) }
+    ensures faulty { result ≢ 1 }
+{
+    let mut rope = InputFile::new(fs::open(rt, listing.rope.as_str()));
+    match list_rope(rt.alloc(), listing.form, &listing.bank, &mut rope) {
+        Ok(text) => status_of(DONE, out.write_all(text.as_bytes())),
+        Err(trouble) => status_of(TROUBLE, trouble.write_to(err)),
+    }
+}
+
+/// Weaves a text file.
+fn weave_to<R, W: Write, E: Write>(rt: &R, weaving: &Weaving, out: &mut W, err: &mut E) -> u8
+where
+    R: Files + AllocGlobal,
+    ensures ended { IsEnded result (W.contents out.old) (W.contents out.new)
+        (E.contents err.old) (E.contents err.new) }
+    ensures faulty { result ≢ 1 }
+{
+    let mut text = InputFile::new(fs::open(rt, weaving.text.as_str()));
+    match weave_text(rt.alloc(), weaving.form, &mut text) {
+        Ok(bytes) => status_of(DONE, out.write_all(bytes.as_slice())),
+        Err(trouble) => status_of(TROUBLE, trouble.write_to(err)),
+    }
+}
+
+/// Checks a rope file and a script file.
+fn check_to<R, W: Write, E: Write>(rt: &R, checking: &Checking, out: &mut W, err: &mut E) -> u8
+where
+    R: Files + AllocGlobal,
+    ensures ended { IsEnded result (W.contents out.old) (W.contents out.new)
+        (E.contents err.old) (E.contents err.new) }
+{
+    let mut rope = InputFile::new(fs::open(rt, checking.rope.as_str()));
+    let mut script = InputFile::new(fs::open(rt, checking.script.as_str()));
+    match check_files(rt.alloc(), checking.form, &mut rope, &mut script) {
+        Ok(report) => write_report(&report, out),
+        Err(trouble) => status_of(TROUBLE, trouble.write_to(err)),
+    }
+}
+
+/// Traces the run of a rope file and a script file.
+fn trace_to<R, W: Write, E: Write>(rt: &R, tracing: &Tracing, out: &mut W, err: &mut E) -> u8
+where
+    R: Files + AllocGlobal,
+    ensures ended { IsEnded result (W.contents out.old) (W.contents out.new)
+        (E.contents err.old) (E.contents err.new) }
+    ensures faulty { result ≢ 1 }
+{
+    let alloc = rt.alloc();
+    let (form, limit, until) = (tracing.form, tracing.limit, &tracing.until);
+    let mut rope = InputFile::new(fs::open(rt, tracing.rope.as_str()));
+    let mut script = InputFile::new(fs::open(rt, tracing.script.as_str()));
+    match read_machine(alloc, form, limit, until, &mut rope, &mut script) {
+        Ok(mut machine) => {
+            status_of_trace(
+                trace(alloc, &mut machine, tracing.from, tracing.to, out),
+                err,
+            )
+        }
+        Err(refusal) => status_of(TROUBLE, Trouble::Refused(refusal).write_to(err)),
+    }
+}
+
+/// Compares the runs of two rope files and two script files.
+fn compare_to<R, W: Write, E: Write>(rt: &R, asked: &Comparing, out: &mut W, err: &mut E) -> u8
+where
+    R: Files + AllocGlobal,
+    ensures ended { IsEnded result (W.contents out.old) (W.contents out.new)
+        (E.contents err.old) (E.contents err.new) }
+{
+    let mut rope = InputFile::new(fs::open(rt, asked.rope.as_str()));
+    let mut script = InputFile::new(fs::open(rt, asked.script.as_str()));
+    let mut other_rope = InputFile::new(fs::open(rt, asked.other_rope.as_str()));
+    let mut other_script = InputFile::new(fs::open(rt, asked.other_script.as_str()));
+    match compare_files(
+        rt.alloc(),
+        asked,
+        &mut rope,
+        &mut script,
+        &mut other_rope,
+        &mut other_script,
+    ) {
+        Ok(told) => write_told(&told, out),
+        Err(refusal) => status_of(TROUBLE, Trouble::Refused(refusal).write_to(err)),
+    }
+}
+
+/// Writes what is told of two runs: the status is 0 where they are the same, and 1 where they are not.
+fn write_told<W: Write>(told: &Told, out: &mut W) -> u8
+    ensures same { result ≡ 0 → IsToldTo told.now true (W.contents out.old) (W.contents out.new) }
+    ensures apart { result ≡ 1 → IsToldTo told.now false (W.contents out.old) (W.contents out.new) }
+    ensures status { (result ≡ 0) ⊎ ((result ≡ 1) ⊎ (result ≡ 3)) }
+{
+    let status = if told.is_same { DONE } else { APART };
+    status_of(status, out.write_all(told.text.as_bytes()))
+}
+
+/// Writes a report: the status is 0 where nothing is wrong, and 1 where a file is at fault.
+fn write_report<W: Write>(report: &Report, out: &mut W) -> u8
+    ensures sound { result ≡ 0 → IsWritten report.now true (W.contents out.old) (W.contents out.new) }
+    ensures faulty { result ≡ 1 → IsWritten report.now false (W.contents out.old) (W.contents out.new) }
+    ensures status { (result ≡ 0) ⊎ ((result ≡ 1) ⊎ (result ≡ 3)) }
+{
+    let status = if report.is_sound { DONE } else { FAULTY };
+    status_of(status, out.write_all(report.text.as_bytes()))
 }
 
 /// The status of a trace: one that is cut off is not whole, whatever stands there already.

@@ -1,19 +1,16 @@
 //! Ropes to texts, and texts to ropes.
 ghost use Rattle.std.specs.Prelude.{◌≡◌, ◌≢◌, None, Err, IfOk, IfErr, IfSome, string_bytes};
-ghost use Rattle.std.specs.Prelude.{unwrap_or};
-ghost use Rattle.agc_store.specs.RopeFile.{rope_fault_of, rope_words};
 ghost use Rattle.agc_rope_text.specs.Weave.{IsWovenOf, said_in};
 ghost use Rattle.agc_study.specs.Listed.{IsListing, bank_asked_for, bank_named};
-ghost use Rattle.agc_store.specs.declared.rope_file.RopeFault.TheVariants as rope_fault;
 ghost use Rattle.agc_rope_text.specs.declared.fault.WeaveFault.{WeaveFault};
 ghost use Rattle.agc_rope_text.specs.declared.fault.WeaveFault.TheVariants as weave_fault;
-ghost use Rattle.agc_session.specs.declared.refusal.Refusal.TheVariants as refusal;
 ghost use Rattle.agc_study.specs.declared.trouble.Trouble.TheVariants as told;
 
+use crate::files::read_rope;
 use crate::trouble::Trouble;
 use agc_rope_text::{WeaveFault, list, weave};
-use agc_session::{ROPE_BYTES, Refusal, SCRIPT_BYTES, Unread, read_limited};
-use agc_store::{Rope, RopeForm, Store};
+use agc_session::{Refusal, SCRIPT_BYTES, Unread, read_limited};
+use agc_store::{RopeForm, Store};
 use agc_word::read_octal;
 use std::alloc::Global;
 use std::io::Read;
@@ -59,35 +56,6 @@ fn bank_named(text: &[u8]) -> Option<u8>
 {
     let bank = read_octal(2, text)?;
     if bank <= 0o43 { Some(bank as u8) } else { None }
-}
-
-/// Reads a rope file.
-pub fn read_rope<R: Read>(alloc: Global, form: RopeForm, reader: &mut R) -> Result<Rope, Trouble>
-    ensures words { IfOk result
-        (λ rope. IfSome (R.remaining reader.old) (λ file. rope ≡ rope_words form file)) }
-    ensures accepted { IfOk result
-        (λ _. IfSome (R.remaining reader.old) (λ file. rope_fault_of form file ≡ None)) }
-{
-    let bytes = match read_limited(alloc, reader, ROPE_BYTES) {
-        Ok(bytes) => bytes,
-        Err(Unread::CannotRead(fault)) => {
-            return Err(Trouble::Refused(Refusal::CannotReadRope(fault)));
-        }
-        Err(Unread::Memory) => return Err(Trouble::Refused(Refusal::Memory)),
-    };
-    rope_of(alloc, form, bytes.as_slice())
-}
-
-fn rope_of(alloc: Global, form: RopeForm, bytes: &[u8]) -> Result<Rope, Trouble>
-    ensures words { IfOk result (λ rope. rope ≡ rope_words form bytes.now) }
-    ensures accepted { IfOk result (λ _. rope_fault_of form bytes.now ≡ None) }
-    ensures refused { IfErr result (λ t. t ≡ told.Refused
-        (refusal.Rope (unwrap_or (rope_fault_of form bytes.now) rope_fault.Memory))) }
-{
-    match Rope::read_as(alloc, form, bytes) {
-        Ok(rope) => Ok(rope),
-        Err(fault) => Err(Trouble::Refused(Refusal::Rope(fault))),
-    }
 }
 
 /// The rope file that a text file weaves to.

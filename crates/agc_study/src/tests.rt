@@ -1,8 +1,10 @@
 //! The program on its command lines, over files that are not there; `examples/study` runs it on files.
-use crate::asked::asked_by;
+use crate::asked::{Comparing, asked_by};
+use crate::checks::check_files;
+use crate::compares::compare_files;
 use crate::ropes::{list_rope, weave_text};
-use crate::run;
 use crate::trouble::Trouble;
+use crate::{run, write_report, write_told};
 use agc_rope_text::{LineFault, WeaveFault};
 use agc_session::Refusal;
 use agc_store::{RopeFault, RopeForm};
@@ -45,8 +47,10 @@ fn help(rt: HostRuntime) {
         ("agc-study list -h", "--form"),
         ("agc-study weave --help", "FILE"),
         ("agc-study weave --help", "--form"),
+        ("agc-study check --help", "SCRIPT"),
         ("agc-study trace --help", "SCRIPT"),
         ("agc-study trace --help", "--until"),
+        ("agc-study compare --help", "--limit"),
     ] {
         let ended = program(&rt, line);
         assert_eq!(rt; ended.status, 0, "{line}");
@@ -66,9 +70,13 @@ fn mistakes(rt: HostRuntime) {
         "agc-study list rope --form other",
         "agc-study weave",
         "agc-study weave text --bank 02",
+        "agc-study check rope",
+        "agc-study check rope script --limit 10",
         "agc-study trace rope script",
         "agc-study trace rope --limit 10",
         "agc-study trace rope script --limit ten",
+        "agc-study compare rope script rope --limit 10",
+        "agc-study compare rope script rope script",
     ] {
         let ended = program(&rt, line);
         assert_eq!(rt; ended.status, 2, "{line}");
@@ -83,6 +91,14 @@ fn troubles(rt: HostRuntime) {
     for (line, told) in [
         ("agc-study list nothing", "agc-study: cannot read rope\n"),
         ("agc-study weave nothing", "agc-study: cannot read text\n"),
+        (
+            "agc-study compare nothing nothing nothing nothing --limit 10",
+            "agc-study: cannot read rope\n",
+        ),
+        (
+            "agc-study check nothing nothing",
+            "agc-study: cannot read rope\n",
+        ),
         (
             "agc-study trace nothing nothing --limit 10",
             "agc-study: cannot read rope\n",
@@ -139,5 +155,79 @@ fn a_text_is_woven(rt: HostRuntime) -> Result<(), Fail> {
         refused.err(),
         Some(Trouble::Text(WeaveFault::Line(2, LineFault::BadWord)))
     );
+    Ok(())
+}
+
+/// The status tells whether a file is at fault, and the report stands on standard output.
+#[test]
+fn files_are_checked(rt: HostRuntime) -> Result<(), Fail> {
+    let alloc = rt.alloc();
+    let scripts: [(&[u8], u8, &str); 2] = [
+        (
+            b"7 key 1\n",
+            0,
+            "rope: words 1, banks 1\nscript: events 1, first cycle 7, last cycle 7\n",
+        ),
+        (
+            b"7 raise 0\n",
+            1,
+            "rope: words 1, banks 1\nscript line 1: OutOfRange\n    7 raise 0\n    `0` is out of range: 1 to 10 decimal\n",
+        ),
+    ];
+    for (script, status, told) in scripts {
+        let mut rope: &[u8] = &[0x70, 0x08];
+        let mut script = script;
+        let report = check_files(alloc, RopeForm::Classic, &mut rope, &mut script)
+            .ok()
+            .ok_or("a report")?;
+        let mut out = Vec::new(alloc);
+        assert_eq!(rt; write_report(&report, &mut out), status);
+        assert!(rt; out.as_slice() == told.as_bytes());
+    }
+    Ok(())
+}
+
+/// TCF 4000 alone, beside itself and beside a rope that jumps to 4001, where a word of +0 stands.
+#[test]
+fn runs_are_compared(rt: HostRuntime) -> Result<(), Fail> {
+    let alloc = rt.alloc();
+    let others: [(&[u8], u8, &str); 2] = [
+        (
+            &[0x30, 0x00],
+            0,
+            "The runs are the same: 3 boundaries, 0 writes, stop at cycle 2\n",
+        ),
+        (
+            &[0x30, 0x02],
+            1,
+            "The runs part at boundary 1, cycle 0 and 0:\n",
+        ),
+    ];
+    for (other, status, told) in others {
+        let asked = Comparing {
+            rope: String::new(alloc),
+            script: String::new(alloc),
+            other_rope: String::new(alloc),
+            other_script: String::new(alloc),
+            form: RopeForm::Classic,
+            limit: 2,
+            until: None,
+        };
+        let (mut rope, mut script): (&[u8], &[u8]) = (&[0x30, 0x00], b"");
+        let (mut other_rope, mut other_script): (&[u8], &[u8]) = (other, b"");
+        let found = compare_files(
+            alloc,
+            &asked,
+            &mut rope,
+            &mut script,
+            &mut other_rope,
+            &mut other_script,
+        )
+        .ok()
+        .ok_or("a comparison")?;
+        let mut out = Vec::new(alloc);
+        assert_eq!(rt; write_told(&found, &mut out), status);
+        assert!(rt; found.text.as_str().starts_with(told));
+    }
     Ok(())
 }

@@ -2,6 +2,7 @@
 ghost use Rattle.std.specs.Prelude.{◌≡◌, OnOk};
 ghost use Rattle.std.specs.Io.KnownBytes.{Appends};
 ghost use Rattle.agc_study.specs.Trouble.{line_fault_name, trouble_line};
+ghost use Rattle.agc_study.specs.declared.trouble.Trouble.TheVariants as told;
 
 use agc_rope_text::{LineFault, WeaveFault};
 use agc_session::Refusal;
@@ -28,6 +29,14 @@ impl Trouble {
             (Appends (W.contents err.old) (W.contents err.new) (trouble_line self)) }
     {
         writeln!(err, "agc-study: {self}")
+    }
+}
+
+impl From<Refusal> for Trouble {
+    ghost from_gives = { λ refusal t. t ≡ told.Refused refusal };
+
+    fn from(refusal: Refusal) -> Trouble {
+        Trouble::Refused(refusal)
     }
 }
 

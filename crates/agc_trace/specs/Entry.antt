@@ -1,5 +1,5 @@
 -- What a boundary without a live key did, as one value.
-use Rattle.std.specs.Prelude.{ℕ, ◌/◌, ◌<◌, Option, Some, None}
+use Rattle.std.specs.Prelude.{◌/◌, ◌<◌, Option, Some, None}
 use Rattle.agc_word.specs.Number.{pattern_of}
 use Rattle.agc_store.specs.Cells.{cell_of}
 use Rattle.agc_store.specs.Memory.{Memory, erasable_bank}

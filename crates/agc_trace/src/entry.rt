@@ -37,6 +37,18 @@ pub struct Entry {
     pub registers: Registers,
 }
 
+impl Entry {
+    ghost use Rattle.std.specs.Prelude.{◌≡◌};
+    ghost use Rattle.agc_trace.specs.Trace.{is_stop};
+
+    /// The boundary is the stop.
+    pub fn is_stop(&self) -> bool
+        ensures { result ≡ is_stop self.now.happening }
+    {
+        matches!(self.happening, Upcoming::Stop(_))
+    }
+}
+
 /// Takes one boundary of a machine, and tells it.
 #[tactic(auto, unfolding(crate::specs::Entry::entry_of))]
 pub fn next_entry(machine: &mut Machine) -> Entry

@@ -8,5 +8,5 @@ mod tests;
 mod tracing;
 
 pub use entry::{Entry, Registers, next_entry};
-pub use line::push_line;
+pub use line::{push_line, reason_name};
 pub use tracing::{TraceFault, trace};

@@ -181,8 +181,8 @@ fn push_registers(text: &mut String, registers: Registers) -> Result<(), AllocEr
     )
 }
 
-/// The name of a stop.
-fn reason_name(why: Stop) -> &'static str
+/// The name of a stop: `Limit`, `DivisionUndefined`, `Edrupt` or `Reached`.
+pub fn reason_name(why: Stop) -> &'static str
     ensures { result.now ≡ reason_name why }
 {
     match why {

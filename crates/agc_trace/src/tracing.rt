@@ -3,11 +3,11 @@ ghost use Rattle.std.specs.Prelude.{◌≡◌, [], ◌∷◌, OnOk};
 ghost use Rattle.std.specs.Io.KnownBytes.{Appends};
 ghost use Rattle.agc_trace.specs.Entry.{FitsLine};
 ghost use Rattle.agc_trace.specs.Line.{line_of};
-ghost use Rattle.agc_trace.specs.Trace.{is_stop, lines_between, trace_of};
+ghost use Rattle.agc_trace.specs.Trace.{lines_between, trace_of};
 
 use crate::entry::{Entry, next_entry};
 use crate::line::push_line;
-use agc_machine::{Machine, Upcoming};
+use agc_machine::Machine;
 use std::alloc::Global;
 use std::io::Write;
 use thiserror::Error;
@@ -36,17 +36,10 @@ pub fn trace<W: Write>(
     loop {
         let entry = next_entry(machine);
         write_between(alloc, from, to, &entry, out)?;
-        if is_stop(entry.happening) {
+        if entry.is_stop() {
             return Ok(());
         }
     }
-}
-
-/// The boundary is the stop.
-fn is_stop(happening: Upcoming) -> bool
-    ensures { result ≡ is_stop happening }
-{
-    matches!(happening, Upcoming::Stop(_))
 }
 
 /// Writes the line of an entry, where its cycle is in the range.

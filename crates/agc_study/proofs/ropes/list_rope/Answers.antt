@@ -15,5 +15,5 @@ returns-in-Ok g c =
     record {
       listed =
           listing c.args.form (bank_asked_for c.args.bank.now) _ c.in_ok-read_rope.field-0 (string_bytes c.in-Ok.text)
-          c.in_ok-read_rope.ensures.words c.in_ok-read_rope.ensures.accepted (c.in-Ok.ensures ∙ asked ∙ words);
+          c.in_ok-read_rope.ensures.words c.in_ok-read_rope.ensures.sound (c.in-Ok.ensures ∙ asked ∙ words);
     }

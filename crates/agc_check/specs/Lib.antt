@@ -1,0 +1,4 @@
+pub mod Holdings
+pub mod Shown
+pub mod RopeReport
+pub mod Report

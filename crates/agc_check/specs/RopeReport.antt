@@ -1,0 +1,69 @@
+-- What is told of a rope file: what it holds, or its fault and what would be right.
+use Rattle.std.specs.Prelude.{ℕ, ◌+◌, ◌*◌, ◌/◌, ◌%◌, ◌<◌, List, ◌++◌, length, codes, count_ones}
+use Rattle.std.specs.Prelude.{Option, Some, None}
+use Rattle.std.specs.Fmt.{decimal}
+use Rattle.agc_word.specs.Number.{Number, pattern_of}
+use Rattle.agc_word.specs.Octal.{octal_digits}
+use Rattle.agc_store.specs.Cells.{narrow_number}
+use Rattle.agc_store.specs.RopeFile.{file_word, rope_fault_of, rope_words}
+use Rattle.agc_store.specs.declared.rope_file.RopeForm.{RopeForm}
+use Rattle.agc_store.specs.declared.rope_file.RopeFault.{RopeFault}
+use Rattle.agc_store.specs.declared.rope_file.RopeFault.TheVariants as rope
+use Rattle.agc_rope_text.specs.List.{listed_address}
+use Rattle.agc_rope_text.specs.Place.{place_text}
+use Rattle.agc_rope_text.specs.declared.place.Place.TheVariants as place
+use Rattle.agc_session.specs.Refusal.{refusal_text}
+use Rattle.agc_session.specs.declared.refusal.Refusal.TheVariants as refusal
+use Rattle.agc_check.specs.Holdings.{rope_holdings}
+use Rattle.agc_check.specs.declared.holdings.RopeHoldings.{RopeHoldings}
+
+-- a fault of a parity stands in one of the 36 banks
+abbrev pub IsPlaced : RopeFault → Type 0
+IsPlaced (rope.Parity bank offset) = (bank < 36) × (offset < 0o2000)
+IsPlaced fault = Unit {0}
+
+unfoldable pub rope_holdings_text : RopeHoldings → List ℕ
+rope_holdings_text held =
+    codes "rope: words " ++ decimal held.words ++ codes ", banks " ++ decimal held.banks ++ codes "\n"
+
+-- the word that sixteen bits of a file say, their parity bit, and how many of them are one
+unfoldable pub word_text : ℕ → List ℕ
+word_text word =
+    codes " is " ++ octal_digits 5 (pattern_of 15 (narrow_number (word / 2)))
+    ++ codes " with parity bit " ++ decimal (word % 2)
+    ++ codes ": " ++ decimal (count_ones word) ++ codes " one bits, and they should be odd\n"
+
+-- a place as listings name it, and the sixteen bits that stand there in the file
+unfoldable pub bad_word_text : ℕ → ℕ → ℕ → List ℕ
+bad_word_text bank address word =
+    codes "    the word at " ++ place_text (place.Fixed bank address) ++ word_text word
+
+-- which word has the wrong parity
+unfoldable pub parity_why : List ℕ → ℕ → ℕ → List ℕ
+parity_why file bank offset =
+    let index = 0o2000 * bank + offset in
+    bad_word_text bank (listed_address index) (file_word file index)
+
+unfoldable pub rope_why : List ℕ → RopeFault → List ℕ
+rope_why file rope.Empty =
+    codes "    the file has no bytes, and a rope has a word at least: two bytes\n"
+rope_why file rope.OddLength =
+    codes "    the file has " ++ decimal (length file) ++ codes " bytes, and each word has two\n"
+rope_why file rope.TooLong =
+    codes "    the file has " ++ decimal (length file)
+    ++ codes " bytes, and 73728 are the most: 36 banks of 1024 words\n"
+rope_why file (rope.Parity bank offset) = parity_why file bank offset
+rope_why file rope.Memory = codes ""
+
+-- a fault in the words of `agc`, and what would be right
+unfoldable pub rope_fault_text : List ℕ → RopeFault → List ℕ
+rope_fault_text file fault =
+    refusal_text (refusal.Rope fault) ++ codes "\n" ++ rope_why file fault
+
+abbrev pub rope_told : Option RopeFault → List ℕ → List Number → List ℕ
+rope_told None file words = rope_holdings_text (rope_holdings words)
+rope_told (Some fault) file words = rope_fault_text file fault
+
+-- what is told of a rope file
+unfoldable pub rope_report : RopeForm → List ℕ → List ℕ
+rope_report form file = rope_told (rope_fault_of form file) file (rope_words form file)

@@ -1,0 +1,17 @@
+-- How bytes of a file stand in print.
+use Rattle.std.specs.Prelude.{ℕ, nat_lt, List, [], ◌∷◌, ◌++◌, length, take, codes, if◌then◌else◌}
+use Rattle.std.specs.List.{flat_map}
+use Rattle.agc_word.specs.Octal.{octal_digits}
+use Rattle.agc_rope_text.specs.Line.{is_no_text}
+
+-- a byte that prints, or a tab, as it is, and each other one by its three octal digits
+unfoldable pub shown_byte : ℕ → List ℕ
+shown_byte b = if is_no_text b then codes "\\" ++ octal_digits 3 b else b ∷ []
+
+unfoldable pub shown : List ℕ → List ℕ
+shown bytes = flat_map shown_byte bytes
+
+-- a line of a file: its first 120 bytes
+unfoldable pub shown_line : List ℕ → List ℕ
+shown_line line =
+    if nat_lt 120 (length line) then shown (take 120 line) ++ codes " .." else shown line

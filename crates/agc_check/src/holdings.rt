@@ -1,0 +1,112 @@
+//! What a rope and a script hold, counted.
+ghost use Rattle.std.specs.Prelude.{◌≡◌, ◌<◌, ◌*◌, ◌+◌};
+ghost use Rattle.agc_check.specs.Holdings.{
+  bank_count,
+  has_words,
+  is_woven_at,
+  rope_holdings,
+  script_holdings,
+  span_of,
+  word_count,
+};
+
+use agc_script::Script;
+use agc_store::{Rope, Store};
+
+/// How much of a rope is woven.
+#[derive(Clone, Copy, Debug, PartialEq, Eq)]
+pub struct RopeHoldings {
+    /// The words that are not +0, at most 36,864.
+    pub words: usize,
+    /// The banks that hold such a word, at most 36.
+    pub banks: usize,
+}
+
+/// How many events a script has, and when.
+#[derive(Clone, Copy, Debug, PartialEq, Eq)]
+pub struct ScriptHoldings {
+    /// At most 65,536.
+    pub events: usize,
+    /// `None` where there are no events.
+    pub span: Option<Span>,
+}
+
+/// The machine cycles of the first and of the last event.
+#[derive(Clone, Copy, Debug, PartialEq, Eq)]
+pub struct Span {
+    pub first: u64,
+    pub last: u64,
+}
+
+/// Counts the words of a rope.
+#[tactic(auto, unfolding(crate::specs::Holdings::rope_holdings, agc_store::specs::Cells::start_memory))]
+pub fn holdings_of_rope(rope: Rope) -> RopeHoldings
+    ensures { result ≡ rope_holdings rope }
+{
+    let store = Store::new(rope);
+    RopeHoldings {
+        words: word_count(&store),
+        banks: bank_count(&store),
+    }
+}
+
+#[tactic(auto, unfolding(crate::specs::Holdings::word_count))]
+fn word_count(store: &Store) -> usize
+    ensures { result ≡ word_count store.now.fixed }
+{
+    (0..36864)
+        .filter(|place| is_woven_at(store, *place))
+        .count()
+}
+
+#[tactic(auto, unfolding(crate::specs::Holdings::bank_count))]
+fn bank_count(store: &Store) -> usize
+    ensures { result ≡ bank_count store.now.fixed }
+{
+    (0..36).filter(|bank| has_words(store, *bank)).count()
+}
+
+/// Whether a bank holds a word that is not +0.
+#[tactic(auto, unfolding(crate::specs::Holdings::has_words))]
+fn has_words(store: &Store, bank: usize) -> bool
+    requires { bank < 36 }
+    ensures { result ≡ has_words store.now.fixed bank }
+{
+    (0..0o2000).any(|offset| is_woven_at(store, 0o2000 * bank + offset))
+}
+
+/// Whether the word at a place, 2000 octal times its bank plus its offset, is not +0.
+#[tactic(auto, unfolding(agc_store::specs::Cells::fixed_of, crate::specs::Holdings::is_woven_at))]
+fn is_woven_at(store: &Store, place: usize) -> bool
+    requires { place < 36864 }
+    ensures { result ≡ is_woven_at store.now.fixed place }
+{
+    store
+        .fixed((place / 0o2000) as u8, (place % 0o2000) as u16)
+        .bits()
+        != 0
+}
+
+/// Counts the events of a script.
+#[tactic(auto, unfolding(crate::specs::Holdings::script_holdings))]
+pub fn holdings_of_script(script: &Script) -> ScriptHoldings
+    ensures { result ≡ script_holdings script.now }
+{
+    ScriptHoldings {
+        events: script.len(),
+        span: span_of(script),
+    }
+}
+
+#[tactic(auto, unfolding(crate::specs::Holdings::span_of))]
+fn span_of(script: &Script) -> Option<Span>
+    ensures { result ≡ span_of script.now }
+{
+    if script.is_empty() {
+        return None;
+    }
+    Some(Span {
+        first: script.at(0).cycle,
+        last: script.at(script.len() - 1).cycle,
+    })
+}

@@ -1,0 +1,69 @@
+//! The lines of a script file, by their numbers.
+ghost use Rattle.std.specs.Prelude.{◌≡◌, ◌-◌, ◌≤◌, length, slice_get, option_map, Some};
+ghost use Rattle.std.specs.List.{slice_split};
+ghost use Rattle.std.specs.Str.Lines.{strip_carriage_return};
+ghost use Rattle.agc_script.specs.Line.{cycle_of};
+ghost use Rattle.agc_script.specs.Text.{is_line_feed, lines_of};
+
+use agc_word::read_decimal;
+
+/// The line of a number, counted from 1, without its end.
+pub(crate) fn line_at(file: &[u8], number: usize) -> &[u8]
+    requires first { 1 ≤ number }
+    requires last { number ≤ length (lines_of file.now) }
+    ensures { slice_get (lines_of file.now) (number - 1) ≡ Some result.now }
+{
+    match part_at(file, number - 1) {
+        Some(line) => without_return(line),
+        None => file,
+    }
+}
+
+/// What stands between two line feeds.
+fn part_at(file: &[u8], place: usize) -> Option<&[u8]>
+    ensures { option_map (λ part. part.now) result ≡ slice_get (slice_split is_line_feed file.now) place }
+{
+    file.split(|b| *b == b'\n').nth(place)
+}
+
+/// The start of the last event line among so many lines, none of them faulty; 0 where there is none.
+pub(crate) fn last_start(file: &[u8], lines: usize) -> u64 {
+    let mut last = 0;
+    for line in file.split(|b| *b == b'\n').take(lines) {
+        if let Some(start) = start_of(without_return(line)) {
+            last = start;
+        }
+    }
+    last
+}
+
+/// The cycle at which an event line starts.
+fn start_of(line: &[u8]) -> Option<u64> {
+    let mut words = line
+        .split(|b| *b == b' ' || *b == b'\t')
+        .filter(|word| !word.is_empty());
+    let first = words.next()?;
+    if first == b"every".as_slice() {
+        read_cycle(words.nth(1)?)
+    } else {
+        read_cycle(first)
+    }
+}
+
+/// The cycle that a word writes: 1 to 13 decimal digits, at most 1,000,000,000,000.
+#[tactic(auto, unfolding(agc_script::specs::Line::cycle_of))]
+pub(crate) fn read_cycle(word: &[u8]) -> Option<u64>
+    ensures { result ≡ cycle_of word.now }
+{
+    read_decimal(13, word).filter(|cycle| *cycle <= 1_000_000_000_000)
+}
+
+/// The line without one carriage return at its end.
+fn without_return(line: &[u8]) -> &[u8]
+    ensures { result.now ≡ strip_carriage_return line.now }
+{
+    match line {
+        [start @ .., b'\r'] => start,
+        _ => line,
+    }
+}

@@ -1,0 +1,109 @@
+//! The report on a rope file and a script file, for a person.
+ghost use Rattle.std.specs.Prelude.{◌≡◌, ◌++◌, ◌&&◌, ◌≤◌, length, is_none, is_ok, IfOk, OnOk, string_bytes};
+ghost use Rattle.agc_script.specs.Text.{lines_of};
+ghost use Rattle.agc_store.specs.RopeFile.{rope_fault_of};
+ghost use Rattle.agc_script.specs.Parse.{script_of};
+ghost use Rattle.agc_check.specs.Report.{IsReport, IsScriptReport, span_text};
+ghost use Rattle.agc_check.specs.Report.{script_fault_text, script_holdings_text};
+
+use crate::holdings::{ScriptHoldings, Span, holdings_of_script};
+use crate::lines::line_at;
+use crate::remarks::remark;
+use crate::rope_report::push_rope;
+use crate::shown::push_line;
+use agc_script::{FaultKind, Script, ScriptFault};
+use agc_session::Refusal;
+use agc_store::RopeForm;
+use std::alloc::{AllocError, Global};
+
+/// What a person is told of a rope file and a script file.
+#[derive(Debug, Drop)]
+pub struct Report {
+    pub text: String,
+    /// Whether nothing is wrong with either file.
+    pub is_sound: bool,
+}
+
+/// Looks at a rope file of a form and at a script file. The text tells of each either what it holds, or
+/// its fault: that of `Rope::read_as`, that of `Script::parse`, and what is wrong there. Fails where
+/// memory runs out.
+pub fn check(
+    alloc: Global,
+    form: RopeForm,
+    rope: &[u8],
+    script: &[u8],
+) -> Result<Report, AllocError>
+    ensures sound { IfOk result (λ report. report.is_sound
+        ≡ (is_none (rope_fault_of form rope.now) && is_ok (script_of script.now))) }
+    ensures text { IfOk result (λ report. IsReport form rope.now script.now (string_bytes report.text)) }
+{
+    let mut text = String::new(alloc);
+    let rope_is_sound = push_rope(alloc, &mut text, form, rope)?;
+    let script_is_sound = push_script(alloc, &mut text, script)?;
+    Ok(Report {
+        text,
+        is_sound: rope_is_sound && script_is_sound,
+    })
+}
+
+/// Adds what is told of a script file, and returns whether nothing is wrong with it.
+fn push_script(alloc: Global, text: &mut String, file: &[u8]) -> Result<bool, AllocError>
+    ensures sound { IfOk result (λ sound. sound ≡ is_ok (script_of file.now)) }
+    ensures text { OnOk result
+        (IsScriptReport file.now (string_bytes text.old) (string_bytes text.new)) }
+{
+    match Script::parse(alloc, file) {
+        Ok(script) => {
+            push_script_holdings(text, holdings_of_script(&script))?;
+            Ok(true)
+        }
+        Err(
+            ScriptFault {
+                kind: FaultKind::Memory,
+                ..
+            },
+        ) => Err(AllocError),
+        Err(fault) => {
+            push_script_fault(text, file, fault)?;
+            let remark = remark(alloc, file, fault, line_at(file, fault.line))?;
+            text.push_str(remark.as_str())?;
+            Ok(false)
+        }
+    }
+}
+
+/// Adds the line of what a script holds.
+#[tactic(auto, unfolding(crate::specs::Report::script_holdings_text))]
+fn push_script_holdings(text: &mut String, holdings: ScriptHoldings) -> Result<(), AllocError>
+    ensures { OnOk result
+        (string_bytes text.new ≡ string_bytes text.old ++ script_holdings_text holdings) }
+{
+    let events = holdings.events;
+    write!(text, "script: events {events}")?;
+    push_span(text, holdings.span)?;
+    text.push_str("\n")
+}
+
+fn push_span(text: &mut String, span: Option<Span>) -> Result<(), AllocError>
+    ensures { OnOk result (string_bytes text.new ≡ string_bytes text.old ++ span_text span) }
+{
+    match span {
+        Some(Span { first, last }) => write!(text, ", first cycle {first}, last cycle {last}"),
+        None => Ok(()),
+    }
+}
+
+/// Adds the fault of a script in the words of `agc`, and the line where it is.
+#[tactic(auto, unfolding(crate::specs::Report::script_fault_text))]
+fn push_script_fault(text: &mut String, file: &[u8], fault: ScriptFault) -> Result<(), AllocError>
+    requires first { 1 ≤ fault.line }
+    requires last { fault.line ≤ length (lines_of file.now) }
+    ensures { OnOk result
+        (string_bytes text.new ≡ string_bytes text.old ++ script_fault_text file.now fault) }
+{
+    let refusal = Refusal::Script(fault);
+    writeln!(text, "{refusal}")?;
+    text.push_str("    ")?;
+    push_line(text, line_at(file, fault.line))?;
+    text.push_str("\n")
+}

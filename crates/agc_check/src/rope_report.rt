@@ -1,0 +1,164 @@
+//! What is told of a rope file.
+ghost use Rattle.std.specs.Prelude.{◌≡◌, ◌<◌, ◌*◌, ◌+◌, ◌++◌, get_or, is_none, IfOk, OnOk, string_bytes};
+ghost use Rattle.agc_store.specs.RopeFile.{file_word, rope_fault_of};
+ghost use Rattle.agc_rope_text.specs.List.{listed_address};
+ghost use Rattle.agc_check.specs.RopeReport.{IsPlaced, bad_word_text, parity_why, rope_fault_text};
+ghost use Rattle.agc_check.specs.RopeReport.{rope_holdings_text, rope_report, rope_why, word_text};
+
+use crate::holdings::{RopeHoldings, holdings_of_rope};
+use agc_rope_text::{Place, push_place};
+use agc_session::Refusal;
+use agc_store::{Rope, RopeFault, RopeForm};
+use agc_word::Narrow;
+use std::alloc::{AllocError, Global};
+
+/// Adds what is told of a rope file, and returns whether nothing is wrong with it.
+#[tactic(auto, unfolding(crate::specs::RopeReport::rope_report))]
+pub(crate) fn push_rope(
+    alloc: Global,
+    text: &mut String,
+    form: RopeForm,
+    file: &[u8],
+) -> Result<bool, AllocError>
+    ensures sound { IfOk result (λ sound. sound ≡ is_none (rope_fault_of form file.now)) }
+    ensures text { OnOk result
+        (string_bytes text.new ≡ string_bytes text.old ++ rope_report form file.now) }
+{
+    match Rope::read_as(alloc, form, file) {
+        Ok(rope) => {
+            push_holdings(text, holdings_of_rope(rope))?;
+            Ok(true)
+        }
+        Err(RopeFault::Memory) => Err(AllocError),
+        Err(fault) => {
+            push_fault(text, file, fault)?;
+            Ok(false)
+        }
+    }
+}
+
+/// Adds the line of what a rope holds.
+#[tactic(auto, unfolding(crate::specs::RopeReport::rope_holdings_text))]
+fn push_holdings(text: &mut String, holdings: RopeHoldings) -> Result<(), AllocError>
+    ensures { OnOk result
+        (string_bytes text.new ≡ string_bytes text.old ++ rope_holdings_text holdings) }
+{
+    let (words, banks) = (holdings.words, holdings.banks);
+    writeln!(text, "rope: words {words}, banks {banks}")
+}
+
+/// Adds the fault of a rope file in the words of `agc`, and what would be right.
+#[tactic(auto, unfolding(crate::specs::RopeReport::rope_fault_text))]
+fn push_fault(text: &mut String, file: &[u8], fault: RopeFault) -> Result<(), AllocError>
+    requires { IsPlaced fault }
+    ensures { OnOk result
+        (string_bytes text.new ≡ string_bytes text.old ++ rope_fault_text file.now fault) }
+{
+    let refusal = Refusal::Rope(fault);
+    writeln!(text, "{refusal}")?;
+    push_why(text, file, fault)
+}
+
+#[tactic(auto, unfolding(crate::specs::RopeReport::rope_why))]
+fn push_why(text: &mut String, file: &[u8], fault: RopeFault) -> Result<(), AllocError>
+    requires { IsPlaced fault }
+    ensures { OnOk result (string_bytes text.new ≡ string_bytes text.old ++ rope_why file.now fault) }
+{
+    let bytes = file.len();
+    match fault {
+        RopeFault::Empty => {
+            text.push_str("    the file has no bytes, and a rope has a word at least: two bytes\n")
+        }
+        RopeFault::OddLength => {
+            writeln!(
+                text,
+                "    the file has {bytes} bytes, and each word has two"
+            )
+        }
+        RopeFault::TooLong => writeln!(
+            text,
+            "    the file has {bytes} bytes, and 73728 are the most: 36 banks of 1024 words"
+        ),
+        RopeFault::Parity { bank, offset } => push_parity_why(text, file, bank, offset),
+        RopeFault::Memory => Ok(()),
+    }
+}
+
+/// Adds which word has the wrong parity: its place, its digits and its parity bit, and how many one bits
+/// these have.
+#[tactic(auto, unfolding(crate::specs::RopeReport::parity_why))]
+fn push_parity_why(text: &mut String, file: &[u8], bank: u8, offset: u16) -> Result<(), AllocError>
+    requires bank { bank < 36 }
+    requires offset { offset < 0o2000 }
+    ensures { OnOk result
+        (string_bytes text.new ≡ string_bytes text.old ++ parity_why file.now bank offset) }
+{
+    let place = place_of(bank, offset);
+    push_bad_word(text, bank, listed_address(place), word_in_file(file, place))
+}
+
+/// The place of an offset in a bank of the rope.
+fn place_of(bank: u8, offset: u16) -> usize
+    requires bank { bank < 36 }
+    requires offset { offset < 0o2000 }
+    ensures place { result ≡ 0o2000 * bank + offset }
+    ensures range { result < 36864 }
+{
+    0o2000 * usize::from(bank) + usize::from(offset)
+}
+
+/// Adds a place of a fixed bank and the word that stands there in the file.
+#[tactic(auto, unfolding(crate::specs::RopeReport::bad_word_text))]
+fn push_bad_word(text: &mut String, bank: u8, address: u16, word: u16) -> Result<(), AllocError>
+    requires bank { bank < 36 }
+    requires address { address < 0o10000 }
+    ensures { OnOk result
+        (string_bytes text.new ≡ string_bytes text.old ++ bad_word_text bank address word) }
+{
+    text.push_str("    the word at ")?;
+    push_place(text, Place::Fixed { bank, address })?;
+    push_word(text, word)
+}
+
+/// Adds the digits of a file's word, its parity bit and the count of its one bits.
+#[tactic(auto, unfolding(crate::specs::RopeReport::word_text))]
+fn push_word(text: &mut String, word: u16) -> Result<(), AllocError>
+    ensures { OnOk result (string_bytes text.new ≡ string_bytes text.old ++ word_text word) }
+{
+    let digits = Narrow::with_bits(word / 2);
+    let (parity, ones) = (word % 2, word.count_ones());
+    writeln!(
+        text,
+        " is {digits} with parity bit {parity}: {ones} one bits, and they should be odd"
+    )
+}
+
+/// The sixteen bits of a file's word, the higher byte first; 0 past its end.
+#[tactic(auto, unfolding(agc_store::specs::RopeFile::file_word))]
+fn word_in_file(file: &[u8], index: usize) -> u16
+    requires { index < 36864 }
+    ensures { result ≡ file_word file.now index }
+{
+    256 * u16::from(byte_at(file, 2 * index)) + u16::from(byte_at(file, 2 * index + 1))
+}
+
+/// A byte of a file, 0 past its end.
+fn byte_at(file: &[u8], place: usize) -> u8
+    ensures { result ≡ get_or file.now place 0 }
+{
+    file.get(place).copied().unwrap_or(0)
+}
+
+/// The address under which listings name a place of the rope.
+#[tactic(auto, unfolding(agc_rope_text::specs::List::listed_address))]
+fn listed_address(place: usize) -> u16
+    requires { place < 36864 }
+    ensures address { result ≡ listed_address place }
+    ensures range { result < 0o10000 }
+{
+    if 0o4000 <= place && place < 0o10000 {
+        place as u16
+    } else {
+        (0o2000 + place % 0o2000) as u16
+    }
+}

@@ -1,0 +1,60 @@
+//! Bytes of a file in print.
+ghost use Rattle.std.specs.Prelude.{◌≡◌, ◌++◌, codes, OnOk, string_bytes};
+ghost use Rattle.agc_word.specs.Octal.{octal_digits};
+ghost use Rattle.agc_rope_text.specs.Line.{is_no_text};
+ghost use Rattle.agc_check.specs.Shown.{shown, shown_byte, shown_line};
+
+use std::alloc::AllocError;
+
+/// The most bytes of a line that are shown.
+const SHOWN_BYTES: usize = 120;
+
+/// Adds a line of a file: its first 120 bytes, and ` ..` where there are more.
+#[tactic(auto, unfolding(crate::specs::Shown::shown_line))]
+pub(crate) fn push_line(text: &mut String, line: &[u8]) -> Result<(), AllocError>
+    ensures { OnOk result (string_bytes text.new ≡ string_bytes text.old ++ shown_line line.now) }
+{
+    if line.len() > SHOWN_BYTES {
+        let (start, _) = line.split_at(SHOWN_BYTES);
+        push_bytes(text, start)?;
+        text.push_str(" ..")
+    } else {
+        push_bytes(text, line)
+    }
+}
+
+/// Adds bytes: those that print in ASCII, and tabs, as they are, each other one as `\` and three octal digits.
+#[tactic(auto, unfolding(crate::specs::Shown::shown))]
+pub(crate) fn push_bytes(text: &mut String, bytes: &[u8]) -> Result<(), AllocError>
+    ensures { OnOk result (string_bytes text.new ≡ string_bytes text.old ++ shown bytes.now) }
+{
+    for byte in bytes {
+        push_byte(text, *byte)?;
+    }
+    Ok(())
+}
+
+#[tactic(auto, unfolding(crate::specs::Shown::shown_byte))]
+fn push_byte(text: &mut String, byte: u8) -> Result<(), AllocError>
+    ensures { OnOk result (string_bytes text.new ≡ string_bytes text.old ++ shown_byte byte) }
+{
+    if is_no_text(byte) {
+        push_octal(text, byte)
+    } else {
+        text.push(char::from(byte))
+    }
+}
+
+/// Whether a byte is neither a tab nor one that prints in ASCII.
+fn is_no_text(byte: u8) -> bool
+    ensures { result ≡ is_no_text byte }
+{
+    byte != b'\t' && (byte < 0x20 || byte >= 0x7F)
+}
+
+fn push_octal(text: &mut String, byte: u8) -> Result<(), AllocError>
+    ensures { OnOk result (string_bytes text.new
+        ≡ string_bytes text.old ++ (codes "\\" ++ octal_digits 3 byte)) }
+{
+    write!(text, "\\{byte:03o}")
+}

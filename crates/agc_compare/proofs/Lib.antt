@@ -1,0 +1,5 @@
+pub mod Kept
+pub mod Passed
+pub mod Followed
+pub mod Memories
+pub mod Compared

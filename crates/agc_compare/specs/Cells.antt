@@ -1,0 +1,29 @@
+-- The erasable cells in which two memories differ.
+use Rattle.std.specs.Prelude.{ℕ, zero, suc, ◌==◌, ◌&&◌, Bool, true, false, not, if◌then◌else◌, List, [], ◌∷◌, ◌++◌}
+use Rattle.agc_word.specs.Number.{Number}
+use Rattle.agc_store.specs.Memory.{cell_at}
+use Rattle.agc_compare.specs.declared.cells.CellPair.{CellPair}
+
+-- two signs are the same
+abbrev pub same_sign : Bool → Bool → Bool
+same_sign true minus = minus
+same_sign false minus = not minus
+
+-- two words are the same: +0 and -0 are not
+abbrev pub same_word : Number → Number → Bool
+same_word x y = same_sign x.minus y.minus && (x.magnitude == y.magnitude)
+
+-- a cell by its two words, where they differ
+abbrev pub cell_told : ℕ → Number → Number → List CellPair
+cell_told place x y =
+    if same_word x y then [] else record { place = place; left = x; right = y } ∷ []
+
+-- of the first cells, so many, those that differ
+unfoldable pub differing_below : ℕ → List Number → List Number → List CellPair
+differing_below zero xs ys = []
+differing_below (suc place) xs ys =
+    differing_below place xs ys ++ cell_told place (cell_at place xs) (cell_at place ys)
+
+-- of all cells those that differ
+unfoldable pub cells_that_differ : List Number → List Number → List CellPair
+cells_that_differ xs ys = differing_below 2048 xs ys

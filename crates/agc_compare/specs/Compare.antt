@@ -1,0 +1,71 @@
+-- What a comparison of two runs tells.
+use Rattle.std.specs.Prelude.{◌≡◌, ℕ, ◌+◌, ◌≤◌, ◌<◌, ◌==◌, ◌&&◌, Bool, true, false, All, List, length, take, Option, Some, None}
+use Rattle.circular_buffer.specs.Buffer.{keep_last}
+use Rattle.agc_word.specs.Number.{Number}
+use Rattle.agc_machine.specs.Run.{run_of}
+use Rattle.agc_machine.specs.State.{State}
+use Rattle.agc_panel.specs.Face.{panel_of}
+use Rattle.agc_trace.specs.Entry.{FitsLine, FitsWrite}
+use Rattle.agc_trace.specs.declared.entry.Entry.{Entry}
+use Rattle.agc_compare.specs.Common.{kept, writes_in}
+use Rattle.agc_compare.specs.Follower.{PartBehind}
+use Rattle.agc_compare.specs.declared.comparison.Comparison.{Comparison}
+use Rattle.agc_compare.specs.declared.comparison.Parting.{Parting}
+use Rattle.agc_compare.specs.declared.cells.CellPair.{CellPair}
+use Rattle.agc_compare.specs.declared.follower.End.{End}
+use Rattle.agc_compare.specs.declared.follower.WriteParting.{WriteParting}
+
+-- nothing is told
+abbrev pub is_nowhere : Option Parting → Bool
+is_nowhere None = true
+is_nowhere (Some parting) = false
+
+-- no boundary differs, and no cell at the stops
+abbrev pub is_same : Comparison → Bool
+is_same c = is_nowhere c.parting && (length c.cells.items == 0)
+
+-- the last state of a run, and its erasable cells
+abbrev pub end_of : State → State
+end_of s = (run_of s).last
+
+abbrev pub cells_at_end : State → List Number
+cells_at_end s = (end_of s).processor.store.erasable
+
+-- What two traces have in common: so many entries from the start, their writes, and the last five.
+pub record TellsCommon (xs ys : List Entry) (c : Comparison) : Type 0 where
+  pub same : take c.boundaries xs ≡ take c.boundaries ys
+  pub within : c.boundaries ≤ length xs
+  pub writes : c.writes ≡ length (writes_in (take c.boundaries xs))
+  pub before : c.before.items ≡ keep_last kept (take c.boundaries xs)
+
+-- Where two traces part: nowhere, so that all is common, or behind so many entries, in these two.
+abbrev pub TracesPart : ℕ → List Entry → List Entry → Option Parting → Type 0
+TracesPart count xs ys None = (xs ≡ ys) × (count ≡ length xs)
+TracesPart count xs ys (Some parting) =
+    (parting.number ≡ count + 1) × PartBehind count xs ys (Some parting.left) (Some parting.right)
+
+-- a machine has come to the end of its run, which is told: the stop, its cycle, and the panel of
+-- all writes
+pub record TellsEnd (s : State) (end : End) (t : State) : Type 0 where
+  pub last : t ≡ end_of s
+  pub stopped : (end_of s).stopped ≡ Some end.stop
+  pub cycle : (end_of s).cycle ≡ end.cycle
+  pub panel : end.panel ≡ panel_of (run_of s).writes
+
+-- each number that is told has its digits in the report
+abbrev pub FitsParting : Option Parting → Type 0
+FitsParting None = Unit {0}
+FitsParting (Some parting) = FitsLine parting.left × FitsLine parting.right
+
+abbrev pub FitsWriteParting : Option WriteParting → Type 0
+FitsWriteParting None = Unit {0}
+FitsWriteParting (Some parting) = FitsWrite parting.left × FitsWrite parting.right
+
+abbrev pub IsCell : CellPair → Type 0
+IsCell cell = cell.place < 2048
+
+pub record FitsLines (c : Comparison) : Type 0 where
+  pub before : All FitsLine c.before.items
+  pub parting : FitsParting c.parting
+  pub write : FitsWriteParting c.write
+  pub cells : All IsCell c.cells.items

@@ -1,0 +1,6 @@
+pub mod Common
+pub mod Follower
+pub mod Cells
+pub mod Compare
+pub mod Apart
+pub mod Report

@@ -1,0 +1,130 @@
+-- A comparison in print.
+use Rattle.std.specs.Prelude.{ℕ, ◌+◌, ◌/◌, ◌%◌, ◌<◌, ◌==◌, ◌||◌, Bool, true, false, nat_lt, if◌then◌else◌}
+use Rattle.std.specs.Prelude.{List, [], ◌++◌, codes, length, flat_map, Option, Some, None}
+use Rattle.std.specs.Fmt.{decimal}
+use Rattle.std.specs.List.{zip}
+use Rattle.std.specs.Str.Lines.{lines}
+use Rattle.std.specs.Str.{bytes_eq}
+use Rattle.agc_panel.specs.Text.{panel_text}
+use Rattle.agc_panel.specs.declared.face.Face.{Face}
+use Rattle.agc_word.specs.Number.{Number, pattern_of}
+use Rattle.agc_word.specs.Arithmetic.{narrow_of}
+use Rattle.agc_word.specs.Octal.{octal_digits}
+use Rattle.agc_store.specs.Places.{a_cell, q_cell, erasable_bank_size, erasable_window}
+use Rattle.agc_machine.specs.declared.answer.ChannelWrite.{ChannelWrite}
+use Rattle.agc_rope_text.specs.Place.{place_text}
+use Rattle.agc_rope_text.specs.declared.place.Place.{Place}
+use Rattle.agc_rope_text.specs.declared.place.Place.TheVariants as place
+use Rattle.agc_trace.specs.Line.{line_of, plain_octal, reason_name, word_digits}
+use Rattle.agc_trace.specs.declared.entry.Entry.{Entry}
+use Rattle.agc_compare.specs.Compare.{is_same}
+use Rattle.agc_compare.specs.declared.cells.CellPair.{CellPair}
+use Rattle.agc_compare.specs.declared.comparison.Comparison.{Comparison}
+use Rattle.agc_compare.specs.declared.comparison.Parting.{Parting}
+use Rattle.agc_compare.specs.declared.follower.End.{End}
+use Rattle.agc_compare.specs.declared.follower.WriteParting.{WriteParting}
+
+-- two runs that are the same
+unfoldable pub same_text : Comparison → List ℕ
+same_text c =
+    codes "The runs are the same: " ++ decimal c.boundaries ++ codes " boundaries, "
+    ++ decimal c.writes ++ codes " writes, stop at cycle " ++ decimal c.left.cycle ++ codes "\n"
+
+-- a line that both runs have, two spaces in
+unfoldable pub entry_text : Entry → List ℕ
+entry_text entry = codes "  " ++ line_of entry
+
+-- the first boundary that differs, the line of each run
+unfoldable pub parting_text : Parting → List ℕ
+parting_text parting =
+    codes "< " ++ line_of parting.left ++ codes "> " ++ line_of parting.right
+
+-- which boundary differs, and its cycle in each run
+abbrev pub number_text : Parting → List ℕ
+number_text parting =
+    codes "The runs part at boundary " ++ decimal parting.number ++ codes ", cycle "
+    ++ decimal parting.left.cycle ++ codes " and " ++ decimal parting.right.cycle ++ codes ":\n"
+
+-- the first boundary that differs, with the lines before it; or that there is none
+unfoldable pub boundaries_text : Comparison → Option Parting → List ℕ
+boundaries_text c (Some parting) =
+    number_text parting ++ flat_map entry_text c.before.items ++ parting_text parting
+boundaries_text c None =
+    codes "The runs are the same for " ++ decimal c.boundaries ++ codes " boundaries and "
+    ++ decimal c.writes ++ codes " writes, but not in their cells\n"
+
+-- a write with its cycle, or that there is none
+unfoldable pub write_text : Option ChannelWrite → List ℕ
+write_text (Some write) =
+    decimal write.cycle ++ codes " > " ++ octal_digits 3 write.channel ++ codes " "
+    ++ word_digits write.value ++ codes "\n"
+write_text None = codes "no write\n"
+
+-- which write differs
+unfoldable pub write_number_text : ℕ → List ℕ
+write_number_text number = codes "The first write that differs is number " ++ decimal number ++ codes ":\n"
+
+-- the first channel write that differs
+unfoldable pub write_parting_text : Option WriteParting → List ℕ
+write_parting_text (Some parting) =
+    write_number_text parting.number ++ codes "< " ++ write_text parting.left ++ codes "> " ++ write_text parting.right
+write_parting_text None = []
+
+-- two lines, where they differ
+unfoldable pub line_pair_text : List ℕ × List ℕ → List ℕ
+line_pair_text (left, right) =
+    if bytes_eq left right then []
+    else codes "< " ++ left ++ codes "\n> " ++ right ++ codes "\n"
+
+-- the lines of two panels that differ
+unfoldable pub panels_text : Face → Face → List ℕ
+panels_text left right =
+    flat_map line_pair_text (zip (lines (panel_text left)) (lines (panel_text right)))
+
+-- an erasable cell by its number: its address, or its bank and its address in the window
+abbrev pub cell_place : ℕ → Place
+cell_place number =
+    if nat_lt number erasable_window then place.Plain number
+    else place.Erasable (number / erasable_bank_size) (erasable_window + number % erasable_bank_size)
+
+-- a cell's word: A and Q have sixteen bits, every other cell fifteen
+unfoldable pub cell_word : ℕ → Number → List ℕ
+cell_word number word =
+    if number == a_cell || number == q_cell
+    then octal_digits 6 (pattern_of 16 word)
+    else word_digits (narrow_of word)
+
+-- a cell that differs, and its word in each run
+unfoldable pub cell_text : CellPair → List ℕ
+cell_text cell =
+    place_text (cell_place cell.place) ++ codes " " ++ cell_word cell.place cell.left ++ codes " "
+    ++ cell_word cell.place cell.right ++ codes "\n"
+
+-- the cells that differ, of which there are some
+unfoldable pub some_cells_text : List CellPair → List ℕ
+some_cells_text cells =
+    codes "The cells that differ at the stops:\n" ++ flat_map cell_text cells
+
+-- the cells that differ
+unfoldable pub cells_text : List CellPair → List ℕ
+cells_text cells =
+    if length cells == 0 then [] else some_cells_text cells
+
+-- the stop of a run
+unfoldable pub end_text : End → List ℕ
+end_text end =
+    codes "stop " ++ reason_name end.stop ++ codes " at cycle " ++ decimal end.cycle ++ codes "\n"
+
+-- the stops of both runs
+unfoldable pub ends_text : End → End → List ℕ
+ends_text left right = codes "< " ++ end_text left ++ codes "> " ++ end_text right
+
+-- Where the runs are the same one line. Otherwise what differs, in parts that are left out where
+-- nothing does: the first boundary with up to five lines before it, the first write, the panel's
+-- lines, the cells; and at last both stops. `<` stands before the left run's line, `>` before the
+-- right run's.
+unfoldable pub report_of : Comparison → List ℕ
+report_of c =
+    if is_same c then same_text c
+    else boundaries_text c c.parting ++ write_parting_text c.write
+    ++ panels_text c.left.panel c.right.panel ++ cells_text c.cells.items ++ ends_text c.left c.right

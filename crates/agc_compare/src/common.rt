@@ -1,0 +1,113 @@
+//! The boundaries that two runs have in common from their starts.
+ghost use Rattle.std.specs.Prelude.{◌≡◌, [], ◌∷◌, ◌++◌, IfOk};
+ghost use Rattle.circular_buffer.specs.Buffer.{buffer, keep_last};
+ghost use Rattle.agc_compare.specs.Common.{ComesApart, kept};
+
+use crate::count::one_more;
+use crate::same::is_same_entry;
+use agc_machine::{ChannelWrite, Machine};
+use agc_panel::Panel;
+use agc_trace::{Entry, next_entry};
+use circular_buffer::HeapCircularBuffer;
+use std::alloc::{AllocError, Global};
+
+/// How many of the last common boundaries are kept.
+const KEPT: usize = 5;
+
+/// How much two runs have in common.
+#[derive(Clone, Copy, Debug, PartialEq, Eq)]
+pub(crate) struct Common {
+    /// The boundaries from the start that are the same.
+    pub(crate) boundaries: u64,
+    /// The channel writes of these boundaries.
+    pub(crate) writes: u64,
+    /// The panel of these writes.
+    pub(crate) panel: Panel,
+}
+
+/// The entries of two runs at the first boundary that differs.
+#[derive(Clone, Copy, Debug, PartialEq, Eq)]
+pub(crate) struct Fork {
+    pub(crate) left: Entry,
+    pub(crate) right: Entry,
+}
+
+/// A place for the last common boundaries, with none yet.
+pub(crate) fn none_kept(alloc: Global) -> Result<HeapCircularBuffer<Entry>, AllocError>
+    ensures { IfOk result (λ last. last ≡ buffer [] kept) }
+{
+    HeapCircularBuffer::with_capacity(alloc, KEPT)
+}
+
+/// Runs both machines as long as their boundaries are the same: past the boundaries that differ, or
+/// to the stop. Keeps the last of those that are the same.
+pub(crate) fn run_together(
+    left: &mut Machine,
+    right: &mut Machine,
+    last: &mut HeapCircularBuffer<Entry>,
+) -> Result<(Common, Option<Fork>), AllocError>
+    requires { last.old ≡ buffer [] kept }
+    ensures { IfOk result (λ (common, fork).
+        ComesApart left.old right.old common last.new fork left.new right.new) }
+{
+    let mut common = Common::none();
+    loop {
+        let left_entry = next_entry(left);
+        let right_entry = next_entry(right);
+        if !is_same_entry(&left_entry, &right_entry) {
+            let fork = Fork {
+                left: left_entry,
+                right: right_entry,
+            };
+            return Ok((common, Some(fork)));
+        }
+        common.take(left_entry.write)?;
+        push_last(last, left_entry);
+        if left_entry.is_stop() {
+            return Ok((common, None));
+        }
+    }
+}
+
+impl Common {
+    ghost use Rattle.std.specs.Prelude.{◌≡◌, ◌+◌, [], ◌++◌, List, length, OnOk};
+    ghost use Rattle.agc_machine.specs.declared.answer.ChannelWrite.{ChannelWrite};
+    ghost use Rattle.agc_panel.specs.Face.{panel_of};
+    ghost use Rattle.agc_compare.specs.Common.{one_write};
+
+    /// Nothing in common yet.
+    fn none() -> Common
+        ensures boundaries { result.boundaries ≡ 0 }
+        ensures writes { result.writes ≡ 0 }
+        ensures panel { result.panel ≡ panel_of [] }
+    {
+        Common {
+            boundaries: 0,
+            writes: 0,
+            panel: Panel::new(),
+        }
+    }
+
+    /// Takes one more boundary that both runs have, with the write that it shows.
+    #[tactic(auto, using(crate::proofs::Kept::append_nothing))]
+    fn take(&mut self, write: Option<ChannelWrite>) -> Result<(), AllocError>
+        ensures boundaries { OnOk result (self.new.boundaries ≡ self.old.boundaries + 1) }
+        ensures writes { OnOk result (self.new.writes ≡ self.old.writes + length (one_write write)) }
+        ensures panel { OnOk result ((taken : List ChannelWrite) → self.old.panel ≡ panel_of taken
+            → self.new.panel ≡ panel_of (taken ++ one_write write)) }
+    {
+        self.boundaries = one_more(self.boundaries)?;
+        if let Some(write) = write {
+            self.writes = one_more(self.writes)?;
+            self.panel.take(&write);
+        }
+        Ok(())
+    }
+}
+
+/// Puts an item behind the last ones, in place of the first of these where there is no more room.
+fn push_last<T: Drop>(last: &mut HeapCircularBuffer<T>, item: T)
+    ensures { last.new ≡ buffer (keep_last last.old.capacity (last.old.items ++ item ∷ [])) last.old.capacity }
+{
+    last.push_back(item);
+}

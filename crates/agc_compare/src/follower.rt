@@ -1,0 +1,151 @@
+//! The writes of two runs behind the boundaries that they have in common, up to their stops.
+ghost use Rattle.std.specs.Prelude.{◌≡◌, ◌++◌, List, IfOk};
+ghost use Rattle.agc_machine.specs.declared.answer.ChannelWrite.{ChannelWrite};
+ghost use Rattle.agc_panel.specs.Face.{panel_of};
+ghost use Rattle.agc_compare.specs.Common.{one_write};
+ghost use Rattle.agc_machine.specs.Run.{run_of};
+ghost use Rattle.agc_compare.specs.Follower.{IsEnd, WritesTold};
+
+use crate::count::one_more;
+use crate::same::is_same_write;
+use agc_machine::{ChannelWrite, Machine, Next, Stop};
+use agc_panel::Panel;
+use std::alloc::AllocError;
+
+/// The first channel write that differs. A run that has no such write any more has `None`.
+#[derive(Clone, Copy, Debug, PartialEq, Eq)]
+pub struct WriteParting {
+    /// Which write of the runs it is, counted from 1.
+    pub number: u64,
+    pub left: Option<ChannelWrite>,
+    pub right: Option<ChannelWrite>,
+}
+
+/// The end of a run.
+#[derive(Clone, Copy, Debug, PartialEq, Eq)]
+pub struct End {
+    /// Why it stopped.
+    pub stop: Stop,
+    /// The machine cycle of the stop.
+    pub cycle: u64,
+    /// The panel of all its writes.
+    pub panel: Panel,
+}
+
+/// Follows a machine from write to write.
+#[derive(Clone, Copy, Debug, PartialEq, Eq)]
+pub(crate) struct Follower {
+    /// A write that the machine has made and that was not told yet.
+    pub(crate) held: Option<ChannelWrite>,
+    /// The panel of the writes that were told.
+    pub(crate) panel: Panel,
+}
+
+/// Follows both machines up to the first write that differs, or to their stops where none does.
+/// So many writes, which are the same in both runs, were told before.
+pub(crate) fn first_write_apart(
+    before: u64,
+    left: &mut Follower,
+    left_machine: &mut Machine,
+    right: &mut Follower,
+    right_machine: &mut Machine,
+) -> Result<Option<WriteParting>, AllocError>
+    ensures { IfOk result (λ parting. WritesTold before left.old right.old left_machine.old
+        right_machine.old parting left.new right.new left_machine.new right_machine.new) }
+{
+    let mut number = before;
+    loop {
+        number = one_more(number)?;
+        let pair = WriteParting {
+            number,
+            left: left.next_write(left_machine),
+            right: right.next_write(right_machine),
+        };
+        if pair.parts() {
+            return Ok(Some(pair));
+        }
+        if pair.is_behind_all() {
+            return Ok(None);
+        }
+    }
+}
+
+impl WriteParting {
+    ghost use Rattle.std.specs.Prelude.{◌≡◌, ◌≢◌, IsSome, IsTrue, None, false};
+
+    /// The writes differ.
+    fn parts(&self) -> bool
+        ensures differ { IsTrue result → self.now.left ≢ self.now.right }
+        ensures same { result ≡ false → self.now.left ≡ self.now.right }
+    {
+        !is_same_write(self.left, self.right)
+    }
+
+    /// The run on the left has no write any more.
+    fn is_behind_all(&self) -> bool
+        ensures none { IsTrue result → self.now.left ≡ None }
+        ensures some { result ≡ false → IsSome self.now.left }
+    {
+        self.left.is_none()
+    }
+}
+
+/// A panel once it has taken a write, where there is one.
+#[tactic(auto, using(crate::proofs::Kept::append_nothing))]
+fn panel_with(mut panel: Panel, write: Option<ChannelWrite>) -> Panel
+    ensures { (taken : List ChannelWrite) → panel ≡ panel_of taken
+        → result ≡ panel_of (taken ++ one_write write) }
+{
+    if let Some(write) = write {
+        panel.take(&write);
+    }
+    panel
+}
+
+/// Runs a machine to its stop, with the panel of the writes before.
+fn run_out(mut panel: Panel, machine: &mut Machine) -> End
+    ensures { IsEnd panel (run_of machine.old) result machine.new }
+{
+    loop {
+        match machine.next_write() {
+            Next::Wrote(write) => panel.take(&write),
+            Next::Stopped(stop) => {
+                return End {
+                    stop,
+                    cycle: machine.cycle(),
+                    panel,
+                };
+            }
+        }
+    }
+}
+
+impl Follower {
+    ghost use Rattle.std.specs.Prelude.{◌≡◌, [], None};
+    ghost use Rattle.agc_compare.specs.Common.{one_write};
+    ghost use Rattle.agc_compare.specs.Follower.{HasGone, IsEnd, run_with};
+
+    /// Goes on to the next write; `None` where the machine stops before one.
+    fn next_write(&mut self, machine: &mut Machine) -> Option<ChannelWrite>
+        ensures gone { HasGone self.old machine.old (one_write result) self.new machine.new }
+        ensures ended { result ≡ None → (run_with self.new.held machine.new).writes ≡ [] }
+    {
+        let write = match self.held {
+            Some(write) => write,
+            None => match machine.next_write() {
+                Next::Wrote(write) => write,
+                Next::Stopped(_) => return None,
+            },
+        };
+        self.held = None;
+        self.panel.take(&write);
+        Some(write)
+    }
+
+    /// Follows the machine to its stop.
+    pub(crate) fn finish(self, machine: &mut Machine) -> End
+        ensures { IsEnd self.panel (run_with self.held machine.old) result machine.new }
+    {
+        run_out(panel_with(self.panel, self.held), machine)
+    }
+}

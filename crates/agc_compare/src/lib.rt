@@ -1,0 +1,19 @@
+//! Two runs side by side: what they have in common, where they part, and how their ends differ.
+#![tactic(auto)]
+
+mod cells;
+mod common;
+mod comparison;
+mod count;
+mod follower;
+mod report;
+mod runs;
+mod same;
+#[cfg(test)]
+mod tests;
+
+pub use cells::CellPair;
+pub use comparison::{Comparison, Parting};
+pub use follower::{End, WriteParting};
+pub use report::push_comparison;
+pub use runs::compare;

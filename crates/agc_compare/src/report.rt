@@ -1,0 +1,343 @@
+//! A comparison in print.
+ghost use Rattle.std.specs.Prelude.{◌≡◌, ◌<◌, ◌++◌, All, OnOk, flat_map, string_bytes};
+ghost use Rattle.std.specs.List.{zip};
+ghost use Rattle.std.specs.Str.Lines.{lines};
+ghost use Rattle.agc_rope_text.specs.Place.{IsInPrint};
+ghost use Rattle.agc_trace.specs.Entry.{FitsLine, FitsWrite};
+ghost use Rattle.agc_compare.specs.Compare.{FitsLines, FitsWriteParting, IsCell};
+ghost use Rattle.agc_compare.specs.Report.{
+  boundaries_text,
+  cell_place,
+  cell_text,
+  cell_word,
+  cells_text,
+  end_text,
+  ends_text,
+  entry_text,
+  line_pair_text,
+  number_text,
+  panels_text,
+  parting_text,
+  report_of,
+  same_text,
+  some_cells_text,
+  write_number_text,
+  write_parting_text,
+  write_text,
+};
+
+use crate::cells::CellPair;
+use crate::comparison::{Comparison, Parting};
+use crate::follower::{End, WriteParting};
+use agc_machine::ChannelWrite;
+use agc_panel::Panel;
+use agc_rope_text::{Place, push_place};
+use agc_store::place::{A, Q};
+use agc_trace::{Entry, push_line, reason_name};
+use agc_word::Wide;
+use std::alloc::{AllocError, Global};
+
+/// Adds the report of a comparison. Where the runs are the same it is one line; else it tells, part
+/// by part and only where something differs: the first boundary with up to five lines before it, the
+/// first channel write, the panel's lines, the erasable cells, and both stops. Of two lines that differ `<` is that of
+/// the run on the left, `>` that of the run on the right. Fails where memory runs out.
+#[tactic(auto, unfolding(crate::specs::Report::report_of))]
+pub fn push_comparison(text: &mut String, comparison: &Comparison) -> Result<(), AllocError>
+    requires { FitsLines comparison.now }
+    ensures { OnOk result (string_bytes text.new
+        ≡ string_bytes text.old ++ report_of comparison.now) }
+{
+    if comparison.is_same() {
+        return push_same(text, comparison);
+    }
+    push_boundaries(text, comparison)?;
+    push_write_parting(text, comparison.write)?;
+    push_panels(text, &comparison.left.panel, &comparison.right.panel)?;
+    push_cells(text, comparison.cells.as_slice())?;
+    push_ends(text, comparison.left, comparison.right)
+}
+
+/// Adds the line of two runs that are the same.
+#[tactic(auto, unfolding(crate::specs::Report::same_text))]
+fn push_same(text: &mut String, comparison: &Comparison) -> Result<(), AllocError>
+    ensures { OnOk result (string_bytes text.new
+        ≡ string_bytes text.old ++ same_text comparison.now) }
+{
+    let boundaries = comparison.boundaries;
+    let writes = comparison.writes;
+    let cycle = comparison.left.cycle;
+    writeln!(
+        text,
+        "The runs are the same: {boundaries} boundaries, {writes} writes, stop at cycle {cycle}"
+    )
+}
+
+/// Adds the first boundary that differs, with the lines before it; or that there is none.
+#[tactic(auto, unfolding(crate::specs::Report::boundaries_text))]
+fn push_boundaries(text: &mut String, comparison: &Comparison) -> Result<(), AllocError>
+    requires { FitsLines comparison.now }
+    ensures { OnOk result (string_bytes text.new
+        ≡ string_bytes text.old ++ boundaries_text comparison.now comparison.now.parting) }
+{
+    match comparison.parting {
+        Some(parting) => {
+            push_number(text, &parting)?;
+            push_entries(text, comparison.before.as_slice())?;
+            push_parting(text, &parting)
+        }
+        None => {
+            let boundaries = comparison.boundaries;
+            let writes = comparison.writes;
+            writeln!(
+                text,
+                "The runs are the same for {boundaries} boundaries and {writes} writes, but not in their cells"
+            )
+        }
+    }
+}
+
+/// Adds which boundary differs, and its cycle in each run.
+fn push_number(text: &mut String, parting: &Parting) -> Result<(), AllocError>
+    ensures { OnOk result (string_bytes text.new
+        ≡ string_bytes text.old ++ number_text parting.now) }
+{
+    let number = parting.number;
+    let left = parting.left.cycle;
+    let right = parting.right.cycle;
+    writeln!(
+        text,
+        "The runs part at boundary {number}, cycle {left} and {right}:"
+    )
+}
+
+/// Adds the lines that both runs have, two spaces in.
+fn push_entries(text: &mut String, entries: &[Entry]) -> Result<(), AllocError>
+    requires { All FitsLine entries.now }
+    ensures { OnOk result (string_bytes text.new
+        ≡ string_bytes text.old ++ flat_map entry_text entries.now) }
+{
+    for entry in entries {
+        push_entry(text, entry)?;
+    }
+    Ok(())
+}
+
+/// Adds a line that both runs have, two spaces in.
+#[tactic(auto, unfolding(crate::specs::Report::entry_text))]
+fn push_entry(text: &mut String, entry: &Entry) -> Result<(), AllocError>
+    requires { FitsLine entry.now }
+    ensures { OnOk result (string_bytes text.new
+        ≡ string_bytes text.old ++ entry_text entry.now) }
+{
+    text.push_str("  ")?;
+    push_line(text, entry)
+}
+
+/// Adds the two lines that differ.
+#[tactic(auto, unfolding(crate::specs::Report::parting_text))]
+fn push_parting(text: &mut String, parting: &Parting) -> Result<(), AllocError>
+    requires left { FitsLine parting.now.left }
+    requires right { FitsLine parting.now.right }
+    ensures { OnOk result (string_bytes text.new
+        ≡ string_bytes text.old ++ parting_text parting.now) }
+{
+    text.push_str("< ")?;
+    push_line(text, &parting.left)?;
+    text.push_str("> ")?;
+    push_line(text, &parting.right)
+}
+
+/// Adds the first channel write that differs, where one does.
+#[tactic(auto, unfolding(crate::specs::Report::write_parting_text))]
+fn push_write_parting(text: &mut String, parting: Option<WriteParting>) -> Result<(), AllocError>
+    requires { FitsWriteParting parting }
+    ensures { OnOk result (string_bytes text.new
+        ≡ string_bytes text.old ++ write_parting_text parting) }
+{
+    match parting {
+        Some(parting) => {
+            push_write_number(text, parting.number)?;
+            text.push_str("< ")?;
+            push_write(text, parting.left)?;
+            text.push_str("> ")?;
+            push_write(text, parting.right)
+        }
+        None => Ok(()),
+    }
+}
+
+/// Adds which write differs.
+fn push_write_number(text: &mut String, number: u64) -> Result<(), AllocError>
+    ensures { OnOk result (string_bytes text.new
+        ≡ string_bytes text.old ++ write_number_text number) }
+{
+    writeln!(text, "The first write that differs is number {number}:")
+}
+
+/// Adds a channel write, or that there is none any more.
+#[tactic(auto, unfolding(crate::specs::Report::write_text))]
+fn push_write(text: &mut String, write: Option<ChannelWrite>) -> Result<(), AllocError>
+    requires { FitsWrite write }
+    ensures { OnOk result (string_bytes text.new ≡ string_bytes text.old ++ write_text write) }
+{
+    match write {
+        Some(write) => {
+            let cycle = write.cycle;
+            let channel = write.channel;
+            let value = write.value;
+            writeln!(text, "{cycle} > {channel:03o} {value}")
+        }
+        None => text.push_str("no write\n"),
+    }
+}
+
+/// Adds the lines of two panels that differ.
+#[tactic(auto, unfolding(crate::specs::Report::panels_text))]
+fn push_panels(text: &mut String, left: &Panel, right: &Panel) -> Result<(), AllocError>
+    ensures { OnOk result (string_bytes text.new
+        ≡ string_bytes text.old ++ panels_text left.now right.now) }
+{
+    let alloc = *text.allocator();
+    let left_text = left.text(alloc)?;
+    let right_text = right.text(alloc)?;
+    push_lines_apart(text, alloc, left_text.as_str(), right_text.as_str())
+}
+
+/// Adds the lines of two texts that differ, pair by pair.
+fn push_lines_apart(
+    text: &mut String,
+    alloc: Global,
+    left: &str,
+    right: &str,
+) -> Result<(), AllocError>
+    ensures { OnOk result (string_bytes text.new
+        ≡ string_bytes text.old ++ flat_map line_pair_text (zip (lines left.now) (lines right.now))) }
+{
+    let pairs: Vec<(&str, &str)> = left.lines().zip(right.lines()).collect(alloc)?;
+    push_line_pairs(text, pairs.as_slice())
+}
+
+/// Adds each pair of lines that differ.
+fn push_line_pairs(text: &mut String, pairs: &[(&str, &str)]) -> Result<(), AllocError>
+    ensures { OnOk result (string_bytes text.new
+        ≡ string_bytes text.old ++ flat_map (λ pair. line_pair_text (pair.0.now, pair.1.now)) pairs.now) }
+{
+    for pair in pairs {
+        push_line_pair(text, pair.0, pair.1)?;
+    }
+    Ok(())
+}
+
+/// Adds two lines, where they differ.
+#[tactic(auto, unfolding(crate::specs::Report::line_pair_text))]
+fn push_line_pair(text: &mut String, left: &str, right: &str) -> Result<(), AllocError>
+    ensures { OnOk result (string_bytes text.new
+        ≡ string_bytes text.old ++ line_pair_text (left.now, right.now)) }
+{
+    if left == right {
+        return Ok(());
+    }
+    writeln!(text, "< {left}\n> {right}")
+}
+
+/// Adds the cells that differ.
+#[tactic(auto, unfolding(crate::specs::Report::cells_text))]
+fn push_cells(text: &mut String, cells: &[CellPair]) -> Result<(), AllocError>
+    requires { All IsCell cells.now }
+    ensures { OnOk result (string_bytes text.new
+        ≡ string_bytes text.old ++ cells_text cells.now) }
+{
+    if cells.is_empty() {
+        return Ok(());
+    }
+    push_some_cells(text, cells)
+}
+
+/// Adds the cells that differ, of which there are some.
+#[tactic(auto, unfolding(crate::specs::Report::some_cells_text))]
+fn push_some_cells(text: &mut String, cells: &[CellPair]) -> Result<(), AllocError>
+    requires { All IsCell cells.now }
+    ensures { OnOk result (string_bytes text.new
+        ≡ string_bytes text.old ++ some_cells_text cells.now) }
+{
+    text.push_str("The cells that differ at the stops:\n")?;
+    push_each_cell(text, cells)
+}
+
+/// Adds each of some cells.
+fn push_each_cell(text: &mut String, cells: &[CellPair]) -> Result<(), AllocError>
+    requires { All IsCell cells.now }
+    ensures { OnOk result (string_bytes text.new
+        ≡ string_bytes text.old ++ flat_map cell_text cells.now) }
+{
+    for cell in cells {
+        push_cell(text, *cell)?;
+    }
+    Ok(())
+}
+
+/// Adds a cell that differs: its place and its two words.
+#[tactic(auto, unfolding(crate::specs::Report::cell_text))]
+fn push_cell(text: &mut String, cell: CellPair) -> Result<(), AllocError>
+    requires { IsCell cell }
+    ensures { OnOk result (string_bytes text.new ≡ string_bytes text.old ++ cell_text cell) }
+{
+    let CellPair { place, left, right } = cell;
+    push_place(text, cell_place(place))?;
+    text.push_str(" ")?;
+    push_cell_word(text, place, left)?;
+    text.push_str(" ")?;
+    push_cell_word(text, place, right)?;
+    text.push_str("\n")
+}
+
+/// Adds a cell's word: of A and Q six digits, of all others five.
+#[tactic(auto, unfolding(crate::specs::Report::cell_word))]
+fn push_cell_word(text: &mut String, place: u16, word: Wide) -> Result<(), AllocError>
+    ensures { OnOk result (string_bytes text.new
+        ≡ string_bytes text.old ++ cell_word place word) }
+{
+    if place == A || place == Q {
+        return write!(text, "{word}");
+    }
+    let word = word.narrow();
+    write!(text, "{word}")
+}
+
+/// The place of an erasable cell, by its number: up to 1377 octal its address, then its bank and its
+/// address in the window.
+fn cell_place(place: u16) -> Place
+    requires { place < 0o4000 }
+    ensures place { result ≡ cell_place place }
+    ensures range { IsInPrint result }
+{
+    if place < 0o1400 {
+        Place::Plain(place)
+    } else {
+        Place::Erasable {
+            bank: (place / 0o400) as u8,
+            address: 0o1400 + place % 0o400,
+        }
+    }
+}
+
+/// Adds the stops of both runs.
+#[tactic(auto, unfolding(crate::specs::Report::ends_text))]
+fn push_ends(text: &mut String, left: End, right: End) -> Result<(), AllocError>
+    ensures { OnOk result (string_bytes text.new ≡ string_bytes text.old ++ ends_text left right) }
+{
+    text.push_str("< ")?;
+    push_end(text, left)?;
+    text.push_str("> ")?;
+    push_end(text, right)
+}
+
+/// Adds the stop of a run.
+#[tactic(auto, unfolding(crate::specs::Report::end_text))]
+fn push_end(text: &mut String, end: End) -> Result<(), AllocError>
+    ensures { OnOk result (string_bytes text.new ≡ string_bytes text.old ++ end_text end) }
+{
+    let stop = reason_name(end.stop);
+    let cycle = end.cycle;
+    writeln!(text, "stop {stop} at cycle {cycle}")
+}

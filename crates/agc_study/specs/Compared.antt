@@ -1,0 +1,44 @@
+-- What `compare` tells of the runs of two ropes and two scripts.
+use Rattle.std.specs.Prelude.{◌≡◌, ◌↔◌, ℕ, Bool, List, Option, IsTrue, string_bytes}
+use Rattle.std.specs.Io.KnownBytes.{Appends}
+use Rattle.agc_machine.specs.Run.{run_of}
+use Rattle.agc_machine.specs.State.{State}
+use Rattle.agc_trace.specs.Trace.{trace_of}
+use Rattle.agc_compare.specs.Cells.{cells_that_differ}
+use Rattle.agc_compare.specs.Compare.{TellsCommon, TellsEnd, TracesPart, cells_at_end}
+use Rattle.agc_compare.specs.Follower.{WritesPart}
+use Rattle.agc_compare.specs.Report.{report_of}
+use Rattle.agc_compare.specs.declared.comparison.Comparison.{Comparison}
+use Rattle.agc_study.specs.Started.{IsStarted}
+use Rattle.agc_study.specs.declared.asked.Comparing.{Comparing}
+use Rattle.agc_study.specs.declared.compares.Told.{Told}
+
+-- What is told of two machines at their start: the runs are the same just where both traces are and
+-- the erasable cells at both stops, and else they part at the first boundary that differs.
+pub record IsToldOf (left right : State) (told : Told) : Type 0 where
+  pub same : IsTrue told.is_same
+      ↔ ((trace_of left ≡ trace_of right) × (cells_at_end left ≡ cells_at_end right))
+  pub comparison : Comparison
+  pub text : string_bytes told.text ≡ report_of comparison
+  pub common : TellsCommon (trace_of left) (trace_of right) comparison
+  pub parting : TracesPart comparison.boundaries (trace_of left) (trace_of right)
+      comparison.parting
+  pub write : WritesPart 0 (run_of left).writes (run_of right).writes comparison.write
+  pub cells : comparison.cells.items
+      ≡ cells_that_differ (cells_at_end left) (cells_at_end right)
+  pub left_end : (last : State) × TellsEnd left comparison.left last
+  pub right_end : (last : State) × TellsEnd right comparison.right last
+
+-- the same of the machines of two ropes and two scripts, as far as their readers tell their bytes
+pub record IsCompared (asked : Comparing)
+    (left_rope left_script right_rope right_script : Option (List ℕ)) (told : Told) : Type 0 where
+  pub left : State
+  pub right : State
+  pub left_start : IsStarted asked.form asked.until asked.limit left_rope left_script left
+  pub right_start : IsStarted asked.form asked.until asked.limit right_rope right_script right
+  pub tells : IsToldOf left right told
+
+-- what is told was written, and the runs are the same or not
+pub record IsToldTo (told : Told) (is_same : Bool) (before after : Option (List ℕ)) : Type 0 where
+  pub same : told.is_same ≡ is_same
+  pub text : Appends before after (string_bytes told.text)

@@ -1,0 +1,50 @@
+-- The machine that is traced: that of a rope file and a script file at its start, or the refusal.
+use Rattle.std.specs.Prelude.{◌≡◌, ℕ, List, [], ◌∷◌, ◌++◌, Option, Some, None}
+use Rattle.std.specs.declared.alloc.Global.{Global}
+use Rattle.std.specs.declared.string.String.{String}
+use Rattle.agc_store.specs.RopeFile.{rope_words}
+use Rattle.agc_store.specs.declared.rope_file.RopeForm.{RopeForm}
+use Rattle.agc_script.specs.Parse.{script_of}
+use Rattle.agc_machine.specs.State.{State, start_state}
+use Rattle.agc_machine.specs.StopAddress.{stop_address_of}
+use Rattle.agc_session.specs.Files.{events_in, rope_steps, script_steps}
+use Rattle.agc_session.specs.Options.{said_by, says_nothing}
+use Rattle.agc_session.specs.Prepare.{limit_refusal}
+use Rattle.agc_session.specs.Steps.{Step, IsTold, looks, refusal_in, refused_if}
+use Rattle.agc_session.specs.declared.refusal.Refusal.{Refusal}
+use Rattle.agc_session.specs.declared.refusal.Refusal.TheVariants as refusal
+
+-- the text of `--until` says an address, where it is given
+unfoldable pub until_refusal : Option (String Global) → Option Refusal
+until_refusal until = refused_if (says_nothing stop_address_of until) refusal.BadUntilSpec
+
+unfoldable pub start_steps : Option (String Global) → ℕ → List Step
+start_steps until limit = looks (until_refusal until) ∷ looks (limit_refusal limit) ∷ []
+
+-- the steps from two files to a machine, at which it may be refused
+unfoldable pub steps_of : RopeForm → Option (String Global) → ℕ → List ℕ → List ℕ → List Step
+steps_of form until limit rope script =
+    rope_steps form rope ++ (script_steps script ++ start_steps until limit)
+
+-- nothing is refused, and this is the machine of the files at its start
+pub record IsStartedOf (form : RopeForm) (until : Option (String Global)) (limit : ℕ)
+    (rope script : List ℕ) (machine : State) : Type 0 where
+  pub accepted : refusal_in (steps_of form until limit rope script) ≡ None
+  pub start : machine ≡ start_state (rope_words form rope) (events_in (script_of script)) limit
+      (said_by stop_address_of until)
+
+-- the same, as far as the readers of the files tell their bytes
+abbrev pub IsStarted : RopeForm → Option (String Global) → ℕ → Option (List ℕ) → Option (List ℕ)
+    → State → Type 0
+IsStarted form until limit None script machine = Unit {0}
+IsStarted form until limit (Some rope) None machine = Unit {0}
+IsStarted form until limit (Some rope) (Some script) machine =
+    IsStartedOf form until limit rope script machine
+
+-- a refusal that the steps may tell
+abbrev pub IsRefused : RopeForm → Option (String Global) → ℕ → Option (List ℕ) → Option (List ℕ)
+    → Refusal → Type 0
+IsRefused form until limit None script r = Unit {0}
+IsRefused form until limit (Some rope) None r = Unit {0}
+IsRefused form until limit (Some rope) (Some script) r =
+    IsTold (steps_of form until limit rope script) r

@@ -1,0 +1,54 @@
+//! Two ropes and two scripts to what is told of their runs.
+ghost use Rattle.std.specs.Prelude.{IfOk};
+ghost use Rattle.agc_study.specs.Compared.{IsCompared, IsToldOf};
+
+use crate::asked::Comparing;
+use crate::runs::read_machine;
+use agc_compare::{compare, push_comparison};
+use agc_machine::Machine;
+use agc_session::Refusal;
+use std::alloc::{AllocError, Global};
+use std::io::Read;
+
+/// What a person is told of two runs.
+#[derive(Debug, Drop)]
+pub struct Told {
+    pub text: String,
+    /// Whether the runs are the same.
+    pub is_same: bool,
+}
+
+/// Reads two ropes and two scripts, and compares their runs. The refusal is the first of the run on the
+/// left, or else of that on the right.
+pub fn compare_files<R: Read, S: Read, T: Read, U: Read>(
+    alloc: Global,
+    asked: &Comparing,
+    left_rope: &mut R,
+    left_script: &mut S,
+    right_rope: &mut T,
+    right_script: &mut U,
+) -> Result<Told, Refusal>
+    ensures { IfOk result (IsCompared asked.now (R.remaining left_rope.old)
+        (S.remaining left_script.old) (T.remaining right_rope.old) (U.remaining right_script.old)) }
+{
+    let (form, limit) = (asked.form, asked.limit);
+    let mut left = read_machine(alloc, form, limit, &asked.until, left_rope, left_script)?;
+    let mut right = read_machine(alloc, form, limit, &asked.until, right_rope, right_script)?;
+    match compare_runs(alloc, &mut left, &mut right) {
+        Ok(told) => Ok(told),
+        Err(_) => Err(Refusal::Memory),
+    }
+}
+
+/// Runs two machines to their stops, and tells whether the runs are the same, or where they part.
+fn compare_runs(alloc: Global, left: &mut Machine, right: &mut Machine) -> Result<Told, AllocError>
+    ensures { IfOk result (IsToldOf left.old right.old) }
+{
+    let comparison = compare(alloc, left, right)?;
+    let mut text = String::new(alloc);
+    push_comparison(&mut text, &comparison)?;
+    Ok(Told {
+        text,
+        is_same: comparison.is_same(),
+    })
+}
