@@ -1,5 +1,5 @@
 -- A comparison in print.
-use Rattle.std.specs.Prelude.{ℕ, ◌+◌, ◌/◌, ◌%◌, ◌<◌, ◌==◌, ◌||◌, Bool, true, false, nat_lt, if◌then◌else◌}
+use Rattle.std.specs.Prelude.{ℕ, ◌+◌, ◌/◌, ◌%◌, ◌==◌, ◌||◌, nat_lt, if◌then◌else◌}
 use Rattle.std.specs.Prelude.{List, [], ◌++◌, codes, length, flat_map, Option, Some, None}
 use Rattle.std.specs.Fmt.{decimal}
 use Rattle.std.specs.List.{zip}
@@ -15,7 +15,7 @@ use Rattle.agc_machine.specs.declared.answer.ChannelWrite.{ChannelWrite}
 use Rattle.agc_rope_text.specs.Place.{place_text}
 use Rattle.agc_rope_text.specs.declared.place.Place.{Place}
 use Rattle.agc_rope_text.specs.declared.place.Place.TheVariants as place
-use Rattle.agc_trace.specs.Line.{line_of, plain_octal, reason_name, word_digits}
+use Rattle.agc_trace.specs.Line.{line_of, reason_name, word_digits}
 use Rattle.agc_trace.specs.declared.entry.Entry.{Entry}
 use Rattle.agc_compare.specs.Compare.{is_same}
 use Rattle.agc_compare.specs.declared.cells.CellPair.{CellPair}
