@@ -62,12 +62,14 @@ write_text None = codes "no write\n"
 
 -- which write differs
 unfoldable pub write_number_text : ℕ → List ℕ
-write_number_text number = codes "The first write that differs is number " ++ decimal number ++ codes ":\n"
+write_number_text number =
+    codes "The first write that differs is number " ++ decimal number ++ codes ":\n"
 
 -- the first channel write that differs
 unfoldable pub write_parting_text : Option WriteParting → List ℕ
 write_parting_text (Some parting) =
-    write_number_text parting.number ++ codes "< " ++ write_text parting.left ++ codes "> " ++ write_text parting.right
+    write_number_text parting.number ++ codes "< " ++ write_text parting.left ++ codes "> "
+    ++ write_text parting.right
 write_parting_text None = []
 
 -- two lines, where they differ
@@ -85,7 +87,8 @@ panels_text left right =
 abbrev pub cell_place : ℕ → Place
 cell_place number =
     if nat_lt number erasable_window then place.Plain number
-    else place.Erasable (number / erasable_bank_size) (erasable_window + number % erasable_bank_size)
+    else
+    place.Erasable (number / erasable_bank_size) (erasable_window + number % erasable_bank_size)
 
 -- a cell's word: A and Q have sixteen bits, every other cell fifteen
 unfoldable pub cell_word : ℕ → Number → List ℕ
@@ -127,4 +130,5 @@ unfoldable pub report_of : Comparison → List ℕ
 report_of c =
     if is_same c then same_text c
     else boundaries_text c c.parting ++ write_parting_text c.write
-    ++ panels_text c.left.panel c.right.panel ++ cells_text c.cells.items ++ ends_text c.left c.right
+    ++ panels_text c.left.panel c.right.panel ++ cells_text c.cells.items
+    ++ ends_text c.left c.right
