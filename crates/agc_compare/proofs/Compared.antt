@@ -1,11 +1,11 @@
 -- What two runs come to, told from their starts.
-use Rattle.std.proofs.Common.{◌≡◌, ◌≢◌, ℕ, ◌+◌, ◌≤◌, List, [], ◌∷◌, ◌++◌, length, take, Option, Some, None, refl, ap, sym, ◌∙◌, subst, arith, append_assoc, append-nil, length-append, zero-add, suc-add, suc, zero}
+use Rattle.std.proofs.Common.{◌≡◌, ◌≢◌, ℕ, ◌+◌, List, [], ◌∷◌, ◌++◌, length, take, Option, Some, None, refl, ap, sym, ◌∙◌, subst, arith, append_assoc, append-nil, length-append, zero-add, suc-add, suc, zero}
 use Rattle.std.proofs.lemmas.Bool.{eqb-true}
 use Rattle.agc_store.specs.Memory.{Memory}
-use Rattle.std.specs.Prelude.{◌-◌, ◌==◌, ◌&&◌, ◌↔◌, All, Bool, true, false, IsTrue, slice_get, unwrap_or}
+use Rattle.std.specs.Prelude.{◌-◌, ◌==◌, ◌&&◌, ◌↔◌, All, Bool, true, IsTrue, slice_get, unwrap_or}
 use Rattle.std.proofs.Math.Seq.{take-append_seam, take-append-add}
 use Rattle.std.proofs.lemmas.List.Elements.{All-drop}
-use Rattle.circular_buffer.specs.Buffer.{Buffer, buffer, keep_last}
+use Rattle.circular_buffer.specs.Buffer.{Buffer, keep_last}
 use Rattle.agc_machine.specs.Run.{Run, run_of}
 use Rattle.agc_machine.specs.State.{State}
 use Rattle.agc_machine.specs.declared.answer.ChannelWrite.{ChannelWrite}
@@ -17,7 +17,7 @@ use Rattle.agc_trace.specs.Trace.{trace_of}
 use Rattle.agc_trace.specs.declared.entry.Entry.{Entry}
 use Rattle.agc_compare.specs.Apart.{EndsTold, EndsWith, IsParting}
 use Rattle.agc_compare.specs.Cells.{cells_that_differ}
-use Rattle.agc_compare.specs.Common.{ComesApart, HasEnded, HasParted, Tells, held_left, held_right, kept, one_write, run_behind, writes_in}
+use Rattle.agc_compare.specs.Common.{ComesApart, HasParted, Tells, held_left, held_right, kept, one_write, run_behind, writes_in}
 use Rattle.agc_compare.specs.Compare.{FitsParting, FitsWriteParting, TellsCommon, TellsEnd, TracesPart, cells_at_end, end_of, is_nowhere, is_same}
 use Rattle.agc_compare.specs.declared.cells.CellPair.{CellPair}
 use Rattle.agc_compare.specs.declared.comparison.Comparison.{Comparison}
@@ -29,7 +29,6 @@ use Rattle.agc_compare.specs.declared.comparison.Parting.{Parting}
 use Rattle.agc_compare.specs.declared.follower.End.{End}
 use Rattle.agc_compare.specs.declared.follower.Follower.{Follower}
 use Rattle.agc_compare.specs.declared.follower.WriteParting.{WriteParting}
-use Rattle.agc_compare.specs.declared.runs.Ends.{Ends}
 use Rattle.agc_compare.proofs.Followed.{end_after, get_seam}
 
 ends_with : (common : Common) (hl hr : Option ChannelWrite) (s t : State) (write : Option WriteParting) (f g : Follower) (u v : State) (el er : End) (x y : State) →

@@ -1,5 +1,5 @@
 -- The writes of two runs, one after another.
-use Rattle.std.proofs.Common.{◌≡◌, ◌≢◌, ℕ, ◌+◌, ◌≤◌, ◌<◌, suc, List, [], ◌∷◌, ◌++◌, length, take, Option, Some, None, refl, ap, sym, ◌∙◌, subst, arith, append_assoc, append-nil, add-zero, length-append}
+use Rattle.std.proofs.Common.{◌≡◌, ◌≢◌, ℕ, ◌+◌, ◌<◌, suc, List, [], ◌∷◌, ◌++◌, length, take, Option, Some, None, refl, ap, sym, ◌∙◌, subst, arith, append_assoc, append-nil, add-zero, length-append}
 use Rattle.std.specs.Prelude.{IsSome, slice_get}
 use Rattle.agc_machine.specs.Run.{Run, run_of}
 use Rattle.agc_machine.specs.State.{State}
@@ -12,10 +12,9 @@ use Rattle.agc_machine.specs.declared.answer.ChannelWrite.{ChannelWrite}
 use Rattle.agc_panel.specs.Face.{panel_of}
 use Rattle.agc_panel.specs.declared.face.Face.{Face}
 use Rattle.agc_compare.specs.Common.{one_write, run_behind}
-use Rattle.agc_compare.specs.Follower.{HasGone, IsEnd, PartBehind, WritesPart, WritesTold, run_with}
+use Rattle.agc_compare.specs.Follower.{HasGone, IsEnd, PartBehind, WritesTold, run_with}
 use Rattle.agc_compare.specs.declared.follower.End.{End}
 use Rattle.agc_compare.specs.declared.follower.Follower.{Follower}
-use Rattle.agc_compare.specs.declared.follower.WriteParting.{WriteParting}
 
 -- a run has come from one state to another, and the panel has taken the writes between
 pub record HasRun (before : Face) (s : State) (after : Face) (t : State) : Type 0 where

@@ -1,5 +1,5 @@
 -- The cells of two memories.
-use Rattle.std.proofs.Common.{◌≡◌, ℕ, ◌+◌, ◌≤◌, ◌<◌, suc, zero, List, [], ◌∷◌, ◌++◌, length, Bool, true, false, refl, ap, sym, ◌∙◌, subst, inl, inr, arith, append-nil, add-one}
+use Rattle.std.proofs.Common.{◌≡◌, ℕ, ◌+◌, ◌≤◌, ◌<◌, suc, zero, List, [], ◌∷◌, ◌++◌, Bool, true, false, refl, ap, sym, ◌∙◌, subst, inl, inr, arith, add-one}
 use Rattle.std.specs.Prelude.{◌==◌, ◌&&◌, ◌↔◌, All, IsTrue, if◌then◌else◌}
 use Rattle.circular_buffer.proofs.Places.{below_or_not}
 use Rattle.std.proofs.lemmas.List.{ext_get_or}
@@ -83,8 +83,8 @@ told_all place cells m n e t = t.told ∙ ap (λ (k : ℕ). differing_below k m.
 untold : (s : Bool) (place : ℕ) (x y : Number) → same_word x y ≡ s → cell_told place x y ≡ [] → x ≡ y
 untold true place x y e h = same_word-same x y e
 untold false place x y e h =
-    let told : record { place = place; left = x; right = y } ∷ [] ≡ [] =
-    ap (λ (b : Bool). if b then [] else record { place = place; left = x; right = y } ∷ []) (sym e) ∙ h in cc
+    let cell : CellPair = record { place = place; left = x; right = y } in
+    let told : cell ∷ [] ≡ [] = ap (λ (b : Bool). if b then [] else cell ∷ []) (sym e) ∙ h in cc
 
 no_more : (xs ys : List CellPair) → xs ++ ys ≡ [] → (xs ≡ []) × (ys ≡ [])
 no_more [] ys h = (refl, h)

@@ -7,7 +7,7 @@ use Rattle.std.proofs.lemmas.List.Elements.{All-append, All-cons, All-nil}
 use Rattle.circular_buffer.specs.Buffer.{Buffer, buffer, keep_last}
 use Rattle.agc_machine.specs.Boundary.{boundary}
 use Rattle.agc_machine.specs.Laws.{Falls}
-use Rattle.agc_machine.specs.Run.{Run, run_of, unless_stopped_run}
+use Rattle.agc_machine.specs.Run.{run_of, unless_stopped_run}
 use Rattle.agc_machine.specs.State.{State}
 use Rattle.agc_machine.specs.Upcoming.{upcoming_of}
 use Rattle.agc_machine.specs.declared.answer.ChannelWrite.{ChannelWrite}

@@ -49,7 +49,8 @@ WritesPart before xs ys (Some parting) =
 -- how far both have come.
 pub record WritesTold (before : ℕ) (left right : Follower) (s t : State)
     (parting : Option WriteParting) (left_now right_now : Follower) (u v : State) : Type 0 where
-  pub writes : WritesPart before (run_with left.held s).writes (run_with right.held t).writes parting
+  pub writes : WritesPart before (run_with left.held s).writes (run_with right.held t).writes
+      parting
   pub left_told : List ChannelWrite
   pub left_gone : HasGone left s left_told left_now u
   pub right_told : List ChannelWrite

@@ -1,5 +1,5 @@
 -- A comparison in print.
-use Rattle.std.specs.Prelude.{ℕ, ◌+◌, ◌/◌, ◌%◌, ◌<◌, ◌==◌, ◌||◌, Bool, true, false, nat_lt, if◌then◌else◌}
+use Rattle.std.specs.Prelude.{ℕ, ◌+◌, ◌/◌, ◌%◌, ◌==◌, ◌||◌, nat_lt, if◌then◌else◌}
 use Rattle.std.specs.Prelude.{List, [], ◌++◌, codes, length, flat_map, Option, Some, None}
 use Rattle.std.specs.Fmt.{decimal}
 use Rattle.std.specs.List.{zip}
@@ -15,7 +15,7 @@ use Rattle.agc_machine.specs.declared.answer.ChannelWrite.{ChannelWrite}
 use Rattle.agc_rope_text.specs.Place.{place_text}
 use Rattle.agc_rope_text.specs.declared.place.Place.{Place}
 use Rattle.agc_rope_text.specs.declared.place.Place.TheVariants as place
-use Rattle.agc_trace.specs.Line.{line_of, plain_octal, reason_name, word_digits}
+use Rattle.agc_trace.specs.Line.{line_of, reason_name, word_digits}
 use Rattle.agc_trace.specs.declared.entry.Entry.{Entry}
 use Rattle.agc_compare.specs.Compare.{is_same}
 use Rattle.agc_compare.specs.declared.cells.CellPair.{CellPair}
@@ -62,12 +62,14 @@ write_text None = codes "no write\n"
 
 -- which write differs
 unfoldable pub write_number_text : ℕ → List ℕ
-write_number_text number = codes "The first write that differs is number " ++ decimal number ++ codes ":\n"
+write_number_text number =
+    codes "The first write that differs is number " ++ decimal number ++ codes ":\n"
 
 -- the first channel write that differs
 unfoldable pub write_parting_text : Option WriteParting → List ℕ
 write_parting_text (Some parting) =
-    write_number_text parting.number ++ codes "< " ++ write_text parting.left ++ codes "> " ++ write_text parting.right
+    write_number_text parting.number ++ codes "< " ++ write_text parting.left ++ codes "> "
+    ++ write_text parting.right
 write_parting_text None = []
 
 -- two lines, where they differ
@@ -85,7 +87,8 @@ panels_text left right =
 abbrev pub cell_place : ℕ → Place
 cell_place number =
     if nat_lt number erasable_window then place.Plain number
-    else place.Erasable (number / erasable_bank_size) (erasable_window + number % erasable_bank_size)
+    else
+    place.Erasable (number / erasable_bank_size) (erasable_window + number % erasable_bank_size)
 
 -- a cell's word: A and Q have sixteen bits, every other cell fifteen
 unfoldable pub cell_word : ℕ → Number → List ℕ
@@ -127,4 +130,5 @@ unfoldable pub report_of : Comparison → List ℕ
 report_of c =
     if is_same c then same_text c
     else boundaries_text c c.parting ++ write_parting_text c.write
-    ++ panels_text c.left.panel c.right.panel ++ cells_text c.cells.items ++ ends_text c.left c.right
+    ++ panels_text c.left.panel c.right.panel ++ cells_text c.cells.items
+    ++ ends_text c.left c.right

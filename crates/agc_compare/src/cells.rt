@@ -44,7 +44,7 @@ pub(crate) fn differing_cells(
 }
 
 /// The word of an erasable cell by its number; every cell but A and Q has a narrow one.
-#[tactic(auto, unfolding(agc_store::specs::Memory::read_of, agc_store::specs::Memory::erasable_place, agc_store::specs::Cells::cell_of))]
+#[tactic(auto, unfolding(agc_store::specs::Memory::read_of, agc_store::specs::Memory::erasable_place))]
 fn word_at(store: &Store, place: u16) -> Wide
     requires { place < 2048 }
     ensures word { result ≡ cell_at place store.now.erasable }

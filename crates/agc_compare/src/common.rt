@@ -92,7 +92,8 @@ impl Common {
     #[tactic(auto, using(crate::proofs::Kept::append_nothing))]
     fn take(&mut self, write: Option<ChannelWrite>) -> Result<(), AllocError>
         ensures boundaries { OnOk result (self.new.boundaries ≡ self.old.boundaries + 1) }
-        ensures writes { OnOk result (self.new.writes ≡ self.old.writes + length (one_write write)) }
+        ensures writes { OnOk result
+            (self.new.writes ≡ self.old.writes + length (one_write write)) }
         ensures panel { OnOk result ((taken : List ChannelWrite) → self.old.panel ≡ panel_of taken
             → self.new.panel ≡ panel_of (taken ++ one_write write)) }
     {
@@ -107,7 +108,8 @@ impl Common {
 
 /// Puts an item behind the last ones, in place of the first of these where there is no more room.
 fn push_last<T: Drop>(last: &mut HeapCircularBuffer<T>, item: T)
-    ensures { last.new ≡ buffer (keep_last last.old.capacity (last.old.items ++ item ∷ [])) last.old.capacity }
+    ensures { last.new ≡ buffer
+        (keep_last last.old.capacity (last.old.items ++ item ∷ [])) last.old.capacity }
 {
     last.push_back(item);
 }

@@ -35,7 +35,7 @@ impl Comparison {
     ghost use Rattle.std.specs.Prelude.{◌≡◌};
     ghost use Rattle.agc_compare.specs.Compare.{is_same};
 
-    /// The runs are the same: boundary by boundary up to the stop, and in their erasable cells there.
+    /// The runs are the same: boundary by boundary up to the stop, and there in all erasable cells.
     pub fn is_same(&self) -> bool
         ensures { result ≡ is_same self.now }
     {

@@ -37,10 +37,11 @@ use agc_trace::{Entry, push_line, reason_name};
 use agc_word::Wide;
 use std::alloc::{AllocError, Global};
 
-/// Adds the report of a comparison. Where the runs are the same it is one line; else it tells, part
-/// by part and only where something differs: the first boundary with up to five lines before it, the
-/// first channel write, the panel's lines, the erasable cells, and both stops. Of two lines that differ `<` is that of
-/// the run on the left, `>` that of the run on the right. Fails where memory runs out.
+/// Adds the report of a comparison. Where the runs are the same it is one line. Else it tells, and
+/// leaves out what is the same: the first boundary that differs, with up to five lines before it, the
+/// first channel write, the panel's lines and the erasable cells; and at last both stops. Of two
+/// lines that differ `<` is that of the run on the left, `>` that of the run on the right. Fails
+/// where memory runs out.
 #[tactic(auto, unfolding(crate::specs::Report::report_of))]
 pub fn push_comparison(text: &mut String, comparison: &Comparison) -> Result<(), AllocError>
     requires { FitsLines comparison.now }
@@ -211,7 +212,8 @@ fn push_lines_apart(
     right: &str,
 ) -> Result<(), AllocError>
     ensures { OnOk result (string_bytes text.new
-        ≡ string_bytes text.old ++ flat_map line_pair_text (zip (lines left.now) (lines right.now))) }
+        ≡ string_bytes text.old
+        ++ flat_map line_pair_text (zip (lines left.now) (lines right.now))) }
 {
     let pairs: Vec<(&str, &str)> = left.lines().zip(right.lines()).collect(alloc)?;
     push_line_pairs(text, pairs.as_slice())
@@ -220,7 +222,8 @@ fn push_lines_apart(
 /// Adds each pair of lines that differ.
 fn push_line_pairs(text: &mut String, pairs: &[(&str, &str)]) -> Result<(), AllocError>
     ensures { OnOk result (string_bytes text.new
-        ≡ string_bytes text.old ++ flat_map (λ pair. line_pair_text (pair.0.now, pair.1.now)) pairs.now) }
+        ≡ string_bytes text.old
+        ++ flat_map (λ pair. line_pair_text (pair.0.now, pair.1.now)) pairs.now) }
 {
     for pair in pairs {
         push_line_pair(text, pair.0, pair.1)?;
@@ -304,8 +307,8 @@ fn push_cell_word(text: &mut String, place: u16, word: Wide) -> Result<(), Alloc
     write!(text, "{word}")
 }
 
-/// The place of an erasable cell, by its number: up to 1377 octal its address, then its bank and its
-/// address in the window.
+/// The place of an erasable cell, by its number: up to 1377 octal its address, then its bank and
+/// its address in the window.
 fn cell_place(place: u16) -> Place
     requires { place < 0o4000 }
     ensures place { result ≡ cell_place place }

@@ -4,7 +4,8 @@ ghost use Rattle.agc_machine.specs.Run.{run_of};
 ghost use Rattle.agc_trace.specs.Trace.{trace_of};
 ghost use Rattle.agc_compare.specs.Cells.{cells_that_differ};
 ghost use Rattle.agc_compare.specs.Common.{held_left, held_right};
-ghost use Rattle.agc_compare.specs.Compare.{FitsLines, TellsCommon, TellsEnd, TracesPart, cells_at_end, is_same};
+ghost use Rattle.agc_compare.specs.Compare.{FitsLines, TellsCommon, TellsEnd, TracesPart};
+ghost use Rattle.agc_compare.specs.Compare.{cells_at_end, is_same};
 ghost use Rattle.agc_compare.specs.Follower.{WritesPart};
 ghost use Rattle.agc_compare.specs.Apart.{EndsTold, IsParting};
 

@@ -100,8 +100,8 @@ happening_text (upcoming.Event what) = codes "- event " ++ event_text what
 happening_text (upcoming.Timer t) = codes "- timer " ++ timer_name t
 happening_text (upcoming.Interrupt r) = codes "- interrupt " ++ interrupt_name r
 happening_text (upcoming.Order order) =
-    place_text (order_place order.bank order.address) ++ codes " " ++ word_digits order.word ++ codes " "
-    ++ order_text order.extracode order.word
+    place_text (order_place order.bank order.address) ++ codes " " ++ word_digits order.word
+    ++ codes " " ++ order_text order.extracode order.word
 
 -- a channel write, where there is one
 abbrev pub shown_text : Option ChannelWrite → List ℕ

@@ -1,4 +1,3 @@
-use Rattle.std.proofs.Common.{refl}
 use Rattle.agc_compare.proofs.Followed.{fewer_left, told_all, told_apart, told_more, told_none}
 use Rattle.agc_compare.proofs.follower.first_write_apart.Goals as goal
 

@@ -1,5 +1,5 @@
 use Rattle.std.proofs.Common.{◌≡◌, ℕ, List, ◌++◌, Result, Ok, Err, OnOk, IfOk, ap, sym, subst, ◌∙◌}
-use Rattle.std.specs.Prelude.{flat_map, map, string_bytes}
+use Rattle.std.specs.Prelude.{flat_map}
 use Rattle.std.specs.Str.Iter.{lines_rest}
 use Rattle.std.proofs.lemmas.Iterator.{YieldsList-from_zip}
 use Rattle.std.proofs.lemmas.Iterator.Consumers.{map_from_collect}
