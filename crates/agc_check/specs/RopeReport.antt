@@ -24,7 +24,8 @@ IsPlaced fault = Unit {0}
 
 unfoldable pub rope_holdings_text : RopeHoldings → List ℕ
 rope_holdings_text held =
-    codes "rope: words " ++ decimal held.words ++ codes ", banks " ++ decimal held.banks ++ codes "\n"
+    codes "rope: words " ++ decimal held.words
+    ++ codes ", banks " ++ decimal held.banks ++ codes "\n"
 
 -- the word that sixteen bits of a file say, their parity bit, and how many of them are one
 unfoldable pub word_text : ℕ → List ℕ

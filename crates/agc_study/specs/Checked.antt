@@ -20,6 +20,7 @@ IsChecked form (Some rope) None report = Unit {0}
 IsChecked form (Some rope) (Some script) report = IsCheckedOf form rope script report
 
 -- a report's text was written, and its files are sound or not
-pub record IsWritten (report : Report) (is_sound : Bool) (before after : Option (List ℕ)) : Type 0 where
+pub record IsWritten (report : Report) (is_sound : Bool)
+    (before after : Option (List ℕ)) : Type 0 where
   pub sound : report.is_sound ≡ is_sound
   pub text : Appends before after (string_bytes report.text)
