@@ -45,6 +45,6 @@ pub record IsScriptReport (file before after : List ℕ) : Type 0 where
   pub text : after ≡ before ++ script_told (script_of file) file why
 
 -- the report on a rope file of a form and a script file
-pub record IsReport (form : RopeForm) (rope script text : List ℕ) : Type 0 where
+pub record IsFileReport (form : RopeForm) (rope script text : List ℕ) : Type 0 where
   pub why : List ℕ
   pub told : text ≡ rope_report form rope ++ script_told (script_of script) script why

@@ -28,8 +28,8 @@ rope_holdings_text held =
     ++ codes ", banks " ++ decimal held.banks ++ codes "\n"
 
 -- the word that sixteen bits of a file say, their parity bit, and how many of them are one
-unfoldable pub word_text : ℕ → List ℕ
-word_text word =
+unfoldable pub word_with_parity : ℕ → List ℕ
+word_with_parity word =
     codes " is " ++ octal_digits 5 (pattern_of 15 (narrow_number (word / 2)))
     ++ codes " with parity bit " ++ decimal (word % 2)
     ++ codes ": " ++ decimal (count_ones word) ++ codes " one bits, and they should be odd\n"
@@ -37,7 +37,7 @@ word_text word =
 -- a place as listings name it, and the sixteen bits that stand there in the file
 unfoldable pub bad_word_text : ℕ → ℕ → ℕ → List ℕ
 bad_word_text bank address word =
-    codes "    the word at " ++ place_text (place.Fixed bank address) ++ word_text word
+    codes "    the word at " ++ place_text (place.Fixed bank address) ++ word_with_parity word
 
 -- which word has the wrong parity
 unfoldable pub parity_why : List ℕ → ℕ → ℕ → List ℕ

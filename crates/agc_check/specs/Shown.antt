@@ -8,10 +8,10 @@ use Rattle.agc_rope_text.specs.Line.{is_no_text}
 unfoldable pub shown_byte : ℕ → List ℕ
 shown_byte b = if is_no_text b then codes "\\" ++ octal_digits 3 b else b ∷ []
 
-unfoldable pub shown : List ℕ → List ℕ
-shown bytes = flat_map shown_byte bytes
+unfoldable pub printable : List ℕ → List ℕ
+printable bytes = flat_map shown_byte bytes
 
 -- a line of a file: its first 120 bytes
 unfoldable pub shown_line : List ℕ → List ℕ
 shown_line line =
-    if nat_lt 120 (length line) then shown (take 120 line) ++ codes " .." else shown line
+    if nat_lt 120 (length line) then printable (take 120 line) ++ codes " .." else printable line

@@ -3,7 +3,7 @@ ghost use Rattle.std.specs.Prelude.{◌≡◌, ◌++◌, ◌&&◌, ◌≤◌, le
 ghost use Rattle.agc_script.specs.Text.{lines_of};
 ghost use Rattle.agc_store.specs.RopeFile.{rope_fault_of};
 ghost use Rattle.agc_script.specs.Parse.{script_of};
-ghost use Rattle.agc_check.specs.Report.{IsReport, IsScriptReport, span_text};
+ghost use Rattle.agc_check.specs.Report.{IsFileReport, IsScriptReport, span_text};
 ghost use Rattle.agc_check.specs.Report.{script_fault_text, script_holdings_text};
 
 use crate::holdings::{ScriptHoldings, Span, holdings_of_script};
@@ -35,7 +35,7 @@ pub fn check(
 ) -> Result<Report, AllocError>
     ensures sound { IfOk result (λ report. report.is_sound
         ≡ (is_none (rope_fault_of form rope.now) && is_ok (script_of script.now))) }
-    ensures text { IfOk result (λ report. IsReport form rope.now script.now (string_bytes report.text)) }
+    ensures text { IfOk result (λ report. IsFileReport form rope.now script.now (string_bytes report.text)) }
 {
     let mut text = String::new(alloc);
     let rope_is_sound = push_rope(alloc, &mut text, form, rope)?;

@@ -3,7 +3,7 @@ ghost use Rattle.std.specs.Prelude.{◌≡◌, ◌<◌, ◌*◌, ◌+◌, ◌++�
 ghost use Rattle.agc_store.specs.RopeFile.{file_word, rope_fault_of};
 ghost use Rattle.agc_rope_text.specs.List.{listed_address};
 ghost use Rattle.agc_check.specs.RopeReport.{IsPlaced, bad_word_text, parity_why, rope_fault_text};
-ghost use Rattle.agc_check.specs.RopeReport.{rope_holdings_text, rope_report, rope_why, word_text};
+ghost use Rattle.agc_check.specs.RopeReport.{rope_holdings_text, rope_report, rope_why, word_with_parity};
 
 use crate::holdings::{RopeHoldings, holdings_of_rope};
 use agc_rope_text::{Place, push_place};
@@ -121,9 +121,9 @@ fn push_bad_word(text: &mut String, bank: u8, address: u16, word: u16) -> Result
 }
 
 /// Adds the digits of a file's word, its parity bit and the count of its one bits.
-#[tactic(auto, unfolding(crate::specs::RopeReport::word_text))]
+#[tactic(auto, unfolding(crate::specs::RopeReport::word_with_parity))]
 fn push_word(text: &mut String, word: u16) -> Result<(), AllocError>
-    ensures { OnOk result (string_bytes text.new ≡ string_bytes text.old ++ word_text word) }
+    ensures { OnOk result (string_bytes text.new ≡ string_bytes text.old ++ word_with_parity word) }
 {
     let digits = Narrow::with_bits(word / 2);
     let (parity, ones) = (word % 2, word.count_ones());

@@ -2,7 +2,7 @@
 ghost use Rattle.std.specs.Prelude.{◌≡◌, ◌++◌, codes, OnOk, string_bytes};
 ghost use Rattle.agc_word.specs.Octal.{octal_digits};
 ghost use Rattle.agc_rope_text.specs.Line.{is_no_text};
-ghost use Rattle.agc_check.specs.Shown.{shown, shown_byte, shown_line};
+ghost use Rattle.agc_check.specs.Shown.{printable, shown_byte, shown_line};
 
 use std::alloc::AllocError;
 
@@ -24,9 +24,9 @@ pub(crate) fn push_line(text: &mut String, line: &[u8]) -> Result<(), AllocError
 }
 
 /// Adds bytes: those that print in ASCII, and tabs, as they are, each other one as `\` and three octal digits.
-#[tactic(auto, unfolding(crate::specs::Shown::shown))]
+#[tactic(auto, unfolding(crate::specs::Shown::printable))]
 pub(crate) fn push_bytes(text: &mut String, bytes: &[u8]) -> Result<(), AllocError>
-    ensures { OnOk result (string_bytes text.new ≡ string_bytes text.old ++ shown bytes.now) }
+    ensures { OnOk result (string_bytes text.new ≡ string_bytes text.old ++ printable bytes.now) }
 {
     for byte in bytes {
         push_byte(text, *byte)?;

@@ -17,7 +17,7 @@ use Rattle.agc_trace.specs.Trace.{trace_of}
 use Rattle.agc_trace.specs.declared.entry.Entry.{Entry}
 use Rattle.agc_compare.specs.Apart.{EndsTold, EndsWith, IsParting}
 use Rattle.agc_compare.specs.Cells.{cells_that_differ}
-use Rattle.agc_compare.specs.Common.{ComesApart, HasParted, Tells, held_left, held_right, kept, one_write, run_behind, writes_in}
+use Rattle.agc_compare.specs.Common.{ComesApart, HasParted, TellsEntries, held_left, held_right, kept, one_write, run_behind, entry_writes}
 use Rattle.agc_compare.specs.Compare.{FitsParting, FitsWriteParting, TellsCommon, TellsEnd, TracesPart, cells_at_end, end_of, is_nowhere, is_same}
 use Rattle.agc_compare.specs.declared.cells.CellPair.{CellPair}
 use Rattle.agc_compare.specs.declared.comparison.Comparison.{Comparison}
@@ -55,17 +55,17 @@ ends_told common fork hl hr s t write f g u v el er x y e d told l r =
 -- what two runs have in common, and how each goes on
 pub record Met (s t : State) (common : Common) (last : Buffer Entry) (fork : Option Fork) (u v : State) : Type 0 where
   pub entries : List Entry
-  pub tells : Tells entries common last
+  pub tells : TellsEntries entries common last
   pub left_rest : List Entry
   pub left : trace_of s ≡ entries ++ left_rest
   pub right_rest : List Entry
   pub right : trace_of t ≡ entries ++ right_rest
-  pub left_run : run_of s ≡ run_behind (writes_in entries) (run_with (held_left fork) u)
-  pub right_run : run_of t ≡ run_behind (writes_in entries) (run_with (held_right fork) v)
+  pub left_run : run_of s ≡ run_behind (entry_writes entries) (run_with (held_left fork) u)
+  pub right_run : run_of t ≡ run_behind (entry_writes entries) (run_with (held_right fork) v)
 
-run_parted : (s u : State) (entries : List Entry) (entry : Entry) → HasParted s entries entry u → run_of s ≡ run_behind (writes_in entries) (run_with entry.write u)
+run_parted : (s u : State) (entries : List Entry) (entry : Entry) → HasParted s entries entry u → run_of s ≡ run_behind (entry_writes entries) (run_with entry.write u)
 run_parted s u entries entry h =
-    h.run ∙ ap (λ (ws : List ChannelWrite). record { writes = ws; last = (run_of u).last }) (append_assoc (writes_in entries) (one_write entry.write) (run_of u).writes)
+    h.run ∙ ap (λ (ws : List ChannelWrite). record { writes = ws; last = (run_of u).last }) (append_assoc (entry_writes entries) (one_write entry.write) (run_of u).writes)
 
 pub met : (s t : State) (common : Common) (last : Buffer Entry) (fork : Option Fork) (u v : State) → ComesApart s t common last fork u v → Met s t common last fork u v
 met s t common last None u v h =
@@ -103,7 +103,7 @@ common_told s t common last fork u v c m b w l =
     record {
       same = left ∙ sym right;
       within = let all : length (trace_of s) ≡ length m.entries + length m.left_rest = ap length m.left ∙ length-append m.entries m.left_rest in omega (arith, count, all);
-      writes = w ∙ m.tells.writes ∙ ap (λ (es : List Entry). length (writes_in es)) (sym left);
+      writes = w ∙ m.tells.writes ∙ ap (λ (es : List Entry). length (entry_writes es)) (sym left);
       before = l ∙ ap (λ (x : Buffer Entry). x.items) m.tells.last_ones ∙ ap (keep_last kept) (sym left);
     }
 
@@ -164,8 +164,8 @@ pub writes_told : (s t : State) (common : Common) (last : Buffer Entry) (fork : 
     WritesPart common.writes (run_with (held_left fork) u).writes (run_with (held_right fork) v).writes parting → WritesPart 0 (run_of s).writes (run_of t).writes parting
 writes_told s t common last fork u v parting m h =
     subst (λ (r : Run). WritesPart 0 r.writes (run_of t).writes parting) (sym m.left_run)
-    (subst (λ (r : Run). WritesPart 0 (writes_in m.entries ++ (run_with (held_left fork) u).writes) r.writes parting) (sym m.right_run)
-    (writes_later (writes_in m.entries) (run_with (held_left fork) u).writes (run_with (held_right fork) v).writes common.writes parting m.tells.writes h))
+    (subst (λ (r : Run). WritesPart 0 (entry_writes m.entries ++ (run_with (held_left fork) u).writes) r.writes parting) (sym m.right_run)
+    (writes_later (entry_writes m.entries) (run_with (held_left fork) u).writes (run_with (held_right fork) v).writes common.writes parting m.tells.writes h))
 
 -- the end of a run, told from its start
 pub end_told : (s u : State) (common : Common) (writes : List ChannelWrite) (held : Option ChannelWrite) (end : End) (x : State) → common.panel ≡ panel_of writes →

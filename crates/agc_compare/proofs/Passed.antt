@@ -18,7 +18,7 @@ use Rattle.agc_trace.specs.Entry.{entry_of, write_shown}
 use Rattle.agc_trace.specs.Trace.{is_stop, trace_of}
 use Rattle.agc_trace.specs.declared.entry.Entry.{Entry}
 use Rattle.agc_trace.proofs.Steps.{trace_by_entry}
-use Rattle.agc_compare.specs.Common.{ComesApart, HasEnded, HasParted, HasPassed, Tells, one_write, run_behind, writes_in}
+use Rattle.agc_compare.specs.Common.{ComesApart, HasEnded, HasParted, HasPassed, TellsEntries, one_write, run_behind, entry_writes}
 use Rattle.agc_compare.specs.declared.common.Common.{Common}
 use Rattle.agc_panel.specs.Face.{panel_of}
 use Rattle.agc_trace.specs.Entry.{FitsLine}
@@ -43,10 +43,10 @@ tells : (s : State) → (entry_of s).happening ≡ upcoming_of s
 unfolding entry_of
 tells s = refl
 
-pub writes_in-snoc : (entries : List Entry) (entry : Entry) → writes_in (entries ++ entry ∷ []) ≡ writes_in entries ++ one_write entry.write
-unfolding writes_in
-writes_in-snoc entries entry =
-    flat_map-append (λ (e : Entry). one_write e.write) entries (entry ∷ []) ∙ ap (λ (ws : List ChannelWrite). writes_in entries ++ ws) (append-nil (one_write entry.write))
+pub entry_writes-snoc : (entries : List Entry) (entry : Entry) → entry_writes (entries ++ entry ∷ []) ≡ entry_writes entries ++ one_write entry.write
+unfolding entry_writes
+entry_writes-snoc entries entry =
+    flat_map-append (λ (e : Entry). one_write e.write) entries (entry ∷ []) ∙ ap (λ (ws : List ChannelWrite). entry_writes entries ++ ws) (append-nil (one_write entry.write))
 
 goes_on : (b : Bool) (xs : List Entry) → b ≡ false → (if b then [] else xs) ≡ xs
 goes_on true xs e = cc
@@ -64,14 +64,14 @@ run_on s t writes h =
     ∙ ap (λ (ws : List ChannelWrite). record { writes = ws; last = (run_of (boundary None t).0).last })
     (sym (append_assoc writes (one_write (entry_of t).write) (run_of (boundary None t).0).writes))
 
-run_passed : (s t : State) (entries : List Entry) → run_of s ≡ run_behind (writes_in entries) (run_of t) →
-    run_of s ≡ run_behind (writes_in (entries ++ entry_of t ∷ [])) (run_of (boundary None t).0)
+run_passed : (s t : State) (entries : List Entry) → run_of s ≡ run_behind (entry_writes entries) (run_of t) →
+    run_of s ≡ run_behind (entry_writes (entries ++ entry_of t ∷ [])) (run_of (boundary None t).0)
 run_passed s t entries h =
-    run_on s t (writes_in entries) h ∙ ap (λ (ws : List ChannelWrite). run_behind ws (run_of (boundary None t).0)) (sym (writes_in-snoc entries (entry_of t)))
+    run_on s t (entry_writes entries) h ∙ ap (λ (ws : List ChannelWrite). run_behind ws (run_of (boundary None t).0)) (sym (entry_writes-snoc entries (entry_of t)))
 
 -- no boundary is passed yet
 pub passed_none : (s : State) → HasPassed s [] s
-unfolding writes_in
+unfolding entry_writes
 passed_none s = record { trace = refl; run = refl }
 
 -- one more boundary, which is no stop
@@ -100,7 +100,7 @@ ended_with s t u entries entry e f stop h =
 -- What two runs have in common up to a state of each.
 pub record Shares (s t : State) (common : Common) (last : Buffer Entry) (u v : State) : Type 0 where
   pub entries : List Entry
-  pub tells : Tells entries common last
+  pub tells : TellsEntries entries common last
   pub left : HasPassed s entries u
   pub right : HasPassed t entries v
 
@@ -125,13 +125,13 @@ keep_one xs x =
     ∙ ap (λ n. drop n (xs ++ x ∷ [])) (omega (arith, a, b, c))
 
 tells_more : (entries : List Entry) (c d : Common) (last more : Buffer Entry) (entry : Entry) → TellsMore c d last more entry →
-    Tells entries c last → Tells (entries ++ entry ∷ []) d more
+    TellsEntries entries c last → TellsEntries (entries ++ entry ∷ []) d more
 tells_more entries c d last more entry h t =
-    let writes = writes_in-snoc entries entry in
+    let writes = entry_writes-snoc entries entry in
     record {
       boundaries = h.boundaries ∙ ap (λ n. n + 1) t.boundaries ∙ sym (length-append entries (entry ∷ []));
-      writes = h.writes ∙ ap (λ n. n + length (one_write entry.write)) t.writes ∙ sym (length-append (writes_in entries) (one_write entry.write)) ∙ ap length (sym writes);
-      panel = h.panel (writes_in entries) t.panel ∙ ap panel_of (sym writes);
+      writes = h.writes ∙ ap (λ n. n + length (one_write entry.write)) t.writes ∙ sym (length-append (entry_writes entries) (one_write entry.write)) ∙ ap length (sym writes);
+      panel = h.panel (entry_writes entries) t.panel ∙ ap panel_of (sym writes);
       last_ones =
           h.last_ones ∙ ap (λ (b : Buffer Entry). buffer (keep_last b.capacity (b.items ++ entry ∷ [])) b.capacity) t.last_ones
           ∙ ap (λ (xs : List Entry). buffer xs 5) (keep_one entries entry);
@@ -140,7 +140,7 @@ tells_more entries c d last more entry h t =
 
 pub shares_none : (s t : State) (common : Common) (last : Buffer Entry) → common.boundaries ≡ 0 → common.writes ≡ 0 → common.panel ≡ panel_of [] →
     last ≡ buffer [] 5 → Shares s t common last s t
-unfolding writes_in
+unfolding entry_writes
 shares_none s t common last b w p l =
     record { entries = []; tells = record { boundaries = b; writes = w; panel = p; last_ones = l; fits = All-nil FitsLine }; left = passed_none s; right = passed_none t }
 
@@ -175,7 +175,7 @@ parted_with s u x entries entry e f fits h =
     record {
       rest = rest;
       trace = h.trace ∙ ap (λ (xs : List Entry). entries ++ xs) (trace_by_entry u);
-      run = run_on s u (writes_in entries) h.run;
+      run = run_on s u (entry_writes entries) h.run;
       fits = subst FitsLine e fits;
     } in
     subst (λ (y : Entry). HasParted s entries y x) (sym e) (subst (λ (v : State). HasParted s entries (entry_of u) v) (sym f) parted)

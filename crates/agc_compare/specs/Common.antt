@@ -17,8 +17,8 @@ one_write (Some write) = write ∷ []
 one_write None = []
 
 -- the channel writes that entries show
-unfoldable pub writes_in : List Entry → List ChannelWrite
-writes_in entries = flat_map (λ entry. one_write entry.write) entries
+unfoldable pub entry_writes : List Entry → List ChannelWrite
+entry_writes entries = flat_map (λ entry. one_write entry.write) entries
 
 -- a run with these writes before its own
 abbrev pub run_behind : List ChannelWrite → Run → Run
@@ -29,37 +29,37 @@ abbrev pub kept : ℕ
 kept = 5
 
 -- what is told of the entries that two runs have in common
-pub record Tells (entries : List Entry) (common : Common) (last : Buffer Entry) : Type 0 where
+pub record TellsEntries (entries : List Entry) (common : Common) (last : Buffer Entry) : Type 0 where
   pub boundaries : common.boundaries ≡ length entries
-  pub writes : common.writes ≡ length (writes_in entries)
-  pub panel : common.panel ≡ panel_of (writes_in entries)
+  pub writes : common.writes ≡ length (entry_writes entries)
+  pub panel : common.panel ≡ panel_of (entry_writes entries)
   pub last_ones : last ≡ buffer (keep_last kept entries) kept
   pub fits : All FitsLine entries
 
 -- the boundaries between two states of a run are these entries
 pub record HasPassed (s : State) (entries : List Entry) (t : State) : Type 0 where
   pub trace : trace_of s ≡ entries ++ trace_of t
-  pub run : run_of s ≡ run_behind (writes_in entries) (run_of t)
+  pub run : run_of s ≡ run_behind (entry_writes entries) (run_of t)
 
 -- these entries end the trace of a run that has come to its stop
 pub record HasEnded (s : State) (entries : List Entry) (t : State) : Type 0 where
   pub trace : trace_of s ≡ entries
-  pub run : run_of s ≡ run_behind (writes_in entries) (run_of t)
+  pub run : run_of s ≡ run_behind (entry_writes entries) (run_of t)
 
 -- a run has passed these entries, and then one more
 pub record HasParted (s : State) (entries : List Entry) (entry : Entry) (t : State) : Type 0 where
   pub rest : List Entry
   pub trace : trace_of s ≡ entries ++ entry ∷ rest
-  pub run : run_of s ≡ run_behind (writes_in entries ++ one_write entry.write) (run_of t)
+  pub run : run_of s ≡ run_behind (entry_writes entries ++ one_write entry.write) (run_of t)
   pub fits : FitsLine entry
 
 -- Two runs have come to a fork behind the entries that they have in common, or to their stops where
 -- they have all in common.
 abbrev pub ComesApart : State → State → Common → Buffer Entry → Option Fork → State → State → Type 0
 ComesApart s t common last None u v =
-    (entries : List Entry) × Tells entries common last × HasEnded s entries u × HasEnded t entries v
+    (entries : List Entry) × TellsEntries entries common last × HasEnded s entries u × HasEnded t entries v
 ComesApart s t common last (Some fork) u v =
-    (entries : List Entry) × Tells entries common last × HasParted s entries fork.left u
+    (entries : List Entry) × TellsEntries entries common last × HasParted s entries fork.left u
     × HasParted t entries fork.right v × (fork.left ≢ fork.right)
 
 -- the writes of the boundaries at a fork

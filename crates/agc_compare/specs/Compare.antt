@@ -8,7 +8,7 @@ use Rattle.agc_machine.specs.State.{State}
 use Rattle.agc_panel.specs.Face.{panel_of}
 use Rattle.agc_trace.specs.Entry.{FitsLine, FitsWrite}
 use Rattle.agc_trace.specs.declared.entry.Entry.{Entry}
-use Rattle.agc_compare.specs.Common.{kept, writes_in}
+use Rattle.agc_compare.specs.Common.{kept, entry_writes}
 use Rattle.agc_compare.specs.Follower.{PartBehind}
 use Rattle.agc_compare.specs.declared.comparison.Comparison.{Comparison}
 use Rattle.agc_compare.specs.declared.comparison.Parting.{Parting}
@@ -36,7 +36,7 @@ cells_at_end s = (end_of s).processor.store.erasable
 pub record TellsCommon (xs ys : List Entry) (c : Comparison) : Type 0 where
   pub same : take c.boundaries xs ≡ take c.boundaries ys
   pub within : c.boundaries ≤ length xs
-  pub writes : c.writes ≡ length (writes_in (take c.boundaries xs))
+  pub writes : c.writes ≡ length (entry_writes (take c.boundaries xs))
   pub before : c.before.items ≡ keep_last kept (take c.boundaries xs)
 
 -- Where two traces part: nowhere, so that all is common, or behind so many entries, in these two.

@@ -7,7 +7,7 @@ use Rattle.agc_session.specs.Refusal.{refusal_line}
 use Rattle.agc_session.specs.declared.refusal.Refusal.TheVariants as refusal
 
 -- a text goes to one stream alone, with this status; where the write fails the status is 3
-pub record Tells (text : List ℕ) (status ended : ℕ)
+pub record EndsTelling (text : List ℕ) (status ended : ℕ)
     (old new other other_new : Option (List ℕ)) : Type 0 where
   pub ends : (ended ≡ status) ⊎ (ended ≡ 3)
   pub told : ended ≡ status → Appends old new text
@@ -18,8 +18,8 @@ pub record Tells (text : List ℕ) (status ended : ℕ)
 abbrev pub EndsMistaken : ArgsFault → ℕ → Option (List ℕ) → Option (List ℕ) → Option (List ℕ)
     → Option (List ℕ) → Type 0
 EndsMistaken (fault.Help text) ended out out_new err err_new =
-    Tells (string_bytes text) 0 ended out out_new err err_new
+    EndsTelling (string_bytes text) 0 ended out out_new err err_new
 EndsMistaken (fault.Command text) ended out out_new err err_new =
-    Tells (string_bytes text) 2 ended err err_new out out_new
+    EndsTelling (string_bytes text) 2 ended err err_new out out_new
 EndsMistaken fault.Memory ended out out_new err err_new =
-    Tells (refusal_line refusal.Memory) 1 ended err err_new out out_new
+    EndsTelling (refusal_line refusal.Memory) 1 ended err err_new out out_new

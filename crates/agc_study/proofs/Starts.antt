@@ -16,19 +16,19 @@ use Rattle.agc_session.specs.Files.{events_in, rope_steps, script_steps}
 use Rattle.agc_session.specs.Options.{said_by}
 use Rattle.agc_session.specs.Steps.{IsTold, refusal_in}
 use Rattle.agc_session.specs.declared.refusal.Refusal.{Refusal}
-use Rattle.agc_study.specs.Started.{IsRefused, IsStarted, start_steps, steps_of}
+use Rattle.agc_study.specs.Started.{IsRefused, IsStarted, start_steps, starting_steps}
 
 module _ (form : RopeForm) (until : Option (String Global)) (limit : ℕ) where
   pub rope_refused : (rope script : Option (List ℕ)) (r : Refusal) → IfSome rope (λ file. IsTold (rope_steps form file) r)
       → IsRefused form until limit rope script r
-  unfolding steps_of
+  unfolding starting_steps
   rope_refused None script r h = tt
   rope_refused (Some rope) None r h = tt
   rope_refused (Some rope) (Some script) r h = told_first (rope_steps form rope) (script_steps script ++ start_steps until limit) r h
 
   pub script_refused : (rope script : Option (List ℕ)) (r : Refusal) → IfSome rope (λ file. refusal_in (rope_steps form file) ≡ None)
       → IfSome script (λ file. IsTold (script_steps file) r) → IsRefused form until limit rope script r
-  unfolding steps_of
+  unfolding starting_steps
   script_refused None script r sound h = tt
   script_refused (Some rope) None r sound h = tt
   script_refused (Some rope) (Some script) r sound h =
@@ -42,7 +42,7 @@ module _ (form : RopeForm) (until : Option (String Global)) (limit : ℕ) where
 
     start_refused : (rope script : Option (List ℕ)) (r : Refusal) → IfSome rope (λ file. refusal_in (rope_steps form file) ≡ None)
         → IfSome script (λ file. refusal_in (script_steps file) ≡ None) → IsTold (start_steps until limit) r → IsRefused form until limit rope script r
-    unfolding steps_of
+    unfolding starting_steps
     start_refused None script r sound_rope sound_script h = tt
     start_refused (Some rope) None r sound_rope sound_script h = tt
     start_refused (Some rope) (Some script) r sound_rope sound_script h =
@@ -53,7 +53,7 @@ module _ (form : RopeForm) (until : Option (String Global)) (limit : ℕ) where
         → IfSome rope (λ file. refusal_in (rope_steps form file) ≡ None) → IfSome script (λ file. events ≡ events_in (script_of file))
         → IfSome script (λ file. refusal_in (script_steps file) ≡ None) → refusal_in (start_steps until limit) ≡ None → IsStart machine
         → IsStarted form until limit rope script machine
-    unfolding steps_of
+    unfolding starting_steps
     start None script machine w a e b none is = tt
     start (Some rope) None machine w a e b none is = tt
     start (Some rope) (Some script) machine w a e b none is = record {

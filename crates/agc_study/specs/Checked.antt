@@ -5,13 +5,13 @@ use Rattle.std.specs.Io.KnownBytes.{Appends}
 use Rattle.agc_store.specs.RopeFile.{rope_fault_of}
 use Rattle.agc_store.specs.declared.rope_file.RopeForm.{RopeForm}
 use Rattle.agc_script.specs.Parse.{script_of}
-use Rattle.agc_check.specs.Report.{IsReport}
+use Rattle.agc_check.specs.Report.{IsFileReport}
 use Rattle.agc_check.specs.declared.reports.Report.{Report}
 
 -- a report on the bytes of two files: whether both are sound, and the text
 pub record IsCheckedOf (form : RopeForm) (rope script : List ℕ) (report : Report) : Type 0 where
   pub sound : report.is_sound ≡ (is_none (rope_fault_of form rope) && is_ok (script_of script))
-  pub text : IsReport form rope script (string_bytes report.text)
+  pub text : IsFileReport form rope script (string_bytes report.text)
 
 -- the same, as far as the readers of the files tell their bytes
 abbrev pub IsChecked : RopeForm → Option (List ℕ) → Option (List ℕ) → Report → Type 0

@@ -22,14 +22,14 @@ unfoldable pub start_steps : Option (String Global) → ℕ → List Step
 start_steps until limit = looks (until_refusal until) ∷ looks (limit_refusal limit) ∷ []
 
 -- the steps from two files to a machine, at which it may be refused
-unfoldable pub steps_of : RopeForm → Option (String Global) → ℕ → List ℕ → List ℕ → List Step
-steps_of form until limit rope script =
+unfoldable pub starting_steps : RopeForm → Option (String Global) → ℕ → List ℕ → List ℕ → List Step
+starting_steps form until limit rope script =
     rope_steps form rope ++ (script_steps script ++ start_steps until limit)
 
 -- nothing is refused, and this is the machine of the files at its start
 pub record IsStartedOf (form : RopeForm) (until : Option (String Global)) (limit : ℕ)
     (rope script : List ℕ) (machine : State) : Type 0 where
-  pub accepted : refusal_in (steps_of form until limit rope script) ≡ None
+  pub accepted : refusal_in (starting_steps form until limit rope script) ≡ None
   pub start : machine ≡ start_state (rope_words form rope) (events_in (script_of script)) limit
       (said_by stop_address_of until)
 
@@ -47,4 +47,4 @@ abbrev pub IsRefused : RopeForm → Option (String Global) → ℕ → Option (L
 IsRefused form until limit None script r = Unit {0}
 IsRefused form until limit (Some rope) None r = Unit {0}
 IsRefused form until limit (Some rope) (Some script) r =
-    IsTold (steps_of form until limit rope script) r
+    IsTold (starting_steps form until limit rope script) r
