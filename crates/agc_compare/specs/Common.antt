@@ -29,7 +29,8 @@ abbrev pub kept : ℕ
 kept = 5
 
 -- what is told of the entries that two runs have in common
-pub record TellsEntries (entries : List Entry) (common : Common) (last : Buffer Entry) : Type 0 where
+pub record TellsEntries (entries : List Entry) (common : Common)
+    (last : Buffer Entry) : Type 0 where
   pub boundaries : common.boundaries ≡ length entries
   pub writes : common.writes ≡ length (entry_writes entries)
   pub panel : common.panel ≡ panel_of (entry_writes entries)
@@ -57,7 +58,8 @@ pub record HasParted (s : State) (entries : List Entry) (entry : Entry) (t : Sta
 -- they have all in common.
 abbrev pub ComesApart : State → State → Common → Buffer Entry → Option Fork → State → State → Type 0
 ComesApart s t common last None u v =
-    (entries : List Entry) × TellsEntries entries common last × HasEnded s entries u × HasEnded t entries v
+    (entries : List Entry) × TellsEntries entries common last × HasEnded s entries u
+    × HasEnded t entries v
 ComesApart s t common last (Some fork) u v =
     (entries : List Entry) × TellsEntries entries common last × HasParted s entries fork.left u
     × HasParted t entries fork.right v × (fork.left ≢ fork.right)

@@ -20,8 +20,8 @@ state_of m =
       until = m.until;
     }
 
--- No timer is ahead of a cycle: none has taken more steps than pulses have gone by, and TIME6's mark
--- is at most the periods that have.
+-- No timer is ahead of a cycle: none has taken more steps than pulses have gone by, and TIME6's
+-- mark is at most the periods that have.
 pub record IsInTime (cycle : ℕ) (t : Timers) : Type 0 where
   pub time1 : t.time1 ≤ pulses_at cycle
   pub time3 : t.time3 ≤ pulses_at cycle

@@ -21,8 +21,8 @@ pub record IsGoing (s : State) : Type 0 where
 abbrev pub is_timer_due : ℕ → State → Bool
 is_timer_due cycle s = is_any_due cycle s.processor.timers (switch_word s.processor)
 
--- below this cycle the clock brings nothing: no limit, no event and no timer's step, whatever orders
--- run and whatever interrupts are taken
+-- below this cycle the clock brings nothing: no limit, no event and no timer's step, whatever
+-- orders run and whatever interrupts are taken
 pub record IsQuiet (until : ℕ) (s : State) : Type 0 where
   pub going : IsGoing s
   pub limit : (cycle : ℕ) → cycle < until → cycle < s.limit

@@ -75,4 +75,5 @@ is_no_text b = not (b == 0x09) && (nat_lt b 0x20 || nat_le 0x7F b)
 
 -- what a line says: a word and its place, or nothing
 unfoldable pub line_named : List ℕ → Result (Option Named) LineFault
-line_named line = if list_any is_no_text line then Err fault.NotText else words_named (words_of line)
+line_named line =
+    if list_any is_no_text line then Err fault.NotText else words_named (words_of line)

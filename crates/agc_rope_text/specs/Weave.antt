@@ -20,7 +20,8 @@ abbrev pub is_named : ℕ → List Named → Bool
 is_named place said = list_any (λ word. word.place == place) said
 
 -- what a line says after these words: no place is named twice
-abbrev pub unless_named : List Named → Result (Option Named) LineFault → Result (Option Named) LineFault
+abbrev pub unless_named : List Named → Result (Option Named) LineFault →
+    Result (Option Named) LineFault
 unless_named said (Ok None) = Ok None
 unless_named said (Ok (Some word)) =
     if is_named word.place said then Err fault.NamedTwice else Ok (Some word)
