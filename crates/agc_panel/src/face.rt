@@ -3,11 +3,13 @@
 
 ghost use Rattle.std.specs.Prelude.{◌≡◌, [], ◌∷◌};
 ghost use Rattle.agc_panel.specs.Face.{blank_face, face_after};
+ghost use Rattle.agc_panel.specs.RelayWord.{left_digit, right_digit};
 
 use crate::digit::Digit;
 use crate::lamp::{Lamps, Source};
-use crate::relay_word::{OUT0, RelayWord};
+use crate::relay_word::{OUT0, left_of, right_of, row_of, sign_of};
 use agc_machine::ChannelWrite;
+use agc_word::Narrow;
 
 /// The bit of DSALMOUT that lets verb and noun flash.
 const FLASH_BIT: u32 = 6;
@@ -17,6 +19,18 @@ const FLASH_BIT: u32 = 6;
 pub struct Pair {
     pub left: Digit,
     pub right: Digit,
+}
+
+impl Pair {
+    /// The digits of a relay word.
+    fn of(word: Narrow) -> Pair
+        ensures { result ≡ record { left = left_digit word; right = right_digit word } }
+    {
+        Pair {
+            left: left_of(word),
+            right: right_of(word),
+        }
+    }
 }
 
 /// A data register: its two sign relays and its five digits from the left.
@@ -89,7 +103,8 @@ impl Face {
         self.lamps.take(write);
     }
 
-    /// Puts the sign and the digits of a relay word into the fields of its row.
+    /// Puts the sign and the digits of a relay word into the fields of its row. The row comes first,
+    /// so that no digit is looked up that no field takes.
     fn take_digits(&mut self, write: &ChannelWrite)
         requires { write.now.channel ≡ OUT0 }
         ensures { self.new ≡ record (face_after self.old (write.now ∷ [])) {
@@ -97,51 +112,46 @@ impl Face {
           lamps = self.old.lamps;
         } }
     {
-        let RelayWord {
-            row,
-            sign,
-            left,
-            right,
-        } = RelayWord::of(write.value);
-        match row {
+        let word = write.value;
+        match row_of(word) {
             1 => {
-                self.r3.minus = sign;
-                self.r3.d4 = left;
-                self.r3.d5 = right;
+                self.r3.minus = sign_of(word);
+                self.r3.d4 = left_of(word);
+                self.r3.d5 = right_of(word);
             }
             2 => {
-                self.r3.plus = sign;
-                self.r3.d2 = left;
-                self.r3.d3 = right;
+                self.r3.plus = sign_of(word);
+                self.r3.d2 = left_of(word);
+                self.r3.d3 = right_of(word);
             }
             3 => {
-                self.r2.d5 = left;
-                self.r3.d1 = right;
+                self.r2.d5 = left_of(word);
+                self.r3.d1 = right_of(word);
             }
             4 => {
-                self.r2.minus = sign;
-                self.r2.d3 = left;
-                self.r2.d4 = right;
+                self.r2.minus = sign_of(word);
+                self.r2.d3 = left_of(word);
+                self.r2.d4 = right_of(word);
             }
             5 => {
-                self.r2.plus = sign;
-                self.r2.d1 = left;
-                self.r2.d2 = right;
+                self.r2.plus = sign_of(word);
+                self.r2.d1 = left_of(word);
+                self.r2.d2 = right_of(word);
             }
             6 => {
-                self.r1.minus = sign;
-                self.r1.d4 = left;
-                self.r1.d5 = right;
+                self.r1.minus = sign_of(word);
+                self.r1.d4 = left_of(word);
+                self.r1.d5 = right_of(word);
             }
             7 => {
-                self.r1.plus = sign;
-                self.r1.d2 = left;
-                self.r1.d3 = right;
+                self.r1.plus = sign_of(word);
+                self.r1.d2 = left_of(word);
+                self.r1.d3 = right_of(word);
             }
-            8 => self.r1.d1 = right,
-            9 => self.noun = Pair { left, right },
-            10 => self.verb = Pair { left, right },
-            11 => self.program = Pair { left, right },
+            8 => self.r1.d1 = right_of(word),
+            9 => self.noun = Pair::of(word),
+            10 => self.verb = Pair::of(word),
+            11 => self.program = Pair::of(word),
             _ => {}
         }
     }

@@ -9,7 +9,6 @@ use crate::receiver::Receiver;
 use agc_gate::Gate;
 use agc_machine::ChannelWrite;
 use agc_panel::Panel;
-use arrayvec::ArrayVec;
 use std::alloc::Global;
 use std::sync::Wait;
 use std::sync::atomic::AtomicU64;
@@ -105,10 +104,11 @@ pub(crate) fn take_all<R: Wait, G: Gate, F: Feed>(
     ensures shown { IsShowing result.screen (shown_in result.receiver.received) }
 {
     let mut screen = Screen::new(alloc);
+    let mut block = [Item::End; BLOCK];
     let mut idle = 0u32;
     for _ in rt.forever() {
         feed.offer(gate);
-        match take_block(gate, &mut receiver, &mut screen) {
+        match take_block(gate, &mut receiver, &mut block, &mut screen) {
             Look::End => return Taken { receiver, screen },
             Look::Items => idle = 0,
             Look::Nothing => {
@@ -128,9 +128,14 @@ enum Look {
     End,
 }
 
-/// Looks into the ring, and takes the items that are there. An empty ring costs no more than the
-/// look: while the machine makes no writes, that is all that the display does.
-fn take_block<G: Gate>(gate: &G, receiver: &mut Receiver, screen: &mut Screen) -> Look
+/// Looks into the ring, and takes the items that are there, through a block of places for them. An empty
+/// ring costs no more than the look: while the machine makes no writes, that is all that the display does.
+fn take_block<G: Gate>(
+    gate: &G,
+    receiver: &mut Receiver,
+    block: &mut [Item; BLOCK],
+    screen: &mut Screen,
+) -> Look
     requires open { has_end receiver.old.received ≡ false }
     requires shown { IsShowing screen.old (shown_in receiver.old.received) }
     ensures ring { receiver.new.ring ≡ receiver.old.ring }
@@ -140,20 +145,8 @@ fn take_block<G: Gate>(gate: &G, receiver: &mut Receiver, screen: &mut Screen) -
     if receiver.is_empty() {
         return Look::Nothing;
     }
-    take_items(gate, receiver, screen)
-}
-
-/// Takes a block of items.
-fn take_items<G: Gate>(gate: &G, receiver: &mut Receiver, screen: &mut Screen) -> Look
-    requires open { has_end receiver.old.received ≡ false }
-    requires shown { IsShowing screen.old (shown_in receiver.old.received) }
-    ensures ring { receiver.new.ring ≡ receiver.old.ring }
-    ensures end { is_end result ≡ has_end receiver.new.received }
-    ensures shown { IsShowing screen.new (shown_in receiver.new.received) }
-{
-    let mut block = ArrayVec::<Item, BLOCK>::new();
-    let count = receiver.next_block(&mut block);
-    let is_over = screen.show_all(gate, block.as_slice());
+    let count = receiver.next_items(block);
+    let is_over = screen.show_all(gate, &block[..count]);
     look_of(count, is_over)
 }
 

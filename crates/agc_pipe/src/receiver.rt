@@ -23,7 +23,7 @@ impl Model for Receiver {
 }
 
 impl Receiver {
-    ghost use Rattle.std.specs.Prelude.{◌≡◌, ◌+◌, [], ◌∷◌, ◌++◌, All, IfSome, IfNone, drop};
+    ghost use Rattle.std.specs.Prelude.{◌≡◌, ◌≤◌, ◌+◌, [], ◌∷◌, ◌++◌, All, IfSome, IfNone, drop, length, take};
     ghost use Rattle.arrayvec.specs.ArrayVec.{array_vec_len};
     ghost use Rattle.agc_pipe.specs.Item.{IsOutside};
 
@@ -44,6 +44,17 @@ impl Receiver {
         self.consumer.is_empty()
     }
 
+    /// Puts the next items at the start of a slice, as many as are there and as it has places for, and
+    /// tells how many those are.
+    pub(crate) fn next_items(&mut self, items: &mut [Item]) -> usize
+        ensures received { self.new
+            ≡ record self.old { received = self.old.received ++ take result items.new } }
+        ensures count { result ≤ length items.old }
+        ensures outside { All IsOutside (take result items.new) }
+    {
+        self.consumer.pop_partial_slice(items)
+    }
+
     /// Appends the next items to a block, as many as are there and as it has room for, and tells
     /// how many those are.
     pub fn next_block(&mut self, block: &mut ArrayVec<Item, 64>) -> usize
@@ -59,7 +70,7 @@ impl Receiver {
     {
         let mut items = [Item::End; BLOCK];
         let room = block.remaining_capacity();
-        let count = self.consumer.pop_partial_slice(&mut items[..room]);
+        let count = self.next_items(&mut items[..room]);
         match block.try_extend_from_slice(&items[..count]) {
             Ok(()) => count,
             Err(_) => unreachable!(),

@@ -97,7 +97,8 @@ impl Outgoing {
     {
         self.block.push(Item::Write(write));
         if self.block.len() == BLOCK || self.block.len() == self.sender.capacity() {
-            self.told = send(rt, gate, &mut self.sender, &mut self.block, self.told);
+            self.told = tell(gate, self.told, self.block.len());
+            send(rt, &mut self.sender, &mut self.block);
         }
     }
 
@@ -110,43 +111,32 @@ impl Outgoing {
             mut block,
             told,
         } = self;
+        tell(gate, told, block.len());
         block.push(Item::End);
-        send(rt, gate, &mut sender, &mut block, told);
+        send(rt, &mut sender, &mut block);
         sender
     }
 }
 
-/// Sends a block whole, and leaves it empty. The gate is told of each of its writes before. Returns
-/// how many writes it was told of.
-fn send<R: Wait, G: Gate>(
-    rt: &R,
-    gate: &G,
-    sender: &mut Sender,
-    block: &mut ArrayVec<Item, BLOCK>,
-    told: u64,
-) -> u64
+/// Tells the gate of so many writes more, in order, behind those that it was told of; returns how many
+/// it was told of then.
+fn tell<G: Gate>(gate: &G, told: u64, writes: usize) -> u64 {
+    for n in 0..writes as u64 {
+        gate.before_send(told.saturating_add(n + 1));
+    }
+    told.saturating_add(writes as u64)
+}
+
+/// Sends a block whole, and leaves it empty.
+fn send<R: Wait>(rt: &R, sender: &mut Sender, block: &mut ArrayVec<Item, BLOCK>)
     requires some { 0 < array_vec_len block.old }
     requires fits { array_vec_len block.old ≤ sender.old.slots }
     requires outside { All IsOutside block.old.items }
     ensures sender { sender.new ≡ record sender.old { sent = sender.old.sent ++ block.old.items } }
     ensures block { block.new.items ≡ [] }
 {
-    let told = tell(gate, block.as_slice(), told);
     send_waiting(rt, sender, block.as_slice());
     block.clear();
-    told
-}
-
-/// Tells the gate of each write of a block, in order.
-fn tell<G: Gate>(gate: &G, items: &[Item], told: u64) -> u64 {
-    let mut told = told;
-    for item in items {
-        if let Item::Write(_) = item {
-            told = told.saturating_add(1);
-            gate.before_send(told);
-        }
-    }
-    told
 }
 
 /// Waits until a block is sent.
