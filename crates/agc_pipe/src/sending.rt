@@ -56,6 +56,8 @@ pub(crate) fn send_run<R: Wait, G: Gate>(
 pub(crate) struct Outgoing {
     sender: Sender,
     block: ArrayVec<Item, BLOCK>,
+    /// How many items make the block full: as many as it has places, or as the ring holds.
+    full: usize,
     /// The writes that the gate was told of.
     told: u64,
 }
@@ -65,14 +67,14 @@ impl Model for Outgoing {
 
     ghost Value = { Sending };
 
-    ghost use Rattle.std.specs.Prelude.{◌<◌, ◌++◌, All};
+    ghost use Rattle.std.specs.Prelude.{◌<◌, ◌≤◌, ◌++◌, All};
     ghost use Rattle.arrayvec.specs.ArrayVec.{array_vec_len};
     ghost use Rattle.agc_pipe.specs.Item.{IsOutside};
 
     ghost view = { λ o. record o.sender { sent = o.sender.sent ++ o.block.items } };
 
-    ghost invariant = { λ o. All IsOutside o.block.items × (array_vec_len o.block < 64)
-        × (array_vec_len o.block < o.sender.slots) };
+    ghost invariant = { λ o. All IsOutside o.block.items × (array_vec_len o.block < o.full)
+        × (o.full ≤ 64) × (o.full ≤ o.sender.slots) };
 }
 
 impl Outgoing {
@@ -83,9 +85,11 @@ impl Outgoing {
     pub(crate) fn new(sender: Sender) -> Outgoing
         ensures { result ≡ sender }
     {
+        let full = BLOCK.min(sender.capacity());
         Outgoing {
             sender,
             block: ArrayVec::new(),
+            full,
             told: 0,
         }
     }
@@ -96,7 +100,7 @@ impl Outgoing {
         ensures { self.new ≡ record self.old { sent = self.old.sent ++ item.Write write ∷ [] } }
     {
         self.block.push(Item::Write(write));
-        if self.block.len() == BLOCK || self.block.len() == self.sender.capacity() {
+        if self.block.len() == self.full {
             self.told = tell(gate, self.told, self.block.len());
             send(rt, &mut self.sender, &mut self.block);
         }
@@ -110,6 +114,7 @@ impl Outgoing {
             mut sender,
             mut block,
             told,
+            ..
         } = self;
         tell(gate, told, block.len());
         block.push(Item::End);
