@@ -1,3 +1,4 @@
+pub mod Nearest
 pub mod Holdings
 pub mod Shown
 pub mod RopeReport

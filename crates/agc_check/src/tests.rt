@@ -243,6 +243,8 @@ fn nearest_names(rt: HostRuntime) -> Result<(), Fail> {
         (b"verb".as_slice(), "VERB"),
         (b"NUN".as_slice(), "NOUN"),
         (b"CLEAR".as_slice(), "CLR"),
+        // two edits from each of the first two: the first one is told
+        (b"VOUB".as_slice(), "VERB"),
     ] {
         let found = nearest(rt.alloc(), word, names.as_slice())
             .ok()
