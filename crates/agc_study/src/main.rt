@@ -107,7 +107,7 @@ where
         Ok(Asked::Weave(weaving)) => weave_to(rt, &weaving, out, err),
         Ok(Asked::Check(checking)) => check_to(rt, &checking, out, err),
         Ok(Asked::Trace(tracing)) => trace_to(rt, &tracing, out, err, progress),
-        Ok(Asked::Compare(comparing)) => compare_to(rt, &comparing, out, err),
+        Ok(Asked::Compare(comparing)) => compare_to(rt, &comparing, out, err, progress),
         Err(ArgsFault::Help(text)) => status_of(DONE, out.write_all(text.as_bytes())),
         Err(ArgsFault::Command(text)) => status_of(TROUBLE, err.write_all(text.as_bytes())),
         Err(ArgsFault::Memory) => {
@@ -190,7 +190,13 @@ where
 }
 
 /// Compares the runs of two rope files and two script files.
-fn compare_to<R, W: Write, E: Write>(rt: &R, asked: &Comparing, out: &mut W, err: &mut E) -> u8
+fn compare_to<R, W: Write, E: Write, P: Shown>(
+    rt: &R,
+    asked: &Comparing,
+    out: &mut W,
+    err: &mut E,
+    progress: &mut P,
+) -> u8
 where
     R: Files + AllocGlobal,
     ensures ended { IsEnded result (W.contents out.old) (W.contents out.new)
@@ -200,14 +206,17 @@ where
     let mut script = InputFile::new(fs::open(rt, asked.script.as_str()));
     let mut other_rope = InputFile::new(fs::open(rt, asked.other_rope.as_str()));
     let mut other_script = InputFile::new(fs::open(rt, asked.other_script.as_str()));
-    match compare_files(
+    let compared = compare_files(
         rt.alloc(),
         asked,
         &mut rope,
         &mut script,
         &mut other_rope,
         &mut other_script,
-    ) {
+        progress,
+    );
+    progress.wipe();
+    match compared {
         Ok(told) => write_told(&told, out),
         Err(refusal) => status_of(TROUBLE, Trouble::Refused(refusal).write_to(err)),
     }

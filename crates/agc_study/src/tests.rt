@@ -228,6 +228,7 @@ fn runs_are_compared(rt: HostRuntime) -> Result<(), Fail> {
             &mut script,
             &mut other_rope,
             &mut other_script,
+            &mut Untold,
         )
         .ok()
         .ok_or("a comparison")?;

@@ -1,5 +1,5 @@
 //! The trace of a run, written line by line: memory does not grow with the run.
-ghost use Rattle.std.specs.Prelude.{◌≡◌, [], ◌∷◌, OnOk};
+ghost use Rattle.std.specs.Prelude.{◌≡◌, ◌<◌, ◌≤◌, [], ◌∷◌, OnOk};
 ghost use Rattle.std.specs.Io.KnownBytes.{Appends};
 ghost use Rattle.agc_trace.specs.Entry.{FitsLine};
 ghost use Rattle.agc_trace.specs.Line.{line_of};
@@ -81,8 +81,12 @@ fn write_lines<W: Write, P: Progress>(
     Ok(())
 }
 
-/// Tells that a run has come to a cycle, where that is the mark or behind it, and sets the next mark.
-fn tell_at<P: Progress>(mark: u64, cycle: u64, progress: &mut P) -> u64 {
+/// Tells that a run has come to a cycle, where that is the mark or behind it. Returns the next mark, a
+/// million cycles on; the first is 0.
+pub fn tell_at<P: Progress>(mark: u64, cycle: u64, progress: &mut P) -> u64
+    ensures waits { cycle < mark → result ≡ mark }
+    ensures next { mark ≤ cycle → cycle ≤ result }
+{
     if cycle < mark {
         return mark;
     }
