@@ -7,7 +7,8 @@ use crate::count::one_more;
 use crate::same::is_same_entry;
 use agc_machine::{ChannelWrite, Machine};
 use agc_panel::Panel;
-use agc_trace::{Entry, next_entry};
+use agc_progress::Progress;
+use agc_trace::{Entry, next_entry, tell_at};
 use circular_buffer::HeapCircularBuffer;
 use std::alloc::{AllocError, Global};
 
@@ -41,16 +42,18 @@ pub(crate) fn none_kept(alloc: Global) -> Result<HeapCircularBuffer<Entry>, Allo
 
 /// Runs both machines as long as their boundaries are the same: past the boundaries that differ, or
 /// to the stop. Keeps the last of those that are the same.
-pub(crate) fn run_together(
+pub(crate) fn run_together<P: Progress>(
     left: &mut Machine,
     right: &mut Machine,
     last: &mut HeapCircularBuffer<Entry>,
+    progress: &mut P,
 ) -> Result<(Common, Option<Fork>), AllocError>
     requires { last.old ≡ buffer [] kept }
     ensures { IfOk result (λ (common, fork).
         ComesApart left.old right.old common last.new fork left.new right.new) }
 {
     let mut common = Common::none();
+    let mut mark = 0;
     loop {
         let left_entry = next_entry(left);
         let right_entry = next_entry(right);
@@ -66,6 +69,7 @@ pub(crate) fn run_together(
         if left_entry.is_stop() {
             return Ok((common, None));
         }
+        mark = tell_at(mark, left_entry.cycle, progress);
     }
 }
 

@@ -7,9 +7,12 @@ ghost use Rattle.agc_machine.specs.Run.{run_of};
 ghost use Rattle.agc_compare.specs.Follower.{IsEnd, WritesTold};
 
 use crate::count::one_more;
+use crate::next::next_write;
 use crate::same::is_same_write;
 use agc_machine::{ChannelWrite, Machine, Next, Stop};
 use agc_panel::Panel;
+use agc_progress::Progress;
+use agc_trace::tell_at;
 use std::alloc::AllocError;
 
 /// The first channel write that differs. A run that has no such write any more has `None`.
@@ -43,23 +46,25 @@ pub(crate) struct Follower {
 
 /// Follows both machines up to the first write that differs, or to their stops where none does.
 /// So many writes, which are the same in both runs, were told before.
-pub(crate) fn first_write_apart(
+pub(crate) fn first_write_apart<P: Progress>(
     before: u64,
     left: &mut Follower,
     left_machine: &mut Machine,
     right: &mut Follower,
     right_machine: &mut Machine,
+    progress: &mut P,
 ) -> Result<Option<WriteParting>, AllocError>
     ensures { IfOk result (λ parting. WritesTold before left.old right.old left_machine.old
         right_machine.old parting left.new right.new left_machine.new right_machine.new) }
 {
     let mut number = before;
+    let mut mark = 0;
     loop {
         number = one_more(number)?;
         let pair = WriteParting {
             number,
-            left: left.next_write(left_machine),
-            right: right.next_write(right_machine),
+            left: left.next_write(left_machine, progress),
+            right: right.next_write(right_machine, progress),
         };
         if pair.parts() {
             return Ok(Some(pair));
@@ -67,6 +72,7 @@ pub(crate) fn first_write_apart(
         if pair.is_behind_all() {
             return Ok(None);
         }
+        mark = tell_at(mark, left_machine.cycle(), progress);
     }
 }
 
@@ -103,12 +109,16 @@ fn panel_with(mut panel: Panel, write: Option<ChannelWrite>) -> Panel
 }
 
 /// Runs a machine to its stop, with the panel of the writes before.
-fn run_out(mut panel: Panel, machine: &mut Machine) -> End
+fn run_out<P: Progress>(mut panel: Panel, machine: &mut Machine, progress: &mut P) -> End
     ensures { IsEnd panel (run_of machine.old) result machine.new }
 {
+    let mut mark = 0;
     loop {
-        match machine.next_write() {
-            Next::Wrote(write) => panel.take(&write),
+        match next_write(machine, progress) {
+            Next::Wrote(write) => {
+                panel.take(&write);
+                mark = tell_at(mark, write.cycle, progress);
+            }
             Next::Stopped(stop) => {
                 return End {
                     stop,
@@ -126,13 +136,17 @@ impl Follower {
     ghost use Rattle.agc_compare.specs.Follower.{HasGone, IsEnd, run_with};
 
     /// Goes on to the next write; `None` where the machine stops before one.
-    fn next_write(&mut self, machine: &mut Machine) -> Option<ChannelWrite>
+    fn next_write<P: Progress>(
+        &mut self,
+        machine: &mut Machine,
+        progress: &mut P,
+    ) -> Option<ChannelWrite>
         ensures gone { HasGone self.old machine.old (one_write result) self.new machine.new }
         ensures ended { result ≡ None → (run_with self.new.held machine.new).writes ≡ [] }
     {
         let write = match self.held {
             Some(write) => write,
-            None => match machine.next_write() {
+            None => match next_write(machine, progress) {
                 Next::Wrote(write) => write,
                 Next::Stopped(_) => return None,
             },
@@ -143,9 +157,9 @@ impl Follower {
     }
 
     /// Follows the machine to its stop.
-    pub(crate) fn finish(self, machine: &mut Machine) -> End
+    pub(crate) fn finish<P: Progress>(self, machine: &mut Machine, progress: &mut P) -> End
         ensures { IsEnd self.panel (run_with self.held machine.old) result machine.new }
     {
-        run_out(panel_with(self.panel, self.held), machine)
+        run_out(panel_with(self.panel, self.held), machine, progress)
     }
 }

@@ -6,6 +6,7 @@ mod common;
 mod comparison;
 mod count;
 mod follower;
+mod next;
 mod report;
 mod runs;
 mod same;

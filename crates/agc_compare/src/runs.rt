@@ -15,14 +15,17 @@ use crate::comparison::{Comparison, Parting};
 use crate::count::one_more;
 use crate::follower::{End, Follower, WriteParting, first_write_apart};
 use agc_machine::{ChannelWrite, Machine};
+use agc_progress::Progress;
 use std::alloc::{AllocError, Global};
 
 /// Runs both machines to their stops, and tells what they have in common and where they part. Fails
-/// where memory runs out.
-pub fn compare(
+/// where memory runs out. The progress is that of the run on the left, and then of the one on the right,
+/// where they part.
+pub fn compare<P: Progress>(
     alloc: Global,
     left: &mut Machine,
     right: &mut Machine,
+    progress: &mut P,
 ) -> Result<Comparison, AllocError>
     ensures law { IfOk result (λ c. IsTrue (is_same c) ↔ ((trace_of left.old ≡ trace_of right.old)
         × (cells_at_end left.old ≡ cells_at_end right.old))) }
@@ -38,9 +41,9 @@ pub fn compare(
         c.cells.items ≡ cells_that_differ (cells_at_end left.old) (cells_at_end right.old)) }
 {
     let mut last = none_kept(alloc)?;
-    let (common, fork) = run_together(left, right, &mut last)?;
+    let (common, fork) = run_together(left, right, &mut last, progress)?;
     let parting = parting_at(common.boundaries, fork)?;
-    let ends = run_apart(common, fork, left, right)?;
+    let ends = run_apart(common, fork, left, right, progress)?;
     Ok(Comparison {
         boundaries: common.boundaries,
         writes: common.writes,
@@ -80,11 +83,12 @@ fn parting_at(boundaries: u64, fork: Option<Fork>) -> Result<Option<Parting>, Al
 }
 
 /// Runs both machines from the fork to their stops.
-fn run_apart(
+fn run_apart<P: Progress>(
     common: Common,
     fork: Option<Fork>,
     left: &mut Machine,
     right: &mut Machine,
+    progress: &mut P,
 ) -> Result<Ends, AllocError>
     ensures { IfOk result (λ ends.
         EndsTold common fork left.old right.old ends left.new right.new) }
@@ -104,11 +108,12 @@ fn run_apart(
         left,
         &mut right_follower,
         right,
+        progress,
     )?;
     Ok(Ends {
         write,
-        left: left_follower.finish(left),
-        right: right_follower.finish(right),
+        left: left_follower.finish(left, progress),
+        right: right_follower.finish(right, progress),
     })
 }
 

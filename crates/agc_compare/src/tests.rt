@@ -2,6 +2,7 @@
 use crate::{compare, push_comparison};
 use agc_listing::rope_file;
 use agc_machine::Machine;
+use agc_progress::Untold;
 use agc_script::Script;
 use agc_store::Rope;
 use std::process::Abort;
@@ -23,7 +24,7 @@ fn machine(rt: &(impl AllocGlobal + Abort), listing: &str) -> Result<Machine, Fa
 fn report(rt: &(impl AllocGlobal + Abort), left: &str, right: &str) -> Result<String, Fail> {
     let mut left = machine(rt, left)?;
     let mut right = machine(rt, right)?;
-    let comparison = compare(rt.alloc(), &mut left, &mut right)?;
+    let comparison = compare(rt.alloc(), &mut left, &mut right, &mut Untold)?;
     let mut text = String::new(rt.alloc());
     push_comparison(&mut text, &comparison)?;
     Ok(text)

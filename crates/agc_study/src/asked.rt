@@ -1,11 +1,14 @@
 //! The command line: what the user asks for, as `clap` reads it.
 use agc_args::ArgsFault;
 use agc_store::RopeForm;
+use agc_trace::{Only, Selection};
 use clap::error::ErrorKind;
 use clap::{Arg, ArgMatches, Command, value_parser};
 use std::alloc::{AllocError, Global};
 
 static FORMS: [&str; 2] = ["classic", "parity"];
+
+static KINDS: [&str; 3] = ["writes", "interrupts", "jumps"];
 
 /// What is asked for.
 #[derive(Debug, Drop)]
@@ -41,7 +44,7 @@ pub struct Checking {
     pub form: RopeForm,
 }
 
-/// A run to trace, and of which cycles the lines are printed, both ends counted in.
+/// A run to trace, and which of its lines are printed.
 #[derive(Debug, Drop)]
 pub struct Tracing {
     pub rope: String,
@@ -50,8 +53,7 @@ pub struct Tracing {
     pub limit: u64,
     /// The text of `--until`.
     pub until: Option<String>,
-    pub from: u64,
-    pub to: u64,
+    pub selection: Selection,
 }
 
 /// Two runs to compare.
@@ -121,7 +123,8 @@ fn trace_command<'a>(alloc: Global) -> Result<Command<'a>, AllocError> {
         .arg(form_option(alloc))?
         .arg(until_option(alloc))?
         .arg(cycle_option(alloc, "from", "The first cycle whose line is printed"))?
-        .arg(cycle_option(alloc, "to", "The last cycle whose line is printed"))
+        .arg(cycle_option(alloc, "to", "The last cycle whose line is printed"))?
+        .arg(only_option(alloc))
 }
 
 fn compare_command<'a>(alloc: Global) -> Result<Command<'a>, AllocError> {
@@ -184,6 +187,16 @@ fn cycle_option<'a>(alloc: Global, name: &'a str, help: &'a str) -> Arg<'a> {
         .help(help)
 }
 
+fn only_option<'a>(alloc: Global) -> Arg<'a> {
+    Arg::new(alloc, "only")
+        .long("only")
+        .value_name("KIND")
+        .value_parser(KINDS.as_slice())
+        .help(
+            "Print these lines and the stop's: orders that write to a channel, interrupts and RESUMEs, or orders that jump",
+        )
+}
+
 fn rope_file<'a>(alloc: Global) -> Arg<'a> {
     Arg::new(alloc, "rope")
         .value_name("ROPE")
@@ -243,31 +256,42 @@ fn asked_as(alloc: Global, name: &str, given: &ArgMatches<'_>) -> Result<Asked, 
         }));
     }
     if name == "trace" {
-        return Ok(Asked::Trace(Tracing {
-            rope: path_of(alloc, given, "rope")?,
-            script: path_of(alloc, given, "script")?,
-            form,
-            limit: number_of(given, "limit", 0),
-            until: text_of(alloc, given, "until")?,
-            from: number_of(given, "from", 0),
-            to: number_of(given, "to", u64::MAX),
-        }));
+        return Ok(Asked::Trace(tracing_of(alloc, given)?));
     }
     if name == "compare" {
-        return Ok(Asked::Compare(Comparing {
-            rope: path_of(alloc, given, "rope")?,
-            script: path_of(alloc, given, "script")?,
-            other_rope: path_of(alloc, given, "other-rope")?,
-            other_script: path_of(alloc, given, "other-script")?,
-            form,
-            limit: number_of(given, "limit", 0),
-            until: text_of(alloc, given, "until")?,
-        }));
+        return Ok(Asked::Compare(comparing_of(alloc, given)?));
     }
     Ok(Asked::Weave(Weaving {
         text: path_of(alloc, given, "text")?,
         form,
     }))
+}
+
+fn tracing_of(alloc: Global, given: &ArgMatches<'_>) -> Result<Tracing, AllocError> {
+    Ok(Tracing {
+        rope: path_of(alloc, given, "rope")?,
+        script: path_of(alloc, given, "script")?,
+        form: form_of(given),
+        limit: number_of(given, "limit", 0),
+        until: text_of(alloc, given, "until")?,
+        selection: Selection {
+            from: number_of(given, "from", 0),
+            to: number_of(given, "to", u64::MAX),
+            only: only_of(given),
+        },
+    })
+}
+
+fn comparing_of(alloc: Global, given: &ArgMatches<'_>) -> Result<Comparing, AllocError> {
+    Ok(Comparing {
+        rope: path_of(alloc, given, "rope")?,
+        script: path_of(alloc, given, "script")?,
+        other_rope: path_of(alloc, given, "other-rope")?,
+        other_script: path_of(alloc, given, "other-script")?,
+        form: form_of(given),
+        limit: number_of(given, "limit", 0),
+        until: text_of(alloc, given, "until")?,
+    })
 }
 
 /// The number of an option, or this one where it is not given.
@@ -297,6 +321,17 @@ fn form_of(given: &ArgMatches<'_>) -> RopeForm {
             RopeForm::Classic
         },
         None => RopeForm::Classic,
+    }
+}
+
+fn only_of(given: &ArgMatches<'_>) -> Option<Only> {
+    let name = given.get_str("only")?;
+    if name == "writes" {
+        Some(Only::Writes)
+    } else if name == "interrupts" {
+        Some(Only::Interrupts)
+    } else {
+        Some(Only::Jumps)
     }
 }
 

@@ -6,6 +6,7 @@ use crate::asked::Comparing;
 use crate::runs::read_machine;
 use agc_compare::{compare, push_comparison};
 use agc_machine::Machine;
+use agc_progress::Progress;
 use agc_session::Refusal;
 use std::alloc::{AllocError, Global};
 use std::io::Read;
@@ -20,13 +21,14 @@ pub struct Told {
 
 /// Reads two ropes and two scripts, and compares their runs. The refusal is the first of the run on the
 /// left, or else of that on the right.
-pub fn compare_files<R: Read, S: Read, T: Read, U: Read>(
+pub fn compare_files<R: Read, S: Read, T: Read, U: Read, P: Progress>(
     alloc: Global,
     asked: &Comparing,
     left_rope: &mut R,
     left_script: &mut S,
     right_rope: &mut T,
     right_script: &mut U,
+    progress: &mut P,
 ) -> Result<Told, Refusal>
     ensures { IfOk result (IsCompared asked.now (R.remaining left_rope.old)
         (S.remaining left_script.old) (T.remaining right_rope.old) (U.remaining right_script.old)) }
@@ -34,17 +36,22 @@ pub fn compare_files<R: Read, S: Read, T: Read, U: Read>(
     let (form, limit) = (asked.form, asked.limit);
     let mut left = read_machine(alloc, form, limit, &asked.until, left_rope, left_script)?;
     let mut right = read_machine(alloc, form, limit, &asked.until, right_rope, right_script)?;
-    match compare_runs(alloc, &mut left, &mut right) {
+    match compare_runs(alloc, &mut left, &mut right, progress) {
         Ok(told) => Ok(told),
         Err(_) => Err(Refusal::Memory),
     }
 }
 
 /// Runs two machines to their stops, and tells whether the runs are the same, or where they part.
-fn compare_runs(alloc: Global, left: &mut Machine, right: &mut Machine) -> Result<Told, AllocError>
+fn compare_runs<P: Progress>(
+    alloc: Global,
+    left: &mut Machine,
+    right: &mut Machine,
+    progress: &mut P,
+) -> Result<Told, AllocError>
     ensures { IfOk result (IsToldOf left.old right.old) }
 {
-    let comparison = compare(alloc, left, right)?;
+    let comparison = compare(alloc, left, right, progress)?;
     let mut text = String::new(alloc);
     push_comparison(&mut text, &comparison)?;
     Ok(Told {

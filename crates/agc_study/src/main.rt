@@ -17,6 +17,7 @@ mod ropes;
 mod runs;
 #[cfg(test)]
 mod tests;
+mod ticker;
 mod trouble;
 
 use agc_args::ArgsFault;
@@ -32,6 +33,7 @@ use std::io::Write;
 use std::process::ExitCode;
 use std::rt::{Env, Files};
 use std::{env, fs, io};
+use ticker::{Shown, Ticker};
 use trouble::Trouble;
 
 /// The status of a report that tells of a fault.
@@ -46,7 +48,9 @@ const TROUBLE: u8 = 2;
 fn main(rt: HostRuntime) -> ExitCode {
     let _stand_ins = stand_ins(&rt);
     let (mut out, mut err) = (rt.stdout(), rt.stderr());
-    ExitCode::from(run(&rt, wanted(&rt), &mut out, &mut err))
+    let asked = wanted(&rt);
+    let mut ticker = Ticker::new(&rt, rt.stderr(), last_cycle(&asked));
+    ExitCode::from(run(&rt, asked, &mut out, &mut err, &mut ticker))
 }
 
 /// Three files that can be neither read nor written, which take the numbers of closed standard
@@ -70,15 +74,26 @@ fn wanted<R: Env + AllocGlobal>(rt: &R) -> Result<Asked, ArgsFault> {
     asked_by(alloc, words.as_slice())
 }
 
+/// The cycle at which what is asked for ends at the latest; 0 where no machine runs.
+fn last_cycle(asked: &Result<Asked, ArgsFault>) -> u64 {
+    match asked {
+        Ok(Asked::Trace(tracing)) => tracing.limit.min(tracing.selection.to),
+        Ok(Asked::Compare(comparing)) => comparing.limit,
+        Ok(Asked::List(_) | Asked::Weave(_) | Asked::Check(_)) | Err(_) => 0,
+    }
+}
+
 /// Does what the command line asks for. With status 0 the answer, or the text of help, stands on
 /// `out` and nothing on `err`, and so does with status 1 the report of `check` on a file at fault, or that
 /// of `compare` on runs that are not the same; with status 2 one line on `err`, or clap's text of a
-/// mistake, and nothing on `out`. A write that fails gives status 3, and so does a trace that is cut off.
-fn run<R, W: Write, E: Write>(
+/// mistake, and nothing on `out`. A write that fails gives status 3, and so does a trace that is cut off. How far a run has
+/// come is told beside that, to a progress that is wiped before the run's end is told.
+fn run<R, W: Write, E: Write, P: Shown>(
     rt: &R,
     asked: Result<Asked, ArgsFault>,
     out: &mut W,
     err: &mut E,
+    progress: &mut P,
 ) -> u8
 where
     R: Files + AllocGlobal,
@@ -91,8 +106,8 @@ where
         Ok(Asked::List(listing)) => list_to(rt, &listing, out, err),
         Ok(Asked::Weave(weaving)) => weave_to(rt, &weaving, out, err),
         Ok(Asked::Check(checking)) => check_to(rt, &checking, out, err),
-        Ok(Asked::Trace(tracing)) => trace_to(rt, &tracing, out, err),
-        Ok(Asked::Compare(comparing)) => compare_to(rt, &comparing, out, err),
+        Ok(Asked::Trace(tracing)) => trace_to(rt, &tracing, out, err, progress),
+        Ok(Asked::Compare(comparing)) => compare_to(rt, &comparing, out, err, progress),
         Err(ArgsFault::Help(text)) => status_of(DONE, out.write_all(text.as_bytes())),
         Err(ArgsFault::Command(text)) => status_of(TROUBLE, err.write_all(text.as_bytes())),
         Err(ArgsFault::Memory) => {
@@ -147,7 +162,13 @@ where
 }
 
 /// Traces the run of a rope file and a script file.
-fn trace_to<R, W: Write, E: Write>(rt: &R, tracing: &Tracing, out: &mut W, err: &mut E) -> u8
+fn trace_to<R, W: Write, E: Write, P: Shown>(
+    rt: &R,
+    tracing: &Tracing,
+    out: &mut W,
+    err: &mut E,
+    progress: &mut P,
+) -> u8
 where
     R: Files + AllocGlobal,
     ensures ended { IsEnded result (W.contents out.old) (W.contents out.new)
@@ -160,17 +181,22 @@ where
     let mut script = InputFile::new(fs::open(rt, tracing.script.as_str()));
     match read_machine(alloc, form, limit, until, &mut rope, &mut script) {
         Ok(mut machine) => {
-            status_of_trace(
-                trace(alloc, &mut machine, tracing.from, tracing.to, out),
-                err,
-            )
+            let traced = trace(alloc, &mut machine, tracing.selection, out, progress);
+            progress.wipe();
+            status_of_trace(traced, err)
         }
         Err(refusal) => status_of(TROUBLE, Trouble::Refused(refusal).write_to(err)),
     }
 }
 
 /// Compares the runs of two rope files and two script files.
-fn compare_to<R, W: Write, E: Write>(rt: &R, asked: &Comparing, out: &mut W, err: &mut E) -> u8
+fn compare_to<R, W: Write, E: Write, P: Shown>(
+    rt: &R,
+    asked: &Comparing,
+    out: &mut W,
+    err: &mut E,
+    progress: &mut P,
+) -> u8
 where
     R: Files + AllocGlobal,
     ensures ended { IsEnded result (W.contents out.old) (W.contents out.new)
@@ -180,14 +206,17 @@ where
     let mut script = InputFile::new(fs::open(rt, asked.script.as_str()));
     let mut other_rope = InputFile::new(fs::open(rt, asked.other_rope.as_str()));
     let mut other_script = InputFile::new(fs::open(rt, asked.other_script.as_str()));
-    match compare_files(
+    let compared = compare_files(
         rt.alloc(),
         asked,
         &mut rope,
         &mut script,
         &mut other_rope,
         &mut other_script,
-    ) {
+        progress,
+    );
+    progress.wipe();
+    match compared {
         Ok(told) => write_told(&told, out),
         Err(refusal) => status_of(TROUBLE, Trouble::Refused(refusal).write_to(err)),
     }

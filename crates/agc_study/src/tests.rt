@@ -3,14 +3,18 @@ use crate::asked::{Comparing, asked_by};
 use crate::checks::check_files;
 use crate::compares::compare_files;
 use crate::ropes::{list_rope, weave_text};
+use crate::ticker::{Shown, Ticker};
 use crate::trouble::Trouble;
 use crate::{run, write_report, write_told};
+use agc_progress::{Progress, Untold};
 use agc_rope_text::{LineFault, WeaveFault};
 use agc_session::Refusal;
 use agc_store::{RopeFault, RopeForm};
+use std::io;
 use std::process::Abort;
 use std::rt::Files;
 use std::test::Fail;
+use std::time::{Clock, Duration, Instant};
 
 /// How the program ends on this command line.
 #[derive(Drop)]
@@ -28,7 +32,7 @@ fn program(rt: &(impl AllocGlobal + Files + Abort), line: &str) -> Ended {
     let asked = asked_by(rt.alloc(), words.as_slice());
     let mut out = Vec::new(rt.alloc());
     let mut err = Vec::new(rt.alloc());
-    let status = run(rt, asked, &mut out, &mut err);
+    let status = run(rt, asked, &mut out, &mut err, &mut Untold);
     Ended {
         status,
         out: String::from_utf8(out).ok().expect(rt, "text"),
@@ -50,6 +54,7 @@ fn help(rt: HostRuntime) {
         ("agc-study check --help", "SCRIPT"),
         ("agc-study trace --help", "SCRIPT"),
         ("agc-study trace --help", "--until"),
+        ("agc-study trace --help", "--only"),
         ("agc-study compare --help", "--limit"),
     ] {
         let ended = program(&rt, line);
@@ -75,6 +80,7 @@ fn mistakes(rt: HostRuntime) {
         "agc-study trace rope script",
         "agc-study trace rope --limit 10",
         "agc-study trace rope script --limit ten",
+        "agc-study trace rope script --limit 10 --only orders",
         "agc-study compare rope script rope --limit 10",
         "agc-study compare rope script rope script",
     ] {
@@ -222,6 +228,7 @@ fn runs_are_compared(rt: HostRuntime) -> Result<(), Fail> {
             &mut script,
             &mut other_rope,
             &mut other_script,
+            &mut Untold,
         )
         .ok()
         .ok_or("a comparison")?;
@@ -229,5 +236,38 @@ fn runs_are_compared(rt: HostRuntime) -> Result<(), Fail> {
         assert_eq!(rt; write_told(&found, &mut out), status);
         assert!(rt; found.text.as_str().starts_with(told));
     }
+    Ok(())
+}
+
+/// A clock that stands at ten seconds.
+#[derive(Drop)]
+struct Standing;
+
+impl Clock for Standing {
+    fn monotonic(&self) -> io::Result<Duration> {
+        Ok(Duration::from_secs(10))
+    }
+
+    fn since_1970(&self) -> io::Result<Duration> {
+        Ok(Duration::from_secs(10))
+    }
+}
+
+/// A line that is due is shown; the next one is not due yet, and what is shown is wiped once.
+#[test]
+fn progress_is_shown_and_wiped(rt: HostRuntime) -> Result<(), Fail> {
+    let clock = Standing;
+    let mut ticker = Ticker {
+        clock: &clock,
+        err: Vec::new(rt.alloc()),
+        last: 100,
+        due: Instant::now(&clock).ok(),
+        is_shown: false,
+    };
+    ticker.come_to(7);
+    ticker.come_to(8);
+    ticker.wipe();
+    ticker.wipe();
+    assert!(rt; ticker.err.as_slice() == b"\ragc-study: cycle 7 of 100\r\x1b[K".as_slice());
     Ok(())
 }

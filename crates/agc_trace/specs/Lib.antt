@@ -1,3 +1,5 @@
 pub mod Entry
 pub mod Line
 pub mod Trace
+pub mod Selection
+pub mod TraceLaws

@@ -1,6 +1,6 @@
 -- The trace: an entry for each boundary of the chain without live keys, up to the stop.
-use Rattle.std.specs.Prelude.{ℕ, zero, suc, ◌+◌, ◌&&◌, Bool, true, false, nat_le, if◌then◌else◌}
-use Rattle.std.specs.Prelude.{List, [], ◌∷◌, filter, flat_map, Option, Some, None}
+use Rattle.std.specs.Prelude.{ℕ, zero, suc, ◌+◌, Bool, true, false, if◌then◌else◌}
+use Rattle.std.specs.Prelude.{List, [], ◌∷◌, Option, Some, None}
 use Rattle.agc_machine.specs.Boundary.{boundary}
 use Rattle.agc_machine.specs.Run.{boundaries_left}
 use Rattle.agc_machine.specs.State.{State}
@@ -9,7 +9,6 @@ use Rattle.agc_machine.specs.declared.answer.Stop.{Stop}
 use Rattle.agc_machine.specs.declared.upcoming.Upcoming.{Upcoming}
 use Rattle.agc_machine.specs.declared.upcoming.Upcoming.TheVariants as upcoming
 use Rattle.agc_trace.specs.Entry.{entry_of}
-use Rattle.agc_trace.specs.Line.{line_of}
 use Rattle.agc_trace.specs.declared.entry.Entry.{Entry}
 
 -- a stop, with which a trace ends
@@ -38,11 +37,3 @@ entries_left s = entries_unless s.stopped s
 -- the trace from a state on: the last entry is the stop
 unfoldable pub trace_of : State → List Entry
 trace_of s = trace_within (entries_left s) s
-
--- an entry whose boundary begins at a cycle of a range
-abbrev pub is_between : ℕ → ℕ → Entry → Bool
-is_between from to entry = nat_le from entry.cycle && nat_le entry.cycle to
-
--- the lines of the entries in a range of cycles
-unfoldable pub lines_between : ℕ → ℕ → List Entry → List ℕ
-lines_between from to entries = flat_map line_of (filter (is_between from to) entries)

@@ -2,11 +2,14 @@
 #![tactic(auto)]
 
 mod entry;
+pub mod laws;
 mod line;
+mod selection;
 #[cfg(test)]
 mod tests;
 mod tracing;
 
 pub use entry::{Entry, Registers, next_entry};
 pub use line::{push_line, reason_name};
-pub use tracing::{TraceFault, trace};
+pub use selection::{Only, Selection};
+pub use tracing::{TraceFault, tell_at, trace};

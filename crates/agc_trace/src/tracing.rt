@@ -1,16 +1,22 @@
 //! The trace of a run, written line by line: memory does not grow with the run.
-ghost use Rattle.std.specs.Prelude.{◌≡◌, [], ◌∷◌, OnOk};
+ghost use Rattle.std.specs.Prelude.{◌≡◌, ◌<◌, ◌≤◌, [], ◌∷◌, OnOk};
 ghost use Rattle.std.specs.Io.KnownBytes.{Appends};
 ghost use Rattle.agc_trace.specs.Entry.{FitsLine};
 ghost use Rattle.agc_trace.specs.Line.{line_of};
-ghost use Rattle.agc_trace.specs.Trace.{lines_between, trace_of};
+ghost use Rattle.agc_trace.specs.Selection.{selected_lines};
+ghost use Rattle.agc_trace.specs.Trace.{trace_of};
 
 use crate::entry::{Entry, next_entry};
 use crate::line::push_line;
-use agc_machine::Machine;
+use crate::selection::Selection;
+use agc_machine::{Machine, Stepped};
+use agc_progress::Progress;
 use std::alloc::Global;
 use std::io::Write;
 use thiserror::Error;
+
+/// How many cycles go by before it is told again how far the run has come.
+const STRIDE: u64 = 1_000_000;
 
 /// Why a trace was cut off: no line comes behind the fault.
 #[derive(Clone, Copy, Debug, PartialEq, Eq, Error)]
@@ -21,41 +27,86 @@ pub enum TraceFault {
     Write,
 }
 
-/// Runs a machine to its stop, and writes the line of each boundary that begins at a cycle from
-/// `from` to `to`.
-pub fn trace<W: Write>(
+/// Runs a machine, and writes the line of each boundary that is selected. The run goes to its stop, or
+/// as far as such a boundary may come: behind the last cycle that is selected there is none.
+pub fn trace<W: Write, P: Progress>(
     alloc: Global,
     machine: &mut Machine,
-    from: u64,
-    to: u64,
+    selection: Selection,
     out: &mut W,
+    progress: &mut P,
 ) -> Result<(), TraceFault>
     ensures { OnOk result (Appends (W.contents out.old) (W.contents out.new)
-        (lines_between from to (trace_of machine.old))) }
+        (selected_lines selection (trace_of machine.old))) }
 {
-    loop {
-        let entry = next_entry(machine);
-        write_between(alloc, from, to, &entry, out)?;
-        if entry.is_stop() {
-            return Ok(());
+    go_to_first(machine, selection, progress);
+    write_lines(alloc, machine, selection, out, progress)
+}
+
+/// Runs a machine to the first cycle that is selected, or to its stop where that comes before.
+fn go_to_first<P: Progress>(machine: &mut Machine, selection: Selection, progress: &mut P)
+    ensures { selected_lines selection (trace_of machine.new)
+        ≡ selected_lines selection (trace_of machine.old) }
+{
+    let mut mark = 0;
+    while machine.cycle() < selection.from {
+        mark = tell_at(mark, machine.cycle(), progress);
+        match machine.next_write_before(selection.from.min(mark)) {
+            Stepped::Quiet | Stepped::Wrote(_) => {}
+            Stepped::Stopped(_) => return,
         }
     }
 }
 
-/// Writes the line of an entry, where its cycle is in the range.
-#[tactic(auto, unfolding(crate::specs::Trace::lines_between))]
-fn write_between<W: Write>(
+/// Runs a machine to its stop, or behind the last cycle that is selected, and writes the lines.
+fn write_lines<W: Write, P: Progress>(
     alloc: Global,
-    from: u64,
-    to: u64,
+    machine: &mut Machine,
+    selection: Selection,
+    out: &mut W,
+    progress: &mut P,
+) -> Result<(), TraceFault>
+    ensures { OnOk result (Appends (W.contents out.old) (W.contents out.new)
+        (selected_lines selection (trace_of machine.old))) }
+{
+    let mut mark = 0;
+    while machine.cycle() <= selection.to {
+        let entry = next_entry(machine);
+        write_selected(alloc, selection, &entry, out)?;
+        if entry.is_stop() {
+            return Ok(());
+        }
+        mark = tell_at(mark, entry.cycle, progress);
+    }
+    Ok(())
+}
+
+/// Tells that a run has come to a cycle, where that is the mark or behind it. Returns the next mark, a
+/// million cycles on; the first is 0.
+pub fn tell_at<P: Progress>(mark: u64, cycle: u64, progress: &mut P) -> u64
+    ensures waits { cycle < mark → result ≡ mark }
+    ensures next { mark ≤ cycle → cycle ≤ result }
+{
+    if cycle < mark {
+        return mark;
+    }
+    progress.come_to(cycle);
+    cycle.saturating_add(STRIDE)
+}
+
+/// Writes the line of an entry, where it is selected.
+#[tactic(auto, unfolding(crate::specs::Selection::selected_lines))]
+fn write_selected<W: Write>(
+    alloc: Global,
+    selection: Selection,
     entry: &Entry,
     out: &mut W,
 ) -> Result<(), TraceFault>
     requires { FitsLine entry.now }
     ensures { OnOk result (Appends (W.contents out.old) (W.contents out.new)
-        (lines_between from to (entry.now ∷ []))) }
+        (selected_lines selection (entry.now ∷ []))) }
 {
-    if from <= entry.cycle && entry.cycle <= to {
+    if selection.takes(entry) {
         write_line(alloc, entry, out)
     } else {
         Ok(())

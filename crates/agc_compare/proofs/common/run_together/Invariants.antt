@@ -4,7 +4,7 @@ use Rattle.agc_compare.proofs.common.run_together.Given as goal
 
 -- what both runs have in common so far
 abbrev pub invariant-loop-left_entry : goal.invariant-loop-left_entry
-invariant-loop-left_entry l = Shares l.initial.left l.initial.right l.common l.last l.left l.right
+invariant-loop-left_entry g l = Shares l.initial.left l.initial.right l.common l.last l.left l.right
 
 abbrev pub decreases-loop-left_entry : goal.decreases-loop-left_entry
-decreases-loop-left_entry l = entries_left l.left
+decreases-loop-left_entry g l = entries_left l.left

@@ -4,7 +4,7 @@ use Rattle.agc_compare.proofs.follower.run_out.Given as goal
 
 -- the writes so far, and the panel with them
 abbrev pub invariant-loop-write : goal.invariant-loop-write
-invariant-loop-write l = HasRun l.initial.panel l.initial.machine l.panel l.machine
+invariant-loop-write g l = HasRun l.initial.panel l.initial.machine l.panel l.machine
 
 abbrev pub decreases-loop-write : goal.decreases-loop-write
-decreases-loop-write l = boundaries_left l.machine
+decreases-loop-write g l = boundaries_left l.machine

@@ -4,7 +4,7 @@ use Rattle.agc_compare.proofs.Memories.{places_told}
 use Rattle.agc_compare.proofs.runs.compare.Goals as goal
 
 pub returns : goal.returns
-returns c =
+returns g c =
     let m = met _ _ _ _ _ _ _ c.in_ok-common.ensures in
     let parting = parting_told _ _ _ _ _ _ _ _ c.in_ok-common.ensures c.in_ok-parting.ensures in
     let left = end_told _ _ c.in_ok-common.common _ _ _ _ m.tells.panel m.left_run c.in_ok-ends.ensures.left in

@@ -1,7 +1,7 @@
 use Rattle.agc_study.proofs.compares.compare_runs.Goals as goal
 
 pub returns : goal.returns
-returns c = record {
+returns g c = record {
   same = rw c.is_same.ensures c.in_ok-comparison.ensures.law;
   comparison = c.in_ok-comparison.comparison;
   text = rw c.new-text.ensures.bytes at c.in_ok-push_comparison.ensures;

@@ -5,13 +5,13 @@ use Rattle.agc_compare.proofs.follower.Follower.next_write.Goals.{in-Some, in-No
 use Rattle.agc_compare.proofs.follower.Follower.next_write.Goals as goal
 
 pub returns-in-Stopped-clause-gone : goal.returns-in-Stopped-clause-gone
-returns-in-Stopped-clause-gone c = took_none _ _ _ _ c.in-Stopped.ensures.next
+returns-in-Stopped-clause-gone g c = took_none _ _ _ _ c.in-Stopped.ensures.next
 
 pub returns-in-Stopped-clause-ended : goal.returns-in-Stopped-clause-ended
-returns-in-Stopped-clause-ended c _ = ended _ _ _ _ c.in-None.is c.in-Stopped.ensures.next
+returns-in-Stopped-clause-ended g c _ = ended _ _ _ _ c.in-None.is c.in-Stopped.ensures.next
 
 pub returns-clause-gone : goal.returns-clause-gone
-returns-clause-gone c =
+returns-clause-gone g c =
     elim c.match-self.branch [
       | in-Some w ↦ took_held _ _ _ _ _ (sym w.machine-is) (w.in-Some.is ∙ ap (λ (x : ChannelWrite). Some x) (sym w.write-is)) refl c.take.ensures.all
       | in-None+in-Wrote w ↦

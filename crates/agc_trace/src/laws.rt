@@ -1,0 +1,25 @@
+//! Laws of every trace, each the contract of a function that does nothing.
+ghost use Rattle.std.specs.Prelude.{◌≡◌, ℕ, ◌<◌, length, slice_get, Some};
+ghost use Rattle.agc_machine.specs.Laws.{after};
+ghost use Rattle.agc_machine.specs.Run.{run_of};
+ghost use Rattle.agc_machine.specs.State.{State};
+ghost use Rattle.agc_trace.specs.Entry.{entry_of};
+ghost use Rattle.agc_trace.specs.Trace.{trace_of};
+ghost use Rattle.agc_trace.specs.TraceLaws.{EndsWithStop, NeverGoBack};
+
+/// An entry of a trace, counted from 0, tells the boundary that comes after so many others.
+pub fn an_entry_tells_its_boundary()
+    ensures { (n : ℕ) (s : State) → n < length (trace_of s)
+        → slice_get (trace_of s) n ≡ Some (entry_of (after n s)) }
+{}
+
+/// A trace ends with the stop of the run: it tells why the run stopped, at which cycle, and the
+/// registers that it leaves. No entry before it is a stop.
+pub fn a_trace_ends_with_the_stop()
+    ensures { (s : State) → EndsWithStop (run_of s).last (trace_of s) }
+{}
+
+/// No entry of a trace is before the one before it, and none before the state's own cycle.
+pub fn a_trace_never_goes_back()
+    ensures { (s : State) → NeverGoBack s.cycle (trace_of s) }
+{}
