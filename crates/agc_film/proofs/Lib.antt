@@ -1,0 +1,4 @@
+pub mod Recorded
+pub mod Recording
+pub mod Parted
+pub mod Pressed

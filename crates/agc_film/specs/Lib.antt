@@ -1,0 +1,5 @@
+pub mod Frames
+pub mod Presses
+pub mod Reel
+pub mod Parting
+pub mod Page

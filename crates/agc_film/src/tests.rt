@@ -1,0 +1,1 @@
+//! Films of small programs, worked out by hand.
