@@ -3,3 +3,4 @@ pub mod Presses
 pub mod Reel
 pub mod Parting
 pub mod Page
+pub mod Laws
