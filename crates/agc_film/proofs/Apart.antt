@@ -1,5 +1,5 @@
 -- The first difference of two films is the least cycle at which they show different panels.
-use Rattle.std.proofs.Common.{◌≡◌, ◌≢◌, ℕ, ◌+◌, ◌≤◌, ◌<◌, ◌==◌, ◌&&◌, Bool, true, false, List, [], ◌∷◌, Option, Some, None, refl, ap, sym, ◌∙◌, subst, arith, ◌⊎◌, inl, inr}
+use Rattle.std.proofs.Common.{◌≡◌, ◌≢◌, ℕ, ◌+◌, ◌≤◌, ◌<◌, ◌==◌, ◌&&◌, Bool, true, false, List, [], ◌∷◌, Option, Some, None, refl, ap, sym, ◌∙◌, subst, arith, inl, inr}
 use Rattle.std.specs.Prelude.{if◌then◌else◌, min}
 use Rattle.std.specs.Str.{bytes_eq}
 use Rattle.std.proofs.lemmas.Bool.Decides.{leb_tells, nat_tests, not_from_Decides}
@@ -10,9 +10,9 @@ use Rattle.agc_panel.specs.Text.{panel_text}
 use Rattle.agc_panel.specs.declared.face.Face.{Face}
 use Rattle.agc_film.specs.Frames.{shown_after, shown_at}
 use Rattle.agc_film.specs.Laws.{AreCuts, frames_of_run}
-use Rattle.agc_film.specs.Parting.{PartAt, first_difference, is_same_frame}
+use Rattle.agc_film.specs.Parting.{PartAt, first_difference}
 use Rattle.agc_film.specs.declared.frame.Frame.{Frame}
-use Rattle.agc_film.proofs.Shown.{cuts_later, film_is_cut, panel_at, panel_before, panel_behind, panel_past}
+use Rattle.agc_film.proofs.Shown.{cuts_later, film_is_cut, panel_at, panel_before, panel_past}
 
 -- two films from a cycle on, behind two panels that show the same, first show different panels there
 abbrev Parts : ℕ → Face → Face → List Frame → List Frame → Option ℕ → Type 0
@@ -38,13 +38,12 @@ here_left : (from : ℕ) (a b : Face) (l : Frame) (ls rs : List Frame) → panel
     AreCuts (l.cycle + 1) (panel_text b) rs → Parts from a b (l ∷ ls) rs (Some l.cycle)
 here_left from a b l ls rs e h k =
     let left = at_frame from (panel_text a) a l ls l.cycle h refl in
-    let right = panel_before (l.cycle + 1) (panel_text b) b rs l.cycle k (omega arith) in
-    (
+    let right = panel_before (l.cycle + 1) (panel_text b) b rs l.cycle k (omega arith) in (
       h.0,
       λ q. h.1 (sym (ap panel_text left) ∙ q ∙ ap panel_text right ∙ sym e),
       λ n m.
-      ap panel_text (before_frame from (panel_text a) a l ls n h m) ∙ e
-      ∙ sym (ap panel_text (panel_before (l.cycle + 1) (panel_text b) b rs n k (omega (arith, m)))),
+          ap panel_text (before_frame from (panel_text a) a l ls n h m) ∙ e
+          ∙ sym (ap panel_text (panel_before (l.cycle + 1) (panel_text b) b rs n k (omega (arith, m)))),
     )
 
 -- both films have a frame at the cycle, and these do not show the same
@@ -52,13 +51,12 @@ here_both : (from : ℕ) (a b : Face) (l r : Frame) (ls rs : List Frame) → pan
     AreCuts from (panel_text b) (r ∷ rs) → r.cycle ≡ l.cycle → panel_text l.panel ≢ panel_text r.panel → Parts from a b (l ∷ ls) (r ∷ rs) (Some l.cycle)
 here_both from a b l r ls rs e h k same differ =
     let left = at_frame from (panel_text a) a l ls l.cycle h refl in
-    let right = at_frame from (panel_text b) b r rs l.cycle k same in
-    (
+    let right = at_frame from (panel_text b) b r rs l.cycle k same in (
       h.0,
       λ q. differ (sym (ap panel_text left) ∙ q ∙ ap panel_text right),
       λ n m.
-      ap panel_text (before_frame from (panel_text a) a l ls n h m) ∙ e
-      ∙ sym (ap panel_text (before_frame from (panel_text b) b r rs n k (omega (arith, m, same)))),
+          ap panel_text (before_frame from (panel_text a) a l ls n h m) ∙ e
+          ∙ sym (ap panel_text (before_frame from (panel_text b) b r rs n k (omega (arith, m, same)))),
     )
 
 -- both films have the same frame
@@ -77,13 +75,12 @@ point from a b l r ls rs n e h k same p =
 later : (from : ℕ) (a b : Face) (l r : Frame) (ls rs : List Frame) (o : Option ℕ) → panel_text a ≡ panel_text b → AreCuts from (panel_text a) (l ∷ ls) →
     AreCuts from (panel_text b) (r ∷ rs) → r.cycle ≡ l.cycle → Parts (l.cycle + 1) l.panel r.panel ls rs o → Parts from a b (l ∷ ls) (r ∷ rs) o
 later from a b l r ls rs None e h k same p = λ n. point from a b l r ls rs n e h k same (p n)
-later from a b l r ls rs (Some cycle) e h k same p =
-    (
-      omega (arith, h.0, p.0),
-      λ q. p.1
+later from a b l r ls rs (Some cycle) e h k same p = (
+  omega (arith, h.0, p.0),
+  λ q. p.1
       (sym (ap panel_text (panel_past a l ls cycle (omega (arith, p.0)))) ∙ q ∙ ap panel_text (panel_past b r rs cycle (omega (arith, p.0, same)))),
-      λ n m. point from a b l r ls rs n e h k same (p.2 n m),
-    )
+  λ n m. point from a b l r ls rs n e h k same (p.2 n m),
+)
 
 -- the frames differ: the earlier one is where the films part
 at_cycle : (from : ℕ) (a b : Face) (ls rs : List Frame) (n m : ℕ) → n ≡ m → Parts from a b ls rs (Some n) → Parts from a b ls rs (Some m)

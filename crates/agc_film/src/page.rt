@@ -15,13 +15,13 @@ h2 { margin: 0 0 6px; font-size: 14px; font-weight: 600; color: #b9bab2; }
 .run { width: 460px; }
 .dsky { display: grid; grid-template-columns: 180px 1fr; gap: 14px; padding: 18px; border-radius: 12px; background: linear-gradient(#a3a69f, #7d807a); box-shadow: inset 0 1px #d5d7d0, inset 0 -3px 6px #55575299, 0 6px 18px #000a; }
 .lamps, .display { padding: 10px; border-radius: 6px; background: #22241f; box-shadow: inset 0 2px 8px #000; }
-.lamps { display: grid; grid-template-columns: 1fr 1fr; gap: 6px; margin: 0; list-style: none; }
+.lamps { display: grid; grid-template-columns: 1fr 1fr; grid-auto-rows: 1fr; gap: 6px; margin: 0; list-style: none; }
 .lamps li { display: flex; align-items: center; justify-content: center; padding: 2px; border-radius: 2px; background: #3d3f39; color: #9a9c92; font-size: 10.5px; line-height: 1.15; text-align: center; }
 .lamps li.lit { background: #fff3cf; color: #17180f; font-weight: 700; box-shadow: 0 0 10px #ffe9a680; }
 .lamps li.caution.lit { background: #ffb938; box-shadow: 0 0 10px #ffb93880; }
 .lit::before { content: '\\25cf\\a0'; }
 .display { display: grid; grid-template-columns: 1fr 1fr; gap: 8px 12px; background: #0b0e0b; }
-.name { display: block; border-radius: 2px; background: #1f7d45; color: #04150a; font-size: 11px; font-weight: 700; line-height: 17px; text-align: center; }
+.name { display: block; border-radius: 2px; background: #35b568; color: #04150a; font-size: 11px; font-weight: 700; line-height: 17px; text-align: center; }
 .acty { display: flex; align-items: center; justify-content: center; border-radius: 2px; background: #16201a; color: #5e7566; font-size: 13px; line-height: 1.2; text-align: center; }
 .acty.lit { background: #4dff8f; color: #04150a; font-weight: 700; box-shadow: 0 0 14px #4dff8f66; }
 .digits { display: flex; justify-content: center; gap: 5px; margin-top: 5px; }

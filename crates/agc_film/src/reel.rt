@@ -40,7 +40,7 @@ pub fn film<P: Progress>(
     ensures machine { IfOk result (λ _. machine.new ≡ (run_of machine.old).last) }
 {
     let mut recorder = Recorder::new(alloc);
-    let stop = record(alloc, machine, &mut recorder, progress)?;
+    let stop = record(alloc, machine, TOLD_EACH, &mut recorder, progress)?;
     let cycle = machine.cycle();
     let presses = presses_up_to(alloc, cycle, presses)?;
     Ok(Reel {
@@ -51,10 +51,12 @@ pub fn film<P: Progress>(
     })
 }
 
-/// Runs a machine to its stop, and lets a recorder take its writes.
-fn record<P: Progress>(
+/// Runs a machine to its stop, and lets a recorder take its writes. Tells how far it has come at the
+/// first quiet boundary that ends so many cycles behind the last one told, or later.
+pub(crate) fn record<P: Progress>(
     alloc: Global,
     machine: &mut Machine,
+    told_each: u64,
     recorder: &mut Recorder,
     progress: &mut P,
 ) -> Result<Stop, AllocError>
@@ -63,12 +65,12 @@ fn record<P: Progress>(
     ensures machine { IfOk result (λ _. machine.new ≡ (run_of machine.old).last) }
     ensures stop { IfOk result (λ stop. machine.new.stopped ≡ Some stop) }
 {
-    let mut told_next = TOLD_EACH;
+    let mut told_next = told_each;
     loop {
         match machine.next_write_before(told_next) {
             Stepped::Quiet => {
                 progress.come_to(machine.cycle());
-                told_next = machine.cycle().saturating_add(TOLD_EACH);
+                told_next = machine.cycle().saturating_add(told_each);
             }
             Stepped::Wrote(write) => recorder.take(alloc, &write)?,
             Stepped::Stopped(stop) => return Ok(stop),
