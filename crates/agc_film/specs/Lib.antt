@@ -1,0 +1,6 @@
+pub mod Frames
+pub mod Presses
+pub mod Reel
+pub mod Parting
+pub mod Page
+pub mod Laws

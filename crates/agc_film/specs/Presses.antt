@@ -1,0 +1,42 @@
+-- The keys of a script.
+use Rattle.std.specs.Prelude.{ℕ, nat_le, true, false, List, filter, codes, Option, Some, None}
+use Rattle.std.specs.List.{filter_map}
+use Rattle.agc_script.specs.Key.{name_of}
+use Rattle.agc_script.specs.declared.event.Event.{Event}
+use Rattle.agc_script.specs.declared.event.What.{What}
+use Rattle.agc_script.specs.declared.event.What.TheVariants as what
+use Rattle.agc_film.specs.declared.press.Button.{Button}
+use Rattle.agc_film.specs.declared.press.Button.TheVariants as button
+use Rattle.agc_film.specs.declared.press.Press.{Press}
+
+-- what an event does on the keyboard, where it does something there
+abbrev pub button_of : What → Option Button
+button_of (what.Key key) = Some (button.Key key)
+button_of (what.Pro true) = Some button.ProDown
+button_of (what.Pro false) = Some button.ProUp
+button_of (what.Input channel value) = None
+button_of (what.Pulse counter kind) = None
+button_of (what.Raise number) = None
+button_of (what.Poke bank offset value) = None
+
+-- the same at the event's cycle
+abbrev pub press_with : ℕ → Option Button → Option Press
+press_with cycle (Some button) = Some (record { cycle = cycle; button = button })
+press_with cycle None = None
+
+abbrev pub press_of : Event → Option Press
+press_of event = press_with event.cycle (button_of event.what)
+
+-- the keys of a script, in order
+unfoldable pub presses_of : List Event → List Press
+presses_of events = filter_map press_of events
+
+-- those up to a cycle
+unfoldable pub presses_up_to : ℕ → List Press → List Press
+presses_up_to cycle presses = filter (λ press. nat_le press.cycle cycle) presses
+
+-- what a button is called
+abbrev pub button_name : Button → List ℕ
+button_name (button.Key key) = name_of key
+button_name button.ProDown = codes "PRO"
+button_name button.ProUp = codes "PRO up"

@@ -1,0 +1,17 @@
+//! Whether two panels show the same.
+ghost use Rattle.std.specs.Prelude.{◌≡◌, IfOk};
+ghost use Rattle.std.specs.Str.{bytes_eq};
+ghost use Rattle.agc_panel.specs.Text.{panel_text};
+
+use agc_panel::Panel;
+use std::alloc::{AllocError, Global};
+
+/// Two panels show the same: their texts are the same. Fails where memory runs out.
+pub(crate) fn show_alike(alloc: Global, left: &Panel, right: &Panel) -> Result<bool, AllocError>
+    ensures { IfOk result
+        (λ alike. alike ≡ bytes_eq (panel_text left.now) (panel_text right.now)) }
+{
+    let left_text = left.text(alloc)?;
+    let right_text = right.text(alloc)?;
+    Ok(left_text.as_str() == right_text.as_str())
+}

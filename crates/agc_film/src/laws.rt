@@ -1,0 +1,28 @@
+//! Laws of films, each the contract of a function that does nothing. The code is proved equal to
+//! the definitions that these laws are about.
+ghost use Rattle.std.specs.Prelude.{◌≡◌, ℕ, []};
+ghost use Rattle.agc_machine.specs.State.{State};
+ghost use Rattle.agc_film.specs.Frames.{shown_after, shown_at};
+ghost use Rattle.agc_film.specs.Laws.{AreCuts, frames_of_run, writes_up_to};
+ghost use Rattle.agc_film.specs.Parting.{PartAt, first_difference};
+
+/// At each cycle a film shows what the panel shows after the writes up to then.
+#[tactic(auto, using(crate::proofs::Shown::film_is_the_panel))]
+pub fn a_film_shows_the_panel()
+    ensures { (s : State) (cycle : ℕ) → shown_at (frames_of_run s) cycle
+        ≡ shown_after (writes_up_to cycle s) }
+{}
+
+/// No frame is without need: each is later than the one before it, and shows something else; the
+/// first shows something else than the blank panel.
+#[tactic(auto, using(crate::proofs::Shown::film_is_cut))]
+pub fn each_frame_is_a_change()
+    ensures { (s : State) → AreCuts s.cycle (shown_after []) (frames_of_run s) }
+{}
+
+/// The first difference of two films is the least cycle at which they show different panels.
+#[tactic(auto, using(crate::proofs::Apart::films_part))]
+pub fn films_part_at_the_first_difference()
+    ensures { (s t : State) → PartAt (frames_of_run s) (frames_of_run t)
+        (first_difference (frames_of_run s) (frames_of_run t)) }
+{}

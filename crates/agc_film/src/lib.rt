@@ -1,0 +1,22 @@
+//! A run as a film of its panel: its frames, its keys and its stop, and the page that shows one run or
+//! two of them side by side.
+#![tactic(auto)]
+
+mod alike;
+mod frame;
+pub mod laws;
+mod page;
+mod page_script;
+mod page_text;
+mod parting;
+mod press;
+mod recorder;
+mod reel;
+#[cfg(test)]
+mod tests;
+
+pub use frame::Frame;
+pub use page_text::{push_film, push_film_pair};
+pub use parting::first_difference;
+pub use press::{Button, Press, presses};
+pub use reel::{Reel, film};

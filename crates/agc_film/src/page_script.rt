@@ -1,0 +1,247 @@
+//! The page behind its runs: the script that reads them and shows them over the time.
+
+/// What stands behind the runs.
+pub(crate) const TAIL: &str = "<script>
+'use strict';
+const CYCLES_A_SECOND = 1024000 / 12;
+const LINE = String.fromCharCode(10);
+const BLANK = 'PROG __,VERB __,NOUN __,R1 ______,R2 ______,R3 ______,FLASH off,LAMPS none'.split(',').join(LINE) + LINE;
+
+// the lamps beside the digits, row by row; those of the right column are cautions
+const LAMPS = 'UPLINK ACTY,TEMP,NO ATT,GIMBAL LOCK,,PROG,KEY REL,,OPR ERR,TRACKER,,ALT,ISS,VEL'.split(',');
+
+// the keys column by column, each column with the half row in which it begins
+const KEYS = [[2, 'VERB NOUN'], [1, '+ - 0'], [1, '7 4 1'], [1, '8 5 2'], [1, '9 6 3'], [1, 'CLR PRO KEYREL'], [2, 'ENTR RSET']];
+
+const SEGMENTS = {
+  a: '6,3 30,3 25,9 11,9',
+  b: '32,5 32,28 29,30 26,27 26,11',
+  c: '32,55 32,32 29,30 26,33 26,49',
+  d: '6,57 30,57 25,51 11,51',
+  e: '4,55 4,32 7,30 10,33 10,49',
+  f: '4,5 4,28 7,30 10,27 10,11',
+  g: '8,30 11,27 25,27 28,30 25,33 11,33',
+};
+const DIGITS = { 0: 'abcdef', 1: 'bc', 2: 'abdeg', 3: 'abcdg', 4: 'bcfg', 5: 'acdfg', 6: 'acdefg', 7: 'abc', 8: 'abcdefg', 9: 'abcdfg', '?': 'abeg' };
+const SIGN_BARS = { g: '5,27 31,27 31,33 5,33', v: '15,14 21,14 21,26 15,26', w: '15,34 21,34 21,46 15,46' };
+const SIGNS = { '+': 'gvw', '-': 'g' };
+
+const find = (id) => document.getElementById(id);
+
+// a run of the page: its frames, which begin with the blank panel, its keys and its stop
+function readRun(id) {
+  const run = { id, frames: [{ cycle: 0, text: BLANK }], keys: [], stop: 0, reason: '' };
+  const lines = find(id).textContent.split(LINE);
+  for (let i = 0; i < lines.length; i += 1) {
+    const [word, cycle, ...rest] = lines[i].split(' ');
+    if (word === 'frame') {
+      run.frames.push({ cycle: Number(cycle), text: lines.slice(i + 1, i + 9).join(LINE) + LINE });
+      i += 8;
+    } else if (word === 'key') {
+      run.keys.push({ cycle: Number(cycle), name: rest.join(' ') });
+    } else if (word === 'stop') {
+      run.stop = Number(cycle);
+      run.reason = rest.join(' ');
+    }
+  }
+  return run;
+}
+
+const runs = ['left', 'right'].filter(find).map(readRun);
+const end = Math.max(...runs.map((run) => run.stop));
+const parting = find('parting') ? Number(find('parting').textContent) : NaN;
+const changes = [...new Set(runs.flatMap((run) => run.frames.map((frame) => frame.cycle)))].sort((a, b) => a - b);
+let now = 0;
+let playing = false;
+
+// the place of the last item up to a cycle, or -1
+function lastUpTo(items, cycle) {
+  let low = 0;
+  let high = items.length;
+  while (low < high) {
+    const middle = (low + high) >> 1;
+    if (items[middle].cycle <= cycle) low = middle + 1; else high = middle;
+  }
+  return low - 1;
+}
+
+// places for digits, of which the first may be a sign
+function places(name, count, kind) {
+  const bars = (shapes) => Object.entries(shapes).map(([bar, points]) => `<polygon data-bar='${bar}' points='${points}'/>`).join('');
+  const place = (i) => `<svg viewBox='0 0 36 60'>${bars(count === 6 && i === 0 ? SIGN_BARS : SEGMENTS)}</svg>`;
+  return `<div class='digits ${kind}' data-name='${name}'>${[...Array(count).keys()].map(place).join('')}</div>`;
+}
+
+function keyPad() {
+  const key = (name, column, row) => {
+    const words = name.replace('KEYREL', 'KEY<br>REL');
+    const kind = name.length === 1 ? 'figure' : '';
+    return `<span class='${kind}' data-key='${name}' style='grid-area: ${row} / ${column} / span 2'>${words}</span>`;
+  };
+  return KEYS.flatMap(([row, names], i) => names.split(' ').map((name, j) => key(name, i + 1, row + 2 * j))).join('');
+}
+
+// the DSKY of a run, with its panel and its keys as text below
+function build(run) {
+  const title = runs.length === 1 ? '' : `<h2>${run.id === 'left' ? 'Left run' : 'Right run'}</h2>`;
+  const lamps = LAMPS.map((name, i) => `<li class='${i % 2 ? 'caution' : ''}' data-lamp='${name}'>${name}</li>`).join('');
+  const pair = (name) => `<div><span class='name'>${name}</span>${places(name, 2, '')}</div>`;
+  const registers = ['R1', 'R2', 'R3'].map((name) => places(name, 6, 'register')).join('');
+  const display = `<div class='acty' data-lamp='COMP ACTY'>COMP<br>ACTY</div>${pair('PROG')}${pair('VERB')}${pair('NOUN')}${registers}`;
+  const section = document.createElement('section');
+  section.className = 'run';
+  section.innerHTML = `${title}<div class='dsky' aria-hidden='true'><ul class='lamps'>${lamps}</ul><div class='display'>${display}</div><div class='keys'>${keyPad()}</div></div>`
+    + `<div class='copy'><pre id='${run.id}-panel' aria-live='polite' aria-label='The panel'></pre><p id='${run.id}-keys'></p></div>`;
+  find('runs').append(section);
+  run.section = section;
+}
+
+// lights up what a panel's text says
+function showPanel(run, text) {
+  if (run.text === text) return;
+  run.text = text;
+  find(`${run.id}-panel`).textContent = text;
+  const fields = Object.fromEntries(text.split(LINE).map((line) => [line.split(' ')[0], line.slice(line.indexOf(' ') + 1)]));
+  const lit = fields.LAMPS.split(', ');
+  for (const lamp of run.section.querySelectorAll('[data-lamp]')) lamp.classList.toggle('lit', lit.includes(lamp.dataset.lamp));
+  for (const field of run.section.querySelectorAll('.digits')) {
+    const name = field.dataset.name;
+    field.classList.toggle('flash', fields.FLASH === 'on' && (name === 'VERB' || name === 'NOUN'));
+    [...field.children].forEach((place, i) => {
+      const glyph = fields[name][i];
+      const bars = (field.children.length === 6 && i === 0 ? SIGNS : DIGITS)[glyph] || '';
+      for (const bar of place.children) bar.classList.toggle('lit', bars.includes(bar.dataset.bar));
+    });
+  }
+}
+
+// a key stays down for a quarter of a second, or until the next one; PRO until it comes up
+function showKeys(run) {
+  const last = lastUpTo(run.keys, now);
+  const hold = Math.min(CYCLES_A_SECOND / 4, end / 20) * (playing ? Number(find('speed').value) : 1);
+  const down = new Set();
+  const past = run.keys.slice(Math.max(0, last - 30), last + 1);
+  if (last >= 0 && now - run.keys[last].cycle < hold) down.add(run.keys[last].name);
+  const pro = past.map((key) => key.name).filter((name) => name.startsWith('PRO')).pop();
+  if (pro === 'PRO') down.add('PRO');
+  for (const key of run.section.querySelectorAll('[data-key]')) key.classList.toggle('down', down.has(key.dataset.key));
+  const stop = now >= run.stop ? `${LINE}Stopped: ${run.reason}` : '';
+  find(`${run.id}-keys`).textContent = `Keys: ${past.slice(-12).map((key) => key.name).join(' ') || 'none yet'}${stop}`;
+}
+
+function showDifference() {
+  const [left, right] = runs.map((run) => run.text.split(LINE));
+  const names = left.map((line, i) => (line === right[i] ? '' : line.split(' ')[0])).filter(Boolean);
+  const first = parting === Math.floor(now) ? ' This is the first difference.' : '';
+  find('apart').textContent = names.length ? `\u{2260} The panels differ: ${names.join(', ')}.${first}` : '= The panels show the same.';
+}
+
+function show(cycle) {
+  now = Math.min(Math.max(cycle, 0), end);
+  for (const run of runs) {
+    showPanel(run, run.frames[lastUpTo(run.frames, now)].text);
+    showKeys(run);
+  }
+  if (runs.length === 2) showDifference();
+  find('time').value = now;
+  const seconds = (at) => (at / CYCLES_A_SECOND).toFixed(3);
+  find('clock').textContent = `cycle ${Math.floor(now)} of ${end}, ${seconds(now)} s of ${seconds(end)} s`;
+  document.body.dataset.cycle = Math.floor(now);
+}
+
+// the strip: for each run its changes below a line, its keys above it, and the first difference
+function drawStrip() {
+  const strip = find('strip');
+  const scale = window.devicePixelRatio || 1;
+  const width = strip.clientWidth;
+  const lane = 40 / runs.length;
+  strip.width = width * scale;
+  strip.height = 40 * scale;
+  const pen = strip.getContext('2d');
+  pen.scale(scale, scale);
+  const place = (cycle) => 8 + (width - 16) * (cycle / end);
+  const stroke = (cycle, top, height, wide) => pen.fillRect(place(cycle) - wide / 2, top, wide, height);
+  runs.forEach((run, i) => {
+    const line = lane * (i + 0.5);
+    pen.fillStyle = '#6a6d68';
+    pen.fillRect(8, line, place(run.stop) - 8, 1);
+    pen.fillStyle = '#5dff9b';
+    for (const frame of run.frames) stroke(frame.cycle, line + 1, lane / 2 - 3, 1);
+    pen.fillStyle = '#f4f4ee';
+    for (const key of run.keys) stroke(key.cycle, line - lane / 2 + 3, lane / 2 - 3, 1);
+  });
+  if (parting >= 0) {
+    pen.fillStyle = '#ffb938';
+    stroke(parting, 0, 40, 3);
+    pen.font = 'bold 15px sans-serif';
+    pen.fillText('\u{2260}', Math.min(place(parting) + 4, width - 14), 13);
+  }
+}
+
+function setPlaying(on) {
+  playing = on && end > 0;
+  if (playing && now >= end) show(0);
+  document.body.classList.toggle('playing', playing);
+  find('play').textContent = playing ? '\u{275a}\u{275a} Pause' : '\u{25b6} Play';
+  for (const run of runs) find(`${run.id}-panel`).setAttribute('aria-live', playing ? 'off' : 'polite');
+  if (playing) requestAnimationFrame((from) => requestAnimationFrame((at) => play(from, at)));
+}
+
+function play(from, at) {
+  if (!playing) return;
+  show(now + ((at - from) / 1000) * CYCLES_A_SECOND * Number(find('speed').value));
+  if (now >= end) setPlaying(false); else requestAnimationFrame((next) => play(at, next));
+}
+
+function go(cycle) {
+  setPlaying(false);
+  show(cycle);
+}
+
+const ACTIONS = {
+  start: () => go(0),
+  previous: () => go(changes.filter((cycle) => cycle < now).pop() ?? 0),
+  play: () => setPlaying(!playing),
+  next: () => go(changes.find((cycle) => cycle > now) ?? end),
+  end: () => go(end),
+  difference: () => { if (parting >= 0) go(parting); },
+};
+const SHORTCUTS = { ' ': 'play', ArrowLeft: 'previous', ArrowRight: 'next', Home: 'start', End: 'end', d: 'difference', D: 'difference' };
+
+function onKey(event) {
+  const place = '1234'.indexOf(event.key);
+  const name = SHORTCUTS[event.key];
+  const onButton = event.target.tagName === 'BUTTON' && event.key === ' ';
+  if (onButton || event.target.tagName === 'SELECT' || event.ctrlKey || event.altKey || event.metaKey) return;
+  if (name) {
+    event.preventDefault();
+    ACTIONS[name]();
+  } else if (place >= 0) {
+    find('speed').selectedIndex = place;
+  }
+}
+
+// '#cycle=1234' goes to a cycle, and '#press=ArrowRight,Space' presses keys of the browser
+function followHash() {
+  const asked = new URLSearchParams(location.hash.slice(1));
+  if (asked.has('cycle')) go(Number(asked.get('cycle')));
+  for (const name of (asked.get('press') || '').split(',').filter(Boolean)) {
+    document.body.dispatchEvent(new KeyboardEvent('keydown', { key: name === 'Space' ? ' ' : name, bubbles: true, cancelable: true }));
+  }
+}
+
+runs.forEach(build);
+find('time').max = end;
+find('time').addEventListener('input', () => go(Number(find('time').value)));
+for (const [name, action] of Object.entries(ACTIONS)) find(name).addEventListener('click', action);
+find('difference').hidden = !(parting >= 0);
+document.addEventListener('keydown', onKey);
+window.addEventListener('resize', drawStrip);
+window.addEventListener('hashchange', followHash);
+show(0);
+drawStrip();
+followHash();
+</script>
+</body>
+</html>
+";

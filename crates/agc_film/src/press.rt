@@ -1,0 +1,96 @@
+//! The keys that a script presses.
+ghost use Rattle.std.specs.Prelude.{◌≡◌, ◌++◌, [], IfOk, OnOk};
+ghost use Rattle.std.specs.List.{cons_option};
+ghost use Rattle.agc_film.specs.Presses.{button_name, press_of, presses_of, presses_up_to};
+
+use agc_script::{Event, Key, Script, What};
+use std::alloc::{AllocError, Global};
+
+/// What is done on the keyboard.
+#[derive(Clone, Copy, Debug, PartialEq, Eq)]
+pub enum Button {
+    /// One of the eighteen keys with a code is pressed.
+    Key(Key),
+    /// The PRO key goes down.
+    ProDown,
+    /// The PRO key comes up again.
+    ProUp,
+}
+
+/// A key of a script.
+#[derive(Clone, Copy, Debug, PartialEq, Eq)]
+pub struct Press {
+    /// The machine cycle from which on it is due.
+    pub cycle: u64,
+    pub button: Button,
+}
+
+impl Button {
+    ghost use Rattle.std.specs.Prelude.{◌≡◌};
+    ghost use Rattle.agc_film.specs.Presses.{button_name};
+
+    /// What the page calls it: the key's name as scripts write it, `PRO` or `PRO up`.
+    pub(crate) fn name(self) -> &'static str
+        ensures { result.now ≡ button_name self }
+    {
+        match self {
+            Button::Key(key) => key.name(),
+            Button::ProDown => "PRO",
+            Button::ProUp => "PRO up",
+        }
+    }
+}
+
+/// The keys of a script, in order. Fails where memory runs out.
+#[tactic(auto, unfolding(crate::specs::Presses::presses_of), using(crate::proofs::Pressed::presses_next))]
+pub fn presses(alloc: Global, script: &Script) -> Result<Vec<Press>, AllocError>
+    ensures { IfOk result (λ presses. presses.items ≡ presses_of script.now) }
+{
+    let mut presses = Vec::new(alloc);
+    for place in 0..script.len() {
+        push_some(&mut presses, press_of(script.at(place)))?;
+    }
+    Ok(presses)
+}
+
+/// Puts a key behind others, where there is one.
+fn push_some(presses: &mut Vec<Press>, press: Option<Press>) -> Result<(), AllocError>
+    ensures { OnOk result (presses.new.items ≡ presses.old.items ++ cons_option press []) }
+{
+    if let Some(press) = press {
+        presses.push(press)?;
+    }
+    Ok(())
+}
+
+/// What an event does on the keyboard, where it does something there.
+fn press_of(event: Event) -> Option<Press>
+    ensures { result ≡ press_of event }
+{
+    let button = match event.what {
+        What::Key(key) => Button::Key(key),
+        What::Pro(true) => Button::ProDown,
+        What::Pro(false) => Button::ProUp,
+        What::Input { .. } | What::Pulse { .. } | What::Raise(_) | What::Poke { .. } => return None,
+    };
+    Some(Press {
+        cycle: event.cycle,
+        button,
+    })
+}
+
+/// The keys up to a cycle.
+#[tactic(auto, unfolding(crate::specs::Presses::presses_up_to))]
+pub(crate) fn presses_up_to(
+    alloc: Global,
+    cycle: u64,
+    presses: &[Press],
+) -> Result<Vec<Press>, AllocError>
+    ensures { IfOk result (λ some. some.items ≡ presses_up_to cycle presses.now) }
+{
+    presses
+        .iter()
+        .copied()
+        .filter(|press| press.cycle <= cycle)
+        .collect(alloc)
+}

@@ -1,0 +1,218 @@
+//! Films of small programs, worked out by hand. The numbers are octal, but for cycles.
+use crate::recorder::Recorder;
+use crate::reel::record;
+use crate::{Button, Press, Reel, film, first_difference, presses, push_film, push_film_pair};
+use agc_listing::rope_file;
+use agc_machine::{Machine, Stop};
+use agc_progress::{Progress, Untold};
+use agc_script::{Key, Script};
+use agc_store::Rope;
+use std::process::Abort;
+use std::test::Fail;
+
+/// The machine at the start of a run of a listing with a script, up to a limit of cycles.
+fn machine(
+    rt: &(impl AllocGlobal + Abort),
+    listing: &str,
+    script: &str,
+    limit: u64,
+) -> Result<Machine, Fail> {
+    let bytes = rope_file(rt.alloc(), listing)?;
+    let rope = Rope::read(rt.alloc(), bytes.as_slice())?;
+    let script = Script::parse(rt.alloc(), script.as_bytes())?;
+    Ok(
+        Machine::new(rope, script, limit)
+            .ok()
+            .expect(rt, "the limit is in range"),
+    )
+}
+
+/// The reel of such a run.
+fn reel_of(
+    rt: &(impl AllocGlobal + Abort),
+    listing: &str,
+    script: &str,
+    limit: u64,
+) -> Result<Reel, Fail> {
+    let events = Script::parse(rt.alloc(), script.as_bytes())?;
+    let keys = presses(rt.alloc(), &events)?;
+    let mut machine = machine(rt, listing, script, limit)?;
+    Ok(film(rt.alloc(), &mut machine, keys.as_slice(), &mut Untold)?)
+}
+
+/// The page without what stands before and behind its runs: from the first block to the last one.
+fn blocks<'a>(rt: &impl Abort, page: &'a str) -> &'a str {
+    let (_, behind) = page
+        .split_once("<script type=\"text/plain\" id=\"")
+        .expect(rt, "a block");
+    let (blocks, _) = behind.split_once("<script>").expect(rt, "a script");
+    blocks
+}
+
+/// Writes a relay word twice from cycle 3 on, then a word of the lamps to channel 11, and waits.
+static PROG: &str = "
+4000 34010 CA 4010
+4001 00006 EXTEND
+4002 01010 WRITE 10
+4003 00006 EXTEND
+4004 01010 WRITE 10
+4005 00006 EXTEND
+4006 01011 WRITE 11
+4007 14007 TCF 4007
+4010 54171 a relay word: PROG 12; on channel 11: COMP ACTY, ...
+";
+
+/// The orders begin at 0, 2, 3, 5, 6, 8, 9 and 11: the writes are those of 3, 6 and 9, and the one of
+/// 6 changes nothing. 54171 is 101 100 001 111 001: of channel 11 the bits 1, 4, 5, 6 and 7 are on.
+#[test]
+fn a_frame_for_each_change(rt: HostRuntime) -> Result<(), Fail> {
+    let reel = reel_of(&rt, PROG, "", 20)?;
+    let mut page = String::new(rt.alloc());
+    push_film(&mut page, &reel)?;
+    assert_eq!(rt; page.as_str().starts_with("<!doctype html>\n"), true);
+    assert_eq!(rt; page.as_str().ends_with("</body>\n</html>\n"), true);
+    let mut lines = blocks(&rt, page.as_str()).lines();
+    for line in [
+        "left\">",
+        "frame 3",
+        "PROG 12",
+        "VERB __",
+        "NOUN __",
+        "R1 ______",
+        "R2 ______",
+        "R3 ______",
+        "FLASH off",
+        "LAMPS none",
+        "frame 9",
+        "PROG 12",
+        "VERB __",
+        "NOUN __",
+        "R1 ______",
+        "R2 ______",
+        "R3 ______",
+        "FLASH on",
+        "LAMPS TEMP, KEY REL, OPR ERR, ISS",
+        "stop 20 Limit",
+        "</script>",
+    ] {
+        assert_eq!(rt; lines.next(), Some(line));
+    }
+    assert_eq!(rt; lines.next(), None);
+    Ok(())
+}
+
+/// Waits.
+static IDLE: &str = "
+4000 14000 TCF 4000
+";
+
+#[test]
+fn no_frame(rt: HostRuntime) -> Result<(), Fail> {
+    let reel = reel_of(&rt, IDLE, "", 8)?;
+    assert_eq!(rt; reel.frames.len(), 0);
+    assert_eq!(rt; reel.cycle, 8);
+    assert_eq!(rt; reel.stop, Stop::Limit);
+    Ok(())
+}
+
+/// The key of cycle 31 comes behind the stop, and the input is no key.
+static KEYS: &str = "10 key VERB\n20 pro down\n25 input 16 00001\n30 pro up\n31 key 4\n";
+
+#[test]
+fn keys_up_to_the_stop(rt: HostRuntime) -> Result<(), Fail> {
+    let script = Script::parse(rt.alloc(), KEYS.as_bytes())?;
+    let all = presses(rt.alloc(), &script)?;
+    assert_eq!(rt; all.len(), 4);
+    assert_eq!(rt;
+        all.as_slice().last().copied(),
+        Some(Press {
+            cycle: 31,
+            button: Button::Key(Key::Four),
+        })
+    );
+    let reel = reel_of(&rt, IDLE, KEYS, 30)?;
+    let mut page = String::new(rt.alloc());
+    push_film(&mut page, &reel)?;
+    let mut lines = blocks(&rt, page.as_str()).lines();
+    for line in [
+        "left\">",
+        "key 10 VERB",
+        "key 20 PRO",
+        "key 30 PRO up",
+        "stop 30 Limit",
+        "</script>",
+    ] {
+        assert_eq!(rt; lines.next(), Some(line));
+    }
+    assert_eq!(rt; lines.next(), None);
+    Ok(())
+}
+
+/// As PROG, but the second write of channel 10 is left out.
+static SOONER: &str = "
+4000 34010 CA 4010
+4001 00006 EXTEND
+4002 01010 WRITE 10
+4003 00006 EXTEND
+4004 01011 WRITE 11
+4005 14005 TCF 4005
+4010 54171
+";
+
+/// Where two runs part, as the page tells it.
+fn parting(rt: &(impl AllocGlobal + Abort), left: &Reel, right: &Reel) -> Result<String, Fail> {
+    let mut page = String::new(rt.alloc());
+    push_film_pair(&mut page, left, right)?;
+    let (_, behind) = page
+        .as_str()
+        .split_once("id=\"parting\">")
+        .expect(rt, "a block");
+    let (cycle, _) = behind.split_once("</script>").expect(rt, "its end");
+    let mut told = String::new(rt.alloc());
+    told.push_str(cycle)?;
+    Ok(told)
+}
+
+/// The lamps come on at 9 in one run, and at 6 in the other one.
+#[test]
+fn two_runs(rt: HostRuntime) -> Result<(), Fail> {
+    let left = reel_of(&rt, PROG, "", 20)?;
+    let right = reel_of(&rt, SOONER, "", 20)?;
+    let idle = reel_of(&rt, IDLE, "", 20)?;
+    assert_eq!(rt; parting(&rt, &left, &left)?.as_str(), "never");
+    assert_eq!(rt; parting(&rt, &left, &right)?.as_str(), "6");
+    assert_eq!(rt; parting(&rt, &right, &idle)?.as_str(), "3");
+    assert_eq!(rt;
+        first_difference(rt.alloc(), idle.frames.as_slice(), left.frames.as_slice())?,
+        Some(3)
+    );
+    Ok(())
+}
+
+/// How often something was told, and what last.
+#[derive(Debug, Default, Drop)]
+struct Told {
+    times: u64,
+    cycle: u64,
+}
+
+impl Progress for Told {
+    fn come_to(&mut self, cycle: u64) {
+        self.times = self.times.saturating_add(1);
+        self.cycle = cycle;
+    }
+}
+
+/// From cycle 11 on each order takes one cycle: it is told at 1000 and 2000.
+#[test]
+fn tells_how_far_it_has_come(rt: HostRuntime) -> Result<(), Fail> {
+    let mut machine = machine(&rt, PROG, "", 2500)?;
+    let mut recorder = Recorder::new(rt.alloc());
+    let mut told = Told::default();
+    let stop = record(rt.alloc(), &mut machine, 1000, &mut recorder, &mut told)?;
+    assert_eq!(rt; stop, Stop::Limit);
+    assert_eq!(rt; recorder.frames.len(), 2);
+    assert_eq!(rt; told.times, 2);
+    assert_eq!(rt; told.cycle, 2000);
+    Ok(())
+}
