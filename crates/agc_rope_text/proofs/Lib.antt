@@ -1,6 +1,9 @@
+pub mod FileBack
+pub mod FileWords
 pub mod LineBack
 pub mod LinesBack
 pub mod Octals
 pub mod Prints
+pub mod RopeBack
 pub mod RopeLines
 pub mod Woven
