@@ -2,6 +2,7 @@ pub mod FileBack
 pub mod FileWords
 pub mod LineBack
 pub mod LinesBack
+pub mod Listings
 pub mod Octals
 pub mod Prints
 pub mod RopeBack
