@@ -1,21 +1,15 @@
 -- A file into which the words of a rope are put, one place after the other, is a rope's, with these words.
-use Rattle.std.specs.Prelude.{◌≡◌, ℕ, zero, suc, ◌+◌, ◌-◌, ◌*◌, ◌/◌, ◌%◌, ◌^◌, ◌<◌, ◌≤◌, ◌≢◌, ◌==◌, nat_lt, Bool, true, false, not, ◌&&◌, List, [], ◌∷◌, ◌++◌, length, get_or, set, replicate, map, filter, find, fold, Option, Some, None, if◌then◌else◌}
-use Rattle.std.specs.List.{range_with_len}
-use Rattle.std.proofs.Common.{refl, ap, sym, ◌∙◌, arith, add-one, inl, inr, length-set}
+use Rattle.std.specs.Prelude.{◌≡◌, ℕ, ◌+◌, ◌-◌, ◌*◌, ◌/◌, ◌%◌, ◌<◌, ◌≤◌, ◌≢◌, ◌==◌, false, List, [], ◌∷◌, length, set}
+use Rattle.std.proofs.Common.{refl, ◌∙◌, arith, inl, inr, length-set}
 use Rattle.std.proofs.lemmas.Bool.{cases_eq, cases_lt}
-use Rattle.std.proofs.lemmas.Bool.Decides.{nat_tests}
-use Rattle.std.proofs.lemmas.List.FromFn.{fill_by_all}
 use Rattle.agc_word.specs.Number.{Number, pattern_of}
-use Rattle.agc_store.specs.Memory.{nothing, fixed_at}
-use Rattle.agc_store.specs.Cells.{narrow_number}
-use Rattle.agc_store.specs.RopeFile.{file_word, first_bad, first_words, is_bad_parity, parity_fault, rope_fault_of, rope_word_at}
+use Rattle.agc_store.specs.Memory.{fixed_at}
+use Rattle.agc_store.specs.RopeFile.{file_word}
 use Rattle.agc_store.specs.declared.rope_file.RopeForm.{RopeForm}
-use Rattle.agc_store.specs.declared.rope_file.RopeForm.TheVariants as form
-use Rattle.agc_rope_text.specs.Laws.{has_line, named_word, words_below}
-use Rattle.agc_rope_text.specs.Weave.{woven_bits, woven_file, woven_index, woven_on, woven_with}
+use Rattle.agc_rope_text.specs.Laws.{named_word}
+use Rattle.agc_rope_text.specs.Weave.{woven_bits, woven_index, woven_on, woven_with}
 use Rattle.agc_rope_text.specs.declared.line.Named.{Named}
-use Rattle.agc_rope_text.proofs.FileWords.{file_bits, good_parity, half_back, index_apart, index_below, length_on, on_word, put_at, put_beside, zeros}
-use Rattle.agc_rope_text.proofs.LineBack.{narrow_back, pattern_fits}
+use Rattle.agc_rope_text.proofs.FileWords.{file_bits, index_apart, index_below, length_on, on_word, put_at, put_beside, zeros}
 
 -- a file that holds the words of the first so many places, and no other
 pub record Holds (form : RopeForm) (words : List Number) (count : ℕ) (bytes : List ℕ) : Type 0 where

@@ -4,6 +4,8 @@ pub mod LineBack
 pub mod LinesBack
 pub mod Listings
 pub mod Octals
+pub mod OrderPrints
+pub mod PlaceBack
 pub mod Prints
 pub mod RopeBack
 pub mod RopeLines

@@ -1,6 +1,6 @@
 -- A listed line names its place and its word.
-use Rattle.std.specs.Prelude.{◌≡◌, ℕ, zero, suc, ◌+◌, ◌-◌, ◌*◌, ◌/◌, ◌%◌, ◌^◌, ◌<◌, ◌==◌, nat_lt, nat_le, Bool, true, false, not, ◌&&◌, List, [], ◌∷◌, ◌++◌, length, take, drop, position, codes, filter, Option, Some, None, Ok, if◌then◌else◌}
-use Rattle.std.specs.List.{list_all, slice_split}
+use Rattle.std.specs.Prelude.{◌≡◌, ℕ, ◌^◌, ◌<◌, Bool, true, false, List, [], ◌∷◌, ◌++◌, codes, Some, Ok}
+use Rattle.std.specs.List.{list_all}
 use Rattle.std.proofs.Common.{refl, ap, ◌∙◌, arith, append_assoc}
 use Rattle.std.proofs.lemmas.Bool.Decides.{nat_tests}
 use Rattle.std.proofs.lemmas.List.Splits.{slice_split_at}
@@ -8,13 +8,14 @@ use Rattle.agc_word.specs.Number.{Number, pattern_of}
 use Rattle.agc_word.specs.Octal.{octal_digits}
 use Rattle.agc_store.specs.Cells.{narrow_number}
 use Rattle.agc_script.specs.Text.{is_blank, is_empty_part, words_of}
-use Rattle.agc_rope_text.specs.Line.{is_comma, is_hash, line_named, place_checked, place_named, word_named, words_named}
-use Rattle.agc_rope_text.specs.List.{line_text, listed_address, listed_place}
+use Rattle.agc_rope_text.specs.Line.{line_named, word_named, words_named}
+use Rattle.agc_rope_text.specs.List.{line_text, listed_place}
 use Rattle.agc_rope_text.specs.Order.{order_text}
 use Rattle.agc_rope_text.specs.Place.{place_text}
-use Rattle.agc_rope_text.specs.declared.line.Named.{Named}
 use Rattle.agc_rope_text.proofs.Octals.{octal_back}
-use Rattle.agc_rope_text.proofs.Prints.{all_text, both, digits_are_solid, digits_print, is_solid, no_blank, order_prints, place_passes, prints}
+use Rattle.agc_rope_text.proofs.OrderPrints.{order_prints}
+use Rattle.agc_rope_text.proofs.PlaceBack.{place_back, place_is_no_comment, place_is_some}
+use Rattle.agc_rope_text.proofs.Prints.{all_text, both, digits_are_solid, digits_print, is_solid, no_blank, place_passes, prints}
 
 -- a line without its line feed
 abbrev pub line_body : ℕ → Bool → Number → List ℕ
@@ -60,61 +61,12 @@ first_words : (place digits rest : List ℕ) → list_all is_solid place ≡ tru
 first_words place digits rest solid some solid_digits some_digits =
     simp append_assoc (word_at place (digits ++ 0x20 ∷ rest) solid some ∙ ap (λ (ws : List (List ℕ)). place ∷ ws) (word_at digits rest solid_digits some_digits))
 
--- the place's text is no comment, and the comma stands behind two digits
-first_digit : (n : ℕ) → (48 + n % 8 == 0x23) ≡ false
-first_digit n = grind (arith, nat_tests)
-
-no_comma : (n : ℕ) → is_comma (48 + n % 8) ≡ false
-no_comma n = grind (arith, nat_tests)
-
-place_is_no_comment : (place : ℕ) → is_hash (place_text (listed_place place)) ≡ false
-unfolding octal_digits
-place_is_no_comment place = first_digit (place / 0o2000 / 8)
-
-place_is_some : (place : ℕ) → is_empty_part (place_text (listed_place place)) ≡ false
-unfolding octal_digits
-place_is_some place = refl
-
+-- a word in print is not empty
 digits_are_some : (n : ℕ) → is_empty_part (octal_digits 5 n) ≡ false
 unfolding octal_digits
 digits_are_some n = refl
 
-comma_at : (a b : ℕ) (rest : List ℕ) → is_comma a ≡ false → is_comma b ≡ false → position is_comma (a ∷ b ∷ 0x2C ∷ rest) ≡ Some 2
-comma_at a b rest ha hb = grind (arith, nat_tests)
-
-comma_of : (place : ℕ) → position is_comma (place_text (listed_place place)) ≡ Some 2
-unfolding octal_digits
-comma_of place =
-    comma_at (48 + place / 0o2000 / 8 % 8) (48 + place / 0o2000 % 8) (octal_digits 4 (listed_address place)) (no_comma (place / 0o2000 / 8)) (no_comma (place / 0o2000))
-
-before_comma : (place : ℕ) → take 2 (place_text (listed_place place)) ≡ octal_digits 2 (place / 0o2000)
-unfolding octal_digits
-before_comma place = refl
-
-behind_comma : (place : ℕ) → drop 3 (place_text (listed_place place)) ≡ octal_digits 4 (listed_address place)
-unfolding octal_digits
-behind_comma place = refl
-
--- the bank and the address are the place's
-address_fits : (place : ℕ) → place < 0o110000 → listed_address place < 8 ^ 4
-unfolding listed_address
-address_fits place h = grind (arith, nat_tests)
-
-place_again : (place : ℕ) → 0o2000 * (place / 0o2000) + listed_address place % 0o2000 ≡ place
-unfolding listed_address
-place_again place = grind (arith, nat_tests)
-
-checked : (place again address : ℕ) → place < 0o110000 → again ≡ place → address ≡ listed_address place → place_checked again address ≡ Some place
-checked place again address h same listed = rw (same, listed) (grind (arith, nat_tests))
-
-pub place_back : (place : ℕ) → place < 0o110000 → place_named (place_text (listed_place place)) ≡ Some place
-unfolding place_named
-place_back place h =
-    let bank = octal_back 2 (place / 0o2000) (omega arith) (omega arith) in
-    let address = octal_back 4 (listed_address place) (omega arith) (address_fits place h) in
-    rw (comma_of place, before_comma place, behind_comma place, bank, address)
-    (checked place (0o2000 * (place / 0o2000) + listed_address place % 0o2000) (listed_address place) h (place_again place) refl)
-
+-- the word in print reads back as the word
 word_back : (place : ℕ) (word : Number) (comment : List (List ℕ)) → word.magnitude < 2 ^ 14
     → word_named place (octal_digits 5 (pattern_of 15 word) ∷ comment) ≡ Ok (Some (record { place = place; word = word }))
 unfolding word_named

@@ -1,13 +1,13 @@
 -- The lines of a rope's text are cut as they were listed, and say the words that they list.
-use Rattle.std.specs.Prelude.{◌≡◌, ℕ, zero, suc, ◌+◌, ◌-◌, ◌*◌, ◌^◌, ◌<◌, ◌≤◌, ◌≢◌, ◌==◌, Bool, true, false, not, ◌&&◌, ◌||◌, List, [], ◌∷◌, ◌++◌, length, map, filter, Option, Some, None, Ok, if◌then◌else◌}
-use Rattle.std.specs.List.{flat_map, list_all, list_any, range_with_len, slice_split}
+use Rattle.std.specs.Prelude.{◌≡◌, ℕ, zero, suc, ◌+◌, ◌-◌, ◌^◌, ◌<◌, ◌≤◌, ◌==◌, Bool, true, false, List, [], ◌∷◌, ◌++◌, length, map, filter, Some, None, Ok}
+use Rattle.std.specs.List.{flat_map, list_all, range_with_len, slice_split}
 use Rattle.std.specs.Str.Lines.{strip_carriage_return}
 use Rattle.std.proofs.Common.{refl, ap, sym, ◌∙◌, arith, get_or, append_assoc, append-nil, ne_eqb}
 use Rattle.std.proofs.lemmas.Bool.Decides.{nat_tests}
 use Rattle.std.proofs.lemmas.List.Folds.{list_any-append}
 use Rattle.std.proofs.lemmas.List.Splits.{length-slice_split, slice_split_at}
 use Rattle.std.proofs.lemmas.List.Sums.{AllPass-from_list_all}
-use Rattle.agc_word.specs.Number.{Number, pattern_of}
+use Rattle.agc_word.specs.Number.{Number}
 use Rattle.agc_store.specs.Memory.{fixed_at}
 use Rattle.agc_script.specs.Text.{is_line_feed, lines_of, without_empty_end}
 use Rattle.agc_rope_text.specs.Laws.{has_line, named_word}
@@ -70,7 +70,7 @@ said_more words place n said rest inside narrow has none =
     let word = fixed_at place words in
     let line = line_body place extracode word in
     let cut : lines_of (listed_line None words place ++ rest) ≡ line ∷ lines_of rest =
-      rw (some_text words place has) (ap lines_of (append_assoc line (0x0A ∷ []) rest) ∙ lines_more line rest (line_prints place extracode word)) in
+    rw (some_text words place has) (ap lines_of (append_assoc line (0x0A ∷ []) rest) ∙ lines_more line rest (line_prints place extracode word)) in
     rw cut (next_said n said line (lines_of rest) (Some (named_word words place)) (unnamed said line (named_word words place) (line_back place extracode word inside narrow) none))
 
 -- places from one on that are not named

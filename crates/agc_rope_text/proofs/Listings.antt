@@ -1,6 +1,6 @@
 -- What `list` prints of a whole rope weaves to a rope with the same words.
-use Rattle.std.specs.Prelude.{◌≡◌, ◌≢◌, ℕ, ◌^◌, ◌<◌, ◌≤◌, All, List, [], get_or, length, Option, None, Result, Ok, Err}
-use Rattle.std.proofs.Common.{refl, ◌∙◌, sym, arith, inl, inr}
+use Rattle.std.specs.Prelude.{◌≡◌, ◌≢◌, ℕ, ◌^◌, ◌<◌, ◌≤◌, All, List, [], get_or, length, None, Ok, Err}
+use Rattle.std.proofs.Common.{refl, arith, inl, inr}
 use Rattle.std.proofs.lemmas.Bool.{cases_lt}
 use Rattle.std.proofs.lemmas.Bool.Decides.{nat_tests}
 use Rattle.std.proofs.lemmas.List.{get_or_past}
@@ -8,7 +8,7 @@ use Rattle.std.proofs.lemmas.List.Elements.{All-get_or, All-map}
 use Rattle.std.specs.List.{range_with_len}
 use Rattle.agc_word.specs.Number.{Number}
 use Rattle.agc_store.specs.Memory.{nothing, fixed_at}
-use Rattle.agc_store.specs.RopeFile.{first_words, rope_fault_of, rope_word_at, rope_words}
+use Rattle.agc_store.specs.RopeFile.{first_words, rope_word_at, rope_words}
 use Rattle.agc_store.specs.declared.rope_file.RopeForm.{RopeForm}
 use Rattle.agc_store.proofs.RopeWords.{length_first_words}
 use Rattle.agc_rope_text.specs.Laws.{AreRopeWords, IsRopeOf, words_below, words_listed}
@@ -16,7 +16,6 @@ use Rattle.agc_rope_text.specs.List.{listed_lines, rope_text}
 use Rattle.agc_rope_text.specs.Weave.{IsWovenOf, said_in, woven_file}
 use Rattle.agc_rope_text.specs.declared.fault.WeaveFault.{WeaveFault}
 use Rattle.agc_rope_text.specs.declared.fault.WeaveFault.TheVariants as weave
-use Rattle.agc_rope_text.specs.declared.line.Named.{Named}
 use Rattle.agc_rope_text.proofs.LinesBack.{said_range}
 use Rattle.agc_rope_text.proofs.RopeBack.{accepted, first_words_back, holds_all}
 

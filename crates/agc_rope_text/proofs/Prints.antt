@@ -1,26 +1,17 @@
 -- The bytes of a listed line: all of them print, and its first two words have no blank.
-use Rattle.std.specs.Prelude.{◌≡◌, ℕ, ◌+◌, ◌/◌, ◌<◌, ◌==◌, nat_lt, nat_le, Bool, true, false, not, ◌&&◌, List, ◌++◌, codes}
+use Rattle.std.specs.Prelude.{◌≡◌, ℕ, ◌+◌, ◌/◌, ◌<◌, nat_lt, nat_le, Bool, true, false, not, ◌&&◌, List, ◌++◌, codes}
 use Rattle.std.specs.List.{list_all, list_any, All}
-use Rattle.std.proofs.Common.{refl, ◌∙◌, arith}
+use Rattle.std.proofs.Common.{◌∙◌, arith}
 use Rattle.std.proofs.lemmas.Bool.{and_from}
 use Rattle.std.proofs.lemmas.Bool.Decides.{nat_tests}
 use Rattle.std.proofs.lemmas.List.Elements.{All-weaker}
 use Rattle.std.proofs.lemmas.List.Folds.{list_all-append, list_any_none}
 use Rattle.std.proofs.lemmas.List.Sums.{AllPass-from_list_all}
-use Rattle.agc_word.specs.Number.{Number, pattern_of}
 use Rattle.agc_word.specs.Octal.{octal_digits}
-use Rattle.agc_order.specs.Order.{basic_of, extracode_of}
-use Rattle.agc_order.specs.declared.order.Basic.{Basic}
-use Rattle.agc_order.specs.declared.order.Basic.TheVariants as basic
-use Rattle.agc_order.specs.declared.order.Extracode.{Extracode}
-use Rattle.agc_order.specs.declared.order.Extracode.TheVariants as extra
 use Rattle.agc_script.specs.Text.{is_blank, is_line_feed}
 use Rattle.agc_rope_text.specs.Line.{is_no_text}
 use Rattle.agc_rope_text.specs.List.{listed_address, listed_place}
-use Rattle.agc_rope_text.specs.Order.{basic_mnemonic, basic_operand, basic_text, extracode_mnemonic, extracode_operand, extracode_text, operand_text, order_text}
 use Rattle.agc_rope_text.specs.Place.{place_text}
-use Rattle.agc_rope_text.specs.declared.order.Operand.{Operand}
-use Rattle.agc_rope_text.specs.declared.order.Operand.TheVariants as operand
 use Rattle.agc_rope_text.proofs.Octals.{all_octal}
 
 -- a byte that prints in ASCII
@@ -45,64 +36,6 @@ digits_print width n = all_octal prints digit_prints width n
 
 pub digits_are_solid : (width n : ℕ) → list_all is_solid (octal_digits width n) ≡ true
 digits_are_solid width n = all_octal is_solid digit_is_solid width n
-
-operand_prints : (o : Operand) → list_all prints (operand_text o) ≡ true
-operand_prints operand.Nothing = refl
-operand_prints (operand.Address address) = both prints (codes " ") (octal_digits 4 address) refl (digits_print 4 address)
-operand_prints (operand.Channel channel) = both prints (codes " ") (octal_digits 3 channel) refl (digits_print 3 channel)
-
-basic_prints : (b : Basic) → list_all prints (basic_mnemonic b) ≡ true
-basic_prints basic.Tc = refl
-basic_prints basic.Relint = refl
-basic_prints basic.Inhint = refl
-basic_prints basic.Extend = refl
-basic_prints basic.Ccs = refl
-basic_prints basic.Tcf = refl
-basic_prints basic.Das = refl
-basic_prints basic.Lxch = refl
-basic_prints basic.Incr = refl
-basic_prints basic.Ads = refl
-basic_prints basic.Ca = refl
-basic_prints basic.Cs = refl
-basic_prints basic.Index = refl
-basic_prints basic.Resume = refl
-basic_prints basic.Dxch = refl
-basic_prints basic.Ts = refl
-basic_prints basic.Xch = refl
-basic_prints basic.Ad = refl
-basic_prints basic.Mask = refl
-
-extracode_prints : (e : Extracode) → list_all prints (extracode_mnemonic e) ≡ true
-extracode_prints extra.Read = refl
-extracode_prints extra.Write = refl
-extracode_prints extra.Rand = refl
-extracode_prints extra.Wand = refl
-extracode_prints extra.Ror = refl
-extracode_prints extra.Wor = refl
-extracode_prints extra.Rxor = refl
-extracode_prints extra.Edrupt = refl
-extracode_prints extra.Dv = refl
-extracode_prints extra.Bzf = refl
-extracode_prints extra.Msu = refl
-extracode_prints extra.Qxch = refl
-extracode_prints extra.Aug = refl
-extracode_prints extra.Dim = refl
-extracode_prints extra.Dca = refl
-extracode_prints extra.Dcs = refl
-extracode_prints extra.Index = refl
-extracode_prints extra.Su = refl
-extracode_prints extra.Bzmf = refl
-extracode_prints extra.Mp = refl
-
--- an order's text prints
-pub order_prints : (extracode : Bool) (word : Number) → list_all prints (order_text extracode word) ≡ true
-unfolding basic_text extracode_text
-order_prints true word =
-    let p = pattern_of 15 word in
-    both prints (extracode_mnemonic (extracode_of p)) (operand_text (extracode_operand (extracode_of p) p)) (extracode_prints (extracode_of p)) (operand_prints (extracode_operand (extracode_of p) p))
-order_prints false word =
-    let p = pattern_of 15 word in
-    both prints (basic_mnemonic (basic_of p)) (operand_text (basic_operand (basic_of p) p)) (basic_prints (basic_of p)) (operand_prints (basic_operand (basic_of p) p))
 
 -- a place's text passes where digits and a comma do
 pub place_passes : (test : ℕ → Bool) → ((width n : ℕ) → list_all test (octal_digits width n) ≡ true) → list_all test (codes ",") ≡ true → (place : ℕ) → list_all test (place_text (listed_place place)) ≡ true

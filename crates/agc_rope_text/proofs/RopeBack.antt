@@ -1,5 +1,5 @@
 -- The file of a rope's words is accepted, and its words are the rope's.
-use Rattle.std.specs.Prelude.{◌≡◌, ℕ, zero, suc, ◌+◌, ◌*◌, ◌/◌, ◌%◌, ◌^◌, ◌<◌, ◌≤◌, ◌==◌, nat_lt, Bool, true, false, not, List, [], ◌∷◌, ◌++◌, length, get_or, map, filter, find, fold, Option, Some, None, if◌then◌else◌}
+use Rattle.std.specs.Prelude.{◌≡◌, ℕ, zero, suc, ◌+◌, ◌/◌, ◌%◌, ◌^◌, ◌<◌, ◌≤◌, ◌==◌, nat_lt, Bool, true, false, not, List, [], ◌∷◌, ◌++◌, length, map, filter, find, fold, None}
 use Rattle.std.specs.List.{range_with_len}
 use Rattle.std.proofs.Common.{refl, ap, sym, ◌∙◌, arith, add-one, zero-add, ne_eqb, le-ltb}
 use Rattle.std.proofs.lemmas.Bool.Decides.{nat_tests}

@@ -1,6 +1,6 @@
 -- The law that a rope's text weaves to the words that it lists.
 use Rattle.std.specs.Prelude.{◌≡◌, ℕ, ◌^◌, ◌<◌, ◌==◌, Bool, not, All, List, length, map, filter}
-use Rattle.std.specs.Prelude.{Option, None}
+use Rattle.std.specs.Prelude.{None}
 use Rattle.std.specs.List.{range_with_len}
 use Rattle.agc_word.specs.Number.{Number, pattern_of}
 use Rattle.agc_store.specs.Memory.{fixed_at}
