@@ -5,12 +5,12 @@ use Rattle.std.proofs.lemmas.Bool.{cases_lt}
 use Rattle.std.proofs.lemmas.Bool.Decides.{nat_tests}
 use Rattle.std.proofs.lemmas.List.{get_or_past}
 use Rattle.std.proofs.lemmas.List.Elements.{All-get_or, All-map}
+use Rattle.std.proofs.lemmas.List.FromFn.{length-map-range_with_len}
 use Rattle.std.specs.List.{range_with_len}
 use Rattle.agc_word.specs.Number.{Number}
 use Rattle.agc_store.specs.Memory.{nothing, fixed_at}
 use Rattle.agc_store.specs.RopeFile.{first_words, rope_word_at, rope_words}
 use Rattle.agc_store.specs.declared.rope_file.RopeForm.{RopeForm}
-use Rattle.agc_store.proofs.RopeWords.{length_first_words}
 use Rattle.agc_rope_text.specs.Laws.{AreRopeWords, IsRopeOf, words_below, words_listed}
 use Rattle.agc_rope_text.specs.List.{listed_lines, rope_text}
 use Rattle.agc_rope_text.specs.Weave.{IsWovenOf, said_in, woven_file}
@@ -38,9 +38,13 @@ unfolding first_words
 narrow_words count form bytes =
     All-map (λ (word : Number). word.magnitude < 2 ^ 14) (rope_word_at form bytes) (range_with_len 0 count) (λ k place inside. narrow_word form bytes (get_or (range_with_len 0 count) k place))
 
+length_words : (count : ℕ) (form : RopeForm) (bytes : List ℕ) → length (first_words count form bytes) ≡ count
+unfolding first_words
+length_words count form bytes = length-map-range_with_len (rope_word_at form bytes) 0 count
+
 pub are_rope_words : (form : RopeForm) (file : List ℕ) → AreRopeWords (rope_words form file)
 unfolding rope_words
-are_rope_words form file = record { count = length_first_words 0o110000 form file; narrow = narrow_words 0o110000 form file }
+are_rope_words form file = record { count = length_words 0o110000 form file; narrow = narrow_words 0o110000 form file }
 
 -- a listing says the words that it lists
 lines_said : (words : List Number) → ((place : ℕ) → (fixed_at place words).magnitude < 2 ^ 14) → (count : ℕ) → count ≤ 0o110000
