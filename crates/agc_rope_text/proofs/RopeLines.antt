@@ -9,7 +9,7 @@ use Rattle.agc_rope_text.specs.Order.{leads_extracode}
 use Rattle.agc_rope_text.specs.List.{begins_anew, is_extracode_at, listed_line, listed_lines, text_listed}
 
 -- one number more
-range_more : (a n : ℕ) → range_with_len a (suc n) ≡ range_with_len a n ++ (a + n) ∷ []
+pub range_more : (a n : ℕ) → range_with_len a (suc n) ≡ range_with_len a n ++ (a + n) ∷ []
 range_more a zero = ap (λ (k : ℕ). k ∷ []) (omega arith)
 range_more a (suc n) =
     let shift : a + 1 + n ≡ a + suc n = omega arith in

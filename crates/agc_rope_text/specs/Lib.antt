@@ -3,3 +3,4 @@ pub mod Order
 pub mod List
 pub mod Line
 pub mod Weave
+pub mod Laws

@@ -2,6 +2,7 @@
 #![tactic(auto)]
 
 mod fault;
+mod laws;
 mod line;
 mod listed;
 mod loom;
@@ -10,6 +11,7 @@ mod place;
 mod weaving;
 
 pub use fault::{LineFault, WeaveFault};
+pub use laws::{files_say_rope_words, listings_say_their_words, words_listed_make_the_rope};
 pub use listed::list;
 pub use order::{
     Operand, basic_mnemonic, basic_operand, extracode_mnemonic, extracode_operand, leads_extracode,

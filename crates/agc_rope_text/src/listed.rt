@@ -20,7 +20,8 @@ use std::alloc::{AllocError, Global};
 
 /// The text of the rope in a store: a line `bb,oooo wwwww MNEMONIC operand` for each word that is
 /// not +0, in the order of the banks, of all banks or of one, 00 to 43 octal. A word after EXTEND, or
-/// after INDEX as an extracode, stands as an extracode. Fails where memory runs out.
+/// after INDEX as an extracode, stands as an extracode. `weave` makes a rope with the same words of
+/// the text of all banks. Fails where memory runs out.
 #[tactic(auto, unfolding(crate::specs::List::rope_text))]
 pub fn list(alloc: Global, store: &Store, bank: Option<u8>) -> Result<String, AllocError>
     ensures { IfOk result (λ text. string_bytes text ≡ rope_text bank store.now.fixed) }

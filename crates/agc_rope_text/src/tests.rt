@@ -1,7 +1,14 @@
 //! Words and places of the instruction memos, as their listings print them.
-use crate::{LineFault, Place, WeaveFault, list, push_order, push_place, weave};
+ghost use Rattle.std.specs.Prelude.{◌≡◌, IfOk};
+ghost use Rattle.agc_store.specs.RopeFile.{rope_words};
+
+use crate::{
+    LineFault, Place, WeaveFault, files_say_rope_words, list, listings_say_their_words, push_order,
+    push_place, weave, words_listed_make_the_rope,
+};
 use agc_store::{Rope, RopeForm, Store};
 use agc_word::Narrow;
+use std::alloc::Global;
 use std::test::Fail;
 
 #[test]
@@ -94,6 +101,54 @@ fn a_listing_weaves_to_its_words(rt: HostRuntime) -> Result<(), Fail> {
         assert_eq!(rt; woven_and_listed(&rt, form, text)?.as_str(), text);
     }
     Ok(())
+}
+
+/// The rope of a file, listed, woven in another form and read again: it has the words of the file.
+fn rope_by_its_listing(
+    alloc: Global,
+    source: RopeForm,
+    file: &[u8],
+    form: RopeForm,
+) -> Result<Rope, Fail>
+    ensures { IfOk result (λ rope. rope ≡ rope_words source file.now) }
+{
+    files_say_rope_words();
+    let store = Store::new(Rope::read_as(alloc, source, file)?);
+    let text = list(alloc, &store, None)?;
+    let woven = weave(alloc, form, text.as_bytes())?;
+    let rope = Rope::read_as(alloc, form, woven.as_slice())?;
+    Ok(rope)
+}
+
+/// A rope comes back from its listing, from each form to each: +0 and -0, both ends of a bank, and
+/// banks that the forms hold in another order.
+#[test]
+fn ropes_come_back_from_their_listings(rt: HostRuntime) -> Result<(), Fail> {
+    let alloc = rt.alloc();
+    let text = "00,2000 77777 MASK 7777
+00,3777 00001 TC 0001
+02,4001 34004 CA 4004
+03,7777 77777 MASK 7777
+";
+    for source in [RopeForm::Classic, RopeForm::Parity] {
+        let file = weave(alloc, source, text.as_bytes())?;
+        for form in [RopeForm::Classic, RopeForm::Parity] {
+            let rope = rope_by_its_listing(alloc, source, file.as_slice(), form)?;
+            let store = Store::new(rope);
+            assert_eq!(rt; list(alloc, &store, None)?.as_str(), text);
+            assert_eq!(rt; store.fixed(0, 0).bits(), 0o77777);
+            assert_eq!(rt; store.fixed(0, 1).bits(), 0);
+        }
+    }
+    Ok(())
+}
+
+/// The laws are calls that do nothing.
+#[test]
+fn laws() {
+    files_say_rope_words();
+    listings_say_their_words();
+    words_listed_make_the_rope();
 }
 
 /// Comments, empty lines, addresses without a bank, and lines in any order.

@@ -1,6 +1,8 @@
 //! From a rope's text to the words that it names, and to a rope file.
-ghost use Rattle.std.specs.Prelude.{◌≡◌, ◌≢◌, ◌<◌, Ok, Err, IfOk, IfErr, OnOk};
-ghost use Rattle.agc_word.specs.Number.{pattern_of};
+ghost use Rattle.std.specs.Prelude.{◌≡◌, ◌≢◌, ◌<◌, List, None, Ok, Err, IfOk, IfErr, MatchResult, OnOk};
+ghost use Rattle.agc_word.specs.Number.{Number, pattern_of};
+ghost use Rattle.agc_rope_text.specs.Laws.{AreRopeWords, IsRopeOf};
+ghost use Rattle.agc_rope_text.specs.List.{rope_text};
 ghost use Rattle.agc_rope_text.specs.Weave.{
   ArePlaces,
   IsWovenOf,
@@ -27,6 +29,10 @@ use std::alloc::{AllocError, Global};
 pub fn weave(alloc: Global, form: RopeForm, text: &[u8]) -> Result<Vec<u8>, WeaveFault>
     ensures file { IfOk result (λ bytes. IsWovenOf form text.now bytes.items) }
     ensures fault { IfErr result (λ fault. fault ≢ Memory → said_in text.now ≡ Err fault) }
+
+    // The text of a whole rope weaves to a rope with the same words.
+    ensures listing { (words : List Number) → AreRopeWords words → text.now ≡ rope_text None words
+        → MatchResult result (λ bytes. IsRopeOf form words bytes.items) (λ fault. fault ≡ Memory) }
 {
     let loom = read_text(alloc, text)?;
     match file_of(alloc, form, loom.words()) {
