@@ -1,7 +1,7 @@
 -- Which boundaries of a run have a line: those that begin in a range of cycles, all of them or
 -- those of one kind.
-use Rattle.std.specs.Prelude.{ℕ, ◌+◌, ◌%◌, ◌==◌, ◌&&◌, ◌||◌, not, Bool, true, false, nat_le, is_some}
-use Rattle.std.specs.Prelude.{List, filter, flat_map, Option, Some, None}
+use Rattle.std.specs.Prelude.{ℕ, ◌+◌, ◌%◌, ◌==◌, ◌&&◌, ◌||◌, not, Bool, true, false, nat_le}
+use Rattle.std.specs.Prelude.{List, filter, flat_map, Option, Some, None, is_some}
 use Rattle.agc_word.specs.Number.{pattern_of}
 use Rattle.agc_order.specs.Order.{basic_of}
 use Rattle.agc_order.specs.declared.order.Basic.{Basic}
