@@ -16,6 +16,8 @@ mod reel;
 mod tests;
 
 pub use frame::Frame;
+pub use page::HEAD;
+pub use page_script::TAIL;
 pub use page_text::{push_film, push_film_pair};
 pub use parting::first_difference;
 pub use press::{Button, Press, presses};

@@ -1,7 +1,7 @@
 //! The page up to its runs: its layout and its controls, without anything from outside.
 
 /// What stands before the runs.
-pub(crate) const HEAD: &str = "<!doctype html>
+pub const HEAD: &str = "<!doctype html>
 <html lang='en'>
 <head>
 <meta charset='utf-8'>

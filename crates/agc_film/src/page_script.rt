@@ -1,7 +1,7 @@
 //! The page behind its runs: the script that reads them and shows them over the time.
 
 /// What stands behind the runs.
-pub(crate) const TAIL: &str = "<script>
+pub const TAIL: &str = "<script>
 'use strict';
 const CYCLES_A_SECOND = 1024000 / 12;
 const LINE = String.fromCharCode(10);

@@ -4,3 +4,4 @@ pub mod Checked
 pub mod Started
 pub mod Ended
 pub mod Compared
+pub mod Filmed

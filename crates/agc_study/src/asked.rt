@@ -18,6 +18,7 @@ pub enum Asked {
     Check(Checking),
     Trace(Tracing),
     Compare(Comparing),
+    Film(Filming),
 }
 
 /// A rope file to list, or one bank of it.
@@ -69,6 +70,25 @@ pub struct Comparing {
     pub until: Option<String>,
 }
 
+/// A run to film, or two side by side.
+#[derive(Debug, Drop)]
+pub struct Filming {
+    pub rope: String,
+    pub script: String,
+    pub other: Option<OtherRun>,
+    pub form: RopeForm,
+    pub limit: u64,
+    /// The text of `--until`.
+    pub until: Option<String>,
+}
+
+/// The files of the run on the right.
+#[derive(Debug, Drop)]
+pub struct OtherRun {
+    pub rope: String,
+    pub script: String,
+}
+
 /// What the words of a command line ask for, the program's own name first.
 pub fn asked_by<'a>(alloc: Global, words: &'a [&'a str]) -> Result<Asked, ArgsFault> {
     let command = command(alloc)?;
@@ -86,7 +106,8 @@ fn command<'a>(alloc: Global) -> Result<Command<'a>, AllocError> {
         .subcommand(weave_command(alloc)?)?
         .subcommand(check_command(alloc)?)?
         .subcommand(trace_command(alloc)?)?
-        .subcommand(compare_command(alloc)?)
+        .subcommand(compare_command(alloc)?)?
+        .subcommand(film_command(alloc)?)
 }
 
 fn list_command<'a>(alloc: Global) -> Result<Command<'a>, AllocError> {
@@ -132,28 +153,37 @@ fn compare_command<'a>(alloc: Global) -> Result<Command<'a>, AllocError> {
         .about("Runs two ropes with two scripts, and tells where the runs part.")
         .arg(rope_file(alloc))?
         .arg(script_file(alloc))?
-        .arg(other_file(
-            alloc,
-            "other-rope",
-            "ROPE",
-            "The rope file of the other run",
-        ))?
-        .arg(other_file(
-            alloc,
-            "other-script",
-            "SCRIPT",
-            "The script file of the other run",
-        ))?
+        .arg(other_rope(alloc).required(true))?
+        .arg(other_script(alloc).required(true))?
         .arg(limit_option(alloc))?
         .arg(form_option(alloc))?
         .arg(until_option(alloc))
 }
 
-fn other_file<'a>(alloc: Global, id: &'a str, name: &'a str, help: &'a str) -> Arg<'a> {
-    Arg::new(alloc, id)
-        .value_name(name)
-        .required(true)
-        .help(help)
+fn film_command<'a>(alloc: Global) -> Result<Command<'a>, AllocError> {
+    Command::new(alloc, "film")
+        .about(
+            "Prints a page for a browser that shows the DSKY over the time of a run, or of two runs.",
+        )
+        .arg(rope_file(alloc))?
+        .arg(script_file(alloc))?
+        .arg(other_rope(alloc))?
+        .arg(other_script(alloc))?
+        .arg(limit_option(alloc))?
+        .arg(form_option(alloc))?
+        .arg(until_option(alloc))
+}
+
+fn other_rope<'a>(alloc: Global) -> Arg<'a> {
+    Arg::new(alloc, "other-rope")
+        .value_name("ROPE")
+        .help("The rope file of the other run")
+}
+
+fn other_script<'a>(alloc: Global) -> Arg<'a> {
+    Arg::new(alloc, "other-script")
+        .value_name("SCRIPT")
+        .help("The script file of the other run")
 }
 
 fn script_file<'a>(alloc: Global) -> Arg<'a> {
@@ -261,6 +291,9 @@ fn asked_as(alloc: Global, name: &str, given: &ArgMatches<'_>) -> Result<Asked, 
     if name == "compare" {
         return Ok(Asked::Compare(comparing_of(alloc, given)?));
     }
+    if name == "film" {
+        return Ok(Asked::Film(filming_of(alloc, given)?));
+    }
     Ok(Asked::Weave(Weaving {
         text: path_of(alloc, given, "text")?,
         form,
@@ -292,6 +325,32 @@ fn comparing_of(alloc: Global, given: &ArgMatches<'_>) -> Result<Comparing, Allo
         limit: number_of(given, "limit", 0),
         until: text_of(alloc, given, "until")?,
     })
+}
+
+fn filming_of(alloc: Global, given: &ArgMatches<'_>) -> Result<Filming, ArgsFault> {
+    Ok(Filming {
+        rope: path_of(alloc, given, "rope")?,
+        script: path_of(alloc, given, "script")?,
+        other: other_run_of(alloc, given)?,
+        form: form_of(given),
+        limit: number_of(given, "limit", 0),
+        until: text_of(alloc, given, "until")?,
+    })
+}
+
+/// The files of the other run, of which there are both or none.
+fn other_run_of(alloc: Global, given: &ArgMatches<'_>) -> Result<Option<OtherRun>, ArgsFault> {
+    match (given.get_str("other-rope"), given.get_str("other-script")) {
+        (Some(rope), Some(script)) => Ok(Some(OtherRun {
+            rope: String::from_str(alloc, rope)?,
+            script: String::from_str(alloc, script)?,
+        })),
+        (None, None) => Ok(None),
+        (Some(_), None) | (None, Some(_)) => Err(ArgsFault::Command(String::from_str(
+            alloc,
+            "error: the other run needs a SCRIPT beside its ROPE\n",
+        )?)),
+    }
 }
 
 /// The number of an option, or this one where it is not given.

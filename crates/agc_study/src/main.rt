@@ -1,6 +1,6 @@
 //! `agc-study`: looks inside ropes and runs. `list` prints a rope's words as orders, `weave` makes a
 //! rope of such a text, `check` tells what is wrong with a rope and a script, `trace` prints what a run
-//! does, boundary by boundary, and `compare` tells where two runs part.
+//! does, boundary by boundary, `compare` tells where two runs part, and `film` shows the display over their time.
 #![tactic(auto)]
 
 ghost use Rattle.std.specs.Prelude.{◌≡◌, ◌≢◌, ◌⊎◌, ◌<◌, true, false};
@@ -13,6 +13,7 @@ mod asked;
 mod checks;
 mod compares;
 mod files;
+mod films;
 mod ropes;
 mod runs;
 #[cfg(test)]
@@ -24,9 +25,10 @@ use agc_args::ArgsFault;
 use agc_check::Report;
 use agc_session::{DONE, InputFile, Refusal, UNWRITTEN, status_of};
 use agc_trace::{TraceFault, trace};
-use asked::{Asked, Checking, Comparing, Listing, Tracing, Weaving, asked_by};
+use asked::{Asked, Checking, Comparing, Filming, Listing, Tracing, Weaving, asked_by};
 use checks::check_files;
 use compares::{Told, compare_files};
+use films::{film_file_pairs, film_files};
 use ropes::{list_rope, weave_text};
 use runs::read_machine;
 use std::io::Write;
@@ -79,6 +81,7 @@ fn last_cycle(asked: &Result<Asked, ArgsFault>) -> u64 {
     match asked {
         Ok(Asked::Trace(tracing)) => tracing.limit.min(tracing.selection.to),
         Ok(Asked::Compare(comparing)) => comparing.limit,
+        Ok(Asked::Film(filming)) => filming.limit,
         Ok(Asked::List(_) | Asked::Weave(_) | Asked::Check(_)) | Err(_) => 0,
     }
 }
@@ -86,8 +89,8 @@ fn last_cycle(asked: &Result<Asked, ArgsFault>) -> u64 {
 /// Does what the command line asks for. With status 0 the answer, or the text of help, stands on
 /// `out` and nothing on `err`, and so does with status 1 the report of `check` on a file at fault, or that
 /// of `compare` on runs that are not the same; with status 2 one line on `err`, or clap's text of a
-/// mistake, and nothing on `out`. A write that fails gives status 3, and so does a trace that is cut off. How far a run has
-/// come is told beside that, to a progress that is wiped before the run's end is told.
+/// mistake, and nothing on `out`. A write that fails gives status 3, and so does a trace that is cut off.
+/// How far a run has come is told beside that, to a progress that is wiped before the run's end is told.
 fn run<R, W: Write, E: Write, P: Shown>(
     rt: &R,
     asked: Result<Asked, ArgsFault>,
@@ -108,6 +111,7 @@ where
         Ok(Asked::Check(checking)) => check_to(rt, &checking, out, err),
         Ok(Asked::Trace(tracing)) => trace_to(rt, &tracing, out, err, progress),
         Ok(Asked::Compare(comparing)) => compare_to(rt, &comparing, out, err, progress),
+        Ok(Asked::Film(filming)) => film_to(rt, &filming, out, err, progress),
         Err(ArgsFault::Help(text)) => status_of(DONE, out.write_all(text.as_bytes())),
         Err(ArgsFault::Command(text)) => status_of(TROUBLE, err.write_all(text.as_bytes())),
         Err(ArgsFault::Memory) => {
@@ -220,6 +224,52 @@ where
         Ok(told) => write_told(&told, out),
         Err(refusal) => status_of(TROUBLE, Trouble::Refused(refusal).write_to(err)),
     }
+}
+
+/// Films the run of a rope file and a script file, or the runs of two of each.
+fn film_to<R, W: Write, E: Write, P: Shown>(
+    rt: &R,
+    asked: &Filming,
+    out: &mut W,
+    err: &mut E,
+    progress: &mut P,
+) -> u8
+where
+    R: Files + AllocGlobal,
+    ensures ended { IsEnded result (W.contents out.old) (W.contents out.new)
+        (E.contents err.old) (E.contents err.new) }
+    ensures faulty { result ≢ 1 }
+{
+    let filmed = filmed(rt, asked, progress);
+    progress.wipe();
+    match filmed {
+        Ok(page) => status_of(DONE, out.write_all(page.as_bytes())),
+        Err(refusal) => status_of(TROUBLE, Trouble::Refused(refusal).write_to(err)),
+    }
+}
+
+/// The page that shows these runs.
+fn filmed<R, P: Shown>(rt: &R, asked: &Filming, progress: &mut P) -> Result<String, Refusal>
+where
+    R: Files + AllocGlobal,
+{
+    let alloc = rt.alloc();
+    let mut rope = InputFile::new(fs::open(rt, asked.rope.as_str()));
+    let mut script = InputFile::new(fs::open(rt, asked.script.as_str()));
+    let Some(other) = &asked.other else {
+        return film_files(alloc, asked, &mut rope, &mut script, progress);
+    };
+    let mut other_rope = InputFile::new(fs::open(rt, other.rope.as_str()));
+    let mut other_script = InputFile::new(fs::open(rt, other.script.as_str()));
+    film_file_pairs(
+        alloc,
+        asked,
+        &mut rope,
+        &mut script,
+        &mut other_rope,
+        &mut other_script,
+        progress,
+    )
 }
 
 /// Writes what is told of two runs: the status is 0 where they are the same, and 1 where they are not.

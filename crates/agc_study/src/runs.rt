@@ -37,7 +37,7 @@ pub fn read_machine<R: Read, S: Read>(
 
 /// The machine at the start of a run, where the text of `--until` and the limit are right.
 #[tactic(auto, unfolding(crate::specs::Started::start_steps))]
-fn started(
+pub fn started(
     rope: Rope,
     script: Script,
     limit: u64,

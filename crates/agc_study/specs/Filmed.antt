@@ -1,0 +1,46 @@
+-- The page that shows the runs of a rope and a script, or of two of each.
+use Rattle.std.specs.Prelude.{◌≡◌, ℕ, List, Option, Some, None, string_bytes}
+use Rattle.std.specs.declared.alloc.Global.{Global}
+use Rattle.std.specs.declared.string.String.{String}
+use Rattle.agc_store.specs.declared.rope_file.RopeForm.{RopeForm}
+use Rattle.agc_script.specs.Parse.{script_of}
+use Rattle.agc_machine.specs.Run.{run_of}
+use Rattle.agc_machine.specs.State.{State}
+use Rattle.agc_session.specs.Files.{events_in}
+use Rattle.agc_film.specs.Page.{film_text, film_pair_text}
+use Rattle.agc_film.specs.Presses.{presses_of}
+use Rattle.agc_film.specs.Reel.{ShowsRun}
+use Rattle.agc_film.specs.declared.reel.Reel.{Reel}
+use Rattle.agc_study.specs.Started.{IsStartedOf}
+use Rattle.agc_study.specs.declared.asked.Filming.{Filming}
+
+-- nothing is refused, and the reel shows the run of the files, with the keys of the script
+pub record IsFilmedOf (form : RopeForm) (until : Option (String Global)) (limit : ℕ)
+    (rope script : List ℕ) (reel : Reel) : Type 0 where
+  pub machine : State
+  pub start : IsStartedOf form until limit rope script machine
+  pub shows : ShowsRun (run_of machine) (presses_of (events_in (script_of script))) reel
+
+-- the same, as far as the readers of the files tell their bytes
+abbrev pub IsFilmed : Filming → Option (List ℕ) → Option (List ℕ) → Reel → Type 0
+IsFilmed asked None script reel = Unit {0}
+IsFilmed asked (Some rope) None reel = Unit {0}
+IsFilmed asked (Some rope) (Some script) reel =
+    IsFilmedOf asked.form asked.until asked.limit rope script reel
+
+-- the page of one run, between its constant head and tail
+pub record IsFilm (head tail : List ℕ) (asked : Filming) (rope script : Option (List ℕ))
+    (page : String Global) : Type 0 where
+  pub reel : Reel
+  pub filmed : IsFilmed asked rope script reel
+  pub text : string_bytes page ≡ film_text head tail reel
+
+-- the page of two runs side by side
+pub record IsFilmPair (head tail : List ℕ) (asked : Filming)
+    (left_rope left_script right_rope right_script : Option (List ℕ)) (page : String Global)
+    : Type 0 where
+  pub left : Reel
+  pub right : Reel
+  pub left_filmed : IsFilmed asked left_rope left_script left
+  pub right_filmed : IsFilmed asked right_rope right_script right
+  pub text : string_bytes page ≡ film_pair_text head tail left right

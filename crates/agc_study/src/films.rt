@@ -1,0 +1,68 @@
+//! Ropes and scripts to the page that shows their runs.
+ghost use Rattle.std.specs.Prelude.{IfOk};
+ghost use Rattle.agc_study.specs.Filmed.{IsFilm, IsFilmPair, IsFilmed};
+
+use crate::asked::Filming;
+use crate::files::{read_rope, read_script};
+use crate::runs::started;
+use agc_film::{HEAD, Reel, TAIL, film, presses, push_film, push_film_pair};
+use agc_progress::Progress;
+use agc_session::Refusal;
+use std::alloc::Global;
+use std::io::Read;
+
+/// Reads a rope and a script, and makes the page that shows their run.
+pub fn film_files<R: Read, S: Read, P: Progress>(
+    alloc: Global,
+    asked: &Filming,
+    rope: &mut R,
+    script: &mut S,
+    progress: &mut P,
+) -> Result<String, Refusal>
+    ensures { IfOk result (IsFilm HEAD.now TAIL.now asked.now
+        (R.remaining rope.old) (S.remaining script.old)) }
+{
+    let reel = read_reel(alloc, asked, rope, script, progress)?;
+    let mut page = String::new(alloc);
+    push_film(&mut page, &reel)?;
+    Ok(page)
+}
+
+/// Reads two ropes and two scripts, and makes the page that shows their runs side by side. The refusal is
+/// the first of the run on the left, or else of that on the right.
+pub fn film_file_pairs<R: Read, S: Read, T: Read, U: Read, P: Progress>(
+    alloc: Global,
+    asked: &Filming,
+    left_rope: &mut R,
+    left_script: &mut S,
+    right_rope: &mut T,
+    right_script: &mut U,
+    progress: &mut P,
+) -> Result<String, Refusal>
+    ensures { IfOk result (IsFilmPair HEAD.now TAIL.now asked.now
+        (R.remaining left_rope.old) (S.remaining left_script.old)
+        (T.remaining right_rope.old) (U.remaining right_script.old)) }
+{
+    let left = read_reel(alloc, asked, left_rope, left_script, progress)?;
+    let right = read_reel(alloc, asked, right_rope, right_script, progress)?;
+    let mut page = String::new(alloc);
+    push_film_pair(&mut page, &left, &right)?;
+    Ok(page)
+}
+
+/// Reads a rope and a script, and runs them to their reel.
+fn read_reel<R: Read, S: Read, P: Progress>(
+    alloc: Global,
+    asked: &Filming,
+    rope: &mut R,
+    script: &mut S,
+    progress: &mut P,
+) -> Result<Reel, Refusal>
+    ensures { IfOk result (IsFilmed asked.now (R.remaining rope.old) (S.remaining script.old)) }
+{
+    let rope = read_rope(alloc, asked.form, rope)?;
+    let script = read_script(alloc, script)?;
+    let keys = presses(alloc, &script)?;
+    let mut machine = started(rope, script, asked.limit, &asked.until)?;
+    Ok(film(alloc, &mut machine, keys.as_slice(), progress)?)
+}
