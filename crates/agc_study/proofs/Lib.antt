@@ -1,3 +1,3 @@
 pub mod Whole
 pub mod Starts
-pub mod Films
+pub mod FilmedRuns

@@ -1,5 +1,5 @@
 -- From two files to the reel of their run.
-use Rattle.std.proofs.Common.{◌≡◌, List, ℕ, sym, subst, tt}
+use Rattle.std.proofs.Common.{◌≡◌, List, ℕ, subst}
 use Rattle.std.specs.Prelude.{Option, None, Some, IfSome, IfOk, Result, Ok}
 use Rattle.agc_machine.specs.Run.{run_of}
 use Rattle.agc_machine.specs.State.{State}
@@ -9,6 +9,7 @@ use Rattle.agc_session.specs.Files.{events_in}
 use Rattle.agc_session.specs.declared.refusal.Refusal.{Refusal}
 use Rattle.agc_film.specs.Presses.{presses_of}
 use Rattle.agc_film.specs.Reel.{ShowsRun}
+use Rattle.agc_film.specs.declared.press.Press.{Press}
 use Rattle.agc_film.specs.declared.reel.Reel.{Reel}
 use Rattle.agc_study.specs.Filmed.{IsFilmed}
 use Rattle.agc_study.specs.Started.{IsStarted}
@@ -28,11 +29,12 @@ filmed asked (Some rope) (Some script) machine events reel start read shows = re
 }
 
 pub filmed_run : (asked : Filming) (rope script : Option (List ℕ)) (started : Result State Refusal)
-    (machine : State) (events : List Event) (reel : Reel) → started ≡ Ok machine
+    (machine : State) (events : List Event) (keys : List Press) (reel : Reel)
+    → started ≡ Ok machine
     → IfOk started (IsStarted asked.form asked.until asked.limit rope script)
-    → IfSome script (λ file. events ≡ events_in (script_of file))
-    → ShowsRun (run_of machine) (presses_of events) reel → IsFilmed asked rope script reel
-filmed_run asked rope script started machine events reel is start read shows =
+    → IfSome script (λ file. events ≡ events_in (script_of file)) → keys ≡ presses_of events
+    → ShowsRun (run_of machine) keys reel → IsFilmed asked rope script reel
+filmed_run asked rope script started machine events keys reel is start read pressed shows =
     filmed asked rope script machine events reel
     (subst (λ r. IfOk r (IsStarted asked.form asked.until asked.limit rope script)) is start)
-    read shows
+    read (subst (λ all. ShowsRun (run_of machine) all reel) pressed shows)
