@@ -23,7 +23,7 @@ mod narrow_cells;
 mod registers;
 
 use crate::addr::Addr;
-use crate::place::{CYR, EDOP, ERASABLE_BANK_SIZE, FIXED_BANK_SIZE, FIXED_WINDOW};
+use crate::place::{CYR, EDOP, ERASABLE_BANK_SIZE, FIXED_BANK_SIZE, FIXED_FIXED, FIXED_WINDOW};
 use crate::rope::Rope;
 use agc_word::{Narrow, Wide, widen};
 use banks::selected;
@@ -90,14 +90,17 @@ impl Store {
 
     /// The narrow word at an address, as an order is fetched: overflow in A and Q is corrected.
     #[inline]
+    #[tactic(auto, unfolding(crate::specs::Memory::cell_at, crate::specs::Memory::fixed_place, crate::specs::Memory::read_of, crate::specs::Cells::fetch_of))]
     pub fn fetch(&self, address: Addr) -> Narrow
         ensures { result ≡ fetch_of self.now address }
     {
         let number = usize::from(address.bits());
-        if number < FIXED_WINDOW as usize {
-            self.cells[self.erasable_place(number)].narrow()
-        } else {
+        if number >= FIXED_FIXED as usize {
+            self.rope.word(number)
+        } else if number >= FIXED_WINDOW as usize {
             self.rope.word(self.fixed_place(number))
+        } else {
+            self.cells[self.erasable_place(number)].narrow()
         }
     }
 
