@@ -288,7 +288,7 @@ impl Engine {
     pub(crate) fn is_held_off(&self) -> bool
         ensures { result ≡ self.now.processor.serving || self.now.processor.inhibited }
     {
-        self.processor.serving || self.processor.inhibited
+        self.processor.inhibited || self.processor.serving
     }
 
     /// The order at the stop address is in hand.

@@ -67,7 +67,7 @@ impl Basic {
         ensures { result ≡ basic_of (pattern_of 15 word) }
     {
         let bits = word.bits();
-        match u32::from(bits) / 0o2000 % 0o40 {
+        match usize::from(bits) / 0o2000 % 0o40 {
             0o00 => match bits {
                 0o00003 => Basic::Relint,
                 0o00004 => Basic::Inhint,
@@ -125,7 +125,7 @@ impl Extracode {
         ensures { result ≡ extracode_of (pattern_of 15 word) }
     {
         let bits = word.bits();
-        match u32::from(bits) / 0o2000 % 0o40 {
+        match usize::from(bits) / 0o2000 % 0o40 {
             0o00 => if bits < 0o1000 {
                 Extracode::Read
             } else {

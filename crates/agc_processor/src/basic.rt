@@ -116,11 +116,11 @@ impl Processor {
         ensures { self.new ≡ ts_of k self.old }
     {
         let a = self.store.a();
-        match a.over() {
-            Over::None => self.store.write(k, a),
-            Over::Plus => self.ts_with_overflow(k),
-            Over::Minus => self.ts_with_overflow(k),
+        if a.over() != Over::None {
+            self.ts_with_overflow(k);
+            return;
         }
+        self.store.write(k, a);
     }
 
     /// A stays where K names A, else K takes it and A keeps its overflow alone.

@@ -1,8 +1,8 @@
 //! The store: the cells, the rope, and what each access returns and leaves.
-#![tactic(auto, unfolding(crate::specs::Memory::cell_at, crate::specs::Memory::fixed_at, crate::specs::Memory::selected_bank, crate::specs::Memory::read_of, crate::specs::Cells::write_of, crate::specs::Cells::fetch_of, crate::specs::Cells::named_cell, crate::specs::Cells::reedit_of, crate::specs::Cells::cell_of, crate::specs::Cells::fixed_of, crate::specs::Cells::poke_of, crate::specs::Cells::superbank_set))]
+#![tactic(auto, unfolding(crate::specs::Memory::cell_at, crate::specs::Memory::erasable_place, crate::specs::Memory::fixed_at, crate::specs::Memory::selected_bank, crate::specs::Memory::read_of, crate::specs::Cells::write_of, crate::specs::Cells::fetch_of, crate::specs::Cells::named_cell, crate::specs::Cells::reedit_of, crate::specs::Cells::cell_of, crate::specs::Cells::fixed_of, crate::specs::Cells::poke_of, crate::specs::Cells::superbank_set))]
 
-ghost use Rattle.std.specs.Prelude.{◌≡◌, ℕ, ◌+◌, ◌*◌, ◌<◌, ◌≤◌};
-ghost use Rattle.agc_store.specs.Places.{zero_cell, fixed_window};
+ghost use Rattle.std.specs.Prelude.{◌≡◌, ℕ, ◌+◌, ◌*◌, ◌<◌, ◌≤◌, ◌&&◌, nat_lt};
+ghost use Rattle.agc_store.specs.Places.{zero_cell, edop_cell, erasable_window, fixed_window};
 ghost use Rattle.agc_store.specs.Memory.{read_of};
 ghost use Rattle.agc_store.specs.Cells.{
   write_of,
@@ -23,7 +23,9 @@ mod narrow_cells;
 mod registers;
 
 use crate::addr::Addr;
-use crate::place::{CYR, EDOP, ERASABLE_BANK_SIZE, FIXED_BANK_SIZE, FIXED_FIXED, FIXED_WINDOW};
+use crate::place::{
+    CYR, EDOP, ERASABLE_BANK_SIZE, ERASABLE_WINDOW, FIXED_BANK_SIZE, FIXED_FIXED, FIXED_WINDOW,
+};
 use crate::rope::Rope;
 use agc_word::{Narrow, Wide, widen};
 use banks::selected;
@@ -81,10 +83,12 @@ impl Store {
         ensures registers { HoldsRegisters self.now.erasable }
     {
         let number = usize::from(address.bits());
-        if number < FIXED_WINDOW as usize {
-            self.cells[self.erasable_place(number)]
-        } else {
+        if number >= FIXED_WINDOW as usize {
             widen(self.rope.word(self.fixed_place(number)))
+        } else if is_past_editing(number) {
+            self.cells[number]
+        } else {
+            self.cells[self.erasable_place(number)]
         }
     }
 
@@ -113,8 +117,13 @@ impl Store {
         requires { address < fixed_window }
         ensures { self.new ≡ write_of self.old address word }
     {
-        let place = self.erasable_place(usize::from(address.bits()));
-        self.put(place, word);
+        let number = usize::from(address.bits());
+        if is_past_editing(number) {
+            self.put(number, word);
+        } else {
+            let cell = self.erasable_place(number);
+            self.put(cell, word);
+        }
     }
 
     /// Writes the word of an editing register into it again, so that it is edited once more; leaves
@@ -124,7 +133,7 @@ impl Store {
         ensures { self.new ≡ reedit_of self.old address }
     {
         let number = usize::from(address.bits());
-        if number < FIXED_WINDOW as usize {
+        if number < FIXED_WINDOW as usize && !is_past_editing(number) {
             let place = self.erasable_place(number);
             if CYR as usize <= place && place <= EDOP as usize {
                 let word = self.cells[place];
@@ -204,4 +213,13 @@ impl Store {
         let place = ERASABLE_BANK_SIZE as usize * usize::from(bank) + usize::from(offset);
         self.set_plain(place, widen(word));
     }
+}
+
+/// An address below the window names its own cell there, and one past EDOP no register: what most
+/// orders meet in erasable memory, by one comparison.
+#[inline(always)]
+fn is_past_editing(number: usize) -> bool
+    ensures { result ≡ nat_lt edop_cell number && nat_lt number erasable_window }
+{
+    number > EDOP as usize && number < ERASABLE_WINDOW as usize
 }

@@ -42,7 +42,7 @@ impl Store {
     pub fn z(&self) -> Addr
         ensures { result ≡ z_of self.now }
     {
-        Addr::wrapped(self.cells[Z as usize].bits())
+        Addr::kept(self.cells[Z as usize].bits())
     }
 
     /// Sets A, as a write to it does.
