@@ -248,6 +248,23 @@ fn fixed_banks_and_superbank(rt: HostRuntime) -> Result<(), Fail> {
 }
 
 #[test]
+fn a_jump_fetches_and_counts_on(rt: HostRuntime) -> Result<(), Fail> {
+    let file = banks_file(rt.alloc())?;
+    let mut store = Store::new(Rope::read(rt.alloc(), &file)?);
+    assert_eq!(rt; store.fetch_at(at(0o6000)).bits(), 0o03);
+    assert_eq!(rt; store.z(), at(0o6001));
+    assert_eq!(rt; store.fetch_at(at(0o2000)).bits(), 0o00);
+    assert_eq!(rt; store.z(), at(0o2001));
+    assert_eq!(rt;
+        store.fetch_at(at(5)).bits(),
+        0o00005,
+        "Z shows where the jump went"
+    );
+    assert_eq!(rt; store.z(), at(6));
+    Ok(())
+}
+
+#[test]
 fn kept_erasable_bank(rt: HostRuntime) -> Result<(), Fail> {
     let mut store = empty_store(rt.alloc())?;
     assert_eq!(rt; store.named_cell(at(0o1403)), Some(3));
