@@ -102,7 +102,7 @@ impl Processor {
     }
 
     #[inline]
-    #[tactic(auto, unfolding(crate::specs::Basic::ts_of))]
+    #[tactic(auto, unfolding(crate::specs::Basic::ts_of, agc_word::specs::Arithmetic::over_of))]
     pub(crate) fn ts(&mut self, k: Addr)
         requires { k < 0o2000 }
         ensures { self.new ≡ ts_of k self.old }
@@ -112,7 +112,7 @@ impl Processor {
             self.ts_with_overflow(k);
             return;
         }
-        self.store.write(k, a);
+        self.store.write_in_range(k, a);
     }
 
     /// A stays where K names A, else K takes it and A keeps its overflow alone.

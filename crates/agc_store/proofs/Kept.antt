@@ -21,6 +21,10 @@ pub narrow_of-narrow : (x : Number) → x.magnitude < 2 ^ 14 → narrow_of x ≡
 unfolding narrow_of
 narrow_of-narrow x h = grind (arith, common_steps)
 
+-- the same under a name that code can cite
+pub narrow_stays : (x : Number) → x.magnitude < 2 ^ 14 → narrow_of x ≡ x
+narrow_stays x h = narrow_of-narrow x h
+
 -- every cell of cleared ones is +0
 pub cell_at-cleared : (count k : ℕ) → cell_at k (cleared_cells count) ≡ nothing
 unfolding cell_at cleared_cells

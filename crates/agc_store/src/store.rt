@@ -1,7 +1,7 @@
 //! The store: the cells, the rope, and what each access returns and leaves.
 #![tactic(auto, unfolding(crate::specs::Memory::cell_at, crate::specs::Memory::erasable_place, crate::specs::Memory::fixed_at, crate::specs::Memory::selected_bank, crate::specs::Memory::read_of, crate::specs::Cells::write_of, crate::specs::Cells::fetch_of, crate::specs::Cells::named_cell, crate::specs::Cells::reedit_of, crate::specs::Cells::cell_of, crate::specs::Cells::fixed_of, crate::specs::Cells::poke_of, crate::specs::Cells::superbank_set))]
 
-ghost use Rattle.std.specs.Prelude.{◌≡◌, ℕ, ◌+◌, ◌*◌, ◌<◌, ◌≤◌, ◌&&◌, nat_lt};
+ghost use Rattle.std.specs.Prelude.{◌≡◌, ℕ, ◌+◌, ◌*◌, ◌<◌, ◌≤◌, ◌^◌, ◌&&◌, nat_lt};
 ghost use Rattle.agc_store.specs.Places.{zero_cell, edop_cell, erasable_window, fixed_window};
 ghost use Rattle.agc_store.specs.Memory.{read_of};
 ghost use Rattle.agc_store.specs.Cells.{
@@ -123,6 +123,22 @@ impl Store {
         } else {
             let cell = self.erasable_place(number);
             self.put(cell, word);
+        }
+    }
+
+    /// Writes a word without overflow, as `write` does: nothing is to be corrected in a plain cell.
+    #[inline]
+    #[tactic(auto, using(crate::proofs::Kept::narrow_stays), unfolding(crate::specs::Memory::erasable_place, crate::specs::Cells::write_of, crate::specs::Cells::put_of, crate::specs::Cells::cells_with))]
+    pub fn write_in_range(&mut self, address: Addr, word: Wide)
+        requires address { address < fixed_window }
+        requires range { word.magnitude < 2 ^ 14 }
+        ensures { self.new ≡ write_of self.old address word }
+    {
+        let number = usize::from(address.bits());
+        if is_past_editing(number) {
+            self.set_plain(number, word);
+        } else {
+            self.write(address, word);
         }
     }
 

@@ -271,6 +271,10 @@ fn kept_erasable_bank(rt: HostRuntime) -> Result<(), Fail> {
     store.write(at(0o1403), Wide::from_bits(0o002400));
     store.write(at(0o1400), Wide::from_bits(0o000007));
     assert_eq!(rt; store.cell(5, 0), word(0o00007));
+    store.write_in_range(at(0o1401), Wide::from_bits(0o000011));
+    assert_eq!(rt; store.cell(5, 1), word(0o00011));
+    store.write_in_range(at(0o100), Wide::from_bits(0o000012));
+    assert_eq!(rt; store.cell(0, 0o100), word(0o00012));
     assert_eq!(rt; store.read(at(EB)).bits(), 0o002400);
     assert_eq!(rt; store.erasable_bank(), 5);
     assert_eq!(rt; store.named_cell(at(0o1400)), Some(5 * 0o400));

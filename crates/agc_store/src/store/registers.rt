@@ -87,10 +87,10 @@ impl Store {
         ensures next { self.new ≡ put_of (put_of self.old z_cell (narrow_number address)) z_cell (narrow_number ((address + 1) % 0o10000)) }
     {
         let _ = &self.cells;
-        let number = address.bits();
-        let word = if number >= FIXED_FIXED {
+        let number = usize::from(address.bits());
+        let word = if number >= FIXED_FIXED as usize {
             self.fetch(address)
-        } else if number >= FIXED_WINDOW {
+        } else if number >= FIXED_WINDOW as usize {
             self.fetch(address)
         } else {
             self.set_z(address);
