@@ -66,6 +66,13 @@ pub before_at_stop : (cycle : ℕ) (s t : State) (why : Stop) → (t, stepped.St
 before_at_stop cycle s t why e =
     ap (unless_quiet_before cycle (next_before_within (boundaries_left s) cycle)) e ∙ sym (before_by_boundary cycle s)
 
+-- so does any boundary that is not quiet
+pub before_at_end : (cycle : ℕ) (s t : State) (what : Stepped) → (t, what) ≡ boundary None s → (what ≡ stepped.Quiet → ⊥) →
+    (t, what) ≡ next_before cycle s
+before_at_end cycle s t stepped.Quiet e shows = absurd (shows refl)
+before_at_end cycle s t (stepped.Wrote write) e shows = before_at_write cycle s t write e
+before_at_end cycle s t (stepped.Stopped why) e shows = before_at_stop cycle s t why e
+
 -- A way up to a cycle is a part of the way to the next write, and of the way up to a later cycle: each goes on behind it.
 either_next : (b : Bool) (t : State) (way : State × Stepped) → next_of t ≡ unless_quiet next_of way →
     next_of t ≡ unless_quiet next_of (if b then (t, stepped.Quiet) else way)

@@ -4,6 +4,7 @@ pub mod Fresh
 pub mod Stillness
 pub mod Replay
 pub mod Before
+pub mod Behind
 pub mod Cases
 pub mod Fixed
 pub mod Kept

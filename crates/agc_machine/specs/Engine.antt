@@ -3,7 +3,11 @@ use Rattle.std.specs.Prelude.{◌≡◌, ℕ, ◌+◌, ◌<◌, ◌≤◌, false
 use Rattle.agc_processor.specs.Channel.{time6_periods}
 use Rattle.agc_processor.specs.Period.{pulses_at}
 use Rattle.agc_processor.specs.declared.processor.Timers.{Timers}
+use Rattle.agc_machine.specs.declared.answer.Stepped.{Stepped}
+use Rattle.agc_machine.specs.declared.answer.Stepped.TheVariants as stepped
 use Rattle.agc_machine.specs.declared.engine.Engine.{Engine}
+use Rattle.agc_machine.specs.declared.engine.Paced.{Paced}
+use Rattle.agc_machine.specs.declared.engine.Paced.TheVariants as paced
 use Rattle.agc_machine.specs.Quiet.{IsQuiet, Serves}
 use Rattle.agc_machine.specs.State.{State, IsAtStart}
 
@@ -19,6 +23,19 @@ state_of m =
       stopped = m.stopped;
       until = m.until;
     }
+
+-- the engine at another cycle
+abbrev pub at_cycle : ℕ → Engine → Engine
+at_cycle cycle m = record m { cycle = cycle }
+
+-- the engine behind an order that ran at a cycle of its own, and what the boundary has done then
+abbrev pub paced_engine : Engine → Paced → Engine
+paced_engine m (paced.Goes next) = at_cycle next m
+paced_engine m (paced.Ends what) = m
+
+abbrev pub paced_state : Engine → Paced → State × Stepped
+paced_state m (paced.Goes next) = (state_of (at_cycle next m), stepped.Quiet)
+paced_state m (paced.Ends what) = (state_of m, what)
 
 -- No timer is ahead of a cycle: none has taken more steps than pulses have gone by, and TIME6's
 -- mark is at most the periods that have.

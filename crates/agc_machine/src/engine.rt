@@ -1,5 +1,5 @@
 //! The boundary: of the things that may happen between two orders, the first that applies.
-ghost use Rattle.std.specs.Prelude.{◌≡◌, ◌<◌, ◌≤◌, ◌+◌, ◌^◌, length};
+ghost use Rattle.std.specs.Prelude.{◌≡◌, ◌<◌, ◌≤◌, ◌+◌, ◌%◌, ◌^◌, length};
 ghost use Rattle.agc_processor.specs.Effect.{order_effect, IsOrderly};
 ghost use Rattle.agc_processor.specs.Keeps.{Keeps};
 ghost use Rattle.agc_machine.specs.Engine.{state_of, IsInTime, IsSound};
@@ -11,7 +11,7 @@ use crate::stop_address::StopAddress;
 use agc_processor::channel::CHAN13;
 use agc_processor::{INTERRUPT_MCT, Processor, Ran, WRITE_MCT};
 use agc_script::{Event, Key, Script};
-use agc_store::Rope;
+use agc_store::{Addr, Rope};
 
 /// The run's state and the script that it takes its events from.
 #[derive(Drop)]
@@ -31,10 +31,20 @@ pub(crate) struct Engine {
     pub(crate) pace: Pace,
 }
 
+/// What an order did that ran at a cycle which the engine need not keep, so that a loop over orders
+/// keeps it in a register.
+#[derive(Clone, Copy)]
+pub(crate) enum Paced {
+    /// Nothing shows outside, and the next boundary comes at this cycle, which the engine does not keep yet.
+    Goes(u64),
+    /// This shows outside; the engine keeps the cycle.
+    Ends(Stepped),
+}
+
 impl Engine {
-    ghost use Rattle.std.specs.Prelude.{◌≡◌, ℕ, ◌<◌, ◌≤◌, ◌+◌, ◌^◌, ◌↔◌, ◌||◌, length, drop, slice_get, true, false, IsTrue, IsSome, IfSome, IfNone, Some, None};
+    ghost use Rattle.std.specs.Prelude.{◌≡◌, ℕ, ◌<◌, ◌≤◌, ◌+◌, ◌%◌, ◌^◌, ◌↔◌, ◌||◌, length, drop, slice_get, true, false, IsTrue, IsSome, IfSome, IfNone, Some, None};
     ghost use Rattle.agc_script.specs.Event.{IsInRange};
-    ghost use Rattle.agc_machine.specs.Engine.{state_of, IsSound, IsRunning};
+    ghost use Rattle.agc_machine.specs.Engine.{at_cycle, state_of, IsSound, IsRunning, paced_engine, paced_state};
     ghost use Rattle.agc_machine.specs.Quiet.{IsLongest, IsQuiet, Serves, pace_of};
     ghost use Rattle.agc_machine.specs.State.{start_state};
     ghost use Rattle.agc_machine.specs.Run.{next_before, next_of};
@@ -275,10 +285,10 @@ impl Engine {
 
     /// A service or INHINT holds every interrupt off.
     #[inline(always)]
-    fn is_held_off(&self) -> bool
+    pub(crate) fn is_held_off(&self) -> bool
         ensures { result ≡ self.now.processor.serving || self.now.processor.inhibited }
     {
-        self.processor.serving || self.processor.inhibited
+        self.processor.inhibited || self.processor.serving
     }
 
     /// The order at the stop address is in hand.
@@ -290,6 +300,17 @@ impl Engine {
             Some(at) => self.processor.store.z().previous() == at.address && self.is_in_bank(at),
             None => false,
         }
+    }
+
+    /// The order at this stop address is in hand, which Z stands behind then.
+    #[inline(always)]
+    #[tactic(auto, using(crate::proofs::Behind::stands_behind))]
+    pub(crate) fn is_behind(&self, behind: Addr, at: &StopAddress) -> bool
+        requires range { at.now.address < 0o10000 }
+        requires behind { behind ≡ (at.now.address + 1) % 0o10000 }
+        ensures { result ≡ is_reached (Some at.now) self.now.processor }
+    {
+        self.processor.store.z() == behind && self.is_in_bank(*at)
     }
 
     /// The bank at the stop address agrees, in the two windows that banks are switched into.
@@ -307,7 +328,6 @@ impl Engine {
 
     /// The order in hand runs.
     #[inline(always)]
-    #[tactic(auto, unfolding(crate::specs::Boundary::by_order))]
     pub(crate) fn run_order(&mut self) -> Stepped
         requires running { IsRunning self.old }
         requires quiet { 0 < self.old.quiet_until → IsQuiet self.old.quiet_until (state_of self.old) }
@@ -317,26 +337,47 @@ impl Engine {
         ensures quiet_until { result ≡ Stepped.Quiet → self.new.quiet_until ≡ self.old.quiet_until }
         ensures pace { self.new.pace ≡ self.old.pace }
     {
-        let cycle = self.cycle;
-        match run_in_time(&mut self.processor, cycle) {
-            Ran::Quiet(cycles) => {
-                self.cycle += cycles;
+        match self.order_at(self.cycle) {
+            Paced::Goes(next) => {
+                self.cycle = next;
                 Stepped::Quiet
             }
+            Paced::Ends(stepped) => stepped,
+        }
+    }
+
+    /// The order in hand runs, which begins at this cycle, whatever cycle the engine keeps. Where the
+    /// run goes on the engine's own cycle stays as it was.
+    #[inline(always)]
+    #[tactic(auto, unfolding(crate::specs::Boundary::by_order))]
+    pub(crate) fn order_at(&mut self, cycle: u64) -> Paced
+        requires running { IsRunning (at_cycle cycle self.old) }
+        requires quiet { 0 < self.old.quiet_until → IsQuiet self.old.quiet_until (state_of (at_cycle cycle self.old)) }
+        requires pace { 0 < self.old.quiet_until → Serves self.old.pace (state_of (at_cycle cycle self.old)) }
+        ensures step { paced_state self.new result ≡ by_order (state_of (at_cycle cycle self.old)) }
+        ensures sound { IsSound (paced_engine self.new result) }
+        ensures quiet_until { (next : ℕ) → result ≡ Paced.Goes next → self.new.quiet_until ≡ self.old.quiet_until }
+        ensures pace { self.new.pace ≡ self.old.pace }
+        ensures until { self.new.until ≡ self.old.until }
+        ensures shows { (stepped : Stepped) → result ≡ Paced.Ends stepped → stepped ≡ Stepped.Quiet → ⊥ }
+    {
+        match run_in_time(&mut self.processor, cycle) {
+            Ran::Quiet(cycles) => Paced::Goes(cycle + cycles),
             Ran::Wrote(channel, value) => {
                 if channel == CHAN13 {
                     self.quiet_until = 0;
                 }
-                self.cycle += WRITE_MCT;
-                Stepped::Wrote(ChannelWrite {
+                self.cycle = cycle + WRITE_MCT;
+                Paced::Ends(Stepped::Wrote(ChannelWrite {
                     cycle,
                     channel,
                     value,
-                })
+                }))
             }
             Ran::Halted(halt) => {
+                self.cycle = cycle;
                 self.quiet_until = 0;
-                self.stop(Stop::at_halt(halt))
+                Paced::Ends(self.stop(Stop::at_halt(halt)))
             }
         }
     }

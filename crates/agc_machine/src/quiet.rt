@@ -1,7 +1,11 @@
 //! The quiet path: where the clock brings nothing, few things can come before the order in hand,
 //! and mostly none.
+ghost use Rattle.std.specs.Prelude.{◌+◌, ◌%◌};
+
 use crate::answer::{Stepped, Stop};
-use crate::engine::Engine;
+use crate::engine::{Engine, Paced};
+use crate::stop_address::StopAddress;
+use agc_store::Addr;
 
 /// What may come before the order in hand where the clock brings nothing.
 #[derive(Clone, Copy, Debug, PartialEq, Eq)]
@@ -15,9 +19,9 @@ pub(crate) enum Pace {
 }
 
 impl Engine {
-    ghost use Rattle.std.specs.Prelude.{◌≡◌, ℕ, ◌<◌, ◌≤◌, drop, false, true, None};
-    ghost use Rattle.agc_machine.specs.Boundary.{boundary, by_interrupt, IsBefore};
-    ghost use Rattle.agc_machine.specs.Engine.{state_of, IsInTime, IsSound};
+    ghost use Rattle.std.specs.Prelude.{◌≡◌, ℕ, ◌<◌, ◌≤◌, drop, false, true, None, Some};
+    ghost use Rattle.agc_machine.specs.Boundary.{boundary, by_interrupt, is_reached, IsBefore};
+    ghost use Rattle.agc_machine.specs.Engine.{at_cycle, state_of, IsInTime, IsSound, paced_engine, paced_state};
     ghost use Rattle.agc_machine.specs.Quiet.{IsEventDue, IsLongest, IsQuiet, Serves, is_timer_due, pace_of};
     ghost use Rattle.agc_machine.specs.Run.{next_before};
 
@@ -38,8 +42,8 @@ impl Engine {
         }
     }
 
-    /// The same, where nothing comes before an order. It is a call: a loop of its own keeps the cycle
-    /// and the order in hand in registers.
+    /// The same, where nothing comes before an order. It is a call, and counts the cycle on beside the
+    /// engine: a loop of its own keeps it in a register.
     #[inline(never)]
     fn go_bare(&mut self, end: u64) -> Stepped
         requires sound { IsSound self.old }
@@ -49,15 +53,17 @@ impl Engine {
         ensures next { (state_of self.new, result) ≡ next_before end (state_of self.old) }
         ensures sound { IsSound self.new }
     {
+        let mut cycle = self.cycle;
         loop {
-            match self.step_bare() {
-                Stepped::Quiet => {
-                    if end <= self.cycle {
+            match self.order_in_quiet(cycle) {
+                Paced::Goes(next) => {
+                    cycle = next;
+                    if end <= cycle {
+                        self.cycle = cycle;
                         return Stepped::Quiet;
                     }
                 }
-                Stepped::Wrote(write) => return Stepped::Wrote(write),
-                Stepped::Stopped(why) => return Stepped::Stopped(why),
+                Paced::Ends(stepped) => return stepped,
             }
         }
     }
@@ -71,22 +77,96 @@ impl Engine {
         ensures next { (state_of self.new, result) ≡ next_before end (state_of self.old) }
         ensures sound { IsSound self.new }
     {
+        match self.until {
+            Some(at) => self.go_up_to(at, end),
+            None => {
+                self.pace = Pace::Bare;
+                self.go_bare(end)
+            }
+        }
+    }
+
+    /// The same with this stop address. The bank is looked at only where Z agrees.
+    #[inline(never)]
+    fn go_up_to(&mut self, at: StopAddress, end: u64) -> Stepped
+        requires sound { IsSound self.old }
+        requires quiet { self.old.cycle < self.old.quiet_until }
+        requires end { end ≤ self.old.quiet_until }
+        requires pace { self.old.pace ≡ Pace.Watched }
+        requires until { self.old.until ≡ Some at }
+        ensures next { (state_of self.new, result) ≡ next_before end (state_of self.old) }
+        ensures sound { IsSound self.new }
+    {
+        let behind = at.address.next();
+        let mut cycle = self.cycle;
         loop {
-            match self.step_watched() {
-                Stepped::Quiet => {
-                    if end <= self.cycle {
+            if self.is_behind(behind, &at) {
+                self.cycle = cycle;
+                self.quiet_until = 0;
+                return self.stop(Stop::Reached);
+            }
+            match self.order_in_quiet(cycle) {
+                Paced::Goes(next) => {
+                    cycle = next;
+                    if end <= cycle {
+                        self.cycle = cycle;
                         return Stepped::Quiet;
                     }
                 }
-                Stepped::Wrote(write) => return Stepped::Wrote(write),
-                Stepped::Stopped(why) => return Stepped::Stopped(why),
+                Paced::Ends(stepped) => return stepped,
+            }
+        }
+    }
+
+    /// The same, where an interrupt waits. As long as it is held off and there is no stop address,
+    /// only the orders come.
+    fn go_held(&mut self, end: u64) -> Stepped
+        requires sound { IsSound self.old }
+        requires quiet { self.old.cycle < self.old.quiet_until }
+        requires end { end ≤ self.old.quiet_until }
+        ensures next { (state_of self.new, result) ≡ next_before end (state_of self.old) }
+        ensures sound { IsSound self.new }
+    {
+        if self.until.is_some() {
+            self.go_step_by_step(end)
+        } else {
+            self.go_held_off(end)
+        }
+    }
+
+    /// The same without a stop address.
+    #[inline(never)]
+    fn go_held_off(&mut self, end: u64) -> Stepped
+        requires sound { IsSound self.old }
+        requires quiet { self.old.cycle < self.old.quiet_until }
+        requires end { end ≤ self.old.quiet_until }
+        requires until { self.old.until ≡ None }
+        ensures next { (state_of self.new, result) ≡ next_before end (state_of self.old) }
+        ensures sound { IsSound self.new }
+    {
+        let mut cycle = self.cycle;
+        loop {
+            if !self.is_held_off() {
+                self.cycle = cycle;
+                return self.go_step_by_step(end);
+            }
+            match self.order_in_quiet(cycle) {
+                Paced::Goes(next) => {
+                    cycle = next;
+                    if end <= cycle {
+                        self.cycle = cycle;
+                        return Stepped::Quiet;
+                    }
+                }
+                Paced::Ends(stepped) => return stepped,
             }
         }
     }
 
     /// The same, where an interrupt or the stop may come before an order. Once an interrupt is
     /// taken the pace is chosen anew.
-    fn go_held(&mut self, end: u64) -> Stepped
+    #[inline(never)]
+    fn go_step_by_step(&mut self, end: u64) -> Stepped
         requires sound { IsSound self.old }
         requires quiet { self.old.cycle < self.old.quiet_until }
         requires end { end ≤ self.old.quiet_until }
@@ -109,6 +189,24 @@ impl Engine {
                 Stepped::Stopped(why) => return Stepped::Stopped(why),
             }
         }
+    }
+
+    /// The order in hand runs at a cycle below the quiet one, where no interrupt is taken and the stop
+    /// address is not in hand.
+    #[inline(always)]
+    fn order_in_quiet(&mut self, cycle: u64) -> Paced
+        requires sound { IsSound (at_cycle cycle self.old) }
+        requires quiet { cycle < self.old.quiet_until }
+        requires uninterrupted { by_interrupt (state_of (at_cycle cycle self.old)) ≡ None }
+        requires unreached { is_reached self.old.until self.old.processor ≡ false }
+        ensures step { paced_state self.new result ≡ boundary None (state_of (at_cycle cycle self.old)) }
+        ensures sound { IsSound (paced_engine self.new result) }
+        ensures quiet_until { (next : ℕ) → result ≡ Paced.Goes next → self.new.quiet_until ≡ self.old.quiet_until }
+        ensures pace { self.new.pace ≡ self.old.pace }
+        ensures until { self.new.until ≡ self.old.until }
+        ensures shows { (stepped : Stepped) → result ≡ Paced.Ends stepped → stepped ≡ Stepped.Quiet → ⊥ }
+    {
+        self.order_at(cycle)
     }
 
     /// One boundary below the quiet cycle.

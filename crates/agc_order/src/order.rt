@@ -1,7 +1,9 @@
 //! The orders, and the order that a word names.
 //!
 //! In the decode each arm is one number, so that the compiler makes one jump by a table; of ranges and
-//! of alternatives in an arm it makes chains of comparisons.
+//! of alternatives in an arm it makes chains of comparisons. The extracodes go by code first: a step
+//! that both decodes began with would come before the choice between them, and its number would be
+//! widened again behind it.
 
 use agc_word::Narrow;
 
@@ -67,7 +69,7 @@ impl Basic {
         ensures { result ≡ basic_of (pattern_of 15 word) }
     {
         let bits = word.bits();
-        match bits / 0o2000 % 0o40 {
+        match usize::from(bits) / 0o2000 % 0o40 {
             0o00 => match bits {
                 0o00003 => Basic::Relint,
                 0o00004 => Basic::Inhint,
@@ -117,62 +119,44 @@ impl Extracode {
     ghost use Rattle.agc_word.specs.Number.{pattern_of};
     ghost use Rattle.agc_order.specs.Order.{extracode_of};
 
-    /// The extracode that a word names: bits 15 to 11, code and quarter, choose it, and where the code
-    /// is 0 the eighth, bits 12 to 10.
+    /// The extracode that a word names: bits 15 to 13, the code, choose it, with the quarter, bits 12
+    /// and 11, or where the code is 0 the eighth, bits 12 to 10.
     #[tactic(auto, unfolding(crate::specs::Order::extracode_of, crate::specs::Order::extracodes))]
     #[inline(always)]
     pub fn named_by(word: Narrow) -> Extracode
         ensures { result ≡ extracode_of (pattern_of 15 word) }
     {
         let bits = word.bits();
-        match bits / 0o2000 % 0o40 {
-            0o00 => if bits < 0o1000 {
-                Extracode::Read
-            } else {
-                Extracode::Write
+        match usize::from(bits) / 0o10000 % 0o10 {
+            0 => match usize::from(bits) / 0o1000 % 0o10 {
+                0 => Extracode::Read,
+                1 => Extracode::Write,
+                2 => Extracode::Rand,
+                3 => Extracode::Wand,
+                4 => Extracode::Ror,
+                5 => Extracode::Wor,
+                6 => Extracode::Rxor,
+                _ => Extracode::Edrupt,
             },
-            0o01 => if bits < 0o3000 {
-                Extracode::Rand
+            1 => if bits < 0o12000 {
+                Extracode::Dv
             } else {
-                Extracode::Wand
+                Extracode::Bzf
             },
-            0o02 => if bits < 0o5000 {
-                Extracode::Ror
+            2 => match usize::from(bits) / 0o2000 % 0o4 {
+                0 => Extracode::Msu,
+                1 => Extracode::Qxch,
+                2 => Extracode::Aug,
+                _ => Extracode::Dim,
+            },
+            3 => Extracode::Dca,
+            4 => Extracode::Dcs,
+            5 => Extracode::Index,
+            6 => if bits < 0o62000 {
+                Extracode::Su
             } else {
-                Extracode::Wor
+                Extracode::Bzmf
             },
-            0o03 => if bits < 0o7000 {
-                Extracode::Rxor
-            } else {
-                Extracode::Edrupt
-            },
-            0o04 => Extracode::Dv,
-            0o05 => Extracode::Bzf,
-            0o06 => Extracode::Bzf,
-            0o07 => Extracode::Bzf,
-            0o10 => Extracode::Msu,
-            0o11 => Extracode::Qxch,
-            0o12 => Extracode::Aug,
-            0o13 => Extracode::Dim,
-            0o14 => Extracode::Dca,
-            0o15 => Extracode::Dca,
-            0o16 => Extracode::Dca,
-            0o17 => Extracode::Dca,
-            0o20 => Extracode::Dcs,
-            0o21 => Extracode::Dcs,
-            0o22 => Extracode::Dcs,
-            0o23 => Extracode::Dcs,
-            0o24 => Extracode::Index,
-            0o25 => Extracode::Index,
-            0o26 => Extracode::Index,
-            0o27 => Extracode::Index,
-            0o30 => Extracode::Su,
-            0o31 => Extracode::Bzmf,
-            0o32 => Extracode::Bzmf,
-            0o33 => Extracode::Bzmf,
-            0o34 => Extracode::Mp,
-            0o35 => Extracode::Mp,
-            0o36 => Extracode::Mp,
             _ => Extracode::Mp,
         }
     }

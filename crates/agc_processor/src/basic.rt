@@ -8,7 +8,7 @@ use agc_word::{Over, Wide, complement, dabs, sum, widen};
 
 impl Processor {
     ghost use Rattle.std.specs.Prelude.{◌≡◌, ℕ, ◌<◌, ◌+◌, ◌%◌, false};
-    ghost use Rattle.agc_processor.specs.Basic.{tc_of, ccs_of, tcf_of, lxch_of, incr_of, ads_of, ca_of, cs_of, index_of, resume_of, ts_of, ts_with_overflow, xch_of, ad_of, mask_of};
+    ghost use Rattle.agc_processor.specs.Basic.{tc_of, ccs_of, lxch_of, incr_of, ads_of, ca_of, cs_of, index_of, resume_of, ts_of, ts_with_overflow, xch_of, ad_of, mask_of};
 
     #[inline]
     #[tactic(auto, unfolding(crate::specs::Basic::tc_of))]
@@ -29,14 +29,6 @@ impl Processor {
         let x = self.read_again(k);
         self.store.set_a(dabs(x));
         self.skip(orders_left_out(x));
-    }
-
-    #[inline]
-    #[tactic(auto, unfolding(crate::specs::Basic::tcf_of))]
-    pub(crate) fn tcf(&mut self, k: Addr)
-        ensures { self.new ≡ tcf_of k self.old }
-    {
-        self.store.set_z(k);
     }
 
     #[tactic(auto, unfolding(crate::specs::Basic::lxch_of))]
@@ -110,17 +102,17 @@ impl Processor {
     }
 
     #[inline]
-    #[tactic(auto, unfolding(crate::specs::Basic::ts_of))]
+    #[tactic(auto, unfolding(crate::specs::Basic::ts_of, agc_word::specs::Arithmetic::over_of))]
     pub(crate) fn ts(&mut self, k: Addr)
         requires { k < 0o2000 }
         ensures { self.new ≡ ts_of k self.old }
     {
         let a = self.store.a();
-        match a.over() {
-            Over::None => self.store.write(k, a),
-            Over::Plus => self.ts_with_overflow(k),
-            Over::Minus => self.ts_with_overflow(k),
+        if a.over() != Over::None {
+            self.ts_with_overflow(k);
+            return;
         }
+        self.store.write_in_range(k, a);
     }
 
     /// A stays where K names A, else K takes it and A keeps its overflow alone.

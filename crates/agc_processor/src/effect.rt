@@ -10,6 +10,7 @@ use agc_word::FIRST_IO_CHANNEL;
 impl Processor {
     ghost use Rattle.std.specs.Prelude.{◌≡◌, ◌<◌, ◌^◌, ◌%◌};
     ghost use Rattle.agc_processor.specs.Keeps.{Keeps};
+    ghost use Rattle.agc_processor.specs.Processor.{jump};
     ghost use Rattle.agc_processor.specs.Effect.{basic_effect, extracode_effect, order_effect, IsOrderly, long_address, short_address, channel_number, branches, ends, shows};
 
     /// The order's address of twelve bits.
@@ -81,12 +82,22 @@ impl Processor {
         ensures { (self.new, result) ≡ branches test self.old }
     {
         if test {
-            let k = self.long_address();
-            self.store.set_z(k);
-            self.end(1)
+            self.end_at(self.long_address())
         } else {
             self.end(2)
         }
+    }
+
+    /// Ends a jump, which takes one cycle: the order at the address, a basic order, comes into hand.
+    #[inline]
+    #[tactic(auto, unfolding(crate::specs::Processor::fetched))]
+    fn end_at(&mut self, k: Addr) -> Ran
+        ensures { (self.new, result) ≡ ends 1 (jump k self.old) }
+    {
+        self.extracode = false;
+        self.midway = false;
+        self.hand = self.store.fetch_at(k);
+        Ran::Quiet(1)
     }
 
     /// Runs the order in hand, which begins at this cycle.
@@ -106,7 +117,7 @@ impl Processor {
     }
 
     #[inline(always)]
-    #[tactic(auto, unfolding(crate::specs::Effect::basic_effect))]
+    #[tactic(auto, unfolding(crate::specs::Effect::basic_effect, crate::specs::Basic::tcf_of))]
     fn run_basic(&mut self, order: Basic) -> Ran
         ensures effect { (self.new, result) ≡ basic_effect order self.old }
         ensures orderly { IsOrderly result }
@@ -132,10 +143,7 @@ impl Processor {
                 self.ccs(self.short_address());
                 self.end(2)
             }
-            Basic::Tcf => {
-                self.tcf(self.long_address());
-                self.end(1)
-            }
+            Basic::Tcf => self.end_at(self.long_address()),
             Basic::Das => {
                 self.das(self.short_address());
                 self.end(3)

@@ -4,9 +4,9 @@ use Rattle.std.proofs.lemmas.List.{length-set, get_or-set_other, get_or-replicat
 use Rattle.std.proofs.lemmas.Bool.Decides.{nat_tests}
 use Rattle.std.proofs.lemmas.Bool.{cases_lt, cases_eq}
 use Rattle.std.proofs.lemmas.Grind.{common_steps}
-use Rattle.agc_word.specs.Number.{Number}
+use Rattle.agc_word.specs.Number.{Number, pattern_of}
 use Rattle.agc_word.specs.Arithmetic.{narrow_of}
-use Rattle.agc_store.specs.Places.{a_cell, l_cell, q_cell, eb_cell, fb_cell, bb_cell, zero_cell}
+use Rattle.agc_store.specs.Places.{a_cell, l_cell, q_cell, eb_cell, fb_cell, z_cell, bb_cell, zero_cell}
 use Rattle.agc_store.specs.Memory.{nothing, cell_at, erasable_bank, fixed_bank, bank_with_superbank}
 use Rattle.agc_store.specs.Cells.{narrow_number, with_banks, cleared_cells, stored_pattern}
 use Rattle.agc_store.specs.Registers.{HoldsRegisters, KeepsPlaces}
@@ -20,6 +20,10 @@ stored_address z h = grind (arith, nat_tests)
 pub narrow_of-narrow : (x : Number) → x.magnitude < 2 ^ 14 → narrow_of x ≡ x
 unfolding narrow_of
 narrow_of-narrow x h = grind (arith, common_steps)
+
+-- the same under a name that code can cite
+pub narrow_stays : (x : Number) → x.magnitude < 2 ^ 14 → narrow_of x ≡ x
+narrow_stays x h = narrow_of-narrow x h
 
 -- every cell of cleared ones is +0
 pub cell_at-cleared : (count k : ℕ) → cell_at k (cleared_cells count) ≡ nothing
@@ -134,12 +138,13 @@ unfolding bank_with_superbank
 bank_with_superbank-lt superbank bank h = grind (arith, nat_tests)
 
 -- the places that are kept once the banks are set
-pub banks_places : (cells : List Number) (superbank : Bool) (eb fb : ℕ) → length cells ≡ 2048 → eb < 8 → fb < 32 → KeepsPlaces (with_banks cells eb fb) superbank (0o400 * eb) (0o2000 * bank_with_superbank superbank fb)
-banks_places cells superbank eb fb h e f =
+pub banks_places : (cells : List Number) (superbank : Bool) (eb fb : ℕ) → length cells ≡ 2048 → eb < 8 → fb < 32 → pattern_of 16 (cell_at z_cell cells) < 0o10000 → KeepsPlaces (with_banks cells eb fb) superbank (0o400 * eb) (0o2000 * bank_with_superbank superbank fb)
+banks_places cells superbank eb fb h e f z =
     record {
       erasable = rw (erasable_bank-banks cells eb fb h e f);
       fixed = rw (fixed_bank-banks cells eb fb h e f);
       in_range = omega (arith, bank_with_superbank-lt superbank fb f);
+      z = rw (cell_at-banks cells eb fb z_cell (omega arith) (omega arith) (omega arith)) z;
     }
 
 -- the places that are kept at the start
@@ -150,6 +155,7 @@ start_places count =
       erasable = rw (erasable_bank-zero (cleared_cells count) (cell_at-cleared count eb_cell));
       fixed = rw (fixed_bank-zero (cleared_cells count) (cell_at-cleared count fb_cell));
       in_range = omega arith;
+      z = rw (cell_at-cleared count z_cell) (omega arith);
     }
 
 -- L reads as it stands

@@ -1,3 +1,4 @@
+pub mod Jump
 pub mod Woven
 pub mod Kept
 pub mod RopeWords

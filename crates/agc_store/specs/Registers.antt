@@ -32,14 +32,17 @@ pub record IsPlain (place : ℕ) : Type 0 where
   pub no_bb : place ≢ bb_cell
   pub no_zero : place ≢ zero_cell
 
--- a word that a cell can hold: one with overflow only in A and Q
+-- a word that a cell can hold: one with overflow only in A and Q, and an address in Z
 abbrev pub IsStorable : ℕ → Number → Type 0
-IsStorable place w = place ≢ a_cell → place ≢ q_cell → w.magnitude < 2 ^ 14
+IsStorable place w =
+    (place ≢ a_cell → place ≢ q_cell → w.magnitude < 2 ^ 14)
+    × (place ≡ z_cell → pattern_of 16 w < 0o10000)
 
 -- the two places that a store keeps: the first cell of EB's bank, and the first word of the fixed
--- bank that is selected
+-- bank that is selected; and Z, which is an address
 pub record KeepsPlaces (cells : List Number) (superbank : Bool) (erasable_base fixed_base : ℕ)
     : Type 0 where
   pub erasable : erasable_base ≡ erasable_bank_size * erasable_bank cells
   pub fixed : fixed_base ≡ fixed_bank_size * bank_with_superbank superbank (fixed_bank cells)
   pub in_range : fixed_base < 40960
+  pub z : pattern_of 16 (cell_at z_cell cells) < 0o10000

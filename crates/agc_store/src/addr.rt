@@ -49,6 +49,15 @@ impl Addr {
         }
     }
 
+    /// The address with this number, for a caller who knows that it has twelve bits.
+    #[inline]
+    pub(crate) fn kept(bits: u16) -> Addr
+        requires { bits < 0o10000 }
+        ensures { result ≡ bits }
+    {
+        Addr { bits }
+    }
+
     /// The address in bits 12 to 1 of a word, as Z keeps it.
     #[inline]
     pub fn of_word(word: Narrow) -> Addr
@@ -71,7 +80,7 @@ impl Addr {
     pub fn word(self) -> Narrow
         ensures { result ≡ narrow_number self }
     {
-        Narrow::with_bits(self.bits)
+        Narrow::with_bits(self.bits % 0o10000)
     }
 
     /// The address so many places on; after `7777` octal comes 0.

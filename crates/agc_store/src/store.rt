@@ -1,8 +1,8 @@
 //! The store: the cells, the rope, and what each access returns and leaves.
-#![tactic(auto, unfolding(crate::specs::Memory::cell_at, crate::specs::Memory::fixed_at, crate::specs::Memory::selected_bank, crate::specs::Memory::read_of, crate::specs::Cells::write_of, crate::specs::Cells::fetch_of, crate::specs::Cells::named_cell, crate::specs::Cells::reedit_of, crate::specs::Cells::cell_of, crate::specs::Cells::fixed_of, crate::specs::Cells::poke_of, crate::specs::Cells::superbank_set))]
+#![tactic(auto, unfolding(crate::specs::Memory::cell_at, crate::specs::Memory::erasable_place, crate::specs::Memory::fixed_at, crate::specs::Memory::selected_bank, crate::specs::Memory::read_of, crate::specs::Cells::write_of, crate::specs::Cells::fetch_of, crate::specs::Cells::named_cell, crate::specs::Cells::reedit_of, crate::specs::Cells::cell_of, crate::specs::Cells::fixed_of, crate::specs::Cells::poke_of, crate::specs::Cells::superbank_set))]
 
-ghost use Rattle.std.specs.Prelude.{◌≡◌, ℕ, ◌+◌, ◌*◌, ◌<◌, ◌≤◌};
-ghost use Rattle.agc_store.specs.Places.{zero_cell, fixed_window};
+ghost use Rattle.std.specs.Prelude.{◌≡◌, ℕ, ◌+◌, ◌*◌, ◌<◌, ◌≤◌, ◌^◌, ◌&&◌, nat_lt};
+ghost use Rattle.agc_store.specs.Places.{zero_cell, edop_cell, erasable_window, fixed_window};
 ghost use Rattle.agc_store.specs.Memory.{read_of};
 ghost use Rattle.agc_store.specs.Cells.{
   write_of,
@@ -23,7 +23,9 @@ mod narrow_cells;
 mod registers;
 
 use crate::addr::Addr;
-use crate::place::{CYR, EDOP, ERASABLE_BANK_SIZE, FIXED_BANK_SIZE, FIXED_WINDOW};
+use crate::place::{
+    CYR, EDOP, ERASABLE_BANK_SIZE, ERASABLE_WINDOW, FIXED_BANK_SIZE, FIXED_FIXED, FIXED_WINDOW,
+};
 use crate::rope::Rope;
 use agc_word::{Narrow, Wide, widen};
 use banks::selected;
@@ -81,23 +83,28 @@ impl Store {
         ensures registers { HoldsRegisters self.now.erasable }
     {
         let number = usize::from(address.bits());
-        if number < FIXED_WINDOW as usize {
-            self.cells[self.erasable_place(number)]
-        } else {
+        if number >= FIXED_WINDOW as usize {
             widen(self.rope.word(self.fixed_place(number)))
+        } else if is_past_editing(number) {
+            self.cells[number]
+        } else {
+            self.cells[self.erasable_place(number)]
         }
     }
 
     /// The narrow word at an address, as an order is fetched: overflow in A and Q is corrected.
     #[inline]
+    #[tactic(auto, unfolding(crate::specs::Memory::cell_at, crate::specs::Memory::fixed_place, crate::specs::Memory::read_of, crate::specs::Cells::fetch_of))]
     pub fn fetch(&self, address: Addr) -> Narrow
         ensures { result ≡ fetch_of self.now address }
     {
         let number = usize::from(address.bits());
-        if number < FIXED_WINDOW as usize {
-            self.cells[self.erasable_place(number)].narrow()
-        } else {
+        if number >= FIXED_FIXED as usize {
+            self.rope.word(number)
+        } else if number >= FIXED_WINDOW as usize {
             self.rope.word(self.fixed_place(number))
+        } else {
+            self.cells[self.erasable_place(number)].narrow()
         }
     }
 
@@ -110,8 +117,29 @@ impl Store {
         requires { address < fixed_window }
         ensures { self.new ≡ write_of self.old address word }
     {
-        let place = self.erasable_place(usize::from(address.bits()));
-        self.put(place, word);
+        let number = usize::from(address.bits());
+        if is_past_editing(number) {
+            self.put(number, word);
+        } else {
+            let cell = self.erasable_place(number);
+            self.put(cell, word);
+        }
+    }
+
+    /// Writes a word without overflow, as `write` does: nothing is to be corrected in a plain cell.
+    #[inline]
+    #[tactic(auto, using(crate::proofs::Kept::narrow_stays), unfolding(crate::specs::Memory::erasable_place, crate::specs::Cells::write_of, crate::specs::Cells::put_of, crate::specs::Cells::cells_with))]
+    pub fn write_in_range(&mut self, address: Addr, word: Wide)
+        requires address { address < fixed_window }
+        requires range { word.magnitude < 2 ^ 14 }
+        ensures { self.new ≡ write_of self.old address word }
+    {
+        let number = usize::from(address.bits());
+        if is_past_editing(number) {
+            self.set_plain(number, word);
+        } else {
+            self.write(address, word);
+        }
     }
 
     /// Writes the word of an editing register into it again, so that it is edited once more; leaves
@@ -121,7 +149,7 @@ impl Store {
         ensures { self.new ≡ reedit_of self.old address }
     {
         let number = usize::from(address.bits());
-        if number < FIXED_WINDOW as usize {
+        if number < FIXED_WINDOW as usize && !is_past_editing(number) {
             let place = self.erasable_place(number);
             if CYR as usize <= place && place <= EDOP as usize {
                 let word = self.cells[place];
@@ -201,4 +229,13 @@ impl Store {
         let place = ERASABLE_BANK_SIZE as usize * usize::from(bank) + usize::from(offset);
         self.set_plain(place, widen(word));
     }
+}
+
+/// An address below the window names its own cell there, and one past EDOP no register: what most
+/// orders meet in erasable memory, by one comparison.
+#[inline(always)]
+fn is_past_editing(number: usize) -> bool
+    ensures { result ≡ nat_lt edop_cell number && nat_lt number erasable_window }
+{
+    number > EDOP as usize && number < ERASABLE_WINDOW as usize
 }

@@ -248,12 +248,33 @@ fn fixed_banks_and_superbank(rt: HostRuntime) -> Result<(), Fail> {
 }
 
 #[test]
+fn a_jump_fetches_and_counts_on(rt: HostRuntime) -> Result<(), Fail> {
+    let file = banks_file(rt.alloc())?;
+    let mut store = Store::new(Rope::read(rt.alloc(), &file)?);
+    assert_eq!(rt; store.fetch_at(at(0o6000)).bits(), 0o03);
+    assert_eq!(rt; store.z(), at(0o6001));
+    assert_eq!(rt; store.fetch_at(at(0o2000)).bits(), 0o00);
+    assert_eq!(rt; store.z(), at(0o2001));
+    assert_eq!(rt;
+        store.fetch_at(at(5)).bits(),
+        0o00005,
+        "Z shows where the jump went"
+    );
+    assert_eq!(rt; store.z(), at(6));
+    Ok(())
+}
+
+#[test]
 fn kept_erasable_bank(rt: HostRuntime) -> Result<(), Fail> {
     let mut store = empty_store(rt.alloc())?;
     assert_eq!(rt; store.named_cell(at(0o1403)), Some(3));
     store.write(at(0o1403), Wide::from_bits(0o002400));
     store.write(at(0o1400), Wide::from_bits(0o000007));
     assert_eq!(rt; store.cell(5, 0), word(0o00007));
+    store.write_in_range(at(0o1401), Wide::from_bits(0o000011));
+    assert_eq!(rt; store.cell(5, 1), word(0o00011));
+    store.write_in_range(at(0o100), Wide::from_bits(0o000012));
+    assert_eq!(rt; store.cell(0, 0o100), word(0o00012));
     assert_eq!(rt; store.read(at(EB)).bits(), 0o002400);
     assert_eq!(rt; store.erasable_bank(), 5);
     assert_eq!(rt; store.named_cell(at(0o1400)), Some(5 * 0o400));

@@ -1,15 +1,15 @@
 //! The registers by name.
 #![tactic(auto, unfolding(crate::specs::Memory::cell_at, crate::specs::Cells::put_of, crate::specs::Cells::cells_with, crate::specs::Registers::register, crate::specs::Registers::z_of))]
 
-ghost use Rattle.std.specs.Prelude.{◌≡◌};
+ghost use Rattle.std.specs.Prelude.{◌≡◌, ◌+◌, ◌%◌};
 ghost use Rattle.agc_store.specs.Places.{a_cell, l_cell, q_cell, z_cell};
-ghost use Rattle.agc_store.specs.Cells.{narrow_number, put_of};
+ghost use Rattle.agc_store.specs.Cells.{narrow_number, put_of, fetch_of};
 ghost use Rattle.agc_store.specs.Registers.{register, z_of};
 
 use super::Store;
 use super::narrow_cells::narrow_word;
 use crate::addr::Addr;
-use crate::place::{A, L, Q, Z};
+use crate::place::{A, FIXED_FIXED, FIXED_WINDOW, L, Q, Z};
 use agc_word::{Narrow, Wide, widen};
 
 impl Store {
@@ -42,7 +42,7 @@ impl Store {
     pub fn z(&self) -> Addr
         ensures { result ≡ z_of self.now }
     {
-        Addr::wrapped(self.cells[Z as usize].bits())
+        Addr::kept(self.cells[Z as usize].bits())
     }
 
     /// Sets A, as a write to it does.
@@ -75,5 +75,28 @@ impl Store {
         ensures { self.new ≡ put_of self.old z_cell (narrow_number address) }
     {
         self.set_plain(Z as usize, narrow_word(address.bits()));
+    }
+
+    /// Jumps to an address: sets Z to it, takes the word there, and counts Z on. Fixed memory does
+    /// not see Z, which is written once there.
+    #[inline]
+    #[tactic(auto, using(crate::proofs::Jump::put_twice, crate::proofs::Jump::z_after, crate::proofs::Jump::fetch_unmoved))]
+    pub fn fetch_at(&mut self, address: Addr) -> Narrow
+        ensures jumped { z_of (put_of self.old z_cell (narrow_number address)) ≡ address }
+        ensures word { result ≡ fetch_of (put_of self.old z_cell (narrow_number address)) address }
+        ensures next { self.new ≡ put_of (put_of self.old z_cell (narrow_number address)) z_cell (narrow_number ((address + 1) % 0o10000)) }
+    {
+        let _ = &self.cells;
+        let number = usize::from(address.bits());
+        let word = if number >= FIXED_FIXED as usize {
+            self.fetch(address)
+        } else if number >= FIXED_WINDOW as usize {
+            self.fetch(address)
+        } else {
+            self.set_z(address);
+            self.fetch(address)
+        };
+        self.set_z(address.next());
+        word
     }
 }

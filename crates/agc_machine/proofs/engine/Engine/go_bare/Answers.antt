@@ -1,21 +1,33 @@
-use Rattle.std.proofs.Common.{◌∙◌, refl, arith}
-use Rattle.agc_machine.proofs.Before.{before_at_cycle, before_after_quiet, before_at_write, before_at_stop}
+use Rattle.std.proofs.Common.{◌<◌, ◌∙◌, refl, ap, Option, arith}
+use Rattle.agc_machine.proofs.Before.{before_at_cycle, before_after_quiet, before_at_end}
 use Rattle.agc_machine.proofs.Chain.{fewer_after_quiet}
+use Rattle.agc_machine.specs.Boundary.{is_reached}
+use Rattle.agc_machine.specs.declared.stop_address.StopAddress.{StopAddress}
+use Rattle.agc_machine.specs.Engine.{at_cycle, state_of}
+use Rattle.agc_machine.proofs.Stillness.{none_requested}
 use Rattle.agc_machine.proofs.engine.Engine.go_bare.Goals as goal
 
-pub returns-then-end-self-clause-next : goal.returns-then-end-self-clause-next
-returns-then-end-self-clause-next c = before_at_cycle _ _ _ c.in-Quiet.ensures.step (omega arith) ∙ c.loop-write.invariant.1
+pub order_in_quiet-requires-clause-uninterrupted : goal.order_in_quiet-requires-clause-uninterrupted
+order_in_quiet-requires-clause-uninterrupted c =
+    let some : 0 < c.loop-next.self.quiet_until = omega arith in
+    none_requested (state_of (at_cycle c.loop-next.cycle c.loop-next.self)) (rw c.loop-next.invariant.4 at c.loop-next.invariant.0.pace some).0
 
-pub loop-write-smaller : goal.loop-write-smaller
-loop-write-smaller c = fewer_after_quiet _ _ c.in-Quiet.ensures.step
+pub order_in_quiet-requires-clause-unreached : goal.order_in_quiet-requires-clause-unreached
+order_in_quiet-requires-clause-unreached c =
+    let some : 0 < c.loop-next.self.quiet_until = omega arith in
+    ap (λ (u : Option StopAddress). is_reached u c.loop-next.self.processor) (rw c.loop-next.invariant.4 at c.loop-next.invariant.0.pace some).1
 
-pub loop-write-preserved : goal.loop-write-preserved
-loop-write-preserved c =
-    let same = c.in-Quiet.ensures.quiet_until refl in
-    (c.in-Quiet.ensures.sound, before_after_quiet _ _ _ c.in-Quiet.ensures.step (omega arith) ∙ c.loop-write.invariant.1, omega arith, omega arith, c.in-Quiet.ensures.pace ∙ c.loop-write.invariant.4)
+pub returns-then-end-cycle-clause-next : goal.returns-then-end-cycle-clause-next
+returns-then-end-cycle-clause-next c = before_at_cycle _ _ _ c.in-Goes.ensures.step (omega arith) ∙ c.loop-next.invariant.1
 
-pub returns-in-Wrote-clause-next : goal.returns-in-Wrote-clause-next
-returns-in-Wrote-clause-next c = before_at_write _ _ _ _ c.in-Wrote.ensures.step ∙ c.loop-write.invariant.1
+pub loop-next-smaller : goal.loop-next-smaller
+loop-next-smaller c = fewer_after_quiet _ _ c.in-Goes.ensures.step
 
-pub returns-in-Stopped-clause-next : goal.returns-in-Stopped-clause-next
-returns-in-Stopped-clause-next c = before_at_stop _ _ _ _ c.in-Stopped.ensures.step ∙ c.loop-write.invariant.1
+pub loop-next-preserved : goal.loop-next-preserved
+loop-next-preserved c =
+    let same = c.in-Goes.ensures.quiet_until _ refl in
+    (c.in-Goes.ensures.sound, before_after_quiet _ _ _ c.in-Goes.ensures.step (omega arith) ∙ c.loop-next.invariant.1, omega arith, omega arith, c.in-Goes.ensures.pace ∙ c.loop-next.invariant.4)
+
+pub returns-in-Ends-clause-next : goal.returns-in-Ends-clause-next
+returns-in-Ends-clause-next c =
+    before_at_end _ _ _ _ c.in-Ends.ensures.step (c.in-Ends.ensures.shows _ refl) ∙ c.loop-next.invariant.1

@@ -1,7 +1,7 @@
 use Rattle.std.proofs.Common.{◌∙◌, refl, arith}
 use Rattle.agc_machine.proofs.Before.{before_at_cycle, before_after_quiet, before_at_write, before_at_stop}
 use Rattle.agc_machine.proofs.Chain.{fewer_after_quiet}
-use Rattle.agc_machine.proofs.engine.Engine.go_held.Goals as goal
+use Rattle.agc_machine.proofs.engine.Engine.go_step_by_step.Goals as goal
 
 pub returns-then-end-self-clause-next : goal.returns-then-end-self-clause-next
 returns-then-end-self-clause-next c = before_at_cycle _ _ _ c.in-Quiet.ensures.step (omega arith) ∙ c.loop-self.invariant.1

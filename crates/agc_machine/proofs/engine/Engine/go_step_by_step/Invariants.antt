@@ -1,7 +1,7 @@
 use Rattle.std.proofs.Common.{◌≡◌, ◌<◌, ◌≤◌}
 use Rattle.agc_machine.specs.Engine.{state_of, IsSound}
 use Rattle.agc_machine.specs.Run.{boundaries_left, next_before}
-use Rattle.agc_machine.proofs.engine.Engine.go_held.Given as goal
+use Rattle.agc_machine.proofs.engine.Engine.go_step_by_step.Given as goal
 
 -- the machine is sound and quiet, and where its way ends is where the one that is sought ends
 abbrev pub invariant-loop-self : goal.invariant-loop-self
