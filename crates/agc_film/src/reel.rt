@@ -2,7 +2,7 @@
 ghost use Rattle.std.specs.Prelude.{◌≡◌, [], IfOk, Some};
 ghost use Rattle.agc_machine.specs.Run.{run_of};
 ghost use Rattle.agc_film.specs.Frames.{HasTaken};
-ghost use Rattle.agc_film.specs.Reel.{ShowsRun};
+ghost use Rattle.agc_film.specs.Reel.{IsReelOf};
 
 use crate::frame::Frame;
 use crate::press::{Press, presses_up_to};
@@ -36,7 +36,7 @@ pub fn film<P: Progress>(
     presses: &[Press],
     progress: &mut P,
 ) -> Result<Reel, AllocError>
-    ensures reel { IfOk result (λ reel. ShowsRun (run_of machine.old) presses.now reel) }
+    ensures reel { IfOk result (λ reel. IsReelOf (run_of machine.old) presses.now reel) }
     ensures machine { IfOk result (λ _. machine.new ≡ (run_of machine.old).last) }
 {
     let mut recorder = Recorder::new(alloc);

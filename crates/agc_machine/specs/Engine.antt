@@ -25,16 +25,16 @@ state_of m =
     }
 
 -- the engine at another cycle
-abbrev pub at_cycle : ℕ → Engine → Engine
-at_cycle cycle m = record m { cycle = cycle }
+abbrev pub engine_at : ℕ → Engine → Engine
+engine_at cycle m = record m { cycle = cycle }
 
 -- the engine behind an order that ran at a cycle of its own, and what the boundary has done then
 abbrev pub paced_engine : Engine → Paced → Engine
-paced_engine m (paced.Goes next) = at_cycle next m
+paced_engine m (paced.Goes next) = engine_at next m
 paced_engine m (paced.Ends what) = m
 
 abbrev pub paced_state : Engine → Paced → State × Stepped
-paced_state m (paced.Goes next) = (state_of (at_cycle next m), stepped.Quiet)
+paced_state m (paced.Goes next) = (state_of (engine_at next m), stepped.Quiet)
 paced_state m (paced.Ends what) = (state_of m, what)
 
 -- No timer is ahead of a cycle: none has taken more steps than pulses have gone by, and TIME6's

@@ -44,7 +44,7 @@ pub(crate) enum Paced {
 impl Engine {
     ghost use Rattle.std.specs.Prelude.{◌≡◌, ℕ, ◌<◌, ◌≤◌, ◌+◌, ◌%◌, ◌^◌, ◌↔◌, ◌||◌, length, drop, slice_get, true, false, IsTrue, IsSome, IfSome, IfNone, Some, None};
     ghost use Rattle.agc_script.specs.Event.{IsInRange};
-    ghost use Rattle.agc_machine.specs.Engine.{at_cycle, state_of, IsSound, IsRunning, paced_engine, paced_state};
+    ghost use Rattle.agc_machine.specs.Engine.{engine_at, state_of, IsSound, IsRunning, paced_engine, paced_state};
     ghost use Rattle.agc_machine.specs.Quiet.{IsLongest, IsQuiet, Serves, pace_of};
     ghost use Rattle.agc_machine.specs.State.{start_state};
     ghost use Rattle.agc_machine.specs.Run.{next_before, next_of};
@@ -351,10 +351,10 @@ impl Engine {
     #[inline(always)]
     #[tactic(auto, unfolding(crate::specs::Boundary::by_order))]
     pub(crate) fn order_at(&mut self, cycle: u64) -> Paced
-        requires running { IsRunning (at_cycle cycle self.old) }
-        requires quiet { 0 < self.old.quiet_until → IsQuiet self.old.quiet_until (state_of (at_cycle cycle self.old)) }
-        requires pace { 0 < self.old.quiet_until → Serves self.old.pace (state_of (at_cycle cycle self.old)) }
-        ensures step { paced_state self.new result ≡ by_order (state_of (at_cycle cycle self.old)) }
+        requires running { IsRunning (engine_at cycle self.old) }
+        requires quiet { 0 < self.old.quiet_until → IsQuiet self.old.quiet_until (state_of (engine_at cycle self.old)) }
+        requires pace { 0 < self.old.quiet_until → Serves self.old.pace (state_of (engine_at cycle self.old)) }
+        ensures step { paced_state self.new result ≡ by_order (state_of (engine_at cycle self.old)) }
         ensures sound { IsSound (paced_engine self.new result) }
         ensures quiet_until { (next : ℕ) → result ≡ Paced.Goes next → self.new.quiet_until ≡ self.old.quiet_until }
         ensures pace { self.new.pace ≡ self.old.pace }

@@ -21,7 +21,7 @@ pub(crate) enum Pace {
 impl Engine {
     ghost use Rattle.std.specs.Prelude.{◌≡◌, ℕ, ◌<◌, ◌≤◌, drop, false, true, None, Some};
     ghost use Rattle.agc_machine.specs.Boundary.{boundary, by_interrupt, is_reached, IsBefore};
-    ghost use Rattle.agc_machine.specs.Engine.{at_cycle, state_of, IsInTime, IsSound, paced_engine, paced_state};
+    ghost use Rattle.agc_machine.specs.Engine.{engine_at, state_of, IsInTime, IsSound, paced_engine, paced_state};
     ghost use Rattle.agc_machine.specs.Quiet.{IsEventDue, IsLongest, IsQuiet, Serves, is_timer_due, pace_of};
     ghost use Rattle.agc_machine.specs.Run.{next_before};
 
@@ -195,11 +195,11 @@ impl Engine {
     /// address is not in hand.
     #[inline(always)]
     fn order_in_quiet(&mut self, cycle: u64) -> Paced
-        requires sound { IsSound (at_cycle cycle self.old) }
+        requires sound { IsSound (engine_at cycle self.old) }
         requires quiet { cycle < self.old.quiet_until }
-        requires uninterrupted { by_interrupt (state_of (at_cycle cycle self.old)) ≡ None }
+        requires uninterrupted { by_interrupt (state_of (engine_at cycle self.old)) ≡ None }
         requires unreached { is_reached self.old.until self.old.processor ≡ false }
-        ensures step { paced_state self.new result ≡ boundary None (state_of (at_cycle cycle self.old)) }
+        ensures step { paced_state self.new result ≡ boundary None (state_of (engine_at cycle self.old)) }
         ensures sound { IsSound (paced_engine self.new result) }
         ensures quiet_until { (next : ℕ) → result ≡ Paced.Goes next → self.new.quiet_until ≡ self.old.quiet_until }
         ensures pace { self.new.pace ≡ self.old.pace }

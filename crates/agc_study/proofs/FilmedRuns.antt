@@ -8,7 +8,7 @@ use Rattle.agc_script.specs.declared.event.Event.{Event}
 use Rattle.agc_session.specs.Files.{events_in}
 use Rattle.agc_session.specs.declared.refusal.Refusal.{Refusal}
 use Rattle.agc_film.specs.Presses.{presses_of}
-use Rattle.agc_film.specs.Reel.{ShowsRun}
+use Rattle.agc_film.specs.Reel.{IsReelOf}
 use Rattle.agc_film.specs.declared.press.Press.{Press}
 use Rattle.agc_film.specs.declared.reel.Reel.{Reel}
 use Rattle.agc_study.specs.Filmed.{IsFilmed}
@@ -19,13 +19,13 @@ use Rattle.agc_study.specs.declared.asked.Filming.{Filming}
 filmed : (asked : Filming) (rope script : Option (List ℕ)) (machine : State) (events : List Event)
     (reel : Reel) → IsStarted asked.form asked.until asked.limit rope script machine
     → IfSome script (λ file. events ≡ events_in (script_of file))
-    → ShowsRun (run_of machine) (presses_of events) reel → IsFilmed asked rope script reel
+    → IsReelOf (run_of machine) (presses_of events) reel → IsFilmed asked rope script reel
 filmed asked None script machine events reel start read shows = tt
 filmed asked (Some rope) None machine events reel start read shows = tt
 filmed asked (Some rope) (Some script) machine events reel start read shows = record {
   machine = machine;
   start = start;
-  shows = subst (λ all. ShowsRun (run_of machine) (presses_of all) reel) read shows;
+  shows = subst (λ all. IsReelOf (run_of machine) (presses_of all) reel) read shows;
 }
 
 pub filmed_run : (asked : Filming) (rope script : Option (List ℕ)) (started : Result State Refusal)
@@ -33,8 +33,8 @@ pub filmed_run : (asked : Filming) (rope script : Option (List ℕ)) (started : 
     → started ≡ Ok machine
     → IfOk started (IsStarted asked.form asked.until asked.limit rope script)
     → IfSome script (λ file. events ≡ events_in (script_of file)) → keys ≡ presses_of events
-    → ShowsRun (run_of machine) keys reel → IsFilmed asked rope script reel
+    → IsReelOf (run_of machine) keys reel → IsFilmed asked rope script reel
 filmed_run asked rope script started machine events keys reel is start read pressed shows =
     filmed asked rope script machine events reel
     (subst (λ r. IfOk r (IsStarted asked.form asked.until asked.limit rope script)) is start)
-    read (subst (λ all. ShowsRun (run_of machine) all reel) pressed shows)
+    read (subst (λ all. IsReelOf (run_of machine) all reel) pressed shows)

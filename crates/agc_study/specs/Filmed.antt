@@ -9,7 +9,7 @@ use Rattle.agc_machine.specs.State.{State}
 use Rattle.agc_session.specs.Files.{events_in}
 use Rattle.agc_film.specs.Page.{film_text, film_pair_text}
 use Rattle.agc_film.specs.Presses.{presses_of}
-use Rattle.agc_film.specs.Reel.{ShowsRun}
+use Rattle.agc_film.specs.Reel.{IsReelOf}
 use Rattle.agc_film.specs.declared.reel.Reel.{Reel}
 use Rattle.agc_study.specs.Started.{IsStartedOf}
 use Rattle.agc_study.specs.declared.asked.Filming.{Filming}
@@ -19,7 +19,7 @@ pub record IsFilmedOf (form : RopeForm) (until : Option (String Global)) (limit 
     (rope script : List ℕ) (reel : Reel) : Type 0 where
   pub machine : State
   pub start : IsStartedOf form until limit rope script machine
-  pub shows : ShowsRun (run_of machine) (presses_of (events_in (script_of script))) reel
+  pub shows : IsReelOf (run_of machine) (presses_of (events_in (script_of script))) reel
 
 -- the same, as far as the readers of the files tell their bytes
 abbrev pub IsFilmed : Filming → Option (List ℕ) → Option (List ℕ) → Reel → Type 0

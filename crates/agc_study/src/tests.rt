@@ -1,7 +1,8 @@
 //! The program on its command lines, over files that are not there; `examples/study` runs it on files.
-use crate::asked::{Comparing, asked_by};
+use crate::asked::{Comparing, Filming, asked_by};
 use crate::checks::check_files;
 use crate::compares::compare_files;
+use crate::films::film_files;
 use crate::ropes::{list_rope, weave_text};
 use crate::ticker::{Shown, Ticker};
 use crate::trouble::Trouble;
@@ -56,6 +57,8 @@ fn help(rt: HostRuntime) {
         ("agc-study trace --help", "--until"),
         ("agc-study trace --help", "--only"),
         ("agc-study compare --help", "--limit"),
+        ("agc-study film --help", "--limit"),
+        ("agc-study film --help", "SCRIPT"),
     ] {
         let ended = program(&rt, line);
         assert_eq!(rt; ended.status, 0, "{line}");
@@ -236,6 +239,29 @@ fn runs_are_compared(rt: HostRuntime) -> Result<(), Fail> {
         assert_eq!(rt; write_told(&found, &mut out), status);
         assert!(rt; found.text.as_str().starts_with(told));
     }
+    Ok(())
+}
+
+/// The order WRITE 10 behind EXTEND, with PROG 12 in A: its film has one frame, at the cycle of the write.
+#[test]
+fn runs_are_filmed(rt: HostRuntime) -> Result<(), Fail> {
+    let alloc = rt.alloc();
+    let asked = Filming {
+        rope: String::new(alloc),
+        script: String::new(alloc),
+        other: None,
+        form: RopeForm::Classic,
+        limit: 10,
+        until: None,
+    };
+    let mut rope: &[u8] = &[0x70, 0x08, 0x00, 0x0C, 0x04, 0x10, 0x30, 0x06, 0xB0, 0xF2];
+    let mut script: &[u8] = b"7 pro down";
+    let page = film_files(alloc, &asked, &mut rope, &mut script, &mut Untold)
+        .ok()
+        .ok_or("a page")?;
+    assert!(rt; page.as_str().contains("\nframe 3\nPROG 12\nVERB __\n"));
+    assert!(rt; page.as_str().contains("\nkey 7 PRO\nstop 10 Limit\n"));
+    assert!(rt; !page.as_str().contains("frame 7"));
     Ok(())
 }
 
