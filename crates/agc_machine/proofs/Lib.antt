@@ -14,3 +14,4 @@ pub mod Live
 pub mod Place
 pub mod Told
 pub mod InTime
+pub mod QuietlyTold

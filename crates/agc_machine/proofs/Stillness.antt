@@ -34,7 +34,7 @@ none_of_five false false true d e v w x y z h = cc
 none_of_five false false false true e v w x y z h = cc
 none_of_five false false false false true v w x y z h = cc
 
-no_timer : (cycle : ℕ) (p : Processor) → is_any_due cycle p.timers (switch_word p) ≡ false → due_timer cycle p ≡ None
+pub no_timer : (cycle : ℕ) (p : Processor) → is_any_due cycle p.timers (switch_word p) ≡ false → due_timer cycle p ≡ None
 unfolding due_timer
 no_timer cycle p h =
     none_of_five (is_due cycle time1_first p.timers.time1) (is_due cycle time3_first p.timers.time3) (is_due cycle time4_first p.timers.time4)
@@ -44,7 +44,7 @@ no_step : (cycle : ℕ) (p : Processor) → is_any_due cycle p.timers (switch_wo
 unfolding timer_stepped
 no_step cycle p h = ap (option_map (λ (t : Timer). timer_step t p)) (no_timer cycle p h)
 
-none_or_none : (b : Bool) (o : Option Rupt) → o ≡ None → (if b then o else None) ≡ None
+pub none_or_none : (b : Bool) (o : Option Rupt) → o ≡ None → (if b then o else None) ≡ None
 none_or_none true o e = e
 none_or_none false o e = refl
 

@@ -7,6 +7,7 @@ ghost use Rattle.agc_machine.specs.Upcoming.{ComesAsTold, HasPlace, TellsEachCas
 use crate::answer::Stop;
 use crate::engine::Engine;
 use crate::machine::Machine;
+use crate::quiet::Pace;
 use agc_processor::{Processor, Rupt, Timer};
 use agc_script::What;
 use agc_store::Addr;
@@ -67,9 +68,22 @@ impl Engine {
     ghost use Rattle.agc_machine.specs.Engine.{state_of, IsSound};
     ghost use Rattle.agc_machine.specs.Upcoming.{HasPlace, due_told, upcoming_of};
 
-    /// Of the things that may happen at the next boundary the first that applies.
-    #[tactic(auto, unfolding(crate::specs::Upcoming::upcoming_of, crate::specs::Upcoming::limit_told, crate::specs::Upcoming::event_told, crate::specs::Upcoming::timer_told, crate::specs::Upcoming::interrupt_told, crate::specs::Upcoming::address_told, crate::specs::Upcoming::order_told))]
+    /// Of the things that may happen at the next boundary the first that applies. Where the clock brings
+    /// nothing and nothing may come before it, that is the order in hand.
     fn upcoming(&self) -> Upcoming
+        requires sound { IsSound self.now }
+        ensures told { result ≡ upcoming_of (state_of self.now) }
+        ensures place { HasPlace result }
+    {
+        if self.cycle < self.quiet_until && self.pace == Pace::Bare {
+            return Upcoming::Order(in_hand(&self.processor));
+        }
+        self.upcoming_by_cases()
+    }
+
+    /// The same, by looking at all of them.
+    #[tactic(auto, unfolding(crate::specs::Upcoming::upcoming_of, crate::specs::Upcoming::limit_told, crate::specs::Upcoming::event_told, crate::specs::Upcoming::timer_told, crate::specs::Upcoming::interrupt_told, crate::specs::Upcoming::address_told, crate::specs::Upcoming::order_told))]
+    fn upcoming_by_cases(&self) -> Upcoming
         requires sound { IsSound self.now }
         ensures told { result ≡ upcoming_of (state_of self.now) }
         ensures place { HasPlace result }
