@@ -71,8 +71,10 @@ where
     R: AllocGlobal + Threads + Wait + Sync,
 {
     for _ in 0..TRIES {
-        if attempt(rt, out, call)? == Attempt::Answered {
-            return Ok(true);
+        match attempt(rt, out, call)? {
+            Attempt::Answered => return Ok(true),
+            Attempt::Mistaken => return Ok(false),
+            Attempt::Refused => {}
         }
     }
     Ok(false)

@@ -5,8 +5,10 @@ use std::io::{self, Write};
 /// What came of making a call.
 #[derive(Clone, Copy, Debug, PartialEq, Eq)]
 pub enum Attempt {
-    /// It returned what is not a lack of memory or of a thread.
+    /// It returned what is known.
     Answered,
+    /// It returned something else.
+    Mistaken,
     /// It was out of memory, or no thread was to be had, for the call or for its input.
     Refused,
 }
@@ -32,7 +34,11 @@ pub fn begin<W: Write>(out: &mut W, call: Call) -> io::Result<()> {
 /// Tells whether a call returned what is known.
 pub fn answered<W: Write>(out: &mut W, known: bool) -> io::Result<Attempt> {
     tell(out, if known { "answer" } else { "another answer" })?;
-    Ok(Attempt::Answered)
+    Ok(if known {
+        Attempt::Answered
+    } else {
+        Attempt::Mistaken
+    })
 }
 
 /// Tells the fault of a refused call, and whether all that it was lent is as before.
@@ -44,11 +50,15 @@ pub fn refused<W: Write>(out: &mut W, fault: &str, kept: bool) -> io::Result<Att
 /// Tells whether all that a refused call was lent is as before.
 pub fn keeps<W: Write>(out: &mut W, kept: bool) -> io::Result<Attempt> {
     tell(out, if kept { "kept" } else { "changed" })?;
-    Ok(Attempt::Refused)
+    Ok(if kept {
+        Attempt::Refused
+    } else {
+        Attempt::Mistaken
+    })
 }
 
 /// Tells a fault that cannot be.
 pub fn wrong<W: Write>(out: &mut W) -> io::Result<Attempt> {
     tell(out, "another fault")?;
-    Ok(Attempt::Answered)
+    Ok(Attempt::Mistaken)
 }
