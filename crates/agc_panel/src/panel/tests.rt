@@ -49,11 +49,12 @@ fn panel_from_relay_words(rt: HostRuntime) -> Result<(), Fail> {
 #[test]
 fn every_digit_code(rt: HostRuntime) -> Result<(), Fail> {
     let mut panel = Panel::new();
+    let place = "PROG __\nVERB __\nNOUN __\nR1 _".len();
     let glyphs = b"_??1???????????4???7?0???2?36859";
     for (code, glyph) in (0u16..).zip(glyphs) {
-        panel.take(&write(&rt, 0o10, 8 * 2048 + code % 32));
+        panel.take(&write(&rt, 0o10, 0o10 * 0o4000 + code % 0o40));
         let text = panel.text(rt.alloc())?;
-        assert_eq!(rt; text.as_bytes().get(28), Some(glyph), "code {code}");
+        assert_eq!(rt; text.as_bytes().get(place), Some(glyph), "code {code}");
     }
     Ok(())
 }
@@ -71,78 +72,77 @@ fn shows(
     let text = panel.text(rt.alloc())?;
     let (fields, rest) = text
         .as_str()
-        .split_at_checked(54)
+        .split_at_checked(NO_FIELDS.len())
         .expect(rt, "the text is ASCII");
     assert_eq!(rt; fields, lines, "{channel:03o} {bits:05o}");
     assert_eq!(rt; rest, last_lines, "{channel:03o} {bits:05o}");
     Ok(())
 }
 
-/// What a word with the sign on, a left 1 and a right 2 shows in a row.
-fn row_shows(rt: &(impl AllocGlobal + Abort), row: u16, lines: &str) -> Result<(), Fail> {
-    let bits = row % 16 * 2048 + 1024 + 3 * 32 + 25;
-    shows(rt, 0o10, bits, lines, "FLASH off\nLAMPS none\n")
+/// The relay word of a row with the sign on, a left 1 (code 3) and a right 2 (code 31 octal).
+fn relay_word(row: u16) -> u16 {
+    row % 0o20 * 0o4000 + 0o2000 + 0o3 * 0o40 + 0o31
 }
 
 #[test]
 fn every_row_alone(rt: HostRuntime) -> Result<(), Fail> {
-    row_shows(
-        &rt,
-        11,
-        "PROG 12\nVERB __\nNOUN __\nR1 ______\nR2 ______\nR3 ______\n",
-    )?;
-    row_shows(
-        &rt,
-        10,
-        "PROG __\nVERB 12\nNOUN __\nR1 ______\nR2 ______\nR3 ______\n",
-    )?;
-    row_shows(
-        &rt,
-        9,
-        "PROG __\nVERB __\nNOUN 12\nR1 ______\nR2 ______\nR3 ______\n",
-    )?;
-    row_shows(
-        &rt,
-        8,
-        "PROG __\nVERB __\nNOUN __\nR1 _2____\nR2 ______\nR3 ______\n",
-    )?;
-    row_shows(
-        &rt,
-        7,
-        "PROG __\nVERB __\nNOUN __\nR1 +_12__\nR2 ______\nR3 ______\n",
-    )?;
-    row_shows(
-        &rt,
-        6,
-        "PROG __\nVERB __\nNOUN __\nR1 -___12\nR2 ______\nR3 ______\n",
-    )?;
-    row_shows(
-        &rt,
-        5,
-        "PROG __\nVERB __\nNOUN __\nR1 ______\nR2 +12___\nR3 ______\n",
-    )?;
-    row_shows(
-        &rt,
-        4,
-        "PROG __\nVERB __\nNOUN __\nR1 ______\nR2 -__12_\nR3 ______\n",
-    )?;
-    row_shows(
-        &rt,
-        3,
-        "PROG __\nVERB __\nNOUN __\nR1 ______\nR2 _____1\nR3 _2____\n",
-    )?;
-    row_shows(
-        &rt,
-        2,
-        "PROG __\nVERB __\nNOUN __\nR1 ______\nR2 ______\nR3 +_12__\n",
-    )?;
-    row_shows(
-        &rt,
-        1,
-        "PROG __\nVERB __\nNOUN __\nR1 ______\nR2 ______\nR3 -___12\n",
-    )?;
-    for row in [0, 13, 14, 15] {
-        row_shows(&rt, row, NO_FIELDS)?;
+    for (row, fields) in [
+        (0, NO_FIELDS),
+        (
+            1,
+            "PROG __\nVERB __\nNOUN __\nR1 ______\nR2 ______\nR3 -___12\n",
+        ),
+        (
+            2,
+            "PROG __\nVERB __\nNOUN __\nR1 ______\nR2 ______\nR3 +_12__\n",
+        ),
+        (
+            3,
+            "PROG __\nVERB __\nNOUN __\nR1 ______\nR2 _____1\nR3 _2____\n",
+        ),
+        (
+            4,
+            "PROG __\nVERB __\nNOUN __\nR1 ______\nR2 -__12_\nR3 ______\n",
+        ),
+        (
+            5,
+            "PROG __\nVERB __\nNOUN __\nR1 ______\nR2 +12___\nR3 ______\n",
+        ),
+        (
+            6,
+            "PROG __\nVERB __\nNOUN __\nR1 -___12\nR2 ______\nR3 ______\n",
+        ),
+        (
+            7,
+            "PROG __\nVERB __\nNOUN __\nR1 +_12__\nR2 ______\nR3 ______\n",
+        ),
+        (
+            8,
+            "PROG __\nVERB __\nNOUN __\nR1 _2____\nR2 ______\nR3 ______\n",
+        ),
+        (
+            9,
+            "PROG __\nVERB __\nNOUN 12\nR1 ______\nR2 ______\nR3 ______\n",
+        ),
+        (
+            10,
+            "PROG __\nVERB 12\nNOUN __\nR1 ______\nR2 ______\nR3 ______\n",
+        ),
+        (
+            11,
+            "PROG 12\nVERB __\nNOUN __\nR1 ______\nR2 ______\nR3 ______\n",
+        ),
+        (13, NO_FIELDS),
+        (14, NO_FIELDS),
+        (15, NO_FIELDS),
+    ] {
+        shows(
+            &rt,
+            0o10,
+            relay_word(row),
+            fields,
+            "FLASH off\nLAMPS none\n",
+        )?;
     }
     Ok(())
 }

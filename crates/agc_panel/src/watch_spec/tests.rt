@@ -8,9 +8,9 @@ fn reads_seven_octal_numbers(rt: HostRuntime) {
         core_offset: 0,
         sets: 2,
         lst1_bank: 1,
-        lst1_offset: 64,
+        lst1_offset: 0o100,
         lst2_bank: 1,
-        lst2_offset: 128,
+        lst2_offset: 0o200,
     };
     assert_eq!(rt; WatchSpec::read("1,0,2,1,100,1,200"), Some(spec));
     assert_eq!(rt;

@@ -72,36 +72,26 @@ fn double_add(rt: HostRuntime) -> Result<(), Fail> {
     Ok(())
 }
 
-/// DIM of +1 gives -0.
+/// MSU of +0 and the cell 00001 gives 177776, and of 40000 and +0 the difference -16384: 137777.
+/// Between them DIM of that +1 gives -0.
 #[test]
 fn dim_and_modular_difference(rt: HostRuntime) -> Result<(), Fail> {
     let listing = "
 4000 00006 EXTEND
-4001 26100 DIM 100
-4002 14002 TCF 4002";
-    let mut processor = processor_with(&rt, listing)?;
-    processor.store.poke(0, 0o100, Narrow::with_bits(0o1));
-    run(&mut processor, 10);
-    assert_eq!(rt; cell(&processor, 0o100), 0o77777);
-    Ok(())
-}
-
-/// MSU of +0 and the cell 00001 gives 177776, and of 40000 and +0 the difference -16384: 137777.
-#[test]
-fn modular_differences(rt: HostRuntime) -> Result<(), Fail> {
-    let listing = "
-4000 00006 EXTEND
 4001 20100 MSU 100
 4002 54102 TS 102
-4003 34007 CA 4007
-4004 00006 EXTEND
-4005 20101 MSU 101
-4006 14006 TCF 4006
-4007 40000";
+4003 00006 EXTEND
+4004 26100 DIM 100
+4005 34011 CA 4011
+4006 00006 EXTEND
+4007 20101 MSU 101
+4010 14010 TCF 4010
+4011 40000";
     let mut processor = processor_with(&rt, listing)?;
     processor.store.poke(0, 0o100, Narrow::with_bits(0o1));
-    run(&mut processor, 12);
+    run(&mut processor, 16);
     assert_eq!(rt; cell(&processor, 0o102), 0o77776);
+    assert_eq!(rt; cell(&processor, 0o100), 0o77777);
     assert_eq!(rt; processor.store.a().bits(), 0o137777);
     Ok(())
 }

@@ -89,20 +89,23 @@ fn double_add(rt: HostRuntime) -> Result<(), Fail> {
     leaves(&rt, run)
 }
 
-/// DIM of +1 gives -0.
+/// DIM of +1 gives -0; MSU of +0 and 00001 gives -1.
 #[test]
 fn dim_and_modular_difference(rt: HostRuntime) -> Result<(), Fail> {
     let run = Run {
         listing: "
 4000 00006 EXTEND
 4001 26100 DIM 100
-4002 14002 TCF 4002",
-        script: "0 poke 0 100 1",
-        line: "--limit 10",
-        after: "Limit CYCLE 10 WRITES 0\n",
-        registers: "00000 00000 00000 00000 00000 04003 00000 00000",
+4002 00006 EXTEND
+4003 20101 MSU 101
+4004 54102 TS 102
+4005 14005 TCF 4005",
+        script: "0 poke 0 100 1\n0 poke 0 101 1",
+        line: "--limit 12",
+        after: "Limit CYCLE 12 WRITES 0\n",
+        registers: "77776 00000 00000 00000 00000 04006 00000 00000",
         from: "100",
-        pairs: &["77777 00000"],
+        pairs: &["77777 00001", "77776 00000"],
     };
     leaves(&rt, run)
 }
