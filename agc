@@ -5,4 +5,5 @@
 name=agc
 crate=agc_run
 case $0 in */*) top=${0%/*} ;; *) top=. ;; esac
+# shellcheck source=launch/start.sh
 . "$top/launch/start.sh"
