@@ -11,8 +11,7 @@ use crate::next::next_write;
 use crate::same::is_same_write;
 use agc_machine::{ChannelWrite, Machine, Next, Stop};
 use agc_panel::Panel;
-use agc_progress::Progress;
-use agc_trace::tell_at;
+use agc_progress::{Progress, tell_at};
 use std::alloc::AllocError;
 
 /// The first channel write that differs. A run that has no such write any more has `None`.
