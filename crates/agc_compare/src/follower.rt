@@ -65,10 +65,10 @@ pub(crate) fn first_write_apart<P: Progress>(
             left: left.next_write(left_machine, progress),
             right: right.next_write(right_machine, progress),
         };
-        if pair.parts() {
+        if pair.differs() {
             return Ok(Some(pair));
         }
-        if pair.is_behind_all() {
+        if pair.left_has_ended() {
             return Ok(None);
         }
         mark = tell_at(mark, left_machine.cycle(), progress);
@@ -78,16 +78,16 @@ pub(crate) fn first_write_apart<P: Progress>(
 impl WriteParting {
     ghost use Rattle.std.specs.Prelude.{◌≡◌, ◌≢◌, IsSome, IsTrue, None, false};
 
-    /// The writes differ.
-    fn parts(&self) -> bool
+    /// The writes differ, or only one run has one.
+    fn differs(&self) -> bool
         ensures differ { IsTrue result → self.now.left ≢ self.now.right }
         ensures same { result ≡ false → self.now.left ≡ self.now.right }
     {
         !is_same_write(self.left, self.right)
     }
 
-    /// The run on the left has no write any more.
-    fn is_behind_all(&self) -> bool
+    /// The run on the left has no write any more: where the pair does not differ, neither run has one.
+    fn left_has_ended(&self) -> bool
         ensures none { IsTrue result → self.now.left ≡ None }
         ensures some { result ≡ false → IsSome self.now.left }
     {
