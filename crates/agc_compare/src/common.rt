@@ -7,8 +7,8 @@ use crate::count::one_more;
 use crate::same::is_same_entry;
 use agc_machine::{ChannelWrite, Machine};
 use agc_panel::Panel;
-use agc_progress::Progress;
-use agc_trace::{Entry, next_entry, tell_at};
+use agc_progress::{Progress, tell_at};
+use agc_trace::{Entry, next_entry};
 use circular_buffer::HeapCircularBuffer;
 use std::alloc::{AllocError, Global};
 

@@ -11,8 +11,7 @@ use crate::next::next_write;
 use crate::same::is_same_write;
 use agc_machine::{ChannelWrite, Machine, Next, Stop};
 use agc_panel::Panel;
-use agc_progress::Progress;
-use agc_trace::tell_at;
+use agc_progress::{Progress, tell_at};
 use std::alloc::AllocError;
 
 /// The first channel write that differs. A run that has no such write any more has `None`.
@@ -66,10 +65,10 @@ pub(crate) fn first_write_apart<P: Progress>(
             left: left.next_write(left_machine, progress),
             right: right.next_write(right_machine, progress),
         };
-        if pair.parts() {
+        if pair.differs() {
             return Ok(Some(pair));
         }
-        if pair.is_behind_all() {
+        if pair.left_has_ended() {
             return Ok(None);
         }
         mark = tell_at(mark, left_machine.cycle(), progress);
@@ -79,16 +78,16 @@ pub(crate) fn first_write_apart<P: Progress>(
 impl WriteParting {
     ghost use Rattle.std.specs.Prelude.{◌≡◌, ◌≢◌, IsSome, IsTrue, None, false};
 
-    /// The writes differ.
-    fn parts(&self) -> bool
+    /// The writes differ, or only one run has one.
+    fn differs(&self) -> bool
         ensures differ { IsTrue result → self.now.left ≢ self.now.right }
         ensures same { result ≡ false → self.now.left ≡ self.now.right }
     {
         !is_same_write(self.left, self.right)
     }
 
-    /// The run on the left has no write any more.
-    fn is_behind_all(&self) -> bool
+    /// The run on the left has no write any more: where the pair does not differ, neither run has one.
+    fn left_has_ended(&self) -> bool
         ensures none { IsTrue result → self.now.left ≡ None }
         ensures some { result ≡ false → IsSome self.now.left }
     {

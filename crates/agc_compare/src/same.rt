@@ -1,4 +1,5 @@
-//! Whether the boundaries, the writes and the words of two runs are the same.
+//! Whether the boundaries, the writes and the words of two runs are the same. Each kind of value has a
+//! function of its own, whose clause says that its `==` tells apart what differs in any way.
 ghost use Rattle.std.specs.Prelude.{◌≡◌, ◌↔◌, IsTrue};
 
 use agc_machine::{ChannelWrite, Upcoming};

@@ -2,5 +2,10 @@ pub mod Recorded
 pub mod Recording
 pub mod Parted
 pub mod Pressed
+pub mod Cuts
+pub mod PanelAt
 pub mod Shown
+pub mod Differ
+pub mod Alone
+pub mod Together
 pub mod Apart

@@ -15,7 +15,7 @@ pub fn a_film_shows_the_panel()
 
 /// No frame is without need: each is later than the one before it, and shows something else; the
 /// first shows something else than the blank panel.
-#[tactic(auto, using(crate::proofs::Shown::film_is_cut))]
+#[tactic(auto, using(crate::proofs::Cuts::film_is_cut))]
 pub fn each_frame_is_a_change()
     ensures { (s : State) → AreCuts s.cycle (shown_after []) (frames_of_run s) }
 {}

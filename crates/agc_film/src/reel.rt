@@ -8,11 +8,8 @@ use crate::frame::Frame;
 use crate::press::{Press, presses_up_to};
 use crate::recorder::Recorder;
 use agc_machine::{Machine, Stepped, Stop};
-use agc_progress::Progress;
+use agc_progress::{Progress, tell_at};
 use std::alloc::{AllocError, Global};
-
-/// How many cycles go by, about, until it is told again how far a run has come.
-const TOLD_EACH: u64 = 10_000_000;
 
 /// What a film shows of a run.
 #[derive(Debug, Drop)]
@@ -28,8 +25,8 @@ pub struct Reel {
     pub cycle: u64,
 }
 
-/// Runs a machine to its stop and makes its reel, with these keys, which are those of its script.
-/// Tells about every 10,000,000 cycles how far it has come. Fails where memory runs out.
+/// Runs a machine to its stop and makes its reel, with these keys, which are those of its script. Fails
+/// where memory runs out.
 pub fn film<P: Progress>(
     alloc: Global,
     machine: &mut Machine,
@@ -40,7 +37,7 @@ pub fn film<P: Progress>(
     ensures machine { IfOk result (λ _. machine.new ≡ (run_of machine.old).last) }
 {
     let mut recorder = Recorder::new(alloc);
-    let stop = record(alloc, machine, TOLD_EACH, &mut recorder, progress)?;
+    let stop = record(alloc, machine, &mut recorder, progress)?;
     let cycle = machine.cycle();
     let presses = presses_up_to(alloc, cycle, presses)?;
     Ok(Reel {
@@ -51,12 +48,10 @@ pub fn film<P: Progress>(
     })
 }
 
-/// Runs a machine to its stop, and lets a recorder take its writes. Tells how far it has come at the
-/// first quiet boundary that ends so many cycles behind the last one told, or later.
-pub(crate) fn record<P: Progress>(
+/// Runs a machine to its stop, and lets a recorder take its writes.
+fn record<P: Progress>(
     alloc: Global,
     machine: &mut Machine,
-    told_each: u64,
     recorder: &mut Recorder,
     progress: &mut P,
 ) -> Result<Stop, AllocError>
@@ -65,13 +60,10 @@ pub(crate) fn record<P: Progress>(
     ensures machine { IfOk result (λ _. machine.new ≡ (run_of machine.old).last) }
     ensures stop { IfOk result (λ stop. machine.new.stopped ≡ Some stop) }
 {
-    let mut told_next = told_each;
+    let mut mark = 0;
     loop {
-        match machine.next_write_before(told_next) {
-            Stepped::Quiet => {
-                progress.come_to(machine.cycle());
-                told_next = machine.cycle().saturating_add(told_each);
-            }
+        match machine.next_write_before(mark) {
+            Stepped::Quiet => mark = tell_at(mark, machine.cycle(), progress),
             Stepped::Wrote(write) => recorder.take(alloc, &write)?,
             Stepped::Stopped(stop) => return Ok(stop),
         }

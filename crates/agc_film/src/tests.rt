@@ -1,6 +1,4 @@
 //! Films of small programs, worked out by hand. The numbers are octal, but for cycles.
-use crate::recorder::Recorder;
-use crate::reel::record;
 use crate::{Button, Press, Reel, film, first_difference, presses, push_film, push_film_pair};
 use agc_listing::rope_file;
 use agc_machine::{Machine, Stop};
@@ -203,16 +201,16 @@ impl Progress for Told {
     }
 }
 
-/// From cycle 11 on each order takes one cycle: it is told at 1000 and 2000.
+/// The first order ends at cycle 2. From cycle 11 on each order takes one cycle, so that it is told at
+/// 1000002 and 2000002, in decimal.
 #[test]
 fn tells_how_far_it_has_come(rt: HostRuntime) -> Result<(), Fail> {
-    let mut machine = machine(&rt, PROG, "", 2500)?;
-    let mut recorder = Recorder::new(rt.alloc());
+    let mut machine = machine(&rt, PROG, "", 2_500_000)?;
     let mut told = Told::default();
-    let stop = record(rt.alloc(), &mut machine, 1000, &mut recorder, &mut told)?;
-    assert_eq!(rt; stop, Stop::Limit);
-    assert_eq!(rt; recorder.frames.len(), 2);
-    assert_eq!(rt; told.times, 2);
-    assert_eq!(rt; told.cycle, 2000);
+    let reel = film(rt.alloc(), &mut machine, &[], &mut told)?;
+    assert_eq!(rt; reel.stop, Stop::Limit);
+    assert_eq!(rt; reel.frames.len(), 2);
+    assert_eq!(rt; told.times, 3);
+    assert_eq!(rt; told.cycle, 2_000_002);
     Ok(())
 }

@@ -4,6 +4,12 @@
 //! does not depend on it: `come_to` takes a number and gives nothing back.
 #![tactic(auto)]
 
+mod mark;
+#[cfg(test)]
+mod tests;
+
+pub use mark::{mark_behind, tell_at};
+
 /// Who is told how far a run has come.
 pub trait Progress {
     /// The run has come to this machine cycle; 1,024,000 / 12 cycles are a second of the machine.

@@ -12,4 +12,4 @@ mod tracing;
 pub use entry::{Entry, Registers, next_entry};
 pub use line::{push_line, reason_name};
 pub use selection::{Only, Selection};
-pub use tracing::{TraceFault, tell_at, trace};
+pub use tracing::{TraceFault, trace};

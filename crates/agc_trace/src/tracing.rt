@@ -1,5 +1,5 @@
 //! The trace of a run, written line by line: memory does not grow with the run.
-ghost use Rattle.std.specs.Prelude.{◌≡◌, ◌<◌, ◌≤◌, [], ◌∷◌, OnOk};
+ghost use Rattle.std.specs.Prelude.{◌≡◌, [], ◌∷◌, OnOk};
 ghost use Rattle.std.specs.Io.KnownBytes.{Appends};
 ghost use Rattle.agc_trace.specs.Entry.{FitsLine};
 ghost use Rattle.agc_trace.specs.Line.{line_of};
@@ -10,13 +10,10 @@ use crate::entry::{Entry, next_entry};
 use crate::line::push_line;
 use crate::selection::Selection;
 use agc_machine::{Machine, Stepped};
-use agc_progress::Progress;
+use agc_progress::{Progress, tell_at};
 use std::alloc::Global;
 use std::io::Write;
 use thiserror::Error;
-
-/// How many cycles go by before it is told again how far the run has come.
-const STRIDE: u64 = 1_000_000;
 
 /// Why a trace was cut off: no line comes behind the fault.
 #[derive(Clone, Copy, Debug, PartialEq, Eq, Error)]
@@ -79,19 +76,6 @@ fn write_lines<W: Write, P: Progress>(
         mark = tell_at(mark, entry.cycle, progress);
     }
     Ok(())
-}
-
-/// Tells that a run has come to a cycle, where that is the mark or behind it. Returns the next mark, a
-/// million cycles on; the first is 0.
-pub fn tell_at<P: Progress>(mark: u64, cycle: u64, progress: &mut P) -> u64
-    ensures waits { cycle < mark → result ≡ mark }
-    ensures next { mark ≤ cycle → cycle ≤ result }
-{
-    if cycle < mark {
-        return mark;
-    }
-    progress.come_to(cycle);
-    cycle.saturating_add(STRIDE)
 }
 
 /// Writes the line of an entry, where it is selected.

@@ -1,0 +1,44 @@
+-- The frames of a run are cuts: each is later than the one before it, and shows something else.
+use Rattle.std.proofs.Common.{◌≡◌, ℕ, ◌+◌, ◌≤◌, Bool, true, false, List, [], ◌∷◌, ◌++◌, refl, sym, subst, arith}
+use Rattle.std.specs.Prelude.{if◌then◌else◌}
+use Rattle.std.specs.Str.{bytes_eq}
+use Rattle.std.proofs.lemmas.Bool.Decides.{not_from_Decides}
+use Rattle.std.proofs.lemmas.Slice.Eq.{bytes_eq-Decides}
+use Rattle.agc_machine.specs.Laws.{AreRising}
+use Rattle.agc_machine.specs.Run.{run_of}
+use Rattle.agc_machine.specs.State.{State}
+use Rattle.agc_machine.specs.declared.answer.ChannelWrite.{ChannelWrite}
+use Rattle.agc_machine.proofs.Chain.{run_rises}
+use Rattle.agc_panel.specs.Face.{panel_of}
+use Rattle.agc_panel.specs.Text.{panel_text}
+use Rattle.agc_panel.specs.declared.face.Face.{Face}
+use Rattle.agc_film.specs.Frames.{frame_of, frames_behind, frames_of, shown_after}
+use Rattle.agc_film.specs.Laws.{AreCuts, frames_of_run}
+use Rattle.agc_film.specs.declared.frame.Frame.{Frame}
+
+-- the frame of a write, where both panels do not show the same
+abbrev pub one_or_none : Bool → ℕ → Face → List Frame
+one_or_none alike cycle face = if alike then [] else record { cycle = cycle; panel = face } ∷ []
+
+pub cuts_later : (from later : ℕ) (shown : List ℕ) (frames : List Frame) → from ≤ later → AreCuts later shown frames → AreCuts from shown frames
+cuts_later from later shown [] l h = tt
+cuts_later from later shown (frame ∷ frames) l h = (omega (arith, h.0), h.1, h.2)
+
+cut : (from : ℕ) (shown : List ℕ) (cycle : ℕ) (face : Face) (rest : List Frame) (alike : Bool) → bytes_eq shown (panel_text face) ≡ alike →
+    from ≤ cycle → AreCuts (cycle + 1) (panel_text face) rest → AreCuts from shown (one_or_none alike cycle face ++ rest)
+cut from shown cycle face rest true e l h =
+    let d = bytes_eq-Decides shown (panel_text face) in
+    cuts_later from (cycle + 1) shown rest (omega (arith, l)) (subst (λ (text : List ℕ). AreCuts (cycle + 1) text rest) (sym (d.0 e)) h)
+cut from shown cycle face rest false e l h = (l, λ same. not_from_Decides _ (bytes_eq-Decides shown (panel_text face)) e (sym same), h)
+
+pub cuts_behind : (from : ℕ) (before writes : List ChannelWrite) → AreRising from writes → AreCuts from (shown_after before) (frames_behind before writes)
+unfolding frames_behind frame_of shown_after
+cuts_behind from before [] r = tt
+cuts_behind from before (write ∷ writes) r =
+    cut from (panel_text (panel_of before)) write.cycle (panel_of (before ++ write ∷ [])) (frames_behind (before ++ write ∷ []) writes)
+    (bytes_eq (panel_text (panel_of before)) (panel_text (panel_of (before ++ write ∷ [])))) refl r.0
+    (cuts_behind (write.cycle + 1) (before ++ write ∷ []) writes r.2)
+
+pub film_is_cut : (s : State) → AreCuts s.cycle (shown_after []) (frames_of_run s)
+unfolding frames_of
+film_is_cut s = cuts_behind s.cycle [] (run_of s).writes (run_rises s)
