@@ -122,10 +122,6 @@ pub fn widen(x: Narrow) -> Wide
 {
     let bits = x.bits();
     Wide {
-        bits: if bits < 0o40000 {
-            bits
-        } else {
-            bits + 0o100000
-        },
+        bits: bits + bits / 0o40000 * 0o100000,
     }
 }
