@@ -305,7 +305,9 @@ fn form_named(name: &str) -> RopeForm
     }
 }
 
-fn fault_of(alloc: Global, error: &clap::Error) -> ArgsFault
+/// The fault that an error of `clap` is: a call for help, want of memory, or else a mistake in the words.
+/// Where there is no memory for its text, it is want of memory.
+pub fn fault_of(alloc: Global, error: &clap::Error) -> ArgsFault
     ensures { Tells (kind_of error.now) result }
 {
     if error.kind() == ErrorKind::OutOfMemory {

@@ -3,4 +3,4 @@
 
 mod args;
 
-pub use args::{ArgsFault, DEFAULT_SLOTS, DEFAULT_SPACING, not_text, parse_args};
+pub use args::{ArgsFault, DEFAULT_SLOTS, DEFAULT_SPACING, fault_of, not_text, parse_args};

@@ -18,10 +18,13 @@ use agc_store::{Rope, RopeForm};
 use std::alloc::Global;
 use std::io::Read;
 
-/// Reads a rope file.
+/// Reads a rope file of a form. It is refused where it cannot be read, has more than `ROPE_BYTES` bytes or
+/// is no rope's, or where memory runs out.
 pub fn read_rope<R: Read>(alloc: Global, form: RopeForm, reader: &mut R) -> Result<Rope, Refusal>
     ensures words { IfOk result
         (λ rope. IfSome (R.remaining reader.old) (λ file. rope ≡ rope_words form file)) }
+    ensures sound { OnOk result
+        (IfSome (R.remaining reader.old) (λ file. rope_fault_of form file ≡ None)) }
     ensures accepted { OnOk result
         (IfSome (R.remaining reader.old) (λ file. refusal_in (rope_steps form file) ≡ None)) }
     ensures end { OnOk result (IsAtEnd (R.remaining reader.new)) }
@@ -48,7 +51,8 @@ fn rope_of(alloc: Global, form: RopeForm, bytes: &[u8]) -> Result<Rope, Refusal>
     }
 }
 
-/// Reads a script file.
+/// Reads a script file. It is refused where it cannot be read, has more than `SCRIPT_BYTES` bytes or a
+/// faulty line, or where memory runs out.
 pub fn read_script<S: Read>(alloc: Global, reader: &mut S) -> Result<Script, Refusal>
     ensures events { IfOk result
         (λ script. IfSome (S.remaining reader.old) (λ file. script ≡ events_in (script_of file))) }

@@ -14,6 +14,7 @@ mod run;
 mod text;
 
 pub use entry::{DONE, REFUSED, UNWRITTEN, session, status_of};
+pub use files::{read_rope, read_script};
 pub use input::{InputFile, KEY_BYTES, ROPE_BYTES, ReadFault, SCRIPT_BYTES, Unread, read_limited};
 pub use options::Options;
 pub use refusal::Refusal;

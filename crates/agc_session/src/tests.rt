@@ -1,8 +1,9 @@
-//! A session of each kind over memory: a run that stops, and a refusal.
-use crate::{DONE, Options, REFUSED, session};
+//! A session of each kind over memory: a run that stops, and a refusal; and the files of one.
+use crate::{DONE, Options, REFUSED, Refusal, read_rope, read_script, session};
 use agc_listing::{RELAY_WORD, rope_file};
 use agc_pipe::Open;
-use agc_store::RopeForm;
+use agc_script::{Event, FaultKind, ScriptFault, What};
+use agc_store::{RopeFault, RopeForm, Store};
 use std::process::Abort;
 use std::test::Fail;
 
@@ -57,5 +58,46 @@ STOP Limit CYCLE 10 WRITES 1
         assert!(rt; out.as_slice() == told.as_bytes());
         assert!(rt; err.as_slice() == refused.as_bytes());
     }
+    Ok(())
+}
+
+/// A rope of one word, which stands at the start of bank 2 in a classic file, and one that ends within
+/// a word.
+#[test]
+fn a_rope_is_read(rt: HostRuntime) -> Result<(), Fail> {
+    let mut file: &[u8] = &[0x30, 0x02];
+    let rope = read_rope(rt.alloc(), RopeForm::Classic, &mut file)
+        .ok()
+        .ok_or("a rope")?;
+    assert_eq!(rt; Store::new(rope).fixed(2, 0).bits(), 0o14001);
+    let mut odd: &[u8] = &[0x30];
+    assert_eq!(rt;
+        read_rope(rt.alloc(), RopeForm::Classic, &mut odd).err(),
+        Some(Refusal::Rope(RopeFault::OddLength))
+    );
+    Ok(())
+}
+
+/// A script of one event, and one whose second line is no event.
+#[test]
+fn a_script_is_read(rt: HostRuntime) -> Result<(), Fail> {
+    let mut file: &[u8] = b"7 raise 5\n";
+    let script = read_script(rt.alloc(), &mut file).ok().ok_or("a script")?;
+    assert_eq!(rt; script.len(), 1);
+    assert_eq!(rt;
+        script.at(0),
+        Event {
+            cycle: 7,
+            what: What::Raise(5)
+        }
+    );
+    let mut faulty: &[u8] = b"7 raise 5\n8 lower 5\n";
+    assert_eq!(rt;
+        read_script(rt.alloc(), &mut faulty).err(),
+        Some(Refusal::Script(ScriptFault {
+            line: 2,
+            kind: FaultKind::UnknownWord
+        }))
+    );
     Ok(())
 }

@@ -12,7 +12,7 @@ use Rattle.agc_film.specs.Reel.{IsReelOf}
 use Rattle.agc_film.specs.declared.press.Press.{Press}
 use Rattle.agc_film.specs.declared.reel.Reel.{Reel}
 use Rattle.agc_study.specs.Filmed.{IsFilmed}
-use Rattle.agc_study.specs.Started.{IsStarted}
+use Rattle.agc_study.specs.Started.{IsAccepted, IsStarted}
 use Rattle.agc_study.specs.declared.asked.Filming.{Filming}
 
 -- the machine that was started is that of the files, and its run with their keys is shown
@@ -38,3 +38,10 @@ filmed_run asked rope script started machine events keys reel is start read pres
     filmed asked rope script machine events reel
     (subst (λ r. IfOk r (IsStarted asked.form asked.until asked.limit rope script)) is start)
     read (subst (λ all. IsReelOf (run_of machine) all reel) pressed shows)
+
+-- of a run that was filmed nothing is refused
+pub filmed_accepted : (asked : Filming) (rope script : Option (List ℕ)) (reel : Reel) → IsFilmed asked rope script reel
+    → IsAccepted asked.form asked.until asked.limit rope script
+filmed_accepted asked None script reel h = tt
+filmed_accepted asked (Some rope) None reel h = tt
+filmed_accepted asked (Some rope) (Some script) reel h = h.start.accepted

@@ -10,13 +10,15 @@ use Rattle.agc_script.specs.Parse.{script_of}
 use Rattle.agc_script.specs.declared.event.Event.{Event}
 use Rattle.agc_machine.specs.State.{State, start_state}
 use Rattle.agc_machine.specs.StopAddress.{stop_address_of}
+use Rattle.agc_session.proofs.Denied.{rope_known_memory}
 use Rattle.agc_session.proofs.Told.{none_in_both, told_first, told_later}
 use Rattle.agc_session.specs.Entry.{ComesOf}
 use Rattle.agc_session.specs.Files.{events_in, rope_steps, script_steps}
 use Rattle.agc_session.specs.Options.{said_by}
 use Rattle.agc_session.specs.Steps.{IsTold, refusal_in}
 use Rattle.agc_session.specs.declared.refusal.Refusal.{Refusal}
-use Rattle.agc_study.specs.Started.{IsRefused, IsStarted, start_steps, starting_steps}
+use Rattle.agc_session.specs.declared.refusal.Refusal.TheVariants as refusal
+use Rattle.agc_study.specs.Started.{IsAccepted, IsRefused, IsStarted, start_steps, starting_steps}
 
 module _ (form : RopeForm) (until : Option (String Global)) (limit : ℕ) where
   pub rope_refused : (rope script : Option (List ℕ)) (r : Refusal) → IfSome rope (λ file. IsTold (rope_steps form file) r)
@@ -25,6 +27,16 @@ module _ (form : RopeForm) (until : Option (String Global)) (limit : ℕ) where
   rope_refused None script r h = tt
   rope_refused (Some rope) None r h = tt
   rope_refused (Some rope) (Some script) r h = told_first (rope_steps form rope) (script_steps script ++ start_steps until limit) r h
+
+  pub memory_refused : (rope script : Option (List ℕ)) → IsRefused form until limit rope script refusal.Memory
+  memory_refused rope script = rope_refused rope script refusal.Memory (rope_known_memory form rope)
+
+  -- of a machine that was started nothing is refused
+  pub started_accepted : (rope script : Option (List ℕ)) (machine : State) → IsStarted form until limit rope script machine
+      → IsAccepted form until limit rope script
+  started_accepted None script machine h = tt
+  started_accepted (Some rope) None machine h = tt
+  started_accepted (Some rope) (Some script) machine h = h.accepted
 
   pub script_refused : (rope script : Option (List ℕ)) (r : Refusal) → IfSome rope (λ file. refusal_in (rope_steps form file) ≡ None)
       → IfSome script (λ file. IsTold (script_steps file) r) → IsRefused form until limit rope script r

@@ -1,31 +1,37 @@
--- A file that was read to its end is its bytes.
-use Rattle.std.proofs.Common.{◌≡◌, ℕ, List, ◌++◌, sym, ◌∙◌, ap, subst, append-nil}
-use Rattle.std.specs.Prelude.{Option, None, Some, IfSome}
+-- What comes of files that were read to their end.
+use Rattle.std.proofs.Common.{◌≡◌, ◌≢◌, ◌≤◌, ℕ, List, length, ◌∙◌, ap, subst}
+use Rattle.std.specs.Prelude.{Option, None, Some, IfSome, Err}
+use Rattle.std.specs.declared.alloc.Global.{Global}
+use Rattle.std.specs.declared.string.String.{String}
 use Rattle.std.specs.Io.KnownBytes.{Consumes, IsAtEnd}
 use Rattle.agc_word.specs.Number.{Number}
 use Rattle.agc_store.specs.RopeFile.{rope_fault_of, rope_words}
 use Rattle.agc_store.specs.declared.rope_file.RopeForm.{RopeForm}
 use Rattle.agc_rope_text.specs.List.{rope_text}
-use Rattle.agc_study.specs.Listed.{IsListing}
+use Rattle.agc_rope_text.specs.Weave.{said_in}
+use Rattle.agc_rope_text.specs.declared.fault.WeaveFault.{WeaveFault}
+use Rattle.agc_rope_text.specs.declared.fault.WeaveFault.TheVariants as weave
+use Rattle.agc_session.proofs.Whole.{all_read, of_all}
+use Rattle.agc_session.specs.Options.{said_by}
+use Rattle.agc_study.specs.Listed.{IsFaulty, IsListing, IsWeaveRefused, bank_named}
+use Rattle.agc_study.specs.declared.trouble.Trouble.{Trouble}
+use Rattle.agc_study.specs.declared.trouble.Trouble.TheVariants as trouble
 use Rattle.agc_check.specs.declared.reports.Report.{Report}
 use Rattle.agc_study.specs.Checked.{IsChecked, IsCheckedOf}
 
-all_read : (before after : Option (List ℕ)) (read : List ℕ) → Consumes before after read → IsAtEnd after → IfSome before (λ bytes. read ≡ bytes)
-all_read None after read c end = tt
-all_read (Some xs) None read c end = absurd c
-all_read (Some xs) (Some ys) read c end = sym (c ∙ ap (λ (rest : List ℕ). read ++ rest) end ∙ append-nil read)
-
--- what holds of the bytes that were read holds of the file's
-pub of_all : (before after : Option (List ℕ)) (read : List ℕ) (P : List ℕ → Type 0) → Consumes before after read → IsAtEnd after → P read → IfSome before P
-of_all None after read P c end holds = tt
-of_all (Some xs) after read P c end holds = subst P (all_read (Some xs) after read c end) holds
-
 -- a listing of a file's rope
-pub listing : (form : RopeForm) (bank : Option ℕ) (known : Option (List ℕ)) (rope : List Number) (text : List ℕ)
-    → IfSome known (λ file. rope ≡ rope_words form file) → IfSome known (λ file. rope_fault_of form file ≡ None) → text ≡ rope_text bank rope
+pub listing : (form : RopeForm) (bank : Option (String Global)) (known : Option (List ℕ)) (rope : List Number) (text : List ℕ)
+    → IfSome known (λ file. rope ≡ rope_words form file) → IfSome known (λ file. rope_fault_of form file ≡ None) → text ≡ rope_text (said_by bank_named bank) rope
     → IfSome known (λ file. IsListing form bank file text)
 listing form bank None rope text words accepted listed = tt
-listing form bank (Some file) rope text words accepted listed = record { rope = accepted; listed = listed ∙ ap (rope_text bank) words }
+listing form bank (Some file) rope text words accepted listed = record { rope = accepted; listed = listed ∙ ap (rope_text (said_by bank_named bank)) words }
+
+-- a text that was read and is not woven
+pub weave_refused : (before after : Option (List ℕ)) (text : List ℕ) (t : Trouble) → Consumes before after text → IsAtEnd after → length text ≤ 16777216
+    → (fault : WeaveFault) × (t ≡ trouble.Text fault) × (fault ≢ weave.Memory → said_in text ≡ Err fault) → IsWeaveRefused before t
+weave_refused before after text t c end few (weave.Memory, is, named) = rw is tt
+weave_refused before after text t c end few (weave.Line n why, is, named) =
+    rw is (of_all before after text (λ all. IsFaulty all (weave.Line n why)) c end (record { short = few; fault = named (λ h. cc) }))
 
 -- a report on the bytes of two files
 pub checked : (form : RopeForm) (rope rope_left script script_left : Option (List ℕ)) (rope_read script_read : List ℕ) (report : Report)

@@ -19,8 +19,15 @@ IsChecked form None script report = Unit {0}
 IsChecked form (Some rope) None report = Unit {0}
 IsChecked form (Some rope) (Some script) report = IsCheckedOf form rope script report
 
--- a report's text was written, and its files are sound or not
+-- a report's text was written, and it says of its files that they are sound, or not
 pub record IsWritten (report : Report) (is_sound : Bool)
     (before after : Option (List ℕ)) : Type 0 where
   pub sound : report.is_sound ≡ is_sound
   pub text : Appends before after (string_bytes report.text)
+
+-- what is told of two files was written: that both are sound, or that one is not
+pub record IsCheckWritten (form : RopeForm) (rope script : Option (List ℕ)) (is_sound : Bool)
+    (before after : Option (List ℕ)) : Type 0 where
+  pub report : Report
+  pub checked : IsChecked form rope script report
+  pub written : IsWritten report is_sound before after

@@ -42,3 +42,11 @@ pub record IsCompared (asked : Comparing)
 pub record IsToldTo (told : Told) (is_same : Bool) (before after : Option (List ℕ)) : Type 0 where
   pub same : told.is_same ≡ is_same
   pub text : Appends before after (string_bytes told.text)
+
+-- what is told of the runs of four files was written: that they are the same, or not
+pub record IsComparisonWritten (asked : Comparing)
+    (left_rope left_script right_rope right_script : Option (List ℕ)) (is_same : Bool)
+    (before after : Option (List ℕ)) : Type 0 where
+  pub told : Told
+  pub compared : IsCompared asked left_rope left_script right_rope right_script told
+  pub written : IsToldTo told is_same before after

@@ -1,12 +1,20 @@
--- What `list` and `weave` print of the files that they are given.
-use Rattle.std.specs.Prelude.{◌≡◌, ℕ, nat_le, List, Option, Some, None, if◌then◌else◌}
-use Rattle.std.specs.Prelude.{option_and_then, string_bytes}
+-- What `list` and `weave` print of the files that they are given, and how they refuse them.
+use Rattle.std.specs.Prelude.{◌≡◌, ◌≤◌, ℕ, false, true, nat_le, length, List, Option, Some, None, Err}
+use Rattle.std.specs.Prelude.{if◌then◌else◌, IfSome}
 use Rattle.std.specs.declared.alloc.Global.{Global}
 use Rattle.std.specs.declared.string.String.{String}
 use Rattle.agc_word.specs.Numeral.{octal_number}
 use Rattle.agc_store.specs.RopeFile.{rope_fault_of, rope_words}
 use Rattle.agc_store.specs.declared.rope_file.RopeForm.{RopeForm}
 use Rattle.agc_rope_text.specs.List.{rope_text}
+use Rattle.agc_rope_text.specs.Weave.{IsWovenOf, said_in}
+use Rattle.agc_rope_text.specs.declared.fault.WeaveFault.{WeaveFault}
+use Rattle.agc_rope_text.specs.declared.fault.WeaveFault.TheVariants as weave
+use Rattle.agc_session.specs.Files.{rope_steps}
+use Rattle.agc_session.specs.Options.{said_by, says_nothing}
+use Rattle.agc_session.specs.Steps.{IsTold}
+use Rattle.agc_study.specs.declared.trouble.Trouble.{Trouble}
+use Rattle.agc_study.specs.declared.trouble.Trouble.TheVariants as trouble
 
 -- a bank that the rope has
 abbrev pub bank_within : Option ℕ → Option ℕ
@@ -17,11 +25,35 @@ bank_within None = None
 unfoldable pub bank_named : List ℕ → Option ℕ
 bank_named text = bank_within (octal_number 2 text)
 
--- the bank that is asked for, where the text of `--bank` names one
-abbrev pub bank_asked_for : Option (String Global) → Option ℕ
-bank_asked_for spec = option_and_then (λ text. bank_named (string_bytes text)) spec
-
--- a file is a rope's, and a text lists the words of it, or of one bank
-pub record IsListing (form : RopeForm) (bank : Option ℕ) (file text : List ℕ) : Type 0 where
+-- a file is a rope's, and a text lists the words of it, or of the bank that the text of `--bank` names
+pub record IsListing (form : RopeForm) (bank : Option (String Global)) (file text : List ℕ)
+    : Type 0 where
   pub rope : rope_fault_of form file ≡ None
-  pub listed : text ≡ rope_text bank (rope_words form file)
+  pub listed : text ≡ rope_text (said_by bank_named bank) (rope_words form file)
+
+-- How `list` refuses a file that a reader may tell: a text of `--bank` that names no bank is told, and
+-- else what `agc` tells of the rope, which has asked for memory too.
+abbrev pub IsListRefused : RopeForm → Option (String Global) → Option (List ℕ) → Trouble → Type 0
+IsListRefused form bank known trouble.BadBankSpec = says_nothing bank_named bank ≡ true
+IsListRefused form bank known (trouble.Refused r) =
+    (says_nothing bank_named bank ≡ false) × IfSome known (λ file. IsTold (rope_steps form file) r)
+IsListRefused form bank known t = ⊥
+
+-- a text has 16,777,216 bytes at most, and weaves to a file
+pub record IsWoven (form : RopeForm) (text file : List ℕ) : Type 0 where
+  pub short : length text ≤ 16777216
+  pub woven : IsWovenOf form text file
+
+-- a text has 16,777,216 bytes at most, and this is its first fault
+pub record IsFaulty (text : List ℕ) (why : WeaveFault) : Type 0 where
+  pub short : length text ≤ 16777216
+  pub fault : said_in text ≡ Err why
+
+-- how `weave` refuses a text that a reader may tell: a read failed, or memory ran out, or there are too
+-- many bytes, or a line is faulty
+abbrev pub IsWeaveRefused : Option (List ℕ) → Trouble → Type 0
+IsWeaveRefused known trouble.CannotReadText = Unit {0}
+IsWeaveRefused known (trouble.Text weave.Memory) = Unit {0}
+IsWeaveRefused known (trouble.Text (weave.Line n why)) =
+    IfSome known (λ text. IsFaulty text (weave.Line n why))
+IsWeaveRefused known t = ⊥

@@ -1,5 +1,5 @@
 -- The machine that is traced: that of a rope file and a script file at its start, or the refusal.
-use Rattle.std.specs.Prelude.{◌≡◌, ℕ, List, [], ◌∷◌, ◌++◌, Option, Some, None}
+use Rattle.std.specs.Prelude.{◌≡◌, ◌⊎◌, ℕ, List, [], ◌∷◌, ◌++◌, Option, Some, None}
 use Rattle.std.specs.declared.alloc.Global.{Global}
 use Rattle.std.specs.declared.string.String.{String}
 use Rattle.agc_store.specs.RopeFile.{rope_words}
@@ -41,6 +41,14 @@ IsStarted form until limit (Some rope) None machine = Unit {0}
 IsStarted form until limit (Some rope) (Some script) machine =
     IsStartedOf form until limit rope script machine
 
+-- nothing is refused of the files, as far as their readers tell their bytes
+abbrev pub IsAccepted : RopeForm → Option (String Global) → ℕ → Option (List ℕ) → Option (List ℕ)
+    → Type 0
+IsAccepted form until limit None script = Unit {0}
+IsAccepted form until limit (Some rope) None = Unit {0}
+IsAccepted form until limit (Some rope) (Some script) =
+    refusal_in (starting_steps form until limit rope script) ≡ None
+
 -- a refusal that the steps may tell
 abbrev pub IsRefused : RopeForm → Option (String Global) → ℕ → Option (List ℕ) → Option (List ℕ)
     → Refusal → Type 0
@@ -48,3 +56,12 @@ IsRefused form until limit None script r = Unit {0}
 IsRefused form until limit (Some rope) None r = Unit {0}
 IsRefused form until limit (Some rope) (Some script) r =
     IsTold (starting_steps form until limit rope script) r
+
+-- A refusal that may be told of two runs: that of the one on the left, or where nothing is refused of it
+-- that of the one on the right.
+abbrev pub IsPairRefused : RopeForm → Option (String Global) → ℕ → Option (List ℕ) → Option (List ℕ)
+    → Option (List ℕ) → Option (List ℕ) → Refusal → Type 0
+IsPairRefused form until limit left_rope left_script right_rope right_script r =
+    IsRefused form until limit left_rope left_script r
+    ⊎ (IsAccepted form until limit left_rope left_script
+    × IsRefused form until limit right_rope right_script r)

@@ -1,6 +1,7 @@
 //! Two ropes and two scripts to what is told of their runs.
-ghost use Rattle.std.specs.Prelude.{IfOk};
+ghost use Rattle.std.specs.Prelude.{IfErr, IfOk};
 ghost use Rattle.agc_study.specs.Compared.{IsCompared, IsToldOf};
+ghost use Rattle.agc_study.specs.Started.{IsPairRefused};
 
 use crate::asked::Comparing;
 use crate::runs::read_machine;
@@ -19,8 +20,9 @@ pub struct Told {
     pub is_same: bool,
 }
 
-/// Reads two ropes and two scripts, and compares their runs. The refusal is the first of the run on the
-/// left, or else of that on the right.
+/// Reads two ropes and two scripts, and compares their runs. The refusal is that of the run on the left,
+/// or where there is none that of the run on the right: the first that applies of the rope, the script, the
+/// text of `--until` and the limit, or want of memory.
 pub fn compare_files<R: Read, S: Read, T: Read, U: Read, P: Progress>(
     alloc: Global,
     asked: &Comparing,
@@ -30,8 +32,12 @@ pub fn compare_files<R: Read, S: Read, T: Read, U: Read, P: Progress>(
     right_script: &mut U,
     progress: &mut P,
 ) -> Result<Told, Refusal>
-    ensures { IfOk result (IsCompared asked.now (R.remaining left_rope.old)
-        (S.remaining left_script.old) (T.remaining right_rope.old) (U.remaining right_script.old)) }
+    ensures compared { IfOk result (IsCompared asked.now
+        (R.remaining left_rope.old) (S.remaining left_script.old)
+        (T.remaining right_rope.old) (U.remaining right_script.old)) }
+    ensures refused { IfErr result (IsPairRefused asked.now.form asked.now.until asked.now.limit
+        (R.remaining left_rope.old) (S.remaining left_script.old)
+        (T.remaining right_rope.old) (U.remaining right_script.old)) }
 {
     let (form, limit) = (asked.form, asked.limit);
     let mut left = read_machine(alloc, form, limit, &asked.until, left_rope, left_script)?;

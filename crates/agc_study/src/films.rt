@@ -1,17 +1,18 @@
 //! Ropes and scripts to the page that shows their runs.
-ghost use Rattle.std.specs.Prelude.{IfOk};
+ghost use Rattle.std.specs.Prelude.{IfErr, IfOk};
 ghost use Rattle.agc_study.specs.Filmed.{IsFilm, IsFilmPair, IsFilmed};
+ghost use Rattle.agc_study.specs.Started.{IsPairRefused, IsRefused};
 
 use crate::asked::Filming;
-use crate::files::{read_rope, read_script};
 use crate::runs::started;
 use agc_film::{HEAD, Reel, TAIL, film, presses, push_film, push_film_pair};
 use agc_progress::Progress;
-use agc_session::Refusal;
+use agc_session::{Refusal, read_rope, read_script};
 use std::alloc::Global;
 use std::io::Read;
 
-/// Reads a rope and a script, and makes the page that shows their run.
+/// Reads a rope and a script, and makes the page that shows their run. The refusal is the first that applies
+/// of the rope, the script, the text of `--until` and the limit, or want of memory.
 pub fn film_files<R: Read, S: Read, P: Progress>(
     alloc: Global,
     asked: &Filming,
@@ -19,7 +20,9 @@ pub fn film_files<R: Read, S: Read, P: Progress>(
     script: &mut S,
     progress: &mut P,
 ) -> Result<String, Refusal>
-    ensures { IfOk result (IsFilm HEAD.now TAIL.now asked.now
+    ensures film { IfOk result (IsFilm HEAD.now TAIL.now asked.now
+        (R.remaining rope.old) (S.remaining script.old)) }
+    ensures refused { IfErr result (IsRefused asked.now.form asked.now.until asked.now.limit
         (R.remaining rope.old) (S.remaining script.old)) }
 {
     let reel = read_reel(alloc, asked, rope, script, progress)?;
@@ -29,7 +32,7 @@ pub fn film_files<R: Read, S: Read, P: Progress>(
 }
 
 /// Reads two ropes and two scripts, and makes the page that shows their runs side by side. The refusal is
-/// the first of the run on the left, or else of that on the right.
+/// that of the run on the left, or where there is none that of the run on the right.
 pub fn film_file_pairs<R: Read, S: Read, T: Read, U: Read, P: Progress>(
     alloc: Global,
     asked: &Filming,
@@ -39,7 +42,10 @@ pub fn film_file_pairs<R: Read, S: Read, T: Read, U: Read, P: Progress>(
     right_script: &mut U,
     progress: &mut P,
 ) -> Result<String, Refusal>
-    ensures { IfOk result (IsFilmPair HEAD.now TAIL.now asked.now
+    ensures film { IfOk result (IsFilmPair HEAD.now TAIL.now asked.now
+        (R.remaining left_rope.old) (S.remaining left_script.old)
+        (T.remaining right_rope.old) (U.remaining right_script.old)) }
+    ensures refused { IfErr result (IsPairRefused asked.now.form asked.now.until asked.now.limit
         (R.remaining left_rope.old) (S.remaining left_script.old)
         (T.remaining right_rope.old) (U.remaining right_script.old)) }
 {
@@ -58,7 +64,10 @@ fn read_reel<R: Read, S: Read, P: Progress>(
     script: &mut S,
     progress: &mut P,
 ) -> Result<Reel, Refusal>
-    ensures { IfOk result (IsFilmed asked.now (R.remaining rope.old) (S.remaining script.old)) }
+    ensures filmed { IfOk result
+        (IsFilmed asked.now (R.remaining rope.old) (S.remaining script.old)) }
+    ensures refused { IfErr result (IsRefused asked.now.form asked.now.until asked.now.limit
+        (R.remaining rope.old) (S.remaining script.old)) }
 {
     let rope = read_rope(alloc, asked.form, rope)?;
     let script = read_script(alloc, script)?;

@@ -5,14 +5,14 @@
 
 ghost use Rattle.std.specs.Prelude.{◌≡◌, ◌≢◌, ◌⊎◌, ◌<◌, true, false};
 ghost use Rattle.std.specs.Io.KnownBytes.{Keeps};
-ghost use Rattle.agc_study.specs.Checked.{IsWritten};
-ghost use Rattle.agc_study.specs.Compared.{IsToldTo};
+ghost use Rattle.agc_study.specs.Checked.{IsCheckWritten, IsWritten};
+ghost use Rattle.agc_study.specs.Compared.{IsComparisonWritten, IsToldTo};
 ghost use Rattle.agc_study.specs.Ended.{IsEnded, LooksForFaults};
 
 mod asked;
 mod checks;
+mod command_line;
 mod compares;
-mod files;
 mod films;
 mod ropes;
 mod runs;
@@ -20,23 +20,27 @@ mod runs;
 mod tests;
 mod ticker;
 mod trouble;
+mod words;
 
 use agc_args::ArgsFault;
 use agc_check::Report;
 use agc_session::{DONE, InputFile, Refusal, UNWRITTEN, status_of};
+use agc_store::RopeForm;
 use agc_trace::{TraceFault, trace};
-use asked::{Asked, Checking, Comparing, Filming, Listing, Tracing, Weaving, asked_by};
+use asked::{Asked, Checking, Comparing, Filming, Listing, Tracing, Weaving};
 use checks::check_files;
 use compares::{Told, compare_files};
 use films::{film_file_pairs, film_files};
 use ropes::{list_rope, weave_text};
 use runs::read_machine;
-use std::io::Write;
+use std::alloc::Global;
+use std::io::{Read, Write};
 use std::process::ExitCode;
 use std::rt::{Env, Files};
 use std::{env, fs, io};
 use ticker::{Shown, Ticker};
 use trouble::Trouble;
+use words::asked_by;
 
 /// The status of a report that tells of a fault.
 const FAULTY: u8 = 1;
@@ -159,7 +163,28 @@ where
 {
     let mut rope = InputFile::new(fs::open(rt, checking.rope.as_str()));
     let mut script = InputFile::new(fs::open(rt, checking.script.as_str()));
-    match check_files(rt.alloc(), checking.form, &mut rope, &mut script) {
+    write_check(rt.alloc(), checking.form, &mut rope, &mut script, out, err)
+}
+
+/// Checks a rope and a script, and writes what is told of them.
+fn write_check<R: Read, S: Read, W: Write, E: Write>(
+    alloc: Global,
+    form: RopeForm,
+    rope: &mut R,
+    script: &mut S,
+    out: &mut W,
+    err: &mut E,
+) -> u8
+    ensures ended { IsEnded result (W.contents out.old) (W.contents out.new)
+        (E.contents err.old) (E.contents err.new) }
+    ensures sound { result ≡ 0 → IsCheckWritten form
+        (R.remaining rope.old) (S.remaining script.old) true
+        (W.contents out.old) (W.contents out.new) }
+    ensures faulty { result ≡ 1 → IsCheckWritten form
+        (R.remaining rope.old) (S.remaining script.old) false
+        (W.contents out.old) (W.contents out.new) }
+{
+    match check_files(alloc, form, rope, script) {
         Ok(report) => write_report(&report, out),
         Err(trouble) => status_of(TROUBLE, trouble.write_to(err)),
     }
@@ -210,13 +235,49 @@ where
     let mut script = InputFile::new(fs::open(rt, asked.script.as_str()));
     let mut other_rope = InputFile::new(fs::open(rt, asked.other_rope.as_str()));
     let mut other_script = InputFile::new(fs::open(rt, asked.other_script.as_str()));
-    let compared = compare_files(
+    write_comparison(
         rt.alloc(),
         asked,
         &mut rope,
         &mut script,
         &mut other_rope,
         &mut other_script,
+        out,
+        err,
+        progress,
+    )
+}
+
+/// Compares the runs of two ropes and two scripts, and writes what is told of them.
+fn write_comparison<R: Read, S: Read, T: Read, U: Read, W: Write, E: Write, P: Shown>(
+    alloc: Global,
+    asked: &Comparing,
+    rope: &mut R,
+    script: &mut S,
+    other_rope: &mut T,
+    other_script: &mut U,
+    out: &mut W,
+    err: &mut E,
+    progress: &mut P,
+) -> u8
+    ensures ended { IsEnded result (W.contents out.old) (W.contents out.new)
+        (E.contents err.old) (E.contents err.new) }
+    ensures same { result ≡ 0 → IsComparisonWritten asked.now
+        (R.remaining rope.old) (S.remaining script.old)
+        (T.remaining other_rope.old) (U.remaining other_script.old) true
+        (W.contents out.old) (W.contents out.new) }
+    ensures apart { result ≡ 1 → IsComparisonWritten asked.now
+        (R.remaining rope.old) (S.remaining script.old)
+        (T.remaining other_rope.old) (U.remaining other_script.old) false
+        (W.contents out.old) (W.contents out.new) }
+{
+    let compared = compare_files(
+        alloc,
+        asked,
+        rope,
+        script,
+        other_rope,
+        other_script,
         progress,
     );
     progress.wipe();

@@ -1,21 +1,24 @@
 //! Ropes to texts, and texts to ropes.
-ghost use Rattle.std.specs.Prelude.{◌≡◌, ◌≢◌, None, Err, IfOk, IfErr, IfSome, string_bytes};
+ghost use Rattle.std.specs.Prelude.{◌≡◌, ◌≢◌, Err, IfOk, IfErr, IfSome, OnOk, false, true};
+ghost use Rattle.std.specs.Prelude.{string_bytes};
 ghost use Rattle.agc_rope_text.specs.Weave.{IsWovenOf, said_in};
-ghost use Rattle.agc_study.specs.Listed.{IsListing, bank_asked_for, bank_named};
+ghost use Rattle.agc_session.specs.Options.{said_by, says_nothing};
+ghost use Rattle.agc_study.specs.Listed.{IsListRefused, IsListing, IsWeaveRefused, IsWoven};
+ghost use Rattle.agc_study.specs.Listed.{bank_named};
 ghost use Rattle.agc_rope_text.specs.declared.fault.WeaveFault.{WeaveFault};
 ghost use Rattle.agc_rope_text.specs.declared.fault.WeaveFault.TheVariants as weave_fault;
 ghost use Rattle.agc_study.specs.declared.trouble.Trouble.TheVariants as told;
 
-use crate::files::read_rope;
 use crate::trouble::Trouble;
 use agc_rope_text::{WeaveFault, list, weave};
-use agc_session::{Refusal, SCRIPT_BYTES, Unread, read_limited};
+use agc_session::{Refusal, SCRIPT_BYTES, Unread, read_limited, read_rope};
 use agc_store::{RopeForm, Store};
 use agc_word::read_octal;
 use std::alloc::Global;
 use std::io::Read;
 
-/// The text of a rope file, or of one of its banks.
+/// The text of a rope file, or of one of its banks. A text of `--bank` that names none is refused before the
+/// file is read.
 pub fn list_rope<R: Read>(
     alloc: Global,
     form: RopeForm,
@@ -23,8 +26,9 @@ pub fn list_rope<R: Read>(
     reader: &mut R,
 ) -> Result<String, Trouble>
     ensures listed { IfOk result (λ text. IfSome (R.remaining reader.old)
-        (λ file. IsListing form (bank_asked_for bank.now)
-        file (string_bytes text))) }
+        (λ file. IsListing form bank.now file (string_bytes text))) }
+    ensures named { OnOk result (says_nothing bank_named bank.now ≡ false) }
+    ensures refused { IfErr result (IsListRefused form bank.now (R.remaining reader.old)) }
 {
     let bank = bank_of(bank)?;
     let store = Store::new(read_rope(alloc, form, reader)?);
@@ -36,9 +40,10 @@ pub fn list_rope<R: Read>(
 
 /// The bank that is asked for, where one is.
 fn bank_of(bank: &Option<String>) -> Result<Option<u8>, Trouble>
-    ensures ok { IfOk result (λ bank_asked. bank_asked ≡ bank_asked_for bank.now) }
+    ensures ok { IfOk result (λ asked. asked ≡ said_by bank_named bank.now) }
+    ensures named { OnOk result (says_nothing bank_named bank.now ≡ false) }
     ensures refused { IfErr result (λ t. t ≡ told.BadBankSpec) }
-    ensures cause { IfErr result (λ _. bank_asked_for bank.now ≡ None) }
+    ensures cause { IfErr result (λ _. says_nothing bank_named bank.now ≡ true) }
 {
     match bank {
         Some(spec) => match bank_named(spec.as_bytes()) {
@@ -58,14 +63,16 @@ fn bank_named(text: &[u8]) -> Option<u8>
     if bank <= 0o43 { Some(bank as u8) } else { None }
 }
 
-/// The rope file that a text file weaves to.
+/// The rope file that a text file weaves to. It is refused where it cannot be read, has more than
+/// `SCRIPT_BYTES` bytes or a faulty line, or where memory runs out.
 pub fn weave_text<R: Read>(
     alloc: Global,
     form: RopeForm,
     reader: &mut R,
 ) -> Result<Vec<u8>, Trouble>
     ensures woven { IfOk result (λ bytes. IfSome (R.remaining reader.old)
-        (λ text. IsWovenOf form text bytes.items)) }
+        (λ text. IsWoven form text bytes.items)) }
+    ensures refused { IfErr result (IsWeaveRefused (R.remaining reader.old)) }
 {
     let text = match read_limited(alloc, reader, SCRIPT_BYTES) {
         Ok(text) => text,

@@ -7,10 +7,9 @@ ghost use Rattle.agc_session.specs.Options.{said_by};
 ghost use Rattle.agc_session.specs.Prepare.{limit_refusal};
 ghost use Rattle.agc_study.specs.Started.{IsRefused, IsStarted, start_steps, until_refusal};
 
-use crate::files::{read_rope, read_script};
 use agc_machine::{Machine, StopAddress};
 use agc_script::Script;
-use agc_session::Refusal;
+use agc_session::{Refusal, read_rope, read_script};
 use agc_store::{Rope, RopeForm};
 use std::alloc::Global;
 use std::io::Read;

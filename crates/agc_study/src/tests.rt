@@ -1,11 +1,12 @@
 //! The program on its command lines, over files that are not there; `examples/study` runs it on files.
-use crate::asked::{Comparing, Filming, asked_by};
+use crate::asked::{Comparing, Filming};
 use crate::checks::check_files;
 use crate::compares::compare_files;
 use crate::films::film_files;
 use crate::ropes::{list_rope, weave_text};
 use crate::ticker::{Shown, Ticker};
 use crate::trouble::Trouble;
+use crate::words::asked_by;
 use crate::{run, write_report, write_told};
 use agc_progress::{Progress, Untold};
 use agc_rope_text::{LineFault, WeaveFault};

@@ -18,6 +18,20 @@ fn parsed(rt: &(impl AllocGlobal + Abort), words: &[&str]) -> Options {
         .expect(rt, "a good command line")
 }
 
+/// The fault of a command line that asks for something else than `other` alone.
+fn other_fault(rt: &impl AllocGlobal, word: &str) -> Option<ArgsFault> {
+    let command = Command::new(rt.alloc(), "other").about("Does nothing.");
+    let error = command.try_get_matches_from(&["other", word]).err()?;
+    Some(fault_of(rt.alloc(), &error))
+}
+
+/// A call for help and a mistake, of another program's command line.
+#[test]
+fn errors_of_clap(rt: HostRuntime) {
+    assert!(rt; matches!(other_fault(&rt, "--help"), Some(ArgsFault::Help(_))));
+    assert!(rt; matches!(other_fault(&rt, "word"), Some(ArgsFault::Command(_))));
+}
+
 #[test]
 fn command_line(rt: HostRuntime) {
     let plain = parsed(&rt, &["agc", "r", "s", "--limit", "10"]);

@@ -1,6 +1,7 @@
 use Rattle.std.proofs.Common.{◌≡◌, ◌≤◌, length, arith}
 use Rattle.std.proofs.lemmas.Result.{IfOk-weaker, IfErr-weaker}
-use Rattle.agc_store.specs.RopeFile.{rope_words}
+use Rattle.std.specs.Prelude.{None}
+use Rattle.agc_store.specs.RopeFile.{rope_fault_of, rope_words}
 use Rattle.agc_session.proofs.Denied.{rope_known_accepted, rope_known_faulty, rope_known_memory, rope_known_unread}
 use Rattle.agc_session.proofs.Whole.{of_all}
 use Rattle.agc_session.proofs.files.read_rope.Goals as goal
@@ -17,6 +18,12 @@ returns-clause-accepted g c =
     let few : length c.in-Ok.bytes.items ≤ 1048576 = omega (arith, c.in-Ok.bytes.ok.0, c.in-Ok.ensures.bound) in
     IfOk-weaker c.rope_of.result _ _
     (λ _ e. rope_known_accepted c.args.form _ _ c.in-Ok.bytes.items c.in-Ok.ensures.bytes c.in-Ok.ensures.end few e) accepted
+
+pub returns-clause-sound : goal.returns-clause-sound
+returns-clause-sound g c =
+    let sound = rw c.as_slice.ensures.value at c.rope_of.ensures.accepted in
+    IfOk-weaker c.rope_of.result _ _
+    (λ _ e. of_all _ _ c.in-Ok.bytes.items (λ file. rope_fault_of c.args.form file ≡ None) c.in-Ok.ensures.bytes c.in-Ok.ensures.end e) sound
 
 pub returns-clause-refused : goal.returns-clause-refused
 returns-clause-refused g c =

@@ -1,13 +1,21 @@
-use Rattle.std.proofs.lemmas.Result.{IfOk-weaker}
-use Rattle.agc_rope_text.specs.Weave.{IsWovenOf}
-use Rattle.agc_study.proofs.Whole.{of_all}
+use Rattle.std.proofs.Common.{◌≤◌, length, arith}
+use Rattle.std.proofs.lemmas.Result.{IfOk-weaker, IfErr-weaker}
+use Rattle.agc_session.proofs.Whole.{of_all}
+use Rattle.agc_study.specs.Listed.{IsWoven}
+use Rattle.agc_study.proofs.Whole.{weave_refused}
 use Rattle.agc_study.proofs.ropes.weave_text.Goals as goal
 
-pub returns : goal.returns
-returns g c =
+pub returns-clause-woven : goal.returns-clause-woven
+returns-clause-woven g c =
     let woven = rw c.as_slice.ensures.value at c.woven_of.ensures.woven in
-    record {
-      woven =
-          IfOk-weaker c.woven_of.result _ _
-          (λ bytes e. of_all _ _ c.in-Ok.text.items (λ file. IsWovenOf c.args.form file bytes.items) c.in-Ok.ensures.bytes c.in-Ok.ensures.end e) woven;
-    }
+    let few : length c.in-Ok.text.items ≤ 16777216 = omega (arith, c.in-Ok.text.ok.0, c.in-Ok.ensures.bound) in
+    IfOk-weaker c.woven_of.result _ _
+    (λ bytes e. of_all _ _ c.in-Ok.text.items (λ file. IsWoven c.args.form file bytes.items) c.in-Ok.ensures.bytes c.in-Ok.ensures.end
+    (record { short = few; woven = e })) woven
+
+pub returns-clause-refused : goal.returns-clause-refused
+returns-clause-refused g c =
+    let refused = rw c.as_slice.ensures.value at c.woven_of.ensures.refused in
+    let few : length c.in-Ok.text.items ≤ 16777216 = omega (arith, c.in-Ok.text.ok.0, c.in-Ok.ensures.bound) in
+    IfErr-weaker c.woven_of.result _ _
+    (λ t e. weave_refused _ _ c.in-Ok.text.items t c.in-Ok.ensures.bytes c.in-Ok.ensures.end few e) refused

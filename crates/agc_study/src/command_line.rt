@@ -1,0 +1,169 @@
+//! The command line that `clap` reads: the subcommands with their files and options.
+use clap::{Arg, Command, value_parser};
+use std::alloc::{AllocError, Global};
+
+static FORMS: [&str; 2] = ["classic", "parity"];
+
+static KINDS: [&str; 3] = ["writes", "interrupts", "jumps"];
+
+/// The program's command, of which one of the subcommands must be named.
+pub fn command<'a>(alloc: Global) -> Result<Command<'a>, AllocError> {
+    Command::new(alloc, "agc-study")
+        .about("Looks inside the ropes and the runs of a Block II computer.")
+        .subcommand_required(true)
+        .subcommand(list_command(alloc)?)?
+        .subcommand(weave_command(alloc)?)?
+        .subcommand(check_command(alloc)?)?
+        .subcommand(trace_command(alloc)?)?
+        .subcommand(compare_command(alloc)?)?
+        .subcommand(film_command(alloc)?)
+}
+
+fn list_command<'a>(alloc: Global) -> Result<Command<'a>, AllocError> {
+    Command::new(alloc, "list")
+        .about("Prints each word of a rope that is not +0, as an order.")
+        .arg(rope_file(alloc))?
+        .arg(form_option(alloc))?
+        .arg(bank_option(alloc))
+}
+
+fn weave_command<'a>(alloc: Global) -> Result<Command<'a>, AllocError> {
+    Command::new(alloc, "weave")
+        .about("Writes the rope file of a text: lines BB,AAAA WWWWW, or AAAA WWWWW from 4000 on.")
+        .arg(text_file(alloc))?
+        .arg(form_option(alloc))
+}
+
+fn check_command<'a>(alloc: Global) -> Result<Command<'a>, AllocError> {
+    Command::new(alloc, "check")
+        .about("Tells what is wrong with a rope and a script, or what they hold.")
+        .arg(rope_file(alloc))?
+        .arg(script_file(alloc))?
+        .arg(form_option(alloc))
+}
+
+fn trace_command<'a>(alloc: Global) -> Result<Command<'a>, AllocError> {
+    Command::new(alloc, "trace")
+        .about(
+            "Runs a rope and a script, and prints a line for each order, event, timer step and interrupt.",
+        )
+        .arg(rope_file(alloc))?
+        .arg(script_file(alloc))?
+        .arg(limit_option(alloc))?
+        .arg(form_option(alloc))?
+        .arg(until_option(alloc))?
+        .arg(cycle_option(alloc, "from", "The first cycle whose line is printed"))?
+        .arg(cycle_option(alloc, "to", "The last cycle whose line is printed"))?
+        .arg(only_option(alloc))
+}
+
+fn compare_command<'a>(alloc: Global) -> Result<Command<'a>, AllocError> {
+    Command::new(alloc, "compare")
+        .about("Runs two ropes with two scripts, and tells where the runs part.")
+        .arg(rope_file(alloc))?
+        .arg(script_file(alloc))?
+        .arg(other_rope(alloc).required(true))?
+        .arg(other_script(alloc).required(true))?
+        .arg(limit_option(alloc))?
+        .arg(form_option(alloc))?
+        .arg(until_option(alloc))
+}
+
+fn film_command<'a>(alloc: Global) -> Result<Command<'a>, AllocError> {
+    Command::new(alloc, "film")
+        .about(
+            "Prints a page for a browser that shows the DSKY over the time of a run, or of two runs.",
+        )
+        .arg(rope_file(alloc))?
+        .arg(script_file(alloc))?
+        .arg(other_rope(alloc))?
+        .arg(other_script(alloc))?
+        .arg(limit_option(alloc))?
+        .arg(form_option(alloc))?
+        .arg(until_option(alloc))
+}
+
+fn other_rope<'a>(alloc: Global) -> Arg<'a> {
+    Arg::new(alloc, "other-rope")
+        .value_name("ROPE")
+        .help("The rope file of the other run")
+}
+
+fn other_script<'a>(alloc: Global) -> Arg<'a> {
+    Arg::new(alloc, "other-script")
+        .value_name("SCRIPT")
+        .help("The script file of the other run")
+}
+
+fn script_file<'a>(alloc: Global) -> Arg<'a> {
+    Arg::new(alloc, "script")
+        .value_name("SCRIPT")
+        .required(true)
+        .help("The file of the script's lines, as agc takes it")
+}
+
+fn limit_option<'a>(alloc: Global) -> Arg<'a> {
+    Arg::new(alloc, "limit")
+        .long("limit")
+        .value_name("N")
+        .required(true)
+        .value_parser(value_parser!(u64))
+        .help("Stop at this cycle: decimal, 1 to 1000000000000")
+}
+
+fn until_option<'a>(alloc: Global) -> Arg<'a> {
+    Arg::new(alloc, "until")
+        .long("until")
+        .value_name("BANK,ADDR")
+        .help("Stop before the order at this address runs: octal, BANK 0 to 47, ADDR 0 to 7777")
+}
+
+fn cycle_option<'a>(alloc: Global, name: &'a str, help: &'a str) -> Arg<'a> {
+    Arg::new(alloc, name)
+        .long(name)
+        .value_name("CYCLE")
+        .value_parser(value_parser!(u64))
+        .help(help)
+}
+
+fn only_option<'a>(alloc: Global) -> Arg<'a> {
+    Arg::new(alloc, "only")
+        .long("only")
+        .value_name("KIND")
+        .value_parser(KINDS.as_slice())
+        .help(
+            "Print these lines and the stop's: orders that write to a channel, interrupts and RESUMEs, or orders that jump",
+        )
+}
+
+fn rope_file<'a>(alloc: Global) -> Arg<'a> {
+    Arg::new(alloc, "rope")
+        .value_name("ROPE")
+        .required(true)
+        .help("The file of the fixed memory: 16-bit words, the high byte first")
+}
+
+fn text_file<'a>(alloc: Global) -> Arg<'a> {
+    Arg::new(alloc, "text")
+        .value_name("FILE")
+        .required(true)
+        .help("The text of a rope, as list prints it; # starts a comment")
+}
+
+fn form_option<'a>(alloc: Global) -> Arg<'a> {
+    Arg::new(alloc, "form")
+        .long("form")
+        .value_name("FORM")
+        .default_value("classic")
+        .value_parser(FORMS.as_slice())
+        .help(
+            "The layout of the rope file: banks 2, 3, 0, 1, 4 to 43 octal, or 0 to 43 octal with odd parity",
+        )
+}
+
+fn bank_option<'a>(alloc: Global) -> Arg<'a> {
+    Arg::new(alloc, "bank")
+        .long("bank")
+        .value_name("BB")
+        .help("List this bank alone: octal, 00 to 43")
+}

@@ -1,0 +1,168 @@
+//! The words of a command line to what they ask for.
+use crate::asked::{Asked, Checking, Comparing, Filming, Listing, OtherRun, Tracing, Weaving};
+use crate::command_line::command;
+use agc_args::{ArgsFault, fault_of};
+use agc_store::RopeForm;
+use agc_trace::{Only, Selection};
+use clap::ArgMatches;
+use std::alloc::{AllocError, Global};
+
+/// What the words of a command line ask for, the program's own name first.
+pub fn asked_by<'a>(alloc: Global, words: &'a [&'a str]) -> Result<Asked, ArgsFault> {
+    let command = command(alloc)?;
+    match command.try_get_matches_from(words) {
+        Ok(matches) => asked_in(alloc, &matches),
+        Err(error) => Err(fault_of(alloc, &error)),
+    }
+}
+
+fn asked_in(alloc: Global, matches: &ArgMatches<'_>) -> Result<Asked, ArgsFault> {
+    match matches.subcommand() {
+        Some((name, given)) => asked_as(alloc, name, given),
+        None => Err(mistake(alloc, "error: a subcommand is required\n")),
+    }
+}
+
+/// What the subcommand of a name asks for.
+fn asked_as(alloc: Global, name: &str, given: &ArgMatches<'_>) -> Result<Asked, ArgsFault> {
+    if name == "list" {
+        Ok(Asked::List(listing_of(alloc, given)?))
+    } else if name == "weave" {
+        Ok(Asked::Weave(weaving_of(alloc, given)?))
+    } else if name == "check" {
+        Ok(Asked::Check(checking_of(alloc, given)?))
+    } else if name == "trace" {
+        Ok(Asked::Trace(tracing_of(alloc, given)?))
+    } else if name == "compare" {
+        Ok(Asked::Compare(comparing_of(alloc, given)?))
+    } else if name == "film" {
+        Ok(Asked::Film(filming_of(alloc, given)?))
+    } else {
+        Err(mistake(alloc, "error: there is no such subcommand\n"))
+    }
+}
+
+/// A mistake in the words, told by this text.
+fn mistake(alloc: Global, text: &str) -> ArgsFault {
+    match String::from_str(alloc, text) {
+        Ok(text) => ArgsFault::Command(text),
+        Err(_) => ArgsFault::Memory,
+    }
+}
+
+fn listing_of(alloc: Global, given: &ArgMatches<'_>) -> Result<Listing, AllocError> {
+    Ok(Listing {
+        rope: path_of(alloc, given, "rope")?,
+        form: form_of(given),
+        bank: text_of(alloc, given, "bank")?,
+    })
+}
+
+fn weaving_of(alloc: Global, given: &ArgMatches<'_>) -> Result<Weaving, AllocError> {
+    Ok(Weaving {
+        text: path_of(alloc, given, "text")?,
+        form: form_of(given),
+    })
+}
+
+fn checking_of(alloc: Global, given: &ArgMatches<'_>) -> Result<Checking, AllocError> {
+    Ok(Checking {
+        rope: path_of(alloc, given, "rope")?,
+        script: path_of(alloc, given, "script")?,
+        form: form_of(given),
+    })
+}
+
+fn tracing_of(alloc: Global, given: &ArgMatches<'_>) -> Result<Tracing, AllocError> {
+    Ok(Tracing {
+        rope: path_of(alloc, given, "rope")?,
+        script: path_of(alloc, given, "script")?,
+        form: form_of(given),
+        limit: number_of(given, "limit", 0),
+        until: text_of(alloc, given, "until")?,
+        selection: Selection {
+            from: number_of(given, "from", 0),
+            to: number_of(given, "to", u64::MAX),
+            only: only_of(given),
+        },
+    })
+}
+
+fn comparing_of(alloc: Global, given: &ArgMatches<'_>) -> Result<Comparing, AllocError> {
+    Ok(Comparing {
+        rope: path_of(alloc, given, "rope")?,
+        script: path_of(alloc, given, "script")?,
+        other_rope: path_of(alloc, given, "other-rope")?,
+        other_script: path_of(alloc, given, "other-script")?,
+        form: form_of(given),
+        limit: number_of(given, "limit", 0),
+        until: text_of(alloc, given, "until")?,
+    })
+}
+
+fn filming_of(alloc: Global, given: &ArgMatches<'_>) -> Result<Filming, ArgsFault> {
+    Ok(Filming {
+        rope: path_of(alloc, given, "rope")?,
+        script: path_of(alloc, given, "script")?,
+        other: other_run_of(alloc, given)?,
+        form: form_of(given),
+        limit: number_of(given, "limit", 0),
+        until: text_of(alloc, given, "until")?,
+    })
+}
+
+/// The files of the other run, of which there are both or none.
+fn other_run_of(alloc: Global, given: &ArgMatches<'_>) -> Result<Option<OtherRun>, ArgsFault> {
+    match (given.get_str("other-rope"), given.get_str("other-script")) {
+        (Some(rope), Some(script)) => Ok(Some(OtherRun {
+            rope: String::from_str(alloc, rope)?,
+            script: String::from_str(alloc, script)?,
+        })),
+        (None, None) => Ok(None),
+        (Some(_), None) | (None, Some(_)) => Err(mistake(
+            alloc,
+            "error: the other run needs a SCRIPT beside its ROPE\n",
+        )),
+    }
+}
+
+/// The number of an option, or this one where it is not given.
+fn number_of(given: &ArgMatches<'_>, id: &str, otherwise: u64) -> u64 {
+    given.get_one::<u64>(id).unwrap_or(otherwise)
+}
+
+fn path_of(alloc: Global, given: &ArgMatches<'_>, id: &str) -> Result<String, AllocError> {
+    match given.get_str(id) {
+        Some(path) => String::from_str(alloc, path),
+        None => Ok(String::new(alloc)),
+    }
+}
+
+fn text_of(alloc: Global, given: &ArgMatches<'_>, id: &str) -> Result<Option<String>, AllocError> {
+    match given.get_str(id) {
+        Some(text) => Ok(Some(String::from_str(alloc, text)?)),
+        None => Ok(None),
+    }
+}
+
+fn form_of(given: &ArgMatches<'_>) -> RopeForm {
+    match given.get_str("form") {
+        Some(name) => if name == "parity" {
+            RopeForm::Parity
+        } else {
+            RopeForm::Classic
+        },
+        None => RopeForm::Classic,
+    }
+}
+
+fn only_of(given: &ArgMatches<'_>) -> Option<Only> {
+    let name = given.get_str("only")?;
+    if name == "writes" {
+        Some(Only::Writes)
+    } else if name == "interrupts" {
+        Some(Only::Interrupts)
+    } else {
+        Some(Only::Jumps)
+    }
+}
