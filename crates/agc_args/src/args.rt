@@ -88,7 +88,9 @@ fn command<'a>(alloc: Global) -> Result<Command<'a>, AllocError>
     ensures { IfOk result (λ command. IsCommandLine (app_of command)) }
 {
     Command::new(alloc, "agc")
-        .about("Runs a rope on an emulated Block II computer and prints its display.")
+        .about(
+            "Runs a rope on an emulated Block II computer and prints its display. What is refused of a rope or a script, agc-study check explains.",
+        )
         .arg(rope_file(alloc))?
         .arg(script_file(alloc))?
         .arg(limit_option(alloc))?
@@ -204,7 +206,7 @@ fn live_option<'a>(alloc: Global) -> Arg<'a>
         .long("live")
         .action(ArgAction::SetTrue)
         .help(
-            "Press the keys named on standard input while the machine runs, and print which it took, at which cycle",
+            "Press the keys named on standard input, which is read to its end first, while the machine runs, and print which it took, at which cycle",
         )
 }
 
