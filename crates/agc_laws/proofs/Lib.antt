@@ -5,3 +5,4 @@ mod Pairs
 mod Frame
 mod Still
 mod Rows
+mod First

@@ -1,10 +1,11 @@
 //! What holds of every interrupt.
-ghost use Rattle.std.specs.Prelude.{◌≡◌, ◌<◌, length, false};
+ghost use Rattle.std.specs.Prelude.{◌≡◌, ◌<◌, length, false, Some, None};
 ghost use Rattle.agc_processor.specs.declared.interrupt.Rupt.{Rupt};
 ghost use Rattle.agc_processor.specs.declared.processor.Processor.{Processor};
 ghost use Rattle.agc_processor.specs.Basic.{resume_of};
-ghost use Rattle.agc_processor.specs.Interrupt.{interrupted};
+ghost use Rattle.agc_processor.specs.Interrupt.{interrupted, pending};
 ghost use Rattle.agc_processor.specs.Processor.{◌▷◌, set_hand, serve, jump, z_at};
+ghost use Rattle.agc_laws.specs.Requests.{ComesFirst, HoldsNoneOff, is_waiting};
 ghost use Rattle.agc_laws.specs.Service.{KeepsRupt};
 
 /// RESUME comes back from an interrupt whose service has kept ZRUPT and BRUPT: to the order that was
@@ -13,4 +14,12 @@ pub fn resume_comes_back()
     ensures { (rupt : Rupt) (p q : Processor) → length p.store.erasable ≡ 2048 → p.hand.magnitude < 0o40000
         → KeepsRupt (interrupted rupt p) q
         → resume_of q ≡ (q ▷ set_hand p.hand ▷ serve false ▷ jump (z_at p)) }
+{}
+
+/// The interrupt that is taken waits, and none that waits has a lower vector. It is taken where nothing
+/// holds interrupts off, and where nothing does and none is taken, none waits.
+pub fn the_lowest_vector_comes_first()
+    ensures first { (rupt : Rupt) (p : Processor) → length p.requests ≡ 10 → pending p ≡ Some rupt → ComesFirst rupt p }
+    ensures held { (rupt : Rupt) (p : Processor) → pending p ≡ Some rupt → HoldsNoneOff p }
+    ensures none { (rupt : Rupt) (p : Processor) → HoldsNoneOff p → pending p ≡ None → is_waiting rupt p ≡ false }
 {}
