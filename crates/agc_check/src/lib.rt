@@ -1,7 +1,6 @@
 //! What is wrong with a rope file and a script file, for a person; or what they hold.
 #![tactic(auto)]
 
-mod commands;
 mod holdings;
 mod lines;
 mod names;

@@ -2,10 +2,9 @@
 ghost use Rattle.std.specs.Prelude.{◌≡◌, ◌-◌, ◌≤◌, length, slice_get, option_map, Some};
 ghost use Rattle.std.specs.List.{slice_split};
 ghost use Rattle.std.specs.Str.Lines.{strip_carriage_return};
-ghost use Rattle.agc_script.specs.Line.{cycle_of};
 ghost use Rattle.agc_script.specs.Text.{is_line_feed, lines_of};
 
-use agc_word::read_decimal;
+use agc_script::{EVERY, read_cycle};
 
 /// The line of a number, counted from 1, without its end.
 pub(crate) fn line_at(file: &[u8], number: usize) -> &[u8]
@@ -43,19 +42,11 @@ fn start_of(line: &[u8]) -> Option<u64> {
         .split(|b| *b == b' ' || *b == b'\t')
         .filter(|word| !word.is_empty());
     let first = words.next()?;
-    if first == b"every".as_slice() {
+    if first == EVERY.as_bytes() {
         read_cycle(words.nth(1)?)
     } else {
         read_cycle(first)
     }
-}
-
-/// The cycle that a word writes: 1 to 13 decimal digits, at most 1,000,000,000,000.
-#[tactic(auto, unfolding(agc_script::specs::Line::cycle_of))]
-pub(crate) fn read_cycle(word: &[u8]) -> Option<u64>
-    ensures { result ≡ cycle_of word.now }
-{
-    read_decimal(13, word).filter(|cycle| *cycle <= 1_000_000_000_000)
 }
 
 /// The line without one carriage return at its end.

@@ -1,14 +1,18 @@
-//! What is wrong in a line of a script, and what would be right: for a person.
+//! What is wrong in a line of a script, and what would be right: for a person. The grammar is that of
+//! `agc_script`; here are its sentences alone.
 ghost use Rattle.std.specs.Prelude.{◌≤◌};
 
-use crate::commands::{COMMAND_NAMES, Command, DIRECTION_NAMES, KEY_NAMES, PULSE_NAMES, Range};
-use crate::lines::{last_start, read_cycle};
+use crate::lines::last_start;
 use crate::names::nearest;
 use crate::shown::push_bytes;
-use agc_script::{FaultKind, ScriptFault};
+use agc_script::{
+    Base, Command, DIRECTIONS, EVERY, FaultKind, Key, LAST_CYCLE, LONGEST_LINE, MOST_CYCLE_DIGITS,
+    MOST_DIGITS, MOST_EVENTS, NumberRange, PULSES, ScriptFault, direction_name, pulse_name,
+    read_cycle,
+};
 use std::alloc::{AllocError, Global};
 
-/// The lines that explain a fault of a script by the words of its line.
+/// The line that explains a fault of a script by the words of its line.
 pub(crate) fn remark(
     alloc: Global,
     file: &[u8],
@@ -20,13 +24,13 @@ pub(crate) fn remark(
     let mut text = String::new(alloc);
     text.push_str("    ")?;
     if fault.kind == FaultKind::LineTooLong {
-        let bytes = line.len();
-        writeln!(text, "the line has {bytes} bytes, and 120 are the most")?;
+        push_too_long(&mut text, line.len())?;
         return Ok(text);
     }
     let words = words_of(alloc, line)?;
     let words = words.as_slice();
     match fault.kind {
+        FaultKind::LineTooLong => push_too_long(&mut text, line.len())?,
         FaultKind::NotAscii => push_not_ascii(&mut text, words)?,
         FaultKind::BadCycle => push_bad_cycle(&mut text, words)?,
         FaultKind::OutOfOrder => push_out_of_order(
@@ -37,7 +41,8 @@ pub(crate) fn remark(
         FaultKind::UnknownWord => push_unknown(alloc, &mut text, words)?,
         FaultKind::BadNumber => push_bad_number(&mut text, words)?,
         FaultKind::OutOfRange => push_out_of_range(&mut text, words)?,
-        _ => text.push_str("a script has 65536 events at most, and with this line it has more\n")?,
+        FaultKind::TooMany => push_too_many(&mut text)?,
+        FaultKind::Memory => text.push_str("memory ran out at this line\n")?,
     }
     Ok(text)
 }
@@ -54,45 +59,82 @@ fn push_quoted(text: &mut String, word: &[u8]) -> Result<(), AllocError> {
     text.push_str("`")
 }
 
+/// Adds a sentence that begins with the word at fault, or with `otherwise` where none was found.
+fn push_subject(text: &mut String, word: Option<&[u8]>, otherwise: &str) -> Result<(), AllocError> {
+    match word {
+        Some(word) => push_quoted(text, word),
+        None => text.push_str(otherwise),
+    }
+}
+
 fn is_every(words: &[&[u8]]) -> bool {
     match words.first() {
-        Some(first) => *first == b"every".as_slice(),
+        Some(first) => *first == EVERY.as_bytes(),
         None => false,
     }
 }
 
-/// The place of the command among the words of a line: behind `every N FROM TO`, or behind a cycle.
+/// The place of the command among the words of a line: after `every N FROM TO`, or after a cycle.
 fn command_place(words: &[&[u8]]) -> usize
     ensures { result ≤ 4 }
 {
     if is_every(words) { 4 } else { 1 }
 }
 
+fn push_too_long(text: &mut String, bytes: usize) -> Result<(), AllocError> {
+    writeln!(
+        text,
+        "the line has {bytes} bytes, and {LONGEST_LINE} are the most"
+    )
+}
+
+fn push_too_many(text: &mut String) -> Result<(), AllocError> {
+    writeln!(
+        text,
+        "a script has {MOST_EVENTS} events at most, and with this line it has more"
+    )
+}
+
 fn push_not_ascii(text: &mut String, words: &[&[u8]]) -> Result<(), AllocError> {
+    push_subject(text, word_beyond_ascii(words), "a byte of the line")?;
+    text.push_str(" is not ASCII: no byte of a script is 200 octal or above\n")
+}
+
+/// The first word with a byte beyond ASCII.
+fn word_beyond_ascii<'a>(words: &[&'a [u8]]) -> Option<&'a [u8]> {
     for word in words {
-        if word.iter().any(|b| *b >= 0x80) {
-            push_quoted(text, word)?;
-            return text.push_str(" is not ASCII: no byte of a script is 200 octal or above\n");
+        if word.iter().any(|b| *b >= 0o200) {
+            return Some(*word);
         }
     }
-    Ok(())
+    None
 }
 
 fn push_bad_cycle(text: &mut String, words: &[&[u8]]) -> Result<(), AllocError> {
+    push_subject(text, word_of_no_cycle(words), "a word of the line")?;
+    writeln!(
+        text,
+        " is no cycle: 1 to {MOST_CYCLE_DIGITS} decimal digits, {LAST_CYCLE} at most"
+    )
+}
+
+/// The first word that should be a cycle and is none.
+fn word_of_no_cycle<'a>(words: &[&'a [u8]]) -> Option<&'a [u8]> {
     let first = if is_every(words) { 1 } else { 0 };
     for place in first..command_place(words).min(words.len()) {
         if read_cycle(words[place]).is_none() {
-            push_quoted(text, words[place])?;
-            return text.push_str(" is no cycle: 1 to 13 decimal digits, 1000000000000 at most\n");
+            return Some(words[place]);
         }
     }
-    Ok(())
+    None
 }
 
 fn push_out_of_order(text: &mut String, words: &[&[u8]], last: u64) -> Result<(), AllocError> {
     let place = if is_every(words) { 2 } else { 0 };
     if place < words.len() {
         push_quoted(text, words[place])?;
+    } else {
+        text.push_str("the line")?;
     }
     writeln!(
         text,
@@ -105,10 +147,12 @@ fn push_unknown(alloc: Global, text: &mut String, words: &[&[u8]]) -> Result<(),
     if place >= words.len() {
         return push_missing(text, words);
     }
-    let Some(command) = Command::named(words[place]) else {
-        push_quoted(text, words[place])?;
-        let name = nearest(alloc, words[place], COMMAND_NAMES.as_slice())?;
-        return writeln!(text, " is no command; the nearest is `{name}`");
+    let Some(command) = Command::from_name(words[place]) else {
+        let names: Vec<&'static str> = Command::ALL
+            .iter()
+            .map(|command| command.name())
+            .collect(alloc)?;
+        return push_nearest(alloc, text, words[place], "command", names.as_slice());
     };
     let given = words.len() - place - 1;
     if given != command.argument_count() {
@@ -118,7 +162,7 @@ fn push_unknown(alloc: Global, text: &mut String, words: &[&[u8]]) -> Result<(),
             "`{usage}` is right: here are {given} words behind the command"
         );
     }
-    push_unknown_name(alloc, text, command, words)
+    push_unknown_name(alloc, text, command, words[words.len() - 1])
 }
 
 /// Tells that the command is missing, and with `every` perhaps some of its cycles.
@@ -126,7 +170,19 @@ fn push_missing(text: &mut String, words: &[&[u8]]) -> Result<(), AllocError> {
     if is_every(words) {
         text.push_str("`every N FROM TO` wants these three cycles and a command behind them\n")
     } else {
-        text.push_str("the command is missing: key, pro, input, pulse, raise or poke\n")
+        text.push_str("the command is missing: ")?;
+        for (place, command) in Command::ALL.iter().enumerate() {
+            let name = command.name();
+            if place > 0 {
+                text.push_str(if place + 1 < Command::ALL.len() {
+                    ", "
+                } else {
+                    " or "
+                })?;
+            }
+            text.push_str(name)?;
+        }
+        text.push_str("\n")
     }
 }
 
@@ -135,44 +191,93 @@ fn push_unknown_name(
     alloc: Global,
     text: &mut String,
     command: Command,
-    words: &[&[u8]],
+    word: &[u8],
 ) -> Result<(), AllocError> {
-    let Some(word) = words.last() else {
-        return Ok(());
-    };
-    let (what, names) = match command {
-        Command::Key => ("key", KEY_NAMES.as_slice()),
-        Command::Pro => ("direction of PRO", DIRECTION_NAMES.as_slice()),
-        _ => ("kind of pulse", PULSE_NAMES.as_slice()),
-    };
+    match command {
+        Command::Key => {
+            let names: Vec<&'static str> = Key::ALL.iter().map(|key| key.name()).collect(alloc)?;
+            push_nearest(alloc, text, word, "key", names.as_slice())
+        }
+        Command::Pro => {
+            let names: Vec<&'static str> = DIRECTIONS
+                .iter()
+                .map(|down| direction_name(*down))
+                .collect(alloc)?;
+            push_nearest(alloc, text, word, "direction of PRO", names.as_slice())
+        }
+        Command::Pulse => {
+            let names: Vec<&'static str> = PULSES
+                .iter()
+                .map(|kind| pulse_name(*kind))
+                .collect(alloc)?;
+            push_nearest(alloc, text, word, "kind of pulse", names.as_slice())
+        }
+        Command::Input | Command::Raise | Command::Poke => {
+            let usage = command.usage();
+            writeln!(text, "`{usage}` is right, and the line has another word")
+        }
+    }
+}
+
+/// Tells that a word is no name of a kind, and the name that was perhaps meant.
+fn push_nearest(
+    alloc: Global,
+    text: &mut String,
+    word: &[u8],
+    what: &str,
+    names: &[&'static str],
+) -> Result<(), AllocError> {
     push_quoted(text, word)?;
+    if names.is_empty() {
+        return writeln!(text, " is no {what}");
+    }
     let name = nearest(alloc, word, names)?;
     writeln!(text, " is no {what}; the nearest is `{name}`")
 }
 
 fn push_bad_number(text: &mut String, words: &[&[u8]]) -> Result<(), AllocError> {
-    let behind = command_place(words) + 1;
-    for place in behind..words.len() {
+    match word_of_no_number(words) {
+        Some((word, range)) => {
+            push_quoted(text, word)?;
+            write!(text, " is no number: 1 to {MOST_DIGITS} digits, ")?;
+            push_range(text, range)
+        }
+        None => writeln!(
+            text,
+            "a word of the line is no number: 1 to {MOST_DIGITS} digits of its base"
+        ),
+    }
+}
+
+/// The first word of the command that should be a number and writes none, with its range.
+fn word_of_no_number<'a>(words: &[&'a [u8]]) -> Option<(&'a [u8], NumberRange)> {
+    let after = command_place(words) + 1;
+    for place in after..words.len() {
         let Some(range) = range_at(words, place) else {
             continue;
         };
         if range.read(words[place]).is_none() {
-            push_quoted(text, words[place])?;
-            text.push_str(" is no number: 1 to 6 digits, ")?;
-            return range.push(text);
+            return Some((words[place], range));
         }
     }
-    Ok(())
+    None
 }
 
 /// The range of the word at a place of a line, where that is a number of the command.
-fn range_at(words: &[&[u8]], place: usize) -> Option<Range> {
+fn range_at(words: &[&[u8]], place: usize) -> Option<NumberRange> {
     let command_place = command_place(words);
     if place <= command_place || place >= words.len() {
         return None;
     }
-    let command = Command::named(words[command_place])?;
-    command.range(place - command_place - 1, words[command_place + 1])
+    let command = Command::from_name(words[command_place])?;
+    let first = agc_word::read_octal(MOST_DIGITS, words[command_place + 1]);
+    let ranges = command.ranges(first);
+    let argument = place - command_place - 1;
+    if argument < ranges.len() {
+        ranges[argument]
+    } else {
+        None
+    }
 }
 
 fn push_out_of_range(text: &mut String, words: &[&[u8]]) -> Result<(), AllocError> {
@@ -186,8 +291,20 @@ fn push_out_of_range(text: &mut String, words: &[&[u8]]) -> Result<(), AllocErro
         push_quoted(text, words[2])?;
         return text.push_str(" or later\n");
     }
-    let behind = command_place(words) + 1;
-    for place in behind..words.len() {
+    match word_out_of_range(words) {
+        Some((word, range)) => {
+            push_quoted(text, word)?;
+            text.push_str(" is out of range: ")?;
+            push_range(text, range)
+        }
+        None => text.push_str("a number of the line is out of range\n"),
+    }
+}
+
+/// The first word of the command that writes a number out of its range, with the range.
+fn word_out_of_range<'a>(words: &[&'a [u8]]) -> Option<(&'a [u8], NumberRange)> {
+    let after = command_place(words) + 1;
+    for place in after..words.len() {
         let Some(range) = range_at(words, place) else {
             continue;
         };
@@ -195,10 +312,17 @@ fn push_out_of_range(text: &mut String, words: &[&[u8]]) -> Result<(), AllocErro
             .read(words[place])
             .is_some_and(|number| range.has(number))
         {
-            push_quoted(text, words[place])?;
-            text.push_str(" is out of range: ")?;
-            return range.push(text);
+            return Some((words[place], range));
         }
     }
-    Ok(())
+    None
+}
+
+/// Adds a range: both ends, and the base.
+fn push_range(text: &mut String, range: NumberRange) -> Result<(), AllocError> {
+    let (low, high) = (range.low, range.high);
+    match range.base {
+        Base::Octal => writeln!(text, "{low:o} to {high:o} octal"),
+        Base::Decimal => writeln!(text, "{low} to {high} decimal"),
+    }
 }

@@ -1,4 +1,6 @@
 //! What is told of files, worked by hand.
+mod grammar;
+
 use crate::{
     Report, RopeHoldings, ScriptHoldings, Span, check, holdings_of_rope, holdings_of_script,
     nearest,

@@ -1,16 +1,19 @@
 -- What the commands of a script say, or the lowest kind of fault in their words.
-use Rattle.std.specs.Prelude.{ℕ, nat_le, Bool, true, false, ◌&&◌, List, [], ◌∷◌, Option, Some, None}
-use Rattle.std.specs.Prelude.{Result, Ok, Err, if◌then◌else◌, codes, option_map, option_and_then}
+use Rattle.std.specs.Prelude.{ℕ, nat_le, Bool, ◌&&◌, List, [], ◌∷◌, Option, Some, None}
+use Rattle.std.specs.Prelude.{Result, Ok, Err, if◌then◌else◌, option_map, option_and_then}
 use Rattle.std.specs.Option.{ok_or}
-use Rattle.std.specs.Str.{bytes_eq}
 use Rattle.agc_word.specs.Number.{number_from_pattern}
 use Rattle.agc_word.specs.Channels.{is_io_channel}
-use Rattle.agc_word.specs.Numeral.{octal_number, decimal_number}
+use Rattle.agc_word.specs.Numeral.{number_of}
 use Rattle.agc_word.specs.declared.pulse.Pulse.{Pulse}
-use Rattle.agc_word.specs.declared.pulse.Pulse.TheVariants as pulse
 use Rattle.agc_script.specs.Key.{key_named}
 use Rattle.agc_script.specs.Event.{first_counter, last_counter, last_interrupt, last_bank}
 use Rattle.agc_script.specs.Event.{first_offset, last_offset}
+use Rattle.agc_script.specs.Grammar.{command_named, direction_named, pulse_named, radix, is_within}
+use Rattle.agc_script.specs.declared.grammar.Base.{Base}
+use Rattle.agc_script.specs.declared.grammar.Base.TheVariants as base
+use Rattle.agc_script.specs.declared.grammar.Command.{Command}
+use Rattle.agc_script.specs.declared.grammar.Command.TheVariants as command
 use Rattle.agc_script.specs.declared.event.What.{What}
 use Rattle.agc_script.specs.declared.event.What.TheVariants as what
 use Rattle.agc_script.specs.declared.fault.FaultKind.{FaultKind}
@@ -43,13 +46,15 @@ unfoldable pub three_of : List (List ℕ) → Option (List ℕ × List ℕ × Li
 three_of [] = None
 three_of (first ∷ words) = option_map (λ others. (first, others.0, others.1)) (two_of words)
 
--- an octal number has one digit to six
-unfoldable pub octal_of : List ℕ → Result ℕ FaultKind
-octal_of word = ok_or (octal_number 6 word) BadNumber
+-- a number has one digit to six of its base
+unfoldable pub number_in : Base → List ℕ → Result ℕ FaultKind
+number_in b word = ok_or (number_of (radix b) 6 word) BadNumber
 
--- a decimal number too
-unfoldable pub decimal_of : List ℕ → Result ℕ FaultKind
-decimal_of word = ok_or (decimal_number 6 word) BadNumber
+abbrev pub octal_of : List ℕ → Result ℕ FaultKind
+octal_of word = number_in base.Octal word
+
+abbrev pub decimal_of : List ℕ → Result ℕ FaultKind
+decimal_of word = number_in base.Decimal word
 
 -- one octal number more, beside what was read before it
 abbrev pub with_octal : {T : Type 0} → List ℕ → T → Result (T × ℕ) FaultKind
@@ -62,9 +67,6 @@ two_octals w = and_then (octal_of w.0) (with_octal w.1)
 abbrev pub three_octals : List ℕ × List ℕ × List ℕ → Result ((ℕ × ℕ) × ℕ) FaultKind
 three_octals w = and_then (two_octals (w.0, w.1)) (with_octal w.2)
 
-abbrev pub is_within : ℕ → ℕ → ℕ → Bool
-is_within low high n = nat_le low n && nat_le n high
-
 -- a word's pattern has fifteen bits
 abbrev pub is_pattern : ℕ → Bool
 is_pattern n = nat_le n 0o77777
@@ -75,12 +77,6 @@ key_of words =
     and_then (or_unknown (option_and_then key_named (one_of words))) (λ key. Ok (what.Key key))
 
 -- `pro down` and `pro up`
-unfoldable pub direction_named : List ℕ → Option Bool
-direction_named word =
-    if bytes_eq word (codes "down") then Some true
-    else (if bytes_eq word (codes "up") then Some false
-    else None)
-
 unfoldable pub pro_of : List (List ℕ) → Result What FaultKind
 pro_of words =
     and_then (or_unknown (option_and_then direction_named (one_of words)))
@@ -98,16 +94,6 @@ input_of words =
     and_then (and_then (or_unknown (two_of words)) two_octals) (λ n. input_event n.0 n.1)
 
 -- `pulse COUNTER KIND`; the kind is looked at before the counter's digits
-unfoldable pub pulse_named : List ℕ → Option Pulse
-pulse_named word =
-    if bytes_eq word (codes "pinc") then Some pulse.Pinc
-    else (if bytes_eq word (codes "minc") then Some pulse.Minc
-    else (if bytes_eq word (codes "pcdu") then Some pulse.Pcdu
-    else (if bytes_eq word (codes "mcdu") then Some pulse.Mcdu
-    else (if bytes_eq word (codes "shinc") then Some pulse.Shinc
-    else (if bytes_eq word (codes "shanc") then Some pulse.Shanc
-    else None)))))
-
 unfoldable pub pulse_event : Pulse → ℕ → Result What FaultKind
 pulse_event kind counter =
     if is_within first_counter last_counter counter
@@ -141,18 +127,20 @@ poke_event bank offset value =
     then Ok (what.Poke bank offset (number_from_pattern 15 value))
     else Err OutOfRange
 
-unfoldable pub poke_what_of : List (List ℕ) → Result What FaultKind
-poke_what_of words =
+unfoldable pub poke_of_words : List (List ℕ) → Result What FaultKind
+poke_of_words words =
     and_then (and_then (or_unknown (three_of words)) three_octals) (λ n. poke_event n.0.0 n.0.1 n.1)
+
+-- what a command says by the words after its name
+unfoldable pub said_by : List (List ℕ) → Command → Result What FaultKind
+said_by words command.Key = key_of words
+said_by words command.Pro = pro_of words
+said_by words command.Input = input_of words
+said_by words command.Pulse = pulse_of words
+said_by words command.Raise = raise_of words
+said_by words command.Poke = poke_of_words words
 
 -- a command and its arguments
 unfoldable pub command_of : List (List ℕ) → Result What FaultKind
 command_of [] = Err UnknownWord
-command_of (name ∷ words) =
-    if bytes_eq name (codes "key") then key_of words
-    else (if bytes_eq name (codes "pro") then pro_of words
-    else (if bytes_eq name (codes "input") then input_of words
-    else (if bytes_eq name (codes "pulse") then pulse_of words
-    else (if bytes_eq name (codes "raise") then raise_of words
-    else (if bytes_eq name (codes "poke") then poke_what_of words
-    else Err UnknownWord)))))
+command_of (name ∷ words) = and_then (or_unknown (command_named name)) (said_by words)

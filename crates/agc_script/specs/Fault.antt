@@ -2,17 +2,18 @@
 -- refused for.
 use Rattle.std.specs.Prelude.{◌≡◌, ℕ, ◌+◌, ◌-◌, ◌*◌, ◌≤◌, ◌<◌, ◌==◌, nat_lt, nat_le, Bool, true}
 use Rattle.std.specs.Prelude.{false, not, ◌||◌, List, [], ◌∷◌, length, take, Option, Some, None}
-use Rattle.std.specs.Prelude.{is_some, is_none, if◌then◌else◌, codes, slice_index_or}
+use Rattle.std.specs.Prelude.{is_some, is_none, if◌then◌else◌, slice_index_or, option_and_then}
 use Rattle.std.specs.List.{list_any}
 use Rattle.std.specs.Option.{option_map_or}
-use Rattle.std.specs.Str.{bytes_eq}
-use Rattle.agc_word.specs.Channels.{first_io_channel, last_io_channel}
 use Rattle.agc_word.specs.Numeral.{number_of, octal_number}
 use Rattle.agc_script.specs.Text.{words_of}
-use Rattle.agc_script.specs.Event.{most_events, first_counter, last_counter, last_interrupt}
-use Rattle.agc_script.specs.Event.{last_bank, first_offset, last_offset}
+use Rattle.agc_script.specs.Event.{most_events}
 use Rattle.agc_script.specs.Key.{key_named}
-use Rattle.agc_script.specs.Command.{direction_named, pulse_named, is_within}
+use Rattle.agc_script.specs.Grammar.{command_named, direction_named, pulse_named, radix, is_within}
+use Rattle.agc_script.specs.Grammar.{channels, counters, interrupts, banks, patterns, offsets_in}
+use Rattle.agc_script.specs.declared.grammar.Command.{Command}
+use Rattle.agc_script.specs.declared.grammar.Command.TheVariants as command
+use Rattle.agc_script.specs.declared.grammar.NumberRange.{NumberRange}
 use Rattle.agc_script.specs.Line.{cycle_of, longest_line, is_beyond_ascii}
 use Rattle.agc_script.specs.Said.{spelt_out, cycle_at, timing_of, command_words, last_start}
 use Rattle.agc_script.specs.Said.{events_of_lines}
@@ -23,55 +24,41 @@ use Rattle.agc_script.specs.declared.fault.FaultKind.TheVariants.{BadNumber, Out
 use Rattle.agc_script.specs.declared.fault.FaultKind.TheVariants.{Memory}
 use Rattle.agc_script.specs.declared.fault.ScriptFault.{ScriptFault}
 
--- a number of a command: the word that writes it, its base and its range
+-- a number of a command: the word that writes it and its range
 pub record Numeral : Type 0 where
   pub word : List ℕ
-  pub base : ℕ
-  pub low : ℕ
-  pub high : ℕ
+  pub range : NumberRange
 
-abbrev pub octal : List ℕ → ℕ → ℕ → Numeral
-octal word low high = record { word = word; base = 8; low = low; high = high }
-
-abbrev pub decimal : List ℕ → ℕ → ℕ → Numeral
-decimal word low high = record { word = word; base = 10; low = low; high = high }
-
--- a word's fifteen bits
-abbrev pub pattern : List ℕ → Numeral
-pattern word = octal word 0 0o77777
+abbrev pub numeral : List ℕ → NumberRange → Numeral
+numeral word range = record { word = word; range = range }
 
 -- what the number is, where its word writes one of at most six digits
 abbrev pub value_of : Numeral → Option ℕ
-value_of n = number_of n.base 6 n.word
+value_of n = number_of (radix n.range.base) 6 n.word
 
 abbrev pub known_and : {T : Type 0} → (T → Bool) → Option T → Bool
 known_and test value = option_map_or test value false
 
--- the lowest offset of a poke, as far as its bank is a number
-abbrev pub lowest_offset : Option ℕ → ℕ
-lowest_offset None = 0
-lowest_offset (Some bank) = first_offset bank
-
 abbrev pub where_known : Bool → List Numeral → Option (List Numeral)
 where_known known numbers = if known then Some numbers else None
 
--- The numbers of a command, where it is known and so are the names among its words, of which there
--- are as many as there should be.
+-- The numbers among the words after a command's name, where the names among these words are known,
+-- and there are as many words as there should be.
+unfoldable pub numbers_after : List (List ℕ) → Command → Option (List Numeral)
+numbers_after (a ∷ []) command.Key = where_known (is_some (key_named a)) []
+numbers_after (a ∷ []) command.Pro = where_known (is_some (direction_named a)) []
+numbers_after (a ∷ []) command.Raise = Some (numeral a interrupts ∷ [])
+numbers_after (a ∷ b ∷ []) command.Input = Some (numeral a channels ∷ numeral b patterns ∷ [])
+numbers_after (a ∷ b ∷ []) command.Pulse =
+    where_known (is_some (pulse_named b)) (numeral a counters ∷ [])
+numbers_after (a ∷ b ∷ c ∷ []) command.Poke =
+    Some (numeral a banks ∷ numeral b (offsets_in (octal_number 6 a)) ∷ numeral c patterns ∷ [])
+numbers_after words command = None
+
+-- the numbers of a command, where it is known and so are its words
 unfoldable pub numbers_of : List (List ℕ) → Option (List Numeral)
-numbers_of (name ∷ a ∷ []) =
-    if bytes_eq name (codes "key") then where_known (is_some (key_named a)) []
-    else (if bytes_eq name (codes "pro") then where_known (is_some (direction_named a)) []
-    else where_known (bytes_eq name (codes "raise")) (decimal a 1 last_interrupt ∷ []))
-numbers_of (name ∷ a ∷ b ∷ []) =
-    if bytes_eq name (codes "input")
-    then Some (octal a first_io_channel last_io_channel ∷ pattern b ∷ [])
-    else (if bytes_eq name (codes "pulse")
-    then where_known (is_some (pulse_named b)) (octal a first_counter last_counter ∷ [])
-    else None)
-numbers_of (name ∷ a ∷ b ∷ c ∷ []) =
-    where_known (bytes_eq name (codes "poke"))
-    (octal a 0 last_bank ∷ octal b (lowest_offset (octal_number 6 a)) last_offset ∷ pattern c ∷ [])
-numbers_of words = None
+numbers_of [] = None
+numbers_of (name ∷ words) = option_and_then (numbers_after words) (command_named name)
 
 abbrev pub is_no_cycle : List ℕ → Bool
 is_no_cycle word = is_none (cycle_of word)
@@ -80,7 +67,7 @@ abbrev pub is_bad : Numeral → Bool
 is_bad n = is_none (value_of n)
 
 abbrev pub is_beyond_range : Numeral → Bool
-is_beyond_range n = known_and (λ value. not (is_within n.low n.high value)) (value_of n)
+is_beyond_range n = known_and (λ value. not (is_within n.range.low n.range.high value)) (value_of n)
 
 -- N is 0, or TO comes before FROM
 abbrev pub is_no_span : ℕ × ℕ × ℕ → Bool

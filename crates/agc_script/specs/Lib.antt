@@ -2,6 +2,7 @@ pub mod Key
 pub mod Event
 pub mod Script
 pub mod Text
+pub mod Grammar
 pub mod Command
 pub mod Line
 pub mod Parse

@@ -2,11 +2,12 @@
 use crate::key::Key;
 use agc_word::{Narrow, Pulse};
 
-/// The latest cycle that an event may have.
-pub(crate) const LAST_CYCLE: u64 = 1_000_000_000_000;
+/// The latest machine cycle that an event may have. A cycle takes 11.7 microseconds, so that this is
+/// after some 135 days, and a run goes no further.
+pub const LAST_CYCLE: u64 = 1_000_000_000_000;
 
 /// The most events that a script may have.
-pub(crate) const MOST_EVENTS: usize = 65_536;
+pub const MOST_EVENTS: usize = 65_536;
 
 /// Something that happens from outside, as the machine takes it between two orders.
 #[derive(Clone, Copy, Debug, PartialEq, Eq)]

@@ -7,7 +7,7 @@ pub enum FaultKind {
     /// More than 120 bytes.
     #[error("the line has more than 120 bytes")]
     LineTooLong,
-    /// A byte of 80 hexadecimal or above.
+    /// A byte of 200 octal or above.
     #[error("a byte is not ASCII")]
     NotAscii,
     /// A cycle is not 1 to 13 decimal digits, or beyond 1,000,000,000,000.

@@ -29,13 +29,36 @@ pub enum Key {
 }
 
 impl Key {
+    /// Every key, once.
+    pub const ALL: [Key; 18] = [
+        Key::Zero,
+        Key::One,
+        Key::Two,
+        Key::Three,
+        Key::Four,
+        Key::Five,
+        Key::Six,
+        Key::Seven,
+        Key::Eight,
+        Key::Nine,
+        Key::Verb,
+        Key::Noun,
+        Key::Reset,
+        Key::KeyRelease,
+        Key::Plus,
+        Key::Minus,
+        Key::Enter,
+        Key::Clear,
+    ];
+
     /// The key of this name, as scripts write it: names are in capitals.
     #[tactic(auto, unfolding(crate::specs::Key::key_named, crate::specs::Key::all_keys))]
     pub fn from_name(name: &[u8]) -> Option<Key>
         ensures key { result ≡ key_named name.now }
         ensures named { IfSome result (λ key. name_of key ≡ name.now) }
     {
-        ALL.iter()
+        Key::ALL
+            .iter()
             .copied()
             .find(|key| key.name().as_bytes() == name)
     }
@@ -96,24 +119,3 @@ impl Key {
         Narrow::with_bits(bits)
     }
 }
-
-const ALL: [Key; 18] = [
-    Key::Zero,
-    Key::One,
-    Key::Two,
-    Key::Three,
-    Key::Four,
-    Key::Five,
-    Key::Six,
-    Key::Seven,
-    Key::Eight,
-    Key::Nine,
-    Key::Verb,
-    Key::Noun,
-    Key::Reset,
-    Key::KeyRelease,
-    Key::Plus,
-    Key::Minus,
-    Key::Enter,
-    Key::Clear,
-];

@@ -5,6 +5,7 @@
 mod command;
 mod event;
 mod fault;
+mod grammar;
 mod key;
 pub mod laws;
 mod line;
@@ -14,9 +15,14 @@ mod script;
 mod tape;
 mod text;
 
-pub use event::{Event, What};
+pub use event::{Event, LAST_CYCLE, MOST_EVENTS, What};
 pub use fault::{FaultKind, ScriptFault};
+pub use grammar::{
+    BANKS, Base, CHANNELS, COUNTERS, Command, DIRECTIONS, INTERRUPTS, MOST_ARGUMENTS, MOST_DIGITS,
+    NumberRange, PATTERNS, PULSES, direction_name, offsets, pulse_name,
+};
 pub use key::Key;
+pub use line::{EVERY, LONGEST_LINE, MOST_CYCLE_DIGITS, read_cycle};
 pub use script::Script;
 pub use tape::Tape;
 pub use text::{next_line, next_word};

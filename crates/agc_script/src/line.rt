@@ -7,13 +7,19 @@ ghost use Rattle.agc_script.specs.Line.{IsRepeatInRange, is_beyond_ascii, cycle_
 ghost use Rattle.agc_script.specs.Line.{in_turn, once_of, repeat_of, every_of, within_bound};
 ghost use Rattle.agc_script.specs.Line.{words_meaning, meaning_of};
 
-use crate::command::{is, read_command};
+use crate::command::{is_word, read_command};
 use crate::event::{LAST_CYCLE, MOST_EVENTS, What};
 use crate::fault::FaultKind;
 use crate::text::next_word;
 
 /// The most bytes that a line may have, its end apart.
-const LONGEST_LINE: usize = 120;
+pub const LONGEST_LINE: usize = 120;
+
+/// The word that begins a line `every N FROM TO`, whose command comes again and again.
+pub const EVERY: &str = "every";
+
+/// The most decimal digits of a cycle, as many as [`LAST_CYCLE`] has.
+pub const MOST_CYCLE_DIGITS: usize = 13;
 
 /// The events of one line: the same thing at `start`, `start + period` and so on, so many times.
 #[derive(Clone, Copy, Debug, PartialEq, Eq)]
@@ -65,7 +71,7 @@ fn read_words(last: u64, before: usize, line: &[u8]) -> Result<Option<Repeat>, F
     if let [b'#', ..] = first {
         return Ok(None);
     }
-    let repeat = if is(first, "every") {
+    let repeat = if is_word(first, EVERY) {
         read_every(last, words)?
     } else {
         read_once(last, first, words)?
@@ -107,11 +113,11 @@ fn read_once(last: u64, first: &[u8], words: &[u8]) -> Result<Repeat, FaultKind>
 
 /// The cycle that a word writes: one to thirteen decimal digits, at most 1,000,000,000,000.
 #[tactic(auto, unfolding(crate::specs::Line::cycle_of))]
-fn read_cycle(word: &[u8]) -> Option<u64>
+pub fn read_cycle(word: &[u8]) -> Option<u64>
     ensures cycle { result ≡ cycle_of word.now }
     ensures range { IfSome result (λ cycle. cycle ≤ last_cycle) }
 {
-    agc_word::read_decimal(13, word).filter(|cycle| *cycle <= LAST_CYCLE)
+    agc_word::read_decimal(MOST_CYCLE_DIGITS, word).filter(|cycle| *cycle <= LAST_CYCLE)
 }
 
 /// The cycle that a word has to write.

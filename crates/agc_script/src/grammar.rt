@@ -1,0 +1,261 @@
+//! What scripts may say: the names of commands, directions and pulses, and the ranges of numbers.
+//! The parser reads by these tables, and whoever explains a fault looks here too.
+ghost use Rattle.std.specs.Prelude.{◌≡◌, IfSome, ◌≢◌};
+ghost use Rattle.agc_word.specs.Numeral.{number_of};
+ghost use Rattle.agc_script.specs.Grammar.{command_name, command_named, argument_count};
+ghost use Rattle.agc_script.specs.Grammar.{direction_name, direction_named, pulse_name};
+ghost use Rattle.agc_script.specs.Grammar.{pulse_named, radix, is_within, ranges_of, offsets_in};
+
+use agc_word::{FIRST_IO_CHANNEL, LAST_IO_CHANNEL, Pulse, read_decimal, read_octal};
+
+/// A command of a script.
+#[derive(Clone, Copy, Debug, PartialEq, Eq)]
+pub enum Command {
+    /// A key of the keyboard is pressed.
+    Key,
+    /// The PRO key goes down or up.
+    Pro,
+    /// A channel gets a word.
+    Input,
+    /// A counter gets a pulse.
+    Pulse,
+    /// An interrupt is requested.
+    Raise,
+    /// A cell of erasable memory gets a word.
+    Poke,
+}
+
+impl Command {
+    /// Every command, once.
+    pub const ALL: [Command; 6] = [
+        Command::Key,
+        Command::Pro,
+        Command::Input,
+        Command::Pulse,
+        Command::Raise,
+        Command::Poke,
+    ];
+
+    /// The command of this name.
+    #[tactic(auto, unfolding(crate::specs::Grammar::command_named, crate::specs::Grammar::all_commands))]
+    pub fn from_name(name: &[u8]) -> Option<Command>
+        ensures command { result ≡ command_named name.now }
+        ensures named { IfSome result (λ command. command_name command ≡ name.now) }
+    {
+        Command::ALL
+            .iter()
+            .copied()
+            .find(|command| command.name().as_bytes() == name)
+    }
+
+    /// The word that begins the command.
+    #[tactic(auto, unfolding(crate::specs::Grammar::command_name))]
+    pub fn name(self) -> &'static str
+        ensures { result.now ≡ command_name self }
+    {
+        match self {
+            Command::Key => "key",
+            Command::Pro => "pro",
+            Command::Input => "input",
+            Command::Pulse => "pulse",
+            Command::Raise => "raise",
+            Command::Poke => "poke",
+        }
+    }
+
+    /// The command with its words, as a person is told of it.
+    pub fn usage(self) -> &'static str {
+        match self {
+            Command::Key => "key NAME",
+            Command::Pro => "pro DIRECTION",
+            Command::Input => "input CHANNEL VALUE",
+            Command::Pulse => "pulse COUNTER KIND",
+            Command::Raise => "raise NUMBER",
+            Command::Poke => "poke BANK OFFSET VALUE",
+        }
+    }
+
+    /// How many words stand after the command's name.
+    #[tactic(auto, unfolding(crate::specs::Grammar::argument_count))]
+    pub fn argument_count(self) -> usize
+        ensures { result ≡ argument_count self }
+    {
+        match self {
+            Command::Key | Command::Pro | Command::Raise => 1,
+            Command::Input | Command::Pulse => 2,
+            Command::Poke => 3,
+        }
+    }
+
+    /// The ranges of the words after the command's name, in their order: `None` for a word that is
+    /// no number, and where the command has no such word. The offsets of a poke depend on its bank,
+    /// which is `first`, where the first word writes a number.
+    #[tactic(auto, unfolding(crate::specs::Grammar::ranges_of))]
+    pub fn ranges(self, first: Option<u64>) -> [Option<NumberRange>; MOST_ARGUMENTS]
+        ensures { result ≡ ranges_of self first }
+    {
+        match self {
+            Command::Key | Command::Pro => [None, None, None],
+            Command::Input => [Some(CHANNELS), Some(PATTERNS), None],
+            Command::Pulse => [Some(COUNTERS), None, None],
+            Command::Raise => [Some(INTERRUPTS), None, None],
+            Command::Poke => [Some(BANKS), Some(offsets(first)), Some(PATTERNS)],
+        }
+    }
+}
+
+/// The most words that stand after a command's name.
+pub const MOST_ARGUMENTS: usize = 3;
+
+/// Where PRO goes: down where true.
+pub const DIRECTIONS: [bool; 2] = [true, false];
+
+/// The pulses that a script may send. `Dinc` is not among them: the timers alone send it.
+pub const PULSES: [Pulse; 6] = [
+    Pulse::Pinc,
+    Pulse::Minc,
+    Pulse::Pcdu,
+    Pulse::Mcdu,
+    Pulse::Shinc,
+    Pulse::Shanc,
+];
+
+/// The word for where PRO goes.
+#[tactic(auto, unfolding(crate::specs::Grammar::direction_name))]
+pub fn direction_name(down: bool) -> &'static str
+    ensures { result.now ≡ direction_name down }
+{
+    if down { "down" } else { "up" }
+}
+
+/// Whether a word says that PRO goes down.
+#[tactic(auto, unfolding(crate::specs::Grammar::direction_named, crate::specs::Grammar::directions))]
+pub(crate) fn direction_from_name(name: &[u8]) -> Option<bool>
+    ensures { result ≡ direction_named name.now }
+{
+    DIRECTIONS
+        .iter()
+        .copied()
+        .find(|down| direction_name(*down).as_bytes() == name)
+}
+
+/// The word for a pulse.
+#[tactic(auto, unfolding(crate::specs::Grammar::pulse_name))]
+pub fn pulse_name(kind: Pulse) -> &'static str
+    ensures { result.now ≡ pulse_name kind }
+{
+    match kind {
+        Pulse::Pinc => "pinc",
+        Pulse::Minc => "minc",
+        Pulse::Dinc => "dinc",
+        Pulse::Pcdu => "pcdu",
+        Pulse::Mcdu => "mcdu",
+        Pulse::Shinc => "shinc",
+        Pulse::Shanc => "shanc",
+    }
+}
+
+/// The pulse of a name; a script has no `Dinc`.
+#[tactic(auto, unfolding(crate::specs::Grammar::pulse_named, crate::specs::Grammar::pulses))]
+pub(crate) fn pulse_from_name(name: &[u8]) -> Option<Pulse>
+    ensures named { result ≡ pulse_named name.now }
+    ensures scripted { IfSome result (λ kind. kind ≢ Pulse.Dinc) }
+{
+    PULSES
+        .iter()
+        .copied()
+        .find(|kind| pulse_name(*kind).as_bytes() == name)
+}
+
+/// The base in which a word writes its number.
+#[derive(Clone, Copy, Debug, PartialEq, Eq)]
+pub enum Base {
+    Octal,
+    Decimal,
+}
+
+/// What a number of a command may be, both ends counted in, and the base in which it is written.
+#[derive(Clone, Copy, Debug, PartialEq, Eq)]
+pub struct NumberRange {
+    pub base: Base,
+    pub low: u64,
+    pub high: u64,
+}
+
+impl NumberRange {
+    /// The number that a word writes: 1 to 6 digits of the base.
+    #[tactic(auto, unfolding(crate::specs::Grammar::radix))]
+    pub fn read(self, word: &[u8]) -> Option<u64>
+        ensures { result ≡ number_of (radix self.base) 6 word.now }
+    {
+        match self.base {
+            Base::Octal => read_octal(MOST_DIGITS, word),
+            Base::Decimal => read_decimal(MOST_DIGITS, word),
+        }
+    }
+
+    /// Whether a number is in the range.
+    pub fn has(self, number: u64) -> bool
+        ensures { result ≡ is_within self.low self.high number }
+    {
+        self.low <= number && number <= self.high
+    }
+}
+
+/// The most digits that a number of a command has.
+pub const MOST_DIGITS: usize = 6;
+
+/// The channels that a script may set: those between the computer and the outside world. Below stand
+/// L, Q and the two halves of the scaler; 777 is the last that the nine bits of an order name.
+pub const CHANNELS: NumberRange = NumberRange {
+    base: Base::Octal,
+    low: FIRST_IO_CHANNEL as u64,
+    high: LAST_IO_CHANNEL as u64,
+};
+
+/// The cells of bank 0 that pulses step, the counters from TIME2 to ALTM.
+pub const COUNTERS: NumberRange = NumberRange {
+    base: Base::Octal,
+    low: 0o24,
+    high: 0o60,
+};
+
+/// The numbers of the interrupts, from 1 for T6RUPT to 10 for RUPT10.
+pub const INTERRUPTS: NumberRange = NumberRange {
+    base: Base::Decimal,
+    low: 1,
+    high: 10,
+};
+
+/// The banks of erasable memory, eight of 400 octal words.
+pub const BANKS: NumberRange = NumberRange {
+    base: Base::Octal,
+    low: 0,
+    high: 0o7,
+};
+
+/// The patterns of a word, fifteen bits.
+pub const PATTERNS: NumberRange = NumberRange {
+    base: Base::Octal,
+    low: 0,
+    high: 0o77777,
+};
+
+/// The last offset in a bank of erasable memory.
+const LAST_OFFSET: u64 = 0o377;
+
+/// How many words at the head of bank 0 are registers, from A to the one that is zero: no script
+/// pokes them.
+const REGISTER_COUNT: u64 = 0o10;
+
+/// The offsets that a script may poke in a bank, where the bank is known.
+#[tactic(auto, unfolding(crate::specs::Grammar::offsets_in))]
+pub fn offsets(bank: Option<u64>) -> NumberRange
+    ensures { result ≡ offsets_in bank }
+{
+    NumberRange {
+        base: Base::Octal,
+        low: if bank == Some(0) { REGISTER_COUNT } else { 0 },
+        high: LAST_OFFSET,
+    }
+}
