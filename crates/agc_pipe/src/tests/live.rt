@@ -1,7 +1,9 @@
 //! Live runs: keys that are taken while the machine runs, and the same run played again.
 ghost use Rattle.std.specs.Prelude.{◌≡◌, false, IfOk};
 
-use crate::{Gate, Live, Open, ShowFault, Shown, run_live, run_shown};
+use crate::{
+    Gate, Live, Open, ShowFault, Shown, Slots, Spacing, run_live, run_shown, show_live_run,
+};
 use agc_gate::{KeysMeet, Meeting, Slow};
 use agc_listing::{KEYED_WRITES, rope_file};
 use agc_machine::Machine;
@@ -19,6 +21,15 @@ const SPACING: u64 = 8533;
 
 const KEYS: [Key; 3] = [Key::Verb, Key::Three, Key::Five];
 
+/// Writes the relay word of PROG 12 to channel 10 all the time, with an end to the interrupt of a key.
+const KEYED_RELAY_WORDS: &str = "
+4000 34004 CA 4004
+4001 00006 EXTEND
+4002 01010 WRITE 10
+4003 14000 TCF 4000
+4004 54171
+4024 50017 RESUME";
+
 /// How often a gate looks for what must come.
 const TURNS: u32 = 1_000_000;
 
@@ -33,7 +44,19 @@ impl<H: AllocGlobal + Abort + Threads + Wait + Sync> Host for H {}
 fn machine(rt: &(impl AllocGlobal + Abort), script: Script, limit: u64) -> Result<Machine, Fail>
     ensures { IfOk result (λ machine. machine.begun ≡ false) }
 {
-    let rope = rope_file(rt.alloc(), KEYED_WRITES)?;
+    machine_of(rt, KEYED_WRITES, script, limit)
+}
+
+/// The machine of a listing at its start with this script.
+fn machine_of(
+    rt: &(impl AllocGlobal + Abort),
+    listing: &str,
+    script: Script,
+    limit: u64,
+) -> Result<Machine, Fail>
+    ensures { IfOk result (λ machine. machine.begun ≡ false) }
+{
+    let rope = rope_file(rt.alloc(), listing)?;
     let machine = Machine::new(Rope::read(rt.alloc(), rope.as_slice())?, script, limit)
         .ok()
         .expect(rt, "the limit is in range");
@@ -160,6 +183,39 @@ fn slow_threads_change_the_tape_alone(rt: HostRuntime) -> Result<(), Fail> {
             assert_replays(&rt, &live)?;
         }
     }
+    Ok(())
+}
+
+/// Three keys are handed in before the first block is sent. The run ends before a second key may follow the first:
+/// so that one is on the tape, and the others are left.
+#[test]
+fn spacing_looked_at_before_serves(rt: HostRuntime) -> Result<(), Fail> {
+    let script = Script::parse(rt.alloc(), b"")?;
+    let machine = machine_of(&rt, KEYED_RELAY_WORDS, script, SPACING)?;
+    let keys = Vec::from_array(rt.alloc(), KEYS)?;
+    let spacing = Spacing::new(SPACING).ok_or("a spacing")?;
+    let gate = KeysMeet::new(TURNS);
+    let live = show_live_run(
+        &rt,
+        rt.alloc(),
+        machine,
+        keys,
+        spacing,
+        Slots::new(256)?,
+        &gate,
+    )?;
+    assert_eq!(&rt; live.tape.len(), 1);
+    assert_eq!(&rt; live.tape.at(0).1, Key::Verb);
+    assert!(&rt; live.rest.as_slice() == [Key::Three, Key::Five].as_slice());
+    let first = live.shown.log.as_slice().first();
+    let first = first.map(|write| (write.channel, write.value.bits()));
+    assert_eq!(&rt; first, Some((0o10, 0o54171)));
+    let panel = live.shown.panel.text(rt.alloc())?;
+    assert!(&rt; panel.as_str().starts_with("PROG 12\nVERB __\n"));
+    let script = Script::parse(rt.alloc(), b"")?.merge(rt.alloc(), &live.tape)?;
+    let machine = machine_of(&rt, KEYED_RELAY_WORDS, script, SPACING)?;
+    let shown = run_shown(&rt, rt.alloc(), machine, 256, &Open)?;
+    assert!(&rt; is_same(&shown, &live.shown));
     Ok(())
 }
 

@@ -1,5 +1,6 @@
 //! How a file is cut into lines and words.
 use super::*;
+use crate::{next_line, next_word};
 
 #[test]
 fn lines_and_words(rt: HostRuntime) {
@@ -49,4 +50,48 @@ fn comments_and_blanks(rt: HostRuntime) {
             (b" # \xFF 0 raise 1", 1, FaultKind::NotAscii),
         ],
     );
+}
+
+/// The first line of a file without its end, and what stands behind that.
+#[test]
+fn first_lines(rt: HostRuntime) {
+    let files: [(&[u8], &[u8], &[u8]); 11] = [
+        (b"one\ntwo\n", b"one", b"two\n"),
+        (b"one\n", b"one", b""),
+        (b"one", b"one", b""),
+        (b"one\r\ntwo", b"one", b"two"),
+        (b"one\r", b"one", b""),
+        (b"one\r\r\n", b"one\r", b""),
+        (b"o\rne\ntwo", b"o\rne", b"two"),
+        (b"\n\ntwo", b"", b"\ntwo"),
+        (b"\r\n", b"", b""),
+        (b" \t\ntwo", b" \t", b"two"),
+        (b"# one\n2 key 5", b"# one", b"2 key 5"),
+    ];
+    for (file, line, rest) in files {
+        assert_eq!(rt; next_line(file), Some((line, rest)), "{file:?}");
+    }
+    assert_eq!(rt; next_line(b""), None);
+}
+
+/// The first word of a line, and what stands behind it: only spaces and tabs divide words.
+#[test]
+fn first_words(rt: HostRuntime) {
+    let lines: [(&[u8], &[u8], &[u8]); 8] = [
+        (b"one two", b"one", b" two"),
+        (b"one\ttwo", b"one", b"\ttwo"),
+        (b" \t one  two ", b"one", b"  two "),
+        (b"one", b"one", b""),
+        (b"one ", b"one", b" "),
+        (b"# one", b"#", b" one"),
+        (b"one#two", b"one#two", b""),
+        (b"one\r\ntwo three", b"one\r\ntwo", b" three"),
+    ];
+    for (line, word, rest) in lines {
+        assert_eq!(rt; next_word(line), Some((word, rest)), "{line:?}");
+    }
+    let blanks: [&[u8]; 3] = [b"", b" ", b"\t \t"];
+    for line in blanks {
+        assert_eq!(rt; next_word(line), None, "{line:?}");
+    }
 }
