@@ -55,7 +55,7 @@ pub fn parse_args<'a>(alloc: Global, words: &'a [&'a str]) -> Result<Options, Ar
     }
 }
 
-/// The mistake of a command line whose word of this number, counted from 1 behind the program's own
+/// The mistake of a command line whose word of this number, counted from 1 after the program's own
 /// name, is not text: told with the number and the usage.
 pub fn not_text(alloc: Global, number: usize) -> ArgsFault
     ensures { IsNotText number result }

@@ -39,7 +39,7 @@ abbrev pub script_told : Result (List Event) ScriptFault → List ℕ → List �
 script_told (Ok events) file why = script_holdings_text (script_holdings events)
 script_told (Err fault) file why = script_fault_text file fault ++ why
 
--- what is told of a script file stands behind what was told before
+-- what is told of a script file stands after what was told before
 pub record IsScriptReport (file before after : List ℕ) : Type 0 where
   pub why : List ℕ
   pub text : after ≡ before ++ script_told (script_of file) file why

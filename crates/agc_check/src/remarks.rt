@@ -159,7 +159,7 @@ fn push_unknown(alloc: Global, text: &mut String, words: &[&[u8]]) -> Result<(),
         let usage = command.usage();
         return writeln!(
             text,
-            "`{usage}` is right: here are {given} words behind the command"
+            "`{usage}` is right: here are {given} words after the command"
         );
     }
     push_unknown_name(alloc, text, command, words[words.len() - 1])
@@ -168,7 +168,7 @@ fn push_unknown(alloc: Global, text: &mut String, words: &[&[u8]]) -> Result<(),
 /// Tells that the command is missing, and with `every` perhaps some of its cycles.
 fn push_missing(text: &mut String, words: &[&[u8]]) -> Result<(), AllocError> {
     if is_every(words) {
-        text.push_str("`every N FROM TO` wants these three cycles and a command behind them\n")
+        text.push_str("`every N FROM TO` wants these three cycles and a command after them\n")
     } else {
         text.push_str("the command is missing: ")?;
         for (place, command) in Command::ALL.iter().enumerate() {

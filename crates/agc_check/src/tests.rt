@@ -112,11 +112,11 @@ fn names(rt: HostRuntime) {
             ),
             (
                 b"20 key",
-                "script line 1: UnknownWord\n    20 key\n    `key NAME` is right: here are 0 words behind the command\n",
+                "script line 1: UnknownWord\n    20 key\n    `key NAME` is right: here are 0 words after the command\n",
             ),
             (
                 b"every 5 20",
-                "script line 1: UnknownWord\n    every 5 20\n    `every N FROM TO` wants these three cycles and a command behind them\n",
+                "script line 1: UnknownWord\n    every 5 20\n    `every N FROM TO` wants these three cycles and a command after them\n",
             ),
             (
                 b"20",

@@ -17,12 +17,12 @@ use Rattle.agc_trace.specs.Trace.{trace_of}
 use Rattle.agc_trace.specs.declared.entry.Entry.{Entry}
 use Rattle.agc_compare.specs.Apart.{EndsTold, EndsWith, IsParting}
 use Rattle.agc_compare.specs.Cells.{cells_that_differ}
-use Rattle.agc_compare.specs.Common.{ComesApart, HasParted, TellsEntries, held_left, held_right, kept, one_write, run_behind, entry_writes}
+use Rattle.agc_compare.specs.Common.{ComesApart, HasParted, TellsEntries, held_left, held_right, kept, one_write, run_after, entry_writes}
 use Rattle.agc_compare.specs.Compare.{FitsParting, FitsWriteParting, TellsCommon, TellsEnd, TracesPart, cells_at_end, end_of, is_nowhere, is_same}
 use Rattle.agc_compare.specs.declared.cells.CellPair.{CellPair}
 use Rattle.agc_compare.specs.declared.comparison.Comparison.{Comparison}
 use Rattle.agc_word.specs.Number.{Number}
-use Rattle.agc_compare.specs.Follower.{IsEnd, PartBehind, WritesPart, WritesTold, run_with}
+use Rattle.agc_compare.specs.Follower.{IsEnd, PartAfter, WritesPart, WritesTold, run_with}
 use Rattle.agc_compare.specs.declared.common.Common.{Common}
 use Rattle.agc_compare.specs.declared.common.Fork.{Fork}
 use Rattle.agc_compare.specs.declared.comparison.Parting.{Parting}
@@ -60,10 +60,10 @@ pub record Met (s t : State) (common : Common) (last : Buffer Entry) (fork : Opt
   pub left : trace_of s ≡ entries ++ left_rest
   pub right_rest : List Entry
   pub right : trace_of t ≡ entries ++ right_rest
-  pub left_run : run_of s ≡ run_behind (entry_writes entries) (run_with (held_left fork) u)
-  pub right_run : run_of t ≡ run_behind (entry_writes entries) (run_with (held_right fork) v)
+  pub left_run : run_of s ≡ run_after (entry_writes entries) (run_with (held_left fork) u)
+  pub right_run : run_of t ≡ run_after (entry_writes entries) (run_with (held_right fork) v)
 
-run_parted : (s u : State) (entries : List Entry) (entry : Entry) → HasParted s entries entry u → run_of s ≡ run_behind (entry_writes entries) (run_with entry.write u)
+run_parted : (s u : State) (entries : List Entry) (entry : Entry) → HasParted s entries entry u → run_of s ≡ run_after (entry_writes entries) (run_with entry.write u)
 run_parted s u entries entry h =
     h.run ∙ ap (λ (ws : List ChannelWrite). record { writes = ws; last = (run_of u).last }) (append_assoc (entry_writes entries) (one_write entry.write) (run_of u).writes)
 
@@ -147,7 +147,7 @@ get_add : (xs ys : List ChannelWrite) (n : ℕ) → slice_get (xs ++ ys) (length
 get_add [] ys n = ap (slice_get ys) (zero-add n)
 get_add (x ∷ xs) ys n = ap (slice_get ((x ∷ xs) ++ ys)) (suc-add (length xs) n) ∙ get_add xs ys n
 
-part_later : (told xs ys : List ChannelWrite) (count : ℕ) (x y : Option ChannelWrite) → PartBehind count xs ys x y → PartBehind (length told + count) (told ++ xs) (told ++ ys) x y
+part_later : (told xs ys : List ChannelWrite) (count : ℕ) (x y : Option ChannelWrite) → PartAfter count xs ys x y → PartAfter (length told + count) (told ++ xs) (told ++ ys) x y
 part_later told xs ys count x y h =
     record {
       same = take-append-add told xs count ∙ ap (λ (ws : List ChannelWrite). told ++ ws) h.same ∙ sym (take-append-add told ys count);
@@ -169,7 +169,7 @@ writes_told s t common last fork u v parting m h =
 
 -- the end of a run, told from its start
 pub end_told : (s u : State) (common : Common) (writes : List ChannelWrite) (held : Option ChannelWrite) (end : End) (x : State) → common.panel ≡ panel_of writes →
-    run_of s ≡ run_behind writes (run_with held u) → IsEnd common.panel (run_with held u) end x → TellsEnd s end x
+    run_of s ≡ run_after writes (run_with held u) → IsEnd common.panel (run_with held u) end x → TellsEnd s end x
 end_told s u common writes held end x p r h =
     let last : x ≡ end_of s = h.last ∙ ap (λ (run : Run). run.last) (sym r) in
     record {

@@ -11,15 +11,15 @@ use Rattle.std.proofs.Math.Seq.{take-append_seam}
 use Rattle.agc_machine.specs.declared.answer.ChannelWrite.{ChannelWrite}
 use Rattle.agc_panel.specs.Face.{panel_of}
 use Rattle.agc_panel.specs.declared.face.Face.{Face}
-use Rattle.agc_compare.specs.Common.{one_write, run_behind}
-use Rattle.agc_compare.specs.Follower.{HasGone, IsEnd, PartBehind, WritesTold, run_with}
+use Rattle.agc_compare.specs.Common.{one_write, run_after}
+use Rattle.agc_compare.specs.Follower.{HasGone, IsEnd, PartAfter, WritesTold, run_with}
 use Rattle.agc_compare.specs.declared.follower.End.{End}
 use Rattle.agc_compare.specs.declared.follower.Follower.{Follower}
 
 -- a run has come from one state to another, and the panel has taken the writes between
 pub record HasRun (before : Face) (s : State) (after : Face) (t : State) : Type 0 where
   pub writes : List ChannelWrite
-  pub run : run_of s ≡ run_behind writes (run_of t)
+  pub run : run_of s ≡ run_after writes (run_of t)
   pub panel : (taken : List ChannelWrite) → before ≡ panel_of taken → after ≡ panel_of (taken ++ writes)
 
 -- the writes that a follower has before it
@@ -41,7 +41,7 @@ gone_none f s = record { run = refl; panel = λ taken e. e ∙ ap panel_of (sym 
 gone_on : (f g h : Follower) (s t u : State) (xs ys : List ChannelWrite) → HasGone f s xs g t → HasGone g t ys h u → HasGone f s (xs ++ ys) h u
 gone_on f g h s t u xs ys a b =
     record {
-      run = a.run ∙ ap (run_behind xs) b.run ∙ ap (λ (ws : List ChannelWrite). record { writes = ws; last = (run_of u).last }) (sym (append_assoc xs ys (run_with h.held u).writes));
+      run = a.run ∙ ap (run_after xs) b.run ∙ ap (λ (ws : List ChannelWrite). record { writes = ws; last = (run_of u).last }) (sym (append_assoc xs ys (run_with h.held u).writes));
       panel = λ taken e. b.panel (taken ++ xs) (a.panel taken e) ∙ ap panel_of (append_assoc taken xs ys);
     }
 
@@ -55,7 +55,7 @@ same_at_end s t why e = run_at_stop s t why e ∙ sym (run_at_end s t why e)
 pub took_none : (f : Follower) (s t : State) (why : Stop) → (t, next.Stopped why) ≡ next_of s → HasGone f s [] f t
 took_none f s t why e =
     record {
-      run = ap (run_behind (one_write f.held)) (same_at_end s t why e);
+      run = ap (run_after (one_write f.held)) (same_at_end s t why e);
       panel = λ taken e. e ∙ ap panel_of (sym (append-nil taken));
     }
 
@@ -69,7 +69,7 @@ took_held f g s t write e h k p =
     record {
       run =
           ap (λ (o : Option ChannelWrite). run_with o s) h ∙ ap (λ (u : State). run_with (Some write) u) e
-          ∙ ap (λ (o : Option ChannelWrite). run_behind (write ∷ []) (run_with o t)) (sym k);
+          ∙ ap (λ (o : Option ChannelWrite). run_after (write ∷ []) (run_with o t)) (sym k);
       panel = p;
     }
 
@@ -80,8 +80,8 @@ pub took_next : (f g : Follower) (s t u : State) (write told : ChannelWrite) →
 took_next f g s t u write told d n h k e p =
     record {
       run =
-          ap (λ (o : Option ChannelWrite). run_with o s) h ∙ run_at_write s t write e ∙ ap (λ (v : State). run_behind (write ∷ []) (run_of v)) d
-          ∙ ap (λ (w : ChannelWrite). run_behind (w ∷ []) (run_of u)) n ∙ ap (λ (o : Option ChannelWrite). run_behind (told ∷ []) (run_with o u)) (sym k);
+          ap (λ (o : Option ChannelWrite). run_with o s) h ∙ run_at_write s t write e ∙ ap (λ (v : State). run_after (write ∷ []) (run_of v)) d
+          ∙ ap (λ (w : ChannelWrite). run_after (w ∷ []) (run_of u)) n ∙ ap (λ (o : Option ChannelWrite). run_after (told ∷ []) (run_with o u)) (sym k);
       panel = p;
     }
 
@@ -94,7 +94,7 @@ pub run_more : (start before after : Face) (s t u : State) (write : ChannelWrite
 run_more start before after s t u write e p h =
     record {
       writes = h.writes ++ write ∷ [];
-      run = h.run ∙ ap (run_behind h.writes) (run_at_write t u write e)
+      run = h.run ∙ ap (run_after h.writes) (run_at_write t u write e)
           ∙ ap (λ (ws : List ChannelWrite). record { writes = ws; last = (run_of u).last }) (sym (append_assoc h.writes (write ∷ []) (run_of u).writes));
       panel = λ taken k. p (taken ++ h.writes) (h.panel taken k) ∙ ap panel_of (append_assoc taken h.writes (write ∷ []));
     }
@@ -102,7 +102,7 @@ run_more start before after s t u write e p h =
 pub run_ends : (start before : Face) (s t u : State) (why : Stop) (end : End) → (u, next.Stopped why) ≡ next_of t → end.stop ≡ why → end.cycle ≡ u.cycle → end.panel ≡ before →
     HasRun start s before t → IsEnd start (run_of s) end u
 run_ends start before s t u why end e stop cycle panel h =
-    let run : run_of s ≡ record { writes = h.writes ++ []; last = u } = h.run ∙ ap (run_behind h.writes) (run_at_stop t u why e) in
+    let run : run_of s ≡ record { writes = h.writes ++ []; last = u } = h.run ∙ ap (run_after h.writes) (run_at_stop t u why e) in
     record {
       last = ap (λ (r : Run). r.last) (sym run);
       stopped = stop_is_kept t u why e ∙ ap (λ (w : Stop). Some w) (sym stop);
@@ -162,8 +162,8 @@ told_more before number more f f2 f3 g g2 g3 s s2 s3 t t2 t3 x y a b same some m
 fewer_by : (f g : Follower) (s t : State) (x : Option ChannelWrite) (write : ChannelWrite) → HasGone f s (one_write x) g t → x ≡ Some write →
     writes_left g t < writes_left f s
 fewer_by f g s t x write h e =
-    let run : run_with f.held s ≡ run_behind (write ∷ []) (run_with g.held t) =
-    h.run ∙ ap (λ (o : Option ChannelWrite). run_behind (one_write o) (run_with g.held t)) e in
+    let run : run_with f.held s ≡ run_after (write ∷ []) (run_with g.held t) =
+    h.run ∙ ap (λ (o : Option ChannelWrite). run_after (one_write o) (run_with g.held t)) e in
     let count : writes_left f s ≡ suc (writes_left g t) = ap (λ (r : Run). length r.writes) run in
     omega (arith, count)
 
@@ -178,11 +178,11 @@ pub told_all : (before number : ℕ) (f f2 f3 g g2 g3 : Follower) (s s2 s3 t t2 
 told_all before number f f2 f3 g g2 g3 s s2 s3 t t2 t3 x y a b same none p q h =
     let left = gone_on f f2 f3 s s2 s3 h.told (one_write x) h.left_gone a in
     let right = gone_on g g2 g3 t t2 t3 h.told (one_write y) h.right_gone b in
-    let behind : (h.told ++ one_write x) ++ (run_with f3.held s3).writes ≡ (h.told ++ one_write y) ++ (run_with g3.held t3).writes =
+    let after : (h.told ++ one_write x) ++ (run_with f3.held s3).writes ≡ (h.told ++ one_write y) ++ (run_with g3.held t3).writes =
     ap (λ (o : Option ChannelWrite). (h.told ++ one_write o) ++ (run_with f3.held s3).writes) same
     ∙ ap (λ (ws : List ChannelWrite). (h.told ++ one_write y) ++ ws) (p none ∙ sym (q (sym same ∙ none))) in
     record {
-      writes = ap (λ (r : Run). r.writes) left.run ∙ behind ∙ ap (λ (r : Run). r.writes) (sym right.run);
+      writes = ap (λ (r : Run). r.writes) left.run ∙ after ∙ ap (λ (r : Run). r.writes) (sym right.run);
       left_told = h.told ++ one_write x;
       left_gone = left;
       right_told = h.told ++ one_write y;
@@ -190,9 +190,9 @@ told_all before number f f2 f3 g g2 g3 s s2 s3 t t2 t3 x y a b same none p q h =
     }
 
 -- two lists that differ in what comes next
-parts_behind : (told xs ys : List ChannelWrite) (x y : Option ChannelWrite) → x ≢ y → (x ≡ None → xs ≡ []) → (y ≡ None → ys ≡ []) →
-    PartBehind (length told) ((told ++ one_write x) ++ xs) ((told ++ one_write y) ++ ys) x y
-parts_behind told xs ys x y differ p q =
+parts_after : (told xs ys : List ChannelWrite) (x y : Option ChannelWrite) → x ≢ y → (x ≡ None → xs ≡ []) → (y ≡ None → ys ≡ []) →
+    PartAfter (length told) ((told ++ one_write x) ++ xs) ((told ++ one_write y) ++ ys) x y
+parts_after told xs ys x y differ p q =
     let left = append_assoc told (one_write x) xs in
     let right = append_assoc told (one_write y) ys in
     record {
@@ -216,9 +216,9 @@ told_apart before number more f f2 f3 g g2 g3 s s2 s3 t t2 t3 x y a b differ p q
       writes = (
         length h.told,
         omega (arith, m, h.count),
-        subst (λ (ws : List ChannelWrite). PartBehind (length h.told) ws (run_with g.held t).writes x y) (ap (λ (r : Run). r.writes) (sym left.run))
-            (subst (λ (ws : List ChannelWrite). PartBehind (length h.told) ((h.told ++ one_write x) ++ (run_with f3.held s3).writes) ws x y) (ap (λ (r : Run). r.writes) (sym right.run))
-            (parts_behind h.told (run_with f3.held s3).writes (run_with g3.held t3).writes x y differ p q)),
+        subst (λ (ws : List ChannelWrite). PartAfter (length h.told) ws (run_with g.held t).writes x y) (ap (λ (r : Run). r.writes) (sym left.run))
+            (subst (λ (ws : List ChannelWrite). PartAfter (length h.told) ((h.told ++ one_write x) ++ (run_with f3.held s3).writes) ws x y) (ap (λ (r : Run). r.writes) (sym right.run))
+            (parts_after h.told (run_with f3.held s3).writes (run_with g3.held t3).writes x y differ p q)),
       );
       left_told = h.told ++ one_write x;
       left_gone = left;

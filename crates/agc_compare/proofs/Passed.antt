@@ -7,7 +7,7 @@ use Rattle.std.proofs.lemmas.List.Elements.{All-append, All-cons, All-nil}
 use Rattle.circular_buffer.specs.Buffer.{Buffer, buffer, keep_last}
 use Rattle.agc_machine.specs.Boundary.{boundary}
 use Rattle.agc_machine.specs.Laws.{Falls}
-use Rattle.agc_machine.specs.Run.{run_of, unless_stopped_run}
+use Rattle.agc_machine.specs.Run.{run_of, while_writing}
 use Rattle.agc_machine.specs.State.{State}
 use Rattle.agc_machine.specs.Upcoming.{upcoming_of}
 use Rattle.agc_machine.specs.declared.answer.ChannelWrite.{ChannelWrite}
@@ -18,14 +18,14 @@ use Rattle.agc_trace.specs.Entry.{entry_of, write_shown}
 use Rattle.agc_trace.specs.Trace.{is_stop, trace_of}
 use Rattle.agc_trace.specs.declared.entry.Entry.{Entry}
 use Rattle.agc_trace.proofs.Steps.{trace_by_entry}
-use Rattle.agc_compare.specs.Common.{ComesApart, HasEnded, HasParted, HasPassed, TellsEntries, one_write, run_behind, entry_writes}
+use Rattle.agc_compare.specs.Common.{ComesApart, HasEnded, HasParted, HasPassed, TellsEntries, one_write, run_after, entry_writes}
 use Rattle.agc_compare.specs.declared.common.Common.{Common}
 use Rattle.agc_panel.specs.Face.{panel_of}
 use Rattle.agc_trace.specs.Entry.{FitsLine}
 
 -- a run is the write that its first boundary shows, and the run from there
-run_by : (s : State) (r : State × Stepped) → r ≡ boundary None s → Falls s r → run_of s ≡ run_behind (one_write (write_shown r.1)) (run_of r.0)
-run_by s (t, stepped.Quiet) e f = run_by_next s ∙ ap (unless_stopped_run run_of) (sym (next_after_quiet s t e)) ∙ sym (run_by_next t)
+run_by : (s : State) (r : State × Stepped) → r ≡ boundary None s → Falls s r → run_of s ≡ run_after (one_write (write_shown r.1)) (run_of r.0)
+run_by s (t, stepped.Quiet) e f = run_by_next s ∙ ap (while_writing run_of) (sym (next_after_quiet s t e)) ∙ sym (run_by_next t)
 run_by s (t, stepped.Wrote write) e f = run_at_write s t write (next_at_write s t write e)
 run_by s (t, stepped.Stopped why) e f =
     run_at_stop s t why (next_at_stop s t why e) ∙ sym (run_at_stop t t why (sym (next_of_stopped t why f.0)))
@@ -34,10 +34,10 @@ shows : (s : State) → (entry_of s).write ≡ write_shown (boundary None s).1
 unfolding entry_of
 shows s = refl
 
-pub run_by_boundary : (s : State) → run_of s ≡ run_behind (one_write (entry_of s).write) (run_of (boundary None s).0)
+pub run_by_boundary : (s : State) → run_of s ≡ run_after (one_write (entry_of s).write) (run_of (boundary None s).0)
 run_by_boundary s =
     run_by s (boundary None s) refl (boundary_falls s)
-    ∙ ap (λ (write : Option ChannelWrite). run_behind (one_write write) (run_of (boundary None s).0)) (sym (shows s))
+    ∙ ap (λ (write : Option ChannelWrite). run_after (one_write write) (run_of (boundary None s).0)) (sym (shows s))
 
 tells : (s : State) → (entry_of s).happening ≡ upcoming_of s
 unfolding entry_of
@@ -56,18 +56,18 @@ ends : (b : Bool) (xs : List Entry) → b ≡ true → (if b then [] else xs) �
 ends true xs e = refl
 ends false xs e = cc
 
--- the run behind some entries goes on by one more
-run_on : (s t : State) (writes : List ChannelWrite) → run_of s ≡ run_behind writes (run_of t) →
-    run_of s ≡ run_behind (writes ++ one_write (entry_of t).write) (run_of (boundary None t).0)
+-- the run after some entries goes on by one more
+run_on : (s t : State) (writes : List ChannelWrite) → run_of s ≡ run_after writes (run_of t) →
+    run_of s ≡ run_after (writes ++ one_write (entry_of t).write) (run_of (boundary None t).0)
 run_on s t writes h =
-    h ∙ ap (run_behind writes) (run_by_boundary t)
+    h ∙ ap (run_after writes) (run_by_boundary t)
     ∙ ap (λ (ws : List ChannelWrite). record { writes = ws; last = (run_of (boundary None t).0).last })
     (sym (append_assoc writes (one_write (entry_of t).write) (run_of (boundary None t).0).writes))
 
-run_passed : (s t : State) (entries : List Entry) → run_of s ≡ run_behind (entry_writes entries) (run_of t) →
-    run_of s ≡ run_behind (entry_writes (entries ++ entry_of t ∷ [])) (run_of (boundary None t).0)
+run_passed : (s t : State) (entries : List Entry) → run_of s ≡ run_after (entry_writes entries) (run_of t) →
+    run_of s ≡ run_after (entry_writes (entries ++ entry_of t ∷ [])) (run_of (boundary None t).0)
 run_passed s t entries h =
-    run_on s t (entry_writes entries) h ∙ ap (λ (ws : List ChannelWrite). run_behind ws (run_of (boundary None t).0)) (sym (entry_writes-snoc entries (entry_of t)))
+    run_on s t (entry_writes entries) h ∙ ap (λ (ws : List ChannelWrite). run_after ws (run_of (boundary None t).0)) (sym (entry_writes-snoc entries (entry_of t)))
 
 -- no boundary is passed yet
 pub passed_none : (s : State) → HasPassed s [] s

@@ -1,4 +1,4 @@
--- What two runs come to behind the boundaries that they have in common.
+-- What two runs come to after the boundaries that they have in common.
 use Rattle.std.specs.Prelude.{◌≡◌, ℕ, ◌+◌, Option, Some, None}
 use Rattle.agc_machine.specs.State.{State}
 use Rattle.agc_machine.specs.declared.answer.ChannelWrite.{ChannelWrite}
@@ -9,7 +9,7 @@ use Rattle.agc_compare.specs.declared.common.Fork.{Fork}
 use Rattle.agc_compare.specs.declared.comparison.Parting.{Parting}
 use Rattle.agc_compare.specs.declared.runs.Ends.{Ends}
 
--- the fork, as the boundary behind so many
+-- the fork, as the boundary after so many
 abbrev pub IsParting : ℕ → Option Fork → Option Parting → Type 0
 IsParting count None None = Unit {0}
 IsParting count None (Some parting) = ⊥

@@ -21,8 +21,8 @@ unfoldable pub entry_writes : List Entry → List ChannelWrite
 entry_writes entries = flat_map (λ entry. one_write entry.write) entries
 
 -- a run with these writes before its own
-abbrev pub run_behind : List ChannelWrite → Run → Run
-run_behind writes run = record { writes = writes ++ run.writes; last = run.last }
+abbrev pub run_after : List ChannelWrite → Run → Run
+run_after writes run = record { writes = writes ++ run.writes; last = run.last }
 
 -- how many of the last common boundaries are kept
 abbrev pub kept : ℕ
@@ -40,21 +40,21 @@ pub record TellsEntries (entries : List Entry) (common : Common)
 -- the boundaries between two states of a run are these entries
 pub record HasPassed (s : State) (entries : List Entry) (t : State) : Type 0 where
   pub trace : trace_of s ≡ entries ++ trace_of t
-  pub run : run_of s ≡ run_behind (entry_writes entries) (run_of t)
+  pub run : run_of s ≡ run_after (entry_writes entries) (run_of t)
 
 -- these entries end the trace of a run that has come to its stop
 pub record HasEnded (s : State) (entries : List Entry) (t : State) : Type 0 where
   pub trace : trace_of s ≡ entries
-  pub run : run_of s ≡ run_behind (entry_writes entries) (run_of t)
+  pub run : run_of s ≡ run_after (entry_writes entries) (run_of t)
 
 -- a run has passed these entries, and then one more
 pub record HasParted (s : State) (entries : List Entry) (entry : Entry) (t : State) : Type 0 where
   pub rest : List Entry
   pub trace : trace_of s ≡ entries ++ entry ∷ rest
-  pub run : run_of s ≡ run_behind (entry_writes entries ++ one_write entry.write) (run_of t)
+  pub run : run_of s ≡ run_after (entry_writes entries ++ one_write entry.write) (run_of t)
   pub fits : FitsLine entry
 
--- Two runs have come to a fork behind the entries that they have in common, or to their stops where
+-- Two runs have come to a fork after the entries that they have in common, or to their stops where
 -- they have all in common.
 abbrev pub ComesApart : State → State → Common → Buffer Entry → Option Fork → State → State → Type 0
 ComesApart s t common last None u v =

@@ -9,7 +9,7 @@ use Rattle.agc_panel.specs.Face.{panel_of}
 use Rattle.agc_trace.specs.Entry.{FitsLine, FitsWrite}
 use Rattle.agc_trace.specs.declared.entry.Entry.{Entry}
 use Rattle.agc_compare.specs.Common.{kept, entry_writes}
-use Rattle.agc_compare.specs.Follower.{PartBehind}
+use Rattle.agc_compare.specs.Follower.{PartAfter}
 use Rattle.agc_compare.specs.declared.comparison.Comparison.{Comparison}
 use Rattle.agc_compare.specs.declared.comparison.Parting.{Parting}
 use Rattle.agc_compare.specs.declared.cells.CellPair.{CellPair}
@@ -39,11 +39,11 @@ pub record TellsCommon (xs ys : List Entry) (c : Comparison) : Type 0 where
   pub writes : c.writes ≡ length (entry_writes (take c.boundaries xs))
   pub before : c.before.items ≡ keep_last kept (take c.boundaries xs)
 
--- Where two traces part: nowhere, so that all is common, or behind so many entries, in these two.
+-- Where two traces part: nowhere, so that all is common, or after so many entries, in these two.
 abbrev pub TracesPart : ℕ → List Entry → List Entry → Option Parting → Type 0
 TracesPart count xs ys None = (xs ≡ ys) × (count ≡ length xs)
 TracesPart count xs ys (Some parting) =
-    (parting.number ≡ count + 1) × PartBehind count xs ys (Some parting.left) (Some parting.right)
+    (parting.number ≡ count + 1) × PartAfter count xs ys (Some parting.left) (Some parting.right)
 
 -- a machine has come to the end of its run, which is told: the stop, its cycle, and the panel of
 -- all writes

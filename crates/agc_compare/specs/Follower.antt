@@ -1,23 +1,23 @@
--- The writes of two runs behind the boundaries that they have in common, up to their stops.
+-- The writes of two runs after the boundaries that they have in common, up to their stops.
 use Rattle.std.specs.Prelude.{◌≡◌, ◌≢◌, ℕ, ◌+◌, List, ◌++◌, take, slice_get, Option, Some, None}
 use Rattle.agc_machine.specs.Run.{Run, run_of}
 use Rattle.agc_machine.specs.State.{State}
 use Rattle.agc_machine.specs.declared.answer.ChannelWrite.{ChannelWrite}
 use Rattle.agc_panel.specs.Face.{panel_of}
 use Rattle.agc_panel.specs.declared.face.Face.{Face}
-use Rattle.agc_compare.specs.Common.{one_write, run_behind}
+use Rattle.agc_compare.specs.Common.{one_write, run_after}
 use Rattle.agc_compare.specs.declared.follower.End.{End}
 use Rattle.agc_compare.specs.declared.follower.Follower.{Follower}
 use Rattle.agc_compare.specs.declared.follower.WriteParting.{WriteParting}
 
 -- a run from a state, with a write before it that is held back
 abbrev pub run_with : Option ChannelWrite → State → Run
-run_with held s = run_behind (one_write held) (run_of s)
+run_with held s = run_after (one_write held) (run_of s)
 
 -- A follower has told these writes of a run between two states, and its panel has taken them.
 pub record HasGone (before : Follower) (s : State) (writes : List ChannelWrite) (after : Follower)
     (t : State) : Type 0 where
-  pub run : run_with before.held s ≡ run_behind writes (run_with after.held t)
+  pub run : run_with before.held s ≡ run_after writes (run_with after.held t)
   pub panel : (taken : List ChannelWrite) → before.panel ≡ panel_of taken
       → after.panel ≡ panel_of (taken ++ writes)
 
@@ -31,19 +31,19 @@ pub record IsEnd (panel : Face) (run : Run) (end : End) (t : State) : Type 0 whe
 
 -- Two lists are the same for so many items, and then differ: these come next, where `None` is no
 -- item any more.
-pub record PartBehind {A : Type 0} (count : ℕ) (xs ys : List A) (x y : Option A) : Type 0 where
+pub record PartAfter {A : Type 0} (count : ℕ) (xs ys : List A) (x y : Option A) : Type 0 where
   pub same : take count xs ≡ take count ys
   pub left : slice_get xs count ≡ x
   pub right : slice_get ys count ≡ y
   pub differ : x ≢ y
 
--- The first write that differs, counted from 1 behind so many writes before these; none where all
+-- The first write that differs, counted from 1 after so many writes before these; none where all
 -- are the same.
 abbrev pub WritesPart : ℕ → List ChannelWrite → List ChannelWrite → Option WriteParting → Type 0
 WritesPart before xs ys None = xs ≡ ys
 WritesPart before xs ys (Some parting) =
     (count : ℕ) × (parting.number ≡ before + count + 1)
-    × PartBehind count xs ys parting.left parting.right
+    × PartAfter count xs ys parting.left parting.right
 
 -- What is told of two runs up to a write of each: the first that differs, where one does, and then
 -- how far both have come.

@@ -110,7 +110,7 @@ impl Common {
     }
 }
 
-/// Puts an item behind the last ones, in place of the first of these where there is no more room.
+/// Puts an item after the last ones, in place of the first of these where there is no more room.
 fn push_last<T: Drop>(last: &mut HeapCircularBuffer<T>, item: T)
     ensures { last.new ≡ buffer
         (keep_last last.old.capacity (last.old.items ++ item ∷ [])) last.old.capacity }

@@ -1,4 +1,4 @@
-//! The writes of two runs behind the boundaries that they have in common, up to their stops.
+//! The writes of two runs after the boundaries that they have in common, up to their stops.
 ghost use Rattle.std.specs.Prelude.{◌≡◌, ◌++◌, List, IfOk};
 ghost use Rattle.agc_machine.specs.declared.answer.ChannelWrite.{ChannelWrite};
 ghost use Rattle.agc_panel.specs.Face.{panel_of};

@@ -3,7 +3,7 @@ ghost use Rattle.std.specs.Prelude.{◌≡◌};
 ghost use Rattle.agc_machine.specs.Run.{next_of};
 
 use agc_machine::{Machine, Next, Stepped};
-use agc_progress::{Progress, mark_behind};
+use agc_progress::{Progress, mark_past};
 
 /// Goes on to the next channel write, or to the stop where none comes before it. Where no write comes for
 /// long, it is told how far the run has come.
@@ -11,7 +11,7 @@ pub(crate) fn next_write<P: Progress>(machine: &mut Machine, progress: &mut P) -
     ensures next { (machine.new, result) ≡ next_of machine.old }
 {
     loop {
-        let mark = mark_behind(machine.cycle());
+        let mark = mark_past(machine.cycle());
         match machine.next_write_before(mark) {
             Stepped::Wrote(write) => return Next::Wrote(write),
             Stepped::Stopped(stop) => return Next::Stopped(stop),

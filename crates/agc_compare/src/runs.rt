@@ -64,7 +64,7 @@ pub(crate) struct Ends {
     right: End,
 }
 
-/// The boundary at which the runs part, behind so many that they have in common.
+/// The boundary at which the runs part, after so many that they have in common.
 fn parting_at(boundaries: u64, fork: Option<Fork>) -> Result<Option<Parting>, AllocError>
     ensures { IfOk result (λ parting. IsParting boundaries fork parting) }
 {

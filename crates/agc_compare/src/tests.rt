@@ -100,7 +100,7 @@ static INHIBITED: &str = "
 4004 00001
 ";
 
-/// INHINT takes the place of RELINT behind the first order: both take one cycle, and only the lines
+/// INHINT takes the place of RELINT after the first order: both take one cycle, and only the lines
 /// tell them apart. The orders begin at 0, 2, 3, 4, 5, 6 and 7.
 #[test]
 fn another_order(rt: HostRuntime) -> Result<(), Fail> {

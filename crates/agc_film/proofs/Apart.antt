@@ -16,24 +16,24 @@ use Rattle.agc_film.proofs.Alone.{earlier_alone, left_alone, right_alone}
 use Rattle.agc_film.proofs.Cuts.{cuts_later, film_is_cut}
 use Rattle.agc_film.proofs.Differ.{DifferFirst, at_the_same_cycle}
 use Rattle.agc_film.proofs.PanelAt.{text_at}
-use Rattle.agc_film.proofs.Together.{differ_behind, frames_differ}
+use Rattle.agc_film.proofs.Together.{differ_after_more, frames_differ}
 
 -- both films have a frame: what the tests of these two frames tell
-by_frames : (from : ℕ) (a b : Face) (l r : Frame) (ls rs : List Frame) (behind : Option ℕ) (at_once alike : Bool) → panel_text a ≡ panel_text b →
+by_frames : (from : ℕ) (a b : Face) (l r : Frame) (ls rs : List Frame) (after : Option ℕ) (at_once alike : Bool) → panel_text a ≡ panel_text b →
     AreCuts from (panel_text a) (l ∷ ls) → AreCuts from (panel_text b) (r ∷ rs) → (l.cycle == r.cycle) ≡ at_once →
     bytes_eq (panel_text l.panel) (panel_text r.panel) ≡ alike →
-    (r.cycle ≡ l.cycle → panel_text l.panel ≡ panel_text r.panel → DifferFirst (l.cycle + 1) (text_at l.panel ls) (text_at r.panel rs) behind) →
-    DifferFirst from (text_at a (l ∷ ls)) (text_at b (r ∷ rs)) (if at_once && alike then behind else Some (min l.cycle r.cycle))
-by_frames from a b l r ls rs behind true true same left right c t d =
+    (r.cycle ≡ l.cycle → panel_text l.panel ≡ panel_text r.panel → DifferFirst (l.cycle + 1) (text_at l.panel ls) (text_at r.panel rs) after) →
+    DifferFirst from (text_at a (l ∷ ls)) (text_at b (r ∷ rs)) (if at_once && alike then after else Some (min l.cycle r.cycle))
+by_frames from a b l r ls rs after true true same left right c t d =
     let at_once : r.cycle ≡ l.cycle = grind (arith, nat_tests) in
     let texts = bytes_eq-Decides (panel_text l.panel) (panel_text r.panel) in
-    differ_behind from a b l r ls rs behind same left right at_once (d at_once (texts.0 t))
-by_frames from a b l r ls rs behind true false same left right c t d =
+    differ_after_more from a b l r ls rs after same left right at_once (d at_once (texts.0 t))
+by_frames from a b l r ls rs after true false same left right c t d =
     let at_once : r.cycle ≡ l.cycle = grind (arith, nat_tests) in
     let differ = not_from_Decides _ (bytes_eq-Decides (panel_text l.panel) (panel_text r.panel)) t in
     at_the_same_cycle from (text_at a (l ∷ ls)) (text_at b (r ∷ rs)) l.cycle (min l.cycle r.cycle) (omega (arith, at_once))
     (frames_differ from a b l r ls rs same left right at_once differ)
-by_frames from a b l r ls rs behind false alike same left right c t d =
+by_frames from a b l r ls rs after false alike same left right c t d =
     let differ : l.cycle ≢ r.cycle = grind (arith, nat_tests) in
     earlier_alone from a b l r ls rs same left right differ
 

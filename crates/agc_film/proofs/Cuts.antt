@@ -12,7 +12,7 @@ use Rattle.agc_machine.proofs.Chain.{run_rises}
 use Rattle.agc_panel.specs.Face.{panel_of}
 use Rattle.agc_panel.specs.Text.{panel_text}
 use Rattle.agc_panel.specs.declared.face.Face.{Face}
-use Rattle.agc_film.specs.Frames.{frame_of, frames_behind, frames_of, shown_after}
+use Rattle.agc_film.specs.Frames.{frame_of, frames_after, frames_of, shown_after}
 use Rattle.agc_film.specs.Laws.{AreCuts, frames_of_run}
 use Rattle.agc_film.specs.declared.frame.Frame.{Frame}
 
@@ -31,14 +31,14 @@ cut from shown cycle face rest true e l h =
     cuts_later from (cycle + 1) shown rest (omega (arith, l)) (subst (λ (text : List ℕ). AreCuts (cycle + 1) text rest) (sym (d.0 e)) h)
 cut from shown cycle face rest false e l h = (l, λ same. not_from_Decides _ (bytes_eq-Decides shown (panel_text face)) e (sym same), h)
 
-pub cuts_behind : (from : ℕ) (before writes : List ChannelWrite) → AreRising from writes → AreCuts from (shown_after before) (frames_behind before writes)
-unfolding frames_behind frame_of shown_after
-cuts_behind from before [] r = tt
-cuts_behind from before (write ∷ writes) r =
-    cut from (panel_text (panel_of before)) write.cycle (panel_of (before ++ write ∷ [])) (frames_behind (before ++ write ∷ []) writes)
+pub cuts_after : (from : ℕ) (before writes : List ChannelWrite) → AreRising from writes → AreCuts from (shown_after before) (frames_after before writes)
+unfolding frames_after frame_of shown_after
+cuts_after from before [] r = tt
+cuts_after from before (write ∷ writes) r =
+    cut from (panel_text (panel_of before)) write.cycle (panel_of (before ++ write ∷ [])) (frames_after (before ++ write ∷ []) writes)
     (bytes_eq (panel_text (panel_of before)) (panel_text (panel_of (before ++ write ∷ [])))) refl r.0
-    (cuts_behind (write.cycle + 1) (before ++ write ∷ []) writes r.2)
+    (cuts_after (write.cycle + 1) (before ++ write ∷ []) writes r.2)
 
 pub film_is_cut : (s : State) → AreCuts s.cycle (shown_after []) (frames_of_run s)
 unfolding frames_of
-film_is_cut s = cuts_behind s.cycle [] (run_of s).writes (run_rises s)
+film_is_cut s = cuts_after s.cycle [] (run_of s).writes (run_rises s)

@@ -1,4 +1,4 @@
--- The panel at a cycle, before, at and behind the frames of a film.
+-- The panel at a cycle, before, at and after the frames of a film.
 use Rattle.std.proofs.Common.{◌≡◌, ℕ, ◌+◌, ◌≤◌, ◌<◌, Bool, true, false, List, [], ◌∷◌, Option, Some, None, refl, ap, sym, ◌∙◌, arith}
 use Rattle.std.specs.Prelude.{cond, filter, map, nat_le, unwrap_or}
 use Rattle.std.specs.List.{last_or}
@@ -8,7 +8,7 @@ use Rattle.agc_panel.specs.declared.face.Face.{Face}
 use Rattle.agc_film.specs.Laws.{AreCuts}
 use Rattle.agc_film.specs.declared.frame.Frame.{Frame}
 
--- the panel at a cycle, behind another one
+-- the panel at a cycle, after another one
 abbrev pub panel_at : Face → List Frame → ℕ → Face
 panel_at face frames cycle = unwrap_or (last_or None (map (λ frame. frame.panel) (filter (λ frame. nat_le frame.cycle cycle) frames))) face
 
@@ -39,10 +39,10 @@ through : (past : Option Face) (a b : Face) → panel_text a ≡ panel_text b �
 through (Some face) a b e = refl
 through None a b e = e
 
-pub panel_behind : (a b : Face) (frames : List Frame) (cycle : ℕ) → panel_text a ≡ panel_text b → panel_text (panel_at a frames cycle) ≡ panel_text (panel_at b frames cycle)
-panel_behind a b frames cycle e = through (last_or None (map (λ frame. frame.panel) (filter (λ frame. nat_le frame.cycle cycle) frames))) a b e
+pub panel_after_more : (a b : Face) (frames : List Frame) (cycle : ℕ) → panel_text a ≡ panel_text b → panel_text (panel_at a frames cycle) ≡ panel_text (panel_at b frames cycle)
+panel_after_more a b frames cycle e = through (last_or None (map (λ frame. frame.panel) (filter (λ frame. nat_le frame.cycle cycle) frames))) a b e
 
--- what a film shows at a cycle, behind a panel
+-- what a film shows at a cycle, after a panel
 abbrev pub text_at : Face → List Frame → ℕ → List ℕ
 text_at face frames cycle = panel_text (panel_at face frames cycle)
 
@@ -54,11 +54,11 @@ pub text_before_frame : (from : ℕ) (face : Face) (frame : Frame) (frames : Lis
     n < frame.cycle → text_at face (frame ∷ frames) n ≡ panel_text face
 text_before_frame from face frame frames n cuts early = text_before_all frame.cycle face (frame ∷ frames) n (omega arith, cuts.1, cuts.2) early
 
-pub text_behind_frame : (face : Face) (frame : Frame) (frames : List Frame) (n : ℕ) → frame.cycle ≤ n →
+pub text_after_frame : (face : Face) (frame : Frame) (frames : List Frame) (n : ℕ) → frame.cycle ≤ n →
     text_at face (frame ∷ frames) n ≡ text_at frame.panel frames n
-text_behind_frame face frame frames n past = ap panel_text (panel_past face frame frames n past)
+text_after_frame face frame frames n past = ap panel_text (panel_past face frame frames n past)
 
 pub text_at_frame : (from : ℕ) (face : Face) (frame : Frame) (frames : List Frame) → AreCuts from (panel_text face) (frame ∷ frames) →
     text_at face (frame ∷ frames) frame.cycle ≡ panel_text frame.panel
 text_at_frame from face frame frames cuts =
-    text_behind_frame face frame frames frame.cycle (omega arith) ∙ text_before_all (frame.cycle + 1) frame.panel frames frame.cycle cuts.2 (omega arith)
+    text_after_frame face frame frames frame.cycle (omega arith) ∙ text_before_all (frame.cycle + 1) frame.panel frames frame.cycle cuts.2 (omega arith)

@@ -6,9 +6,9 @@ use Rattle.agc_script.specs.declared.event.Event.{Event}
 use Rattle.agc_film.specs.Presses.{press_of, presses_of}
 use Rattle.agc_film.specs.declared.press.Press.{Press}
 
-cons_behind : (press : Option Press) (xs ys : List Press) → cons_option press (xs ++ ys) ≡ cons_option press xs ++ ys
-cons_behind (Some press) xs ys = refl
-cons_behind None xs ys = refl
+cons_after : (press : Option Press) (xs ys : List Press) → cons_option press (xs ++ ys) ≡ cons_option press xs ++ ys
+cons_after (Some press) xs ys = refl
+cons_after None xs ys = refl
 
 next_by : (script : List Event) (i : ℕ) (event : Event) → slice_get script i ≡ Some event →
     filter_map press_of (take (suc i) script) ≡ filter_map press_of (take i script) ++ cons_option (press_of event) []
@@ -16,7 +16,7 @@ next_by [] i event e = cc
 next_by (first ∷ script) zero event e = let same : first ≡ event = cc in ap (λ (one : Event). cons_option (press_of one) []) same
 next_by (first ∷ script) (suc i) event e =
     ap (cons_option (press_of first)) (next_by script i event e)
-    ∙ cons_behind (press_of first) (filter_map press_of (take i script)) (cons_option (press_of event) [])
+    ∙ cons_after (press_of first) (filter_map press_of (take i script)) (cons_option (press_of event) [])
 
 pub presses_next : (script : List Event) (i : ℕ) (event : Event) → slice_get script i ≡ Some event →
     presses_of (take (i + 1) script) ≡ presses_of (take i script) ++ cons_option (press_of event) []

@@ -6,31 +6,31 @@ use Rattle.agc_machine.specs.declared.answer.ChannelWrite.{ChannelWrite}
 use Rattle.agc_panel.specs.Face.{panel_of}
 use Rattle.agc_panel.specs.Text.{panel_text}
 use Rattle.agc_panel.specs.declared.face.Face.{Face}
-use Rattle.agc_film.specs.Frames.{HasTaken, frame_of, frames_behind, frames_of, shown_after}
+use Rattle.agc_film.specs.Frames.{HasTaken, frame_of, frames_after, frames_of, shown_after}
 use Rattle.agc_film.specs.declared.frame.Frame.{Frame}
 use Rattle.agc_film.specs.declared.recorder.Recorder.{Recorder}
 
--- the frames of two lists of writes, one behind the other
+-- the frames of two lists of writes, one after the other
 pub frames_of_both : (before xs ys : List ChannelWrite) →
-    frames_behind before (xs ++ ys) ≡ frames_behind before xs ++ frames_behind (before ++ xs) ys
-unfolding frames_behind
-frames_of_both before [] ys = ap (λ (all : List ChannelWrite). frames_behind all ys) (sym (append-nil before))
+    frames_after before (xs ++ ys) ≡ frames_after before xs ++ frames_after (before ++ xs) ys
+unfolding frames_after
+frames_of_both before [] ys = ap (λ (all : List ChannelWrite). frames_after all ys) (sym (append-nil before))
 frames_of_both before (x ∷ xs) ys =
     ap (λ (fs : List Frame). frame_of before x ++ fs)
     (frames_of_both (before ++ x ∷ []) xs ys
-    ∙ ap (λ (all : List ChannelWrite). frames_behind (before ++ x ∷ []) xs ++ frames_behind all ys) (append_assoc before (x ∷ []) xs))
-    ∙ sym (append_assoc (frame_of before x) (frames_behind (before ++ x ∷ []) xs) (frames_behind (before ++ x ∷ xs) ys))
+    ∙ ap (λ (all : List ChannelWrite). frames_after (before ++ x ∷ []) xs ++ frames_after all ys) (append_assoc before (x ∷ []) xs))
+    ∙ sym (append_assoc (frame_of before x) (frames_after (before ++ x ∷ []) xs) (frames_after (before ++ x ∷ xs) ys))
 
 -- one write more
 frames_of_next : (taken : List ChannelWrite) (write : ChannelWrite) →
     frames_of (taken ++ write ∷ []) ≡ frames_of taken ++ frame_of taken write
-unfolding frames_of frames_behind
+unfolding frames_of frames_after
 frames_of_next taken write =
-    frames_of_both [] taken (write ∷ []) ∙ ap (λ (fs : List Frame). frames_behind [] taken ++ fs) (append-nil (frame_of taken write))
+    frames_of_both [] taken (write ∷ []) ∙ ap (λ (fs : List Frame). frames_after [] taken ++ fs) (append-nil (frame_of taken write))
 
 -- no write yet
 pub taken_none : (r : Recorder) → r.panel ≡ panel_of [] → r.frames.items ≡ [] → HasTaken [] r
-unfolding frames_of frames_behind
+unfolding frames_of frames_after
 taken_none r p f = record { panel = p; frames = f }
 
 -- the frame of a write, by what the panel shows before and with it

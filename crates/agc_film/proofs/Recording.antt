@@ -1,6 +1,6 @@
 -- A run that a recorder follows, piece by piece.
 use Rattle.std.proofs.Common.{◌≡◌, ℕ, ◌<◌, Some, List, [], ◌∷◌, ◌++◌, refl, ap, sym, ◌∙◌, subst, append_assoc, append-nil}
-use Rattle.agc_machine.specs.Run.{Run, boundaries_left, next_before, run_of, unless_stopped_run}
+use Rattle.agc_machine.specs.Run.{Run, boundaries_left, next_before, run_of, while_writing}
 use Rattle.agc_machine.specs.State.{State}
 use Rattle.agc_machine.specs.declared.answer.ChannelWrite.{ChannelWrite}
 use Rattle.agc_machine.specs.declared.answer.Stepped.TheVariants as stepped
@@ -17,16 +17,16 @@ pub record IsRecording (s : State) (recorder : Recorder) (t : State) : Type 0 wh
   pub run : run_of s ≡ record { writes = taken ++ (run_of t).writes; last = (run_of t).last }
 
 run_after_way : (end : ℕ) (s t : State) → (t, stepped.Quiet) ≡ next_before end s → run_of s ≡ run_of t
-run_after_way end s t e = run_by_next s ∙ ap (unless_stopped_run run_of) (sym (next_after_way end s t e)) ∙ sym (run_by_next t)
+run_after_way end s t e = run_by_next s ∙ ap (while_writing run_of) (sym (next_after_way end s t e)) ∙ sym (run_by_next t)
 
-abbrev behind : List ChannelWrite → Run → Run
-behind taken run = record { writes = taken ++ run.writes; last = run.last }
+abbrev after : List ChannelWrite → Run → Run
+after taken run = record { writes = taken ++ run.writes; last = run.last }
 
 pub recording_none : (s : State) (r : Recorder) → HasTaken [] r → IsRecording s r s
 recording_none s r h = record { taken = []; writes = h; run = refl }
 
 pub recording_quiet : (end : ℕ) (s t u : State) (r : Recorder) → (u, stepped.Quiet) ≡ next_before end t → IsRecording s r t → IsRecording s r u
-recording_quiet end s t u r e h = record { taken = h.taken; writes = h.writes; run = h.run ∙ ap (behind h.taken) (run_after_way end t u e) }
+recording_quiet end s t u r e h = record { taken = h.taken; writes = h.writes; run = h.run ∙ ap (after h.taken) (run_after_way end t u e) }
 
 pub recording_write : (end : ℕ) (s t u : State) (r q : Recorder) (write : ChannelWrite) → (u, stepped.Wrote write) ≡ next_before end t →
     ((taken : List ChannelWrite) → HasTaken taken r → HasTaken (taken ++ write ∷ []) q) → IsRecording s r t → IsRecording s q u
@@ -35,7 +35,7 @@ recording_write end s t u r q write e more h =
       taken = h.taken ++ write ∷ [];
       writes = more h.taken h.writes;
       run =
-          h.run ∙ ap (behind h.taken) (run_at_write t u write (next_at_way_write end t u write e))
+          h.run ∙ ap (after h.taken) (run_at_write t u write (next_at_way_write end t u write e))
           ∙ ap (λ (writes : List ChannelWrite). record { writes = writes; last = (run_of u).last }) (sym (append_assoc h.taken (write ∷ []) (run_of u).writes));
     }
 
@@ -46,7 +46,7 @@ fewer_after_way_write end s t write e = fewer_after_write s t write (next_at_way
 run_at_way_stop : (end : ℕ) (s t u : State) (r : Recorder) (why : Stop) → (u, stepped.Stopped why) ≡ next_before end t → (h : IsRecording s r t) →
     run_of s ≡ record { writes = h.taken; last = u }
 run_at_way_stop end s t u r why e h =
-    h.run ∙ ap (behind h.taken) (run_at_stop t u why (next_at_way_stop end t u why e))
+    h.run ∙ ap (after h.taken) (run_at_stop t u why (next_at_way_stop end t u why e))
     ∙ ap (λ (writes : List ChannelWrite). record { writes = writes; last = u }) (append-nil h.taken)
 
 pub recorded_writes : (end : ℕ) (s t u : State) (r : Recorder) (why : Stop) → (u, stepped.Stopped why) ≡ next_before end t → IsRecording s r t →

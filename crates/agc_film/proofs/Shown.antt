@@ -12,11 +12,11 @@ use Rattle.agc_machine.proofs.Chain.{run_rises}
 use Rattle.agc_panel.specs.Face.{panel_of}
 use Rattle.agc_panel.specs.Text.{panel_text}
 use Rattle.agc_panel.specs.declared.face.Face.{Face}
-use Rattle.agc_film.specs.Frames.{frame_of, frames_behind, frames_of, shown_after, shown_at}
+use Rattle.agc_film.specs.Frames.{frame_of, frames_after, frames_of, shown_after, shown_at}
 use Rattle.agc_film.specs.Laws.{frames_of_run, writes_up_to}
 use Rattle.agc_film.specs.declared.frame.Frame.{Frame}
-use Rattle.agc_film.proofs.Cuts.{cuts_behind, one_or_none}
-use Rattle.agc_film.proofs.PanelAt.{panel_at, panel_before, panel_behind, panel_past}
+use Rattle.agc_film.proofs.Cuts.{cuts_after, one_or_none}
+use Rattle.agc_film.proofs.PanelAt.{panel_at, panel_before, panel_after_more, panel_past}
 
 -- the writes up to a cycle
 no_more : (from : ℕ) (writes : List ChannelWrite) (cycle : ℕ) → AreRising from writes → cycle < from → filter (λ write. nat_le write.cycle cycle) writes ≡ []
@@ -28,27 +28,27 @@ no_more from (write ∷ writes) cycle r l =
 
 one_past : (a b : Face) (write_cycle cycle : ℕ) (rest : List Frame) (alike : Bool) → bytes_eq (panel_text a) (panel_text b) ≡ alike → write_cycle ≤ cycle →
     panel_text (panel_at a (one_or_none alike write_cycle b ++ rest) cycle) ≡ panel_text (panel_at b rest cycle)
-one_past a b write_cycle cycle rest true e l = let d = bytes_eq-Decides (panel_text a) (panel_text b) in panel_behind a b rest cycle (d.0 e)
+one_past a b write_cycle cycle rest true e l = let d = bytes_eq-Decides (panel_text a) (panel_text b) in panel_after_more a b rest cycle (d.0 e)
 one_past a b write_cycle cycle rest false e l = ap panel_text (panel_past a (record { cycle = write_cycle; panel = b }) rest cycle l)
 
-shown_behind : (from : ℕ) (before writes : List ChannelWrite) (cycle : ℕ) → AreRising from writes →
-    panel_text (panel_at (panel_of before) (frames_behind before writes) cycle)
+shown_after_more : (from : ℕ) (before writes : List ChannelWrite) (cycle : ℕ) → AreRising from writes →
+    panel_text (panel_at (panel_of before) (frames_after before writes) cycle)
     ≡ panel_text (panel_of (before ++ filter (λ write. nat_le write.cycle cycle) writes))
-unfolding frames_behind frame_of shown_after
-shown_behind from before [] cycle r = ap (λ (all : List ChannelWrite). panel_text (panel_of all)) (sym (append-nil before))
-shown_behind from before (write ∷ writes) cycle r =
+unfolding frames_after frame_of shown_after
+shown_after_more from before [] cycle r = ap (λ (all : List ChannelWrite). panel_text (panel_of all)) (sym (append-nil before))
+shown_after_more from before (write ∷ writes) cycle r =
     elim (leb_tells write.cycle cycle) [
       | inl past ↦
-          one_past (panel_of before) (panel_of (before ++ write ∷ [])) write.cycle cycle (frames_behind (before ++ write ∷ []) writes)
+          one_past (panel_of before) (panel_of (before ++ write ∷ [])) write.cycle cycle (frames_after (before ++ write ∷ []) writes)
           (bytes_eq (panel_text (panel_of before)) (panel_text (panel_of (before ++ write ∷ [])))) refl past.1
-          ∙ shown_behind (write.cycle + 1) (before ++ write ∷ []) writes cycle r.2
+          ∙ shown_after_more (write.cycle + 1) (before ++ write ∷ []) writes cycle r.2
           ∙ ap (λ (all : List ChannelWrite). panel_text (panel_of all)) (append_assoc before (write ∷ []) (filter (λ one. nat_le one.cycle cycle) writes))
           ∙ ap
           (λ (b : Bool). panel_text (panel_of (before ++ cond b (write ∷ filter (λ one. nat_le one.cycle cycle) writes) (filter (λ one. nat_le one.cycle cycle) writes))))
           (sym past.0)
       | inr later ↦
-          ap panel_text (panel_before write.cycle (shown_after before) (panel_of before) (frames_behind before (write ∷ writes)) cycle
-          (cuts_behind write.cycle before (write ∷ writes) (omega arith, r.1, r.2)) later.1)
+          ap panel_text (panel_before write.cycle (shown_after before) (panel_of before) (frames_after before (write ∷ writes)) cycle
+          (cuts_after write.cycle before (write ∷ writes) (omega arith, r.1, r.2)) later.1)
           ∙ ap (λ (all : List ChannelWrite). panel_text (panel_of all)) (sym (append-nil before))
           ∙ ap (λ (more : List ChannelWrite). panel_text (panel_of (before ++ more)))
           (sym (no_more write.cycle (write ∷ writes) cycle (omega arith, r.1, r.2) later.1))
@@ -56,4 +56,4 @@ shown_behind from before (write ∷ writes) cycle r =
 
 pub film_is_the_panel : (s : State) (cycle : ℕ) → shown_at (frames_of_run s) cycle ≡ shown_after (writes_up_to cycle s)
 unfolding frames_of shown_at shown_after
-film_is_the_panel s cycle = shown_behind s.cycle [] (run_of s).writes cycle (run_rises s)
+film_is_the_panel s cycle = shown_after_more s.cycle [] (run_of s).writes cycle (run_rises s)

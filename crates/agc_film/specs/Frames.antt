@@ -13,7 +13,7 @@ use Rattle.agc_film.specs.declared.recorder.Recorder.{Recorder}
 unfoldable pub shown_after : List ChannelWrite → List ℕ
 shown_after writes = panel_text (panel_of writes)
 
--- The frame of a write behind others, where the panel of all of them shows something else than that
+-- The frame of a write after others, where the panel of all of them shows something else than that
 -- of the others: the write's cycle, and the panel of all of them.
 unfoldable pub frame_of : List ChannelWrite → ChannelWrite → List Frame
 frame_of before write =
@@ -21,15 +21,15 @@ frame_of before write =
     if bytes_eq (shown_after before) (shown_after writes) then []
     else record { cycle = write.cycle; panel = panel_of writes } ∷ []
 
--- the frames of writes behind others
-unfoldable pub frames_behind : List ChannelWrite → List ChannelWrite → List Frame
-frames_behind before [] = []
-frames_behind before (write ∷ writes) =
-    frame_of before write ++ frames_behind (before ++ write ∷ []) writes
+-- the frames of writes after others
+unfoldable pub frames_after : List ChannelWrite → List ChannelWrite → List Frame
+frames_after before [] = []
+frames_after before (write ∷ writes) =
+    frame_of before write ++ frames_after (before ++ write ∷ []) writes
 
 -- the frames of writes; before the first one the panel is blank
 unfoldable pub frames_of : List ChannelWrite → List Frame
-frames_of writes = frames_behind [] writes
+frames_of writes = frames_after [] writes
 
 -- a recorder has taken these writes
 pub record HasTaken (writes : List ChannelWrite) (recorder : Recorder) : Type 0 where

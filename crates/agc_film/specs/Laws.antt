@@ -15,7 +15,7 @@ frames_of_run s = frames_of (run_of s).writes
 abbrev pub writes_up_to : ℕ → State → List ChannelWrite
 writes_up_to cycle s = filter (λ write. nat_le write.cycle cycle) (run_of s).writes
 
--- Frames from a cycle on, behind a panel that shows this: each is later than the one before it, and
+-- Frames from a cycle on, after a panel that shows this: each is later than the one before it, and
 -- shows something else.
 abbrev pub AreCuts : ℕ → List ℕ → List Frame → Type 0
 AreCuts from shown [] = Unit {0}

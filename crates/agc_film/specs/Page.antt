@@ -1,5 +1,5 @@
 -- The page: what stands before the runs, each run as a block of plain lines, and what stands
--- behind.
+-- after.
 use Rattle.std.specs.Prelude.{ℕ, List, ◌++◌, codes, flat_map, Option, Some, None}
 use Rattle.std.specs.Fmt.{decimal}
 use Rattle.agc_panel.specs.Text.{panel_text}

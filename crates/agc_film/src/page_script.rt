@@ -1,6 +1,6 @@
-//! The page behind its runs: the script that reads them and shows them over the time.
+//! The page after its runs: the script that reads them and shows them over the time.
 
-/// What stands behind the runs.
+/// What stands after the runs.
 pub const TAIL: &str = "<script>
 'use strict';
 const CYCLES_A_SECOND = 1024000 / 12;

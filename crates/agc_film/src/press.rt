@@ -53,7 +53,7 @@ pub fn presses(alloc: Global, script: &Script) -> Result<Vec<Press>, AllocError>
     Ok(presses)
 }
 
-/// Puts a key behind others, where there is one.
+/// Puts a key after others, where there is one.
 fn push_some(presses: &mut Vec<Press>, press: Option<Press>) -> Result<(), AllocError>
     ensures { OnOk result (presses.new.items ≡ presses.old.items ++ cons_option press []) }
 {

@@ -29,7 +29,7 @@ impl Recorder {
         }
     }
 
-    /// Takes a write behind those so far: one more frame, where the panel shows something else with
+    /// Takes a write after those so far: one more frame, where the panel shows something else with
     /// it. Fails where memory runs out.
     pub(crate) fn take(&mut self, alloc: Global, write: &ChannelWrite) -> Result<(), AllocError>
         ensures { OnOk result ((taken : List ChannelWrite) → HasTaken taken self.old

@@ -38,12 +38,12 @@ fn reel_of(
     Ok(film(rt.alloc(), &mut machine, keys.as_slice(), &mut Untold)?)
 }
 
-/// The page without what stands before and behind its runs: from the first block to the last one.
+/// The page without what stands before and after its runs: from the first block to the last one.
 fn blocks<'a>(rt: &impl Abort, page: &'a str) -> &'a str {
-    let (_, behind) = page
+    let (_, after) = page
         .split_once("<script type=\"text/plain\" id=\"")
         .expect(rt, "a block");
-    let (blocks, _) = behind.split_once("<script>").expect(rt, "a script");
+    let (blocks, _) = after.split_once("<script>").expect(rt, "a script");
     blocks
 }
 
@@ -113,7 +113,7 @@ fn no_frame(rt: HostRuntime) -> Result<(), Fail> {
     Ok(())
 }
 
-/// The key of cycle 31 comes behind the stop, and the input is no key.
+/// The key of cycle 31 comes after the stop, and the input is no key.
 static KEYS: &str = "10 key VERB\n20 pro down\n25 input 16 00001\n30 pro up\n31 key 4\n";
 
 #[test]
@@ -161,11 +161,11 @@ static SOONER: &str = "
 fn parting(rt: &(impl AllocGlobal + Abort), left: &Reel, right: &Reel) -> Result<String, Fail> {
     let mut page = String::new(rt.alloc());
     push_film_pair(&mut page, left, right)?;
-    let (_, behind) = page
+    let (_, after) = page
         .as_str()
         .split_once("id=\"parting\">")
         .expect(rt, "a block");
-    let (cycle, _) = behind.split_once("</script>").expect(rt, "its end");
+    let (cycle, _) = after.split_once("</script>").expect(rt, "its end");
     let mut told = String::new(rt.alloc());
     told.push_str(cycle)?;
     Ok(told)

@@ -5,7 +5,7 @@ ghost use Rattle.std.specs.Prelude.{◌≡◌};
 use crate::flag::Flag;
 use crate::gate::Gate;
 
-/// Holds the machine up before write 2 until the display took write 1, and the display behind write
+/// Holds the machine up before write 2 until the display took write 1, and the display after write
 /// 1 until the machine comes to a later write. So a run on a single thread, a gate that is left out
 /// and a ring of another size are found out: none of these lets both waits end as they should.
 #[derive(Drop)]
@@ -65,7 +65,7 @@ impl Gate for Meeting {
 }
 
 /// Holds the machine up before write 1 until the third key is in the key ring, and the display
-/// behind key 1 until the machine comes to write 1. So a run that takes its keys before it starts,
+/// after key 1 until the machine comes to write 1. So a run that takes its keys before it starts,
 /// or that takes none, is found out.
 #[derive(Drop)]
 pub struct KeysMeet {

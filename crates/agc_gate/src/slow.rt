@@ -25,7 +25,7 @@ impl Slow {
         }
     }
 
-    /// The display spins behind each write that it took.
+    /// The display spins after each write that it took.
     pub fn display(turns: u32) -> Slow
         ensures { result ≡ record { machine_turns = 0; display_turns = turns; key_turns = 0 } }
     {
@@ -36,7 +36,7 @@ impl Slow {
         }
     }
 
-    /// The display spins behind each key that it put into the key ring.
+    /// The display spins after each key that it put into the key ring.
     pub fn keys(turns: u32) -> Slow
         ensures { result ≡ record { machine_turns = 0; display_turns = 0; key_turns = turns } }
     {

@@ -50,7 +50,7 @@ lower n m h k l = omega arith
 no_earlier : (xs : List Bool) (k n : ℕ) → ((j : ℕ) → j < k → get_or xs j false ≡ false) → get_or xs n false ≡ true → k ≤ n
 no_earlier xs k n none waits = ⊎_elim
     (λ before. let no : false ≡ true = sym (none n before) ∙ waits in cc)
-    (λ behind. behind)
+    (λ after. after)
     (cases_lt n k)
 
 at_first : (r : Rupt) (p : Processor) → length p.requests ≡ 10 → (o : Option ℕ) → position (λ waits. waits) p.requests ≡ o

@@ -26,7 +26,7 @@ use Rattle.agc_laws.specs.Table.{basic_row, extracode_row}
 use Rattle.agc_laws.proofs.Steps.{Kept, start, a_step, l_step, q_step, z_step, write_step, again_step, superbank_step, either, same_place}
 use Rattle.agc_laws.proofs.Pairs.{das_kept, dxch_kept}
 
--- a write behind a change of Z, which leaves EB's bank
+-- a write after a change of Z, which leaves EB's bank
 written_after_skip : (m : Memory) (z w : Number) (k c : ℕ) → c ≢ z_cell → IsElsewhere (erasable_place m.erasable k) c → Kept c m (write_of (put_of m z_cell z) k w)
 written_after_skip m z w k c not_z away =
     let skipped : Kept eb_cell m (put_of m z_cell z) = z_step z (omega arith) start in

@@ -10,7 +10,7 @@ index_in_file place =
     else if nat_lt place 0o10000 then place - 0o4000
     else place
 
--- a file with zeros behind it, up to so many bytes
+-- a file with zeros after it, up to so many bytes
 unfoldable pub lengthened : ℕ → List ℕ → List ℕ
 lengthened len bytes = bytes ++ replicate (len - length bytes) 0
 

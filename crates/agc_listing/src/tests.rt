@@ -28,7 +28,7 @@ fn programs(rt: HostRuntime) -> Result<(), Fail> {
     Ok(())
 }
 
-/// The writes, and RESUME as the word behind twenty.
+/// The writes, and RESUME as the word after twenty.
 #[test]
 fn keyed_writes(rt: HostRuntime) -> Result<(), Fail> {
     let bytes = rope_file(rt.alloc(), KEYED_WRITES)?;
@@ -63,7 +63,7 @@ fn banks(rt: HostRuntime) -> Result<(), Fail> {
 #[test]
 fn lines_for_readers(rt: HostRuntime) -> Result<(), Fail> {
     let listing =
-        "; two words, of which the later line holds\n\n4001 00002 behind\n4000 77777\n4001 00003";
+        "; two words, of which the later line holds\n\n4001 00002 after\n4000 77777\n4001 00003";
     let bytes = rope_file(rt.alloc(), listing)?;
     assert!(rt; bytes.as_slice() == [0xFF, 0xFE, 0x00, 0x06].as_slice());
     Ok(())

@@ -8,7 +8,7 @@ use Rattle.agc_machine.specs.declared.answer.Stop.{Stop}
 use Rattle.agc_machine.specs.declared.answer.ChannelWrite.{ChannelWrite}
 use Rattle.agc_machine.specs.Boundary.{boundary}
 use Rattle.agc_machine.specs.Laws.{Falls, HasChannel, KeepsStop}
-use Rattle.agc_machine.specs.Run.{boundaries_left, next_before, next_before_within, next_of, unless_quiet, unless_quiet_before}
+use Rattle.agc_machine.specs.Run.{boundaries_left, next_before, next_before_within, next_of, while_quiet, while_quiet_before}
 use Rattle.agc_machine.specs.State.{State}
 use Rattle.agc_machine.proofs.Chain.{boundary_falls, fewer_after_quiet, next_after_quiet, next_at_stop, next_at_write, some_left}
 use Rattle.agc_machine.specs.declared.answer.Next.TheVariants as next
@@ -18,7 +18,7 @@ either_same true x y z h = refl
 either_same false x y z h = h
 
 step_same : (cycle : ℕ) (go stay : State → State × Stepped) (s : State) (r : State × Stepped) → Falls s r →
-    ((t : State) → boundaries_left t < boundaries_left s → go t ≡ stay t) → unless_quiet_before cycle go r ≡ unless_quiet_before cycle stay r
+    ((t : State) → boundaries_left t < boundaries_left s → go t ≡ stay t) → while_quiet_before cycle go r ≡ while_quiet_before cycle stay r
 step_same cycle go stay s (t, stepped.Quiet) h f = either_same (nat_le cycle t.cycle) (go t) (stay t) (t, stepped.Quiet) (f t h.0)
 step_same cycle go stay s (t, stepped.Wrote write) h f = refl
 step_same cycle go stay s (t, stepped.Stopped why) h f = refl
@@ -34,7 +34,7 @@ same_before (suc n) (suc m) cycle s h k =
 
 -- one boundary of the way
 before_by_boundary : (cycle : ℕ) (s : State) →
-    next_before cycle s ≡ unless_quiet_before cycle (next_before_within (boundaries_left s) cycle) (boundary None s)
+    next_before cycle s ≡ while_quiet_before cycle (next_before_within (boundaries_left s) cycle) (boundary None s)
 unfolding next_before next_before_within
 before_by_boundary cycle s = same_before (boundaries_left s) (suc (boundaries_left s)) cycle s (omega arith) (omega arith)
 
@@ -43,7 +43,7 @@ pub before_at_cycle : (cycle : ℕ) (s t : State) → (t, stepped.Quiet) ≡ bou
 before_at_cycle cycle s t e h =
     let reached : nat_le cycle t.cycle ≡ true = grind (arith, nat_tests) in
     ap (λ (b : Bool). if b then (t, stepped.Quiet) else next_before_within (boundaries_left s) cycle t) (sym reached)
-    ∙ ap (unless_quiet_before cycle (next_before_within (boundaries_left s) cycle)) e ∙ sym (before_by_boundary cycle s)
+    ∙ ap (while_quiet_before cycle (next_before_within (boundaries_left s) cycle)) e ∙ sym (before_by_boundary cycle s)
 
 -- a quiet boundary before the cycle
 pub before_after_quiet : (cycle : ℕ) (s t : State) → (t, stepped.Quiet) ≡ boundary None s → t.cycle < cycle → next_before cycle t ≡ next_before cycle s
@@ -53,18 +53,18 @@ before_after_quiet cycle s t e h =
     let short : nat_le cycle t.cycle ≡ false = grind (arith, nat_tests) in
     same_before (boundaries_left t) (boundaries_left s) cycle t (omega arith) (omega arith)
     ∙ ap (λ (b : Bool). if b then (t, stepped.Quiet) else next_before_within (boundaries_left s) cycle t) (sym short)
-    ∙ ap (unless_quiet_before cycle (next_before_within (boundaries_left s) cycle)) e ∙ sym (before_by_boundary cycle s)
+    ∙ ap (while_quiet_before cycle (next_before_within (boundaries_left s) cycle)) e ∙ sym (before_by_boundary cycle s)
 
 -- a boundary that writes or stops ends the way
 pub before_at_write : (cycle : ℕ) (s t : State) (write : ChannelWrite) → (t, stepped.Wrote write) ≡ boundary None s →
     (t, stepped.Wrote write) ≡ next_before cycle s
 before_at_write cycle s t write e =
-    ap (unless_quiet_before cycle (next_before_within (boundaries_left s) cycle)) e ∙ sym (before_by_boundary cycle s)
+    ap (while_quiet_before cycle (next_before_within (boundaries_left s) cycle)) e ∙ sym (before_by_boundary cycle s)
 
 pub before_at_stop : (cycle : ℕ) (s t : State) (why : Stop) → (t, stepped.Stopped why) ≡ boundary None s →
     (t, stepped.Stopped why) ≡ next_before cycle s
 before_at_stop cycle s t why e =
-    ap (unless_quiet_before cycle (next_before_within (boundaries_left s) cycle)) e ∙ sym (before_by_boundary cycle s)
+    ap (while_quiet_before cycle (next_before_within (boundaries_left s) cycle)) e ∙ sym (before_by_boundary cycle s)
 
 -- so does any boundary that is not quiet
 pub before_at_end : (cycle : ℕ) (s t : State) (what : Stepped) → (t, what) ≡ boundary None s → (what ≡ stepped.Quiet → ⊥) →
@@ -73,37 +73,37 @@ before_at_end cycle s t stepped.Quiet e shows = absurd (shows refl)
 before_at_end cycle s t (stepped.Wrote write) e shows = before_at_write cycle s t write e
 before_at_end cycle s t (stepped.Stopped why) e shows = before_at_stop cycle s t why e
 
--- A way up to a cycle is a part of the way to the next write, and of the way up to a later cycle: each goes on behind it.
-either_next : (b : Bool) (t : State) (way : State × Stepped) → next_of t ≡ unless_quiet next_of way →
-    next_of t ≡ unless_quiet next_of (if b then (t, stepped.Quiet) else way)
+-- A way up to a cycle is a part of the way to the next write, and of the way up to a later cycle: each goes on after it.
+either_next : (b : Bool) (t : State) (way : State × Stepped) → next_of t ≡ while_quiet next_of way →
+    next_of t ≡ while_quiet next_of (if b then (t, stepped.Quiet) else way)
 either_next true t way h = refl
 either_next false t way h = h
 
 next_by : (n end : ℕ) (s : State) (r : State × Stepped) → r ≡ boundary None s →
-    ((t : State) → boundaries_left t < boundaries_left s → next_of t ≡ unless_quiet next_of (next_before_within n end t)) →
-    next_of s ≡ unless_quiet next_of (unless_quiet_before end (next_before_within n end) r)
+    ((t : State) → boundaries_left t < boundaries_left s → next_of t ≡ while_quiet next_of (next_before_within n end t)) →
+    next_of s ≡ while_quiet next_of (while_quiet_before end (next_before_within n end) r)
 next_by n end s (t, stepped.Quiet) e f =
     sym (next_after_quiet s t e) ∙ either_next (nat_le end t.cycle) t (next_before_within n end t) (f t (fewer_after_quiet s t e))
 next_by n end s (t, stepped.Wrote write) e f = sym (next_at_write s t write e)
 next_by n end s (t, stepped.Stopped why) e f = sym (next_at_stop s t why e)
 
-next_behind : (n end : ℕ) (s : State) → boundaries_left s ≤ n → next_of s ≡ unless_quiet next_of (next_before_within n end s)
+next_goes_on : (n end : ℕ) (s : State) → boundaries_left s ≤ n → next_of s ≡ while_quiet next_of (next_before_within n end s)
 unfolding next_before_within
-next_behind zero end s h = absurd (omega (arith, some_left s))
-next_behind (suc n) end s h = next_by n end s (boundary None s) refl (λ t l. next_behind n end t (omega arith))
+next_goes_on zero end s h = absurd (omega (arith, some_left s))
+next_goes_on (suc n) end s h = next_by n end s (boundary None s) refl (λ t l. next_goes_on n end t (omega arith))
 
-next_of_way : (end : ℕ) (s : State) → next_of s ≡ unless_quiet next_of (next_before end s)
+next_of_way : (end : ℕ) (s : State) → next_of s ≡ while_quiet next_of (next_before end s)
 unfolding next_before
-next_of_way end s = next_behind (boundaries_left s) end s (omega arith)
+next_of_way end s = next_goes_on (boundaries_left s) end s (omega arith)
 
 pub next_after_way : (end : ℕ) (s t : State) → (t, stepped.Quiet) ≡ next_before end s → next_of t ≡ next_of s
-next_after_way end s t e = ap (unless_quiet next_of) e ∙ sym (next_of_way end s)
+next_after_way end s t e = ap (while_quiet next_of) e ∙ sym (next_of_way end s)
 
 pub next_at_way_write : (end : ℕ) (s t : State) (write : ChannelWrite) → (t, stepped.Wrote write) ≡ next_before end s → (t, next.Wrote write) ≡ next_of s
-next_at_way_write end s t write e = ap (unless_quiet next_of) e ∙ sym (next_of_way end s)
+next_at_way_write end s t write e = ap (while_quiet next_of) e ∙ sym (next_of_way end s)
 
 pub next_at_way_stop : (end : ℕ) (s t : State) (why : Stop) → (t, stepped.Stopped why) ≡ next_before end s → (t, next.Stopped why) ≡ next_of s
-next_at_way_stop end s t why e = ap (unless_quiet next_of) e ∙ sym (next_of_way end s)
+next_at_way_stop end s t why e = ap (while_quiet next_of) e ∙ sym (next_of_way end s)
 
 -- the same up to a later cycle
 one_way : (cycle : ℕ) (s t : State) → (t, stepped.Quiet) ≡ boundary None s → (b : Bool) → nat_le cycle t.cycle ≡ b →
@@ -112,48 +112,48 @@ one_way cycle s t e true r = sym (before_at_cycle cycle s t e (grind (arith, nat
 one_way cycle s t e false r = sym (before_after_quiet cycle s t e (grind (arith, nat_tests)))
 
 either_before : (b : Bool) (end cycle : ℕ) (s t : State) (way : State × Stepped) → end ≤ cycle → nat_le end t.cycle ≡ b →
-    (t, stepped.Quiet) ≡ boundary None s → next_before cycle t ≡ unless_quiet_before cycle (next_before cycle) way →
-    next_before cycle s ≡ unless_quiet_before cycle (next_before cycle) (if b then (t, stepped.Quiet) else way)
+    (t, stepped.Quiet) ≡ boundary None s → next_before cycle t ≡ while_quiet_before cycle (next_before cycle) way →
+    next_before cycle s ≡ while_quiet_before cycle (next_before cycle) (if b then (t, stepped.Quiet) else way)
 either_before true end cycle s t way l r e h = one_way cycle s t e (nat_le cycle t.cycle) refl
 either_before false end cycle s t way l r e h = sym (before_after_quiet cycle s t e (grind (arith, nat_tests))) ∙ h
 
 before_by : (n end cycle : ℕ) (s : State) (r : State × Stepped) → end ≤ cycle → r ≡ boundary None s →
-    ((t : State) → boundaries_left t < boundaries_left s → next_before cycle t ≡ unless_quiet_before cycle (next_before cycle) (next_before_within n end t)) →
-    next_before cycle s ≡ unless_quiet_before cycle (next_before cycle) (unless_quiet_before end (next_before_within n end) r)
+    ((t : State) → boundaries_left t < boundaries_left s → next_before cycle t ≡ while_quiet_before cycle (next_before cycle) (next_before_within n end t)) →
+    next_before cycle s ≡ while_quiet_before cycle (next_before cycle) (while_quiet_before end (next_before_within n end) r)
 before_by n end cycle s (t, stepped.Quiet) l e f =
     either_before (nat_le end t.cycle) end cycle s t (next_before_within n end t) l refl e (f t (fewer_after_quiet s t e))
 before_by n end cycle s (t, stepped.Wrote write) l e f = sym (before_at_write cycle s t write e)
 before_by n end cycle s (t, stepped.Stopped why) l e f = sym (before_at_stop cycle s t why e)
 
-before_behind : (n end cycle : ℕ) (s : State) → end ≤ cycle → boundaries_left s ≤ n →
-    next_before cycle s ≡ unless_quiet_before cycle (next_before cycle) (next_before_within n end s)
+before_goes_on : (n end cycle : ℕ) (s : State) → end ≤ cycle → boundaries_left s ≤ n →
+    next_before cycle s ≡ while_quiet_before cycle (next_before cycle) (next_before_within n end s)
 unfolding next_before_within
-before_behind zero end cycle s l h = absurd (omega (arith, some_left s))
-before_behind (suc n) end cycle s l h = before_by n end cycle s (boundary None s) l refl (λ t k. before_behind n end cycle t l (omega arith))
+before_goes_on zero end cycle s l h = absurd (omega (arith, some_left s))
+before_goes_on (suc n) end cycle s l h = before_by n end cycle s (boundary None s) l refl (λ t k. before_goes_on n end cycle t l (omega arith))
 
-before_of_way : (end cycle : ℕ) (s : State) → end ≤ cycle → next_before cycle s ≡ unless_quiet_before cycle (next_before cycle) (next_before end s)
+before_of_way : (end cycle : ℕ) (s : State) → end ≤ cycle → next_before cycle s ≡ while_quiet_before cycle (next_before cycle) (next_before end s)
 unfolding next_before next_before_within
-before_of_way end cycle s l = before_behind (boundaries_left s) end cycle s l (omega arith)
+before_of_way end cycle s l = before_goes_on (boundaries_left s) end cycle s l (omega arith)
 
 pub before_at_way : (end cycle : ℕ) (s t : State) → end ≤ cycle → (t, stepped.Quiet) ≡ next_before end s → cycle ≤ t.cycle → (t, stepped.Quiet) ≡ next_before cycle s
 before_at_way end cycle s t l e h =
     let reached : nat_le cycle t.cycle ≡ true = grind (arith, nat_tests) in
     ap (λ (b : Bool). if b then (t, stepped.Quiet) else next_before cycle t) (sym reached)
-    ∙ ap (unless_quiet_before cycle (next_before cycle)) e ∙ sym (before_of_way end cycle s l)
+    ∙ ap (while_quiet_before cycle (next_before cycle)) e ∙ sym (before_of_way end cycle s l)
 
 pub before_after_way : (end cycle : ℕ) (s t : State) → end ≤ cycle → (t, stepped.Quiet) ≡ next_before end s → t.cycle < cycle → next_before cycle t ≡ next_before cycle s
 before_after_way end cycle s t l e h =
     let short : nat_le cycle t.cycle ≡ false = grind (arith, nat_tests) in
     ap (λ (b : Bool). if b then (t, stepped.Quiet) else next_before cycle t) (sym short)
-    ∙ ap (unless_quiet_before cycle (next_before cycle)) e ∙ sym (before_of_way end cycle s l)
+    ∙ ap (while_quiet_before cycle (next_before cycle)) e ∙ sym (before_of_way end cycle s l)
 
 pub before_at_way_write : (end cycle : ℕ) (s t : State) (write : ChannelWrite) → end ≤ cycle → (t, stepped.Wrote write) ≡ next_before end s →
     (t, stepped.Wrote write) ≡ next_before cycle s
-before_at_way_write end cycle s t write l e = ap (unless_quiet_before cycle (next_before cycle)) e ∙ sym (before_of_way end cycle s l)
+before_at_way_write end cycle s t write l e = ap (while_quiet_before cycle (next_before cycle)) e ∙ sym (before_of_way end cycle s l)
 
 pub before_at_way_stop : (end cycle : ℕ) (s t : State) (why : Stop) → end ≤ cycle → (t, stepped.Stopped why) ≡ next_before end s →
     (t, stepped.Stopped why) ≡ next_before cycle s
-before_at_way_stop end cycle s t why l e = ap (unless_quiet_before cycle (next_before cycle)) e ∙ sym (before_of_way end cycle s l)
+before_at_way_stop end cycle s t why l e = ap (while_quiet_before cycle (next_before cycle)) e ∙ sym (before_of_way end cycle s l)
 
 -- a way leaves fewer boundaries
 abbrev IsFewer : State → State × Stepped → Type 0
@@ -170,7 +170,7 @@ either_fewer false s t (u, stepped.Stopped why) l h = tt
 
 fewer_by : (n end : ℕ) (s : State) (r : State × Stepped) → Falls s r →
     ((t : State) → boundaries_left t < boundaries_left s → IsFewer t (next_before_within n end t)) →
-    IsFewer s (unless_quiet_before end (next_before_within n end) r)
+    IsFewer s (while_quiet_before end (next_before_within n end) r)
 fewer_by n end s (t, stepped.Quiet) h f = either_fewer (nat_le end t.cycle) s t (next_before_within n end t) h.0 (f t h.0)
 fewer_by n end s (t, stepped.Wrote write) h f = tt
 fewer_by n end s (t, stepped.Stopped why) h f = tt
@@ -194,7 +194,7 @@ either_shows true x y h k = h
 either_shows false x y h k = k
 
 shows_by : (cycle : ℕ) (go_on : State → State × Stepped) (r : State × Stepped) → HasChannel r.1 → ((t : State) → HasChannel (go_on t).1) →
-    HasChannel (unless_quiet_before cycle go_on r).1
+    HasChannel (while_quiet_before cycle go_on r).1
 shows_by cycle go_on (t, stepped.Quiet) h f = either_shows (nat_le cycle t.cycle) (t, stepped.Quiet) (go_on t) tt (f t)
 shows_by cycle go_on (t, stepped.Wrote write) h f = h
 shows_by cycle go_on (t, stepped.Stopped why) h f = tt
@@ -220,7 +220,7 @@ either_keeps true x y h k = h
 either_keeps false x y h k = k
 
 keeps_by : (cycle : ℕ) (go_on : State → State × Stepped) (r : State × Stepped) → KeepsStop r → ((t : State) → KeepsStop (go_on t)) →
-    KeepsStop (unless_quiet_before cycle go_on r)
+    KeepsStop (while_quiet_before cycle go_on r)
 keeps_by cycle go_on (t, stepped.Quiet) h f = either_keeps (nat_le cycle t.cycle) (t, stepped.Quiet) (go_on t) tt (f t)
 keeps_by cycle go_on (t, stepped.Wrote write) h f = tt
 keeps_by cycle go_on (t, stepped.Stopped why) h f = h

@@ -21,7 +21,7 @@ use Rattle.agc_processor.specs.Interrupt.{interrupt_taken}
 use Rattle.agc_processor.specs.Timer.{due_timer, timer_step, timer_stepped, time1_step, time2_by, time3_step, time4_step, time5_step, time6_step}
 use Rattle.agc_processor.specs.declared.timer.Timer.{Timer}
 use Rattle.agc_processor.specs.declared.timer.Timer.TheVariants as timer
-use Rattle.agc_machine.specs.Run.{Run, boundaries_left, next_within, next_of, unless_quiet, run_within, run_of, unless_stopped_run}
+use Rattle.agc_machine.specs.Run.{Run, boundaries_left, next_within, next_of, while_quiet, run_within, run_of, while_writing}
 use Rattle.agc_machine.specs.Laws.{Falls, Comes, AreRising, after}
 use Rattle.agc_machine.specs.State.{State}
 use Rattle.agc_processor.proofs.Orderly.{order_effect-orderly}
@@ -119,7 +119,7 @@ unfolding boundary
 boundary_falls s = stopped_falls s.stopped s refl
 
 step_same : (go stay : State → State × Next) (s : State) (r : State × Stepped) → Falls s r →
-    ((t : State) → boundaries_left t < boundaries_left s → go t ≡ stay t) → unless_quiet go r ≡ unless_quiet stay r
+    ((t : State) → boundaries_left t < boundaries_left s → go t ≡ stay t) → while_quiet go r ≡ while_quiet stay r
 step_same go stay s (t, stepped.Quiet) h f = f t h.0
 step_same go stay s (t, stepped.Wrote write) h f = refl
 step_same go stay s (t, stepped.Stopped why) h f = refl
@@ -137,7 +137,7 @@ same_next (suc n) (suc m) s h k =
     step_same (next_within n) (next_within m) s (boundary None s) (boundary_falls s) (λ t l. same_next n m t (omega arith) (omega arith))
 
 -- one boundary of the chain
-pub next_by_boundary : (s : State) → next_of s ≡ unless_quiet (next_within (boundaries_left s)) (boundary None s)
+pub next_by_boundary : (s : State) → next_of s ≡ while_quiet (next_within (boundaries_left s)) (boundary None s)
 unfolding next_of next_within
 next_by_boundary s = same_next (boundaries_left s) (suc (boundaries_left s)) s (omega arith) (omega arith)
 
@@ -152,21 +152,21 @@ pub next_after_quiet : (s t : State) → (t, stepped.Quiet) ≡ boundary None s 
 unfolding next_of
 next_after_quiet s t e =
     let fewer : boundaries_left t < boundaries_left s = fewer_after_quiet s t e in
-    same_next (boundaries_left t) (boundaries_left s) t (omega arith) (omega arith) ∙ ap (unless_quiet (next_within (boundaries_left s))) e ∙ sym (next_by_boundary s)
+    same_next (boundaries_left t) (boundaries_left s) t (omega arith) (omega arith) ∙ ap (while_quiet (next_within (boundaries_left s))) e ∙ sym (next_by_boundary s)
 
 -- a boundary that writes, or that stops, is the next one itself
 pub next_at_write : (s t : State) (write : ChannelWrite) → (t, stepped.Wrote write) ≡ boundary None s → (t, next.Wrote write) ≡ next_of s
-next_at_write s t write e = ap (unless_quiet (next_within (boundaries_left s))) e ∙ sym (next_by_boundary s)
+next_at_write s t write e = ap (while_quiet (next_within (boundaries_left s))) e ∙ sym (next_by_boundary s)
 
 pub next_at_stop : (s t : State) (why : Stop) → (t, stepped.Stopped why) ≡ boundary None s → (t, next.Stopped why) ≡ next_of s
-next_at_stop s t why e = ap (unless_quiet (next_within (boundaries_left s))) e ∙ sym (next_by_boundary s)
+next_at_stop s t why e = ap (while_quiet (next_within (boundaries_left s))) e ∙ sym (next_by_boundary s)
 
 later_comes : (s t : State) (r : State × Next) → boundaries_left t < boundaries_left s → s.cycle ≤ t.cycle → Comes t r → Comes s r
 later_comes s t (u, next.Wrote write) h k c = (omega arith, omega arith, c.2, c.3)
 later_comes s t (u, next.Stopped why) h k c = (c.0, omega arith)
 
 comes_by : (go_on : State → State × Next) (s : State) (r : State × Stepped) → Falls s r →
-    ((t : State) → boundaries_left t < boundaries_left s → Comes t (go_on t)) → Comes s (unless_quiet go_on r)
+    ((t : State) → boundaries_left t < boundaries_left s → Comes t (go_on t)) → Comes s (while_quiet go_on r)
 comes_by go_on s (t, stepped.Quiet) h f = later_comes s t (go_on t) h.0 h.1 (f t h.0)
 comes_by go_on s (t, stepped.Wrote write) h f = (h.0, omega arith, omega arith, h.3)
 comes_by go_on s (t, stepped.Stopped why) h f = h
@@ -182,7 +182,7 @@ unfolding next_of
 next_comes s = within_comes (boundaries_left s) s (omega arith)
 
 run_step_same : (go stay : State → Run) (s : State) (r : State × Next) → Comes s r →
-    ((t : State) → boundaries_left t < boundaries_left s → go t ≡ stay t) → unless_stopped_run go r ≡ unless_stopped_run stay r
+    ((t : State) → boundaries_left t < boundaries_left s → go t ≡ stay t) → while_writing go r ≡ while_writing stay r
 run_step_same go stay s (t, next.Wrote write) h f = ap (λ (rest : Run). record rest { writes = write ∷ rest.writes }) (f t h.0)
 run_step_same go stay s (t, next.Stopped why) h f = refl
 
@@ -194,7 +194,7 @@ same_run (suc n) (suc m) s h k =
     run_step_same (run_within n) (run_within m) s (next_of s) (next_comes s) (λ t l. same_run n m t (omega arith) (omega arith))
 
 -- a run by its next write or stop
-pub run_by_next : (s : State) → run_of s ≡ unless_stopped_run run_of (next_of s)
+pub run_by_next : (s : State) → run_of s ≡ while_writing run_of (next_of s)
 unfolding run_of run_within
 run_by_next s =
     same_run (boundaries_left s) (suc (boundaries_left s)) s (omega arith) (omega arith)
@@ -203,11 +203,11 @@ run_by_next s =
 -- the run of a state whose next is a write
 pub run_at_write : (s t : State) (write : ChannelWrite) → (t, next.Wrote write) ≡ next_of s →
     run_of s ≡ record { writes = write ∷ (run_of t).writes; last = (run_of t).last }
-run_at_write s t write e = run_by_next s ∙ ap (unless_stopped_run run_of) (sym e)
+run_at_write s t write e = run_by_next s ∙ ap (while_writing run_of) (sym e)
 
 -- the run of a state whose next is the stop
 pub run_at_stop : (s t : State) (why : Stop) → (t, next.Stopped why) ≡ next_of s → run_of s ≡ record { writes = []; last = t }
-run_at_stop s t why e = run_by_next s ∙ ap (unless_stopped_run run_of) (sym e)
+run_at_stop s t why e = run_by_next s ∙ ap (while_writing run_of) (sym e)
 
 -- fewer boundaries are left after a write, which a loop over writes can count down by
 pub fewer_after_write : (s t : State) (write : ChannelWrite) → (t, next.Wrote write) ≡ next_of s → boundaries_left t < boundaries_left s
@@ -222,7 +222,7 @@ rises_later from later [] h r = tt
 rises_later from later (write ∷ writes) h r = (omega arith, r.1, r.2)
 
 run_rises_by : (go_on : State → Run) (s : State) (r : State × Next) → Comes s r →
-    ((t : State) → boundaries_left t < boundaries_left s → AreRising t.cycle (go_on t).writes) → AreRising s.cycle (unless_stopped_run go_on r).writes
+    ((t : State) → boundaries_left t < boundaries_left s → AreRising t.cycle (go_on t).writes) → AreRising s.cycle (while_writing go_on r).writes
 run_rises_by go_on s (t, next.Wrote write) h f =
     (h.1, h.3, rises_later (write.cycle + 1) t.cycle (go_on t).writes (omega arith) (f t h.0))
 run_rises_by go_on s (t, next.Stopped why) h f = tt

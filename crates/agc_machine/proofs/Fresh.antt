@@ -20,8 +20,8 @@ started s words events limit u v h = ap (λ (x : State). record x { until = v })
 pub sound_until : (m : Engine) (v : Option StopAddress) → IsSound m → m.begun ≡ false → IsSound (record m { until = v })
 sound_until m v h not_begun =
     record {
-      quiet = λ l. absurd (true_is_not_false (sym (h.quiet l).going.begun ∙ not_begun));
-      pace = λ l. absurd (true_is_not_false (sym (h.quiet l).going.begun ∙ not_begun));
+      calm = λ l. absurd (true_is_not_false (sym (h.calm l).going.begun ∙ not_begun));
+      pace = λ l. absurd (true_is_not_false (sym (h.calm l).going.begun ∙ not_begun));
       place = h.place;
       some = h.some;
       limit = h.limit;

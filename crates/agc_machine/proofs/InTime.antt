@@ -189,9 +189,9 @@ stepped_in_time c p t = first_in_time c p t _ _ _ _ _ refl refl refl refl refl
 pub step_in_time : (c d : ℕ) (p q : Processor) (cycles : ℕ) → IsInTime c p.timers → timer_stepped c p ≡ Some (q, cycles) → c ≤ d → IsInTime d q.timers
 step_in_time c d p q cycles t e l = later_in_time c d q.timers (subst (LeavesInTime c) e (stepped_in_time c p t)) l
 
--- a machine that has begun is sound where no quiet cycle is known
+-- a machine that has begun is sound where no calm cycle is known
 pub sound_slowly : (m : Engine) → m.next ≤ length m.script → 0 < m.limit → m.limit ≤ 1000000000000 → m.cycle < m.limit + 6 →
-    IsInTime m.cycle m.processor.timers → m.quiet_until ≡ 0 → m.begun ≡ true → IsSound m
+    IsInTime m.cycle m.processor.timers → m.calm_until ≡ 0 → m.begun ≡ true → IsSound m
 sound_slowly m place some limit cycle in_time not_quiet begun =
     record {
       place = place;
@@ -199,7 +199,7 @@ sound_slowly m place some limit cycle in_time not_quiet begun =
       limit = limit;
       cycle = cycle;
       in_time = in_time;
-      quiet = λ l. let no : ⊥ = omega arith in absurd no;
+      calm = λ l. let no : ⊥ = omega arith in absurd no;
       pace = λ l. let no : ⊥ = omega arith in absurd no;
       fresh = λ e. cc;
     }

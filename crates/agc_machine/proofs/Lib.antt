@@ -4,7 +4,7 @@ pub mod Fresh
 pub mod Stillness
 pub mod Replay
 pub mod Before
-pub mod Behind
+pub mod OnePast
 pub mod Cases
 pub mod Fixed
 pub mod Kept
@@ -14,4 +14,4 @@ pub mod Live
 pub mod Place
 pub mod Told
 pub mod InTime
-pub mod QuietlyTold
+pub mod CalmlyTold

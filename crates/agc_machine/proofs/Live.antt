@@ -11,7 +11,7 @@ use Rattle.agc_machine.specs.Boundary.{boundary, WantsKey}
 use Rattle.agc_machine.specs.Laws.{KeepsStop}
 use Rattle.agc_machine.specs.Live.{IsLive}
 use Rattle.agc_machine.specs.Replay.{chain, tape_of, AreWanted, with_tape, writes_in}
-use Rattle.agc_machine.specs.Run.{boundaries_left, next_before, next_before_within, run_of, unless_quiet_before}
+use Rattle.agc_machine.specs.Run.{boundaries_left, next_before, next_before_within, run_of, while_quiet_before}
 use Rattle.agc_machine.specs.State.{State, start_state, IsAtStart}
 use Rattle.agc_machine.specs.Taken.{TakesTape, replayed}
 use Rattle.agc_machine.proofs.Replay.{key_is_quiet, live_run_replays}
@@ -21,12 +21,12 @@ use Rattle.agc_machine.proofs.Taken.{tape_is_taken, tape_is_below}
 abbrev pub written : Stepped → List ChannelWrite
 written answer = writes_in (answer ∷ [])
 
-writes_append : (before behind : List Stepped) → writes_in (before ++ behind) ≡ writes_in before ++ writes_in behind
+writes_append : (before after : List Stepped) → writes_in (before ++ after) ≡ writes_in before ++ writes_in after
 unfolding writes_in
-writes_append [] behind = refl
-writes_append (stepped.Quiet ∷ before) behind = writes_append before behind
-writes_append (stepped.Wrote write ∷ before) behind = ap (λ (writes : List ChannelWrite). write ∷ writes) (writes_append before behind)
-writes_append (stepped.Stopped why ∷ before) behind = writes_append before behind
+writes_append [] after = refl
+writes_append (stepped.Quiet ∷ before) after = writes_append before after
+writes_append (stepped.Wrote write ∷ before) after = ap (λ (writes : List ChannelWrite). write ∷ writes) (writes_append before after)
+writes_append (stepped.Stopped why ∷ before) after = writes_append before after
 
 -- a chain, and the chain from where it came to
 answers_append : (lives more : List (Option Key)) (s : State) →
@@ -128,7 +128,7 @@ either_stretch true s x y h k = h
 either_stretch false s x y h k = k
 
 stretch_by : (cycle : ℕ) (go_on : State → State × Stepped) (s : State) (r : State × Stepped) → boundary None s ≡ r →
-    ((t : State) → Stretch t (go_on t)) → Stretch s (unless_quiet_before cycle go_on r)
+    ((t : State) → Stretch t (go_on t)) → Stretch s (while_quiet_before cycle go_on r)
 stretch_by cycle go_on s (t, stepped.Quiet) e f =
     either_stretch (nat_le cycle t.cycle) s (t, stepped.Quiet) (go_on t) (subst (Stretch s) e (one_stretch s)) (stretch_on s t (go_on t) e (f t))
 stretch_by cycle go_on s (t, stepped.Wrote write) e f = subst (Stretch s) e (one_stretch s)

@@ -22,7 +22,7 @@ use Rattle.agc_processor.specs.Interrupt.{interrupt_taken}
 use Rattle.agc_processor.specs.Timer.{timer_stepped}
 use Rattle.agc_machine.specs.Laws.{Falls, Comes, HasChannel, HasNextChannel}
 use Rattle.agc_machine.specs.Replay.{Chain, chain, tape_of, AreWanted, with_tape, writes_in, run_in}
-use Rattle.agc_machine.specs.Run.{Run, boundaries_left, next_of, run_of, unless_stopped_run}
+use Rattle.agc_machine.specs.Run.{Run, boundaries_left, next_of, run_of, while_writing}
 use Rattle.agc_machine.specs.State.{State, with_key}
 use Rattle.agc_machine.proofs.Chain.{boundary_falls, by_timer_falls, stopped_stays, run_by_next, run_at_write, run_at_stop, next_at_write, next_at_stop, next_after_quiet, next_comes}
 use Rattle.agc_machine.proofs.Events.{met}
@@ -272,7 +272,7 @@ stopped_run s why e = run_at_stop s s why (next_at_stop s s why (sym (stopped_st
 
 run_after_quiet : (s t : State) → (t, stepped.Quiet) ≡ boundary None s → run_of s ≡ run_of t
 run_after_quiet s t e =
-    run_by_next s ∙ ap (unless_stopped_run run_of) (sym (next_after_quiet s t e)) ∙ sym (run_by_next t)
+    run_by_next s ∙ ap (while_writing run_of) (sym (next_after_quiet s t e)) ∙ sym (run_by_next t)
 
 stop_stays_in : (s t : State) (why : Stop) → (t, stepped.Stopped why) ≡ boundary None s → t.stopped ≡ Some why
 stop_stays_in s t why e = (subst (Falls s) (sym e) (boundary_falls s)).0

@@ -1,4 +1,4 @@
--- An interrupt and the RESUME behind it: Z and the order in hand lie in ZRUPT and BRUPT in between.
+-- An interrupt and the RESUME after it: Z and the order in hand lie in ZRUPT and BRUPT in between.
 use Rattle.std.proofs.Common.{◌≡◌, ◌≢◌, ℕ, ◌+◌, ◌%◌, ◌<◌, ◌^◌, List, set, length, refl, ap, ◌∙◌, arith}
 use Rattle.std.proofs.lemmas.List.{length-set, get_or-set_same, get_or-set_other}
 use Rattle.std.proofs.lemmas.Bool.Decides.{nat_tests}

@@ -1,4 +1,4 @@
--- Below the quiet cycle a boundary is an interrupt, the stop at the stop address, or the order in hand.
+-- Below the calm cycle a boundary is an interrupt, the stop at the stop address, or the order in hand.
 use Rattle.std.proofs.Common.{◌≡◌, ℕ, ◌<◌, ◌≤◌, ◌⊎◌, min, List, [], ◌∷◌, Bool, true, false, Option, Some, None, refl, ap, subst, sym, ◌∙◌, arith}
 use Rattle.std.specs.Prelude.{nat_le, ◌||◌, ◌&&◌, not, if◌then◌else◌, option_map, IfSome}
 use Rattle.std.proofs.lemmas.Bool.Decides.{nat_tests}
@@ -15,9 +15,9 @@ use Rattle.agc_processor.specs.Processor.{a_of}
 use Rattle.agc_word.specs.Arithmetic.{over_of}
 use Rattle.agc_processor.specs.declared.interrupt.Rupt.{Rupt}
 use Rattle.agc_processor.specs.Keeps.{IsSame}
-use Rattle.agc_machine.specs.Quiet.{IsQuiet, Serves}
-use Rattle.agc_machine.specs.declared.quiet.Pace.{Pace}
-use Rattle.agc_machine.specs.declared.quiet.Pace.TheVariants as pace
+use Rattle.agc_machine.specs.Calm.{IsCalm, Serves}
+use Rattle.agc_machine.specs.declared.calm.Pace.{Pace}
+use Rattle.agc_machine.specs.declared.calm.Pace.TheVariants as pace
 use Rattle.agc_machine.specs.State.{State}
 use Rattle.agc_processor.specs.Channel.{switch_word}
 use Rattle.agc_processor.specs.Timer.{due_timer, timer_step, timer_stepped, is_any_due, is_due, is_time6_due}
@@ -84,16 +84,16 @@ unfolding boundary
 past_stop s h b =
     ap (λ (o : Option Stop). unless_stopped o s) h ∙ ap (λ (t : Bool). from_limit (record s { begun = t })) (sym b)
 
--- below the quiet cycle a boundary is an interrupt, the stop at the stop address, or the order
-quiet_boundary : (until : ℕ) (s : State) → IsQuiet until s → s.cycle < until → boundary None s ≡ from_interrupt s
-quiet_boundary until s q h =
+-- below the calm cycle a boundary is an interrupt, the stop at the stop address, or the order
+calm_boundary : (until : ℕ) (s : State) → IsCalm until s → s.cycle < until → boundary None s ≡ from_interrupt s
+calm_boundary until s q h =
     past_stop s q.going.runs q.going.begun ∙ past_limit s (q.limit s.cycle h) ∙ past_event s (q.events s.cycle h)
     ∙ past_timer s (no_step s.cycle s.processor (q.timers s.cycle h))
 
 -- an interrupt that is taken
-pub interrupt_step : (until : ℕ) (s : State) (r : State × Stepped) → IsQuiet until s → s.cycle < until → by_interrupt s ≡ Some r → boundary None s ≡ r
+pub interrupt_step : (until : ℕ) (s : State) (r : State × Stepped) → IsCalm until s → s.cycle < until → by_interrupt s ≡ Some r → boundary None s ≡ r
 interrupt_step until s r q h e =
-    quiet_boundary until s q h ∙ ap (λ (o : Option (State × Stepped)). o otherwise from_address s) e
+    calm_boundary until s q h ∙ ap (λ (o : Option (State × Stepped)). o otherwise from_address s) e
 
 -- no interrupt is taken where none is requested
 pub none_requested : (s : State) → first_request s.processor ≡ None → by_interrupt s ≡ None
@@ -106,15 +106,15 @@ unfolding by_interrupt
 held_off s e = ap (λ (o : Option Processor). option_map (λ p. passes p interrupt_cycles s) o) (no_interrupt_held s.processor e)
 
 -- then the boundary is the stop at the stop address, or the order
-uninterrupted : (until : ℕ) (s : State) → IsQuiet until s → s.cycle < until → by_interrupt s ≡ None → boundary None s ≡ from_address s
+uninterrupted : (until : ℕ) (s : State) → IsCalm until s → s.cycle < until → by_interrupt s ≡ None → boundary None s ≡ from_address s
 uninterrupted until s q h e =
-    quiet_boundary until s q h ∙ ap (λ (o : Option (State × Stepped)). o otherwise from_address s) e
+    calm_boundary until s q h ∙ ap (λ (o : Option (State × Stepped)). o otherwise from_address s) e
 
 reached_by : (b : Bool) (s : State) → b ≡ true → one_or_on b (stops stop.Reached s) (by_order s) ≡ stops stop.Reached s
 reached_by true s e = refl
 reached_by false s e = cc
 
-pub reached_step : (until : ℕ) (s : State) → IsQuiet until s → s.cycle < until → by_interrupt s ≡ None → is_reached s.until s.processor ≡ true →
+pub reached_step : (until : ℕ) (s : State) → IsCalm until s → s.cycle < until → by_interrupt s ≡ None → is_reached s.until s.processor ≡ true →
     boundary None s ≡ stops stop.Reached s
 unfolding by_address
 reached_step until s q h e r = uninterrupted until s q h e ∙ reached_by (is_reached s.until s.processor) s r
@@ -123,39 +123,39 @@ passed_by : (b : Bool) (s : State) → b ≡ false → one_or_on b (stops stop.R
 passed_by true s e = cc
 passed_by false s e = refl
 
-pub order_step : (until : ℕ) (s : State) → IsQuiet until s → s.cycle < until → by_interrupt s ≡ None → is_reached s.until s.processor ≡ false →
+pub order_step : (until : ℕ) (s : State) → IsCalm until s → s.cycle < until → by_interrupt s ≡ None → is_reached s.until s.processor ≡ false →
     boundary None s ≡ by_order s
 unfolding by_address
 order_step until s q h e r = uninterrupted until s q h e ∙ passed_by (is_reached s.until s.processor) s r
 
 -- without requests and a stop address the boundary is the order in hand
-pub bare_step : (until : ℕ) (s : State) → IsQuiet until s → s.cycle < until → Serves pace.Bare s → boundary None s ≡ by_order s
+pub bare_step : (until : ℕ) (s : State) → IsCalm until s → s.cycle < until → Serves pace.Bare s → boundary None s ≡ by_order s
 bare_step until s q h serves =
     order_step until s q h (none_requested s serves.0) (ap (λ (u : Option StopAddress). is_reached u s.processor) serves.1)
 
--- what is quiet stays so while the timers and TIME6's switch are as they were
-pub quiet_kept : (until : ℕ) (s : State) (p : Processor) (cycle : ℕ) → IsQuiet until s → IsSame s.processor p →
-    IsQuiet until (record s { processor = p; cycle = cycle })
-quiet_kept until s p cycle q same =
+-- what is calm stays so while the timers and TIME6's switch are as they were
+pub calm_kept : (until : ℕ) (s : State) (p : Processor) (cycle : ℕ) → IsCalm until s → IsSame s.processor p →
+    IsCalm until (record s { processor = p; cycle = cycle })
+calm_kept until s p cycle q same =
     record { going = record { begun = q.going.begun; runs = q.going.runs }; limit = q.limit; events = q.events; timers = λ c l. rw (same.0, same.2) (q.timers c l) }
 
 -- and an interrupt leaves them so
-interrupted_kept : (until : ℕ) (s : State) (r : Rupt) (cycle : ℕ) → IsQuiet until s →
-    IsQuiet until (record s { processor = interrupted r s.processor; cycle = cycle })
+interrupted_kept : (until : ℕ) (s : State) (r : Rupt) (cycle : ℕ) → IsCalm until s →
+    IsCalm until (record s { processor = interrupted r s.processor; cycle = cycle })
 unfolding interrupted
 interrupted_kept until s r cycle q =
     record { going = record { begun = q.going.begun; runs = q.going.runs }; limit = q.limit; events = q.events; timers = q.timers }
 
-taken_kept : (until : ℕ) (s : State) (o : Option Rupt) (p : Processor) (cycle : ℕ) → IsQuiet until s →
-    option_map (λ (r : Rupt). interrupted r s.processor) o ≡ Some p → IsQuiet until (record s { processor = p; cycle = cycle })
+taken_kept : (until : ℕ) (s : State) (o : Option Rupt) (p : Processor) (cycle : ℕ) → IsCalm until s →
+    option_map (λ (r : Rupt). interrupted r s.processor) o ≡ Some p → IsCalm until (record s { processor = p; cycle = cycle })
 taken_kept until s None p cycle q e = cc
 taken_kept until s (Some r) p cycle q e =
-    subst (λ (o : Option Processor). IfSome o (λ p. IsQuiet until (record s { processor = p; cycle = cycle }))) e (interrupted_kept until s r cycle q)
+    subst (λ (o : Option Processor). IfSome o (λ p. IsCalm until (record s { processor = p; cycle = cycle }))) e (interrupted_kept until s r cycle q)
 
-pub quiet_after_interrupt : (until : ℕ) (s : State) (p : Processor) (cycle : ℕ) → IsQuiet until s → interrupt_taken s.processor ≡ Some p →
-    IsQuiet until (record s { processor = p; cycle = cycle })
+pub calm_after_interrupt : (until : ℕ) (s : State) (p : Processor) (cycle : ℕ) → IsCalm until s → interrupt_taken s.processor ≡ Some p →
+    IsCalm until (record s { processor = p; cycle = cycle })
 unfolding interrupt_taken
-quiet_after_interrupt until s p cycle q e = taken_kept until s (pending s.processor) p cycle q e
+calm_after_interrupt until s p cycle q e = taken_kept until s (pending s.processor) p cycle q e
 
 -- a pace that serves goes on to serve while the requests are as they were
 pub serves_kept : (pace : Pace) (s : State) (p : Processor) (cycle : ℕ) → Serves pace s → IsSame s.processor p →

@@ -36,16 +36,16 @@ stopped_none : (stopped : Option Stop) (n : ℕ) (s : State) → s.stopped ≡ s
 stopped_none (Some why) n s e i = stopped_takes_none n s why e
 stopped_none None n s e i = cc
 
-same_behind : (n m : ℕ) (s : State) → taken_within n (boundary None s).0 ≡ taken_within m (boundary None s).0 → taken_within (suc n) s ≡ taken_within (suc m) s
+same_after : (n m : ℕ) (s : State) → taken_within n (boundary None s).0 ≡ taken_within m (boundary None s).0 → taken_within (suc n) s ≡ taken_within (suc m) s
 unfolding taken_within
-same_behind n m s e = ap (λ (takings : List (ℕ × Event)). at_cycle s.cycle (met_between s (boundary None s).0) ++ takings) e
+same_after n m s e = ap (λ (takings : List (ℕ × Event)). at_cycle s.cycle (met_between s (boundary None s).0) ++ takings) e
 
 -- once a run has stopped, more boundaries take no more
 taken_up_to_stop : (n m : ℕ) (s : State) → IsSome (after n s).stopped → IsSome (after m s).stopped → taken_within n s ≡ taken_within m s
 unfolding after taken_within
 taken_up_to_stop zero m s i k = sym (stopped_none s.stopped m s refl i)
 taken_up_to_stop (suc n) zero s i k = stopped_none s.stopped (suc n) s refl k
-taken_up_to_stop (suc n) (suc m) s i k = same_behind n m s (taken_up_to_stop n m (boundary None s).0 i k)
+taken_up_to_stop (suc n) (suc m) s i k = same_after n m s (taken_up_to_stop n m (boundary None s).0 i k)
 
 one_met : (event : Event) (events : List Event) → take (length (event ∷ events) - length events) (event ∷ events) ≡ event ∷ []
 one_met event events = let one : suc (length events) - length events ≡ 1 = omega arith in ap (λ (n : ℕ). take n (event ∷ events)) one
@@ -247,7 +247,7 @@ last_of_more spacing first later tape entry h =
     let place : length (first ∷ later ∷ tape) - 1 ≡ suc (length (later ∷ tape) - 1) = omega arith in
     subst (λ (i : ℕ). IfSome (slice_get (first ∷ later ∷ tape) i) (λ last. last.0 + spacing ≤ entry.0)) place h
 
--- one key more, far enough behind the last one
+-- one key more, far enough back the last one
 pub apart_snoc : (spacing : ℕ) (tape : List (ℕ × Key)) (entry : ℕ × Key) → AreApart spacing tape →
     IfSome (slice_get tape (length tape - 1)) (λ last. last.0 + spacing ≤ entry.0) → AreApart spacing (tape ++ entry ∷ [])
 unfolding AreApart

@@ -8,7 +8,7 @@ use Rattle.agc_machine.specs.declared.answer.Stepped.TheVariants as stepped
 use Rattle.agc_machine.specs.declared.engine.Engine.{Engine}
 use Rattle.agc_machine.specs.declared.engine.Paced.{Paced}
 use Rattle.agc_machine.specs.declared.engine.Paced.TheVariants as paced
-use Rattle.agc_machine.specs.Quiet.{IsQuiet, Serves}
+use Rattle.agc_machine.specs.Calm.{IsCalm, Serves}
 use Rattle.agc_machine.specs.State.{State, IsAtStart}
 
 -- the state that a machine stands for
@@ -28,7 +28,7 @@ state_of m =
 abbrev pub engine_at : ℕ → Engine → Engine
 engine_at cycle m = record m { cycle = cycle }
 
--- the engine behind an order that ran at a cycle of its own, and what the boundary has done then
+-- the engine after an order that ran at a cycle of its own, and what the boundary has done then
 abbrev pub paced_engine : Engine → Paced → Engine
 paced_engine m (paced.Goes next) = engine_at next m
 paced_engine m (paced.Ends what) = m
@@ -54,8 +54,8 @@ pub record IsSound (m : Engine) : Type 0 where
   pub limit : m.limit ≤ 1000000000000
   pub cycle : m.cycle < m.limit + 6
   pub in_time : IsInTime m.cycle m.processor.timers
-  pub quiet : 0 < m.quiet_until → IsQuiet m.quiet_until (state_of m)
-  pub pace : 0 < m.quiet_until → Serves m.pace (state_of m)
+  pub calm : 0 < m.calm_until → IsCalm m.calm_until (state_of m)
+  pub pace : 0 < m.calm_until → Serves m.pace (state_of m)
   pub fresh : m.begun ≡ false → IsAtStart (state_of m)
 
 -- a machine below its limit that has begun

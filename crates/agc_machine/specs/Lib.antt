@@ -3,7 +3,7 @@ pub mod StopAddress
 pub mod State
 pub mod Boundary
 pub mod Run
-pub mod Quiet
+pub mod Calm
 pub mod Engine
 pub mod Laws
 pub mod Replay

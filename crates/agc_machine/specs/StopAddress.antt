@@ -16,7 +16,7 @@ place_in_range (Some bank) (Some address) =
     else None
 place_in_range bank address = None
 
--- The stop address that a text names: the bank before the first comma, the address behind it, each
+-- The stop address that a text names: the bank before the first comma, the address after it, each
 -- of one digit up to six. Any other text names none.
 unfoldable pub stop_address_of : List ℕ → Option StopAddress
 stop_address_of text =

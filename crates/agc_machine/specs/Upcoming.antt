@@ -47,8 +47,8 @@ address_told s =
     if is_reached s.until s.processor then Some (upcoming.Stop stop.Reached) else None
 
 -- the bank that an address stands in, in the two windows that banks are switched into; elsewhere 0
-abbrev pub bank_behind : ℕ → Processor → ℕ
-bank_behind address p =
+abbrev pub bank_of_address : ℕ → Processor → ℕ
+bank_of_address address p =
     if nat_lt address erasable_window then 0
     else if nat_lt address fixed_window then erasable_bank p.store.erasable
     else if nat_lt address fixed_fixed then selected_bank p.store
@@ -59,7 +59,7 @@ unfoldable pub in_hand : Processor → InHand
 in_hand p =
     let address = (z_at p + 0o7777) % 0o10000 in
     record {
-      bank = bank_behind address p;
+      bank = bank_of_address address p;
       address = address;
       word = p.hand;
       extracode = p.extracode;
@@ -89,7 +89,7 @@ unless_stopped_told None s = first_told s
 unfoldable pub upcoming_of : State → Upcoming
 upcoming_of s = unless_stopped_told s.stopped s
 
--- the events behind the first one left
+-- the events after the first one left
 abbrev pub later_events : List Event → List Event
 later_events [] = []
 later_events (event ∷ rest) = rest

@@ -5,8 +5,8 @@ ghost use Rattle.agc_processor.specs.Keeps.{Keeps};
 ghost use Rattle.agc_machine.specs.Engine.{state_of, IsInTime, IsSound};
 
 use crate::answer::{ChannelWrite, Next, Stepped, Stop};
+use crate::calm::Pace;
 use crate::happening::{meet, press};
-use crate::quiet::Pace;
 use crate::stop_address::StopAddress;
 use agc_processor::channel::CHAN13;
 use agc_processor::{INTERRUPT_MCT, Processor, Ran, WRITE_MCT};
@@ -26,7 +26,7 @@ pub(crate) struct Engine {
     pub(crate) stopped: Option<Stop>,
     pub(crate) until: Option<StopAddress>,
     /// Below this cycle the clock brings nothing; 0 where that is not known.
-    pub(crate) quiet_until: u64,
+    pub(crate) calm_until: u64,
     /// What may come before the order in hand below that cycle.
     pub(crate) pace: Pace,
 }
@@ -45,7 +45,7 @@ impl Engine {
     ghost use Rattle.std.specs.Prelude.{◌≡◌, ℕ, ◌<◌, ◌≤◌, ◌+◌, ◌%◌, ◌^◌, ◌↔◌, ◌||◌, length, drop, slice_get, true, false, IsTrue, IsSome, IfSome, IfNone, Some, None};
     ghost use Rattle.agc_script.specs.Event.{IsInRange};
     ghost use Rattle.agc_machine.specs.Engine.{engine_at, state_of, IsSound, IsRunning, paced_engine, paced_state};
-    ghost use Rattle.agc_machine.specs.Quiet.{IsLongest, IsQuiet, Serves, pace_of};
+    ghost use Rattle.agc_machine.specs.Calm.{IsLongest, IsCalm, Serves, pace_of};
     ghost use Rattle.agc_machine.specs.State.{start_state};
     ghost use Rattle.agc_machine.specs.Run.{next_before, next_of};
     ghost use Rattle.agc_machine.specs.Boundary.{boundary, WantsKey, IsBefore, by_event, by_timer, by_interrupt, by_order, stops, is_reached, bank_agrees};
@@ -67,7 +67,7 @@ impl Engine {
             begun: false,
             stopped: None,
             until: None,
-            quiet_until: 0,
+            calm_until: 0,
             pace: Pace::Held,
         }
     }
@@ -79,8 +79,8 @@ impl Engine {
         ensures sound { IsSound self.new }
     {
         loop {
-            if self.cycle < self.quiet_until {
-                match self.go_quickly(self.quiet_until) {
+            if self.cycle < self.calm_until {
+                match self.go_quickly(self.calm_until) {
                     Stepped::Quiet => {}
                     Stepped::Wrote(write) => return Next::Wrote(write),
                     Stepped::Stopped(why) => return Next::Stopped(why),
@@ -95,15 +95,16 @@ impl Engine {
         }
     }
 
-    /// The same, but no further than to the first quiet boundary that ends at a cycle or later.
+    /// Boundaries without live keys, up to the next write, the stop, or the first quiet boundary that
+    /// ends at a cycle or later.
     pub(crate) fn next_write_before(&mut self, cycle: u64) -> Stepped
         requires sound { IsSound self.old }
         ensures next { (state_of self.new, result) ≡ next_before cycle (state_of self.old) }
         ensures sound { IsSound self.new }
     {
         loop {
-            if self.cycle < self.quiet_until {
-                match self.go_quickly(self.quiet_until.min(cycle)) {
+            if self.cycle < self.calm_until {
+                match self.go_quickly(self.calm_until.min(cycle)) {
                     Stepped::Quiet => {
                         if cycle <= self.cycle {
                             return Stepped::Quiet;
@@ -152,7 +153,7 @@ impl Engine {
         ensures step { (state_of self.new, result) ≡ boundary live (state_of self.old) }
         ensures sound { IsSound self.new }
     {
-        if live.is_none() && self.cycle < self.quiet_until {
+        if live.is_none() && self.cycle < self.calm_until {
             return self.step_quickly();
         }
         self.step_slowly(live)
@@ -166,12 +167,12 @@ impl Engine {
         requires wanted { IsSome live → WantsKey (state_of self.old) }
         ensures step { (state_of self.new, result) ≡ boundary live (state_of self.old) }
         ensures sound { IsSound self.new }
-        ensures longest { IsLongest self.new.quiet_until (state_of self.new) }
+        ensures longest { IsLongest self.new.calm_until (state_of self.new) }
         ensures pace { self.new.pace ≡ pace_of (state_of self.new) }
     {
-        self.quiet_until = 0;
+        self.calm_until = 0;
         let stepped = self.step_by_cases(live);
-        self.quiet_until = self.quiet_from_here();
+        self.calm_until = self.calm_from_here();
         self.pace = self.pace_from_here();
         stepped
     }
@@ -181,7 +182,7 @@ impl Engine {
     fn step_by_cases(&mut self, live: Option<Key>) -> Stepped
         requires sound { IsSound self.old }
         requires wanted { IsSome live → WantsKey (state_of self.old) }
-        requires not_quiet { self.old.quiet_until ≡ 0 }
+        requires not_quiet { self.old.calm_until ≡ 0 }
         ensures step { (state_of self.new, result) ≡ boundary live (state_of self.old) }
         ensures sound { IsSound self.new }
     {
@@ -223,7 +224,7 @@ impl Engine {
     #[tactic(auto, using(crate::proofs::Events::events_from, crate::proofs::Events::no_events), unfolding(crate::specs::Boundary::by_event, agc_script::specs::Event::IsInRange))]
     fn meet_event(&mut self) -> bool
         requires running { IsRunning self.old }
-        requires not_quiet { self.old.quiet_until ≡ 0 }
+        requires not_quiet { self.old.calm_until ≡ 0 }
         ensures met { result ≡ true → by_event (state_of self.old) ≡ Some (state_of self.new, Stepped.Quiet) }
         ensures none { result ≡ false → by_event (state_of self.old) ≡ None }
         ensures unchanged { result ≡ false → self.new ≡ self.old }
@@ -244,7 +245,7 @@ impl Engine {
     #[tactic(auto, unfolding(crate::specs::Boundary::by_timer))]
     fn step_timer(&mut self) -> bool
         requires running { IsRunning self.old }
-        requires not_quiet { self.old.quiet_until ≡ 0 }
+        requires not_quiet { self.old.calm_until ≡ 0 }
         ensures stepped { result ≡ true → by_timer (state_of self.old) ≡ Some (state_of self.new, Stepped.Quiet) }
         ensures none { result ≡ false → by_timer (state_of self.old) ≡ None }
         ensures unchanged { result ≡ false → self.new ≡ self.old }
@@ -264,12 +265,12 @@ impl Engine {
     #[inline(always)]
     pub(crate) fn take_interrupt(&mut self) -> bool
         requires running { IsRunning self.old }
-        requires quiet { 0 < self.old.quiet_until → IsQuiet self.old.quiet_until (state_of self.old) }
-        requires pace { 0 < self.old.quiet_until → Serves self.old.pace (state_of self.old) }
+        requires calm { 0 < self.old.calm_until → IsCalm self.old.calm_until (state_of self.old) }
+        requires pace { 0 < self.old.calm_until → Serves self.old.pace (state_of self.old) }
         ensures taken { result ≡ true → by_interrupt (state_of self.old) ≡ Some (state_of self.new, Stepped.Quiet) }
         ensures none { result ≡ false → by_interrupt (state_of self.old) ≡ None }
         ensures unchanged { result ≡ false → self.new ≡ self.old }
-        ensures quiet_until { self.new.quiet_until ≡ self.old.quiet_until }
+        ensures calm_until { self.new.calm_until ≡ self.old.calm_until }
         ensures sound { IsSound self.new }
     {
         if self.is_held_off() {
@@ -302,15 +303,15 @@ impl Engine {
         }
     }
 
-    /// The order at this stop address is in hand, which Z stands behind then.
+    /// The order at this stop address is in hand: Z is one past it then.
     #[inline(always)]
-    #[tactic(auto, using(crate::proofs::Behind::stands_behind))]
-    pub(crate) fn is_behind(&self, behind: Addr, at: &StopAddress) -> bool
+    #[tactic(auto, using(crate::proofs::OnePast::stands_one_past))]
+    pub(crate) fn is_one_past(&self, past: Addr, at: &StopAddress) -> bool
         requires range { at.now.address < 0o10000 }
-        requires behind { behind ≡ (at.now.address + 1) % 0o10000 }
+        requires past { past ≡ (at.now.address + 1) % 0o10000 }
         ensures { result ≡ is_reached (Some at.now) self.now.processor }
     {
-        self.processor.store.z() == behind && self.is_in_bank(*at)
+        self.processor.store.z() == past && self.is_in_bank(*at)
     }
 
     /// The bank at the stop address agrees, in the two windows that banks are switched into.
@@ -330,11 +331,11 @@ impl Engine {
     #[inline(always)]
     pub(crate) fn run_order(&mut self) -> Stepped
         requires running { IsRunning self.old }
-        requires quiet { 0 < self.old.quiet_until → IsQuiet self.old.quiet_until (state_of self.old) }
-        requires pace { 0 < self.old.quiet_until → Serves self.old.pace (state_of self.old) }
+        requires calm { 0 < self.old.calm_until → IsCalm self.old.calm_until (state_of self.old) }
+        requires pace { 0 < self.old.calm_until → Serves self.old.pace (state_of self.old) }
         ensures step { (state_of self.new, result) ≡ by_order (state_of self.old) }
         ensures sound { IsSound self.new }
-        ensures quiet_until { result ≡ Stepped.Quiet → self.new.quiet_until ≡ self.old.quiet_until }
+        ensures calm_until { result ≡ Stepped.Quiet → self.new.calm_until ≡ self.old.calm_until }
         ensures pace { self.new.pace ≡ self.old.pace }
     {
         match self.order_at(self.cycle) {
@@ -352,11 +353,11 @@ impl Engine {
     #[tactic(auto, unfolding(crate::specs::Boundary::by_order))]
     pub(crate) fn order_at(&mut self, cycle: u64) -> Paced
         requires running { IsRunning (engine_at cycle self.old) }
-        requires quiet { 0 < self.old.quiet_until → IsQuiet self.old.quiet_until (state_of (engine_at cycle self.old)) }
-        requires pace { 0 < self.old.quiet_until → Serves self.old.pace (state_of (engine_at cycle self.old)) }
+        requires calm { 0 < self.old.calm_until → IsCalm self.old.calm_until (state_of (engine_at cycle self.old)) }
+        requires pace { 0 < self.old.calm_until → Serves self.old.pace (state_of (engine_at cycle self.old)) }
         ensures step { paced_state self.new result ≡ by_order (state_of (engine_at cycle self.old)) }
         ensures sound { IsSound (paced_engine self.new result) }
-        ensures quiet_until { (next : ℕ) → result ≡ Paced.Goes next → self.new.quiet_until ≡ self.old.quiet_until }
+        ensures calm_until { (next : ℕ) → result ≡ Paced.Goes next → self.new.calm_until ≡ self.old.calm_until }
         ensures pace { self.new.pace ≡ self.old.pace }
         ensures until { self.new.until ≡ self.old.until }
         ensures shows { (stepped : Stepped) → result ≡ Paced.Ends stepped → stepped ≡ Stepped.Quiet → ⊥ }
@@ -365,7 +366,7 @@ impl Engine {
             Ran::Quiet(cycles) => Paced::Goes(cycle + cycles),
             Ran::Wrote(channel, value) => {
                 if channel == CHAN13 {
-                    self.quiet_until = 0;
+                    self.calm_until = 0;
                 }
                 self.cycle = cycle + WRITE_MCT;
                 Paced::Ends(Stepped::Wrote(ChannelWrite {
@@ -376,7 +377,7 @@ impl Engine {
             }
             Ran::Halted(halt) => {
                 self.cycle = cycle;
-                self.quiet_until = 0;
+                self.calm_until = 0;
                 Paced::Ends(self.stop(Stop::at_halt(halt)))
             }
         }
@@ -392,7 +393,7 @@ impl Engine {
     }
 }
 
-/// The order in hand runs in a processor; its timers stay behind the cycle.
+/// The order in hand runs in a processor; its timers stay no later than the cycle.
 #[inline(always)]
 fn run_in_time(processor: &mut Processor, cycle: u64) -> Ran
     requires cycle { cycle < 2 ^ 41 }

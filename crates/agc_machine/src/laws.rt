@@ -10,7 +10,7 @@ ghost use Rattle.agc_processor.specs.declared.interrupt.Rupt.{Rupt};
 ghost use Rattle.agc_processor.specs.declared.processor.Processor.{Processor};
 ghost use Rattle.agc_machine.specs.State.{IsAtStart, State, with_key};
 ghost use Rattle.agc_machine.specs.Boundary.{boundary};
-ghost use Rattle.agc_machine.specs.Run.{boundaries_left, next_of, run_of, unless_stopped_run};
+ghost use Rattle.agc_machine.specs.Run.{boundaries_left, next_of, run_of, while_writing};
 ghost use Rattle.agc_machine.specs.Laws.{Falls, Comes, AreRising, ComesBack, IsSameRun, after};
 ghost use Rattle.agc_machine.specs.Replay.{chain, tape_of, AreWanted, with_tape, run_in};
 ghost use Rattle.agc_machine.specs.Taken.{TakesTape};
@@ -69,7 +69,7 @@ pub fn the_next_comes()
 
 /// A run is its next write and the run from there, or its stop.
 pub fn runs_go_by_writes()
-    ensures { (s : State) → run_of s ≡ unless_stopped_run run_of (next_of s) }
+    ensures { (s : State) → run_of s ≡ while_writing run_of (next_of s) }
 {}
 
 /// The cycles of a run's writes strictly rise, and its channels are 5 to 777 octal.

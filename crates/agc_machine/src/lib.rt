@@ -3,11 +3,11 @@
 #![tactic(auto)]
 
 mod answer;
+mod calm;
 mod engine;
 mod happening;
 pub mod laws;
 mod machine;
-mod quiet;
 mod stop_address;
 #[cfg(test)]
 mod tests;

@@ -2,12 +2,12 @@
 ghost use Rattle.std.specs.Prelude.{◌≡◌, ◌<◌};
 ghost use Rattle.agc_machine.specs.State.{State};
 ghost use Rattle.agc_store.specs.Places.{fixed_window};
-ghost use Rattle.agc_machine.specs.Upcoming.{ComesAsTold, HasPlace, TellsEachCase, bank_behind, in_hand, upcoming_of};
+ghost use Rattle.agc_machine.specs.Upcoming.{ComesAsTold, HasPlace, TellsEachCase, bank_of_address, in_hand, upcoming_of};
 
 use crate::answer::Stop;
+use crate::calm::Pace;
 use crate::engine::Engine;
 use crate::machine::Machine;
-use crate::quiet::Pace;
 use agc_processor::{Processor, Rupt, Timer};
 use agc_script::What;
 use agc_store::Addr;
@@ -75,7 +75,7 @@ impl Engine {
         ensures told { result ≡ upcoming_of (state_of self.now) }
         ensures place { HasPlace result }
     {
-        if self.cycle < self.quiet_until && self.pace == Pace::Bare {
+        if self.cycle < self.calm_until && self.pace == Pace::Bare {
             return Upcoming::Order(in_hand(&self.processor));
         }
         self.upcoming_by_cases()
@@ -134,7 +134,7 @@ fn in_hand(processor: &Processor) -> InHand
 {
     let address = processor.store.z().previous();
     InHand {
-        bank: bank_behind(processor, address),
+        bank: bank_of_address(processor, address),
         address,
         word: processor.hand,
         extracode: processor.extracode,
@@ -142,8 +142,8 @@ fn in_hand(processor: &Processor) -> InHand
 }
 
 /// The bank that an address stands in, in the two windows; elsewhere 0.
-fn bank_behind(processor: &Processor, address: Addr) -> u8
-    ensures bank { result ≡ bank_behind address processor.now }
+fn bank_of_address(processor: &Processor, address: Addr) -> u8
+    ensures bank { result ≡ bank_of_address address processor.now }
     ensures range { result < 0o50 }
     ensures erasable { address < fixed_window → result < 0o10 }
 {

@@ -3,7 +3,7 @@
 //! In the decode each arm is one number, so that the compiler makes one jump by a table; of ranges and
 //! of alternatives in an arm it makes chains of comparisons. The extracodes go by code first: a step
 //! that both decodes began with would come before the choice between them, and its number would be
-//! widened again behind it.
+//! widened again after it.
 
 use agc_word::Narrow;
 

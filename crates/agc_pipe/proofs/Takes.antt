@@ -31,7 +31,7 @@ at_end (item.Write write ∷ items) (suc i) lt e h =
     let later = at_end items i (omega arith) e h in
     (later.0, ap (λ (writes : List ChannelWrite). write ∷ writes) later.1)
 
--- one more write behind those before a place
+-- one more write after those before a place
 pub at_write : (items : List Item) (i : ℕ) (write : ChannelWrite) → i < length items → item.Write write ≡ get_or items i (item.Write write)
     → has_end (take i items) ≡ false
     → (has_end (take (suc i) items) ≡ false) × (shown_in (take (suc i) items) ≡ shown_in (take i items) ++ write ∷ [])

@@ -30,9 +30,9 @@ keeps_key spacing tape longer refused received more cycle key h far e f = (
   λ kept. ap (λ (t : List (ℕ × Key)). map key_in t) e ∙ keys_snoc tape (cycle, key) ∙ ap (λ (keys : List Key). keys ++ key ∷ []) (h.2 kept) ∙ sym f,
 )
 
-drop_first : (front behind : List Key) → drop (length front) (front ++ behind) ≡ behind
-drop_first [] behind = refl
-drop_first (key ∷ front) behind = drop_first front behind
+drop_first : (front after : List Key) → drop (length front) (front ++ after) ≡ after
+drop_first [] after = refl
+drop_first (key ∷ front) after = drop_first front after
 
 length_keys : (tape : List (ℕ × Key)) → length (map key_in tape) ≡ length tape
 length_keys [] = refl
@@ -43,13 +43,13 @@ take_and_drop zero keys = refl
 take_and_drop (suc n) [] = refl
 take_and_drop (suc n) (key ∷ keys) = ap (λ (rest : List Key). key ∷ rest) (take_and_drop n keys)
 
--- the tape's keys and what is left behind as many are the keys handed in
+-- the tape's keys and what is left after as many are the keys handed in
 pub no_key_is_lost : (tape : List (ℕ × Key)) (keys received left rest : List Key) (fed : ℕ) → map key_in tape ≡ received →
     received ++ left ≡ take fed keys → rest ≡ drop (length tape) keys → map key_in tape ++ rest ≡ keys
 no_key_is_lost tape keys received left rest fed e f g =
     let all : keys ≡ map key_in tape ++ (left ++ drop fed keys) =
     sym (take_and_drop fed keys) ∙ ap (λ (front : List Key). front ++ drop fed keys) (sym f) ∙ append_assoc received left (drop fed keys)
     ∙ ap (λ (front : List Key). front ++ (left ++ drop fed keys)) (sym e) in
-    let behind : rest ≡ left ++ drop fed keys =
+    let after : rest ≡ left ++ drop fed keys =
     g ∙ ap (λ (n : ℕ). drop n keys) (sym (length_keys tape)) ∙ ap (drop (length (map key_in tape))) all ∙ drop_first (map key_in tape) (left ++ drop fed keys) in
-    ap (λ (r : List Key). map key_in tape ++ r) behind ∙ sym all
+    ap (λ (r : List Key). map key_in tape ++ r) after ∙ sym all

@@ -143,7 +143,7 @@ impl KeyTaker {
     ghost use Rattle.agc_machine.specs.Boundary.{WantsKey};
 
     /// The next key, where it is time to look for one, the machine wants one, the last one is far
-    /// enough behind and one is there. It stands on the tape then, at the machine's cycle.
+    /// enough back and one is there. It stands on the tape then, at the machine's cycle.
     pub(crate) fn take(&mut self, machine: &Machine) -> Option<Key>
         ensures some { IfSome result
             (λ key. self.new ≡ record self.old {

@@ -94,7 +94,7 @@ impl Outgoing {
         }
     }
 
-    /// Puts a write behind those that wait, and sends the block where that made it full.
+    /// Puts a write after those that wait, and sends the block where that made it full.
     pub(crate) fn put<R: Wait, G: Gate>(&mut self, rt: &R, gate: &G, write: ChannelWrite)
         requires { IsOutside (item.Write write) }
         ensures { self.new ≡ record self.old { sent = self.old.sent ++ item.Write write ∷ [] } }
@@ -106,7 +106,7 @@ impl Outgoing {
         }
     }
 
-    /// Sends what waits, with the end behind it, and gives the sender back.
+    /// Sends what waits, with the end after it, and gives the sender back.
     pub(crate) fn finish<R: Wait, G: Gate>(self, rt: &R, gate: &G) -> Sender
         ensures { result ≡ record self { sent = self.sent ++ item.End ∷ [] } }
     {
@@ -123,7 +123,7 @@ impl Outgoing {
     }
 }
 
-/// Tells the gate of so many writes more, in order, behind those that it was told of; returns how many
+/// Tells the gate of so many writes more, in order, after those that it was told of; returns how many
 /// it was told of then.
 fn tell<G: Gate>(gate: &G, told: u64, writes: usize) -> u64 {
     for n in 0..writes as u64 {

@@ -15,7 +15,7 @@ use Rattle.agc_processor.specs.Signs.{overflow_word, ccs_skip}
 use Rattle.agc_processor.specs.Logic.{and_words_of}
 
 -- TC K: the word at K is taken in hand before Q takes the return address in Z, and Z goes on
--- behind K.
+-- after K.
 unfoldable pub tc_of : ℕ → Processor → Processor
 tc_of k p = p ▷ set_hand (fetch_of p.store k) ▷ set_q (narrow_number (z_at p)) ▷ jump (k + 1)
 

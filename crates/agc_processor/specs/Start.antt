@@ -17,7 +17,7 @@ channels_at_start count =
     let at_32 = set at_31 input_channel_32 (narrow_number 0o77777) in
     set at_32 input_channel_33 (narrow_number 0o77777)
 
--- Power comes on: the order at 4000 octal is in hand and Z is behind it, everything else is at
+-- Power comes on: the order at 4000 octal is in hand and Z is one past it, everything else is at
 -- rest.
 unfoldable pub start_processor : List Number → Processor
 start_processor words =

@@ -9,7 +9,7 @@ use agc_word::Over;
 /// The cycles of an interrupt: Z and the order in hand are saved, and the vector's order is fetched.
 pub const INTERRUPT_MCT: u64 = 3;
 
-/// The vectors begin four words behind this address.
+/// The first vector is four words past this address.
 const VECTORS: u16 = 0o4000;
 
 /// The interrupts, in the order of their numbers, which is that of their vectors.

@@ -84,7 +84,7 @@ fn orders_halt(rt: HostRuntime) -> Result<(), Fail> {
 #[test]
 fn timers_step(rt: HostRuntime) -> Result<(), Fail> {
     let mut processor = processor_with(&rt, IDLE)?;
-    assert_eq!(rt; processor.timers_quiet_until(), 427);
+    assert_eq!(rt; processor.timers_calm_until(), 427);
     assert_eq!(rt; processor.step_timers(426), None);
     assert_eq!(rt; processor.step_timers(427), Some(1));
     assert_eq!(rt; processor.store.cell(0, 0o30).bits(), 0o00001);

@@ -128,7 +128,7 @@ impl Processor {
     }
 
     /// The first cycle at which some timer's step is due; 0 where that is beyond counting.
-    pub fn timers_quiet_until(&self) -> u64
+    pub fn timers_calm_until(&self) -> u64
         ensures none { (cycle : ℕ) → cycle < result → is_any_due cycle self.now.timers (switch_word self.now) ≡ false }
         ensures due { 0 < result → is_any_due result self.now.timers (switch_word self.now) ≡ true }
         ensures known { IsCounted self.now.timers → 0 < result }

@@ -8,7 +8,7 @@ mod mark;
 #[cfg(test)]
 mod tests;
 
-pub use mark::{mark_behind, tell_at};
+pub use mark::{mark_past, tell_at};
 
 /// Who is told how far a run has come.
 pub trait Progress {

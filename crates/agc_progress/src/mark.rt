@@ -1,7 +1,7 @@
 //! When it is told how far a run has come: at marks, so that a telling costs nothing beside the cycles
 //! between two of them.
 ghost use Rattle.std.specs.Prelude.{◌≡◌, ◌<◌};
-ghost use Rattle.agc_progress.specs.Mark.{mark_after, mark_behind};
+ghost use Rattle.agc_progress.specs.Mark.{mark_after, mark_past};
 
 use crate::Progress;
 
@@ -9,13 +9,13 @@ use crate::Progress;
 const STRIDE: u64 = 1_000_000;
 
 /// The next mark, where it was told at this cycle: a million cycles on.
-pub fn mark_behind(cycle: u64) -> u64
-    ensures { result ≡ mark_behind cycle }
+pub fn mark_past(cycle: u64) -> u64
+    ensures { result ≡ mark_past cycle }
 {
     cycle.saturating_add(STRIDE)
 }
 
-/// Tells that a run has come to a cycle, where that is the mark or behind it. Returns the next mark; the
+/// Tells that a run has come to a cycle, where that is the mark or past it. Returns the next mark; the
 /// first is 0.
 pub fn tell_at<P: Progress>(mark: u64, cycle: u64, progress: &mut P) -> u64
     ensures next { result ≡ mark_after mark cycle }
@@ -25,5 +25,5 @@ pub fn tell_at<P: Progress>(mark: u64, cycle: u64, progress: &mut P) -> u64
         return mark;
     }
     progress.come_to(cycle);
-    mark_behind(cycle)
+    mark_past(cycle)
 }

@@ -1,5 +1,5 @@
 //! When it is told: no clause says that it is told at all.
-use crate::{Progress, Untold, mark_behind, tell_at};
+use crate::{Progress, Untold, mark_past, tell_at};
 
 /// How often something was told, and what last.
 #[derive(Debug, Default, Drop)]
@@ -15,7 +15,7 @@ impl Progress for Told {
     }
 }
 
-/// It is told at the first cycle, and then at the first one that is a million cycles or more behind the
+/// It is told at the first cycle, and then at the first one that is a million cycles or more after the
 /// last one told.
 #[test]
 fn told_from_mark_to_mark(rt: HostRuntime) {
@@ -35,6 +35,6 @@ fn told_from_mark_to_mark(rt: HostRuntime) {
         assert_eq!(rt; told.cycle, last);
     }
     assert_eq!(rt; mark, 6_000_000);
-    assert_eq!(rt; mark_behind(u64::MAX), u64::MAX);
+    assert_eq!(rt; mark_past(u64::MAX), u64::MAX);
     assert_eq!(rt; tell_at(mark, 6_000_000, &mut Untold), 7_000_000);
 }

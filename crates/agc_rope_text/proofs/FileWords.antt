@@ -10,20 +10,20 @@ use Rattle.agc_store.specs.declared.rope_file.RopeForm.{RopeForm}
 use Rattle.agc_store.specs.declared.rope_file.RopeForm.TheVariants as form
 use Rattle.agc_rope_text.specs.Weave.{woven_bits, woven_index, woven_on}
 
--- zeros behind a file read as what is past its end
+-- zeros after a file read as what is past its end
 pub zeros : (n i : ℕ) → get_or {A = ℕ} (replicate n 0) i 0 ≡ 0
 zeros zero i = refl
 zeros (suc n) zero = refl
 zeros (suc n) (suc i) = zeros n i
 
-zeros_behind : (bytes : List ℕ) (n i : ℕ) → get_or (bytes ++ replicate n 0) i 0 ≡ get_or bytes i 0
-zeros_behind [] n i = zeros n i
-zeros_behind (b ∷ bytes) n zero = refl
-zeros_behind (b ∷ bytes) n (suc i) = zeros_behind bytes n i
+zeros_after : (bytes : List ℕ) (n i : ℕ) → get_or (bytes ++ replicate n 0) i 0 ≡ get_or bytes i 0
+zeros_after [] n i = zeros n i
+zeros_after (b ∷ bytes) n zero = refl
+zeros_after (b ∷ bytes) n (suc i) = zeros_after bytes n i
 
 on_reads : (len i : ℕ) (bytes : List ℕ) → get_or (woven_on len bytes) i 0 ≡ get_or bytes i 0
 unfolding woven_on
-on_reads len i bytes = zeros_behind bytes (len - length bytes) i
+on_reads len i bytes = zeros_after bytes (len - length bytes) i
 
 pub length_on : (len : ℕ) (bytes : List ℕ) → length (woven_on len bytes) ≡ length bytes + (len - length bytes)
 unfolding woven_on

@@ -9,7 +9,7 @@ use Rattle.agc_rope_text.specs.List.{listed_address, listed_place}
 use Rattle.agc_rope_text.specs.Place.{place_text}
 use Rattle.agc_rope_text.proofs.Octals.{octal_back}
 
--- the place's text is no comment, and the comma stands behind two digits
+-- the place's text is no comment, and the comma stands after two digits
 first_digit : (n : ℕ) → (48 + n % 8 == 0x23) ≡ false
 first_digit n = grind (arith, nat_tests)
 
@@ -36,9 +36,9 @@ before_comma : (place : ℕ) → take 2 (place_text (listed_place place)) ≡ oc
 unfolding octal_digits
 before_comma place = refl
 
-behind_comma : (place : ℕ) → drop 3 (place_text (listed_place place)) ≡ octal_digits 4 (listed_address place)
+after_comma : (place : ℕ) → drop 3 (place_text (listed_place place)) ≡ octal_digits 4 (listed_address place)
 unfolding octal_digits
-behind_comma place = refl
+after_comma place = refl
 
 -- the bank and the address are the place's
 address_fits : (place : ℕ) → place < 0o110000 → listed_address place < 8 ^ 4
@@ -57,5 +57,5 @@ unfolding place_named
 place_back place h =
     let bank = octal_back 2 (place / 0o2000) (omega arith) (omega arith) in
     let address = octal_back 4 (listed_address place) (omega arith) (address_fits place h) in
-    rw (comma_of place, before_comma place, behind_comma place, bank, address)
+    rw (comma_of place, before_comma place, after_comma place, bank, address)
     (checked place (0o2000 * (place / 0o2000) + listed_address place % 0o2000) (listed_address place) h (place_again place) refl)

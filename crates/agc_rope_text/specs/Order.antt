@@ -1,4 +1,4 @@
--- How listings print an order: its mnemonic, and the address or the channel behind it.
+-- How listings print an order: its mnemonic, and the address or the channel after it.
 use Rattle.std.specs.Prelude.{ℕ, ◌+◌, ◌%◌, ◌<◌, Bool, true, false, List, [], ◌++◌, codes}
 use Rattle.agc_word.specs.Number.{Number, pattern_of}
 use Rattle.agc_word.specs.Octal.{octal_digits}
@@ -73,7 +73,7 @@ long_upper word = operand.Address ((word % 0o10000 + 0o7777) % 0o10000)
 abbrev pub short_upper : ℕ → Operand
 short_upper word = operand.Address ((word % 0o2000 + 0o1777) % 0o2000)
 
--- what stands behind the mnemonic of a basic order
+-- what stands after the mnemonic of a basic order
 abbrev pub basic_operand : Basic → ℕ → Operand
 basic_operand basic.Tc word = long word
 basic_operand basic.Relint word = operand.Nothing
@@ -95,7 +95,7 @@ basic_operand basic.Xch word = short word
 basic_operand basic.Ad word = long word
 basic_operand basic.Mask word = long word
 
--- what stands behind the mnemonic of an extracode
+-- what stands after the mnemonic of an extracode
 abbrev pub extracode_operand : Extracode → ℕ → Operand
 extracode_operand extra.Read word = channel word
 extracode_operand extra.Write word = channel word

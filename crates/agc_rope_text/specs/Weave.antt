@@ -60,7 +60,7 @@ woven_bits form.Parity word =
 unfoldable pub woven_index : RopeForm → ℕ → ℕ
 woven_index form place = 0o2000 * file_bank form (place / 0o2000) + place % 0o2000
 
--- a file with zeros behind it, up to so many bytes
+-- a file with zeros after it, up to so many bytes
 unfoldable pub woven_on : ℕ → List ℕ → List ℕ
 woven_on len bytes = bytes ++ replicate (len - length bytes) 0
 

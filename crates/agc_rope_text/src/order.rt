@@ -18,7 +18,7 @@ use agc_order::{Basic, Extracode};
 use agc_word::Narrow;
 use std::alloc::AllocError;
 
-/// What stands behind a mnemonic.
+/// What stands after a mnemonic.
 #[derive(Clone, Copy, Debug, PartialEq, Eq)]
 pub enum Operand {
     /// The mnemonic says all, as EXTEND does.
@@ -84,7 +84,7 @@ pub fn extracode_mnemonic(order: Extracode) -> &'static str
     }
 }
 
-/// What stands behind the mnemonic of a basic order in a word: of DAS and DXCH the address of the
+/// What stands after the mnemonic of a basic order in a word: of DAS and DXCH the address of the
 /// upper word, as source listings show it, where the word itself holds that of the lower one.
 pub fn basic_operand(order: Basic, word: Narrow) -> Operand
     ensures operand { result ≡ basic_operand order (pattern_of 15 word) }
@@ -106,7 +106,7 @@ pub fn basic_operand(order: Basic, word: Narrow) -> Operand
     }
 }
 
-/// What stands behind the mnemonic of an extracode in a word: of DCA and DCS the address of the upper
+/// What stands after the mnemonic of an extracode in a word: of DCA and DCS the address of the upper
 /// word, as source listings show it, where the word itself holds that of the lower one.
 pub fn extracode_operand(order: Extracode, word: Narrow) -> Operand
     ensures operand { result ≡ extracode_operand order (pattern_of 15 word) }

@@ -82,7 +82,7 @@ fn woven_and_listed(rt: &impl AllocGlobal, form: RopeForm, text: &str) -> Result
     Ok(list(rt.alloc(), &Store::new(rope), None)?)
 }
 
-/// What `list` prints weaves to the same words, in both forms: the edges of the banks, orders behind
+/// What `list` prints weaves to the same words, in both forms: the edges of the banks, orders after
 /// EXTEND and INDEX, -0, and a bank that begins anew.
 #[test]
 fn a_listing_weaves_to_its_words(rt: HostRuntime) -> Result<(), Fail> {
@@ -154,7 +154,7 @@ fn laws() {
 /// Comments, empty lines, addresses without a bank, and lines in any order.
 #[test]
 fn lines_for_readers(rt: HostRuntime) -> Result<(), Fail> {
-    let text = "# a rope\n\n4001\t00002 behind it\r\n  # more\n7777 77777\n04,2000 00003";
+    let text = "# a rope\n\n4001\t00002 after it\r\n  # more\n7777 77777\n04,2000 00003";
     let listed = "02,4001 00002 TC 0002\n03,7777 77777 MASK 7777\n04,2000 00003 RELINT\n";
     assert_eq!(rt;
         woven_and_listed(&rt, RopeForm::Classic, text)?.as_str(),

@@ -24,7 +24,7 @@ use std::alloc::{AllocError, Global};
 
 /// The rope file of a form that a text weaves to, as long as its words need, and one word at least.
 /// A line `bb,oooo wwwww` names a word and its place, all octal; so does `oooo wwwww` for 4000 to
-/// 7777. What stands behind the word, an empty line, and a line that begins with `#` say nothing. The
+/// 7777. What stands after the word, an empty line, and a line that begins with `#` say nothing. The
 /// fault is that of the first faulty line, or `Memory`.
 pub fn weave(alloc: Global, form: RopeForm, text: &[u8]) -> Result<Vec<u8>, WeaveFault>
     ensures file { IfOk result (λ bytes. IsWovenOf form text.now bytes.items) }

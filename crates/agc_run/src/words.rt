@@ -21,7 +21,7 @@ pub fn options<R: Env + AllocGlobal>(rt: &R) -> Result<Options, ArgsFault> {
     parse_args(alloc, words.as_slice())
 }
 
-/// The number of the first word that is not text, counted from 1 behind the program's own name; 0
+/// The number of the first word that is not text, counted from 1 after the program's own name; 0
 /// where there is none but that name.
 fn first_not_text<R: Env>(rt: &R, alloc: Global) -> Result<usize, ArgsFault> {
     let mut buffer = vec![in alloc; 0u8; LONGEST]?;

@@ -17,7 +17,7 @@ use Rattle.agc_script.proofs.Faults.{line_judged}
 use Rattle.agc_script.proofs.Lines.{next_lines}
 use Rattle.agc_script.proofs.Lowest.{Judges, lowest_judges}
 use Rattle.agc_script.proofs.Sayings.{line_says}
-use Rattle.agc_script.proofs.Behind.{at_line, more_faultless, next_start, next_events}
+use Rattle.agc_script.proofs.After.{at_line, more_faultless, next_start, next_events}
 
 -- what is read of lines: all their events, or their first fault
 abbrev pub Reads : List (List ℕ) → Result (List Event) ScriptFault → Type 0
@@ -25,8 +25,8 @@ Reads lines read =
     MatchResult read (λ events. AreFaultless lines (length lines) × (events ≡ events_of_lines lines)) (λ fault. IsFirstFault lines fault)
 
 -- what a line's meaning says of its faults
-abbrev has_behind : List (List ℕ) → List ℕ → FaultKind → Bool
-has_behind done line kind = has_fault kind (last_start done) (length (events_of_lines done)) line
+abbrev has_after : List (List ℕ) → List ℕ → FaultKind → Bool
+has_after done line kind = has_fault kind (last_start done) (length (events_of_lines done)) line
 
 never : (last before : ℕ) (words : Option (List (List ℕ))) → known_and (words_have Memory last before) words ≡ false
 unfolding words_have
@@ -38,10 +38,10 @@ unfolding has_fault
 no_memory_fault last before line = never last before (spelt_out (words_of line))
 
 judged_by : (done : List (List ℕ)) (line : List ℕ) (found : Option FaultKind)
-    → result_err (meaning_of (last_start done) (length (events_of_lines done)) line) ≡ found → Judges (has_behind done line) found
+    → result_err (meaning_of (last_start done) (length (events_of_lines done)) line) ≡ found → Judges (has_after done line) found
 judged_by done line found e =
     rw (← e, line_judged (last_start done) (length (events_of_lines done)) line)
-    (lowest_judges (has_behind done line) (no_memory_fault (last_start done) (length (events_of_lines done)) line))
+    (lowest_judges (has_after done line) (no_memory_fault (last_start done) (length (events_of_lines done)) line))
 
 fault_read : (done rest : List (List ℕ)) (line : List ℕ) (n : ℕ) (kind : FaultKind) → n ≡ length done + 1 → AreFaultless (done ++ line ∷ rest) (length done)
     → meaning_of (last_start done) (length (events_of_lines done)) line ≡ Err kind → IsFirstFault (done ++ line ∷ rest) (record { line = n; kind = kind })

@@ -13,7 +13,7 @@ pub mod Lowest
 pub mod Values
 pub mod EveryLine
 pub mod Sayings
-pub mod Behind
+pub mod After
 pub mod FirstFaults
 pub mod Told
 pub mod Merging

@@ -81,7 +81,7 @@ scripts_before (event ∷ events) rest h r = (
   scripts_before events rest (All-tail (λ e. All (ComesBefore (inl e)) rest) event events h) r,
 )
 
--- the events behind a key all come later
+-- the events after a key all come later
 later_strictly : (c : ℕ) (events : List Event) → IsInOrder events → All (λ e. c < e.cycle) (drop (due_at c events) events)
 unfolding IsInOrder
 later_strictly c [] h = All-nil (λ e. c < e.cycle)
@@ -104,10 +104,10 @@ in_place events [] h r =
 in_place events (key ∷ tape) h r =
     let due = due_at key.0 events in
     let rest = in_place (drop due events) tape (drop-in_order due events h) r.1 in
-    let behind = all_entries (ComesBefore (inr key)) (drop due events) tape (later_strictly key.0 events h) (λ i d l. tt) in
+    let after = all_entries (ComesBefore (inr key)) (drop due events) tape (later_strictly key.0 events h) (λ i d l. tt) in
     scripts_before (take due events) (inr key ∷ entries_of (drop due events) tape)
     (λ i d l. event_before (slice_index_or (take due events) i d) key (drop due events) tape (due_before key.0 events i d l) r.0)
-    (behind, rest)
+    (after, rest)
 
 pub merged_is_merge : (events : List Event) (tape : List (ℕ × Key)) → IsInOrder events → IsRising tape → IsMerge events tape (merged events tape)
 merged_is_merge events tape h r = record {

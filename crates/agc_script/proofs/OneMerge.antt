@@ -7,7 +7,7 @@ use Rattle.agc_script.specs.declared.event.Event.{Event}
 use Rattle.agc_script.specs.Merge.{key_event, merged, Entry, event_of, scripted, live, ComesBefore, AreInPlace, IsMerge}
 use Rattle.agc_script.proofs.Merges.{merged_event_first, merged_key_first, merged_keys_last, merged_no_keys}
 
--- the first live key behind an event, and the first event behind a live key
+-- the first live key after an event, and the first event after a live key
 first_live : (event : Event) (rest : List Entry) (key : ℕ × Key) (tape : List (ℕ × Key)) → All (ComesBefore (inl event)) rest → filter_map live rest ≡ key ∷ tape
     → event.cycle ≤ key.0
 first_live event [] key tape h e = cc

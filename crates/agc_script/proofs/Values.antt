@@ -60,7 +60,7 @@ unfolding events_of
 repeated_events n from to what some up =
     rw (reached n from to some up) (map_twice (said_at what) (λ i. from + i * n) (range_with_len 0 ((to - from) / n + 1)))
 
--- the event at a place: at FROM and so many times N, unless that is behind TO
+-- the event at a place: at FROM and so many times N, unless that is past TO
 pub nth_event : (n from to i : ℕ) (what : What) → 0 < n → from ≤ to
     → slice_get (events_of (record { start = from; period = n; times = (to - from) / n + 1; what = what })) i
     ≡ (if nat_le (from + i * n) to then Some (said_at what (from + i * n)) else None)

@@ -23,7 +23,7 @@ lowest_of_six cycle order unknown bad beyond many =
     if cycle then Some BadCycle else (if order then Some OutOfOrder else (if unknown then Some UnknownWord else (if bad then Some BadNumber
     else (if beyond then Some OutOfRange else (if many then Some TooMany else None)))))
 
--- the steps behind the cycles, one after another
+-- the steps after the cycles, one after another
 steps : (before : ℕ) (t u b o z n : Bool) (r : Result What FaultKind) (start : ℕ) (repeat : What → Repeat)
     → (z ≡ false → (what : What) → result_err (within_bound before (repeat what)) ≡ (if n then Some TooMany else None)) → result_err r ≡ lowest_of_three u b o
     → result_err (and_then (and_then (and_then (if t then Err OutOfOrder else Ok start) (λ _. r)) (λ event. if z then Err OutOfRange else Ok (repeat event)))

@@ -110,7 +110,7 @@ rank OutOfRange = 7
 rank TooMany = 8
 rank Memory = 9
 
--- which kinds of fault the n-th line has, counted from 1, behind the lines before it
+-- which kinds of fault the n-th line has, counted from 1, after the lines before it
 unfoldable pub fault_at : List (List ℕ) → ℕ → FaultKind → Bool
 fault_at lines n kind =
     let before = take (n - 1) lines in

@@ -81,7 +81,7 @@ IsAnswered options result files =
     ComesOf (session_steps options files)
     (λ text. IsSessionText options files (string_bytes text)) result
 
--- a session's text was written behind what a stream had
+-- a session's text was written after what a stream had
 abbrev pub IsPrinted : Options → Option (List ℕ) → Option (List ℕ) → Files → Type 0
 IsPrinted options old new files =
     (text : List ℕ) × IsSessionText options files text × Appends old new text

@@ -16,7 +16,7 @@ use std::fmt;
 use std::io::{self, Write};
 
 /// Why there is no run. The program looks for them in this order, but for `Thread`, which it asks
-/// for behind `Watch`, and `Memory`, which comes wherever something else is out of memory.
+/// for after `Watch`, and `Memory`, which comes wherever something else is out of memory.
 #[derive(Clone, Copy, Debug, PartialEq, Eq)]
 pub enum Refusal {
     /// The rope file cannot be opened or read, or has more than 1,048,576 bytes.

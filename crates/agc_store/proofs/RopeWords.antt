@@ -25,21 +25,21 @@ pub length_first_words : (count : ℕ) (form : RopeForm) (bytes : List ℕ) → 
 unfolding first_words
 length_first_words count form bytes = length-map-range_with_len (rope_word_at form bytes) 0 count
 
--- the words that were woven, and +0 behind them
+-- the words that were woven, and +0 after them
 pub resized_words : (form : RopeForm) (bytes : List ℕ) (woven resized : List Number) (len count places : ℕ) → len ≡ length woven → count ≤ places → woven ≡ first_words count form bytes → resized ≡ take places woven ++ replicate (places - len) nothing → resized ≡ first_words count form bytes ++ cleared_cells (places - count)
 unfolding cleared_cells
 resized_words form bytes woven resized len count places is_len room is h =
     let all : length woven ≡ count = ap length is ∙ length_first_words count form bytes in
     h ∙ rw (take_all places woven (omega arith), is_len, all, is) refl
 
--- a place behind the words is empty
+-- a place after the words is empty
 empty-append : (words : List Number) (count place : ℕ) → length words ≤ place → get_or (words ++ cleared_cells count) place nothing ≡ nothing
 unfolding cell_at
 empty-append words count place past =
     let split : place ≡ length words + (place - length words) = omega arith in
     rw split (get_or-append-add words (cleared_cells count) (place - length words) nothing ∙ cell_at-cleared count (place - length words))
 
--- the words of a rope with empty banks behind them are as a rope keeps them
+-- the words of a rope with empty banks after them are as a rope keeps them
 pub woven_words : (form : RopeForm) (bytes : List ℕ) (words : List Number) → words ≡ first_words 36864 form bytes ++ cleared_cells 4096 → IsWoven words
 woven_words form bytes words is =
     let len = length_first_words 36864 form bytes in

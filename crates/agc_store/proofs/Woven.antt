@@ -1,4 +1,4 @@
--- A rope's view reads as its words do, also behind its end.
+-- A rope's view reads as its words do, also after its end.
 use Rattle.std.proofs.Common.{◌≡◌, ℕ, ◌≤◌, ◌<◌, List, get_or, take, ◌∙◌, sym, arith, inl, inr}
 use Rattle.std.proofs.lemmas.List.{get_or-take, get_or_past, get_or_default, length-take}
 use Rattle.std.proofs.lemmas.Bool.{cases_lt}

@@ -1,4 +1,4 @@
--- How a rope keeps its words: 36 banks, and four more of +0 behind them.
+-- How a rope keeps its words: 36 banks, and four more of +0 after them.
 use Rattle.std.specs.Prelude.{◌≡◌, ℕ, ◌≤◌, List, length, get_or}
 use Rattle.agc_word.specs.Number.{Number}
 use Rattle.agc_store.specs.Memory.{nothing}

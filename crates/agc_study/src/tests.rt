@@ -243,7 +243,7 @@ fn runs_are_compared(rt: HostRuntime) -> Result<(), Fail> {
     Ok(())
 }
 
-/// The order WRITE 10 behind EXTEND, with PROG 12 in A: its film has one frame, at the cycle of the write.
+/// The order WRITE 10 after EXTEND, with PROG 12 in A: its film has one frame, at the cycle of the write.
 #[test]
 fn runs_are_filmed(rt: HostRuntime) -> Result<(), Fail> {
     let alloc = rt.alloc();

@@ -1,9 +1,9 @@
--- Where a trace has no lines: before the first cycle that is selected, and behind the last one.
+-- Where a trace has no lines: before the first cycle that is selected, and after the last one.
 use Rattle.std.proofs.Common.{◌≡◌, ◌⊎◌, inl, inr, ℕ, ◌≤◌, ◌<◌, suc, zero, List, [], ◌∷◌, None, Bool, true, false, refl, ap, sym, ◌∙◌, subst, arith}
 use Rattle.std.specs.Prelude.{if◌then◌else◌, nat_le, ◌&&◌}
 use Rattle.std.proofs.lemmas.Bool.Decides.{nat_tests}
 use Rattle.agc_machine.specs.Boundary.{boundary}
-use Rattle.agc_machine.specs.Run.{boundaries_left, next_before, next_before_within, unless_quiet_before}
+use Rattle.agc_machine.specs.Run.{boundaries_left, next_before, next_before_within, while_quiet_before}
 use Rattle.agc_machine.specs.State.{State}
 use Rattle.agc_machine.specs.Upcoming.{upcoming_of}
 use Rattle.agc_machine.specs.declared.answer.ChannelWrite.{ChannelWrite}
@@ -50,7 +50,7 @@ module _ (w : Selection) where
   none_late from (entry ∷ entries) l h =
       no_line w entry entries (too_late entry (omega (arith, h.0))) ∙ none_late entry.cycle entries (omega (arith, h.0)) h.1
 
-  -- behind the last cycle there is no line
+  -- after the last cycle there is no line
   pub no_late_lines : (s : State) → w.to < s.cycle → selected_lines w (trace_of s) ≡ []
   no_late_lines s l = none_late s.cycle (trace_of s) l (trace_goes_forward s)
 
@@ -71,7 +71,7 @@ module _ (w : Selection) where
       ∙ ap (λ (xs : List Entry). selected_lines w (entry_of s ∷ xs)) (rest_goes_on (is_stop (upcoming_of s)) (trace_of (boundary None s).0) f)
       ∙ no_line w (entry_of s) (trace_of (boundary None s).0) unseen)
 
-  -- a boundary that begins before the first cycle has no line, and behind a stop there is none either
+  -- a boundary that begins before the first cycle has no line, and after a stop there is none either
   no_early_line : (s : State) → s.cycle < w.from → selected_lines w (trace_of (boundary None s).0) ≡ selected_lines w (trace_of s)
   no_early_line s l = early_by (is_stop (upcoming_of s)) s refl l
 
@@ -85,7 +85,7 @@ module _ (w : Selection) where
   either_way false s t way h f = f refl ∙ h
 
   way_by : (n end : ℕ) (s : State) (r : State × Stepped) → end ≤ w.from → IsStillOf s r →
-      ((t : State) → t.cycle < w.from → IsStillOf t (next_before_within n end t)) → IsStillOf s (unless_quiet_before end (next_before_within n end) r)
+      ((t : State) → t.cycle < w.from → IsStillOf t (next_before_within n end t)) → IsStillOf s (while_quiet_before end (next_before_within n end) r)
   way_by n end s (t, stepped.Quiet) l h f =
       either_way (nat_le end t.cycle) s t (next_before_within n end t) h (λ e. f t (grind (arith, nat_tests)))
   way_by n end s (t, stepped.Wrote write) l h f = h

@@ -74,7 +74,7 @@ trace_by_entry s =
     ∙ same_rest (is_stop (upcoming_of s)) (entry_of s) _ _
     (λ f. same_trace (entries_left s) (entries_left (boundary None s).0) (boundary None s).0 (omega (arith, fewer_entries s f)) (omega arith))
 
--- whether the trace goes on behind its first boundary
+-- whether the trace goes on after its first boundary
 pub rest_goes_on : (b : Bool) (xs : List Entry) → b ≡ false → (if b then [] else xs) ≡ xs
 rest_goes_on true xs e = cc
 rest_goes_on false xs e = refl

@@ -12,7 +12,7 @@ use Rattle.agc_machine.specs.declared.answer.Stop.{Stop}
 use Rattle.agc_machine.specs.declared.upcoming.Upcoming.{Upcoming}
 use Rattle.agc_machine.specs.declared.upcoming.Upcoming.TheVariants as upcoming
 use Rattle.agc_machine.proofs.Chain.{boundary_falls, next_after_quiet, next_at_stop, next_at_write, next_of_stopped, run_at_stop, run_at_write, run_by_next, stopped_stays}
-use Rattle.agc_machine.specs.Run.{Run, unless_stopped_run}
+use Rattle.agc_machine.specs.Run.{Run, while_writing}
 use Rattle.agc_machine.proofs.Told.{upcoming_is_told}
 use Rattle.agc_trace.specs.Entry.{entry_of, write_shown}
 use Rattle.agc_trace.specs.Trace.{entries_left, is_stop, trace_of, trace_within}
@@ -53,7 +53,7 @@ stopped_last s why e = ap (λ (run : Run). run.last) (run_at_stop s s why (sym (
 
 last_by : (s : State) (r : State × Stepped) → r ≡ boundary None s → Falls s r → (run_of s).last ≡ (run_of r.0).last
 last_by s (t, stepped.Quiet) e f =
-    ap (λ (run : Run). run.last) (run_by_next s ∙ ap (unless_stopped_run run_of) (sym (next_after_quiet s t e)) ∙ sym (run_by_next t))
+    ap (λ (run : Run). run.last) (run_by_next s ∙ ap (while_writing run_of) (sym (next_after_quiet s t e)) ∙ sym (run_by_next t))
 last_by s (t, stepped.Wrote write) e f = ap (λ (run : Run). run.last) (run_at_write s t write (next_at_write s t write e))
 last_by s (t, stepped.Stopped why) e f =
     ap (λ (run : Run). run.last) (run_at_stop s t why (next_at_stop s t why e)) ∙ sym (stopped_last t why f.0)

@@ -93,7 +93,7 @@ order_place bank address =
     else if nat_lt address fixed_fixed then place.Fixed bank address
     else place.Plain address
 
--- what happened: an order with its place and word, or anything else behind a dash
+-- what happened: an order with its place and word, or anything else after a dash
 unfoldable pub happening_text : Upcoming → List ℕ
 happening_text (upcoming.Stop why) = codes "- stop " ++ reason_name why
 happening_text (upcoming.Event what) = codes "- event " ++ event_text what

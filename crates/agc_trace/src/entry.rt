@@ -16,7 +16,7 @@ pub struct Registers {
     pub l: Narrow,
     /// The return address, all sixteen bits.
     pub q: Wide,
-    /// The address of the next order to fetch: one behind that of the order in hand.
+    /// The address of the next order to fetch: one past that of the order in hand.
     pub z: Addr,
     /// The bank in EB, 0 to 7.
     pub erasable_bank: u8,

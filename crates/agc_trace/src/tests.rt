@@ -112,7 +112,7 @@ static WAITS: &str = "
 4001 14001 TCF 4001
 ";
 
-/// A range far from the start, and one that ends long before the stop. Behind the stop there is no line.
+/// A range far from the start, and one that ends long before the stop. After the stop there is no line.
 #[test]
 fn far_ranges(rt: HostRuntime) -> Result<(), Fail> {
     let last = "3000000 - stop Limit | A 000000 L 00000 Q 000000 Z 4002 EB 0 FB 00\n";

@@ -15,7 +15,7 @@ use std::alloc::Global;
 use std::io::Write;
 use thiserror::Error;
 
-/// Why a trace was cut off: no line comes behind the fault.
+/// Why a trace was cut off: no line comes after the fault.
 #[derive(Clone, Copy, Debug, PartialEq, Eq, Error)]
 pub enum TraceFault {
     #[error("out of memory")]
@@ -25,7 +25,7 @@ pub enum TraceFault {
 }
 
 /// Runs a machine, and writes the line of each boundary that is selected. The run goes to its stop, or
-/// as far as such a boundary may come: behind the last cycle that is selected there is none.
+/// as far as such a boundary may come: past the last cycle that is selected there is none.
 pub fn trace<W: Write, P: Progress>(
     alloc: Global,
     machine: &mut Machine,
@@ -55,7 +55,7 @@ fn go_to_first<P: Progress>(machine: &mut Machine, selection: Selection, progres
     }
 }
 
-/// Runs a machine to its stop, or behind the last cycle that is selected, and writes the lines.
+/// Runs a machine to its stop, or past the last cycle that is selected, and writes the lines.
 fn write_lines<W: Write, P: Progress>(
     alloc: Global,
     machine: &mut Machine,

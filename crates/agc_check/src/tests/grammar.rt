@@ -132,7 +132,7 @@ fn forms(rt: HostRuntime) -> Result<(), Fail> {
         let script = format!(in rt.alloc(); "0 {right} 0")?;
         let given = command.argument_count().saturating_add(1);
         let why = format!(in rt.alloc();
-            "`{usage}` is right: here are {given} words behind the command"
+            "`{usage}` is right: here are {given} words after the command"
         )?;
         refused(&rt, script.as_str(), FaultKind::UnknownWord, why.as_str());
     }

@@ -118,7 +118,7 @@ fn input_switches_the_superbank(rt: HostRuntime) -> Result<(), Fail> {
 }
 
 /// A service of KEYRUPT1 that shows the key's code in channel 10: it begins 3 cycles after the key,
-/// and its WRITE, behind TCF, EXTEND, READ and EXTEND, 5 cycles after that.
+/// and its WRITE, after TCF, EXTEND, READ and EXTEND, 5 cycles after that.
 const ECHO: &str = "
 4000 14000 TCF 4000
 4024 14100 TCF 4100

@@ -151,7 +151,7 @@ fn keys_are_taken_while_the_machine_runs(rt: HostRuntime) -> Result<(), Fail> {
 
 /// Write 64 is in the first block, before which the second key is not fed.
 #[test]
-fn the_next_key_comes_behind_the_first_block(rt: HostRuntime) -> Result<(), Fail> {
+fn the_next_key_comes_after_the_first_block(rt: HostRuntime) -> Result<(), Fail> {
     let live = assert_keys_meet(&rt, 1)?;
     let block_end = live
         .shown

@@ -5,10 +5,10 @@ use agc_store::Store;
 pub type Cell = (u16, u16);
 
 /// The thousand writes: before the limit, 4018, TIME1, TIME3 and TIME4 (25 to 27) step 4 times, TIME5
-/// (30) steps 5 times, and Z is behind the WRITE at 4001.
+/// (30) steps 5 times, and Z is one past the WRITE at 4001.
 pub const AFTER_WRITES: [Cell; 5] = [(0o5, 0o4002), (0o25, 4), (0o26, 4), (0o27, 4), (0o30, 5)];
 
-/// EDRUPT at 4003: Z is behind it.
+/// EDRUPT at 4003: Z is one past it.
 pub const AFTER_EDRUPT: [Cell; 1] = [(0o5, 0o4004)];
 
 /// DV 100 at 4004, which divides the +2 in A by +1: nothing is changed by it.

@@ -136,7 +136,7 @@ fn keys_are_not_read(rt: HostRuntime) {
     }
 }
 
-/// The watcher's text stands behind the keys left.
+/// The watcher's text stands after the keys left.
 #[test]
 fn keys_before_tables(rt: HostRuntime) {
     let line = "--limit 10 --live --watch 0,0,0,1,0,1,10";

@@ -49,7 +49,7 @@ fn zero_sums_and_ccs(rt: HostRuntime) -> Result<(), Fail> {
     leaves(&rt, run)
 }
 
-/// TC 4010 sets Q to 04001, which TC Q runs as TC 4001. That sets Q to the address behind Q itself.
+/// TC 4010 sets Q to 04001, which TC Q runs as TC 4001. That sets Q to the address after Q itself.
 #[test]
 fn tc_through_q(rt: HostRuntime) -> Result<(), Fail> {
     let run = Run {

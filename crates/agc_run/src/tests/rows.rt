@@ -195,7 +195,7 @@ fn first_refusal_decides(rt: HostRuntime) {
     }
 }
 
-/// In the parity form the banks 00 and 01 stand first: TCF 4000 is the word behind their 2048.
+/// In the parity form the banks 00 and 01 stand first: TCF 4000 is the word after their 2048.
 #[test]
 fn parity_session(rt: HostRuntime) -> Result<(), Fail> {
     let mut rope = Vec::new(rt.alloc());

@@ -203,7 +203,7 @@ fn run_to_the_service<G: Gate + Sync>(
     Ok(String::from_utf8(ended.out)?)
 }
 
-/// TCF 4000 takes a cycle, and an interrupt 3: the stop is 3 cycles behind the key, and the second key
+/// TCF 4000 takes a cycle, and an interrupt 3: the stop is 3 cycles after the key, and the second key
 /// is left. Without a key it is the limit, which is below the first step of a timer.
 #[test]
 fn until_the_service_of_a_key(rt: HostRuntime) -> Result<(), Fail> {

@@ -52,7 +52,7 @@ fn comments_and_blanks(rt: HostRuntime) {
     );
 }
 
-/// The first line of a file without its end, and what stands behind that.
+/// The first line of a file without its end, and what stands after that.
 #[test]
 fn first_lines(rt: HostRuntime) {
     let files: [(&[u8], &[u8], &[u8]); 11] = [
@@ -74,7 +74,7 @@ fn first_lines(rt: HostRuntime) {
     assert_eq!(rt; next_line(b""), None);
 }
 
-/// The first word of a line, and what stands behind it: only spaces and tabs divide words.
+/// The first word of a line, and what stands after it: only spaces and tabs divide words.
 #[test]
 fn first_words(rt: HostRuntime) {
     let lines: [(&[u8], &[u8], &[u8]); 8] = [

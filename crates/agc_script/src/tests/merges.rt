@@ -36,7 +36,7 @@ fn live_keys_replay_merge(rt: HostRuntime) {
     assert_eq!(rt; listed(&rt, &merged).as_slice(), want.as_slice());
 }
 
-/// Keys before, between and behind the events of a script, and without any.
+/// Keys before, between and after the events of a script, and without any.
 #[test]
 fn keys_between_events(rt: HostRuntime) {
     let mut tape = Tape::new(rt.alloc());

@@ -3,11 +3,11 @@ use Rattle.agc_machine.specs.Engine.{state_of, IsSound}
 use Rattle.agc_machine.specs.Run.{boundaries_left, next_before}
 use Rattle.agc_machine.proofs.engine.Engine.go_step_by_step.Given as goal
 
--- the machine is sound and quiet, and where its way ends is where the one that is sought ends
+-- the machine is sound and calm, and where its way ends is where the one that is sought ends
 abbrev pub invariant-loop-self : goal.invariant-loop-self
 invariant-loop-self l =
     IsSound l.self × (next_before l.fn.end (state_of l.self) ≡ next_before l.fn.end (state_of l.initial.self))
-    × (l.self.cycle < l.self.quiet_until) × (l.fn.end ≤ l.self.quiet_until)
+    × (l.self.cycle < l.self.calm_until) × (l.fn.end ≤ l.self.calm_until)
 
 abbrev pub decreases-loop-self : goal.decreases-loop-self
 decreases-loop-self l = boundaries_left (state_of l.self)

@@ -35,7 +35,7 @@ returns-clause-sound c =
       limit = c.requires.limit;
       cycle = omega arith;
       in_time = subst (λ (p : Processor). IsInTime 0 p.timers) (sym c.new.ensures.start) (start_in_time _);
-      quiet = λ l. let no : ⊥ = omega arith in absurd no;
+      calm = λ l. let no : ⊥ = omega arith in absurd no;
       pace = λ l. let no : ⊥ = omega arith in absurd no;
       fresh = λ e. fresh_start _ _ _ _ c.new.ensures.start c.new.ensures.fixed;
     }

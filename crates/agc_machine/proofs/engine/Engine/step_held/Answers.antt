@@ -5,5 +5,5 @@ use Rattle.agc_machine.proofs.engine.Engine.step_held.Goals as goal
 
 pub returns-then-take_interrupt-clause-step : goal.returns-then-take_interrupt-clause-step
 returns-then-take_interrupt-clause-step c =
-    let some : 0 < c.args.self.now.quiet_until = omega arith in
-    sym (interrupt_step c.args.self.now.quiet_until (state_of c.args.self.now) _ (c.requires.sound.quiet some) c.requires.quiet (c.if-take_interrupt.ensures.taken refl))
+    let some : 0 < c.args.self.now.calm_until = omega arith in
+    sym (interrupt_step c.args.self.now.calm_until (state_of c.args.self.now) _ (c.requires.sound.calm some) c.requires.calm (c.if-take_interrupt.ensures.taken refl))

@@ -1,7 +1,7 @@
 use Rattle.std.proofs.Common.{refl, sym, arith}
 use Rattle.agc_machine.specs.Engine.{state_of}
 use Rattle.agc_machine.proofs.InTime.{interrupt_in_time}
-use Rattle.agc_machine.proofs.Stillness.{held_off, quiet_after_interrupt}
+use Rattle.agc_machine.proofs.Stillness.{held_off, calm_after_interrupt}
 use Rattle.agc_machine.proofs.engine.Engine.take_interrupt.Goals as goal
 
 pub returns-then-is_held_off-clause-none : goal.returns-then-is_held_off-clause-none
@@ -15,7 +15,7 @@ returns-then-taken-clause-sound c =
       limit = c.requires.running.limit;
       cycle = omega (arith, c.requires.running.cycle);
       in_time = interrupt_in_time _ _ _ c.requires.running.in_time (c.if-taken.ensures.taken refl);
-      quiet = λ l. quiet_after_interrupt c.args.self.now.quiet_until (state_of c.args.self.now) c.interrupt-taken.new.self _ (c.requires.quiet l) (c.if-taken.ensures.taken refl);
+      calm = λ l. calm_after_interrupt c.args.self.now.calm_until (state_of c.args.self.now) c.interrupt-taken.new.self _ (c.requires.calm l) (c.if-taken.ensures.taken refl);
       pace = λ l. c.pace_from_here-self.ensures.serves;
       fresh = λ e. cc;
     }

@@ -1,4 +1,4 @@
--- A line behind others: its faults, and what stands before the next one.
+-- A line after others: its faults, and what stands before the next one.
 use Rattle.std.specs.Prelude.{◌≡◌, ℕ, ◌+◌, ◌-◌, false, List, [], ◌∷◌, ◌++◌, length, filter_map, Option, Some, None, option_map}
 use Rattle.std.specs.List.{last_or}
 use Rattle.std.proofs.Common.{refl, arith, inl, inr}
@@ -11,7 +11,7 @@ use Rattle.agc_script.specs.Parse.{events_said, start_said}
 use Rattle.agc_script.specs.Said.{start_of, last_start, events_of_line, events_of_lines}
 use Rattle.agc_script.specs.Fault.{has_fault, fault_at, AreFaultless}
 
--- a line behind others
+-- a line after others
 pub at_line : (done rest : List (List ℕ)) (line : List ℕ) (n : ℕ) (kind : FaultKind) → n ≡ length done + 1
     → fault_at (done ++ line ∷ rest) n kind ≡ has_fault kind (last_start done) (length (events_of_lines done)) line
 unfolding fault_at

@@ -1,4 +1,4 @@
--- Below the quiet cycle, without requests and a stop address, the order in hand is told.
+-- Below the calm cycle, without requests and a stop address, the order in hand is told.
 use Rattle.std.proofs.Common.{◌≡◌, ℕ, ◌<◌, List, [], ◌∷◌, false, Option, Some, None, refl, ap, arith}
 use Rattle.std.specs.Prelude.{nat_le, option_map}
 use Rattle.std.proofs.lemmas.Bool.Decides.{nat_tests}
@@ -10,11 +10,11 @@ use Rattle.agc_processor.specs.declared.processor.Processor.{Processor}
 use Rattle.agc_processor.specs.declared.timer.Timer.{Timer}
 use Rattle.agc_machine.proofs.Stillness.{no_timer, none_or_none}
 use Rattle.agc_machine.specs.Boundary.{IsBefore, is_reached}
-use Rattle.agc_machine.specs.Quiet.{IsQuiet, Serves}
+use Rattle.agc_machine.specs.Calm.{IsCalm, Serves}
 use Rattle.agc_machine.specs.State.{State}
 use Rattle.agc_machine.specs.Upcoming.{address_told, due_told, event_told, interrupt_told, limit_told, order_told, timer_told, unless_stopped_told, upcoming_of, ◌or_else◌}
 use Rattle.agc_machine.specs.declared.answer.Stop.{Stop}
-use Rattle.agc_machine.specs.declared.quiet.Pace.TheVariants as pace
+use Rattle.agc_machine.specs.declared.calm.Pace.TheVariants as pace
 use Rattle.agc_machine.specs.declared.stop_address.StopAddress.{StopAddress}
 use Rattle.agc_machine.specs.declared.upcoming.Upcoming.{Upcoming}
 use Rattle.agc_machine.specs.declared.upcoming.Upcoming.TheVariants as upcoming
@@ -59,7 +59,7 @@ none_stopped : (stopped : Option Stop) (s : State) (told : Upcoming) → stopped
 none_stopped None s told e is = is
 none_stopped (Some why) s told e is = cc
 
-pub order_is_upcoming : (until : ℕ) (s : State) → IsQuiet until s → s.cycle < until
+pub order_is_upcoming : (until : ℕ) (s : State) → IsCalm until s → s.cycle < until
     → Serves pace.Bare s → upcoming_of s ≡ order_told s
 unfolding upcoming_of
 order_is_upcoming until s q h serves =

@@ -1,4 +1,4 @@
-//! The quiet path: where the clock brings nothing, few things can come before the order in hand,
+//! The calm path: where the clock brings nothing, few things can come before the order in hand,
 //! and mostly none.
 ghost use Rattle.std.specs.Prelude.{◌+◌, ◌%◌};
 
@@ -22,16 +22,16 @@ impl Engine {
     ghost use Rattle.std.specs.Prelude.{◌≡◌, ℕ, ◌<◌, ◌≤◌, drop, false, true, None, Some};
     ghost use Rattle.agc_machine.specs.Boundary.{boundary, by_interrupt, is_reached, IsBefore};
     ghost use Rattle.agc_machine.specs.Engine.{engine_at, state_of, IsInTime, IsSound, paced_engine, paced_state};
-    ghost use Rattle.agc_machine.specs.Quiet.{IsEventDue, IsLongest, IsQuiet, Serves, is_timer_due, pace_of};
+    ghost use Rattle.agc_machine.specs.Calm.{IsEventDue, IsLongest, IsCalm, Serves, is_timer_due, pace_of};
     ghost use Rattle.agc_machine.specs.Run.{next_before};
 
-    /// Boundaries below the quiet cycle: up to the next write, the stop, or the first one that ends
+    /// Boundaries below the calm cycle: up to the next write, the stop, or the first one that ends
     /// at a cycle or later. At least one is taken.
     #[inline(always)]
     pub(crate) fn go_quickly(&mut self, end: u64) -> Stepped
         requires sound { IsSound self.old }
-        requires quiet { self.old.cycle < self.old.quiet_until }
-        requires end { end ≤ self.old.quiet_until }
+        requires calm { self.old.cycle < self.old.calm_until }
+        requires end { end ≤ self.old.calm_until }
         ensures next { (state_of self.new, result) ≡ next_before end (state_of self.old) }
         ensures sound { IsSound self.new }
     {
@@ -42,20 +42,21 @@ impl Engine {
         }
     }
 
-    /// The same, where nothing comes before an order. It is a call, and counts the cycle on beside the
-    /// engine: a loop of its own keeps it in a register.
+    /// Runs orders up to the next write, the stop, or an end at this cycle or later, where nothing comes
+    /// before an order. It is a call, and counts the cycle on beside the engine: a loop of its own keeps
+    /// it in a register.
     #[inline(never)]
     fn go_bare(&mut self, end: u64) -> Stepped
         requires sound { IsSound self.old }
-        requires quiet { self.old.cycle < self.old.quiet_until }
-        requires end { end ≤ self.old.quiet_until }
+        requires calm { self.old.cycle < self.old.calm_until }
+        requires end { end ≤ self.old.calm_until }
         requires pace { self.old.pace ≡ Pace.Bare }
         ensures next { (state_of self.new, result) ≡ next_before end (state_of self.old) }
         ensures sound { IsSound self.new }
     {
         let mut cycle = self.cycle;
         loop {
-            match self.order_in_quiet(cycle) {
+            match self.order_in_calm(cycle) {
                 Paced::Goes(next) => {
                     cycle = next;
                     if end <= cycle {
@@ -68,11 +69,12 @@ impl Engine {
         }
     }
 
-    /// The same, where the stop may come before an order.
+    /// Runs orders up to the next write, the stop, or an end at this cycle or later, where the stop
+    /// address may come before an order.
     fn go_watched(&mut self, end: u64) -> Stepped
         requires sound { IsSound self.old }
-        requires quiet { self.old.cycle < self.old.quiet_until }
-        requires end { end ≤ self.old.quiet_until }
+        requires calm { self.old.cycle < self.old.calm_until }
+        requires end { end ≤ self.old.calm_until }
         requires pace { self.old.pace ≡ Pace.Watched }
         ensures next { (state_of self.new, result) ≡ next_before end (state_of self.old) }
         ensures sound { IsSound self.new }
@@ -86,26 +88,27 @@ impl Engine {
         }
     }
 
-    /// The same with this stop address. The bank is looked at only where Z agrees.
+    /// Runs orders up to this stop address, the next write, another stop, or an end at this cycle or
+    /// later. The bank is looked at only where Z agrees.
     #[inline(never)]
     fn go_up_to(&mut self, at: StopAddress, end: u64) -> Stepped
         requires sound { IsSound self.old }
-        requires quiet { self.old.cycle < self.old.quiet_until }
-        requires end { end ≤ self.old.quiet_until }
+        requires calm { self.old.cycle < self.old.calm_until }
+        requires end { end ≤ self.old.calm_until }
         requires pace { self.old.pace ≡ Pace.Watched }
         requires until { self.old.until ≡ Some at }
         ensures next { (state_of self.new, result) ≡ next_before end (state_of self.old) }
         ensures sound { IsSound self.new }
     {
-        let behind = at.address.next();
+        let past = at.address.next();
         let mut cycle = self.cycle;
         loop {
-            if self.is_behind(behind, &at) {
+            if self.is_one_past(past, &at) {
                 self.cycle = cycle;
-                self.quiet_until = 0;
+                self.calm_until = 0;
                 return self.stop(Stop::Reached);
             }
-            match self.order_in_quiet(cycle) {
+            match self.order_in_calm(cycle) {
                 Paced::Goes(next) => {
                     cycle = next;
                     if end <= cycle {
@@ -118,12 +121,12 @@ impl Engine {
         }
     }
 
-    /// The same, where an interrupt waits. As long as it is held off and there is no stop address,
-    /// only the orders come.
+    /// Boundaries up to the next write, the stop, or an end at this cycle or later, where an interrupt
+    /// is requested. As long as it is held off and there is no stop address, only the orders come.
     fn go_held(&mut self, end: u64) -> Stepped
         requires sound { IsSound self.old }
-        requires quiet { self.old.cycle < self.old.quiet_until }
-        requires end { end ≤ self.old.quiet_until }
+        requires calm { self.old.cycle < self.old.calm_until }
+        requires end { end ≤ self.old.calm_until }
         ensures next { (state_of self.new, result) ≡ next_before end (state_of self.old) }
         ensures sound { IsSound self.new }
     {
@@ -134,12 +137,13 @@ impl Engine {
         }
     }
 
-    /// The same without a stop address.
+    /// Runs orders up to the next write, a stop, or an end at this cycle or later, as long as a requested
+    /// interrupt is held off; there is no stop address.
     #[inline(never)]
     fn go_held_off(&mut self, end: u64) -> Stepped
         requires sound { IsSound self.old }
-        requires quiet { self.old.cycle < self.old.quiet_until }
-        requires end { end ≤ self.old.quiet_until }
+        requires calm { self.old.cycle < self.old.calm_until }
+        requires end { end ≤ self.old.calm_until }
         requires until { self.old.until ≡ None }
         ensures next { (state_of self.new, result) ≡ next_before end (state_of self.old) }
         ensures sound { IsSound self.new }
@@ -150,7 +154,7 @@ impl Engine {
                 self.cycle = cycle;
                 return self.go_step_by_step(end);
             }
-            match self.order_in_quiet(cycle) {
+            match self.order_in_calm(cycle) {
                 Paced::Goes(next) => {
                     cycle = next;
                     if end <= cycle {
@@ -163,13 +167,14 @@ impl Engine {
         }
     }
 
-    /// The same, where an interrupt or the stop may come before an order. Once an interrupt is
-    /// taken the pace is chosen anew.
+    /// Boundaries up to the next write, the stop, or an end at this cycle or later, each by the cases
+    /// that may come before an order: an interrupt and the stop. Once an interrupt is taken the pace is
+    /// chosen anew.
     #[inline(never)]
     fn go_step_by_step(&mut self, end: u64) -> Stepped
         requires sound { IsSound self.old }
-        requires quiet { self.old.cycle < self.old.quiet_until }
-        requires end { end ≤ self.old.quiet_until }
+        requires calm { self.old.cycle < self.old.calm_until }
+        requires end { end ≤ self.old.calm_until }
         ensures next { (state_of self.new, result) ≡ next_before end (state_of self.old) }
         ensures sound { IsSound self.new }
     {
@@ -191,17 +196,17 @@ impl Engine {
         }
     }
 
-    /// The order in hand runs at a cycle below the quiet one, where no interrupt is taken and the stop
+    /// The order in hand runs at a cycle below the calm one, where no interrupt is taken and the stop
     /// address is not in hand.
     #[inline(always)]
-    fn order_in_quiet(&mut self, cycle: u64) -> Paced
+    fn order_in_calm(&mut self, cycle: u64) -> Paced
         requires sound { IsSound (engine_at cycle self.old) }
-        requires quiet { cycle < self.old.quiet_until }
+        requires calm { cycle < self.old.calm_until }
         requires uninterrupted { by_interrupt (state_of (engine_at cycle self.old)) ≡ None }
         requires unreached { is_reached self.old.until self.old.processor ≡ false }
         ensures step { paced_state self.new result ≡ boundary None (state_of (engine_at cycle self.old)) }
         ensures sound { IsSound (paced_engine self.new result) }
-        ensures quiet_until { (next : ℕ) → result ≡ Paced.Goes next → self.new.quiet_until ≡ self.old.quiet_until }
+        ensures calm_until { (next : ℕ) → result ≡ Paced.Goes next → self.new.calm_until ≡ self.old.calm_until }
         ensures pace { self.new.pace ≡ self.old.pace }
         ensures until { self.new.until ≡ self.old.until }
         ensures shows { (stepped : Stepped) → result ≡ Paced.Ends stepped → stepped ≡ Stepped.Quiet → ⊥ }
@@ -209,10 +214,10 @@ impl Engine {
         self.order_at(cycle)
     }
 
-    /// One boundary below the quiet cycle.
+    /// One boundary below the calm cycle.
     pub(crate) fn step_quickly(&mut self) -> Stepped
         requires sound { IsSound self.old }
-        requires quiet { self.old.cycle < self.old.quiet_until }
+        requires calm { self.old.cycle < self.old.calm_until }
         ensures step { (state_of self.new, result) ≡ boundary None (state_of self.old) }
         ensures sound { IsSound self.new }
     {
@@ -227,11 +232,11 @@ impl Engine {
     #[inline(always)]
     fn step_bare(&mut self) -> Stepped
         requires sound { IsSound self.old }
-        requires quiet { self.old.cycle < self.old.quiet_until }
+        requires calm { self.old.cycle < self.old.calm_until }
         requires pace { self.old.pace ≡ Pace.Bare }
         ensures step { (state_of self.new, result) ≡ boundary None (state_of self.old) }
         ensures sound { IsSound self.new }
-        ensures quiet_until { result ≡ Stepped.Quiet → self.new.quiet_until ≡ self.old.quiet_until }
+        ensures calm_until { result ≡ Stepped.Quiet → self.new.calm_until ≡ self.old.calm_until }
         ensures pace { self.new.pace ≡ self.old.pace }
     {
         self.run_order()
@@ -241,15 +246,15 @@ impl Engine {
     #[inline(always)]
     fn step_watched(&mut self) -> Stepped
         requires sound { IsSound self.old }
-        requires quiet { self.old.cycle < self.old.quiet_until }
+        requires calm { self.old.cycle < self.old.calm_until }
         requires uninterrupted { by_interrupt (state_of self.old) ≡ None }
         ensures step { (state_of self.new, result) ≡ boundary None (state_of self.old) }
         ensures sound { IsSound self.new }
-        ensures quiet_until { result ≡ Stepped.Quiet → self.new.quiet_until ≡ self.old.quiet_until }
+        ensures calm_until { result ≡ Stepped.Quiet → self.new.calm_until ≡ self.old.calm_until }
         ensures pace { self.new.pace ≡ self.old.pace }
     {
         if self.is_reached() {
-            self.quiet_until = 0;
+            self.calm_until = 0;
             return self.stop(Stop::Reached);
         }
         self.run_order()
@@ -259,10 +264,10 @@ impl Engine {
     #[inline(always)]
     fn step_held(&mut self) -> Stepped
         requires sound { IsSound self.old }
-        requires quiet { self.old.cycle < self.old.quiet_until }
+        requires calm { self.old.cycle < self.old.calm_until }
         ensures step { (state_of self.new, result) ≡ boundary None (state_of self.old) }
         ensures sound { IsSound self.new }
-        ensures quiet_until { result ≡ Stepped.Quiet → self.new.quiet_until ≡ self.old.quiet_until }
+        ensures calm_until { result ≡ Stepped.Quiet → self.new.calm_until ≡ self.old.calm_until }
     {
         if self.take_interrupt() {
             return Stepped::Quiet;
@@ -273,9 +278,9 @@ impl Engine {
     /// The cycle from which the clock brings something again; 0 where the machine has not begun or
     /// has stopped.
     #[tactic(auto, using(crate::proofs::Stillness::least_of))]
-    pub(crate) fn quiet_from_here(&self) -> u64
-        requires sound { IsSound (record self.now { quiet_until = 0 }) }
-        ensures quiet { 0 < result → IsQuiet result (state_of self.now) }
+    pub(crate) fn calm_from_here(&self) -> u64
+        requires sound { IsSound (record self.now { calm_until = 0 }) }
+        ensures calm { 0 < result → IsCalm result (state_of self.now) }
         ensures longest { IsLongest result (state_of self.now) }
     {
         if !self.begun || self.stopped.is_some() {
@@ -292,7 +297,7 @@ impl Engine {
         ensures none { (cycle : ℕ) → cycle < result → is_timer_due cycle (state_of self.now) ≡ false }
         ensures due { is_timer_due result (state_of self.now) ≡ true }
     {
-        self.processor.timers_quiet_until()
+        self.processor.timers_calm_until()
     }
 
     /// The cycle of the next event, or a cycle beyond every limit.
