@@ -24,6 +24,7 @@ pub(crate) fn remark(
     let mut text = String::new(alloc);
     text.push_str("    ")?;
     if fault.kind == FaultKind::LineTooLong {
+        // Such a line may have any length: it is not cut into words.
         push_too_long(&mut text, line.len())?;
         return Ok(text);
     }
@@ -147,6 +148,11 @@ fn push_unknown(alloc: Global, text: &mut String, words: &[&[u8]]) -> Result<(),
     if place >= words.len() {
         return push_missing(text, words);
     }
+    if words[place] == EVERY.as_bytes() {
+        return text.push_str(
+            "`every` stands first, in place of the cycle: `every N FROM TO` and the command\n",
+        );
+    }
     let Some(command) = Command::from_name(words[place]) else {
         let names: Vec<&'static str> = Command::ALL
             .iter()
@@ -157,10 +163,13 @@ fn push_unknown(alloc: Global, text: &mut String, words: &[&[u8]]) -> Result<(),
     let given = words.len() - place - 1;
     if given != command.argument_count() {
         let usage = command.usage();
-        return writeln!(
-            text,
-            "`{usage}` is right: here are {given} words after the command"
-        );
+        return match given {
+            1 => writeln!(text, "`{usage}` is right: here is 1 word after the command"),
+            _ => writeln!(
+                text,
+                "`{usage}` is right: here are {given} words after the command"
+            ),
+        };
     }
     push_unknown_name(alloc, text, command, words[words.len() - 1])
 }
@@ -195,6 +204,12 @@ fn push_unknown_name(
 ) -> Result<(), AllocError> {
     match command {
         Command::Key => {
+            if is_pro(alloc, word)? {
+                push_quoted(text, word)?;
+                return text.push_str(
+                    " has no code: the lines `pro down` and `pro up` press it and let it go\n",
+                );
+            }
             let names: Vec<&'static str> = Key::ALL.iter().map(|key| key.name()).collect(alloc)?;
             push_nearest(alloc, text, word, "key", names.as_slice())
         }
@@ -217,6 +232,12 @@ fn push_unknown_name(
             writeln!(text, "`{usage}` is right, and the line has another word")
         }
     }
+}
+
+/// Whether a word means the PRO key, which stands beside those with a code.
+fn is_pro(alloc: Global, word: &[u8]) -> Result<bool, AllocError> {
+    let word = word.to_ascii_lowercase(alloc)?;
+    Ok(word.as_slice() == b"pro".as_slice() || word.as_slice() == b"proceed".as_slice())
 }
 
 /// Tells that a word is no name of a kind, and the name that was perhaps meant.

@@ -111,6 +111,18 @@ fn names(rt: HostRuntime) {
                 "script line 1: UnknownWord\n    20 pulse 24 pnic\n    `pnic` is no kind of pulse; the nearest is `pinc`\n",
             ),
             (
+                b"20 key Proceed",
+                "script line 1: UnknownWord\n    20 key Proceed\n    `Proceed` has no code: the lines `pro down` and `pro up` press it and let it go\n",
+            ),
+            (
+                b"20 every 5 20 30 key VERB",
+                "script line 1: UnknownWord\n    20 every 5 20 30 key VERB\n    `every` stands first, in place of the cycle: `every N FROM TO` and the command\n",
+            ),
+            (
+                b"20 pulse 24",
+                "script line 1: UnknownWord\n    20 pulse 24\n    `pulse COUNTER KIND` is right: here is 1 word after the command\n",
+            ),
+            (
                 b"20 key",
                 "script line 1: UnknownWord\n    20 key\n    `key NAME` is right: here are 0 words after the command\n",
             ),

@@ -28,62 +28,109 @@ fn refused(rt: &(impl AllocGlobal + Abort), script: &str, kind: FaultKind, why: 
     assert_eq!(rt; told.text.as_str(), wanted.as_str());
 }
 
-/// Both ends of each range are taken, and the numbers beside them are refused by that range.
+/// A range of the grammar: the line is a cycle, the words before a number, the number, and those after it.
+struct Edge {
+    before: &'static str,
+    after: &'static str,
+    ends: &'static [&'static str],
+    beside: &'static [&'static str],
+    range: &'static str,
+}
+
+static EDGES: [Edge; 8] = [
+    Edge {
+        before: "input",
+        after: " 0",
+        ends: &["5", "777"],
+        beside: &["4", "1000"],
+        range: "5 to 777 octal",
+    },
+    Edge {
+        before: "input 5",
+        after: "",
+        ends: &["0", "77777"],
+        beside: &["100000"],
+        range: "0 to 77777 octal",
+    },
+    Edge {
+        before: "pulse",
+        after: " pinc",
+        ends: &["24", "60"],
+        beside: &["23", "61"],
+        range: "24 to 60 octal",
+    },
+    Edge {
+        before: "raise",
+        after: "",
+        ends: &["1", "10"],
+        beside: &["0", "11"],
+        range: "1 to 10 decimal",
+    },
+    Edge {
+        before: "poke",
+        after: " 10 0",
+        ends: &["0", "7"],
+        beside: &["10"],
+        range: "0 to 7 octal",
+    },
+    Edge {
+        before: "poke 0",
+        after: " 0",
+        ends: &["10", "377"],
+        beside: &["7", "400"],
+        range: "10 to 377 octal",
+    },
+    Edge {
+        before: "poke 1",
+        after: " 0",
+        ends: &["0", "377"],
+        beside: &["400"],
+        range: "0 to 377 octal",
+    },
+    Edge {
+        before: "poke 1 0",
+        after: "",
+        ends: &["0", "77777"],
+        beside: &["100000"],
+        range: "0 to 77777 octal",
+    },
+];
+
+fn takes_ends(rt: &(impl AllocGlobal + Abort), edge: &Edge) -> Result<(), Fail> {
+    let (before, after) = (edge.before, edge.after);
+    for end in edge.ends {
+        let script = format!(in rt.alloc(); "0 {before} {end}{after}")?;
+        assert_eq!(rt; kind_of(rt, script.as_str()), None);
+    }
+    Ok(())
+}
+
+fn refuses_beside(rt: &(impl AllocGlobal + Abort), edge: &Edge) -> Result<(), Fail> {
+    let (before, after, range) = (edge.before, edge.after, edge.range);
+    for number in edge.beside {
+        let script = format!(in rt.alloc(); "0 {before} {number}{after}")?;
+        let why = format!(in rt.alloc(); "`{number}` is out of range: {range}")?;
+        refused(rt, script.as_str(), FaultKind::OutOfRange, why.as_str());
+    }
+    Ok(())
+}
+
+fn refuses_long(rt: &(impl AllocGlobal + Abort), edge: &Edge) -> Result<(), Fail> {
+    let (before, after, range) = (edge.before, edge.after, edge.range);
+    let script = format!(in rt.alloc(); "0 {before} 0000001{after}")?;
+    let why = format!(in rt.alloc(); "`0000001` is no number: 1 to 6 digits, {range}")?;
+    refused(rt, script.as_str(), FaultKind::BadNumber, why.as_str());
+    Ok(())
+}
+
+/// Both ends of each range are taken, and the numbers beside them are refused by that range, as is one of seven
+/// digits.
 #[test]
 fn ranges(rt: HostRuntime) -> Result<(), Fail> {
-    let commands: [(&str, &str, [&str; 2], &[&str], &str); 8] = [
-        (
-            "input",
-            " 0",
-            ["5", "777"],
-            &["4", "1000"],
-            "5 to 777 octal",
-        ),
-        (
-            "input 5",
-            "",
-            ["0", "77777"],
-            &["100000"],
-            "0 to 77777 octal",
-        ),
-        (
-            "pulse",
-            " pinc",
-            ["24", "60"],
-            &["23", "61"],
-            "24 to 60 octal",
-        ),
-        ("raise", "", ["1", "10"], &["0", "11"], "1 to 10 decimal"),
-        ("poke", " 10 0", ["0", "7"], &["10"], "0 to 7 octal"),
-        (
-            "poke 0",
-            " 0",
-            ["10", "377"],
-            &["7", "400"],
-            "10 to 377 octal",
-        ),
-        ("poke 1", " 0", ["0", "377"], &["400"], "0 to 377 octal"),
-        (
-            "poke 1 0",
-            "",
-            ["0", "77777"],
-            &["100000"],
-            "0 to 77777 octal",
-        ),
-    ];
-    for (before, after, ends, beside, range) in commands {
-        for end in ends {
-            let script = format!(in rt.alloc(); "0 {before} {end}{after}")?;
-            assert_eq!(rt; kind_of(&rt, script.as_str()), None);
-        }
-        for number in beside {
-            let script = format!(in rt.alloc(); "0 {before} {number}{after}")?;
-            let why = format!(in rt.alloc(); "`{number}` is out of range: {range}")?;
-            refused(&rt, script.as_str(), FaultKind::OutOfRange, why.as_str());
-        }
-        let script = format!(in rt.alloc(); "0 {before} 0000001{after}")?;
-        let why = format!(in rt.alloc(); "`0000001` is no number: 1 to 6 digits, {range}")?;
-        refused(&rt, script.as_str(), FaultKind::BadNumber, why.as_str());
+    for edge in &EDGES {
+        takes_ends(&rt, edge)?;
+        refuses_beside(&rt, edge)?;
+        refuses_long(&rt, edge)?;
     }
     Ok(())
 }
