@@ -13,6 +13,9 @@ use Rattle.agc_session.specs.Prepare.{limit_refusal}
 use Rattle.agc_session.specs.Steps.{Step, IsTold, looks, refusal_in, refused_if}
 use Rattle.agc_session.specs.declared.refusal.Refusal.{Refusal}
 use Rattle.agc_session.specs.declared.refusal.Refusal.TheVariants as refusal
+use Rattle.agc_study.specs.Trouble.{other_trouble}
+use Rattle.agc_study.specs.declared.trouble.Trouble.{Trouble}
+use Rattle.agc_study.specs.declared.trouble.Trouble.TheVariants as trouble
 
 -- the text of `--until` says an address, where it is given
 unfoldable pub until_refusal : Option (String Global) → Option Refusal
@@ -57,11 +60,11 @@ IsRefused form until limit (Some rope) None r = Unit {0}
 IsRefused form until limit (Some rope) (Some script) r =
     IsTold (starting_steps form until limit rope script) r
 
--- A refusal that may be told of two runs: that of the one on the left, or where nothing is refused of it
--- that of the one on the right.
+-- What may be told of two runs: the refusal of the one on the left, or where nothing is refused of it that
+-- of the one on the right, told as the other's.
 abbrev pub IsPairRefused : RopeForm → Option (String Global) → ℕ → Option (List ℕ) → Option (List ℕ)
-    → Option (List ℕ) → Option (List ℕ) → Refusal → Type 0
-IsPairRefused form until limit left_rope left_script right_rope right_script r =
-    IsRefused form until limit left_rope left_script r
-    ⊎ (IsAccepted form until limit left_rope left_script
+    → Option (List ℕ) → Option (List ℕ) → Trouble → Type 0
+IsPairRefused form until limit left_rope left_script right_rope right_script t =
+    ((r : Refusal) × (t ≡ trouble.Refused r) × IsRefused form until limit left_rope left_script r)
+    ⊎ (IsAccepted form until limit left_rope left_script × (r : Refusal) × (t ≡ other_trouble r)
     × IsRefused form until limit right_rope right_script r)

@@ -2,6 +2,8 @@
 use Rattle.std.specs.Prelude.{ℕ, List, ◌++◌, codes}
 use Rattle.std.specs.Fmt.{decimal}
 use Rattle.agc_session.specs.Refusal.{refusal_text}
+use Rattle.agc_session.specs.declared.refusal.Refusal.{Refusal}
+use Rattle.agc_session.specs.declared.refusal.Refusal.TheVariants as refusal
 use Rattle.agc_rope_text.specs.declared.fault.LineFault.{LineFault}
 use Rattle.agc_rope_text.specs.declared.fault.LineFault.TheVariants as line
 use Rattle.agc_rope_text.specs.declared.fault.WeaveFault.{WeaveFault}
@@ -20,9 +22,10 @@ weave_text (weave.Line n why) =
     codes "text line " ++ decimal n ++ codes ": " ++ line_fault_name why
 weave_text weave.Memory = codes "memory"
 
--- what is told: a fault of a rope in the words of `agc`
+-- what is told: a refusal in the words of `agc`, after the run where it is that on the right
 abbrev pub trouble_text : Trouble → List ℕ
 trouble_text (trouble.Refused r) = refusal_text r
+trouble_text (trouble.OtherRefused r) = codes "other run: " ++ refusal_text r
 trouble_text trouble.CannotReadText = codes "cannot read text"
 trouble_text (trouble.Text fault) = weave_text fault
 trouble_text trouble.BadBankSpec = codes "bank: BadSpec"
@@ -30,3 +33,13 @@ trouble_text trouble.BadBankSpec = codes "bank: BadSpec"
 -- the line of a trouble
 abbrev pub trouble_line : Trouble → List ℕ
 trouble_line t = codes "agc-study: " ++ trouble_text t ++ codes "\n"
+
+-- How a refusal of the run on the right is told: one that names its rope or its script as that of the other
+-- run, and one that is of both runs without that.
+abbrev pub other_trouble : Refusal → Trouble
+other_trouble (refusal.CannotReadRope why) = trouble.OtherRefused (refusal.CannotReadRope why)
+other_trouble (refusal.Rope why) = trouble.OtherRefused (refusal.Rope why)
+other_trouble (refusal.CannotReadScript why) =
+    trouble.OtherRefused (refusal.CannotReadScript why)
+other_trouble (refusal.Script why) = trouble.OtherRefused (refusal.Script why)
+other_trouble r = trouble.Refused r

@@ -5,6 +5,7 @@ ghost use Rattle.agc_study.specs.Started.{IsPairRefused};
 
 use crate::asked::Comparing;
 use crate::runs::read_machine;
+use crate::trouble::Trouble;
 use agc_compare::{compare, push_comparison};
 use agc_machine::Machine;
 use agc_progress::Progress;
@@ -21,8 +22,8 @@ pub struct Told {
 }
 
 /// Reads two ropes and two scripts, and compares their runs. The refusal is that of the run on the left,
-/// or where there is none that of the run on the right: the first that applies of the rope, the script, the
-/// text of `--until` and the limit, or want of memory.
+/// or where there is none that of the run on the right, told as the other run's: the first that applies of
+/// the rope, the script, the text of `--until` and the limit, or want of memory.
 pub fn compare_files<R: Read, S: Read, T: Read, U: Read, P: Progress>(
     alloc: Global,
     asked: &Comparing,
@@ -31,7 +32,7 @@ pub fn compare_files<R: Read, S: Read, T: Read, U: Read, P: Progress>(
     right_rope: &mut T,
     right_script: &mut U,
     progress: &mut P,
-) -> Result<Told, Refusal>
+) -> Result<Told, Trouble>
     ensures compared { IfOk result (IsCompared asked.now
         (R.remaining left_rope.old) (S.remaining left_script.old)
         (T.remaining right_rope.old) (U.remaining right_script.old)) }
@@ -41,10 +42,14 @@ pub fn compare_files<R: Read, S: Read, T: Read, U: Read, P: Progress>(
 {
     let (form, limit) = (asked.form, asked.limit);
     let mut left = read_machine(alloc, form, limit, &asked.until, left_rope, left_script)?;
-    let mut right = read_machine(alloc, form, limit, &asked.until, right_rope, right_script)?;
+    let right = read_machine(alloc, form, limit, &asked.until, right_rope, right_script);
+    let mut right = match right {
+        Ok(machine) => machine,
+        Err(refusal) => return Err(Trouble::of_other_run(refusal)),
+    };
     match compare_runs(alloc, &mut left, &mut right, progress) {
         Ok(told) => Ok(told),
-        Err(_) => Err(Refusal::Memory),
+        Err(_) => Err(Trouble::Refused(Refusal::Memory)),
     }
 }
 

@@ -5,6 +5,7 @@ ghost use Rattle.agc_study.specs.Started.{IsPairRefused, IsRefused};
 
 use crate::asked::Filming;
 use crate::runs::started;
+use crate::trouble::Trouble;
 use agc_film::{HEAD, Reel, TAIL, film, presses, push_film, push_film_pair};
 use agc_progress::Progress;
 use agc_session::{Refusal, read_rope, read_script};
@@ -32,7 +33,7 @@ pub fn film_files<R: Read, S: Read, P: Progress>(
 }
 
 /// Reads two ropes and two scripts, and makes the page that shows their runs side by side. The refusal is
-/// that of the run on the left, or where there is none that of the run on the right.
+/// that of the run on the left, or where there is none that of the run on the right, told as the other run's.
 pub fn film_file_pairs<R: Read, S: Read, T: Read, U: Read, P: Progress>(
     alloc: Global,
     asked: &Filming,
@@ -41,7 +42,7 @@ pub fn film_file_pairs<R: Read, S: Read, T: Read, U: Read, P: Progress>(
     right_rope: &mut T,
     right_script: &mut U,
     progress: &mut P,
-) -> Result<String, Refusal>
+) -> Result<String, Trouble>
     ensures film { IfOk result (IsFilmPair HEAD.now TAIL.now asked.now
         (R.remaining left_rope.old) (S.remaining left_script.old)
         (T.remaining right_rope.old) (U.remaining right_script.old)) }
@@ -50,10 +51,15 @@ pub fn film_file_pairs<R: Read, S: Read, T: Read, U: Read, P: Progress>(
         (T.remaining right_rope.old) (U.remaining right_script.old)) }
 {
     let left = read_reel(alloc, asked, left_rope, left_script, progress)?;
-    let right = read_reel(alloc, asked, right_rope, right_script, progress)?;
+    let right = match read_reel(alloc, asked, right_rope, right_script, progress) {
+        Ok(reel) => reel,
+        Err(refusal) => return Err(Trouble::of_other_run(refusal)),
+    };
     let mut page = String::new(alloc);
-    push_film_pair(&mut page, &left, &right)?;
-    Ok(page)
+    match push_film_pair(&mut page, &left, &right) {
+        Ok(()) => Ok(page),
+        Err(_) => Err(Trouble::Refused(Refusal::Memory)),
+    }
 }
 
 /// Reads a rope and a script, and runs them to their reel.

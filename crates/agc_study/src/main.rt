@@ -3,7 +3,7 @@
 //! does, boundary by boundary, `compare` tells where two runs part, and `film` shows the display over their time.
 #![tactic(auto)]
 
-ghost use Rattle.std.specs.Prelude.{◌≡◌, ◌≢◌, ◌⊎◌, ◌<◌, true, false};
+ghost use Rattle.std.specs.Prelude.{◌≡◌, ◌≢◌, ◌⊎◌, ◌<◌, true, false, IfOk, IfErr};
 ghost use Rattle.std.specs.Io.KnownBytes.{Keeps};
 ghost use Rattle.agc_study.specs.Checked.{IsCheckWritten, IsWritten};
 ghost use Rattle.agc_study.specs.Compared.{IsComparisonWritten, IsToldTo};
@@ -283,7 +283,7 @@ fn write_comparison<R: Read, S: Read, T: Read, U: Read, W: Write, E: Write, P: S
     progress.wipe();
     match compared {
         Ok(told) => write_told(&told, out),
-        Err(refusal) => status_of(TROUBLE, Trouble::Refused(refusal).write_to(err)),
+        Err(trouble) => status_of(TROUBLE, trouble.write_to(err)),
     }
 }
 
@@ -305,12 +305,12 @@ where
     progress.wipe();
     match filmed {
         Ok(page) => status_of(DONE, out.write_all(page.as_bytes())),
-        Err(refusal) => status_of(TROUBLE, Trouble::Refused(refusal).write_to(err)),
+        Err(trouble) => status_of(TROUBLE, trouble.write_to(err)),
     }
 }
 
 /// The page that shows these runs.
-fn filmed<R, P: Shown>(rt: &R, asked: &Filming, progress: &mut P) -> Result<String, Refusal>
+fn filmed<R, P: Shown>(rt: &R, asked: &Filming, progress: &mut P) -> Result<String, Trouble>
 where
     R: Files + AllocGlobal,
 {
@@ -318,7 +318,7 @@ where
     let mut rope = InputFile::new(fs::open(rt, asked.rope.as_str()));
     let mut script = InputFile::new(fs::open(rt, asked.script.as_str()));
     let Some(other) = &asked.other else {
-        return film_files(alloc, asked, &mut rope, &mut script, progress);
+        return Ok(film_files(alloc, asked, &mut rope, &mut script, progress)?);
     };
     let mut other_rope = InputFile::new(fs::open(rt, other.rope.as_str()));
     let mut other_script = InputFile::new(fs::open(rt, other.script.as_str()));
@@ -355,6 +355,8 @@ fn write_report<W: Write>(report: &Report, out: &mut W) -> u8
 
 /// The status of a trace: one that is cut off is not whole, whatever stands there already.
 fn status_of_trace<E: Write>(traced: Result<(), TraceFault>, err: &mut E) -> u8
+    ensures whole { IfOk traced (λ _. result ≡ 0) }
+    ensures cut { IfErr traced (λ _. result ≡ 3) }
     ensures status { (result ≡ 0) ⊎ (result ≡ 3) }
     ensures silent { result ≡ 0 → Keeps (E.contents err.old) (E.contents err.new) }
 {

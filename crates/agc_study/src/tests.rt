@@ -1,5 +1,8 @@
 //! The program on its command lines, over files that are not there; `examples/study` runs it on files.
-use crate::asked::{Comparing, Filming};
+mod ends;
+mod progress;
+
+use crate::asked::{Asked, Comparing, Filming};
 use crate::checks::check_files;
 use crate::compares::compare_files;
 use crate::films::film_files;
@@ -8,6 +11,7 @@ use crate::ticker::{Shown, Ticker};
 use crate::trouble::Trouble;
 use crate::words::asked_by;
 use crate::{run, write_report, write_told};
+use agc_args::ArgsFault;
 use agc_progress::{Progress, Untold};
 use agc_rope_text::{LineFault, WeaveFault};
 use agc_session::Refusal;
@@ -26,12 +30,17 @@ struct Ended {
     err: String,
 }
 
-fn program(rt: &(impl AllocGlobal + Files + Abort), line: &str) -> Ended {
+/// What this command line asks for.
+fn asked(rt: &(impl AllocGlobal + Abort), line: &str) -> Result<Asked, ArgsFault> {
     let mut words = Vec::new(rt.alloc());
     for word in line.split(' ') {
         words.push(word).expect(rt, "memory");
     }
-    let asked = asked_by(rt.alloc(), words.as_slice());
+    asked_by(rt.alloc(), words.as_slice())
+}
+
+fn program(rt: &(impl AllocGlobal + Files + Abort), line: &str) -> Ended {
+    let asked = asked(rt, line);
     let mut out = Vec::new(rt.alloc());
     let mut err = Vec::new(rt.alloc());
     let status = run(rt, asked, &mut out, &mut err, &mut Untold);
@@ -129,7 +138,7 @@ fn troubles(rt: HostRuntime) {
     }
 }
 
-/// A rope of ten bytes, and one that ends within a word.
+/// A rope of two words, and one that ends within a word.
 #[test]
 fn a_rope_is_listed(rt: HostRuntime) -> Result<(), Fail> {
     let alloc = rt.alloc();
@@ -239,6 +248,46 @@ fn runs_are_compared(rt: HostRuntime) -> Result<(), Fail> {
         let mut out = Vec::new(alloc);
         assert_eq!(rt; write_told(&found, &mut out), status);
         assert!(rt; found.text.as_str().starts_with(told));
+    }
+    Ok(())
+}
+
+/// An empty rope is told of the run on the left as it is, and of the one on the right as the other run's; a
+/// limit of 0 is of both.
+#[test]
+fn the_run_at_fault_is_named(rt: HostRuntime) -> Result<(), Fail> {
+    let alloc = rt.alloc();
+    let ropes: [(&[u8], &[u8], u64, &str); 3] = [
+        (b"", &[0x30, 0x00], 2, "agc-study: rope: Empty\n"),
+        (&[0x30, 0x00], b"", 2, "agc-study: other run: rope: Empty\n"),
+        (&[0x30, 0x00], b"", 0, "agc-study: limit: Zero\n"),
+    ];
+    for (left, right, limit, told) in ropes {
+        let asked = Comparing {
+            rope: String::new(alloc),
+            script: String::new(alloc),
+            other_rope: String::new(alloc),
+            other_script: String::new(alloc),
+            form: RopeForm::Classic,
+            limit,
+            until: None,
+        };
+        let (mut rope, mut script): (&[u8], &[u8]) = (left, b"");
+        let (mut other_rope, mut other_script): (&[u8], &[u8]) = (right, b"");
+        let trouble = compare_files(
+            alloc,
+            &asked,
+            &mut rope,
+            &mut script,
+            &mut other_rope,
+            &mut other_script,
+            &mut Untold,
+        )
+        .err()
+        .ok_or("a trouble")?;
+        let mut err = Vec::new(alloc);
+        trouble.write_to(&mut err).ok().ok_or("a line")?;
+        assert!(rt; err.as_slice() == told.as_bytes());
     }
     Ok(())
 }

@@ -1,7 +1,7 @@
 //! What the program says where it cannot do what was asked for: one line.
 ghost use Rattle.std.specs.Prelude.{◌≡◌, OnOk};
 ghost use Rattle.std.specs.Io.KnownBytes.{Appends};
-ghost use Rattle.agc_study.specs.Trouble.{line_fault_name, trouble_line};
+ghost use Rattle.agc_study.specs.Trouble.{line_fault_name, other_trouble, trouble_line};
 ghost use Rattle.agc_study.specs.declared.trouble.Trouble.TheVariants as told;
 
 use agc_rope_text::{LineFault, WeaveFault};
@@ -12,8 +12,10 @@ use std::io::{self, Write};
 /// Why nothing is printed.
 #[derive(Clone, Copy, Debug, PartialEq, Eq)]
 pub enum Trouble {
-    /// `agc` refuses this too: a rope at fault, or no memory.
+    /// `agc` refuses this too: a rope or a script at fault, or no memory.
     Refused(Refusal),
+    /// Of two runs the one on the right is refused: its rope or its script.
+    OtherRefused(Refusal),
     /// The text file cannot be opened or read, or has more than 16,777,216 bytes.
     CannotReadText,
     /// The text is no rope's.
@@ -23,6 +25,19 @@ pub enum Trouble {
 }
 
 impl Trouble {
+    /// How a refusal of the run on the right is told: as the other run's where it names a rope or a script.
+    pub fn of_other_run(refusal: Refusal) -> Trouble
+        ensures { result ≡ other_trouble refusal }
+    {
+        match refusal {
+            Refusal::CannotReadRope(_)
+            | Refusal::Rope(_)
+            | Refusal::CannotReadScript(_)
+            | Refusal::Script(_) => Trouble::OtherRefused(refusal),
+            _ => Trouble::Refused(refusal),
+        }
+    }
+
     /// Writes the line of this trouble.
     pub fn write_to<W: Write>(self, err: &mut W) -> io::Result<()>
         ensures { OnOk result
@@ -49,6 +64,7 @@ impl fmt::Display for Trouble {
     fn fmt<W: fmt::Write>(&self, f: &mut fmt::Formatter<W>) -> fmt::Result {
         match *self {
             Trouble::Refused(refusal) => write!(f, "{refusal}"),
+            Trouble::OtherRefused(refusal) => write!(f, "other run: {refusal}"),
             Trouble::CannotReadText => f.write_str("cannot read text"),
             Trouble::Text(WeaveFault::Line(line, fault)) => {
                 write!(f, "text line {line}: {}", line_fault_name(fault))

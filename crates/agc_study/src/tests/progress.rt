@@ -1,0 +1,99 @@
+//! When it is told how far a run has come, and of how far.
+use super::*;
+use crate::last_cycle;
+use std::io::{ErrorKind, IsTerminal, Write};
+
+/// A clock that stands at so many milliseconds.
+#[derive(Drop)]
+struct Stopped(u64);
+
+impl Clock for Stopped {
+    fn monotonic(&self) -> io::Result<Duration> {
+        Ok(Duration::from_millis(self.0))
+    }
+
+    fn since_1970(&self) -> io::Result<Duration> {
+        Ok(Duration::from_millis(self.0))
+    }
+}
+
+/// A stream in memory that is a terminal or not, and whose first write may fail.
+#[derive(Drop)]
+struct Screen {
+    bytes: Vec<u8>,
+    is_terminal: bool,
+    fails: bool,
+}
+
+impl Write for Screen {
+    fn write(&mut self, buf: &[u8]) -> io::Result<usize> {
+        if self.fails {
+            self.fails = false;
+            return Err(io::Error::from(ErrorKind::Other));
+        }
+        self.bytes.extend_from_slice(buf)?;
+        Ok(buf.len())
+    }
+
+    fn flush(&mut self) -> io::Result<()> {
+        Ok(())
+    }
+}
+
+impl IsTerminal for Screen {
+    fn is_terminal(&self) -> bool {
+        self.is_terminal
+    }
+}
+
+/// What a run shows that comes to a cycle more at each of six times: it starts at ten seconds, and the others
+/// are a millisecond before and just at two seconds later, half a second after that, and a minute.
+fn shown(rt: &impl AllocGlobal, is_terminal: bool, fails: bool) -> Vec<u8> {
+    let start = Stopped(10_000);
+    let screen = Screen {
+        bytes: Vec::new(rt.alloc()),
+        is_terminal,
+        fails,
+    };
+    let times = [11_999, 12_000, 12_499, 12_500, 72_500].map(|millis| Stopped(millis));
+    let mut ticker = Ticker::new(&start, screen, 9);
+    ticker.come_to(0);
+    let mut cycle = 0u64;
+    for time in &times {
+        cycle = cycle.saturating_add(1);
+        ticker.clock = time;
+        ticker.come_to(cycle);
+    }
+    ticker.wipe();
+    ticker.err.bytes
+}
+
+/// On a terminal the first line comes after two seconds, and the next ones half a second later at least; what is
+/// shown is wiped. Nothing more is shown where a line cannot be written, and nothing at all beside a terminal.
+#[test]
+fn lines_come_in_their_time(rt: HostRuntime) {
+    let lines =
+        b"\ragc-study: cycle 2 of 9\r\ragc-study: cycle 4 of 9\r\ragc-study: cycle 5 of 9\r\x1b[K";
+    assert!(rt; shown(&rt, true, false).as_slice() == lines.as_slice());
+    assert!(rt; shown(&rt, true, true).as_slice() == b"\x1b[K".as_slice());
+    assert!(rt; shown(&rt, false, false).is_empty());
+}
+
+/// What is told is how far it is to the cycle after which nothing is printed.
+#[test]
+fn last_cycles(rt: HostRuntime) {
+    for (line, last) in [
+        ("agc-study trace rope script --limit 10", 10),
+        ("agc-study trace rope script --limit 10 --from 3 --to 7", 7),
+        (
+            "agc-study trace rope script --limit 10 --from 3 --to 70",
+            10,
+        ),
+        ("agc-study compare rope script rope script --limit 10", 10),
+        ("agc-study film rope script --limit 10", 10),
+        ("agc-study list rope", 0),
+        ("agc-study", 0),
+    ] {
+        assert_eq!(rt; last_cycle(&asked(&rt, line)), last, "{line}");
+    }
+}
