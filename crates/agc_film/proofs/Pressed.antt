@@ -1,4 +1,4 @@
--- The keys of a script's beginning, with one event more.
+-- The keys of the first of some events, with one event more.
 use Rattle.std.proofs.Common.{◌≡◌, ℕ, ◌+◌, zero, suc, List, [], ◌∷◌, ◌++◌, take, Option, Some, None, refl, ap, ◌∙◌, arith}
 use Rattle.std.specs.Prelude.{slice_get}
 use Rattle.std.specs.List.{cons_option, filter_map}
@@ -10,17 +10,17 @@ cons_after : (press : Option Press) (xs ys : List Press) → cons_option press (
 cons_after (Some press) xs ys = refl
 cons_after None xs ys = refl
 
-next_by : (script : List Event) (i : ℕ) (event : Event) → slice_get script i ≡ Some event →
-    filter_map press_of (take (suc i) script) ≡ filter_map press_of (take i script) ++ cons_option (press_of event) []
+next_by : (events : List Event) (i : ℕ) (event : Event) → slice_get events i ≡ Some event →
+    filter_map press_of (take (suc i) events) ≡ filter_map press_of (take i events) ++ cons_option (press_of event) []
 next_by [] i event e = cc
-next_by (first ∷ script) zero event e = let same : first ≡ event = cc in ap (λ (one : Event). cons_option (press_of one) []) same
-next_by (first ∷ script) (suc i) event e =
-    ap (cons_option (press_of first)) (next_by script i event e)
-    ∙ cons_after (press_of first) (filter_map press_of (take i script)) (cons_option (press_of event) [])
+next_by (first ∷ events) zero event e = let same : first ≡ event = cc in ap (λ (one : Event). cons_option (press_of one) []) same
+next_by (first ∷ events) (suc i) event e =
+    ap (cons_option (press_of first)) (next_by events i event e)
+    ∙ cons_after (press_of first) (filter_map press_of (take i events)) (cons_option (press_of event) [])
 
-pub presses_next : (script : List Event) (i : ℕ) (event : Event) → slice_get script i ≡ Some event →
-    presses_of (take (i + 1) script) ≡ presses_of (take i script) ++ cons_option (press_of event) []
+pub presses_next : (events : List Event) (i : ℕ) (event : Event) → slice_get events i ≡ Some event →
+    presses_of (take (i + 1) events) ≡ presses_of (take i events) ++ cons_option (press_of event) []
 unfolding presses_of
-presses_next script i event e =
+presses_next events i event e =
     let more : i + 1 ≡ suc i = omega arith in
-    ap (λ n. filter_map press_of (take n script)) more ∙ next_by script i event e
+    ap (λ n. filter_map press_of (take n events)) more ∙ next_by events i event e

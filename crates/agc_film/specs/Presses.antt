@@ -1,5 +1,5 @@
 -- The keys of a script.
-use Rattle.std.specs.Prelude.{ℕ, nat_le, true, false, List, filter, codes, Option, Some, None}
+use Rattle.std.specs.Prelude.{ℕ, true, false, List, codes, Option, Some, None}
 use Rattle.std.specs.List.{filter_map}
 use Rattle.agc_script.specs.Key.{name_of}
 use Rattle.agc_script.specs.declared.event.Event.{Event}
@@ -27,13 +27,9 @@ press_with cycle None = None
 abbrev pub press_of : Event → Option Press
 press_of event = press_with event.cycle (button_of event.what)
 
--- the keys of a script, in order
+-- the keys of some events, in order
 unfoldable pub presses_of : List Event → List Press
 presses_of events = filter_map press_of events
-
--- those up to a cycle
-unfoldable pub presses_up_to : ℕ → List Press → List Press
-presses_up_to cycle presses = filter (λ press. nat_le press.cycle cycle) presses
 
 -- what a button is called
 abbrev pub button_name : Button → List ℕ

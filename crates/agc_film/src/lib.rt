@@ -20,5 +20,5 @@ pub use page::HEAD;
 pub use page_script::TAIL;
 pub use page_text::{push_film, push_film_pair};
 pub use parting::first_difference;
-pub use press::{Button, Press, presses};
+pub use press::{Button, Press};
 pub use reel::{Reel, film};

@@ -1,9 +1,9 @@
-//! The keys that a script presses.
+//! The keys that the events of a script press.
 ghost use Rattle.std.specs.Prelude.{◌≡◌, ◌++◌, [], IfOk, OnOk};
 ghost use Rattle.std.specs.List.{cons_option};
-ghost use Rattle.agc_film.specs.Presses.{button_name, press_of, presses_of, presses_up_to};
+ghost use Rattle.agc_film.specs.Presses.{button_name, press_of, presses_of};
 
-use agc_script::{Event, Key, Script, What};
+use agc_script::{Event, Key, What};
 use std::alloc::{AllocError, Global};
 
 /// What is done on the keyboard.
@@ -41,14 +41,14 @@ impl Button {
     }
 }
 
-/// The keys of a script, in order. Fails where memory runs out.
-#[tactic(auto, unfolding(crate::specs::Presses::presses_of), using(crate::proofs::Pressed::presses_next))]
-pub fn presses(alloc: Global, script: &Script) -> Result<Vec<Press>, AllocError>
-    ensures { IfOk result (λ presses. presses.items ≡ presses_of script.now) }
+/// The keys of some events, in order. Fails where memory runs out.
+#[tactic(auto, unfolding(crate::specs::Presses::presses_of))]
+pub(crate) fn presses(alloc: Global, events: &[Event]) -> Result<Vec<Press>, AllocError>
+    ensures { IfOk result (λ presses. presses.items ≡ presses_of events.now) }
 {
     let mut presses = Vec::new(alloc);
-    for place in 0..script.len() {
-        push_some(&mut presses, press_of(script.at(place)))?;
+    for event in events {
+        push_some(&mut presses, press_of(*event))?;
     }
     Ok(presses)
 }
@@ -77,20 +77,4 @@ fn press_of(event: Event) -> Option<Press>
         cycle: event.cycle,
         button,
     })
-}
-
-/// The keys up to a cycle.
-#[tactic(auto, unfolding(crate::specs::Presses::presses_up_to))]
-pub(crate) fn presses_up_to(
-    alloc: Global,
-    cycle: u64,
-    presses: &[Press],
-) -> Result<Vec<Press>, AllocError>
-    ensures { IfOk result (λ some. some.items ≡ presses_up_to cycle presses.now) }
-{
-    presses
-        .iter()
-        .copied()
-        .filter(|press| press.cycle <= cycle)
-        .collect(alloc)
 }

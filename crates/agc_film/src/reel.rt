@@ -5,7 +5,7 @@ ghost use Rattle.agc_film.specs.Frames.{HasTaken};
 ghost use Rattle.agc_film.specs.Reel.{IsReelOf};
 
 use crate::frame::Frame;
-use crate::press::{Press, presses_up_to};
+use crate::press::{Press, presses};
 use crate::recorder::Recorder;
 use agc_machine::{Machine, Stepped, Stop};
 use agc_progress::{Progress, tell_at};
@@ -17,7 +17,7 @@ pub struct Reel {
     /// A frame for each write that changes what the panel shows; before the first the panel is
     /// blank.
     pub frames: Vec<Frame>,
-    /// The keys up to the stop.
+    /// The keys that the run met, each at the cycle from which on it was due.
     pub presses: Vec<Press>,
     /// Why the run stopped.
     pub stop: Stop,
@@ -25,26 +25,25 @@ pub struct Reel {
     pub cycle: u64,
 }
 
-/// Runs a machine to its stop and makes its reel, with these keys, which are those of its script. Fails
-/// where memory runs out.
+/// Runs a machine to its stop and makes its reel. Fails where memory runs out.
+#[tactic(auto, using(agc_machine::proofs::Taken::no_more_left))]
 pub fn film<P: Progress>(
     alloc: Global,
     machine: &mut Machine,
-    presses: &[Press],
     progress: &mut P,
 ) -> Result<Reel, AllocError>
-    ensures reel { IfOk result (λ reel. IsReelOf (run_of machine.old) presses.now reel) }
+    ensures reel { IfOk result (IsReelOf machine.old) }
     ensures machine { IfOk result (λ _. machine.new ≡ (run_of machine.old).last) }
 {
+    let events = machine.events_left().to_vec(alloc)?;
     let mut recorder = Recorder::new(alloc);
     let stop = record(alloc, machine, &mut recorder, progress)?;
-    let cycle = machine.cycle();
-    let presses = presses_up_to(alloc, cycle, presses)?;
+    let met = events.len() - machine.events_left().len();
     Ok(Reel {
         frames: recorder.frames,
-        presses,
+        presses: presses(alloc, &events[..met])?,
         stop,
-        cycle,
+        cycle: machine.cycle(),
     })
 }
 

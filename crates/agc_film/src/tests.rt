@@ -1,5 +1,6 @@
 //! Films of small programs, worked out by hand. The numbers are octal, but for cycles.
-use crate::{Button, Press, Reel, film, first_difference, presses, push_film, push_film_pair};
+use crate::press::presses;
+use crate::{Button, Press, Reel, film, first_difference, push_film, push_film_pair};
 use agc_listing::rope_file;
 use agc_machine::{Machine, Stop};
 use agc_progress::{Progress, Untold};
@@ -32,10 +33,8 @@ fn reel_of(
     script: &str,
     limit: u64,
 ) -> Result<Reel, Fail> {
-    let events = Script::parse(rt.alloc(), script.as_bytes())?;
-    let keys = presses(rt.alloc(), &events)?;
     let mut machine = machine(rt, listing, script, limit)?;
-    Ok(film(rt.alloc(), &mut machine, keys.as_slice(), &mut Untold)?)
+    Ok(film(rt.alloc(), &mut machine, &mut Untold)?)
 }
 
 /// The page without what stands before and after its runs: from the first block to the last one.
@@ -113,13 +112,13 @@ fn no_frame(rt: HostRuntime) -> Result<(), Fail> {
     Ok(())
 }
 
-/// The key of cycle 31 comes after the stop, and the input is no key.
+/// The input is no key, and at cycle 30 the limit comes before the key.
 static KEYS: &str = "10 key VERB\n20 pro down\n25 input 16 00001\n30 pro up\n31 key 4\n";
 
 #[test]
-fn keys_up_to_the_stop(rt: HostRuntime) -> Result<(), Fail> {
+fn keys_before_the_limit(rt: HostRuntime) -> Result<(), Fail> {
     let script = Script::parse(rt.alloc(), KEYS.as_bytes())?;
-    let all = presses(rt.alloc(), &script)?;
+    let all = presses(rt.alloc(), script.rest(0))?;
     assert_eq!(rt; all.len(), 4);
     assert_eq!(rt;
         all.as_slice().last().copied(),
@@ -136,13 +135,34 @@ fn keys_up_to_the_stop(rt: HostRuntime) -> Result<(), Fail> {
         "left\">",
         "key 10 VERB",
         "key 20 PRO",
-        "key 30 PRO up",
         "stop 30 Limit",
         "</script>",
     ] {
         assert_eq!(rt; lines.next(), Some(line));
     }
     assert_eq!(rt; lines.next(), None);
+    Ok(())
+}
+
+/// Three cycles again and again: CA takes two, and TCF one.
+static LOOP: &str = "
+4000 34002 CA 4002
+4001 14000 TCF 4000
+4002 00000
+";
+
+/// CA begins at 0, 3, 6 and 9, and TCF at 2, 5 and 8. The order of 9 ends at 11, where the limit comes before
+/// the keys of 10 and 11; that of 9 comes before the order.
+#[test]
+fn no_key_that_was_not_met(rt: HostRuntime) -> Result<(), Fail> {
+    let script = "9 pro down\n10 pro up\n11 pro down\n";
+    let reel = reel_of(&rt, LOOP, script, 10)?;
+    let key = Press {
+        cycle: 9,
+        button: Button::ProDown,
+    };
+    assert!(rt; reel.presses.as_slice() == [key].as_slice());
+    assert_eq!(rt; (reel.stop, reel.cycle), (Stop::Limit, 11));
     Ok(())
 }
 
@@ -207,7 +227,7 @@ impl Progress for Told {
 fn tells_how_far_it_has_come(rt: HostRuntime) -> Result<(), Fail> {
     let mut machine = machine(&rt, PROG, "", 2_500_000)?;
     let mut told = Told::default();
-    let reel = film(rt.alloc(), &mut machine, &[], &mut told)?;
+    let reel = film(rt.alloc(), &mut machine, &mut told)?;
     assert_eq!(rt; reel.stop, Stop::Limit);
     assert_eq!(rt; reel.frames.len(), 2);
     assert_eq!(rt; told.times, 3);

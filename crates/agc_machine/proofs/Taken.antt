@@ -1,7 +1,9 @@
--- The plain run on the merged events takes each key of a live run's tape at the key's own cycle.
+-- The plain run on the merged events takes each key of a live run's tape at the key's own cycle; and every
+-- run meets the beginning of its events.
 use Rattle.std.proofs.Common.{◌≡◌, ℕ, ◌+◌, ◌-◌, ◌≤◌, ◌<◌, ◌⊎◌, suc, zero, List, [], ◌∷◌, ◌++◌, length, map, take, replicate, Option, Some, None, Bool, true, false, refl, ap, sym, ◌∙◌, subst, arith, inl, inr, one-add}
 use Rattle.std.specs.Prelude.{drop, nat_le, nat_lt, IsSome, All, slice_get, IfSome}
 use Rattle.std.proofs.lemmas.Bool.Decides.{nat_tests}
+use Rattle.std.proofs.lemmas.List.{length-append, take_at}
 use Rattle.std.proofs.lemmas.List.Elements.{All-cons, All-nil}
 use Rattle.agc_script.specs.Merge.{due_at, merged, key_event}
 use Rattle.agc_script.specs.declared.event.Event.{Event}
@@ -12,7 +14,7 @@ use Rattle.agc_machine.specs.Boundary.{boundary, by_event, by_limit, stops, unle
 use Rattle.agc_machine.proofs.Cases.{from_limit, from_event, from_timer, one_or_on, event_or_on}
 use Rattle.agc_machine.specs.Laws.{after}
 use Rattle.agc_machine.specs.Replay.{Chain, chain, tape_of, AreWanted, with_tape, run_in}
-use Rattle.agc_machine.specs.Run.{boundaries_left, run_of}
+use Rattle.agc_machine.specs.Run.{Run, boundaries_left, run_of}
 use Rattle.agc_machine.specs.State.{State}
 use Rattle.agc_machine.specs.Taken.{at_cycle, at_own_cycle, marked, met_between, tape_marks, taken_within, AreApart, TakesTape}
 use Rattle.agc_machine.proofs.Chain.{stopped_stays, stops_in_time}
@@ -254,3 +256,44 @@ unfolding AreApart
 apart_snoc spacing [] entry h k = tt
 apart_snoc spacing (first ∷ []) entry h k = (k, tt)
 apart_snoc spacing (first ∷ later ∷ tape) entry h k = (h.0, apart_snoc spacing (later ∷ tape) entry h.1 (last_of_more spacing first later tape entry k))
+
+-- what is left of the events in a later state is their end
+record EndsIn (s t : State) : Type 0 where
+  met : List Event
+  had : s.events ≡ met ++ t.events
+
+ends_after : (s t u : State) → Meets s t → EndsIn t u → EndsIn s u
+ends_after s t u (inl kept) h = record { met = h.met; had = sym kept ∙ h.had }
+ends_after s t u (inr first) h =
+    record { met = first.event ∷ h.met; had = first.had ∙ ap (λ (events : List Event). first.event ∷ events) (sym first.left ∙ h.had) }
+
+ends_within : (n : ℕ) (s : State) → EndsIn s (after n s)
+unfolding after
+ends_within zero s = record { met = []; had = refl }
+ends_within (suc n) s = ends_after s (boundary None s).0 (after n (boundary None s).0) (boundary_meets s) (ends_within n (boundary None s).0)
+
+-- what stands before the end, by lengths
+before_end : (met left : List Event) → take (length (met ++ left) - length left) (met ++ left) ≡ met
+before_end met left =
+    let both = length-append met left in
+    take_at met left (length (met ++ left) - length left) (omega (arith, both))
+
+by_lengths : (s t : State) → EndsIn s t → s.events ≡ met_between s t ++ t.events
+by_lengths s t h =
+    h.had ∙ ap (λ (met : List Event). met ++ t.events) (sym (before_end h.met t.events))
+    ∙ ap (λ (events : List Event). take (length events - length t.events) events ++ t.events) (sym h.had)
+
+-- a run meets the beginning of its events, and the rest is left
+pub run_meets : (s : State) → s.events ≡ met_between s (run_of s).last ++ (run_of s).last.events
+run_meets s =
+    let last : (run_of s).last ≡ after (boundaries_left s) s =
+    ap (λ (run : Run). run.last) (run_is_chain s) ∙ sym (after_is_last (boundaries_left s) s) in
+    subst (λ (t : State). s.events ≡ met_between s t ++ t.events) (sym last)
+    (by_lengths s (after (boundaries_left s) s) (ends_within (boundaries_left s) s))
+
+-- so that no more are left than stood
+pub no_more_left : (s : State) → length (run_of s).last.events ≤ length s.events
+no_more_left s =
+    let all = ap (λ (events : List Event). length events) (run_meets s) in
+    let both = length-append (met_between s (run_of s).last) (run_of s).last.events in
+    omega (arith, all, both)

@@ -1,6 +1,6 @@
 //! Laws of every run, each the contract of a function that does nothing. The machine's own calls
 //! are proved equal to the definitions that these laws are about.
-ghost use Rattle.std.specs.Prelude.{◌≡◌, ℕ, ◌<◌, ◌≤◌, ◌^◌, List, length, replicate, Option, Some, None, IsSome};
+ghost use Rattle.std.specs.Prelude.{◌≡◌, ℕ, ◌<◌, ◌≤◌, ◌^◌, ◌++◌, List, length, replicate, Option, Some, None, IsSome};
 ghost use Rattle.agc_script.specs.declared.key.Key.{Key};
 ghost use Rattle.agc_store.specs.Registers.{HoldsRegisters};
 ghost use Rattle.agc_processor.specs.Basic.{resume_of};
@@ -13,7 +13,7 @@ ghost use Rattle.agc_machine.specs.Boundary.{boundary};
 ghost use Rattle.agc_machine.specs.Run.{boundaries_left, next_of, run_of, while_writing};
 ghost use Rattle.agc_machine.specs.Laws.{Falls, Comes, AreRising, ComesBack, IsSameRun, after};
 ghost use Rattle.agc_machine.specs.Replay.{chain, tape_of, AreWanted, with_tape, run_in};
-ghost use Rattle.agc_machine.specs.Taken.{TakesTape};
+ghost use Rattle.agc_machine.specs.Taken.{TakesTape, met_between};
 ghost use Rattle.agc_machine.specs.declared.answer.Stop.{Stop};
 ghost use Rattle.agc_machine.specs.declared.answer.Next.TheVariants as next;
 ghost use Rattle.agc_machine.specs.declared.answer.Stepped.TheVariants as stepped;
@@ -54,6 +54,12 @@ pub fn a_stop_is_final()
 #[tactic(auto, unfolding(crate::specs::Boundary::boundary))]
 pub fn live_keys_are_events()
     ensures { (key : Key) (s : State) → boundary (Some key) s ≡ boundary None (with_key (Some key) s) }
+{}
+
+/// A run meets the beginning of its events, and what it leaves is the rest of them.
+#[tactic(auto, using(crate::proofs::Taken::run_meets))]
+pub fn runs_meet_the_first_events()
+    ensures { (s : State) → s.events ≡ met_between s (run_of s).last ++ (run_of s).last.events }
 {}
 
 /// A run has stopped after as many boundaries as cycles and events were left, and one.

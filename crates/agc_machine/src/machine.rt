@@ -5,7 +5,7 @@ use crate::answer::{Next, Stepped, Stop};
 use crate::engine::Engine;
 use crate::stop_address::StopAddress;
 use agc_processor::Processor;
-use agc_script::{Key, Script};
+use agc_script::{Event, Key, Script};
 use agc_store::{Addr, Rope, Store};
 use agc_word::Narrow;
 use std::marker::Model;
@@ -134,6 +134,13 @@ impl Machine {
         ensures start { IsTrue result → IsAtStart self.now }
     {
         !self.engine.begun
+    }
+
+    /// The events of the script that the run has not met yet.
+    pub fn events_left(&self) -> &[Event]
+        ensures { result.now ≡ self.now.events }
+    {
+        self.engine.script.rest(self.engine.next)
     }
 
     /// The machine cycle, which counts from 0; 1,024,000 / 12 of them are a second.

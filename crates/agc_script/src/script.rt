@@ -1,5 +1,5 @@
 //! A script: events in the order of their cycles.
-ghost use Rattle.std.specs.Prelude.{◌≡◌, ◌≢◌, ◌==◌, ◌<◌, [], length, slice_get, Some, Ok, Err};
+ghost use Rattle.std.specs.Prelude.{◌≡◌, ◌≢◌, ◌==◌, ◌<◌, [], length, drop, slice_get, Some, Ok, Err};
 ghost use Rattle.std.specs.Prelude.{IfOk, IfErr, IsErrOf, ◌+◌, ◌↔◌};
 ghost use Rattle.agc_script.specs.Event.{IsInRange, most_events};
 ghost use Rattle.agc_script.specs.Text.{lines_of};
@@ -100,6 +100,14 @@ impl Script {
         ensures in_range { IsInRange result }
     {
         self.events[i]
+    }
+
+    /// The events from a place on, counted from 0; none where there are no more than this.
+    pub fn rest(&self, from: usize) -> &[Event]
+        ensures { result.now ≡ drop from self.now }
+    {
+        let events = self.events.as_slice();
+        &events[from.min(events.len())..]
     }
 
     /// The script with the keys of a tape in it, each after all events of its cycle or less. A

@@ -3,23 +3,19 @@ use Rattle.std.specs.Prelude.{◌≡◌, ℕ, List, Option, Some, None, string_b
 use Rattle.std.specs.declared.alloc.Global.{Global}
 use Rattle.std.specs.declared.string.String.{String}
 use Rattle.agc_store.specs.declared.rope_file.RopeForm.{RopeForm}
-use Rattle.agc_script.specs.Parse.{script_of}
-use Rattle.agc_machine.specs.Run.{run_of}
 use Rattle.agc_machine.specs.State.{State}
-use Rattle.agc_session.specs.Files.{events_in}
 use Rattle.agc_film.specs.Page.{film_text, film_pair_text}
-use Rattle.agc_film.specs.Presses.{presses_of}
 use Rattle.agc_film.specs.Reel.{IsReelOf}
 use Rattle.agc_film.specs.declared.reel.Reel.{Reel}
 use Rattle.agc_study.specs.Started.{IsStartedOf}
 use Rattle.agc_study.specs.declared.asked.Filming.{Filming}
 
--- nothing is refused, and the reel shows the run of the files, with the keys of the script
+-- nothing is refused, and the reel shows the run of the files
 pub record IsFilmedOf (form : RopeForm) (until : Option (String Global)) (limit : ℕ)
     (rope script : List ℕ) (reel : Reel) : Type 0 where
   pub machine : State
   pub start : IsStartedOf form until limit rope script machine
-  pub shows : IsReelOf (run_of machine) (presses_of (events_in (script_of script))) reel
+  pub shows : IsReelOf machine reel
 
 -- the same, as far as the readers of the files tell their bytes
 abbrev pub IsFilmed : Filming → Option (List ℕ) → Option (List ℕ) → Reel → Type 0

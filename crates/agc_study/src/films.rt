@@ -4,11 +4,11 @@ ghost use Rattle.agc_study.specs.Filmed.{IsFilm, IsFilmPair, IsFilmed};
 ghost use Rattle.agc_study.specs.Started.{IsPairRefused, IsRefused};
 
 use crate::asked::Filming;
-use crate::runs::started;
+use crate::runs::read_machine;
 use crate::trouble::Trouble;
-use agc_film::{HEAD, Reel, TAIL, film, presses, push_film, push_film_pair};
+use agc_film::{HEAD, Reel, TAIL, film, push_film, push_film_pair};
 use agc_progress::Progress;
-use agc_session::{Refusal, read_rope, read_script};
+use agc_session::Refusal;
 use std::alloc::Global;
 use std::io::Read;
 
@@ -75,9 +75,7 @@ fn read_reel<R: Read, S: Read, P: Progress>(
     ensures refused { IfErr result (IsRefused asked.now.form asked.now.until asked.now.limit
         (R.remaining rope.old) (S.remaining script.old)) }
 {
-    let rope = read_rope(alloc, asked.form, rope)?;
-    let script = read_script(alloc, script)?;
-    let keys = presses(alloc, &script)?;
-    let mut machine = started(rope, script, asked.limit, &asked.until)?;
-    Ok(film(alloc, &mut machine, keys.as_slice(), progress)?)
+    let (form, limit) = (asked.form, asked.limit);
+    let mut machine = read_machine(alloc, form, limit, &asked.until, rope, script)?;
+    Ok(film(alloc, &mut machine, progress)?)
 }

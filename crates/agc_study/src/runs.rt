@@ -36,7 +36,7 @@ pub fn read_machine<R: Read, S: Read>(
 
 /// The machine at the start of a run, where the text of `--until` and the limit are right.
 #[tactic(auto, unfolding(crate::specs::Started::start_steps))]
-pub fn started(
+fn started(
     rope: Rope,
     script: Script,
     limit: u64,

@@ -35,6 +35,25 @@ fn live_key(rt: HostRuntime) -> Result<(), Fail> {
     Ok(())
 }
 
+/// The event of cycle 0 is met first. At cycle 4, after four orders of a cycle each, the other one is still
+/// left, and the next boundary meets it.
+#[test]
+fn events_are_left_until_they_are_met(rt: HostRuntime) -> Result<(), Fail> {
+    let mut machine = machine(&rt, IDLE, "0 pro down\n4 pro up\n", 10)?;
+    assert_eq!(rt; machine.events_left().len(), 2);
+    quiet(&rt, &mut machine);
+    for cycle in 0..5 {
+        assert_eq!(rt; machine.cycle(), cycle);
+        assert_eq!(rt; machine.events_left().len(), 1);
+        let next = machine.events_left().first().map(|event| event.cycle);
+        assert_eq!(rt; next, Some(4));
+        quiet(&rt, &mut machine);
+    }
+    assert_eq!(rt; machine.cycle(), 4);
+    assert!(rt; machine.events_left().is_empty());
+    Ok(())
+}
+
 /// PRO is bit 14 of channel 32, 0 while it is down, and no other bit.
 #[test]
 fn pro_key(rt: HostRuntime) -> Result<(), Fail> {

@@ -51,6 +51,16 @@ fn commands(rt: HostRuntime) {
     assert_eq!(rt; script.at(8).what, whats[8]);
 }
 
+/// All events from the first place on, the last one from its own, and none after it.
+#[test]
+fn events_from_a_place(rt: HostRuntime) {
+    let script = parse(&rt, b"1 raise 1\n2 raise 2");
+    assert!(rt; script.rest(0) == [raise(1, 1), raise(2, 2)].as_slice());
+    assert!(rt; script.rest(1) == [raise(2, 2)].as_slice());
+    assert!(rt; script.rest(2).is_empty());
+    assert!(rt; script.rest(3).is_empty());
+}
+
 /// Each kind of pulse by its name.
 #[test]
 fn pulse_kinds(rt: HostRuntime) {
