@@ -1,4 +1,4 @@
-#!/bin/sh
+#!/bin/bash
 # agc WORD ..: runs the emulator with these words. launch/start.sh says how its program is found, and built
 # where that is needed.
 [ ! -h "$0" ] || exec "$(readlink -f "$0")" "$@"

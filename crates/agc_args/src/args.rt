@@ -324,6 +324,3 @@ pub fn fault_of(alloc: Global, error: &clap::Error) -> ArgsFault
         ArgsFault::Command(text)
     }
 }
-
-#[cfg(test)]
-mod tests;

@@ -15,6 +15,7 @@ use Rattle.agc_rope_text.specs.declared.place.Place.TheVariants as place
 use Rattle.agc_session.specs.Refusal.{refusal_text}
 use Rattle.agc_session.specs.declared.refusal.Refusal.TheVariants as refusal
 use Rattle.agc_check.specs.Holdings.{rope_holdings}
+use Rattle.agc_check.specs.Vectors.{vectors_text}
 use Rattle.agc_check.specs.declared.holdings.RopeHoldings.{RopeHoldings}
 
 -- a fault of a parity stands in one of the 36 banks
@@ -61,8 +62,12 @@ unfoldable pub rope_fault_text : List ℕ → RopeFault → List ℕ
 rope_fault_text file fault =
     refusal_text (refusal.Rope fault) ++ codes "\n" ++ rope_why file fault
 
+-- what a rope holds, and which of the interrupts' vectors hold +0
+unfoldable pub sound_rope_text : List Number → List ℕ
+sound_rope_text words = rope_holdings_text (rope_holdings words) ++ vectors_text words
+
 abbrev pub rope_told : Option RopeFault → List ℕ → List Number → List ℕ
-rope_told None file words = rope_holdings_text (rope_holdings words)
+rope_told None file words = sound_rope_text words
 rope_told (Some fault) file words = rope_fault_text file fault
 
 -- what is told of a rope file

@@ -39,14 +39,21 @@ pub struct Span {
 }
 
 /// Counts the words of a rope.
-#[tactic(auto, unfolding(crate::specs::Holdings::rope_holdings, agc_store::specs::Cells::start_memory))]
+#[tactic(auto, unfolding(agc_store::specs::Cells::start_memory))]
 pub fn holdings_of_rope(rope: Rope) -> RopeHoldings
     ensures { result ≡ rope_holdings rope }
 {
-    let store = Store::new(rope);
+    holdings_in(&Store::new(rope))
+}
+
+/// Counts the words of the rope in a store.
+#[tactic(auto, unfolding(crate::specs::Holdings::rope_holdings))]
+pub(crate) fn holdings_in(store: &Store) -> RopeHoldings
+    ensures { result ≡ rope_holdings store.now.fixed }
+{
     RopeHoldings {
-        words: word_count(&store),
-        banks: bank_count(&store),
+        words: word_count(store),
+        banks: bank_count(store),
     }
 }
 
@@ -77,7 +84,7 @@ fn has_words(store: &Store, bank: usize) -> bool
 
 /// Whether the word at a place, 2000 octal times its bank plus its offset, is not +0.
 #[tactic(auto, unfolding(agc_store::specs::Cells::fixed_of, crate::specs::Holdings::is_woven_at))]
-fn is_woven_at(store: &Store, place: usize) -> bool
+pub(crate) fn is_woven_at(store: &Store, place: usize) -> bool
     requires { place < 36864 }
     ensures { result ≡ is_woven_at store.now.fixed place }
 {

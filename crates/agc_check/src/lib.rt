@@ -1,17 +1,20 @@
-//! What is wrong with a rope file and a script file, for a person; or what they hold.
+//! What is wrong with a rope file and a script file, a text of live keys or the text of a rope, for a person; or what
+//! they hold.
 #![tactic(auto)]
 
 mod holdings;
+mod key_report;
 mod lines;
+mod listing_report;
 mod names;
 mod remarks;
 mod reports;
 mod rope_report;
 mod shown;
+mod vectors;
 
 pub use holdings::{RopeHoldings, ScriptHoldings, Span, holdings_of_rope, holdings_of_script};
+pub use key_report::check_keys;
+pub use listing_report::check_listing;
 pub use names::nearest;
 pub use reports::{Report, check};
-
-#[cfg(test)]
-mod tests;

@@ -48,13 +48,13 @@ pub(crate) fn remark(
     Ok(text)
 }
 
-fn words_of<'a>(alloc: Global, line: &'a [u8]) -> Result<Vec<&'a [u8]>, AllocError> {
+pub(crate) fn words_of<'a>(alloc: Global, line: &'a [u8]) -> Result<Vec<&'a [u8]>, AllocError> {
     line.split(|b| *b == b' ' || *b == b'\t')
         .filter(|word| !word.is_empty())
         .collect(alloc)
 }
 
-fn push_quoted(text: &mut String, word: &[u8]) -> Result<(), AllocError> {
+pub(crate) fn push_quoted(text: &mut String, word: &[u8]) -> Result<(), AllocError> {
     text.push_str("`")?;
     push_bytes(text, word)?;
     text.push_str("`")
@@ -210,8 +210,7 @@ fn push_unknown_name(
                     " has no code: the lines `pro down` and `pro up` press it and let it go\n",
                 );
             }
-            let names: Vec<&'static str> = Key::ALL.iter().map(|key| key.name()).collect(alloc)?;
-            push_nearest(alloc, text, word, "key", names.as_slice())
+            push_no_key(alloc, text, word)
         }
         Command::Pro => {
             let names: Vec<&'static str> = DIRECTIONS
@@ -234,8 +233,14 @@ fn push_unknown_name(
     }
 }
 
+/// Tells that a word is no key's name, and the nearest one.
+pub(crate) fn push_no_key(alloc: Global, text: &mut String, word: &[u8]) -> Result<(), AllocError> {
+    let names: Vec<&'static str> = Key::ALL.iter().map(|key| key.name()).collect(alloc)?;
+    push_nearest(alloc, text, word, "key", names.as_slice())
+}
+
 /// Whether a word means the PRO key, which stands beside those with a code.
-fn is_pro(alloc: Global, word: &[u8]) -> Result<bool, AllocError> {
+pub(crate) fn is_pro(alloc: Global, word: &[u8]) -> Result<bool, AllocError> {
     let word = word.to_ascii_lowercase(alloc)?;
     Ok(word.as_slice() == b"pro".as_slice() || word.as_slice() == b"proceed".as_slice())
 }

@@ -3,12 +3,13 @@ ghost use Rattle.std.specs.Prelude.{◌≡◌, ◌<◌, ◌*◌, ◌+◌, ◌++�
 ghost use Rattle.agc_store.specs.RopeFile.{file_word, rope_fault_of};
 ghost use Rattle.agc_rope_text.specs.List.{listed_address};
 ghost use Rattle.agc_check.specs.RopeReport.{IsPlaced, bad_word_text, parity_why, rope_fault_text};
-ghost use Rattle.agc_check.specs.RopeReport.{rope_holdings_text, rope_report, rope_why, word_with_parity};
+ghost use Rattle.agc_check.specs.RopeReport.{rope_holdings_text, rope_report, rope_why, sound_rope_text, word_with_parity};
 
-use crate::holdings::{RopeHoldings, holdings_of_rope};
+use crate::holdings::{RopeHoldings, holdings_in};
+use crate::vectors::push_vectors;
 use agc_rope_text::{Place, push_place};
 use agc_session::Refusal;
-use agc_store::{Rope, RopeFault, RopeForm};
+use agc_store::{Rope, RopeFault, RopeForm, Store};
 use agc_word::Narrow;
 use std::alloc::{AllocError, Global};
 
@@ -26,7 +27,7 @@ pub(crate) fn push_rope(
 {
     match Rope::read_as(alloc, form, file) {
         Ok(rope) => {
-            push_holdings(text, holdings_of_rope(rope))?;
+            push_sound(text, rope)?;
             Ok(true)
         }
         Err(RopeFault::Memory) => Err(AllocError),
@@ -35,6 +36,16 @@ pub(crate) fn push_rope(
             Ok(false)
         }
     }
+}
+
+/// Adds what a rope holds, and a remark on the interrupts' vectors that hold +0.
+#[tactic(auto, unfolding(crate::specs::RopeReport::sound_rope_text, agc_store::specs::Cells::start_memory))]
+fn push_sound(text: &mut String, rope: Rope) -> Result<(), AllocError>
+    ensures { OnOk result (string_bytes text.new ≡ string_bytes text.old ++ sound_rope_text rope) }
+{
+    let store = Store::new(rope);
+    push_holdings(text, holdings_in(&store))?;
+    push_vectors(text, &store)
 }
 
 /// Adds the line of what a rope holds.

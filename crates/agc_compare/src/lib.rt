@@ -10,8 +10,6 @@ mod next;
 mod report;
 mod runs;
 mod same;
-#[cfg(test)]
-mod tests;
 
 pub use cells::CellPair;
 pub use comparison::{Comparison, Parting};

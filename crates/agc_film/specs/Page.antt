@@ -1,18 +1,33 @@
 -- The page: what stands before the runs, each run as a block of plain lines, and what stands
 -- after.
-use Rattle.std.specs.Prelude.{ℕ, List, ◌++◌, codes, flat_map, Option, Some, None}
+use Rattle.std.specs.Prelude.{ℕ, ◌%◌, ◌==◌, List, [], ◌++◌, codes, flat_map, Option, Some, None, if◌then◌else◌}
 use Rattle.std.specs.Fmt.{decimal}
+use Rattle.agc_panel.specs.TablesText.{numbered}
 use Rattle.agc_panel.specs.Text.{panel_text}
 use Rattle.agc_trace.specs.Line.{reason_name}
 use Rattle.agc_film.specs.Parting.{first_difference}
 use Rattle.agc_film.specs.Presses.{button_name}
+use Rattle.agc_film.specs.Title.{title_text}
 use Rattle.agc_film.specs.declared.frame.Frame.{Frame}
 use Rattle.agc_film.specs.declared.press.Press.{Press}
 use Rattle.agc_film.specs.declared.reel.Reel.{Reel}
+use Rattle.agc_film.specs.declared.title.RunFiles.{RunFiles}
 
 -- a frame: its cycle, and the eight lines of its panel
 unfoldable pub frame_text : Frame → List ℕ
 frame_text frame = codes "frame " ++ decimal frame.cycle ++ codes "\n" ++ panel_text frame.panel
+
+-- the end of a block of a run, and the beginning of the run's next one
+unfoldable pub border_text : List ℕ → List ℕ
+border_text name = codes "</script>\n<script type=\"text/plain\" class=\"" ++ name ++ codes "\">\n"
+
+-- what stands after the frame at a place: each 65536th frame ends a block, since a browser reads no block without bounds
+unfoldable pub after_frame : List ℕ → ℕ → List ℕ
+after_frame name place = if place % 65536 == 65535 then border_text name else []
+
+-- the frame at a place, and what stands after it
+unfoldable pub placed_frame : List ℕ → ℕ → Frame → List ℕ
+placed_frame name place frame = frame_text frame ++ after_frame name place
 
 -- a key: its cycle and its name
 unfoldable pub press_text : Press → List ℕ
@@ -25,16 +40,16 @@ reel_end_text reel =
     codes "stop " ++ decimal reel.cycle ++ codes " " ++ reason_name reel.stop ++ codes "\n"
 
 -- a run: all its frames, all its keys, its stop
-unfoldable pub reel_text : Reel → List ℕ
-reel_text reel =
-    flat_map frame_text reel.frames.items ++ flat_map press_text reel.presses.items
+unfoldable pub reel_text : List ℕ → Reel → List ℕ
+reel_text name reel =
+    numbered (placed_frame name) reel.frames.items ++ flat_map press_text reel.presses.items
     ++ reel_end_text reel
 
--- a run as a block of the page, under a name
-unfoldable pub block_text : List ℕ → Reel → List ℕ
-block_text name reel =
-    codes "<script type=\"text/plain\" id=\"" ++ name ++ codes "\">\n" ++ reel_text reel
-    ++ codes "</script>\n"
+-- a run as blocks of the page, under a name: what it is of, and what it shows
+unfoldable pub block_text : List ℕ → ℕ → RunFiles → Reel → List ℕ
+block_text name limit files reel =
+    codes "<script type=\"text/plain\" id=\"" ++ name ++ codes "\">\n" ++ title_text files limit
+    ++ reel_text name reel ++ codes "</script>\n"
 
 -- the cycle at which two runs part, or that they show the same
 abbrev pub parting_name : Option ℕ → List ℕ
@@ -47,11 +62,12 @@ parting_block cycle =
     ++ codes "</script>\n"
 
 -- the page of one run
-unfoldable pub film_text : List ℕ → List ℕ → Reel → List ℕ
-film_text head tail reel = head ++ block_text (codes "left") reel ++ tail
+unfoldable pub film_text : List ℕ → List ℕ → ℕ → RunFiles → Reel → List ℕ
+film_text head tail limit files reel = head ++ block_text (codes "left") limit files reel ++ tail
 
 -- the page of two runs side by side
-unfoldable pub film_pair_text : List ℕ → List ℕ → Reel → Reel → List ℕ
-film_pair_text head tail left right =
-    head ++ block_text (codes "left") left ++ block_text (codes "right") right
+unfoldable pub film_pair_text : List ℕ → List ℕ → ℕ → RunFiles → Reel → RunFiles → Reel → List ℕ
+film_pair_text head tail limit left_files left right_files right =
+    head ++ block_text (codes "left") limit left_files left
+    ++ block_text (codes "right") limit right_files right
     ++ parting_block (first_difference left.frames.items right.frames.items) ++ tail

@@ -14,6 +14,7 @@ mod recorder;
 mod reel;
 #[cfg(test)]
 mod tests;
+mod title;
 
 pub use frame::Frame;
 pub use page::HEAD;
@@ -22,3 +23,4 @@ pub use page_text::{push_film, push_film_pair};
 pub use parting::first_difference;
 pub use press::{Button, Press};
 pub use reel::{Reel, film};
+pub use title::RunFiles;

@@ -10,7 +10,7 @@ pub const HEAD: &str = "<!doctype html>
 <style>
 body { margin: 0 auto; padding: 16px 20px; max-width: 1060px; background: #17191a; color: #e6e6e0; font: 14px/1.45 system-ui, sans-serif; }
 h1 { margin: 0 0 12px; font-size: 18px; font-weight: 600; }
-h2 { margin: 0 0 6px; font-size: 14px; font-weight: 600; color: #b9bab2; }
+h2 { margin: 0 0 6px; font-size: 14px; font-weight: 600; color: #b9bab2; overflow-wrap: anywhere; }
 #runs { display: flex; flex-wrap: wrap; gap: 24px; justify-content: center; }
 .run { width: 460px; }
 .dsky { display: grid; grid-template-columns: 180px 1fr; gap: 14px; padding: 18px; border-radius: 12px; background: linear-gradient(#a3a69f, #7d807a); box-shadow: inset 0 1px #d5d7d0, inset 0 -3px 6px #55575299, 0 6px 18px #000a; }
@@ -38,7 +38,7 @@ polygon.lit { fill: #5dff9b; }
 .keys .down::after { content: '\\25bc'; position: absolute; top: 0; right: 3px; font-size: 9px; }
 .copy { display: grid; grid-template-columns: 1fr 1fr; gap: 12px; margin-top: 10px; padding: 8px 12px; border-radius: 6px; background: #212425; }
 .copy pre, .copy p { margin: 0; font: 12px/1.4 ui-monospace, monospace; white-space: pre-wrap; overflow-wrap: anywhere; }
-#controls { margin-top: 16px; padding: 12px; border-radius: 8px; background: #212425; }
+#controls { position: sticky; bottom: 0; z-index: 1; margin-top: 12px; padding: 10px 12px; border-radius: 8px; background: #212425; box-shadow: 0 -4px 14px #000c; }
 #strip, #time { display: block; box-sizing: border-box; width: 100%; margin: 0; }
 #strip { height: 40px; }
 #time { accent-color: #5dff9b; }
@@ -46,17 +46,19 @@ polygon.lit { fill: #5dff9b; }
 button, select { padding: 5px 11px; border: 1px solid #6a6d68; border-radius: 5px; background: #303432; color: #f4f4ee; font: inherit; }
 :focus-visible { outline: 3px solid #fff; outline-offset: 2px; }
 #clock { margin-left: auto; font-variant-numeric: tabular-nums; }
-#apart:not(:empty) { margin: 10px 0 0; padding: 4px 10px; border-left: 4px solid #ffb938; background: #302a1c; }
+#apart, #trouble { margin: 0; }
+#apart:not(:empty), #trouble:not(:empty) { margin: 0 0 8px; padding: 4px 10px; border-left: 4px solid #ffb938; background: #302a1c; }
 #help { margin: 10px 0 0; color: #b9bab2; font-size: 12px; }
 kbd { padding: 0 4px; border: 1px solid #6a6d68; border-radius: 3px; font: inherit; }
 @media (prefers-reduced-motion: reduce) { .playing .flash { animation: none; } }
 </style>
 </head>
 <body>
-<h1>DSKY film</h1>
+<h1 id='title'>DSKY film</h1>
+<p id='trouble' role='alert'></p>
 <main id='runs'></main>
-<p id='apart' role='status'></p>
 <section id='controls' aria-label='Time'>
+<p id='apart' role='status'></p>
 <canvas id='strip' role='img' aria-label='The changes of the panel and the keys over the time'></canvas>
 <input id='time' type='range' min='0' value='0' aria-label='Machine cycle'>
 <div id='buttons'>
@@ -74,6 +76,6 @@ kbd { padding: 0 4px; border: 1px solid #6a6d68; border-radius: 3px; font: inher
 </select></label>
 <output id='clock'></output>
 </div>
-<p id='help'><kbd>Space</kbd> plays and stops, <kbd>\u{2190}</kbd> <kbd>\u{2192}</kbd> go from change to change, <kbd>Home</kbd> and <kbd>End</kbd> to the ends, <kbd>D</kbd> to the first difference, <kbd>1</kbd> to <kbd>4</kbd> set the speed. On the strip: below the line a stroke for each change, above it one for each key.</p>
 </section>
+<p id='help'><kbd>Space</kbd> plays and stops, <kbd>\u{2190}</kbd> <kbd>\u{2192}</kbd> go from change to change, <kbd>Home</kbd> and <kbd>End</kbd> to the ends, <kbd>D</kbd> to the first difference, <kbd>1</kbd> to <kbd>4</kbd> set the speed. On the strip: below the line a stroke for each change, above it one for each key.</p>
 ";

@@ -5,7 +5,11 @@ pub const TAIL: &str = "<script>
 'use strict';
 const CYCLES_A_SECOND = 1024000 / 12;
 const LINE = String.fromCharCode(10);
+const BACKSLASH = String.fromCharCode(92);
+const FRAME = LINE + 'frame ';
+const BLOCK_SIZE = 2 ** 29; // more than a text of the browser can have
 const BLANK = 'PROG __,VERB __,NOUN __,R1 ______,R2 ______,R3 ______,FLASH off,LAMPS none'.split(',').join(LINE) + LINE;
+const SHORTEST = BLANK.length - 9; // a panel has no fewer letters
 
 // the lamps beside the digits, row by row; those of the right column are cautions
 const LAMPS = 'UPLINK ACTY,TEMP,NO ATT,GIMBAL LOCK,,PROG,KEY REL,,OPR ERR,TRACKER,,ALT,ISS,VEL'.split(',');
@@ -28,21 +32,67 @@ const SIGNS = { '+': 'gvw', '-': 'g' };
 
 const find = (id) => document.getElementById(id);
 
-// a run of the page: its frames, which begin with the blank panel, its keys and its stop
+// a file's name, in which a backslash with three octal digits stands for a byte
+function readName(text) {
+  const bytes = [];
+  for (let i = 0; i < text.length; i += 1) {
+    const coded = text[i] === BACKSLASH;
+    bytes.push(coded ? parseInt(text.slice(i + 1, i + 4), 8) : text.charCodeAt(i));
+    if (coded) i += 3;
+  }
+  return new TextDecoder().decode(Uint8Array.from(bytes));
+}
+
+// a key: whether PRO is held after it stands with it
+function readKey(cycle, name, before) {
+  return { cycle, name, held: name.startsWith('PRO') ? name === 'PRO' : Boolean(before && before.held) };
+}
+
+// Takes the frames of a block: the cycle of each, and where its panel stands. Their lines are looked at when they are shown.
+function readFrames(run, block) {
+  run.blocks.push(block);
+  for (let at = block.indexOf(FRAME); at >= 0; at = block.indexOf(FRAME, at)) {
+    const panel = block.indexOf(LINE, at + FRAME.length) + 1;
+    run.cycles.push(Number(block.slice(at + FRAME.length, panel - 1)));
+    run.places.push((run.blocks.length - 1) * BLOCK_SIZE + panel);
+    at = panel + SHORTEST;
+  }
+}
+
+// the panel of a frame
+function panelOf(run, frame) {
+  if (frame < 0) return BLANK;
+  const block = run.blocks[Math.floor(run.places[frame] / BLOCK_SIZE)];
+  const from = run.places[frame] % BLOCK_SIZE;
+  return block.slice(from, block.indexOf(LINE, block.indexOf('LAMPS', from)) + 1);
+}
+
+// takes a line that belongs to no frame
+function readLine(run, line) {
+  const [word, number, ...rest] = line.split(' ');
+  if (word === 'key') {
+    run.keyCycles.push(Number(number));
+    run.keys.push(readKey(Number(number), rest.join(' '), run.keys.at(-1)));
+  } else if (word === 'stop') {
+    run.stop = Number(number);
+    run.reason = rest.join(' ');
+  } else if (word === 'limit') {
+    run.limit = number;
+  } else if (word === 'rope' || word === 'script') {
+    run[word] = readName(line.slice(word.length + 1));
+  }
+}
+
+// a run of the page: its files and its limit, its frames, its keys and its stop; before the first frame the panel is blank
 function readRun(id) {
-  const run = { id, frames: [{ cycle: 0, text: BLANK }], keys: [], stop: 0, reason: '' };
-  const lines = find(id).textContent.split(LINE);
-  for (let i = 0; i < lines.length; i += 1) {
-    const [word, cycle, ...rest] = lines[i].split(' ');
-    if (word === 'frame') {
-      run.frames.push({ cycle: Number(cycle), text: lines.slice(i + 1, i + 9).join(LINE) + LINE });
-      i += 8;
-    } else if (word === 'key') {
-      run.keys.push({ cycle: Number(cycle), name: rest.join(' ') });
-    } else if (word === 'stop') {
-      run.stop = Number(cycle);
-      run.reason = rest.join(' ');
-    }
+  const run = { id, blocks: [], cycles: [], places: [], keys: [], keyCycles: [], stop: 0, reason: '' };
+  for (const part of document.querySelectorAll(`#${id}, script.${id}`)) {
+    const block = part.textContent;
+    readFrames(run, block);
+    const first = block.indexOf(FRAME);
+    const last = first < 0 ? 0 : block.indexOf(LINE, block.lastIndexOf(LINE + 'LAMPS') + 1);
+    if (first >= 0) block.slice(0, first).split(LINE).forEach((line) => readLine(run, line));
+    block.slice(last).split(LINE).forEach((line) => readLine(run, line));
   }
   return run;
 }
@@ -50,20 +100,23 @@ function readRun(id) {
 const runs = ['left', 'right'].filter(find).map(readRun);
 const end = Math.max(...runs.map((run) => run.stop));
 const parting = find('parting') ? Number(find('parting').textContent) : NaN;
-const changes = [...new Set(runs.flatMap((run) => run.frames.map((frame) => frame.cycle)))].sort((a, b) => a - b);
 let now = 0;
 let playing = false;
 
-// the place of the last item up to a cycle, or -1
-function lastUpTo(items, cycle) {
+// the place of the last of some rising cycles up to a cycle, or -1
+function lastUpTo(cycles, cycle) {
   let low = 0;
-  let high = items.length;
+  let high = cycles.length;
   while (low < high) {
     const middle = (low + high) >> 1;
-    if (items[middle].cycle <= cycle) low = middle + 1; else high = middle;
+    if (cycles[middle] <= cycle) low = middle + 1; else high = middle;
   }
   return low - 1;
 }
+
+// the last change before a cycle, and the first one after it
+const changeBefore = (cycle) => Math.max(0, ...runs.map((run) => run.cycles[lastUpTo(run.cycles, Math.ceil(cycle) - 1)] ?? 0));
+const changeAfter = (cycle) => Math.min(end, ...runs.map((run) => run.cycles[lastUpTo(run.cycles, cycle) + 1] ?? end));
 
 // places for digits, of which the first may be a sign
 function places(name, count, kind) {
@@ -83,17 +136,27 @@ function keyPad() {
 
 // the DSKY of a run, with its panel and its keys as text below
 function build(run) {
-  const title = runs.length === 1 ? '' : `<h2>${run.id === 'left' ? 'Left run' : 'Right run'}</h2>`;
   const lamps = LAMPS.map((name, i) => `<li class='${i % 2 ? 'caution' : ''}' data-lamp='${name}'>${name}</li>`).join('');
   const pair = (name) => `<div><span class='name'>${name}</span>${places(name, 2, '')}</div>`;
   const registers = ['R1', 'R2', 'R3'].map((name) => places(name, 6, 'register')).join('');
   const display = `<div class='acty' data-lamp='COMP ACTY'>COMP<br>ACTY</div>${pair('PROG')}${pair('VERB')}${pair('NOUN')}${registers}`;
   const section = document.createElement('section');
   section.className = 'run';
-  section.innerHTML = `${title}<div class='dsky' aria-hidden='true'><ul class='lamps'>${lamps}</ul><div class='display'>${display}</div><div class='keys'>${keyPad()}</div></div>`
+  section.innerHTML = `<h2></h2><div class='dsky' aria-hidden='true'><ul class='lamps'>${lamps}</ul><div class='display'>${display}</div><div class='keys'>${keyPad()}</div></div>`
     + `<div class='copy'><pre id='${run.id}-panel' aria-live='polite' aria-label='The panel'></pre><p id='${run.id}-keys'></p></div>`;
+  section.querySelector('h2').textContent = (runs.length === 1 ? '' : run.id === 'left' ? 'Left run: ' : 'Right run: ') + files(run);
   find('runs').append(section);
   run.section = section;
+}
+
+// the names of a run's files
+function files(run) {
+  return `${run.rope}, ${run.script}`;
+}
+
+function showTitle() {
+  find('title').textContent = `DSKY film, limit ${runs[0].limit}`;
+  document.title = `${runs.map(files).join('; ')}; limit ${runs[0].limit}`;
 }
 
 // lights up what a panel's text says
@@ -115,18 +178,18 @@ function showPanel(run, text) {
   }
 }
 
-// a key stays down for a quarter of a second, or until the next one; PRO until it comes up
+// A key stays down for a quarter of a second at the speed that is set, or until the next one; PRO until it comes up.
 function showKeys(run) {
-  const last = lastUpTo(run.keys, now);
-  const hold = Math.min(CYCLES_A_SECOND / 4, end / 20) * (playing ? Number(find('speed').value) : 1);
+  const last = lastUpTo(run.keyCycles, now);
+  const key = run.keys[last];
+  const hold = (CYCLES_A_SECOND / 4) * Number(find('speed').value);
   const down = new Set();
-  const past = run.keys.slice(Math.max(0, last - 30), last + 1);
-  if (last >= 0 && now - run.keys[last].cycle < hold) down.add(run.keys[last].name);
-  const pro = past.map((key) => key.name).filter((name) => name.startsWith('PRO')).pop();
-  if (pro === 'PRO') down.add('PRO');
-  for (const key of run.section.querySelectorAll('[data-key]')) key.classList.toggle('down', down.has(key.dataset.key));
+  if (key && now - key.cycle < hold) down.add(key.name);
+  if (key && key.held) down.add('PRO');
+  for (const shown of run.section.querySelectorAll('[data-key]')) shown.classList.toggle('down', down.has(shown.dataset.key));
+  const past = run.keys.slice(Math.max(0, last - 11), last + 1);
   const stop = now >= run.stop ? `${LINE}Stopped: ${run.reason}` : '';
-  find(`${run.id}-keys`).textContent = `Keys: ${past.slice(-12).map((key) => key.name).join(' ') || 'none yet'}${stop}`;
+  find(`${run.id}-keys`).textContent = `Keys: ${past.map((one) => one.name).join(' ') || 'none yet'}${stop}`;
 }
 
 function showDifference() {
@@ -139,7 +202,7 @@ function showDifference() {
 function show(cycle) {
   now = Math.min(Math.max(cycle, 0), end);
   for (const run of runs) {
-    showPanel(run, run.frames[lastUpTo(run.frames, now)].text);
+    showPanel(run, panelOf(run, lastUpTo(run.cycles, now)));
     showKeys(run);
   }
   if (runs.length === 2) showDifference();
@@ -161,14 +224,18 @@ function drawStrip() {
   pen.scale(scale, scale);
   const place = (cycle) => 8 + (width - 16) * (cycle / end);
   const stroke = (cycle, top, height, wide) => pen.fillRect(place(cycle) - wide / 2, top, wide, height);
+  // of cycles that lie closer than a quarter of a point the first one
+  const strokes = (cycles, top) => {
+    for (let i = 0; i < cycles.length; i = lastUpTo(cycles, cycles[i] + end / width / 4) + 1) stroke(cycles[i], top, lane / 2 - 3, 1);
+  };
   runs.forEach((run, i) => {
     const line = lane * (i + 0.5);
     pen.fillStyle = '#6a6d68';
     pen.fillRect(8, line, place(run.stop) - 8, 1);
     pen.fillStyle = '#5dff9b';
-    for (const frame of run.frames) stroke(frame.cycle, line + 1, lane / 2 - 3, 1);
+    strokes(run.cycles, line + 1);
     pen.fillStyle = '#f4f4ee';
-    for (const key of run.keys) stroke(key.cycle, line - lane / 2 + 3, lane / 2 - 3, 1);
+    strokes(run.keyCycles, line - lane / 2 + 3);
   });
   if (parting >= 0) {
     pen.fillStyle = '#ffb938';
@@ -200,9 +267,9 @@ function go(cycle) {
 
 const ACTIONS = {
   start: () => go(0),
-  previous: () => go(changes.filter((cycle) => cycle < now).pop() ?? 0),
+  previous: () => go(changeBefore(now)),
   play: () => setPlaying(!playing),
-  next: () => go(changes.find((cycle) => cycle > now) ?? end),
+  next: () => go(changeAfter(now)),
   end: () => go(end),
   difference: () => { if (parting >= 0) go(parting); },
 };
@@ -218,6 +285,7 @@ function onKey(event) {
     ACTIONS[name]();
   } else if (place >= 0) {
     find('speed').selectedIndex = place;
+    show(now);
   }
 }
 
@@ -230,17 +298,30 @@ function followHash() {
   }
 }
 
-runs.forEach(build);
-find('time').max = end;
-find('time').addEventListener('input', () => go(Number(find('time').value)));
-for (const [name, action] of Object.entries(ACTIONS)) find(name).addEventListener('click', action);
-find('difference').hidden = !(parting >= 0);
-document.addEventListener('keydown', onKey);
-window.addEventListener('resize', drawStrip);
-window.addEventListener('hashchange', followHash);
-show(0);
-drawStrip();
-followHash();
+function start() {
+  runs.forEach(build);
+  showTitle();
+  find('time').max = end;
+  find('time').addEventListener('input', () => go(Number(find('time').value)));
+  for (const [name, action] of Object.entries(ACTIONS)) find(name).addEventListener('click', action);
+  find('difference').hidden = !(parting >= 0);
+  find('speed').addEventListener('change', () => show(now));
+  document.addEventListener('keydown', onKey);
+  window.addEventListener('resize', drawStrip);
+  window.addEventListener('hashchange', followHash);
+  show(0);
+  drawStrip();
+  followHash();
+}
+
+// A run without its stop was not read to its end.
+const unread = ['left', 'right'].filter((id) => (id === 'left' || find(id)) && !runs.some((run) => run.id === id && run.reason));
+if (unread.length) {
+  find('trouble').textContent = `This film cannot be read: the browser finds no end of the run ${unread.join(' and ')}. The file is cut off, or the browser cannot hold it; a film of a lower limit is shorter.`;
+  find('controls').hidden = true;
+} else {
+  start();
+}
 </script>
 </body>
 </html>

@@ -1,7 +1,9 @@
 //! The page of a film: a constant text with the runs in it as blocks of plain lines.
 ghost use Rattle.std.specs.Prelude.{◌≡◌, ◌++◌, OnOk, flat_map, string_bytes};
 ghost use Rattle.agc_film.specs.Parting.{first_difference};
-ghost use Rattle.agc_film.specs.Page.{block_text, film_pair_text, film_text, frame_text};
+ghost use Rattle.agc_panel.specs.TablesText.{numbered};
+ghost use Rattle.agc_film.specs.Page.{after_frame, block_text, border_text, film_pair_text, film_text};
+ghost use Rattle.agc_film.specs.Page.{frame_text, placed_frame};
 ghost use Rattle.agc_film.specs.Page.{parting_block, parting_name, press_text, reel_end_text, reel_text};
 
 use crate::frame::Frame;
@@ -10,34 +12,66 @@ use crate::page_script::TAIL;
 use crate::parting::first_difference;
 use crate::press::Press;
 use crate::reel::Reel;
+use crate::title::{RunFiles, push_title};
 use agc_trace::reason_name;
 use std::alloc::AllocError;
 
-/// Adds the page of one run. Fails where memory runs out.
-pub fn push_film(text: &mut String, reel: &Reel) -> Result<(), AllocError>
+/// How many frames stand in a block, with which it has some 12 MB at most.
+const BLOCK_FRAMES: usize = 65536;
+
+/// Adds the page of one run, with the names of its files and its limit. Fails where memory runs out.
+pub fn push_film(
+    text: &mut String,
+    limit: u64,
+    files: &RunFiles,
+    reel: &Reel,
+) -> Result<(), AllocError>
     ensures { OnOk result (string_bytes text.new
-        ≡ string_bytes text.old ++ film_text HEAD.now TAIL.now reel.now) }
+        ≡ string_bytes text.old ++ film_text HEAD.now TAIL.now limit files.now reel.now) }
 {
-    push_page(text, HEAD, TAIL, reel)
+    push_page(text, HEAD, TAIL, limit, files, reel)
 }
 
-/// Adds the page of two runs side by side, with the cycle at which their panels first differ. Fails
-/// where memory runs out.
-pub fn push_film_pair(text: &mut String, left: &Reel, right: &Reel) -> Result<(), AllocError>
-    ensures { OnOk result (string_bytes text.new
-        ≡ string_bytes text.old ++ film_pair_text HEAD.now TAIL.now left.now right.now) }
+/// Adds the page of two runs side by side, with the names of their files, their limit, and the cycle at which
+/// their panels first differ. Fails where memory runs out.
+pub fn push_film_pair(
+    text: &mut String,
+    limit: u64,
+    left_files: &RunFiles,
+    left: &Reel,
+    right_files: &RunFiles,
+    right: &Reel,
+) -> Result<(), AllocError>
+    ensures { OnOk result (string_bytes text.new ≡ string_bytes text.old
+        ++ film_pair_text HEAD.now TAIL.now limit left_files.now left.now right_files.now right.now) }
 {
-    push_page_pair(text, HEAD, TAIL, left, right)
+    push_page_pair(
+        text,
+        HEAD,
+        TAIL,
+        limit,
+        left_files,
+        left,
+        right_files,
+        right,
+    )
 }
 
 /// Adds a page of one run between two texts.
 #[tactic(auto, unfolding(crate::specs::Page::film_text))]
-fn push_page(text: &mut String, head: &str, tail: &str, reel: &Reel) -> Result<(), AllocError>
+fn push_page(
+    text: &mut String,
+    head: &str,
+    tail: &str,
+    limit: u64,
+    files: &RunFiles,
+    reel: &Reel,
+) -> Result<(), AllocError>
     ensures { OnOk result (string_bytes text.new
-        ≡ string_bytes text.old ++ film_text head.now tail.now reel.now) }
+        ≡ string_bytes text.old ++ film_text head.now tail.now limit files.now reel.now) }
 {
     text.push_str(head)?;
-    push_block(text, "left", reel)?;
+    push_block(text, "left", limit, files, reel)?;
     text.push_str(tail)
 }
 
@@ -47,51 +81,95 @@ fn push_page_pair(
     text: &mut String,
     head: &str,
     tail: &str,
+    limit: u64,
+    left_files: &RunFiles,
     left: &Reel,
+    right_files: &RunFiles,
     right: &Reel,
 ) -> Result<(), AllocError>
-    ensures { OnOk result (string_bytes text.new
-        ≡ string_bytes text.old ++ film_pair_text head.now tail.now left.now right.now) }
+    ensures { OnOk result (string_bytes text.new ≡ string_bytes text.old
+        ++ film_pair_text head.now tail.now limit left_files.now left.now right_files.now right.now) }
 {
     text.push_str(head)?;
-    push_block(text, "left", left)?;
-    push_block(text, "right", right)?;
+    push_block(text, "left", limit, left_files, left)?;
+    push_block(text, "right", limit, right_files, right)?;
     push_parting(text, left.frames.as_slice(), right.frames.as_slice())?;
     text.push_str(tail)
 }
 
-/// Adds a run as a block under a name.
+/// Adds a run as blocks under a name.
 #[tactic(auto, unfolding(crate::specs::Page::block_text))]
-fn push_block(text: &mut String, name: &str, reel: &Reel) -> Result<(), AllocError>
+fn push_block(
+    text: &mut String,
+    name: &str,
+    limit: u64,
+    files: &RunFiles,
+    reel: &Reel,
+) -> Result<(), AllocError>
     ensures { OnOk result (string_bytes text.new
-        ≡ string_bytes text.old ++ block_text name.now reel.now) }
+        ≡ string_bytes text.old ++ block_text name.now limit files.now reel.now) }
 {
     text.push_str("<script type=\"text/plain\" id=\"")?;
     text.push_str(name)?;
     text.push_str("\">\n")?;
-    push_reel(text, reel)?;
+    push_title(text, files, limit)?;
+    push_reel(text, name, reel)?;
     text.push_str("</script>\n")
 }
 
 /// Adds the lines of a run.
 #[tactic(auto, unfolding(crate::specs::Page::reel_text))]
-fn push_reel(text: &mut String, reel: &Reel) -> Result<(), AllocError>
-    ensures { OnOk result (string_bytes text.new ≡ string_bytes text.old ++ reel_text reel.now) }
+fn push_reel(text: &mut String, name: &str, reel: &Reel) -> Result<(), AllocError>
+    ensures { OnOk result (string_bytes text.new
+        ≡ string_bytes text.old ++ reel_text name.now reel.now) }
 {
-    push_frames(text, reel.frames.as_slice())?;
+    push_frames(text, name, reel.frames.as_slice())?;
     push_presses(text, reel.presses.as_slice())?;
     push_reel_end(text, reel)
 }
 
-/// Adds each of some frames.
-fn push_frames(text: &mut String, frames: &[Frame]) -> Result<(), AllocError>
+/// Adds each of some frames, in blocks of a run.
+#[tactic(auto, using(agc_panel::proofs::Lines::numbered_lines))]
+fn push_frames(text: &mut String, name: &str, frames: &[Frame]) -> Result<(), AllocError>
     ensures { OnOk result (string_bytes text.new
-        ≡ string_bytes text.old ++ flat_map frame_text frames.now) }
+        ≡ string_bytes text.old ++ numbered (placed_frame name.now) frames.now) }
 {
-    for frame in frames {
-        push_frame(text, frame)?;
+    for (place, frame) in frames.iter().enumerate() {
+        push_placed(text, name, place, frame)?;
     }
     Ok(())
+}
+
+/// Adds the frame at a place, and the border to the next block where it is the last one of its block.
+#[tactic(auto, unfolding(crate::specs::Page::placed_frame))]
+fn push_placed(text: &mut String, name: &str, place: usize, frame: &Frame) -> Result<(), AllocError>
+    ensures { OnOk result (string_bytes text.new
+        ≡ string_bytes text.old ++ placed_frame name.now place frame.now) }
+{
+    push_frame(text, frame)?;
+    push_after(text, name, place)
+}
+
+/// Adds what stands after the frame at a place.
+#[tactic(auto, unfolding(crate::specs::Page::after_frame))]
+fn push_after(text: &mut String, name: &str, place: usize) -> Result<(), AllocError>
+    ensures { OnOk result (string_bytes text.new
+        ≡ string_bytes text.old ++ after_frame name.now place) }
+{
+    if place % BLOCK_FRAMES == BLOCK_FRAMES - 1 {
+        push_border(text, name)?;
+    }
+    Ok(())
+}
+
+/// Adds the border to the next block of a run.
+#[tactic(auto, unfolding(crate::specs::Page::border_text))]
+fn push_border(text: &mut String, name: &str) -> Result<(), AllocError>
+    ensures { OnOk result (string_bytes text.new ≡ string_bytes text.old ++ border_text name.now) }
+{
+    text.push_str("</script>\n<script type=\"text/plain\" class=\"")?;
+    text.push_str(name)?;
+    text.push_str("\">\n")
 }
 
 /// Adds a frame.

@@ -1,6 +1,6 @@
 //! Films of small programs, worked out by hand. The numbers are octal, but for cycles.
 use crate::press::presses;
-use crate::{Button, Press, Reel, film, first_difference, push_film, push_film_pair};
+use crate::{Button, Press, Reel, RunFiles, film, first_difference, push_film, push_film_pair};
 use agc_listing::rope_file;
 use agc_machine::{Machine, Stop};
 use agc_progress::{Progress, Untold};
@@ -37,6 +37,14 @@ fn reel_of(
     Ok(film(rt.alloc(), &mut machine, &mut Untold)?)
 }
 
+/// Two files of these names.
+fn files(rt: &impl AllocGlobal, rope: &str, script: &str) -> Result<RunFiles, Fail> {
+    Ok(RunFiles {
+        rope: String::from_str(rt.alloc(), rope)?,
+        script: String::from_str(rt.alloc(), script)?,
+    })
+}
+
 /// The page without what stands before and after its runs: from the first block to the last one.
 fn blocks<'a>(rt: &impl Abort, page: &'a str) -> &'a str {
     let (_, after) = page
@@ -65,12 +73,15 @@ static PROG: &str = "
 fn a_frame_for_each_change(rt: HostRuntime) -> Result<(), Fail> {
     let reel = reel_of(&rt, PROG, "", 20)?;
     let mut page = String::new(rt.alloc());
-    push_film(&mut page, &reel)?;
+    push_film(&mut page, 20, &files(&rt, "prog", "none")?, &reel)?;
     assert_eq!(rt; page.as_str().starts_with("<!doctype html>\n"), true);
     assert_eq!(rt; page.as_str().ends_with("</body>\n</html>\n"), true);
     let mut lines = blocks(&rt, page.as_str()).lines();
     for line in [
         "left\">",
+        "rope prog",
+        "script none",
+        "limit 20",
         "frame 3",
         "PROG 12",
         "VERB __",
@@ -115,6 +126,8 @@ fn no_frame(rt: HostRuntime) -> Result<(), Fail> {
 /// The input is no key, and at cycle 30 the limit comes before the key.
 static KEYS: &str = "10 key VERB\n20 pro down\n25 input 16 00001\n30 pro up\n31 key 4\n";
 
+/// Of the names of the files `<`, the backslash and what does not print in ASCII stand in octal: é has the two bytes
+/// 303 and 251.
 #[test]
 fn keys_before_the_limit(rt: HostRuntime) -> Result<(), Fail> {
     let script = Script::parse(rt.alloc(), KEYS.as_bytes())?;
@@ -129,10 +142,13 @@ fn keys_before_the_limit(rt: HostRuntime) -> Result<(), Fail> {
     );
     let reel = reel_of(&rt, IDLE, KEYS, 30)?;
     let mut page = String::new(rt.alloc());
-    push_film(&mut page, &reel)?;
+    push_film(&mut page, 30, &files(&rt, "a b~<", "\\/é\n\u{7f}")?, &reel)?;
     let mut lines = blocks(&rt, page.as_str()).lines();
     for line in [
         "left\">",
+        "rope a b~\\074",
+        "script \\134/\\303\\251\\012\\177",
+        "limit 30",
         "key 10 VERB",
         "key 20 PRO",
         "stop 30 Limit",
@@ -180,7 +196,8 @@ static SOONER: &str = "
 /// Where two runs part, as the page tells it.
 fn parting(rt: &(impl AllocGlobal + Abort), left: &Reel, right: &Reel) -> Result<String, Fail> {
     let mut page = String::new(rt.alloc());
-    push_film_pair(&mut page, left, right)?;
+    let (one, other) = (files(rt, "one", "s")?, files(rt, "other", "t")?);
+    push_film_pair(&mut page, 20, &one, left, &other, right)?;
     let (_, after) = page
         .as_str()
         .split_once("id=\"parting\">")

@@ -1,9 +1,10 @@
 //! Gates: what the two threads of a run call as writes and keys go through their rings, and gates
 //! that hold one of them up, for tests.
 //!
-//! It is proved how often a gate of these looks or spins, and that a thread with no looks does not
-//! wait. What a gate counts, and which flags it raises, is tested: no clause knows what an atomic
-//! holds, which the other thread may change at any time.
+//! It is proved with which numbers of looks and turns a gate is made, and that a wait of no looks
+//! finds nothing. That it looks and spins so often is read in the code alone. What a gate counts, and
+//! which flags it raises, is tested: no clause knows what an atomic holds, which the other thread may
+//! change at any time.
 #![tactic(auto)]
 
 mod counting;
@@ -17,6 +18,3 @@ pub use flag::Flag;
 pub use gate::{Gate, Open};
 pub use meeting::{KeysMeet, Meeting};
 pub use slow::Slow;
-
-#[cfg(test)]
-mod tests;

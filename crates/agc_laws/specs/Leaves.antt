@@ -1,9 +1,11 @@
--- Which orders leave the extracode state on.
-use Rattle.std.specs.Prelude.{◌≡◌, Bool, if◌then◌else◌}
+-- Which orders leave the extracode state on, and which hold interrupts off before the order that follows.
+use Rattle.std.specs.Prelude.{◌≡◌, Bool, true, false, if◌then◌else◌}
 use Rattle.agc_word.specs.Number.{pattern_of}
 use Rattle.agc_processor.specs.declared.processor.Processor.{Processor}
 use Rattle.agc_processor.specs.declared.processor.Ran.{Ran}
 use Rattle.agc_processor.specs.declared.processor.Ran.TheVariants as ran
+use Rattle.agc_order.specs.declared.order.Basic.{Basic}
+use Rattle.agc_order.specs.declared.order.Basic.TheVariants as basic
 use Rattle.agc_order.specs.Order.{basic_of, extracode_of, is_extend, is_extracode_index}
 
 -- whether the order in hand makes the next one an extracode
@@ -12,8 +14,20 @@ extends p =
     let word = pattern_of 15 p.hand in
     if p.extracode then is_extracode_index (extracode_of word) else is_extend (basic_of word)
 
--- After an order that ran, this says whether the next one is an extracode.
-abbrev pub Leaves : Bool → Processor × Ran → Type 0
-Leaves extracode (q, ran.Quiet cycles) = q.extracode ≡ extracode
-Leaves extracode (q, ran.Wrote channel value) = q.extracode ≡ extracode
-Leaves extracode (q, ran.Halted why) = Unit {0}
+-- EXTEND and INDEX, whose order is not whole without the one that follows
+abbrev pub is_extend_or_index : Basic → Bool
+is_extend_or_index basic.Extend = true
+is_extend_or_index basic.Index = true
+is_extend_or_index _ = false
+
+-- whether the order in hand holds interrupts off before the next one
+abbrev pub holds_off : Processor → Bool
+holds_off p =
+    let word = pattern_of 15 p.hand in
+    if p.extracode then is_extracode_index (extracode_of word) else is_extend_or_index (basic_of word)
+
+-- After an order that ran, these say whether the next one is an extracode, and whether it is held on to.
+abbrev pub Leaves : Bool → Bool → Processor × Ran → Type 0
+Leaves extracode held (q, ran.Quiet cycles) = (q.extracode ≡ extracode) × (q.midway ≡ held)
+Leaves extracode held (q, ran.Wrote channel value) = (q.extracode ≡ extracode) × (q.midway ≡ held)
+Leaves extracode held (q, ran.Halted why) = Unit {0}

@@ -4,7 +4,7 @@ ghost use Rattle.agc_order.specs.declared.order.Basic.{Basic};
 ghost use Rattle.agc_order.specs.declared.order.Extracode.{Extracode};
 ghost use Rattle.agc_processor.specs.declared.processor.Processor.{Processor};
 ghost use Rattle.agc_processor.specs.Effect.{basic_effect, extracode_effect, order_effect};
-ghost use Rattle.agc_laws.specs.Leaves.{Leaves, extends};
+ghost use Rattle.agc_laws.specs.Leaves.{Leaves, extends, holds_off};
 ghost use Rattle.agc_laws.specs.Row.{ChangesItsRow};
 ghost use Rattle.agc_laws.specs.Table.{basic_row, extracode_row, inhibited_after, serving_after, KeepsFlags};
 
@@ -23,9 +23,10 @@ pub fn three_orders_change_the_flags()
 {}
 
 /// EXTEND lasts one order: an order that runs leaves the extracode state on where it is EXTEND or
-/// the extracode INDEX, and off where it is any other.
+/// the extracode INDEX, and off where it is any other. EXTEND and both INDEX hold interrupts off before
+/// the order that follows them, and no other order does.
 pub fn extend_lasts_one_order()
-    ensures { (cycle : ℕ) (p : Processor) → Leaves (extends p) (order_effect cycle p) }
+    ensures { (cycle : ℕ) (p : Processor) → Leaves (extends p) (holds_off p) (order_effect cycle p) }
 {}
 
 /// The fixed words stay, whatever orders run.

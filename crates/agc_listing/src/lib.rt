@@ -18,6 +18,3 @@ mod programs;
 pub use fault::ListingFault;
 pub use file::rope_file;
 pub use programs::{DIVISION, EDRUPT, IDLE, KEYED_WRITES, RELAY_WORD, WRITES};
-
-#[cfg(test)]
-mod tests;

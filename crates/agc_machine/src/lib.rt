@@ -9,8 +9,6 @@ mod happening;
 pub mod laws;
 mod machine;
 mod stop_address;
-#[cfg(test)]
-mod tests;
 mod upcoming;
 
 pub use answer::{ChannelWrite, Next, Stepped, Stop};

@@ -62,6 +62,3 @@ impl Panel {
         self.face
     }
 }
-
-#[cfg(test)]
-mod tests;

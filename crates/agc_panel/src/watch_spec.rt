@@ -195,6 +195,3 @@ fn last_number(text: &str) -> Option<u32>
     let number = read_octal(6, text.as_bytes())?;
     Some(number as u32)
 }
-
-#[cfg(test)]
-mod tests;

@@ -20,6 +20,3 @@ pub fn watch(alloc: Global, store: &Store, spec: &WatchSpec) -> Result<String, W
     let text = Tables::read(store, &spec).text(alloc)?;
     Ok(text)
 }
-
-#[cfg(test)]
-mod tests;

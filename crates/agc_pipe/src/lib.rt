@@ -13,8 +13,6 @@ mod sender;
 mod sending;
 mod shown;
 mod slots;
-#[cfg(test)]
-mod tests;
 
 pub use agc_gate::{Gate, Open};
 pub use item::{BLOCK, Item};

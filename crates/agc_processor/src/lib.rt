@@ -12,8 +12,6 @@ mod period;
 mod processor;
 mod signs;
 mod start;
-#[cfg(test)]
-mod tests;
 mod timer;
 
 pub use interrupt::{INTERRUPT_MCT, Rupt};

@@ -5,8 +5,6 @@
 #![tactic(auto)]
 
 mod mark;
-#[cfg(test)]
-mod tests;
 
 pub use mark::{mark_past, tell_at};
 

@@ -19,6 +19,3 @@ pub use order::{
 };
 pub use place::{Place, push_place};
 pub use weaving::weave;
-
-#[cfg(test)]
-mod tests;

@@ -1,91 +1,12 @@
-//! Whole sessions and whole programs: the worked runs, every refusal in its place, gates that hold
-//! a thread up, live keys, and streams that fail.
-mod interrupts;
-mod limits;
-mod live;
-mod memory;
-mod orders;
-mod program;
-mod rows;
-mod streams;
-mod threads;
-mod unread;
-mod until;
-
+//! The program on its command lines: help, mistakes, and files that are not there.
+use crate::run;
 use agc_args::parse_args;
-use agc_listing::{DIVISION, EDRUPT, IDLE, KEYED_WRITES, RELAY_WORD, WRITES, rope_file};
-use agc_pipe::{Gate, Open};
-use agc_session::{DONE, Options, REFUSED, session};
 use std::process::Abort;
+use std::rt::Files;
 use std::sync::Wait;
 use std::thread::Threads;
 
-/// What runs the sessions of the tests.
-trait Host: AllocGlobal + Abort + Threads + Wait + Sync {}
-
-impl<H: AllocGlobal + Abort + Threads + Wait + Sync> Host for H {}
-
-/// The panel's lines after `PROG ..`, where no write names their fields.
-const REST: &str = "VERB __
-NOUN __
-R1 ______
-R2 ______
-R3 ______
-FLASH off
-LAMPS none
-";
-
-/// What the division needs: the cell that divides holds 1.
-const ONE_POKED: &[u8] = b"0 poke 0 100 1\n";
-
-/// The lines of the division after `STOP `, with the log.
-const DIVIDED: &str = "DivisionUndefined CYCLE 6 WRITES 1\n3 010 00002\n";
-
-/// The lines of EDRUPT after `STOP `, with the log.
-const EDRUPTED: &str = "Edrupt CYCLE 4 WRITES 1\n1 010 00000\n";
-
-/// What a session has for a rope: the words of a listing, or a file as it stands.
-#[derive(Clone, Copy)]
-enum GivenRope<'a> {
-    Listing(&'a str),
-    File(&'a [u8]),
-}
-
-/// The rope file of a listing.
-fn file_of(rt: &(impl AllocGlobal + Abort), listing: &str) -> Vec<u8> {
-    rope_file(rt.alloc(), listing).expect(rt, "a good listing")
-}
-
-/// A session: the words after `agc rope script`, its rope, and the bytes of its other files.
-#[derive(Clone, Copy)]
-struct Asked<'a> {
-    line: &'a str,
-    rope: GivenRope<'a>,
-    script: &'a [u8],
-    keys: &'a [u8],
-}
-
-/// A session on the words of a listing, without live keys.
-fn without_keys<'a>(line: &'a str, listing: &'a str, script: &'a [u8]) -> Asked<'a> {
-    Asked {
-        line,
-        rope: GivenRope::Listing(listing),
-        script,
-        keys: b"",
-    }
-}
-
-/// A session on a rope file as it stands, without live keys.
-fn on_file<'a>(line: &'a str, file: &'a [u8], script: &'a [u8]) -> Asked<'a> {
-    Asked {
-        line,
-        rope: GivenRope::File(file),
-        script,
-        keys: b"",
-    }
-}
-
-/// How a session ended: its status, and what it wrote to each stream.
+/// How the program ended: its status, and what it wrote to each stream.
 #[derive(Drop)]
 struct Ended {
     status: u8,
@@ -93,71 +14,90 @@ struct Ended {
     err: Vec<u8>,
 }
 
-/// The options of a command line after `agc rope script`.
-fn options(rt: &(impl AllocGlobal + Abort), line: &str) -> Options {
+/// How the program ends on this command line, with this on standard input.
+fn program(
+    rt: &(impl AllocGlobal + Abort + Threads + Wait + Sync + Files),
+    line: &str,
+    mut keys: &[u8],
+) -> Ended {
     let mut words = Vec::new(rt.alloc());
-    for word in ["agc", "rope", "script"] {
-        words.push(word).expect(rt, "memory");
-    }
     for word in line.split(' ') {
         words.push(word).expect(rt, "memory");
     }
-    parse_args(rt.alloc(), words.as_slice())
-        .ok()
-        .expect(rt, "a good command line")
-}
-
-/// Runs a session over memory through a gate.
-fn run_gated<G: Gate + Sync>(rt: &impl Host, asked: Asked<'_>, gate: &G) -> Ended {
-    match asked.rope {
-        GivenRope::Listing(listing) => run_on(rt, asked, file_of(rt, listing).as_slice(), gate),
-        GivenRope::File(file) => run_on(rt, asked, file, gate),
-    }
-}
-
-/// The same on the bytes of its rope.
-fn run_on<G: Gate + Sync>(rt: &impl Host, asked: Asked<'_>, mut rope: &[u8], gate: &G) -> Ended {
-    let options = options(rt, asked.line);
-    let (mut script, mut keys) = (asked.script, asked.keys);
+    let asked = parse_args(rt.alloc(), words.as_slice());
     let mut out = Vec::new(rt.alloc());
     let mut err = Vec::new(rt.alloc());
-    let status = session(
-        &rt,
-        rt.alloc(),
-        &options,
-        &mut rope,
-        &mut script,
-        &mut keys,
-        gate,
-        &mut out,
-        &mut err,
-    );
+    let status = run(rt, asked, &mut keys, &mut out, &mut err);
     Ended { status, out, err }
 }
 
-/// Runs a session over memory and looks at its status and at what it wrote.
-fn ends(rt: &impl Host, asked: Asked<'_>, status: u8, out: &str, err: &str) {
-    let ended = run_gated(rt, asked, &Open);
-    let line = asked.line;
-    assert_eq!(rt; ended.status, status, "{line}");
-    assert!(rt;
-        ended.out.as_slice() == out.as_bytes(),
-        "{line}: another output"
-    );
-    assert!(rt;
-        ended.err.as_slice() == err.as_bytes(),
-        "{line}: another error"
-    );
+/// The text names all of these words.
+fn names(rt: &(impl AllocGlobal + Abort), text: Vec<u8>, words: &[&str]) {
+    let text = String::from_utf8(text).ok().expect(rt, "text");
+    for word in words {
+        assert!(rt; text.as_str().contains(*word), "no {word} in {text}");
+    }
 }
 
-/// The same for a run that stops: PROG's digits, the stop's line after `STOP ` and what follows.
-fn stops(rt: &impl Host, asked: Asked<'_>, prog: &str, after: &str) {
-    let out = format!(in rt.alloc(); "PROG {prog}\n{REST}STOP {after}").expect(rt, "memory");
-    ends(rt, asked, DONE, out.as_str(), "");
+/// Help names the program, its files and each option and says how long a cycle is, and nothing stands
+/// on the other stream.
+#[test]
+fn help(rt: HostRuntime) {
+    for line in ["agc --help", "agc -h"] {
+        let ended = program(&rt, line, b"");
+        assert_eq!(rt; ended.status, 0);
+        assert!(rt; ended.err.is_empty());
+        names(
+            &rt,
+            ended.out,
+            &[
+                "agc",
+                "ROPE",
+                "SCRIPT",
+                "--limit",
+                "--slots",
+                "--watch",
+                "--log",
+                "--form",
+                "--until",
+                "--live",
+                "--spacing",
+                "8533",
+                "256",
+                "classic",
+                "parity",
+                "85,333 a second",
+                "not standard input",
+            ],
+        );
+    }
 }
 
-/// The same for a refusal with its line.
-fn refuses(rt: &impl Host, asked: Asked<'_>, err: &str) {
-    let err = format!(in rt.alloc(); "agc: {err}\n").expect(rt, "memory");
-    ends(rt, asked, REFUSED, "", err.as_str());
+/// A mistake is told with the word that it is in, and nothing stands on the other stream.
+#[test]
+fn mistakes(rt: HostRuntime) {
+    for (line, named) in [
+        ("agc r s --log --log", "--log"),
+        ("agc r s --log --live", "--limit"),
+        ("agc r --limit 1 --log", "SCRIPT"),
+        ("agc r s --limit many", "many"),
+        ("agc r s --limit=1 --form=odd", "odd"),
+        ("agc r s --limit=1 --spacing=-1", "--spacing"),
+        ("agc r s --limit=1 --nonsense", "--nonsense"),
+        ("agc r s third --limit=1", "third"),
+    ] {
+        let ended = program(&rt, line, b"");
+        assert_eq!(rt; ended.status, 2, "{named}");
+        assert!(rt; ended.out.is_empty(), "{named}");
+        names(&rt, ended.err, &["error", named]);
+    }
+}
+
+/// A file that is not there cannot be read: the rope is told first.
+#[test]
+fn missing_files(rt: HostRuntime) {
+    let ended = program(&rt, "agc no-such-rope no-such-script --limit 10", b"");
+    assert_eq!(rt; ended.status, 1);
+    assert!(rt; ended.out.is_empty());
+    assert!(rt; ended.err.as_slice() == b"agc: cannot read rope\n".as_slice());
 }

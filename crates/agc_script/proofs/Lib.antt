@@ -18,3 +18,4 @@ pub mod FirstFaults
 pub mod Told
 pub mod Merging
 pub mod OneMerge
+pub mod Ranges

@@ -1,10 +1,14 @@
 //! Laws of scripts, each the contract of a function that does nothing. The calls are proved equal
 //! to the definitions that these laws are about.
 ghost use Rattle.std.specs.Prelude.{◌≡◌, ℕ, ◌+◌, ◌*◌, ◌≤◌, ◌<◌, nat_le, List, [], ◌∷◌, Some, None};
-ghost use Rattle.std.specs.Prelude.{IfOk, slice_get, if◌then◌else◌};
+ghost use Rattle.std.specs.Prelude.{IfOk, IfSome, length, slice_get, if◌then◌else◌};
 ghost use Rattle.agc_script.specs.declared.event.Event.{Event};
 ghost use Rattle.agc_script.specs.declared.event.What.{What};
+ghost use Rattle.agc_script.specs.declared.grammar.Command.{Command};
 ghost use Rattle.agc_script.specs.declared.key.Key.{Key};
+ghost use Rattle.agc_script.specs.Fault.{numbers_after};
+ghost use Rattle.agc_script.specs.Grammar.{argument_count, ranges_of};
+ghost use Rattle.agc_script.specs.Laws.{first_number, with_ranges};
 ghost use Rattle.agc_script.specs.Line.{repeat_of};
 ghost use Rattle.agc_script.specs.Parse.{events_of};
 ghost use Rattle.agc_script.specs.Said.{said_at};
@@ -38,4 +42,16 @@ pub fn merges_begin_with_what_is_due()
 pub fn there_is_one_merge()
     ensures { (events : List Event) (tape : List (ℕ × Key)) (all : List Event)
         → IsMerge events tape all → all ≡ merged events tape }
+{}
+
+/// The numbers that the parser reads and judges are those words of a command that have a range, each by
+/// that range, and a command that is understood has as many words as it asks for. So whoever explains a
+/// fault by [`Command::ranges`](crate::Command::ranges) goes by the parser's own.
+#[tactic(auto, using(crate::proofs::Ranges::as_many, crate::proofs::Ranges::in_ranges))]
+pub fn numbers_have_these_ranges()
+    ensures count { (command : Command) (words : List (List ℕ))
+        → IfSome (numbers_after words command) (λ _. length words ≡ argument_count command) }
+    ensures ranges { (command : Command) (words : List (List ℕ))
+        → IfSome (numbers_after words command)
+        (λ numbers. numbers ≡ with_ranges words (ranges_of command (first_number words))) }
 {}

@@ -26,6 +26,3 @@ pub use line::{EVERY, LONGEST_LINE, MOST_CYCLE_DIGITS, read_cycle};
 pub use script::Script;
 pub use tape::Tape;
 pub use text::{next_line, next_word};
-
-#[cfg(test)]
-mod tests;

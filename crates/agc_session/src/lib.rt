@@ -18,6 +18,3 @@ pub use files::{read_rope, read_script};
 pub use input::{InputFile, KEY_BYTES, ROPE_BYTES, ReadFault, SCRIPT_BYTES, Unread, read_limited};
 pub use options::Options;
 pub use refusal::Refusal;
-
-#[cfg(test)]
-mod tests;

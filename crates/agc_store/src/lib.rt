@@ -12,6 +12,3 @@ pub use addr::Addr;
 pub use rope::Rope;
 pub use rope_file::{RopeFault, RopeForm};
 pub use store::Store;
-
-#[cfg(test)]
-mod tests;

@@ -17,7 +17,7 @@ use Rattle.agc_study.specs.Listed.{IsFaulty, IsListing, IsWeaveRefused, bank_nam
 use Rattle.agc_study.specs.declared.trouble.Trouble.{Trouble}
 use Rattle.agc_study.specs.declared.trouble.Trouble.TheVariants as trouble
 use Rattle.agc_check.specs.declared.reports.Report.{Report}
-use Rattle.agc_study.specs.Checked.{IsChecked, IsCheckedOf}
+use Rattle.agc_study.specs.Checked.{AreKeysChecked, IsChecked, IsCheckedOf, IsListingChecked}
 
 -- a listing of a file's rope
 pub listing : (form : RopeForm) (bank : Option (String Global)) (known : Option (List ℕ)) (rope : List Number) (text : List ℕ)
@@ -42,3 +42,12 @@ checked form (Some rope) rope_left None script_left rope_read script_read report
 checked form (Some rope) rope_left (Some script) script_left rope_read script_read report c e d f h =
     let of_rope = subst (λ r. IsCheckedOf form r script_read report) (all_read (Some rope) rope_left rope_read c e) h in
     subst (λ s. IsCheckedOf form rope s report) (all_read (Some script) script_left script_read d f) of_rope
+
+-- a report on the bytes of a text of live keys, and of the text of a rope
+pub keys_checked : (before after : Option (List ℕ)) (text : List ℕ) (report : Report) → Consumes before after text → IsAtEnd after → AreKeysChecked text report
+    → IfSome before (λ all. AreKeysChecked all report)
+keys_checked before after text report c end h = of_all before after text (λ all. AreKeysChecked all report) c end h
+
+pub listing_checked : (before after : Option (List ℕ)) (text : List ℕ) (report : Report) → Consumes before after text → IsAtEnd after → IsListingChecked text report
+    → IfSome before (λ all. IsListingChecked all report)
+listing_checked before after text report c end h = of_all before after text (λ all. IsListingChecked all report) c end h

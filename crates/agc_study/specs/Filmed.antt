@@ -7,6 +7,7 @@ use Rattle.agc_machine.specs.State.{State}
 use Rattle.agc_film.specs.Page.{film_text, film_pair_text}
 use Rattle.agc_film.specs.Reel.{IsReelOf}
 use Rattle.agc_film.specs.declared.reel.Reel.{Reel}
+use Rattle.agc_film.specs.declared.title.RunFiles.{RunFiles}
 use Rattle.agc_study.specs.Started.{IsStartedOf}
 use Rattle.agc_study.specs.declared.asked.Filming.{Filming}
 
@@ -29,14 +30,14 @@ pub record IsFilm (head tail : List ℕ) (asked : Filming) (rope script : Option
     (page : String Global) : Type 0 where
   pub reel : Reel
   pub filmed : IsFilmed asked rope script reel
-  pub text : string_bytes page ≡ film_text head tail reel
+  pub text : string_bytes page ≡ film_text head tail asked.limit asked.files reel
 
--- the page of two runs side by side
-pub record IsFilmPair (head tail : List ℕ) (asked : Filming)
+-- the page of two runs side by side, the one on the right under the names of these files
+pub record IsFilmPair (head tail : List ℕ) (asked : Filming) (other : RunFiles)
     (left_rope left_script right_rope right_script : Option (List ℕ)) (page : String Global)
     : Type 0 where
   pub left : Reel
   pub right : Reel
   pub left_filmed : IsFilmed asked left_rope left_script left
   pub right_filmed : IsFilmed asked right_rope right_script right
-  pub text : string_bytes page ≡ film_pair_text head tail left right
+  pub text : string_bytes page ≡ film_pair_text head tail asked.limit asked.files left other right

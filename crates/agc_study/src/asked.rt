@@ -1,4 +1,5 @@
 //! What the program is asked for.
+use agc_film::RunFiles;
 use agc_store::RopeForm;
 use agc_trace::Selection;
 
@@ -29,12 +30,22 @@ pub struct Weaving {
     pub form: RopeForm,
 }
 
-/// A rope file and a script file to check.
+/// The files to check, of which there is one at least.
 #[derive(Debug, Drop)]
 pub struct Checking {
+    pub run: Option<CheckedRun>,
+    /// The text file of live keys.
+    pub keys: Option<String>,
+    /// The text file of a rope, as `weave` takes it.
+    pub listing: Option<String>,
+    pub form: RopeForm,
+}
+
+/// A rope file and a script file to check.
+#[derive(Debug, Drop)]
+pub struct CheckedRun {
     pub rope: String,
     pub script: String,
-    pub form: RopeForm,
 }
 
 /// A run to trace, and which of its lines are printed.
@@ -65,18 +76,11 @@ pub struct Comparing {
 /// A run to film, or two side by side.
 #[derive(Debug, Drop)]
 pub struct Filming {
-    pub rope: String,
-    pub script: String,
-    pub other: Option<OtherRun>,
+    pub files: RunFiles,
+    /// The files of the run on the right.
+    pub other: Option<RunFiles>,
     pub form: RopeForm,
     pub limit: u64,
     /// The text of `--until`.
     pub until: Option<String>,
-}
-
-/// The files of the run on the right.
-#[derive(Debug, Drop)]
-pub struct OtherRun {
-    pub rope: String,
-    pub script: String,
 }

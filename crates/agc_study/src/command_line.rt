@@ -36,9 +36,13 @@ fn weave_command<'a>(alloc: Global) -> Result<Command<'a>, AllocError> {
 
 fn check_command<'a>(alloc: Global) -> Result<Command<'a>, AllocError> {
     Command::new(alloc, "check")
-        .about("Tells what is wrong with a rope and a script, or what they hold.")
-        .arg(rope_file(alloc))?
-        .arg(script_file(alloc))?
+        .about(
+            "Tells what is wrong with a rope and a script, a text of live keys or the text of a rope, or what they hold.",
+        )
+        .arg(rope_file(alloc).required(false))?
+        .arg(script_file(alloc).required(false))?
+        .arg(keys_option(alloc))?
+        .arg(listing_option(alloc))?
         .arg(form_option(alloc))
 }
 
@@ -159,6 +163,20 @@ fn form_option<'a>(alloc: Global) -> Arg<'a> {
         .help(
             "The layout of the rope file: banks 2, 3, 0, 1, 4 to 43 octal, or 0 to 43 octal with odd parity",
         )
+}
+
+fn keys_option<'a>(alloc: Global) -> Arg<'a> {
+    Arg::new(alloc, "keys")
+        .long("keys")
+        .value_name("FILE")
+        .help("A text of keys for agc --live, to check it too")
+}
+
+fn listing_option<'a>(alloc: Global) -> Arg<'a> {
+    Arg::new(alloc, "listing")
+        .long("listing")
+        .value_name("FILE")
+        .help("The text of a rope for weave, to check it too")
 }
 
 fn bank_option<'a>(alloc: Global) -> Arg<'a> {

@@ -6,7 +6,7 @@ ghost use Rattle.agc_study.specs.Started.{IsPairRefused, IsRefused};
 use crate::asked::Filming;
 use crate::runs::read_machine;
 use crate::trouble::Trouble;
-use agc_film::{HEAD, Reel, TAIL, film, push_film, push_film_pair};
+use agc_film::{HEAD, Reel, RunFiles, TAIL, film, push_film, push_film_pair};
 use agc_progress::Progress;
 use agc_session::Refusal;
 use std::alloc::Global;
@@ -28,22 +28,23 @@ pub fn film_files<R: Read, S: Read, P: Progress>(
 {
     let reel = read_reel(alloc, asked, rope, script, progress)?;
     let mut page = String::new(alloc);
-    push_film(&mut page, &reel)?;
+    push_film(&mut page, asked.limit, &asked.files, &reel)?;
     Ok(page)
 }
 
-/// Reads two ropes and two scripts, and makes the page that shows their runs side by side. The refusal is
-/// that of the run on the left, or where there is none that of the run on the right, told as the other run's.
+/// Reads two ropes and two scripts, and makes the page that shows their runs side by side, the one on the right
+/// under the names of other files. The refusal is that of the run on the left, or where there is none that of the run on the right, told as the other run's.
 pub fn film_file_pairs<R: Read, S: Read, T: Read, U: Read, P: Progress>(
     alloc: Global,
     asked: &Filming,
+    other: &RunFiles,
     left_rope: &mut R,
     left_script: &mut S,
     right_rope: &mut T,
     right_script: &mut U,
     progress: &mut P,
 ) -> Result<String, Trouble>
-    ensures film { IfOk result (IsFilmPair HEAD.now TAIL.now asked.now
+    ensures film { IfOk result (IsFilmPair HEAD.now TAIL.now asked.now other.now
         (R.remaining left_rope.old) (S.remaining left_script.old)
         (T.remaining right_rope.old) (U.remaining right_script.old)) }
     ensures refused { IfErr result (IsPairRefused asked.now.form asked.now.until asked.now.limit
@@ -56,7 +57,7 @@ pub fn film_file_pairs<R: Read, S: Read, T: Read, U: Read, P: Progress>(
         Err(refusal) => return Err(Trouble::of_other_run(refusal)),
     };
     let mut page = String::new(alloc);
-    match push_film_pair(&mut page, &left, &right) {
+    match push_film_pair(&mut page, asked.limit, &asked.files, &left, other, &right) {
         Ok(()) => Ok(page),
         Err(_) => Err(Trouble::Refused(Refusal::Memory)),
     }

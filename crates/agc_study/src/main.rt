@@ -28,7 +28,7 @@ use agc_session::{DONE, InputFile, Refusal, UNWRITTEN, status_of};
 use agc_store::RopeForm;
 use agc_trace::{TraceFault, trace};
 use asked::{Asked, Checking, Comparing, Filming, Listing, Tracing, Weaving};
-use checks::check_files;
+use checks::{check_key_file, check_listing_file, check_with, joined};
 use compares::{Told, compare_files};
 use films::{film_file_pairs, film_files};
 use ropes::{list_rope, weave_text};
@@ -154,37 +154,79 @@ where
     }
 }
 
-/// Checks a rope file and a script file.
+/// Checks the files that are given.
 fn check_to<R, W: Write, E: Write>(rt: &R, checking: &Checking, out: &mut W, err: &mut E) -> u8
 where
     R: Files + AllocGlobal,
     ensures ended { IsEnded result (W.contents out.old) (W.contents out.new)
         (E.contents err.old) (E.contents err.new) }
 {
-    let mut rope = InputFile::new(fs::open(rt, checking.rope.as_str()));
-    let mut script = InputFile::new(fs::open(rt, checking.script.as_str()));
-    write_check(rt.alloc(), checking.form, &mut rope, &mut script, out, err)
+    let more = match more_checked(rt, checking) {
+        Ok(more) => more,
+        Err(trouble) => return status_of(TROUBLE, trouble.write_to(err)),
+    };
+    let Some(run) = &checking.run else {
+        return match more {
+            Some(report) => write_report(&report, out),
+            None => DONE,
+        };
+    };
+    let mut rope = InputFile::new(fs::open(rt, run.rope.as_str()));
+    let mut script = InputFile::new(fs::open(rt, run.script.as_str()));
+    write_check(
+        rt.alloc(),
+        checking.form,
+        &mut rope,
+        &mut script,
+        &more,
+        out,
+        err,
+    )
 }
 
-/// Checks a rope and a script, and writes what is told of them.
+/// What is told of the text of live keys and of the text of a rope, where they are given.
+fn more_checked<R>(rt: &R, checking: &Checking) -> Result<Option<Report>, Trouble>
+where
+    R: Files + AllocGlobal,
+{
+    let keys = match &checking.keys {
+        Some(path) => {
+            let mut file = InputFile::new(fs::open(rt, path.as_str()));
+            Some(check_key_file(rt.alloc(), &mut file)?)
+        }
+        None => None,
+    };
+    let Some(path) = &checking.listing else {
+        return Ok(keys);
+    };
+    let mut file = InputFile::new(fs::open(rt, path.as_str()));
+    let listing = check_listing_file(rt.alloc(), &mut file)?;
+    match keys {
+        Some(keys) => Ok(Some(joined(keys, &listing)?)),
+        None => Ok(Some(listing)),
+    }
+}
+
+/// Checks a rope and a script, and writes what is told of them, and then what is told of other files.
 fn write_check<R: Read, S: Read, W: Write, E: Write>(
     alloc: Global,
     form: RopeForm,
     rope: &mut R,
     script: &mut S,
+    more: &Option<Report>,
     out: &mut W,
     err: &mut E,
 ) -> u8
     ensures ended { IsEnded result (W.contents out.old) (W.contents out.new)
         (E.contents err.old) (E.contents err.new) }
     ensures sound { result ≡ 0 → IsCheckWritten form
-        (R.remaining rope.old) (S.remaining script.old) true
+        (R.remaining rope.old) (S.remaining script.old) more.now true
         (W.contents out.old) (W.contents out.new) }
     ensures faulty { result ≡ 1 → IsCheckWritten form
-        (R.remaining rope.old) (S.remaining script.old) false
+        (R.remaining rope.old) (S.remaining script.old) more.now false
         (W.contents out.old) (W.contents out.new) }
 {
-    match check_files(alloc, form, rope, script) {
+    match check_with(alloc, form, rope, script, more) {
         Ok(report) => write_report(&report, out),
         Err(trouble) => status_of(TROUBLE, trouble.write_to(err)),
     }
@@ -315,8 +357,8 @@ where
     R: Files + AllocGlobal,
 {
     let alloc = rt.alloc();
-    let mut rope = InputFile::new(fs::open(rt, asked.rope.as_str()));
-    let mut script = InputFile::new(fs::open(rt, asked.script.as_str()));
+    let mut rope = InputFile::new(fs::open(rt, asked.files.rope.as_str()));
+    let mut script = InputFile::new(fs::open(rt, asked.files.script.as_str()));
     let Some(other) = &asked.other else {
         return Ok(film_files(alloc, asked, &mut rope, &mut script, progress)?);
     };
@@ -325,6 +367,7 @@ where
     film_file_pairs(
         alloc,
         asked,
+        other,
         &mut rope,
         &mut script,
         &mut other_rope,

@@ -3,7 +3,7 @@ mod ends;
 mod progress;
 
 use crate::asked::{Asked, Comparing, Filming};
-use crate::checks::check_files;
+use crate::checks::{check_files, check_key_file, check_listing_file, check_with};
 use crate::compares::compare_files;
 use crate::films::film_files;
 use crate::ropes::{list_rope, weave_text};
@@ -12,6 +12,7 @@ use crate::trouble::Trouble;
 use crate::words::asked_by;
 use crate::{run, write_report, write_told};
 use agc_args::ArgsFault;
+use agc_film::RunFiles;
 use agc_progress::{Progress, Untold};
 use agc_rope_text::{LineFault, WeaveFault};
 use agc_session::Refusal;
@@ -63,6 +64,8 @@ fn help(rt: HostRuntime) {
         ("agc-study weave --help", "FILE"),
         ("agc-study weave --help", "--form"),
         ("agc-study check --help", "SCRIPT"),
+        ("agc-study check --help", "--keys"),
+        ("agc-study check --help", "--listing"),
         ("agc-study trace --help", "SCRIPT"),
         ("agc-study trace --help", "--until"),
         ("agc-study trace --help", "--only"),
@@ -88,7 +91,10 @@ fn mistakes(rt: HostRuntime) {
         "agc-study list rope --form other",
         "agc-study weave",
         "agc-study weave text --bank 02",
+        "agc-study check",
         "agc-study check rope",
+        "agc-study check rope --keys keys",
+        "agc-study check rope script more",
         "agc-study check rope script --limit 10",
         "agc-study trace rope script",
         "agc-study trace rope --limit 10",
@@ -117,6 +123,14 @@ fn troubles(rt: HostRuntime) {
         (
             "agc-study check nothing nothing",
             "agc-study: cannot read rope\n",
+        ),
+        (
+            "agc-study check --keys nothing",
+            "agc-study: cannot read keys\n",
+        ),
+        (
+            "agc-study check nothing nothing --listing nothing",
+            "agc-study: cannot read text\n",
         ),
         (
             "agc-study trace nothing nothing --limit 10",
@@ -185,12 +199,12 @@ fn files_are_checked(rt: HostRuntime) -> Result<(), Fail> {
         (
             b"7 key 1\n",
             0,
-            "rope: words 1, banks 1\nscript: events 1, first cycle 7, last cycle 7\n",
+            "rope: words 1, banks 1\n    at these interrupt vectors stands +0, and a run goes astray there: 4004 4010 4014 4020 4024 4030 4034 4040 4044 4050\nscript: events 1, first cycle 7, last cycle 7\n",
         ),
         (
             b"7 raise 0\n",
             1,
-            "rope: words 1, banks 1\nscript line 1: OutOfRange\n    7 raise 0\n    `0` is out of range: 1 to 10 decimal\n",
+            "rope: words 1, banks 1\n    at these interrupt vectors stands +0, and a run goes astray there: 4004 4010 4014 4020 4024 4030 4034 4040 4044 4050\nscript line 1: OutOfRange\n    7 raise 0\n    `0` is out of range: 1 to 10 decimal\n",
         ),
     ];
     for (script, status, told) in scripts {
@@ -202,6 +216,57 @@ fn files_are_checked(rt: HostRuntime) -> Result<(), Fail> {
         let mut out = Vec::new(alloc);
         assert_eq!(rt; write_report(&report, &mut out), status);
         assert!(rt; out.as_slice() == told.as_bytes());
+    }
+    Ok(())
+}
+
+/// Keys and the text of a rope, each sound and at fault.
+#[test]
+fn keys_and_listings_are_checked(rt: HostRuntime) -> Result<(), Fail> {
+    let alloc = rt.alloc();
+    let texts: [(&[u8], &[u8], &str, &str); 2] = [
+        (b"VERB 3", b"4000 14000", "keys: 2\n", "text: no fault\n"),
+        (
+            b"VERB 33",
+            b"4000 1400",
+            "keys: BadKey\n    word 2: `33` is no key; the nearest is `3`\n",
+            "text line 1: BadWord\n    4000 1400\n    `1400` is no word: five octal digits\n",
+        ),
+    ];
+    for (keys, listing, keys_told, listing_told) in texts {
+        let (mut keys, mut listing) = (keys, listing);
+        let of_keys = check_key_file(alloc, &mut keys).ok().ok_or("a report")?;
+        assert_eq!(rt; of_keys.text.as_str(), keys_told);
+        let of_listing = check_listing_file(alloc, &mut listing)
+            .ok()
+            .ok_or("a report")?;
+        assert_eq!(rt; of_listing.text.as_str(), listing_told);
+    }
+    Ok(())
+}
+
+/// What is told of other files stands last, and a fault of theirs is one of all.
+#[test]
+fn other_files_are_told_last(rt: HostRuntime) -> Result<(), Fail> {
+    let alloc = rt.alloc();
+    for (keys, status, told) in [
+        (b"ENTR".as_slice(), 0, "\nscript: events 0\nkeys: 1\n"),
+        (
+            b"ENTER".as_slice(),
+            1,
+            "\nscript: events 0\nkeys: BadKey\n    word 1: `ENTER` is no key; the nearest is `ENTR`\n",
+        ),
+    ] {
+        let mut keys = keys;
+        let more = check_key_file(alloc, &mut keys).ok();
+        let (mut rope, mut script): (&[u8], &[u8]) = (&[0x70, 0x08], b"");
+        let report = check_with(alloc, RopeForm::Classic, &mut rope, &mut script, &more)
+            .ok()
+            .ok_or("a report")?;
+        assert!(rt; report.text.as_str().starts_with("rope: words 1, banks 1\n"));
+        assert!(rt; report.text.as_str().ends_with(told));
+        let mut out = Vec::new(alloc);
+        assert_eq!(rt; write_report(&report, &mut out), status);
     }
     Ok(())
 }
@@ -297,8 +362,10 @@ fn the_run_at_fault_is_named(rt: HostRuntime) -> Result<(), Fail> {
 fn runs_are_filmed(rt: HostRuntime) -> Result<(), Fail> {
     let alloc = rt.alloc();
     let asked = Filming {
-        rope: String::new(alloc),
-        script: String::new(alloc),
+        files: RunFiles {
+            rope: String::from_str(alloc, "prog12")?,
+            script: String::from_str(alloc, "pro")?,
+        },
         other: None,
         form: RopeForm::Classic,
         limit: 10,
@@ -309,6 +376,10 @@ fn runs_are_filmed(rt: HostRuntime) -> Result<(), Fail> {
     let page = film_files(alloc, &asked, &mut rope, &mut script, &mut Untold)
         .ok()
         .ok_or("a page")?;
+    assert!(rt;
+        page.as_str()
+            .contains("\nrope prog12\nscript pro\nlimit 10\n")
+    );
     assert!(rt; page.as_str().contains("\nframe 3\nPROG 12\nVERB __\n"));
     assert!(rt; page.as_str().contains("\nkey 7 PRO\nstop 10 Limit\n"));
     assert!(rt; !page.as_str().contains("frame 7"));

@@ -1,7 +1,8 @@
 //! The words of a command line to what they ask for.
-use crate::asked::{Asked, Checking, Comparing, Filming, Listing, OtherRun, Tracing, Weaving};
+use crate::asked::{Asked, CheckedRun, Checking, Comparing, Filming, Listing, Tracing, Weaving};
 use crate::command_line::command;
 use agc_args::{ArgsFault, fault_of};
+use agc_film::RunFiles;
 use agc_store::RopeForm;
 use agc_trace::{Only, Selection};
 use clap::ArgMatches;
@@ -65,12 +66,37 @@ fn weaving_of(alloc: Global, given: &ArgMatches<'_>) -> Result<Weaving, AllocErr
     })
 }
 
-fn checking_of(alloc: Global, given: &ArgMatches<'_>) -> Result<Checking, AllocError> {
+fn checking_of(alloc: Global, given: &ArgMatches<'_>) -> Result<Checking, ArgsFault> {
+    let run = checked_run_of(alloc, given)?;
+    let keys = text_of(alloc, given, "keys")?;
+    let listing = text_of(alloc, given, "listing")?;
+    if run.is_none() && keys.is_none() && listing.is_none() {
+        return Err(mistake(
+            alloc,
+            "error: check needs a ROPE and a SCRIPT, or --keys or --listing\n",
+        ));
+    }
     Ok(Checking {
-        rope: path_of(alloc, given, "rope")?,
-        script: path_of(alloc, given, "script")?,
+        run,
+        keys,
+        listing,
         form: form_of(given),
     })
+}
+
+/// The rope and the script to check, of which there are both or none.
+fn checked_run_of(alloc: Global, given: &ArgMatches<'_>) -> Result<Option<CheckedRun>, ArgsFault> {
+    match (given.get_str("rope"), given.get_str("script")) {
+        (Some(rope), Some(script)) => Ok(Some(CheckedRun {
+            rope: String::from_str(alloc, rope)?,
+            script: String::from_str(alloc, script)?,
+        })),
+        (None, None) => Ok(None),
+        (Some(_), None) | (None, Some(_)) => Err(mistake(
+            alloc,
+            "error: check needs a SCRIPT beside its ROPE\n",
+        )),
+    }
 }
 
 fn tracing_of(alloc: Global, given: &ArgMatches<'_>) -> Result<Tracing, AllocError> {
@@ -102,8 +128,10 @@ fn comparing_of(alloc: Global, given: &ArgMatches<'_>) -> Result<Comparing, Allo
 
 fn filming_of(alloc: Global, given: &ArgMatches<'_>) -> Result<Filming, ArgsFault> {
     Ok(Filming {
-        rope: path_of(alloc, given, "rope")?,
-        script: path_of(alloc, given, "script")?,
+        files: RunFiles {
+            rope: path_of(alloc, given, "rope")?,
+            script: path_of(alloc, given, "script")?,
+        },
         other: other_run_of(alloc, given)?,
         form: form_of(given),
         limit: number_of(given, "limit", 0),
@@ -112,9 +140,9 @@ fn filming_of(alloc: Global, given: &ArgMatches<'_>) -> Result<Filming, ArgsFaul
 }
 
 /// The files of the other run, of which there are both or none.
-fn other_run_of(alloc: Global, given: &ArgMatches<'_>) -> Result<Option<OtherRun>, ArgsFault> {
+fn other_run_of(alloc: Global, given: &ArgMatches<'_>) -> Result<Option<RunFiles>, ArgsFault> {
     match (given.get_str("other-rope"), given.get_str("other-script")) {
-        (Some(rope), Some(script)) => Ok(Some(OtherRun {
+        (Some(rope), Some(script)) => Ok(Some(RunFiles {
             rope: String::from_str(alloc, rope)?,
             script: String::from_str(alloc, script)?,
         })),

@@ -5,8 +5,6 @@ mod entry;
 pub mod laws;
 mod line;
 mod selection;
-#[cfg(test)]
-mod tests;
 mod tracing;
 
 pub use entry::{Entry, Registers, next_entry};

@@ -22,6 +22,3 @@ pub use narrow::Narrow;
 pub use numeral::{read_decimal, read_octal};
 pub use pulse::{Carry, Pulse};
 pub use wide::{Over, Wide, widen};
-
-#[cfg(test)]
-mod tests;

@@ -1,8 +1,8 @@
-use Rattle.std.proofs.Common.{◌≡◌, ◌++◌, take}
-use Rattle.std.specs.Prelude.{flat_map, string_bytes}
-use Rattle.agc_film.specs.Page.{frame_text}
+use Rattle.std.proofs.Common.{◌≡◌, ◌++◌, string_bytes, take}
+use Rattle.agc_panel.specs.TablesText.{numbered}
+use Rattle.agc_film.specs.Page.{placed_frame}
 use Rattle.agc_film.proofs.page_text.push_frames.Given as goal
 
--- the lines so far
-abbrev pub invariant-loop-frame : goal.invariant-loop-frame
-invariant-loop-frame l = string_bytes l.text ≡ string_bytes l.initial.text ++ flat_map frame_text (take l.frame-index l.frames)
+-- the frames so far
+abbrev pub invariant-loop-place : goal.invariant-loop-place
+invariant-loop-place l = string_bytes l.text ≡ string_bytes l.initial.text ++ numbered (placed_frame l.name) (take l.place l.frames)

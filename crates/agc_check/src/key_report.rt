@@ -1,0 +1,103 @@
+//! What is wrong with a text of live keys, for a person; or how many keys it names.
+ghost use Rattle.std.specs.Prelude.{◌≡◌, ◌++◌, IfOk, OnOk, is_none, is_some, map, string_bytes};
+ghost use Rattle.std.specs.List.{list_any};
+ghost use Rattle.agc_script.specs.Key.{key_named};
+ghost use Rattle.agc_session.specs.Keys.{all_there, is_white, names_in};
+ghost use Rattle.agc_check.specs.KeyReport.{IsKeyReport, are_keys, key_holdings_text};
+
+use crate::remarks::{is_pro, push_no_key, push_quoted};
+use crate::reports::Report;
+use agc_script::Key;
+use std::alloc::{AllocError, Global};
+
+/// The most bytes of a word that are shown.
+const SHOWN_BYTES: usize = 120;
+
+/// Looks at a text of live keys. The text tells how many keys it names, or the first word that is no key's,
+/// and what is wanted. Fails where memory runs out.
+#[tactic(auto, unfolding(crate::specs::KeyReport::are_keys))]
+pub fn check_keys(alloc: Global, file: &[u8]) -> Result<Report, AllocError>
+    ensures sound { IfOk result (λ report. report.is_sound ≡ are_keys file.now) }
+    ensures text { IfOk result (λ report. IsKeyReport file.now (string_bytes report.text)) }
+{
+    let found = found_keys(alloc, file)?;
+    let mut text = String::new(alloc);
+    let is_sound = are_all_there(found.as_slice());
+    if is_sound {
+        push_key_holdings(&mut text, found.len())?;
+    } else {
+        text.push_str("keys: BadKey\n")?;
+        let remark = remark(alloc, file)?;
+        text.push_str(remark.as_str())?;
+    }
+    Ok(Report { text, is_sound })
+}
+
+/// The key of each name, where it is a key's.
+#[tactic(auto, unfolding(agc_session::specs::Keys::names_in))]
+fn found_keys(alloc: Global, file: &[u8]) -> Result<Vec<Option<Key>>, AllocError>
+    ensures { IfOk result (λ found. found.items ≡ map key_named (names_in file.now)) }
+{
+    file.split(|b| is_white(*b))
+        .filter(|name| !name.is_empty())
+        .map(|name| Key::from_name(name))
+        .collect(alloc)
+}
+
+/// Whether every name is a key's.
+#[tactic(auto, using(crate::proofs::AllKeys::none_missing))]
+fn are_all_there(found: &[Option<Key>]) -> bool
+    ensures { result ≡ is_some (all_there found.now) }
+{
+    !is_one_missing(found)
+}
+
+fn is_one_missing(found: &[Option<Key>]) -> bool
+    ensures { result ≡ list_any is_none found.now }
+{
+    found.iter().any(|key| key.is_none())
+}
+
+#[tactic(auto, unfolding(crate::specs::KeyReport::key_holdings_text))]
+fn push_key_holdings(text: &mut String, count: usize) -> Result<(), AllocError>
+    ensures { OnOk result (string_bytes text.new ≡ string_bytes text.old ++ key_holdings_text count) }
+{
+    writeln!(text, "keys: {count}")
+}
+
+/// The line on the first word that is no key's: its number, counted from 1, and what is wanted.
+fn remark(alloc: Global, file: &[u8]) -> Result<String, AllocError> {
+    let mut text = String::new(alloc);
+    let words = file.split(|b| is_white(*b)).filter(|name| !name.is_empty());
+    for (number, word) in (1..usize::MAX).zip(words) {
+        if Key::from_name(word).is_none() {
+            write!(text, "    word {number}: ")?;
+            push_bad_key(alloc, &mut text, word)?;
+            break;
+        }
+    }
+    Ok(text)
+}
+
+/// Adds why a word is no key's.
+fn push_bad_key(alloc: Global, text: &mut String, word: &[u8]) -> Result<(), AllocError> {
+    let word = if word.len() > SHOWN_BYTES {
+        let (start, _) = word.split_at(SHOWN_BYTES);
+        start
+    } else {
+        word
+    };
+    if is_pro(alloc, word)? {
+        push_quoted(text, word)?;
+        return text.push_str(
+            " belongs into the script: the lines `pro down` and `pro up` press it and let it go\n",
+        );
+    }
+    push_no_key(alloc, text, word)
+}
+
+fn is_white(b: u8) -> bool
+    ensures { result ≡ is_white b }
+{
+    b == b' ' || b == b'\t' || b == b'\r' || b == b'\n'
+}

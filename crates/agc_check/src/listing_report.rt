@@ -1,0 +1,128 @@
+//! What is wrong with the text of a rope, for a person.
+ghost use Rattle.std.specs.Prelude.{◌≡◌, ◌++◌, IfOk, OnOk, is_ok, string_bytes};
+ghost use Rattle.agc_rope_text.specs.Weave.{said_in};
+ghost use Rattle.agc_check.specs.ListingReport.{IsListingReport, line_fault_name, listing_fault_text};
+
+use crate::remarks::{push_quoted, words_of};
+use crate::reports::Report;
+use crate::shown::push_line;
+use agc_rope_text::{LineFault, WeaveFault, weave};
+use agc_store::RopeForm;
+use std::alloc::{AllocError, Global};
+
+/// Looks at the text of a rope, as `weave` takes it. The text tells that it has no fault, or the first fault of
+/// its first faulty line, and what is wrong there. Fails where memory runs out.
+pub fn check_listing(alloc: Global, file: &[u8]) -> Result<Report, AllocError>
+    ensures sound { IfOk result (λ report. report.is_sound ≡ is_ok (said_in file.now)) }
+    ensures text { IfOk result (λ report. IsListingReport file.now (string_bytes report.text)) }
+{
+    let mut text = String::new(alloc);
+    match weave(alloc, RopeForm::Classic, file) {
+        Ok(_) => {
+            text.push_str("text: no fault\n")?;
+            Ok(Report {
+                text,
+                is_sound: true,
+            })
+        }
+        Err(WeaveFault::Memory) => Err(AllocError),
+        Err(WeaveFault::Line(number, fault)) => {
+            push_listing_fault(&mut text, number, fault)?;
+            let remark = remark(alloc, file, number, fault)?;
+            text.push_str(remark.as_str())?;
+            Ok(Report {
+                text,
+                is_sound: false,
+            })
+        }
+    }
+}
+
+/// Adds the number of a line and its fault.
+#[tactic(auto, unfolding(crate::specs::ListingReport::listing_fault_text))]
+fn push_listing_fault(text: &mut String, number: usize, fault: LineFault) -> Result<(), AllocError>
+    ensures { OnOk result
+        (string_bytes text.new ≡ string_bytes text.old ++ listing_fault_text number fault) }
+{
+    write!(text, "text line {number}: ")?;
+    text.push_str(line_fault_name(fault))?;
+    text.push_str("\n")
+}
+
+fn line_fault_name(fault: LineFault) -> &'static str
+    ensures { result.now ≡ line_fault_name fault }
+{
+    match fault {
+        LineFault::NotText => "NotText",
+        LineFault::BadAddress => "BadAddress",
+        LineFault::BadWord => "BadWord",
+        LineFault::NamedTwice => "NamedTwice",
+    }
+}
+
+/// The faulty line, and below it the word that is wrong and what is wanted.
+fn remark(
+    alloc: Global,
+    file: &[u8],
+    number: usize,
+    fault: LineFault,
+) -> Result<String, AllocError> {
+    let mut text = String::new(alloc);
+    let mut lines = file.split(|b| *b == b'\n');
+    let line = match lines.nth(number.saturating_sub(1)) {
+        Some([start @ .., b'\r']) => start,
+        Some(line) => line,
+        None => file,
+    };
+    text.push_str("    ")?;
+    push_line(&mut text, line)?;
+    text.push_str("\n    ")?;
+    let words = words_of(alloc, line)?;
+    push_why(&mut text, fault, words.as_slice())?;
+    Ok(text)
+}
+
+fn push_why(text: &mut String, fault: LineFault, words: &[&[u8]]) -> Result<(), AllocError> {
+    match fault {
+        LineFault::NotText => push_not_text(text, words),
+        LineFault::BadAddress => push_bad_address(text, words),
+        LineFault::BadWord => push_bad_word(text, words),
+        LineFault::NamedTwice => {
+            push_word(text, words, 0)?;
+            text.push_str(" is named by an earlier line too: each place has one line\n")
+        }
+    }
+}
+
+/// Adds the word at a place, or what stands for it where there is none.
+fn push_word(text: &mut String, words: &[&[u8]], place: usize) -> Result<(), AllocError> {
+    if place < words.len() {
+        push_quoted(text, words[place])
+    } else {
+        text.push_str("the line")
+    }
+}
+
+fn push_not_text(text: &mut String, words: &[&[u8]]) -> Result<(), AllocError> {
+    let place = words
+        .iter()
+        .position(|word| word.iter().any(|b| *b < 0x20 || *b >= 0x7F));
+    push_word(text, words, place.unwrap_or(words.len()))?;
+    text.push_str(" has a byte that is neither a tab nor one that prints in ASCII\n")
+}
+
+fn push_bad_address(text: &mut String, words: &[&[u8]]) -> Result<(), AllocError> {
+    push_word(text, words, 0)?;
+    text.push_str(
+        " is no place of a rope: 4000 to 7777, or a bank from 00 to 43 and an address, as 04,2000; a comment begins with #\n",
+    )
+}
+
+fn push_bad_word(text: &mut String, words: &[&[u8]]) -> Result<(), AllocError> {
+    if words.len() > 1 {
+        push_quoted(text, words[1])?;
+        text.push_str(" is no word: five octal digits\n")
+    } else {
+        text.push_str("the word is missing: five octal digits after the place\n")
+    }
+}

@@ -1,0 +1,6 @@
+//! Worked values and runs of the libraries from the memory to the machine, by their public calls. They stand in
+//! a crate of their own, so that no library is proved a second time for them.
+#![tactic(auto)]
+
+#[cfg(test)]
+mod tests;

@@ -1,0 +1,102 @@
+//! Runs of small programs, worked out by hand. The numbers are octal, but for cycles.
+mod events;
+mod runs;
+mod timing;
+mod upcoming;
+
+use agc_listing::rope_file;
+use agc_machine::{Machine, Next, Stepped, Stop};
+use agc_script::Script;
+use agc_store::{Addr, Rope};
+use std::process::Abort;
+use std::test::Fail;
+
+/// The rope of this listing, with +0 between its words.
+fn rope(rt: &impl AllocGlobal, listing: &str) -> Result<Rope, Fail> {
+    let bytes = rope_file(rt.alloc(), listing)?;
+    Ok(Rope::read(rt.alloc(), bytes.as_slice())?)
+}
+
+/// The machine at the start of a run of this listing.
+fn machine(
+    rt: &(impl AllocGlobal + Abort),
+    listing: &str,
+    script: &str,
+    limit: u64,
+) -> Result<Machine, Fail> {
+    let rope = rope(rt, listing)?;
+    let script = Script::parse(rt.alloc(), script.as_bytes())?;
+    Ok(
+        Machine::new(rope, script, limit)
+            .ok()
+            .expect(rt, "the limit is in range"),
+    )
+}
+
+/// The machine where such a run has stopped at its very limit, without a channel write.
+fn run(
+    rt: &(impl AllocGlobal + Abort),
+    listing: &str,
+    script: &str,
+    limit: u64,
+) -> Result<Machine, Fail> {
+    let mut machine = machine(rt, listing, script, limit)?;
+    stopped(rt, &mut machine, Stop::Limit, limit);
+    Ok(machine)
+}
+
+/// The pattern of a cell of erasable bank 0.
+fn cell(machine: &Machine, offset: u8) -> u16 {
+    machine.store().cell(0, u16::from(offset)).bits()
+}
+
+/// A, L, Q and Z; A and Q are wide.
+fn registers(machine: &Machine) -> [u16; 4] {
+    let store = machine.store();
+    [
+        store.a().bits(),
+        store.l().bits(),
+        store.q().bits(),
+        store.z().bits(),
+    ]
+}
+
+/// A channel's pattern at the present cycle.
+fn channel(machine: &Machine, number: u8) -> u16 {
+    machine.channel(u16::from(number)).bits()
+}
+
+/// The next write is of this value to this channel; returns its cycle.
+fn next_cycle(rt: &impl Abort, machine: &mut Machine, channel: u16, value: u16) -> u64 {
+    let Next::Wrote(write) = machine.next_write() else {
+        panic!(rt; "stopped before the write");
+    };
+    assert_eq!(rt; write.channel, channel);
+    assert_eq!(rt; write.value.bits(), value);
+    write.cycle
+}
+
+/// The next write is this one.
+fn wrote(rt: &impl Abort, machine: &mut Machine, cycle: u64, channel: u16, value: u16) {
+    assert_eq!(rt; next_cycle(rt, machine, channel, value), cycle);
+}
+
+/// No write comes any more, and the machine stops at this cycle.
+fn stopped(rt: &impl Abort, machine: &mut Machine, why: Stop, cycle: u64) {
+    assert_eq!(rt; machine.next_write(), Next::Stopped(why));
+    assert_eq!(rt; machine.cycle(), cycle);
+}
+
+/// One boundary that shows nothing outside.
+fn quiet(rt: &impl Abort, machine: &mut Machine) {
+    assert_eq!(rt; machine.step(None), Stepped::Quiet);
+}
+
+/// The run of a fresh machine up to an address.
+fn until(rt: &impl Abort, machine: Machine, bank: u8, address: u16) -> Machine {
+    assert!(rt; machine.fresh());
+    machine.until(
+        bank,
+        Addr::new(address).expect(rt, "an address of twelve bits"),
+    )
+}

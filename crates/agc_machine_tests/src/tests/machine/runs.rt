@@ -1,0 +1,198 @@
+//! Whole runs: their channel writes, their limits and their stops.
+use super::*;
+use agc_listing::{DIVISION, IDLE, RELAY_WORD, WRITES};
+use agc_machine::{ChannelWrite, LimitFault, Refused, StopAddress};
+use agc_store::Store;
+use agc_word::Narrow;
+use std::test::Fail;
+
+/// EXTEND, WRITE 10, TCF 4000, again and again: a write of +0 each four cycles, the first at cycle 1
+/// and the last, after 17 timer steps of one cycle, at 4 * 999 + 1 + 17.
+#[test]
+fn thousand_writes(rt: HostRuntime) -> Result<(), Fail> {
+    let mut machine = machine(&rt, WRITES, "", 4018)?;
+    let mut cycles = Vec::new(rt.alloc());
+    for _ in 0..1000 {
+        cycles.push(next_cycle(&rt, &mut machine, 0o10, 0o00000))?;
+    }
+    assert_eq!(rt; cycles.get(0), Some(&1));
+    assert_eq!(rt; cycles.get(1), Some(&5));
+    assert_eq!(rt; cycles.get(999), Some(&4014));
+    stopped(&rt, &mut machine, Stop::Limit, 4018);
+    Ok(())
+}
+
+/// DV of 2 by 1: a stop that leaves A, L and the cycle, after the write of A.
+#[test]
+fn undefined_division_stops(rt: HostRuntime) -> Result<(), Fail> {
+    let mut machine = machine(&rt, DIVISION, "0 poke 0 100 1", 100)?;
+    division_stops(&rt, &mut machine);
+    Ok(())
+}
+
+/// The same run under the largest limit.
+#[test]
+fn largest_limit(rt: HostRuntime) -> Result<(), Fail> {
+    let mut machine = machine(&rt, DIVISION, "0 poke 0 100 1", 1_000_000_000_000)?;
+    division_stops(&rt, &mut machine);
+    Ok(())
+}
+
+/// One write, then the stop at cycle 6, which stays.
+fn division_stops(rt: &impl Abort, machine: &mut Machine) {
+    wrote(rt, machine, 3, 0o10, 0o00002);
+    stopped(rt, machine, Stop::DivisionUndefined, 6);
+    stopped(rt, machine, Stop::DivisionUndefined, 6);
+    assert_eq!(rt; registers(machine), [0o000002, 0, 0, 0o4005]);
+    assert_eq!(rt; machine.wants_key(), false);
+}
+
+/// A write of +0 to channel 10 at this cycle.
+fn write_at(cycle: u64) -> ChannelWrite {
+    ChannelWrite {
+        cycle,
+        channel: 0o10,
+        value: Narrow::PLUS_ZERO,
+    }
+}
+
+/// EXTEND, WRITE 10, TCF 4000 write at the cycles 1 and 5. EXTEND ends at 1, the first write at 3,
+/// TCF at 4 and EXTEND again at 5, which are as far as a way to the cycle 1, 5, 4 and 5 goes.
+#[test]
+fn the_way_to_a_cycle(rt: HostRuntime) -> Result<(), Fail> {
+    let mut machine = machine(&rt, WRITES, "", 7)?;
+    assert_eq!(rt; machine.next_write_before(1), Stepped::Quiet);
+    assert_eq!(rt; machine.cycle(), 1);
+    assert_eq!(rt; machine.next_write_before(5), Stepped::Wrote(write_at(1)));
+    assert_eq!(rt; machine.cycle(), 3);
+    assert_eq!(rt; machine.next_write_before(4), Stepped::Quiet);
+    assert_eq!(rt; machine.cycle(), 4);
+    assert_eq!(rt; machine.next_write_before(5), Stepped::Quiet);
+    assert_eq!(rt; machine.cycle(), 5);
+    assert_eq!(rt;
+        machine.next_write_before(1000),
+        Stepped::Wrote(write_at(5))
+    );
+    assert_eq!(rt;
+        machine.next_write_before(1000),
+        Stepped::Stopped(Stop::Limit)
+    );
+    assert_eq!(rt; machine.next_write_before(0), Stepped::Stopped(Stop::Limit));
+    Ok(())
+}
+
+/// EXTEND, EDRUPT: the stop is at cycle 1, as EDRUPT takes none.
+#[test]
+fn edrupt_stops(rt: HostRuntime) -> Result<(), Fail> {
+    let listing = "
+4000 00006 EXTEND
+4001 07000 EDRUPT";
+    let mut machine = machine(&rt, listing, "", 10)?;
+    assert_eq!(rt; machine.fresh(), true);
+    stopped(&rt, &mut machine, Stop::Edrupt, 1);
+    assert_eq!(rt; machine.fresh(), false);
+    Ok(())
+}
+
+/// Limit 1: CA, which takes two cycles, ends past it.
+#[test]
+fn last_order_passes_limit(rt: HostRuntime) -> Result<(), Fail> {
+    let mut machine = machine(&rt, RELAY_WORD, "", 1)?;
+    stopped(&rt, &mut machine, Stop::Limit, 2);
+    Ok(())
+}
+
+#[test]
+fn until_an_order(rt: HostRuntime) -> Result<(), Fail> {
+    let fresh = machine(&rt, RELAY_WORD, "", 10)?;
+    let mut machine = until(&rt, fresh, 0, 0o4003);
+    wrote(&rt, &mut machine, 3, 0o10, 0o54171);
+    stopped(&rt, &mut machine, Stop::Reached, 5);
+    Ok(())
+}
+
+/// The order at 4000 is in hand at the start.
+#[test]
+fn until_the_start(rt: HostRuntime) -> Result<(), Fail> {
+    let fresh = machine(&rt, RELAY_WORD, "", 10)?;
+    let mut machine = until(&rt, fresh, 0, 0o4000);
+    stopped(&rt, &mut machine, Stop::Reached, 0);
+    Ok(())
+}
+
+/// TCF 2000 with FB 0: bank 0 agrees with the window, bank 1 does not.
+#[test]
+fn until_a_bank(rt: HostRuntime) -> Result<(), Fail> {
+    for (bank, stop, cycle) in [(0, Stop::Reached, 1), (1, Stop::Limit, 10)] {
+        let fresh = machine(&rt, "4000 12000 TCF 2000", "", 10)?;
+        let mut machine = until(&rt, fresh, bank, 0o2000);
+        stopped(&rt, &mut machine, stop, cycle);
+    }
+    Ok(())
+}
+
+/// Limit 0 and one above 1,000,000,000,000 are refused; rope and script come back.
+#[test]
+fn limits(rt: HostRuntime) -> Result<(), Fail> {
+    for (limit, fault) in [
+        (0, LimitFault::Zero),
+        (1_000_000_000_001, LimitFault::TooLarge),
+    ] {
+        let rope = rope(&rt, IDLE)?;
+        let script = Script::parse(rt.alloc(), b"0 raise 1")?;
+        match Machine::new(rope, script, limit) {
+            Ok(_) => panic!(rt; "the limit {limit} is accepted"),
+            Err(refused) => assert_refused(&rt, refused, fault),
+        }
+    }
+    Ok(())
+}
+
+/// The fault, the rope with its first word, and the script of one event.
+fn assert_refused(rt: &impl Abort, refused: Refused, fault: LimitFault) {
+    let Refused {
+        fault: found,
+        rope,
+        script,
+    } = refused;
+    assert_eq!(rt; found, fault);
+    assert_eq!(rt; Store::new(rope).fixed(2, 0).bits(), 0o14000);
+    assert_eq!(rt; script.len(), 1);
+}
+
+/// The largest limit is accepted, and the memory comes out with the rope's words.
+#[test]
+fn machine_gives_its_store(rt: HostRuntime) -> Result<(), Fail> {
+    let machine = machine(&rt, RELAY_WORD, "", 1_000_000_000_000)?;
+    assert_eq!(rt; machine.fresh(), true);
+    let store = machine.into_store();
+    assert_eq!(rt; store.fixed(2, 4).bits(), 0o54171);
+    assert_eq!(rt; store.z().bits(), 0o4001);
+    Ok(())
+}
+
+/// Bank and address are octal numbers, up to 47 and 7777, and nothing else may stand beside them.
+#[test]
+fn stop_addresses_are_read(rt: HostRuntime) {
+    reads_the_last(&rt, "47,7777");
+    reads_the_last(&rt, "000047,007777");
+    for text in [
+        "",
+        "47",
+        "47,",
+        "50,7777",
+        "47,10000",
+        "47,7778",
+        "47, 7777",
+        "0000047,7777",
+    ] {
+        assert_eq!(rt; StopAddress::read(text), None);
+    }
+}
+
+/// The text names the last address of the last bank.
+fn reads_the_last(rt: &impl Abort, text: &str) {
+    let at = StopAddress::read(text).expect(rt, "a stop address");
+    assert_eq!(rt; at.bank, 0o47);
+    assert_eq!(rt; at.address.bits(), 0o7777);
+}

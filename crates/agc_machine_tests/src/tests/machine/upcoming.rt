@@ -1,0 +1,116 @@
+//! What is told of the next boundary.
+use super::*;
+use agc_listing::{IDLE, RELAY_WORD};
+use agc_machine::{InHand, Upcoming};
+use agc_processor::{Rupt, Timer};
+use agc_script::{Key, What};
+use agc_word::Narrow;
+use std::test::Fail;
+
+/// The order in hand at an address of the fixed banks 02 and 03 is told.
+fn order_told(rt: &impl Abort, machine: &Machine, address: u16, word: u16, extracode: bool) {
+    bank_order_told(rt, machine, 0, address, word, extracode);
+}
+
+/// The order in hand in a bank is told.
+fn bank_order_told(
+    rt: &impl Abort,
+    machine: &Machine,
+    bank: u8,
+    address: u16,
+    word: u16,
+    extracode: bool,
+) {
+    let order = InHand {
+        bank,
+        address: Addr::new(address).expect(rt, "an address of twelve bits"),
+        word: Narrow::with_bits(word % 0o100000),
+        extracode,
+    };
+    assert_eq!(rt; machine.upcoming(), Upcoming::Order(order));
+}
+
+/// CA 4004, EXTEND, WRITE 10 and TCF 4003 from 0, 2, 3 and 5 on; the limit stops at 10.
+#[test]
+fn orders_told(rt: HostRuntime) -> Result<(), Fail> {
+    let mut machine = machine(&rt, RELAY_WORD, "", 10)?;
+    order_told(&rt, &machine, 0o4000, 0o34004, false);
+    quiet(&rt, &mut machine);
+    order_told(&rt, &machine, 0o4001, 0o00006, false);
+    quiet(&rt, &mut machine);
+    order_told(&rt, &machine, 0o4002, 0o01010, true);
+    wrote(&rt, &mut machine, 3, 0o10, 0o54171);
+    for _ in 0..5 {
+        order_told(&rt, &machine, 0o4003, 0o14003, false);
+        quiet(&rt, &mut machine);
+    }
+    assert_eq!(rt; machine.upcoming(), Upcoming::Stop(Stop::Limit));
+    stopped(&rt, &mut machine, Stop::Limit, 10);
+    assert_eq!(rt; machine.upcoming(), Upcoming::Stop(Stop::Limit));
+    Ok(())
+}
+
+/// The key's event and its interrupt come before INHINT; RESUME at 4024 brings INHINT back.
+#[test]
+fn key_and_interrupt_told(rt: HostRuntime) -> Result<(), Fail> {
+    let listing = "
+4000 00004 INHINT
+4001 14001 TCF 4001
+4024 50017 RESUME";
+    let mut machine = machine(&rt, listing, "0 key VERB", 10)?;
+    assert_eq!(rt; machine.upcoming(), Upcoming::Event(What::Key(Key::Verb)));
+    quiet(&rt, &mut machine);
+    assert_eq!(rt; machine.upcoming(), Upcoming::Interrupt(Rupt::Keyrupt1));
+    quiet(&rt, &mut machine);
+    order_told(&rt, &machine, 0o4024, 0o50017, false);
+    quiet(&rt, &mut machine);
+    order_told(&rt, &machine, 0o4000, 0o00004, false);
+    Ok(())
+}
+
+/// The first steps: TIME5 at 427, TIME4 at 640, and TIME1 at 854, before TIME3.
+#[test]
+fn timers_told(rt: HostRuntime) -> Result<(), Fail> {
+    let mut machine = machine(&rt, IDLE, "", 900)?;
+    for (cycle, timer) in [
+        (427, Timer::Time5),
+        (640, Timer::Time4),
+        (854, Timer::Time1),
+        (855, Timer::Time3),
+    ] {
+        assert_eq!(rt; machine.next_write_before(cycle), Stepped::Quiet);
+        assert_eq!(rt; machine.upcoming(), Upcoming::Timer(timer));
+    }
+    Ok(())
+}
+
+/// CA 4003 and TS FB bring bank 04 into the window, and TCF 2000 goes there, where no word is.
+#[test]
+fn switched_bank_told(rt: HostRuntime) -> Result<(), Fail> {
+    let listing = "
+4000 34003 CA 4003
+4001 54004 TS FB
+4002 12000 TCF 2000
+4003 10000";
+    let mut machine = machine(&rt, listing, "", 10)?;
+    for _ in 0..3 {
+        quiet(&rt, &mut machine);
+    }
+    bank_order_told(&rt, &machine, 0o04, 0o2000, 0o00000, false);
+    Ok(())
+}
+
+/// The stop address is reached after the order at 4000, and is told again after the stop.
+#[test]
+fn stop_address_told(rt: HostRuntime) -> Result<(), Fail> {
+    let listing = "
+4000 14001 TCF 4001
+4001 14001 TCF 4001";
+    let fresh = machine(&rt, listing, "", 10)?;
+    let mut machine = until(&rt, fresh, 0, 0o4001);
+    quiet(&rt, &mut machine);
+    assert_eq!(rt; machine.upcoming(), Upcoming::Stop(Stop::Reached));
+    stopped(&rt, &mut machine, Stop::Reached, 1);
+    assert_eq!(rt; machine.upcoming(), Upcoming::Stop(Stop::Reached));
+    Ok(())
+}

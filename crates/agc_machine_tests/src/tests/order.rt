@@ -1,0 +1,47 @@
+//! Words of the instruction memos, each with the order that it names.
+use agc_order::{Basic, Extracode};
+use agc_word::Narrow;
+use std::test::Fail;
+
+#[test]
+fn basic_orders_by_their_words(rt: HostRuntime) -> Result<(), Fail> {
+    for (word, order) in [
+        (0o00003, Basic::Relint),
+        (0o00004, Basic::Inhint),
+        (0o00005, Basic::Tc),
+        (0o00006, Basic::Extend),
+        (0o10000, Basic::Ccs),
+        (0o12000, Basic::Tcf),
+        (0o27777, Basic::Ads),
+        (0o34004, Basic::Ca),
+        (0o50016, Basic::Index),
+        (0o50017, Basic::Resume),
+        (0o54100, Basic::Ts),
+        (0o77777, Basic::Mask),
+    ] {
+        assert_eq!(rt; Basic::named_by(Narrow::with_bits(word % 0o100000)), order);
+    }
+    Ok(())
+}
+
+#[test]
+fn extracodes_by_their_words(rt: HostRuntime) -> Result<(), Fail> {
+    for (word, order) in [
+        (0o00015, Extracode::Read),
+        (0o01010, Extracode::Write),
+        (0o06777, Extracode::Rxor),
+        (0o07000, Extracode::Edrupt),
+        (0o11777, Extracode::Dv),
+        (0o12000, Extracode::Bzf),
+        (0o50017, Extracode::Index),
+        (0o61777, Extracode::Su),
+        (0o62000, Extracode::Bzmf),
+        (0o70000, Extracode::Mp),
+    ] {
+        assert_eq!(rt;
+            Extracode::named_by(Narrow::with_bits(word % 0o100000)),
+            order
+        );
+    }
+    Ok(())
+}

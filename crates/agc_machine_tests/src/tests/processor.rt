@@ -1,0 +1,119 @@
+//! Each public call once, by values worked out by hand. The numbers are octal, but for cycles.
+mod orders;
+
+use agc_listing::{IDLE, rope_file};
+use agc_processor::{Halt, Processor, Ran, Rupt, WRITE_MCT};
+use agc_store::Rope;
+use agc_word::{Carry, Narrow, Pulse};
+use std::test::Fail;
+
+/// The processor at the start of a run of this listing.
+fn processor_with(rt: &impl AllocGlobal, listing: &str) -> Result<Processor, Fail> {
+    let bytes = rope_file(rt.alloc(), listing)?;
+    Ok(Processor::new(Rope::read(rt.alloc(), bytes.as_slice())?))
+}
+
+/// Orders run one after another, as long as fewer cycles than these have gone by.
+fn run(processor: &mut Processor, limit: u8) {
+    let mut cycle = 0;
+    for _ in 0..limit {
+        if cycle >= u64::from(limit) {
+            return;
+        }
+        match processor.run(cycle) {
+            Ran::Quiet(cycles) => cycle += cycles,
+            Ran::Wrote(_, _) => cycle += WRITE_MCT,
+            Ran::Halted(_) => return,
+        }
+    }
+}
+
+/// The pattern of a cell of erasable bank 0.
+fn cell(processor: &Processor, offset: u8) -> u16 {
+    processor.store.cell(0, u16::from(offset)).bits()
+}
+
+/// A, L, Q and Z; A and Q are wide.
+fn registers(processor: &Processor) -> [u16; 4] {
+    let store = &processor.store;
+    [
+        store.a().bits(),
+        store.l().bits(),
+        store.q().bits(),
+        store.z().bits(),
+    ]
+}
+
+/// The word at 4003 shows in channel 10.
+#[test]
+fn orders_run(rt: HostRuntime) -> Result<(), Fail> {
+    let listing = "
+4000 34003 CA 4003
+4001 00006 EXTEND
+4002 01010 WRITE 10
+4003 12345";
+    let mut processor = processor_with(&rt, listing)?;
+    assert_eq!(rt; processor.run(0), Ran::Quiet(2));
+    assert_eq!(rt; processor.run(2), Ran::Quiet(1));
+    assert_eq!(rt;
+        processor.run(3),
+        Ran::Wrote(0o10, Narrow::with_bits(0o12345))
+    );
+    assert_eq!(rt; processor.channel(5, 0o10).bits(), 0o012345);
+    Ok(())
+}
+
+/// DV A with +0 in A, and EDRUPT.
+#[test]
+fn orders_halt(rt: HostRuntime) -> Result<(), Fail> {
+    for (listing, halt) in [
+        (
+            "4000 00006 EXTEND\n4001 10000 DV A",
+            Halt::DivisionUndefined,
+        ),
+        ("4000 00006 EXTEND\n4001 07000 EDRUPT", Halt::Edrupt),
+    ] {
+        let mut processor = processor_with(&rt, listing)?;
+        assert_eq!(rt; processor.run(0), Ran::Quiet(1));
+        assert_eq!(rt; processor.run(1), Ran::Halted(halt));
+    }
+    Ok(())
+}
+
+/// TIME5 is due first, after 5120 pulses, 12 a cycle: at 427.
+#[test]
+fn timers_step(rt: HostRuntime) -> Result<(), Fail> {
+    let mut processor = processor_with(&rt, IDLE)?;
+    assert_eq!(rt; processor.timers_calm_until(), 427);
+    assert_eq!(rt; processor.step_timers(426), None);
+    assert_eq!(rt; processor.step_timers(427), Some(1));
+    assert_eq!(rt; processor.store.cell(0, 0o30).bits(), 0o00001);
+    Ok(())
+}
+
+/// The vector of KEYRUPT1 is 4024; an interrupt takes 3 cycles.
+#[test]
+fn interrupt_is_taken(rt: HostRuntime) -> Result<(), Fail> {
+    let mut processor = processor_with(&rt, IDLE)?;
+    processor.request(Rupt::Keyrupt1);
+    assert!(rt; processor.is_requested());
+    assert!(rt; processor.interrupt());
+    assert_eq!(rt; processor.store.z().bits(), 0o4025);
+    assert_eq!(rt; processor.store.cell(0, 0o15).bits(), 0o04001);
+    assert!(rt; !processor.is_requested());
+    assert!(rt; !processor.interrupt());
+    Ok(())
+}
+
+/// Channel 7 keeps bits 7 to 5, of which bit 7 is the superbank; a PINC of 37777 carries.
+#[test]
+fn comes_from_outside(rt: HostRuntime) -> Result<(), Fail> {
+    let mut processor = processor_with(&rt, IDLE)?;
+    processor.set_channel(0, 7, Narrow::with_bits(0o77777));
+    assert_eq!(rt; processor.channel(0, 7).bits(), 0o000160);
+    assert!(rt; processor.store.superbank());
+    processor.store.poke(0, 0o25, Narrow::with_bits(0o37777));
+    assert_eq!(rt; processor.pulse(0o25, Pulse::Pinc), Carry::Out);
+    assert_eq!(rt; processor.store.cell(0, 0o25).bits(), 0o00000);
+    Ok(())
+}

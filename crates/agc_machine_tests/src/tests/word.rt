@@ -1,0 +1,238 @@
+//! Worked values, in octal: what the definitions are to mean.
+use agc_word::{
+    Carry, Edit, Narrow, Over, Pulse, Wide, and, complement, dabs, modular_difference, or, product,
+    quotient, read_decimal, read_octal, sum, widen, xor,
+};
+use std::process::Abort;
+
+fn narrow(rt: &impl Abort, bits: u16) -> Narrow {
+    Narrow::from_bits(bits).expect(rt, "at most 77777")
+}
+
+fn wide(bits: u16) -> Wide {
+    Wide::from_bits(bits)
+}
+
+#[test]
+fn patterns(rt: HostRuntime) {
+    assert!(rt; Narrow::from_bits(0o100000).is_none());
+    for (bits, widened) in [
+        (0, 0),
+        (0o37777, 0o37777),
+        (0o40000, 0o140000),
+        (0o77777, 0o177777),
+    ] {
+        let word = narrow(&rt, bits);
+        assert_eq!(rt; word.bits(), bits);
+        assert_eq!(rt; widen(word).bits(), widened, "widen of {word}");
+    }
+}
+
+#[test]
+fn zero_sums(rt: HostRuntime) {
+    for (x, y, total) in [
+        (0o000001, 0o177776, 0o177777),
+        (0o000000, 0o177777, 0o177777),
+        (0o177777, 0o177777, 0o177777),
+        (0o000000, 0o000000, 0o000000),
+    ] {
+        assert_eq!(rt;
+            sum(wide(x), wide(y)).bits(),
+            total,
+            "sum of {x:06o} and {y:06o}"
+        );
+    }
+}
+
+#[test]
+fn overflow_correction(rt: HostRuntime) {
+    assert_eq!(rt; sum(wide(0o077777), wide(0o000001)).bits(), 0o100000);
+    assert_eq!(rt; sum(wide(0o100000), wide(0o177776)).bits(), 0o077777);
+    for (bits, stored, over) in [
+        (0o100000, 0o40000, Over::Minus),
+        (0o040000, 0o00000, Over::Plus),
+        (0o137777, 0o77777, Over::Minus),
+        (0o037777, 0o37777, Over::None),
+        (0o140000, 0o40000, Over::None),
+    ] {
+        let word = wide(bits);
+        assert_eq!(rt; word.narrow().bits(), stored, "narrow of {word}");
+        assert_eq!(rt; word.over(), over, "over of {word}");
+    }
+}
+
+#[test]
+fn complements_and_diminished_values(rt: HostRuntime) {
+    for (bits, other, less) in [
+        (0o000000, 0o177777, 0o000000),
+        (0o177777, 0o000000, 0o000000),
+        (0o000001, 0o177776, 0o000000),
+        (0o177776, 0o000001, 0o000000),
+        (0o000005, 0o177772, 0o000004),
+        (0o177772, 0o000005, 0o000004),
+        (0o100000, 0o077777, 0o077776),
+    ] {
+        let word = wide(bits);
+        assert_eq!(rt; complement(word).bits(), other, "complement of {word}");
+        assert_eq!(rt; dabs(word).bits(), less, "dabs of {word}");
+    }
+}
+
+#[test]
+fn products(rt: HostRuntime) {
+    for (a, k, upper, lower) in [
+        (0o37777, 0o37777, 0o37776, 0o00001),
+        (0o00000, 0o77776, 0o77777, 0o77777),
+        (0o77777, 0o00000, 0o00000, 0o00000),
+        (0o77777, 0o77777, 0o00000, 0o00000),
+        (0o77775, 0o00003, 0o77777, 0o77771),
+    ] {
+        let (high, low) = product(narrow(&rt, a), narrow(&rt, k));
+        assert_eq!(rt; high.bits(), upper, "upper word of {a:05o} by {k:05o}");
+        assert_eq!(rt; low.bits(), lower, "lower word of {a:05o} by {k:05o}");
+    }
+}
+
+#[test]
+fn quotients(rt: HostRuntime) {
+    for (a, l, k, pair) in [
+        (0o00005, 0o00000, 0o00005, Some((0o37777, 0o00005))),
+        (0o00001, 0o77776, 0o00001, Some((0o37777, 0o00000))),
+        (0o77776, 0o00001, 0o00001, Some((0o40000, 0o77777))),
+        (0o00000, 0o77777, 0o00002, Some((0o77777, 0o77777))),
+        (0o00002, 0o00000, 0o00001, None),
+        (0o00000, 0o00000, 0o00000, None),
+        (0o00000, 0o00001, 0o77777, None),
+        (0o77777, 0o77777, 0o00000, None),
+    ] {
+        let got = match quotient(narrow(&rt, a), narrow(&rt, l), narrow(&rt, k)) {
+            Some((whole, rest)) => Some((whole.bits(), rest.bits())),
+            None => None,
+        };
+        assert_eq!(rt; got, pair, "{a:05o} {l:05o} by {k:05o}");
+    }
+}
+
+#[test]
+fn modular_differences(rt: HostRuntime) {
+    for (a, k, way) in [
+        (0o00000, 0o00001, 0o177776),
+        (0o40000, 0o00000, 0o137777),
+        (0o00000, 0o40000, 0o137777),
+        (0o77777, 0o77777, 0o000000),
+        (0o00000, 0o77777, 0o000001),
+        (0o37777, 0o00000, 0o037777),
+    ] {
+        let word = modular_difference(narrow(&rt, a), narrow(&rt, k));
+        assert_eq!(rt; word.bits(), way, "{a:05o} from {k:05o}");
+    }
+}
+
+#[test]
+fn editing_registers(rt: HostRuntime) {
+    for (how, bits, edited) in [
+        (Edit::Cyr, 0o00001, 0o40000),
+        (Edit::Cyr, 0o40000, 0o20000),
+        (Edit::Sr, 0o00001, 0o00000),
+        (Edit::Sr, 0o40000, 0o60000),
+        (Edit::Sr, 0o77777, 0o77777),
+        (Edit::Cyl, 0o00001, 0o00002),
+        (Edit::Cyl, 0o40000, 0o00001),
+        (Edit::Edop, 0o00001, 0o00000),
+        (Edit::Edop, 0o77777, 0o00177),
+        (Edit::Edop, 0o40177, 0o00000),
+    ] {
+        assert_eq!(rt;
+            narrow(&rt, bits).edit(how).bits(),
+            edited,
+            "{how:?} of {bits:05o}"
+        );
+    }
+}
+
+#[test]
+fn counting_pulses(rt: HostRuntime) {
+    for (kind, bits, stepped, carry) in [
+        (Pulse::Pinc, 0o00000, 0o00001, Carry::None),
+        (Pulse::Pinc, 0o77777, 0o00001, Carry::None),
+        (Pulse::Pinc, 0o37777, 0o00000, Carry::Out),
+        (Pulse::Minc, 0o00001, 0o77777, Carry::None),
+        (Pulse::Minc, 0o40000, 0o77777, Carry::Out),
+        (Pulse::Dinc, 0o00000, 0o00000, Carry::Out),
+        (Pulse::Dinc, 0o77777, 0o77777, Carry::Out),
+        (Pulse::Dinc, 0o00001, 0o77777, Carry::None),
+        (Pulse::Dinc, 0o77776, 0o77777, Carry::None),
+        (Pulse::Dinc, 0o00005, 0o00004, Carry::None),
+        (Pulse::Dinc, 0o77772, 0o77773, Carry::None),
+    ] {
+        let (word, out) = narrow(&rt, bits).pulse(kind);
+        assert_eq!(rt; word.bits(), stepped, "{kind:?} of {bits:05o}");
+        assert_eq!(rt; out, carry, "carry of {kind:?} of {bits:05o}");
+    }
+}
+
+#[test]
+fn angle_and_shift_pulses(rt: HostRuntime) {
+    for (kind, bits, stepped, carry) in [
+        (Pulse::Pcdu, 0o77777, 0o00000, Carry::None),
+        (Pulse::Pcdu, 0o37777, 0o40000, Carry::None),
+        (Pulse::Mcdu, 0o00000, 0o77777, Carry::None),
+        (Pulse::Mcdu, 0o40000, 0o37777, Carry::None),
+        (Pulse::Shinc, 0o40001, 0o00002, Carry::Out),
+        (Pulse::Shinc, 0o20001, 0o40002, Carry::None),
+        (Pulse::Shanc, 0o40000, 0o00001, Carry::Out),
+        (Pulse::Shanc, 0o20000, 0o40001, Carry::None),
+    ] {
+        let (word, out) = narrow(&rt, bits).pulse(kind);
+        assert_eq!(rt; word.bits(), stepped, "{kind:?} of {bits:05o}");
+        assert_eq!(rt; out, carry, "carry of {kind:?} of {bits:05o}");
+    }
+}
+
+#[test]
+fn logical_operations(rt: HostRuntime) {
+    let x = wide(0o177700);
+    let y = wide(0o000770);
+    assert_eq!(rt; and(x, y).bits(), 0o000700);
+    assert_eq!(rt; or(x, y).bits(), 0o177770);
+    assert_eq!(rt; xor(x, y).bits(), 0o177070);
+}
+
+#[test]
+fn signs_bits_and_text(rt: HostRuntime) {
+    let minus_five = narrow(&rt, 0o77772);
+    assert!(rt; minus_five.is_minus());
+    assert_eq!(rt; minus_five.magnitude(), 5);
+    assert!(rt; minus_five == Narrow::signed(true, 5));
+    assert!(rt; minus_five == Narrow::with_bits(0o77772));
+    assert!(rt; narrow(&rt, 0o20000).bit(14));
+    assert!(rt; !narrow(&rt, 0o20000).bit(15));
+    assert!(rt; narrow(&rt, 0) == Narrow::default());
+    assert!(rt; narrow(&rt, 0o77777) == Narrow::MINUS_ZERO);
+    assert!(rt; wide(0) == Wide::default());
+    assert!(rt; wide(0o177777) == Wide::MINUS_ZERO);
+    let text = format!(in rt.alloc(); "{} {}", narrow(&rt, 5), wide(0o177776)).expect(
+        &rt, "memory",
+    );
+    assert_eq!(rt; text.as_str(), "00005 177776");
+}
+
+#[test]
+fn numerals(rt: HostRuntime) {
+    for (text, octal, decimal) in [
+        ("7", Some(7), Some(7)),
+        ("007", Some(7), Some(7)),
+        ("777", Some(511), Some(777)),
+        ("789", None, Some(789)),
+        ("0777", None, None),
+        ("", None, None),
+        ("+7", None, None),
+        ("7 ", None, None),
+    ] {
+        assert_eq!(rt; read_octal(3, text.as_bytes()), octal, "octal {text}");
+        assert_eq!(rt; read_decimal(3, text.as_bytes()), decimal, "decimal {text}");
+    }
+    let last = b"7777777777777777777";
+    assert_eq!(rt; read_octal(19, last), Some((1 << 57) - 1));
+    assert_eq!(rt; read_octal(18, last), None);
+}

@@ -1,0 +1,103 @@
+//! Command lines: the worked ones, defaults, and the two forms of an option.
+use agc_args::{ArgsFault, fault_of, not_text, parse_args};
+use agc_session::Options;
+use agc_store::RopeForm;
+use clap::Command;
+use std::process::Abort;
+
+/// The fault of a command line: `Command`, `Help` or `Memory`, or `Ok`.
+fn outcome(rt: &impl AllocGlobal, words: &[&str]) -> &'static str {
+    match parse_args(rt.alloc(), words) {
+        Ok(_) => "Ok",
+        Err(ArgsFault::Command(_)) => "Command",
+        Err(ArgsFault::Help(_)) => "Help",
+        Err(ArgsFault::Memory) => "Memory",
+    }
+}
+
+fn parsed(rt: &(impl AllocGlobal + Abort), words: &[&str]) -> Options {
+    parse_args(rt.alloc(), words)
+        .ok()
+        .expect(rt, "a good command line")
+}
+
+/// The fault of a command line that asks for something else than `other` alone.
+fn other_fault(rt: &impl AllocGlobal, word: &str) -> Option<ArgsFault> {
+    let command = Command::new(rt.alloc(), "other").about("Does nothing.");
+    let error = command.try_get_matches_from(&["other", word]).err()?;
+    Some(fault_of(rt.alloc(), &error))
+}
+
+/// A call for help and a mistake, of another program's command line.
+#[test]
+fn errors_of_clap(rt: HostRuntime) {
+    assert!(rt; matches!(other_fault(&rt, "--help"), Some(ArgsFault::Help(_))));
+    assert!(rt; matches!(other_fault(&rt, "word"), Some(ArgsFault::Command(_))));
+}
+
+#[test]
+fn command_line(rt: HostRuntime) {
+    let plain = parsed(&rt, &["agc", "r", "s", "--limit", "10"]);
+    assert_eq!(rt; (plain.limit, plain.slots, plain.log), (10, 256, false));
+    assert!(rt; plain.rope.as_str() == "r" && plain.script.as_str() == "s");
+    assert!(rt; plain.watch.is_none() && plain.until.is_none());
+    assert_eq!(rt; plain.form, RopeForm::Classic);
+    assert_eq!(rt; (plain.live, plain.spacing), (false, 8533));
+
+    let full = parsed(
+        &rt,
+        &[
+            "agc",
+            "--log",
+            "--limit=+5",
+            "--slots",
+            "1",
+            "r",
+            "--watch=",
+            "s",
+            "--form",
+            "parity",
+            "--until",
+            "0,1",
+            "--live",
+            "--spacing=0",
+        ],
+    );
+    assert_eq!(rt; (full.limit, full.slots, full.log), (5, 1, true));
+    assert!(rt; full.watch.as_ref().is_some_and(|spec| spec.as_str() == ""));
+    assert!(rt;
+        full.until
+            .as_ref()
+            .is_some_and(|spec| spec.as_str() == "0,1")
+    );
+    assert_eq!(rt; full.form, RopeForm::Parity);
+    assert_eq!(rt; (full.live, full.spacing), (true, 0));
+}
+
+#[test]
+fn command_line_faults(rt: HostRuntime) {
+    assert_eq!(rt; outcome(&rt, &["agc", "r", "s"]), "Command");
+    assert_eq!(rt; outcome(&rt, &["agc", "--help"]), "Help");
+    assert_eq!(rt; outcome(&rt, &["agc", "-h"]), "Help");
+    assert_eq!(rt; outcome(&rt, &["agc", "r", "s", "--limit", "x"]), "Command");
+    assert_eq!(rt;
+        outcome(&rt, &["agc", "r", "s", "--limit", "1", "--form", "other"]),
+        "Command"
+    );
+    assert_eq!(rt;
+        outcome(&rt, &["agc", "r", "s", "t", "--limit", "1"]),
+        "Command"
+    );
+    assert_eq!(rt;
+        outcome(&rt, &["agc", "r", "s", "--limit", "1", "--log", "--log"]),
+        "Command"
+    );
+    assert_eq!(rt;
+        outcome(&rt, &["agc", "r", "s", "--limit", "18446744073709551616"]),
+        "Command"
+    );
+    assert_eq!(rt;
+        outcome(&rt, &["agc", "r", "s", "--limit", "1", "--spacing", "x"]),
+        "Command"
+    );
+}

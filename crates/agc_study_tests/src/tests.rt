@@ -1,0 +1,6 @@
+//! Listings, traces, comparisons and explanations, worked out by hand.
+mod check;
+mod compare;
+mod progress;
+mod rope_text;
+mod trace;

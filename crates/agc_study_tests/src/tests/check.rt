@@ -1,0 +1,443 @@
+//! What is told of files, worked by hand.
+mod grammar;
+
+use agc_check::{
+    Report, RopeHoldings, ScriptHoldings, Span, check, check_keys, check_listing, holdings_of_rope,
+    holdings_of_script, nearest,
+};
+use agc_rope_text::weave;
+use agc_script::Script;
+use agc_store::{Rope, RopeForm};
+use std::process::Abort;
+use std::test::Fail;
+
+/// CA 4004 and EXTEND at 4000 and 4001.
+static ROPE: [u8; 4] = [0x70, 0x08, 0x00, 0x0C];
+
+/// What is told of that rope.
+const HOLDS: &str = "rope: words 2, banks 1
+    at these interrupt vectors stands +0, and a run goes astray there: 4004 4010 4014 4020 4024 4030 4034 4040 4044 4050
+";
+
+fn report(rt: &(impl AllocGlobal + Abort), form: RopeForm, rope: &[u8], script: &[u8]) -> Report {
+    check(rt.alloc(), form, rope, script)
+        .ok()
+        .expect(rt, "memory")
+}
+
+/// Looks that this is told of a script beside a sound rope, and of the rope what it holds.
+fn tells(rt: &(impl AllocGlobal + Abort), scripts: &[(&[u8], &str)]) {
+    for (script, told) in scripts {
+        let report = report(rt, RopeForm::Classic, ROPE.as_slice(), script);
+        let mut wanted = String::new(rt.alloc());
+        wanted.push_str(HOLDS).expect(rt, "memory");
+        wanted.push_str(told).expect(rt, "memory");
+        assert_eq!(rt; report.text.as_str(), wanted.as_str());
+        assert_eq!(rt; report.is_sound, told.starts_with("script: "));
+    }
+}
+
+#[test]
+fn sound_scripts(rt: HostRuntime) {
+    tells(
+        &rt,
+        &[
+            (b"", "script: events 0\n"),
+            (b"# nothing\n", "script: events 0\n"),
+            (
+                b"10 key VERB\n20 key NOUN\n",
+                "script: events 2, first cycle 10, last cycle 20\n",
+            ),
+            (
+                b"every 10 5 30 raise 1\r\n7 pro down",
+                "script: events 4, first cycle 5, last cycle 25\n",
+            ),
+        ],
+    );
+}
+
+#[test]
+fn lines_and_cycles(rt: HostRuntime) {
+    tells(
+        &rt,
+        &[
+            (
+                b"10 key \xC3\xA4",
+                "script line 1: NotAscii\n    10 key \\303\\244\n    `\\303\\244` is not ASCII: no byte of a script is 200 octal or above\n",
+            ),
+            // 177 octal is the last byte of ASCII, and 200 the first beyond it
+            (
+                b"10 \x7F \x80 \x81",
+                "script line 1: NotAscii\n    10 \\177 \\200 \\201\n    `\\200` is not ASCII: no byte of a script is 200 octal or above\n",
+            ),
+            (
+                b"every 5 x 9 key 1\n",
+                "script line 1: BadCycle\n    every 5 x 9 key 1\n    `x` is no cycle: 1 to 13 decimal digits, 1000000000000 at most\n",
+            ),
+            (
+                b"every y x z key 1\n",
+                "script line 1: BadCycle\n    every y x z key 1\n    `y` is no cycle: 1 to 13 decimal digits, 1000000000000 at most\n",
+            ),
+            (
+                b"every 5 7 z w\n",
+                "script line 1: BadCycle\n    every 5 7 z w\n    `z` is no cycle: 1 to 13 decimal digits, 1000000000000 at most\n",
+            ),
+            (
+                b"1000000000001 key 1\n",
+                "script line 1: BadCycle\n    1000000000001 key 1\n    `1000000000001` is no cycle: 1 to 13 decimal digits, 1000000000000 at most\n",
+            ),
+            (
+                b"10 key 1\nevery 1 20 30 key 2\n# 7\n5 key 3\n",
+                "script line 4: OutOfOrder\n    5 key 3\n    `5` is too early: the event line before starts at 20\n",
+            ),
+            (
+                b"10 key 1\nevery 30 9 40 key 2\n",
+                "script line 2: OutOfOrder\n    every 30 9 40 key 2\n    `9` is too early: the event line before starts at 10\n",
+            ),
+            (
+                b"every 0 5 9 key 1\n",
+                "script line 1: OutOfRange\n    every 0 5 9 key 1\n    `0` is no distance of cycles: 1 at least\n",
+            ),
+            (
+                b"every 1 9 5 key 1\n",
+                "script line 1: OutOfRange\n    every 1 9 5 key 1\n    `5` is too early: `9` or later\n",
+            ),
+            (
+                b"every 1 0 65536 key 1\n",
+                "script line 1: TooMany\n    every 1 0 65536 key 1\n    a script has 65536 events at most, and with this line it has more\n",
+            ),
+        ],
+    );
+}
+
+#[test]
+fn names(rt: HostRuntime) {
+    tells(
+        &rt,
+        &[
+            (
+                b"# a comment\n\n20\tkye VERB",
+                "script line 3: UnknownWord\n    20\tkye VERB\n    `kye` is no command; the nearest is `key`\n",
+            ),
+            (
+                b"20 key VREB",
+                "script line 1: UnknownWord\n    20 key VREB\n    `VREB` is no key; the nearest is `VERB`\n",
+            ),
+            (
+                b"every 5 20 30 pro dwn",
+                "script line 1: UnknownWord\n    every 5 20 30 pro dwn\n    `dwn` is no direction of PRO; the nearest is `down`\n",
+            ),
+            (
+                b"20 pulse 24 pnic",
+                "script line 1: UnknownWord\n    20 pulse 24 pnic\n    `pnic` is no kind of pulse; the nearest is `pinc`\n",
+            ),
+            (
+                b"20 key PRO",
+                "script line 1: UnknownWord\n    20 key PRO\n    `PRO` has no code: the lines `pro down` and `pro up` press it and let it go\n",
+            ),
+            (
+                b"20 key Proceed",
+                "script line 1: UnknownWord\n    20 key Proceed\n    `Proceed` has no code: the lines `pro down` and `pro up` press it and let it go\n",
+            ),
+            (
+                b"20 every 5 20 30 key VERB",
+                "script line 1: UnknownWord\n    20 every 5 20 30 key VERB\n    `every` stands first, in place of the cycle: `every N FROM TO` and the command\n",
+            ),
+            (
+                b"20 pulse 24",
+                "script line 1: UnknownWord\n    20 pulse 24\n    `pulse COUNTER KIND` is right: here is 1 word after the command\n",
+            ),
+            (
+                b"20 key",
+                "script line 1: UnknownWord\n    20 key\n    `key NAME` is right: here are 0 words after the command\n",
+            ),
+            (
+                b"every 5 20",
+                "script line 1: UnknownWord\n    every 5 20\n    `every N FROM TO` wants these three cycles and a command after them\n",
+            ),
+            (
+                b"20",
+                "script line 1: UnknownWord\n    20\n    the command is missing: key, pro, input, pulse, raise or poke\n",
+            ),
+        ],
+    );
+}
+
+#[test]
+fn numbers(rt: HostRuntime) {
+    tells(
+        &rt,
+        &[
+            (
+                b"0 poke 8 400 1",
+                "script line 1: BadNumber\n    0 poke 8 400 1\n    `8` is no number: 1 to 6 digits, 0 to 7 octal\n",
+            ),
+            (
+                b"0 raise A",
+                "script line 1: BadNumber\n    0 raise A\n    `A` is no number: 1 to 6 digits, 1 to 10 decimal\n",
+            ),
+            (
+                b"0 input 1000 1",
+                "script line 1: OutOfRange\n    0 input 1000 1\n    `1000` is out of range: 5 to 777 octal\n",
+            ),
+            (
+                b"0 poke 0 7 1",
+                "script line 1: OutOfRange\n    0 poke 0 7 1\n    `7` is out of range: 10 to 377 octal\n",
+            ),
+            (
+                b"0 poke 1 400 1",
+                "script line 1: OutOfRange\n    0 poke 1 400 1\n    `400` is out of range: 0 to 377 octal\n",
+            ),
+            (
+                b"0 pulse 61 pinc",
+                "script line 1: OutOfRange\n    0 pulse 61 pinc\n    `61` is out of range: 24 to 60 octal\n",
+            ),
+            (
+                b"0 raise 11",
+                "script line 1: OutOfRange\n    0 raise 11\n    `11` is out of range: 1 to 10 decimal\n",
+            ),
+        ],
+    );
+}
+
+/// The numbers of a command after `every`: the cycles before it are none of them.
+#[test]
+fn numbers_after_every(rt: HostRuntime) {
+    tells(
+        &rt,
+        &[
+            (
+                b"every 100 0 1000 raise 11",
+                "script line 1: OutOfRange\n    every 100 0 1000 raise 11\n    `11` is out of range: 1 to 10 decimal\n",
+            ),
+            (
+                b"every 9 0 99 raise 9A",
+                "script line 1: BadNumber\n    every 9 0 99 raise 9A\n    `9A` is no number: 1 to 6 digits, 1 to 10 decimal\n",
+            ),
+            (
+                b"every 100 0 1000 poke 0 7 1",
+                "script line 1: OutOfRange\n    every 100 0 1000 poke 0 7 1\n    `7` is out of range: 10 to 377 octal\n",
+            ),
+            (
+                b"every 100 0 1000 poke 1 400 1",
+                "script line 1: OutOfRange\n    every 100 0 1000 poke 1 400 1\n    `400` is out of range: 0 to 377 octal\n",
+            ),
+            (
+                b"every 100 0 1000 poke 7 377 100000",
+                "script line 1: OutOfRange\n    every 100 0 1000 poke 7 377 100000\n    `100000` is out of range: 0 to 77777 octal\n",
+            ),
+        ],
+    );
+}
+
+#[test]
+fn a_long_line_is_cut(rt: HostRuntime) -> Result<(), Fail> {
+    let mut script = Vec::new(rt.alloc());
+    script.resize(121, b'x').ok().ok_or("memory")?;
+    let told = report(&rt, RopeForm::Classic, ROPE.as_slice(), script.as_slice());
+    let mut wanted = format!(in rt.alloc(); "{HOLDS}script line 1: LineTooLong\n    ")?;
+    for _ in 0..120 {
+        wanted.push_str("x").ok().ok_or("memory")?;
+    }
+    wanted
+        .push_str(" ..\n    the line has 121 bytes, and 120 are the most\n")
+        .ok()
+        .ok_or("memory")?;
+    assert_eq!(rt; told.text.as_str(), wanted.as_str());
+    Ok(())
+}
+
+/// A rope at fault does not hide what is told of the script.
+#[test]
+fn ropes_at_fault(rt: HostRuntime) -> Result<(), Fail> {
+    let mut long = Vec::new(rt.alloc());
+    long.resize(73730, 0).ok().ok_or("memory")?;
+    let ropes: [(RopeForm, &[u8], &str); 4] = [
+        (
+            RopeForm::Classic,
+            b"",
+            "rope: Empty\n    the file has no bytes, and a rope has a word at least: two bytes\nscript: events 0\n",
+        ),
+        (
+            RopeForm::Classic,
+            b"abc",
+            "rope: OddLength\n    the file has 3 bytes, and each word has two\nscript: events 0\n",
+        ),
+        (
+            RopeForm::Classic,
+            long.as_slice(),
+            "rope: TooLong\n    the file has 73730 bytes, and 73728 are the most: 36 banks of 1024 words\nscript: events 0\n",
+        ),
+        (
+            RopeForm::Parity,
+            ROPE.as_slice(),
+            "rope: Parity\n    the word at 00,2000 is 34004 with parity bit 0: 4 one bits, and they should be odd\nscript: events 0\n",
+        ),
+    ];
+    for (form, rope, told) in ropes {
+        let report = report(&rt, form, rope, b"");
+        assert_eq!(rt; report.text.as_str(), told);
+        assert!(rt; !report.is_sound);
+    }
+    Ok(())
+}
+
+/// The text of a rope with RESUME at each of the ten vectors.
+static SERVED: &str =
+    "4004 50017\n4010 50017\n4014 50017\n4020 50017\n4024 50017\n4030 50017\n4034 50017\n4040 50017\n4044 50017\n4050 50017\n";
+
+/// A rope with a word at each vector is told without a remark. Words beside the vectors are at none of them, nor are
+/// those of other banks; a word of +0 is as no word. Whatever the vectors hold, the file is sound.
+#[test]
+fn vectors_without_an_order(rt: HostRuntime) -> Result<(), Fail> {
+    let ropes = [
+        (SERVED, "rope: words 10, banks 1\n"),
+        (
+            "4010 50017\n4014 50017\n4020 50017\n4024 50017\n4030 50017\n4034 50017\n4040 50017\n4044 50017\n4050 50017\n",
+            "rope: words 9, banks 1\n    at these interrupt vectors stands +0, and a run goes astray there: 4004\n",
+        ),
+        (
+            "4004 50017\n4010 50017\n4014 50017\n4020 50017\n4024 50017\n4030 50017\n4034 50017\n4040 50017\n4044 50017\n",
+            "rope: words 9, banks 1\n    at these interrupt vectors stands +0, and a run goes astray there: 4050\n",
+        ),
+        (
+            "4010 50017\n4014 50017\n4020 50017\n4024 50017\n4030 50017\n4034 50017\n4040 50017\n4044 50017\n",
+            "rope: words 8, banks 1\n    at these interrupt vectors stands +0, and a run goes astray there: 4004 4050\n",
+        ),
+        (
+            "4004 77777\n4010 00000\n4011 50017\n4013 50017\n00,2010 50017\n4014 00001\n4020 00001\n4024 00001\n4030 00001\n4034 00001\n4040 00001\n4044 00001\n4050 00001\n",
+            "rope: words 12, banks 2\n    at these interrupt vectors stands +0, and a run goes astray there: 4010\n",
+        ),
+    ];
+    for (text, told) in ropes {
+        for form in [RopeForm::Classic, RopeForm::Parity] {
+            let file = weave(rt.alloc(), form, text.as_bytes())?;
+            let report = report(&rt, form, file.as_slice(), b"");
+            let wanted = format!(in rt.alloc(); "{told}script: events 0\n")?;
+            assert_eq!(rt; report.text.as_str(), wanted.as_str());
+            assert!(rt; report.is_sound);
+        }
+    }
+    Ok(())
+}
+
+#[test]
+fn what_they_hold(rt: HostRuntime) -> Result<(), Fail> {
+    let rope = Rope::read_as(rt.alloc(), RopeForm::Classic, ROPE.as_slice())
+        .ok()
+        .ok_or("a rope")?;
+    assert_eq!(rt; holdings_of_rope(rope), RopeHoldings { words: 2, banks: 1 });
+    let script = Script::parse(rt.alloc(), b"every 2 1 6 key 1")
+        .ok()
+        .ok_or("a script")?;
+    assert_eq!(rt;
+        holdings_of_script(&script),
+        ScriptHoldings {
+            events: 3,
+            span: Some(Span { first: 1, last: 5 }),
+        }
+    );
+    Ok(())
+}
+
+#[test]
+fn nearest_names(rt: HostRuntime) -> Result<(), Fail> {
+    let names = ["VERB", "NOUN", "CLR"];
+    for (word, name) in [
+        (b"verb".as_slice(), "VERB"),
+        (b"NUN".as_slice(), "NOUN"),
+        (b"CLEAR".as_slice(), "CLR"),
+        // two edits from each of the first two: the first one is told
+        (b"VOUB".as_slice(), "VERB"),
+    ] {
+        let found = nearest(rt.alloc(), word, names.as_slice())
+            .ok()
+            .ok_or("memory")?;
+        assert_eq!(rt; found, name);
+    }
+    Ok(())
+}
+
+/// Texts of live keys: how many they name, or the first word that is no key's.
+#[test]
+fn key_texts(rt: HostRuntime) -> Result<(), Fail> {
+    let texts: [(&[u8], &str); 6] = [
+        (b"", "keys: 0\n"),
+        (b"VERB 3 7\r\nNOUN\tENTR\n", "keys: 5\n"),
+        (
+            b"VERB 3 vreb X\n",
+            "keys: BadKey\n    word 3: `vreb` is no key; the nearest is `VERB`\n",
+        ),
+        (
+            b"\n  37\nVERB",
+            "keys: BadKey\n    word 1: `37` is no key; the nearest is `3`\n",
+        ),
+        (
+            b"VERB PRO",
+            "keys: BadKey\n    word 2: `PRO` belongs into the script: the lines `pro down` and `pro up` press it and let it go\n",
+        ),
+        (
+            b"VERB \xC3",
+            "keys: BadKey\n    word 2: `\\303` is no key; the nearest is `0`\n",
+        ),
+    ];
+    for (text, told) in texts {
+        let report = check_keys(rt.alloc(), text)?;
+        assert_eq!(rt; report.text.as_str(), told);
+        assert_eq!(rt; report.is_sound, !told.contains("BadKey"));
+    }
+    Ok(())
+}
+
+/// Of a word of any length the first 120 bytes are told.
+#[test]
+fn a_long_key_is_cut(rt: HostRuntime) -> Result<(), Fail> {
+    let text = vec![in rt.alloc(); b'R'; 1000]?;
+    let report = check_keys(rt.alloc(), text.as_slice())?;
+    let mut wanted = String::from_str(rt.alloc(), "keys: BadKey\n    word 1: `")?;
+    for _ in 0..120 {
+        wanted.push_str("R")?;
+    }
+    wanted.push_str("` is no key; the nearest is `VERB`\n")?;
+    assert_eq!(rt; report.text.as_str(), wanted.as_str());
+    Ok(())
+}
+
+/// Texts for `weave`: no fault, or the line and the word at fault.
+#[test]
+fn listings(rt: HostRuntime) -> Result<(), Fail> {
+    let texts: [(&[u8], &str); 8] = [
+        (b"", "text: no fault\n"),
+        (b"# a rope\n4000 14000 TCF 4000", "text: no fault\n"),
+        (
+            b"4000 14000\n3777 00001 here\n",
+            "text line 2: BadAddress\n    3777 00001 here\n    `3777` is no place of a rope: 4000 to 7777, or a bank from 00 to 43 and an address, as 04,2000; a comment begins with #\n",
+        ),
+        (
+            b"4000\t1010 WRITE\r\n",
+            "text line 1: BadWord\n    4000\t1010 WRITE\n    `1010` is no word: five octal digits\n",
+        ),
+        (
+            b"\n4000",
+            "text line 2: BadWord\n    4000\n    the word is missing: five octal digits after the place\n",
+        ),
+        (
+            b"4000 00001\n# again\n02,4000 00001",
+            "text line 3: NamedTwice\n    02,4000 00001\n    `02,4000` is named by an earlier line too: each place has one line\n",
+        ),
+        (
+            b"4000 00001 caf\xC3\xA9",
+            "text line 1: NotText\n    4000 00001 caf\\303\\251\n    `caf\\303\\251` has a byte that is neither a tab nor one that prints in ASCII\n",
+        ),
+        (
+            b"# ~ \x7F",
+            "text line 1: NotText\n    # ~ \\177\n    `\\177` has a byte that is neither a tab nor one that prints in ASCII\n",
+        ),
+    ];
+    for (text, told) in texts {
+        let report = check_listing(rt.alloc(), text)?;
+        assert_eq!(rt; report.text.as_str(), told);
+        assert_eq!(rt; report.is_sound, told == "text: no fault\n");
+    }
+    Ok(())
+}

@@ -1,0 +1,493 @@
+"""Tries films in a browser: what the page shows at a cycle, and what its keys, buttons and slider do.
+
+    tries.py FOLDER BROWSER
+
+The folder has the films that tests/film has made. What is wanted is worked out by hand from docs/STUDY.md and from the
+DSKY's own drawings. The last line is 'N passed, M failed'.
+"""
+import hashlib
+import os
+import re
+import sys
+import time
+
+from browser import Browser
+
+HERE = os.path.dirname(os.path.abspath(__file__))
+SIDES = ('left', 'right')
+FIELDS = ('PROG', 'VERB', 'NOUN', 'R1', 'R2', 'R3')
+BLOCKS = re.compile('<script type="text/plain".*</script>\n(?=<script>)', re.DOTALL)
+
+# The segments of the DSKY's digits: a top, b upper right, c lower right, d bottom, e lower left, f upper left, g middle.
+DIGITS = {'0': 'abcdef', '1': 'bc', '2': 'abdeg', '3': 'abcdg', '4': 'bcfg', '5': 'acdfg', '6': 'acdefg', '7': 'abc',
+          '8': 'abcdefg', '9': 'abcdfg', '_': '', '?': 'abeg'}
+SIGNS = {'+': 'g lower upper', '-': 'g', '_': ''}
+
+# The lamps row by row, and how the DSKY's left and right columns are lit: white tells a state, amber is a caution.
+LAMPS = ['UPLINK ACTY', 'TEMP', 'NO ATT', 'GIMBAL LOCK', '', 'PROG', 'KEY REL', '', 'OPR ERR', 'TRACKER', '', 'ALT', 'ISS', 'VEL']
+WHITE, AMBER, DARK = 'rgb(255, 243, 207)', 'rgb(255, 185, 56)', 'rgb(61, 63, 57)'
+GREEN, DARK_GREEN = 'rgb(77, 255, 143)', 'rgb(22, 32, 26)'
+
+# The keyboard: its columns from the left, each from above. The outer ones begin half a key lower.
+KEYBOARD = [['VERB', 'NOUN'], ['+', '-', '0'], ['7', '4', '1'], ['8', '5', '2'], ['9', '6', '3'], ['CLR', 'PRO', 'KEYREL'],
+            ['ENTR', 'RSET']]
+HALF_LOWER = {'VERB': '+', 'NOUN': '-', 'ENTR': 'CLR', 'RSET': 'PRO'}
+
+A_SECOND = 1024000 / 12  # cycles
+SPEEDS = {'1×': 1, '10×': 10, '100×': 100, '1000×': 1000}
+CONTROLS = ('apart', 'strip', 'time', 'start', 'previous', 'play', 'next', 'end', 'difference', 'speed', 'clock')
+WIDTH, HEIGHT = 1000, 900  # in which all controls are seen
+
+
+class Tries:
+    """What was tried, and with what end."""
+
+    def __init__(self, folder, browser):
+        self.folder, self.browser, self.passed, self.failed = folder, browser, 0, 0
+
+    def check(self, what, wanted, found):
+        if wanted == found:
+            self.passed += 1
+        else:
+            self.failed += 1
+            print(f'film: {what}: wanted\n{wanted}\nfound\n{found}', file=sys.stderr)
+
+    def near(self, what, wanted, found, by):
+        self.check(f'{what}: {found} is within {by} of {wanted}', True, abs(found - wanted) <= by)
+
+    def file(self, name):
+        with open(os.path.join(self.folder, name), encoding='utf-8') as file:
+            return file.read()
+
+    def page(self, name, **blocks):
+        """Writes a page with these blocks in place of those of a film."""
+        text = ''.join(f'<script type="text/plain" id="{id}">{block}</script>\n' for id, block in blocks.items())
+        with open(os.path.join(self.folder, name), 'w', encoding='utf-8') as file:
+            file.write(BLOCKS.sub(lambda _: text, self.file('one.html')))
+        return name
+
+    def open(self, name, hash=''):
+        self.browser.open(os.path.join(self.folder, name), hash)
+        with open(os.path.join(HERE, 'look.js'), encoding='utf-8') as look:
+            self.browser.value(look.read() + '; undefined')
+
+    def look(self, script):
+        return self.browser.value(f'Look.{script}')
+
+    def go(self, cycle):
+        """Goes to a cycle as a link does."""
+        self.look(f'go({cycle})')
+
+    def clock(self):
+        return self.look("text('clock')")
+
+    def cycle(self):
+        return int(self.clock().split(' ')[1])
+
+    def press(self, *names):
+        for name in names:
+            self.browser.press(name)
+
+    def click(self, control):
+        box = self.look(f"box('{control}')")
+        if box:
+            self.browser.click((box['left'] + box['right']) / 2, (box['top'] + box['bottom']) / 2)
+
+    def wait(self, script):
+        """Waits until a script gives true, at most three seconds; whether it did."""
+        end = time.monotonic() + 3
+        while time.monotonic() < end:
+            if self.browser.value(script):
+                return True
+            time.sleep(0.02)
+        return False
+
+
+def panel(lamps='none', flash='off', **fields):
+    """The eight lines of a panel; the fields that are not given are blank."""
+    blank = {name: '__' if len(name) > 2 else '______' for name in FIELDS}
+    lines = [f'{name} {text}' for name, text in {**blank, **fields}.items()]
+    return '\n'.join([*lines, f'FLASH {flash}', f'LAMPS {lamps}']) + '\n'
+
+
+def run(frames, keys=(), stop=2000000, rope='rope', script='script'):
+    """A block of a run: its files and limit, its frames and keys by their cycles, and its stop."""
+    text = f'\nrope {rope}\nscript {script}\nlimit {stop}\n' + ''.join(f'frame {cycle}\n{shown}' for cycle, shown in frames)
+    return text + ''.join(f'key {cycle} {name}\n' for cycle, name in keys) + f'stop {stop} Limit\n'
+
+
+def frames_in(page, side):
+    """The frames of a block of a page: their cycles and panels."""
+    block = page.split(f'id="{side}">\n')[1].split('</script>')[0]
+    frames = []
+    for line in block.splitlines():
+        word, _, rest = line.partition(' ')
+        if word == 'frame':
+            frames.append((int(rest), ''))
+        elif word not in ('rope', 'script', 'limit', 'key', 'stop'):
+            frames[-1] = (frames[-1][0], frames[-1][1] + line + '\n')
+    return frames
+
+
+def segments_of(text):
+    """The segments that show a panel, place by place."""
+    lit = []
+    for line in text.splitlines()[:6]:
+        name, _, shown = line.partition(' ')
+        signed = name.startswith('R')
+        lit += [SIGNS[glyph] if signed and i == 0 else ' '.join(DIGITS[glyph]) for i, glyph in enumerate(shown)]
+    return lit
+
+
+def try_constants(tries):
+    text = BLOCKS.sub('', tries.file('one.html'))
+    # Where the page is changed on purpose: look at what the tries below say of it, and then put the new digest here.
+    with open(os.path.join(HERE, 'digest'), encoding='utf-8') as digest:
+        tries.check('the digest of the page without its runs', digest.read().strip(), hashlib.sha256(text.encode()).hexdigest())
+    tries.check('nothing from outside', [], re.findall(r'https?:|//[a-z]+\.|src=|href=|url\(|@import', tries.file('one.html')))
+
+
+def try_film(tries):
+    """A film: at some cycles the panel that agc prints, in text, segments and lamps."""
+    frames = frames_in(tries.file('one.html'), 'left')
+    tries.open('one.html')
+    for name in sorted(os.listdir(tries.folder)):
+        if not name.startswith('panel.'):
+            continue
+        cycle = int(name.removeprefix('panel.'))
+        tries.go(cycle)
+        wanted = tries.file(name)
+        before = [shown for at, shown in frames if at <= cycle]
+        tries.check(f'the frame of {cycle}', wanted, before[-1] if before else panel())
+        tries.check(f"agc's panel of {cycle}", wanted, tries.look("panel('left')"))
+        tries.check(f'the segments of {cycle}', segments_of(wanted), tries.look("places('left')"))
+        lit = wanted.splitlines()[-1].removeprefix('LAMPS ').split(', ')
+        tries.check(f'the lamps of {cycle}', sorted(name for name in lit if name in LAMPS),
+                    sorted(name for name, colour in tries.look("lamps('left')") if colour != DARK))
+
+
+def try_changes(tries):
+    """Keys and buttons step from change to change."""
+    changes = [cycle for cycle, _ in frames_in(tries.file('one.html'), 'left')]
+    ways = [('the next change', ['next'], changes[0]), ('three changes on', ['next'] * 3, changes[2]),
+            ('a change back', ['next', 'next', 'previous'], changes[0]), ('the end', ['end'], 300000),
+            ('the last change', ['end', 'previous'], changes[-1]), ('the start', ['end', 'start'], 0)]
+    keys = {'next': 'ArrowRight', 'previous': 'ArrowLeft', 'end': 'End', 'start': 'Home'}
+    for what, steps, wanted in ways:
+        tries.open('one.html')
+        tries.press(*(keys[step] for step in steps))
+        tries.check(f'{what} by keys', wanted, tries.cycle())
+        tries.open('one.html')
+        for step in steps:
+            tries.click(step)
+        tries.check(f'{what} by buttons', wanted, tries.cycle())
+    tries.open('one.html', 'press=ArrowRight,ArrowRight')
+    tries.check('keys of a link', changes[1], tries.cycle())
+    tries.check('no first difference of one run', None, tries.look("box('difference')"))
+    tries.check('the files of one run', f'{tries.folder}/rope, {tries.folder}/script', tries.look("title('left')"))
+    tries.check('its limit', 'DSKY film, limit 300000', tries.look("text('title')"))
+    tries.check('the title of the page', f'{tries.folder}/rope, {tries.folder}/script; limit 300000', tries.browser.value('document.title'))
+
+
+def try_blocks(tries):
+    """A run of several blocks is read to its end, whatever stands in which block."""
+    border = '</script>\n<script type="text/plain" class="left">\n'
+    shown = [panel(PROG=f'{n}{n}', lamps='VEL' if n % 2 else 'none', flash='on' if n % 2 else 'off') for n in range(1, 7)]
+    parts = [f'frame {100000 * n}\n{text}' for n, text in enumerate(shown, 1)]
+    text = '\nrope r\nscript s\nlimit 2000000\n' + border + parts[0] + parts[1] + border + ''.join(parts[2:]) + border
+    tries.open(tries.page('parts.html', left=text + 'key 150000 VERB\nstop 2000000 Limit\n'))
+    for n, wanted in enumerate([panel(), *shown]):
+        for cycle in (100000 * n, 100000 * n + 99999):
+            tries.go(cycle)
+            tries.check(f'the panel of {cycle} in several blocks', wanted, tries.look("panel('left')"))
+    tries.check('the keys in the last block', 'Keys: VERB', tries.look("keys('left')"))
+    tries.press('Home', *['ArrowRight'] * 3)
+    tries.check('steps from block to block', 300000, tries.cycle())
+
+
+def try_long_film(tries):
+    """A film of more frames than a block has: PROG 12 and PROG 11 in turns, so that the last one of the block is PROG 11."""
+    page = tries.file('long.html')
+    tries.check('the blocks', ['id="left"', 'class="left"'], re.findall('<script type="text/plain" (.*)>', page))
+    blocks = page.split('</script>\n<script type="text/plain" class="left">\n')
+    cycles = [re.findall('^frame ([0-9]*)$', block, re.MULTILINE) for block in blocks]
+    tries.check('how many frames the first block has', 65536, len(cycles[0]))
+    before, after = int(cycles[0][-1]), int(cycles[1][0])
+    tries.check('the second block goes on', True, before < after)
+    tries.open('long.html', f'cycle={before}')
+    tries.check('the panel before the border', panel(PROG='11'), tries.look("panel('left')"))
+    tries.press('ArrowRight')
+    tries.check('the panel after the border', (after, panel(PROG='12')), (tries.cycle(), tries.look("panel('left')")))
+    tries.press('ArrowLeft', 'ArrowLeft')
+    tries.check('back over the border', (int(cycles[0][-2]), panel(PROG='12')), (tries.cycle(), tries.look("panel('left')")))
+
+
+def try_two_films(tries):
+    """Two films: 165000 and an interrupt's few cycles are the first difference."""
+    pages = frames_in(tries.file('two.html'), 'left'), frames_in(tries.file('two.html'), 'right')
+    first = next(cycle for cycle, _ in pages[1] if cycle >= 165000)
+    tries.open('two.html')
+    tries.check('where two runs part', str(first), tries.look("text('parting')"))
+    for way in (lambda: tries.press('d'), lambda: tries.click('difference')):
+        tries.press('Home')
+        way()
+        tries.check('the first difference', first, tries.cycle())
+    for side, frames in zip(SIDES, pages):
+        tries.check(f'the {side} run there', [shown for cycle, shown in frames if cycle <= first][-1], tries.look(f"panel('{side}')"))
+    tries.check('the files of two runs', [f'Left run: {tries.folder}/rope, {tries.folder}/script', f'Right run: {tries.folder}/rope, {tries.folder}/other'],
+                [tries.look(f"title('{side}')") for side in SIDES])
+    try_controls(tries)
+    tries.check('what differs there', '≠ The panels differ: VERB. This is the first difference.', tries.look("text('apart')"))
+    tries.go(first - 1)
+    tries.check('before it', '= The panels show the same.', tries.look("text('apart')"))
+    tries.open('same.html')
+    tries.check('two equal runs', 'never', tries.look("text('parting')"))
+    tries.check('no first difference of them', None, tries.look("box('difference')"))
+
+
+def try_controls(tries):
+    """Each control is seen, and so are both displays above them."""
+    boxes = {name: tries.look(f"box('{name}')") for name in CONTROLS}
+    for name, box in boxes.items():
+        seen = box and 0 <= box['left'] < box['right'] <= WIDTH and 0 <= box['top'] < box['bottom'] <= HEIGHT
+        tries.check(f'{name} is seen in {WIDTH} by {HEIGHT}: {box}', True, bool(seen))
+        tries.check(f'nothing lies over {name}', True, tries.look(f"onTop('{name}')"))
+    for side in SIDES:
+        tries.check(f'the display of the {side} run ends above the controls', True,
+                    tries.look(f"bottom('{side}')") <= min(box['top'] for box in boxes.values()))
+
+
+def try_segments(tries):
+    """Each place shows each digit, the blank and `?`, and each register both signs and the blank."""
+    glyphs = list(DIGITS)
+    signs = '+-_'
+    panels = []
+    for i, glyph in enumerate(glyphs):
+        registers = {f'R{n}': signs[(i + n) % 3] + glyph * 5 for n in (1, 2, 3)}
+        panels.append(panel(PROG=glyph * 2, VERB=glyph * 2, NOUN=glyph * 2, **registers))
+    panels.append(panel(PROG='12', VERB='34', NOUN='56', R1='+78901', R2='-23456', R3='_78?__'))
+    tries.open(tries.page('glyphs.html', left=run([(1000 * i, shown) for i, shown in enumerate(panels, 1)])))
+    for i, shown in enumerate(panels, 1):
+        tries.go(1000 * i)
+        tries.check(f'the segments of {shown}', segments_of(shown), tries.look("places('left')"))
+
+
+def try_lamps(tries):
+    """Each lamp alone, in its place and with its colour."""
+    names = [name for name in LAMPS if name]
+    panels = [panel(lamps=name) for name in ['COMP ACTY', *names]]
+    tries.open(tries.page('lamps.html', left=run([(1000 * i, shown) for i, shown in enumerate(panels)])))
+    for i, name in enumerate(['COMP ACTY', *names]):
+        tries.go(1000 * i)
+        wanted = [[lamp, (AMBER if place % 2 else WHITE) if lamp == name else DARK] for place, lamp in enumerate(LAMPS)]
+        tries.check(f'the lamps where {name} is lit', wanted, tries.look("lamps('left')"))
+        tries.check(f'COMP ACTY where {name} is lit', GREEN if i == 0 else DARK_GREEN, tries.look("activity('left')"))
+
+
+def try_keyboard(tries):
+    """The places of the keys, and each of them down alone."""
+    names = [name for column in KEYBOARD for name in column]
+    keys = [(100000 * i, name) for i, name in enumerate(names, 1) if name != 'PRO']
+    tries.open(tries.page('keyboard.html', left=run([(10, panel(PROG='11'))], keys)))
+    seen = tries.look("keyboard('left')")
+    columns = []
+    for key in sorted(seen, key=lambda key: (round(key['x']), key['y'])):
+        if not columns or abs(columns[-1][-1]['x'] - key['x']) > 10:
+            columns.append([])
+        columns[-1].append(key)
+    tries.check('the columns of the keyboard', KEYBOARD, [[key['name'] for key in column] for column in columns])
+    heights = {key['name']: key['y'] for key in seen}
+    for row in range(3):
+        tries.check(f'row {row} of the keyboard is level', 1, len({round(heights[column[row]]) for column in KEYBOARD[1:6]}))
+    half = (heights['-'] - heights['+']) / 2
+    for name, beside in HALF_LOWER.items():
+        tries.near(f'how much lower than {beside} the key {name} is', half, heights[name] - heights[beside], 2)
+    for cycle, name in keys:
+        tries.go(cycle)
+        tries.check(f'the key that is down at {cycle}', name, tries.look("down('left')"))
+
+
+def try_keys(tries):
+    """How long keys are down, and which ones are named."""
+    keys = [(100000, 'VERB'), (200000, '1'), (210000, '6'), (300000, 'PRO'), (400000, 'NOUN'), (500000, 'PRO up')]
+    keys += [(600000 + 30000 * i, digit) for i, digit in enumerate('0123456789')]
+    tries.open(tries.page('keys.html', left=run([(10, panel(PROG='11'))], keys)))
+    # a quarter of a second has 21333 cycles and a third
+    wanted = [(99999, ''), (100000, 'VERB'), (121333, 'VERB'), (121334, ''), (200000, '1'), (209999, '1'), (210000, '6'),
+              (231333, '6'), (231334, ''), (299999, ''), (300000, 'PRO'), (399999, 'PRO'), (421333, 'NOUN PRO'),
+              (421334, 'PRO'), (499999, 'PRO'), (500000, ''), (600000, '0')]
+    for cycle, down in wanted:
+        tries.go(cycle)
+        tries.check(f'what is down at {cycle}', down, ' '.join(sorted(tries.look("down('left')").split())))
+    tries.go(121334)
+    for speed, down in (('10×', 'VERB'), ('1×', '')):
+        tries.look(f"choose('{speed}')")
+        tries.check(f'what is down at 121334 and {speed}', down, tries.look("down('left')"))
+    tries.go(99999)
+    tries.check('the keys before the first', 'Keys: none yet', tries.look("keys('left')"))
+    tries.go(500000)
+    tries.check('the first keys', 'Keys: VERB 1 6 PRO NOUN PRO up', tries.look("keys('left')"))
+    tries.go(999999)
+    tries.check('the last keys', 'Keys: NOUN PRO up 0 1 2 3 4 5 6 7 8 9', tries.look("keys('left')"))
+    tries.press('End')
+    tries.check('the stop', 'Keys: NOUN PRO up 0 1 2 3 4 5 6 7 8 9\nStopped: Limit', tries.look("keys('left')"))
+
+
+def try_short_run(tries):
+    """A run that is shorter than a quarter of a second: a key is down up to the next one, and PRO past forty keys."""
+    keys = [(10, 'VERB'), (200, 'PRO')] + [(210 + i, str(i % 10)) for i in range(40)] + [(290, 'PRO up')]
+    tries.open(tries.page('short.html', left=run([(10, panel(PROG='11'))], keys, 300)))
+    for cycle, down in [(9, ''), (10, 'VERB'), (199, 'VERB'), (200, 'PRO'), (249, '9 PRO'), (289, '9 PRO'), (290, ''), (300, '')]:
+        tries.go(cycle)
+        tries.check(f'what is down at {cycle} of 300', down, ' '.join(sorted(tries.look("down('left')").split())))
+
+
+def try_two_runs(tries):
+    """Two runs with two stops: their titles, the longer one's end, and a strip for each."""
+    left = run([(250000, panel(PROG='11')), (900000, panel(PROG='21'))], [(500000, 'VERB')], 1024000, 'a b\\074&', 'c\\134d')
+    right = run([(250000, panel(PROG='11')), (750000, panel(PROG='12')), (1800000, panel())], [(1250000, 'NOUN')], 2048000, '\\303\\251', 'x')
+    tries.open(tries.page('runs.html', left=left, right=right, parting='750000'))
+    tries.check('the titles', ['Left run: a b<&, c\\d', 'Right run: é, x'], [tries.look(f"title('{side}')") for side in SIDES])
+    tries.go(1000000)
+    tries.check('what each run shows', ['PROG 21', 'PROG 12'], [tries.look(f"panel('{side}')").splitlines()[0] for side in SIDES])
+    tries.check('what each display shows', [segments_of(panel(PROG=shown)) for shown in ('21', '12')],
+                [tries.look(f"places('{side}')") for side in SIDES])
+    tries.go(512000)
+    tries.check('the clock', 'cycle 512000 of 2048000, 6.000 s of 24.000 s', tries.clock())
+    tries.go(1250000)
+    tries.check('the keys that are down', ['', 'NOUN'], [tries.look(f"down('{side}')") for side in SIDES])
+    tries.check('the stop of one', ['Keys: VERB\nStopped: Limit', 'Keys: NOUN'], [tries.look(f"keys('{side}')") for side in SIDES])
+    tries.press('End')
+    tries.check('the end', 'cycle 2048000 of 2048000, 24.000 s of 24.000 s', tries.clock())
+    tries.check('the button of the first difference is seen', True, tries.look("box('difference')") is not None)
+    try_strip(tries, {'left': ([250000, 900000], [500000]), 'right': ([250000, 750000, 1800000], [1250000])}, 750000, 2048000)
+
+
+def try_strip(tries, strokes, parting, end):
+    """The strip of two runs: of each its changes below its line and its keys above it."""
+    box = tries.look("box('strip')")
+    width = box['right'] - box['left']
+    place = lambda cycle: 8 + (width - 16) * cycle / end
+    green, white, amber = [93, 255, 155], [244, 244, 238], [255, 185, 56]
+    for line, side in ((10, 'left'), (30, 'right')):
+        for what, row, colour, cycles in (('changes', line + 4, green, strokes[side][0]), ('keys', line - 4, white, strokes[side][1])):
+            # where the stroke of the first difference is, another one is not seen
+            cycles = [cycle for cycle in cycles if cycle != parting]
+            found = tries.look(f'strokes({row}, {colour})')
+            tries.check(f'how many {what} the strip of the {side} run has', len(cycles), len(found))
+            for cycle, at in zip(cycles, found):
+                tries.near(f'where the strip of the {side} run has the {what} at {cycle}', place(cycle), at, 1.5)
+        tries.near(f'where the strip of the {side} run has the first difference', place(parting),
+                   (tries.look(f'strokes({line}, {amber})') or [0])[0], 1.5)
+
+
+def try_unread(tries):
+    """A page with a run that has no end says so, and has no controls."""
+    whole = run([(10, panel(PROG='11'))])
+    cut = whole[:whole.index('stop')]
+    for name, blocks, which in [('cut.html', {'left': cut}, 'left'), ('empty.html', {'left': ''}, 'left'), ('none.html', {}, 'left'),
+                                ('right.html', {'left': whole, 'right': cut}, 'right'),
+                                ('both.html', {'left': cut, 'right': cut, 'parting': 'never'}, 'left and right')]:
+        tries.open(tries.page(name, **blocks))
+        told = f'This film cannot be read: the browser finds no end of the run {which}.'
+        tries.check(f'what {name} says', told, tries.look("text('trouble')")[:len(told)])
+        tries.check(f'the controls of {name}', None, tries.look("box('play')"))
+    tries.open('one.html')
+    tries.check('nothing is said of a whole film', '', tries.look("text('trouble')"))
+
+
+def try_slider(tries):
+    """The slider goes to any cycle while it is dragged, and to the ends."""
+    tries.open(tries.page('slider.html', left=run([(1000000, panel(PROG='11'))])))
+    box = tries.look("box('time')")
+    height = (box['top'] + box['bottom']) / 2
+    place = lambda part: box['left'] + 8 + (box['right'] - box['left'] - 16) * part
+    tries.browser.mouse('mousePressed', place(0), height)
+    for part in (0.1, 0.25, 0.75):
+        tries.browser.mouse('mouseMoved', place(part), height)
+        tries.near(f'the cycle at {part} of the slider', 2000000 * part, tries.cycle(), 20000)
+    tries.check('the panel at 0.75 of the slider', 'PROG 11', tries.look("panel('left')").splitlines()[0])
+    tries.browser.mouse('mouseMoved', place(1.1), height)
+    tries.check('the end of the slider', 2000000, tries.cycle())
+    tries.browser.mouse('mouseMoved', place(-0.1), height)
+    tries.check('the start of the slider', 0, tries.cycle())
+    tries.browser.mouse('mouseReleased', place(-0.1), height)
+    tries.browser.click(place(0.5), height)
+    tries.near('the cycle where the slider is clicked', 1000000, tries.cycle(), 20000)
+    tries.go(500000)
+    tries.check('the slider follows', '500000', tries.browser.value("document.getElementById('time').value"))
+
+
+def try_speeds(tries):
+    """How fast the film plays, by the browser's own clock, and which keys set that."""
+    tries.open(tries.page('speeds.html', left=run([(10, panel(PROG='11'))], stop=1000000000000)))
+    tries.check('the speed at first', '1× the machine’s own', tries.look('speed()'))
+    for key, (label, times) in enumerate(SPEEDS.items(), 1):
+        for how in ('key', 'list'):
+            tries.look(f"choose('{'1×' if times > 1 else '10×'}')")
+            if how == 'key':
+                tries.press(str(key))
+            else:
+                tries.look(f"choose('{label}')")
+            tries.check(f'the speed by {how} {key}', label, tries.look('speed()').split(' ')[0])
+            tries.press('Home')
+            tries.click('play')
+            seen = tries.look('pictures(12)')
+            tries.click('play')
+            cycles, seconds = seen[-1][1] - seen[0][1], (seen[-1][0] - seen[0][0]) / 1000
+            tries.near(f'cycles a second at {label} by {how}', 1, cycles / seconds / A_SECOND / times, 0.01)
+            stopped = tries.cycle()
+            tries.look('pictures(3)')
+            tries.check('paused', stopped, tries.cycle())
+
+
+def try_playing(tries):
+    """The button and the space bar play; verb and noun blink; the film ends at its stop, and begins anew."""
+    frames = [(10, panel(flash='on', VERB='16')), (1000000, panel(flash='off', VERB='16'))]
+    tries.open(tries.page('playing.html', left=run(frames)))
+    tries.go(100)
+    tries.check('nothing blinks where the film stands', '', tries.look("blinking('left')"))
+    for way in (lambda: tries.click('play'), lambda: tries.press('Space')):
+        tries.browser.value('document.activeElement.blur()')
+        tries.go(100)
+        way()
+        tries.look('pictures(3)')
+        tries.check('what blinks', 'VERB NOUN', tries.look("blinking('left')"))
+        tries.check('the button of a film that plays', '❚❚ Pause', tries.look("text('play')"))
+        tries.browser.value('document.activeElement.blur()')
+        way()
+        tries.check('the button of a film that stands', '▶ Play', tries.look("text('play')"))
+        tries.check('nothing blinks then', '', tries.look("blinking('left')"))
+    tries.go(1000000)
+    tries.click('play')
+    tries.look('pictures(3)')
+    tries.check('nothing blinks where the flash is off', '', tries.look("blinking('left')"))
+    tries.look("choose('100×')")
+    tries.check('the film comes to its end', True, tries.wait("document.getElementById('play').textContent.endsWith('Play')"))
+    tries.check('the end that it comes to', 2000000, tries.cycle())
+    tries.look("choose('1×')")
+    tries.click('play')
+    tries.look('pictures(3)')
+    tries.check('from the end it plays from the start', True, tries.cycle() < 1000000)
+
+
+TRIES = (try_constants, try_film, try_changes, try_blocks, try_long_film, try_two_films, try_segments, try_lamps, try_keyboard, try_keys, try_short_run,
+         try_two_runs, try_unread, try_slider, try_speeds, try_playing)
+
+
+def main(folder, program):
+    browser = Browser(program, folder, WIDTH, HEIGHT)
+    tries = Tries(folder, browser)
+    for each in TRIES:
+        try:
+            each(tries)
+        except (RuntimeError, TimeoutError, IndexError, KeyError, StopIteration, TypeError, ValueError) as error:
+            tries.check(f'{each.__name__} goes on to its end', None, repr(error))
+        tries.check(f'errors of the pages in {each.__name__}', [], browser.errors())
+    browser.close()
+    print(f'{tries.passed} passed, {tries.failed} failed')
+    return 0 if tries.failed == 0 else 1
+
+
+if __name__ == '__main__':
+    sys.exit(main(*sys.argv[1:]))
