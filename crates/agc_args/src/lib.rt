@@ -2,5 +2,7 @@
 #![tactic(auto)]
 
 mod args;
+mod words;
 
 pub use args::{ArgsFault, DEFAULT_SLOTS, DEFAULT_SPACING, fault_of, not_text, parse_args};
+pub use words::{WordsFault, options, words_of};

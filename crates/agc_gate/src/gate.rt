@@ -11,6 +11,12 @@ pub trait Gate {
 
     /// Called by the display's thread when it has put this live key into the key ring.
     fn key_sent(&self, _n: u64) {}
+
+    /// Called by the machine's thread now and then, when its run has come to this machine cycle.
+    fn come_to(&self, _cycle: u64) {}
+
+    /// Called by the machine's thread when its run has come to its stop, before the last block is sent.
+    fn at_stop(&self) {}
 }
 
 /// The gate that does nothing.

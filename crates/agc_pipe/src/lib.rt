@@ -13,6 +13,7 @@ mod sender;
 mod sending;
 mod shown;
 mod slots;
+mod threads;
 
 pub use agc_gate::{Gate, Open};
 pub use item::{BLOCK, Item};
@@ -23,3 +24,4 @@ pub use ring::{LinkFault, link};
 pub use sender::Sender;
 pub use shown::{ShowFault, Shown, run_shown, show_run};
 pub use slots::{MOST_SLOTS, Slots, Spacing};
+pub use threads::try_thread;

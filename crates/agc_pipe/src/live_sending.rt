@@ -10,7 +10,7 @@ ghost use Rattle.agc_pipe.specs.Live.{IsSentLive};
 
 use crate::keys::KeyTaker;
 use crate::sender::Sender;
-use crate::sending::{Outgoing, Sent};
+use crate::sending::{Outgoing, Sent, tell_mark};
 use agc_gate::Gate;
 use agc_machine::{Machine, Stepped};
 use std::sync::Wait;
@@ -37,12 +37,14 @@ pub(crate) fn send_live_run<R: Wait, G: Gate>(
     ensures { IsSentLive machine sender taker result }
 {
     let mut outgoing = Outgoing::new(sender);
+    let mut mark = 0u64;
     for _ in rt.forever() {
         match go_on(&mut machine, &mut taker) {
-            Stepped::Quiet => {}
+            Stepped::Quiet => mark = tell_past(gate, mark, machine.cycle()),
             Stepped::Wrote(write) => outgoing.put(rt, gate, write),
             Stepped::Stopped(stop) => {
                 taker.close();
+                gate.at_stop();
                 let sender = outgoing.finish(rt, gate);
                 let sent = Sent {
                     sender,
@@ -54,6 +56,15 @@ pub(crate) fn send_live_run<R: Wait, G: Gate>(
         }
     }
     unreachable!()
+}
+
+/// Tells the gate to which cycle a run has come, where that is the mark or past it; returns the next mark.
+fn tell_past<G: Gate>(gate: &G, mark: u64, cycle: u64) -> u64 {
+    if cycle < mark {
+        mark
+    } else {
+        tell_mark(gate, cycle)
+    }
 }
 
 /// Gives the machine a key, where one is to be had now; else goes on to the next write, the stop or

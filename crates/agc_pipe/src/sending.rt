@@ -9,7 +9,8 @@ ghost use Rattle.arrayvec.specs.ArrayVec.{array_vec_len};
 use crate::item::{BLOCK, Item};
 use crate::sender::Sender;
 use agc_gate::Gate;
-use agc_machine::{ChannelWrite, Machine, Next, Stop};
+use agc_machine::{ChannelWrite, Machine, Stepped, Stop};
+use agc_progress::mark_past;
 use arrayvec::ArrayVec;
 use std::marker::Model;
 use std::sync::Wait;
@@ -24,7 +25,8 @@ pub(crate) struct Sent {
     pub(crate) stop: Stop,
 }
 
-/// Runs a machine to its stop, and sends its writes and the end.
+/// Runs a machine to its stop, and sends its writes and the end. Between them the gate is told now and then how far
+/// the run has come.
 pub(crate) fn send_run<R: Wait, G: Gate>(
     rt: &R,
     gate: &G,
@@ -37,10 +39,13 @@ pub(crate) fn send_run<R: Wait, G: Gate>(
     ensures stop { (run_of machine).last.stopped ≡ Some result.stop }
 {
     let mut outgoing = Outgoing::new(sender);
+    let mut mark = 0u64;
     loop {
-        match machine.next_write() {
-            Next::Wrote(write) => outgoing.put(rt, gate, write),
-            Next::Stopped(stop) => {
+        match machine.next_write_before(mark) {
+            Stepped::Quiet => mark = tell_mark(gate, machine.cycle()),
+            Stepped::Wrote(write) => outgoing.put(rt, gate, write),
+            Stepped::Stopped(stop) => {
+                gate.at_stop();
                 return Sent {
                     sender: outgoing.finish(rt, gate),
                     machine,
@@ -121,6 +126,12 @@ impl Outgoing {
         send(rt, &mut sender, &mut block);
         sender
     }
+}
+
+/// Tells the gate to which cycle a run has come; returns the mark at which it is to be told again.
+pub(crate) fn tell_mark<G: Gate>(gate: &G, cycle: u64) -> u64 {
+    gate.come_to(cycle);
+    mark_past(cycle)
 }
 
 /// Tells the gate of so many writes more, in order, after those that it was told of; returns how many

@@ -5,8 +5,12 @@
 #![tactic(auto)]
 
 mod mark;
+#[cfg(test)]
+mod tests;
+mod ticker;
 
 pub use mark::{mark_past, tell_at};
+pub use ticker::{Shown, Ticker};
 
 /// Who is told how far a run has come.
 pub trait Progress {

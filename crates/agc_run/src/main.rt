@@ -10,10 +10,10 @@ ghost use Rattle.agc_run.specs.Ending.{EndsMistaken};
 
 #[cfg(test)]
 mod tests;
-mod words;
 
-use agc_args::ArgsFault;
-use agc_pipe::Open;
+use agc_args::{ArgsFault, options};
+use agc_gate::{Gate, Telling};
+use agc_progress::Ticker;
 use agc_session::{DONE, InputFile, Options, REFUSED, Refusal, session, status_of};
 use std::io::{Read, Write};
 use std::process::ExitCode;
@@ -21,7 +21,6 @@ use std::rt::Files;
 use std::sync::Wait;
 use std::thread::Threads;
 use std::{fs, io};
-use words::options;
 
 /// The status of a mistake in the command line.
 const MISUSED: u8 = 2;
@@ -29,7 +28,17 @@ const MISUSED: u8 = 2;
 fn main(rt: HostRuntime) -> ExitCode {
     let _stand_ins = stand_ins(&rt);
     let (mut keys, mut out, mut err) = (rt.stdin(), rt.stdout(), rt.stderr());
-    ExitCode::from(run(&rt, options(&rt), &mut keys, &mut out, &mut err))
+    let asked = options(&rt);
+    let gate = Telling::new(Ticker::new(&rt, rt.stderr(), "agc", limit_of(&asked)));
+    ExitCode::from(run(&rt, asked, &mut keys, &mut out, &mut err, &gate))
+}
+
+/// The cycle at which the run ends at the latest; 0 where there is none.
+fn limit_of(asked: &Result<Options, ArgsFault>) -> u64 {
+    match asked {
+        Ok(options) => options.limit,
+        Err(_) => 0,
+    }
 }
 
 /// Three files that can be neither read nor written. A file that is opened takes the number of a
@@ -41,13 +50,14 @@ fn stand_ins<R: Files>(rt: &R) -> [io::Result<R::File>; 3] {
 /// Does what the command line asks for: a session over the two files, with the keys of `keys` where
 /// it is live. Without a session the text of help goes to `out` with status 0, that of a mistake to
 /// `err` with status 2, and want of memory to `err` with status 1. A write that fails gives status
-/// 3.
-fn run<R, K: Read, W: Write, E: Write>(
+/// 3. The gate is called by both threads as the session goes on.
+fn run<R, K: Read, W: Write, E: Write, G: Gate + Sync>(
     rt: &R,
     asked: Result<Options, ArgsFault>,
     keys: &mut K,
     out: &mut W,
     err: &mut E,
+    gate: &G,
 ) -> u8
 where
     R: Files + AllocGlobal + Threads + Wait + Sync,
@@ -74,7 +84,7 @@ where
                 &mut rope,
                 &mut script,
                 keys,
-                &Open,
+                gate,
                 out,
                 err,
             )

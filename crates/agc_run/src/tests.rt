@@ -1,6 +1,7 @@
 //! The program on its command lines: help, mistakes, and files that are not there.
 use crate::run;
 use agc_args::parse_args;
+use agc_gate::Open;
 use std::process::Abort;
 use std::rt::Files;
 use std::sync::Wait;
@@ -27,7 +28,7 @@ fn program(
     let asked = parse_args(rt.alloc(), words.as_slice());
     let mut out = Vec::new(rt.alloc());
     let mut err = Vec::new(rt.alloc());
-    let status = run(rt, asked, &mut keys, &mut out, &mut err);
+    let status = run(rt, asked, &mut keys, &mut out, &mut err, &Open);
     Ended { status, out, err }
 }
 

@@ -17,14 +17,14 @@ use Rattle.agc_session.specs.declared.refusal.Refusal.TheVariants as refusal
 pub run_told : (options : Options) (r : Refusal) → slots_refusal options.slots ≡ None → spacing_refusal options.live options.spacing ≡ None
     → tables_refusal (said_by spec_of options.watch) ≡ None → (r ≡ refusal.Thread) ⊎ (r ≡ refusal.Memory) → IsTold (run_steps options) r
 unfolding run_steps
-run_told options r slots spacing tables (inl is) = rw (slots, spacing, tables) (inl is)
+run_told options r slots spacing tables (inl is) = rw (slots, spacing) (inl is)
 run_told options r slots spacing tables (inr is) = rw (slots, spacing, tables) (inr (inl is))
 
 -- and after the run, when it is put into words
 tables_told : (slots spacing tables : Option Refusal) (later : List Step)
-    → refusal_in (looks slots ∷ looks spacing ∷ looks tables ∷ asks refusal.Thread ∷ asks refusal.Memory ∷ later) ≡ None
+    → refusal_in (looks slots ∷ looks spacing ∷ asks refusal.Thread ∷ looks tables ∷ asks refusal.Memory ∷ later) ≡ None
     → IsTold later (refusal.Watch watch.Memory)
-    → IsTold (looks slots ∷ looks spacing ∷ looks tables ∷ asks refusal.Thread ∷ asks refusal.Memory ∷ later) (refusal.Watch watch.Memory)
+    → IsTold (looks slots ∷ looks spacing ∷ asks refusal.Thread ∷ looks tables ∷ asks refusal.Memory ∷ later) (refusal.Watch watch.Memory)
 tables_told (Some r) spacing tables later none h = cc
 tables_told None (Some r) tables later none h = cc
 tables_told None None (Some r) later none h = cc

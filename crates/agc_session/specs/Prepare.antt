@@ -48,8 +48,8 @@ unfoldable pub run_steps : Options → List Step
 run_steps options =
     looks (slots_refusal options.slots)
     ∷ looks (spacing_refusal options.live options.spacing)
-    ∷ looks (tables_refusal (said_by spec_of options.watch))
     ∷ asks refusal.Thread
+    ∷ looks (tables_refusal (said_by spec_of options.watch))
     ∷ asks refusal.Memory
     ∷ asks (refusal.Watch watch.Memory)
     ∷ []

@@ -151,7 +151,7 @@ fn plain_report<H: Threads + Wait + Sync, G: Gate + Sync>(
     ensures { ComesOf (run_steps options.now) (IsRunReport options.now prepared.machine) result }
 {
     let Prepared { machine, watch } = prepared;
-    let run = check_run(options, &watch)?;
+    let run = check_run(rt, options, &watch)?;
     report_run(rt, alloc, options, machine, &run, gate)
 }
 
@@ -174,6 +174,6 @@ fn live_report<H: Threads + Wait + Sync, K: Read, G: Gate + Sync>(
 {
     let Prepared { machine, watch } = prepared;
     let keys = read_keys(alloc, keys)?;
-    let (run, spacing) = check_live_run(options, &watch)?;
+    let (run, spacing) = check_live_run(rt, options, &watch)?;
     report_live_run(rt, alloc, options, machine, keys, spacing, &run, gate)
 }

@@ -1,21 +1,23 @@
 //! Before the run: the options are looked at, one after another, and the machine is made.
-ghost use Rattle.std.specs.Prelude.{◌≡◌, false, true, IfOk, OnOk, MatchResult, None, Some};
+ghost use Rattle.std.specs.Prelude.{◌≡◌, ◌⊎◌, false, true, IfOk, OnOk, MatchResult, None, Some};
 ghost use Rattle.agc_machine.specs.State.{start_state};
 ghost use Rattle.agc_panel.specs.WatchSpec.{spec_of};
 ghost use Rattle.agc_session.specs.Options.{said_by};
 ghost use Rattle.agc_session.specs.Prepare.{limit_refusal, watch_spec_refusal, until_spec_refusal};
 ghost use Rattle.agc_session.specs.Prepare.{machine_steps, slots_refusal, spacing_refusal};
 ghost use Rattle.agc_session.specs.Prepare.{tables_refusal, run_steps};
-ghost use Rattle.agc_session.specs.Steps.{refusal_in};
+ghost use Rattle.agc_session.specs.Steps.{IsTold, refusal_in};
 ghost use Rattle.agc_machine.specs.StopAddress.{stop_address_of};
+ghost use Rattle.agc_session.specs.declared.refusal.Refusal.TheVariants as refusal;
 
 use crate::options::Options;
 use crate::refusal::Refusal;
 use agc_machine::{Machine, StopAddress};
 use agc_panel::{CheckedSpec, WatchSpec};
-use agc_pipe::{Slots, Spacing};
+use agc_pipe::{Slots, Spacing, try_thread};
 use agc_script::Script;
 use agc_store::Rope;
+use std::thread::Threads;
 
 /// A machine at its start, and what the watcher is to print at the end.
 #[derive(Drop)]
@@ -107,13 +109,18 @@ pub struct RunOptions {
 }
 
 /// Looks at the options of the run itself, where no keys are live. Whether tables can be watched is
-/// known before the run, so a long run is not made in vain.
+/// known before the run, so a long run is not made in vain; a thread that cannot be had is told before
+/// them, as it is where a run is made.
 #[tactic(auto, unfolding(crate::specs::Prepare::run_steps, crate::specs::Prepare::spacing_refusal))]
-pub fn check_run(options: &Options, watch: &Option<WatchSpec>) -> Result<RunOptions, Refusal>
+pub fn check_run<H: Threads>(
+    rt: &H,
+    options: &Options,
+    watch: &Option<WatchSpec>,
+) -> Result<RunOptions, Refusal>
     requires live { options.now.live ≡ false }
     requires watch { watch.now ≡ said_by spec_of options.now.watch }
     ensures checked { MatchResult result (λ _. refusal_in (run_steps options.now) ≡ None)
-        (λ refusal. refusal_in (run_steps options.now) ≡ Some refusal) }
+        (IsTold (run_steps options.now)) }
     ensures slots { OnOk result (slots_refusal options.now.slots ≡ None) }
     ensures spacing { OnOk result (spacing_refusal options.now.live options.now.spacing ≡ None) }
     ensures tables { OnOk result (tables_refusal watch.now ≡ None) }
@@ -121,20 +128,21 @@ pub fn check_run(options: &Options, watch: &Option<WatchSpec>) -> Result<RunOpti
     ensures watch { IfOk result (λ run. run.watch ≡ watch.now) }
 {
     let slots = checked_slots(options.slots)?;
-    let watch = checked_tables(watch)?;
+    let watch = checked_tables(rt, watch)?;
     Ok(RunOptions { slots, watch })
 }
 
 /// Looks at the options of the run itself, with live keys.
 #[tactic(auto, unfolding(crate::specs::Prepare::run_steps))]
-pub fn check_live_run(
+pub fn check_live_run<H: Threads>(
+    rt: &H,
     options: &Options,
     watch: &Option<WatchSpec>,
 ) -> Result<(RunOptions, Spacing), Refusal>
     requires live { options.now.live ≡ true }
     requires watch { watch.now ≡ said_by spec_of options.now.watch }
     ensures checked { MatchResult result (λ _. refusal_in (run_steps options.now) ≡ None)
-        (λ refusal. refusal_in (run_steps options.now) ≡ Some refusal) }
+        (IsTold (run_steps options.now)) }
     ensures slots { OnOk result (slots_refusal options.now.slots ≡ None) }
     ensures spacing { OnOk result (spacing_refusal options.now.live options.now.spacing ≡ None) }
     ensures tables { OnOk result (tables_refusal watch.now ≡ None) }
@@ -144,7 +152,7 @@ pub fn check_live_run(
 {
     let slots = checked_slots(options.slots)?;
     let spacing = checked_spacing(options.spacing)?;
-    let watch = checked_tables(watch)?;
+    let watch = checked_tables(rt, watch)?;
     Ok((RunOptions { slots, watch }, spacing))
 }
 
@@ -173,9 +181,12 @@ fn checked_spacing(spacing: u64) -> Result<Spacing, Refusal>
 }
 
 #[tactic(auto, unfolding(crate::specs::Prepare::tables_refusal))]
-fn checked_tables(watch: &Option<WatchSpec>) -> Result<Option<CheckedSpec>, Refusal>
+fn checked_tables<H: Threads>(
+    rt: &H,
+    watch: &Option<WatchSpec>,
+) -> Result<Option<CheckedSpec>, Refusal>
     ensures checked { MatchResult result (λ _. tables_refusal watch.now ≡ None)
-        (λ refusal. tables_refusal watch.now ≡ Some refusal) }
+        (λ r. (r ≡ refusal.Thread) ⊎ (tables_refusal watch.now ≡ Some r)) }
     ensures watch { IfOk result (λ checked. checked ≡ watch.now) }
 {
     let Some(spec) = watch else {
@@ -183,6 +194,9 @@ fn checked_tables(watch: &Option<WatchSpec>) -> Result<Option<CheckedSpec>, Refu
     };
     match spec.checked() {
         Ok(checked) => Ok(Some(checked)),
-        Err(fault) => Err(Refusal::Watch(fault)),
+        Err(fault) => {
+            try_thread(rt)?;
+            Err(Refusal::Watch(fault))
+        }
     }
 }

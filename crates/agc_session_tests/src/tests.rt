@@ -7,3 +7,4 @@ mod session;
 mod sessions;
 mod watch_spec;
 mod watcher;
+mod words;

@@ -10,6 +10,11 @@ use Rattle.agc_check.specs.KeyReport.{IsKeyReport, are_keys}
 use Rattle.agc_check.specs.ListingReport.{IsListingReport}
 use Rattle.agc_check.specs.Report.{IsFileReport}
 use Rattle.agc_check.specs.declared.reports.Report.{Report}
+use Rattle.agc_session.specs.Input.{ExplainsUnread}
+use Rattle.agc_session.specs.declared.input.Unread.TheVariants as unread
+use Rattle.agc_session.specs.declared.refusal.Refusal.TheVariants as refusal
+use Rattle.agc_study.specs.declared.trouble.Trouble.{Trouble}
+use Rattle.agc_study.specs.declared.trouble.Trouble.TheVariants as trouble
 
 -- a report on the bytes of two files: whether both are sound, and the text
 pub record IsCheckedOf (form : RopeForm) (rope script : List ℕ) (report : Report) : Type 0 where
@@ -21,6 +26,28 @@ abbrev pub IsChecked : RopeForm → Option (List ℕ) → Option (List ℕ) → 
 IsChecked form None script report = Unit {0}
 IsChecked form (Some rope) None report = Unit {0}
 IsChecked form (Some rope) (Some script) report = IsCheckedOf form rope script report
+
+-- How a check of two files fails: the rope or the script was not read, which has too many bytes where that is
+-- the cause, or memory ran out.
+abbrev pub IsUnchecked : Option (List ℕ) → Option (List ℕ) → Trouble → Type 0
+IsUnchecked rope script (trouble.Refused (refusal.CannotReadRope why)) =
+    ExplainsUnread 1048576 rope (unread.CannotRead why)
+IsUnchecked rope script (trouble.Refused (refusal.CannotReadScript why)) =
+    ExplainsUnread 16777216 script (unread.CannotRead why)
+IsUnchecked rope script (trouble.Refused refusal.Memory) = Unit {0}
+IsUnchecked rope script t = ⊥
+
+-- and a check of a text of live keys, or of the text of a rope
+abbrev pub AreKeysUnchecked : Option (List ℕ) → Trouble → Type 0
+AreKeysUnchecked keys (trouble.Refused (refusal.CannotReadKeys why)) =
+    ExplainsUnread 65536 keys (unread.CannotRead why)
+AreKeysUnchecked keys (trouble.Refused refusal.Memory) = Unit {0}
+AreKeysUnchecked keys t = ⊥
+
+abbrev pub IsListingUnchecked : Trouble → Type 0
+IsListingUnchecked trouble.CannotReadText = Unit {0}
+IsListingUnchecked (trouble.Refused refusal.Memory) = Unit {0}
+IsListingUnchecked t = ⊥
 
 -- what is told of the bytes of a text of live keys, and of those of the text of a rope
 pub record AreKeysChecked (keys : List ℕ) (report : Report) : Type 0 where

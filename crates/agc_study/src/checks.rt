@@ -1,7 +1,10 @@
 //! Files to what is told of them: a rope and a script, a text of live keys, the text of a rope.
-ghost use Rattle.std.specs.Prelude.{IfOk, IfSome};
-ghost use Rattle.agc_study.specs.Checked.{AreKeysChecked, IsChecked, IsCheckedWith, IsJoined};
-ghost use Rattle.agc_study.specs.Checked.{IsListingChecked, IsWithMore};
+ghost use Rattle.std.specs.Prelude.{◌≡◌, IfOk, IfErr, IfSome};
+ghost use Rattle.agc_session.specs.declared.refusal.Refusal.TheVariants as refusal;
+ghost use Rattle.agc_study.specs.Checked.{AreKeysChecked, AreKeysUnchecked, IsChecked, IsCheckedWith};
+ghost use Rattle.agc_study.specs.Checked.{IsJoined, IsListingChecked, IsListingUnchecked, IsUnchecked};
+ghost use Rattle.agc_study.specs.Checked.{IsWithMore};
+ghost use Rattle.agc_study.specs.declared.trouble.Trouble.TheVariants as told;
 
 use crate::trouble::Trouble;
 use agc_check::{Report, check, check_keys, check_listing};
@@ -19,6 +22,7 @@ pub fn check_files<R: Read, S: Read>(
 ) -> Result<Report, Trouble>
     ensures checked { IfOk result
         (λ report. IsChecked form (R.remaining rope.old) (S.remaining script.old) report) }
+    ensures refused { IfErr result (IsUnchecked (R.remaining rope.old) (S.remaining script.old)) }
 {
     let rope = match read_limited(alloc, rope, ROPE_BYTES) {
         Ok(bytes) => bytes,
@@ -50,6 +54,7 @@ pub fn check_with<R: Read, S: Read>(
 ) -> Result<Report, Trouble>
     ensures checked { IfOk result (λ report. IsCheckedWith form
         (R.remaining rope.old) (S.remaining script.old) more.now report) }
+    ensures refused { IfErr result (IsUnchecked (R.remaining rope.old) (S.remaining script.old)) }
 {
     let first = check_files(alloc, form, rope, script)?;
     with_more(first, more)
@@ -57,7 +62,8 @@ pub fn check_with<R: Read, S: Read>(
 
 /// A report with another after it, where there is one.
 fn with_more(first: Report, more: &Option<Report>) -> Result<Report, Trouble>
-    ensures { IfOk result (IsWithMore first more.now) }
+    ensures whole { IfOk result (IsWithMore first more.now) }
+    ensures refused { IfErr result (λ t. t ≡ told.Refused refusal.Memory) }
 {
     match more {
         Some(more) => joined(first, more),
@@ -67,7 +73,8 @@ fn with_more(first: Report, more: &Option<Report>) -> Result<Report, Trouble>
 
 /// Two reports as one, which is sound where both are.
 pub fn joined(first: Report, second: &Report) -> Result<Report, Trouble>
-    ensures { IfOk result (IsJoined first second.now) }
+    ensures joined { IfOk result (IsJoined first second.now) }
+    ensures refused { IfErr result (λ t. t ≡ told.Refused refusal.Memory) }
 {
     let Report { mut text, is_sound } = first;
     match text.push_str(second.text.as_str()) {
@@ -81,8 +88,9 @@ pub fn joined(first: Report, second: &Report) -> Result<Report, Trouble>
 
 /// What a person is told of a text of live keys.
 pub fn check_key_file<K: Read>(alloc: Global, keys: &mut K) -> Result<Report, Trouble>
-    ensures { IfOk result (λ report. IfSome (K.remaining keys.old)
+    ensures checked { IfOk result (λ report. IfSome (K.remaining keys.old)
         (λ text. AreKeysChecked text report)) }
+    ensures refused { IfErr result (AreKeysUnchecked (K.remaining keys.old)) }
 {
     let bytes = match read_limited(alloc, keys, KEY_BYTES) {
         Ok(bytes) => bytes,
@@ -99,8 +107,9 @@ pub fn check_key_file<K: Read>(alloc: Global, keys: &mut K) -> Result<Report, Tr
 
 /// What a person is told of the text of a rope.
 pub fn check_listing_file<L: Read>(alloc: Global, listing: &mut L) -> Result<Report, Trouble>
-    ensures { IfOk result (λ report. IfSome (L.remaining listing.old)
+    ensures checked { IfOk result (λ report. IfSome (L.remaining listing.old)
         (λ text. IsListingChecked text report)) }
+    ensures refused { IfErr result IsListingUnchecked }
 {
     let bytes = match read_limited(alloc, listing, SCRIPT_BYTES) {
         Ok(bytes) => bytes,

@@ -1,12 +1,36 @@
 //! The words of a command line to what they ask for.
 use crate::asked::{Asked, CheckedRun, Checking, Comparing, Filming, Listing, Tracing, Weaving};
 use crate::command_line::command;
-use agc_args::{ArgsFault, fault_of};
+use agc_args::{ArgsFault, WordsFault, fault_of, words_of};
 use agc_film::RunFiles;
 use agc_store::RopeForm;
 use agc_trace::{Only, Selection};
 use clap::ArgMatches;
 use std::alloc::{AllocError, Global};
+use std::rt::Env;
+
+/// The name by which the program speaks of itself.
+pub const NAME: &str = "agc-study";
+
+/// What the words of the command line ask for.
+pub fn asked_of<R: Env + AllocGlobal>(rt: &R) -> Result<Asked, ArgsFault> {
+    let alloc = rt.alloc();
+    let words = match words_of(rt) {
+        Ok(words) => words,
+        Err(WordsFault::NotText(number)) => return Err(not_text(alloc, number)),
+        Err(WordsFault::Memory) => return Err(ArgsFault::Memory),
+    };
+    let words: Vec<&str> = words.iter().map(|word| word.as_str()).collect(alloc)?;
+    asked_by(alloc, words.as_slice())
+}
+
+/// The mistake of a command line whose word of this number is not text, counted from 1 after the program's own name.
+fn not_text(alloc: Global, number: usize) -> ArgsFault {
+    match format!(in alloc; "error: word {number} is not text\n\nUsage: {NAME} <COMMAND>\n\nFor more information, try '--help'.\n") {
+        Ok(text) => ArgsFault::Command(text),
+        Err(_) => ArgsFault::Memory,
+    }
+}
 
 /// What the words of a command line ask for, the program's own name first.
 pub fn asked_by<'a>(alloc: Global, words: &'a [&'a str]) -> Result<Asked, ArgsFault> {

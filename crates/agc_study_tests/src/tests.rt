@@ -3,4 +3,5 @@ mod check;
 mod compare;
 mod progress;
 mod rope_text;
+mod study;
 mod trace;

@@ -2,6 +2,7 @@
 mod live;
 mod memory;
 mod shown;
+mod told;
 
 ghost use Rattle.std.specs.Prelude.{◌≡◌};
 ghost use Rattle.agc_pipe.specs.Item.{IsOutside};

@@ -5,7 +5,7 @@ use Rattle.agc_session.specs.Files.{keys_steps}
 use Rattle.agc_session.specs.Prepare.{run_steps}
 use Rattle.agc_session.proofs.Printed.{with_keys}
 use Rattle.agc_session.proofs.Refused.{run_told}
-use Rattle.agc_session.proofs.Told.{known_any, known_first, known_later, told_found}
+use Rattle.agc_session.proofs.Told.{known_any, known_first, known_later}
 use Rattle.agc_session.proofs.entry.live_report.Goals as goal
 
 pub returns-in_err-keys-clause-report : goal.returns-in_err-keys-clause-report
@@ -16,9 +16,8 @@ returns-in_err-keys-clause-report g c =
 pub returns-in_err-run-clause-report : goal.returns-in_err-run-clause-report
 returns-in_err-run-clause-report g c =
     let p = err_from_is_err_and c.from_residual-in_err-run.result c.from_residual-in_err-run.ensures.1 in
-    let found = told_found (run_steps c.args.options.now) _ c.in_err-run.ensures.checked in
     rw (p.1, p.2) (known_later keys_steps (run_steps c.args.options.now) _ (IsKeysReport c.args.options.now c.args.prepared.machine) (Err _)
-    c.in_ok-keys.ensures.accepted (known_any _ _ found))
+    c.in_ok-keys.ensures.accepted (known_any _ _ c.in_err-run.ensures.checked))
 
 pub returns-clause-report : goal.returns-clause-report
 returns-clause-report g c =

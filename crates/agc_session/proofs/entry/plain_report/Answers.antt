@@ -2,13 +2,13 @@ use Rattle.std.proofs.lemmas.Result.{IfErr-weaker, err_from_is_err_and}
 use Rattle.agc_session.specs.Entry.{IsRunReport}
 use Rattle.agc_session.specs.Prepare.{run_steps}
 use Rattle.agc_session.proofs.Refused.{run_told}
-use Rattle.agc_session.proofs.Told.{comes_of, told_found}
+use Rattle.agc_session.proofs.Told.{comes_of}
 use Rattle.agc_session.proofs.entry.plain_report.Goals as goal
 
 pub returns-in_err-run : goal.returns-in_err-run
 returns-in_err-run g c =
     let p = err_from_is_err_and c.from_residual.result c.from_residual.ensures.1 in
-    rw (p.1, p.2) (told_found (run_steps c.args.options.now) _ c.in_err-run.ensures.checked)
+    rw (p.1, p.2) c.in_err-run.ensures.checked
 
 pub returns : goal.returns
 returns g c =

@@ -1,7 +1,7 @@
 //! Traces that are cut off, and files of more bytes than a rope may have.
 use super::*;
-use crate::status_of_trace;
 use agc_session::ROPE_BYTES;
+use agc_study::status_of_trace;
 use agc_trace::TraceFault;
 
 /// A trace that is cut off is not whole, and want of memory is told.

@@ -1,7 +1,9 @@
-//! When it is told how far a run has come, and of how far.
-use super::*;
-use crate::last_cycle;
-use std::io::{ErrorKind, IsTerminal, Write};
+//! When it is shown how far a run has come.
+use crate::ticker::{Shown, Ticker};
+use crate::Progress;
+use std::io::{self, ErrorKind, IsTerminal, Write};
+use std::test::Fail;
+use std::time::{Clock, Duration, Instant};
 
 /// A clock that stands at so many milliseconds.
 #[derive(Drop)]
@@ -56,7 +58,7 @@ fn shown(rt: &impl AllocGlobal, is_terminal: bool, fails: bool) -> Vec<u8> {
         fails,
     };
     let times = [11_999, 12_000, 12_499, 12_500, 72_500].map(|millis| Stopped(millis));
-    let mut ticker = Ticker::new(&start, screen, 9);
+    let mut ticker = Ticker::new(&start, screen, "agc-study", 9);
     ticker.come_to(0);
     let mut cycle = 0u64;
     for time in &times {
@@ -79,21 +81,22 @@ fn lines_come_in_their_time(rt: HostRuntime) {
     assert!(rt; shown(&rt, false, false).is_empty());
 }
 
-/// What is told is how far it is to the cycle after which nothing is printed.
+/// A line that is due is shown; the next one is not due yet, and what is shown is wiped once.
 #[test]
-fn last_cycles(rt: HostRuntime) {
-    for (line, last) in [
-        ("agc-study trace rope script --limit 10", 10),
-        ("agc-study trace rope script --limit 10 --from 3 --to 7", 7),
-        (
-            "agc-study trace rope script --limit 10 --from 3 --to 70",
-            10,
-        ),
-        ("agc-study compare rope script rope script --limit 10", 10),
-        ("agc-study film rope script --limit 10", 10),
-        ("agc-study list rope", 0),
-        ("agc-study", 0),
-    ] {
-        assert_eq!(rt; last_cycle(&asked(&rt, line)), last, "{line}");
-    }
+fn progress_is_shown_and_wiped(rt: HostRuntime) -> Result<(), Fail> {
+    let clock = Stopped(10_000);
+    let mut ticker = Ticker {
+        clock: &clock,
+        err: Vec::new(rt.alloc()),
+        name: "agc",
+        last: 100,
+        due: Instant::now(&clock).ok(),
+        is_shown: false,
+    };
+    ticker.come_to(7);
+    ticker.come_to(8);
+    ticker.wipe();
+    ticker.wipe();
+    assert!(rt; ticker.err.as_slice() == b"\ragc: cycle 7 of 100\r\x1b[K".as_slice());
+    Ok(())
 }

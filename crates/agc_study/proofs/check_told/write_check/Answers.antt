@@ -1,4 +1,4 @@
-use Rattle.agc_study.proofs.write_check.Goals as goal
+use Rattle.agc_study.proofs.check_told.write_check.Goals as goal
 
 pub returns-in-Ok-clause-sound : goal.returns-in-Ok-clause-sound
 returns-in-Ok-clause-sound g c done = record { report = c.in-Ok.report; checked = c.in-Ok.ensures.checked; written = c.write_report.ensures.sound done }

@@ -1,5 +1,7 @@
 //! Words that are text and words that are not, from a list in the place of the system's.
-use super::*;
+use agc_args::{ArgsFault, options};
+use std::env::FillError;
+use std::rt::Env;
 use std::process::Abort;
 
 /// The words of a command line.

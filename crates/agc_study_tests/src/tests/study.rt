@@ -1,27 +1,18 @@
 //! The program on its command lines, over files that are not there; `examples/study` runs it on files.
 mod ends;
-mod progress;
 
-use crate::asked::{Asked, Comparing, Filming};
-use crate::checks::{check_files, check_key_file, check_listing_file, check_with};
-use crate::compares::compare_files;
-use crate::films::film_files;
-use crate::ropes::{list_rope, weave_text};
-use crate::ticker::{Shown, Ticker};
-use crate::trouble::Trouble;
-use crate::words::asked_by;
-use crate::{run, write_report, write_told};
 use agc_args::ArgsFault;
 use agc_film::RunFiles;
-use agc_progress::{Progress, Untold};
+use agc_progress::Untold;
 use agc_rope_text::{LineFault, WeaveFault};
 use agc_session::Refusal;
 use agc_store::{RopeFault, RopeForm};
-use std::io;
+use agc_study::{Asked, Comparing, Filming, Trouble, answer, asked_by, check_files, check_key_file};
+use agc_study::{check_listing_file, check_with, compare_files, film_files, last_cycle, list_rope};
+use agc_study::{weave_text, write_report, write_told};
 use std::process::Abort;
 use std::rt::Files;
 use std::test::Fail;
-use std::time::{Clock, Duration, Instant};
 
 /// How the program ends on this command line.
 #[derive(Drop)]
@@ -44,7 +35,9 @@ fn program(rt: &(impl AllocGlobal + Files + Abort), line: &str) -> Ended {
     let asked = asked(rt, line);
     let mut out = Vec::new(rt.alloc());
     let mut err = Vec::new(rt.alloc());
-    let status = run(rt, asked, &mut out, &mut err, &mut Untold);
+    let mut remarks = Vec::new(rt.alloc());
+    let status = answer(rt, asked, &mut out, &mut err, &mut remarks, &mut Untold);
+    assert!(rt; remarks.is_empty());
     Ended {
         status,
         out: String::from_utf8(out).ok().expect(rt, "text"),
@@ -386,35 +379,21 @@ fn runs_are_filmed(rt: HostRuntime) -> Result<(), Fail> {
     Ok(())
 }
 
-/// A clock that stands at ten seconds.
-#[derive(Drop)]
-struct Standing;
-
-impl Clock for Standing {
-    fn monotonic(&self) -> io::Result<Duration> {
-        Ok(Duration::from_secs(10))
-    }
-
-    fn since_1970(&self) -> io::Result<Duration> {
-        Ok(Duration::from_secs(10))
-    }
-}
-
-/// A line that is due is shown; the next one is not due yet, and what is shown is wiped once.
+/// What is told is how far it is to the cycle after which nothing is printed.
 #[test]
-fn progress_is_shown_and_wiped(rt: HostRuntime) -> Result<(), Fail> {
-    let clock = Standing;
-    let mut ticker = Ticker {
-        clock: &clock,
-        err: Vec::new(rt.alloc()),
-        last: 100,
-        due: Instant::now(&clock).ok(),
-        is_shown: false,
-    };
-    ticker.come_to(7);
-    ticker.come_to(8);
-    ticker.wipe();
-    ticker.wipe();
-    assert!(rt; ticker.err.as_slice() == b"\ragc-study: cycle 7 of 100\r\x1b[K".as_slice());
-    Ok(())
+fn last_cycles(rt: HostRuntime) {
+    for (line, last) in [
+        ("agc-study trace rope script --limit 10", 10),
+        ("agc-study trace rope script --limit 10 --from 3 --to 7", 7),
+        (
+            "agc-study trace rope script --limit 10 --from 3 --to 70",
+            10,
+        ),
+        ("agc-study compare rope script rope script --limit 10", 10),
+        ("agc-study film rope script --limit 10", 10),
+        ("agc-study list rope", 0),
+        ("agc-study", 0),
+    ] {
+        assert_eq!(rt; last_cycle(&asked(&rt, line)), last, "{line}");
+    }
 }

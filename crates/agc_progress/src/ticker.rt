@@ -1,5 +1,5 @@
 //! Progress on a terminal: one line of standard error, which is written over and wiped in the end.
-use agc_progress::{Progress, Untold};
+use crate::{Progress, Untold};
 use std::io::{IsTerminal, Write};
 use std::time::{Clock, Duration, Instant};
 
@@ -26,6 +26,8 @@ impl Shown for Untold {
 pub struct Ticker<'a, C, E> {
     pub(crate) clock: &'a C,
     pub(crate) err: E,
+    /// The program's name, at the start of each line.
+    pub(crate) name: &'a str,
     /// The last cycle to which the run may come.
     pub(crate) last: u64,
     /// When the next line is due; with `None` never.
@@ -36,7 +38,7 @@ pub struct Ticker<'a, C, E> {
 
 impl<'a, C: Clock, E: Write + IsTerminal> Ticker<'a, C, E> {
     /// Nothing is shown yet, and nothing will be where this is no terminal.
-    pub fn new(clock: &'a C, err: E, last: u64) -> Ticker<'a, C, E> {
+    pub fn new(clock: &'a C, err: E, name: &'a str, last: u64) -> Ticker<'a, C, E> {
         let due = if err.is_terminal() {
             time_from_now(clock, PATIENCE)
         } else {
@@ -45,6 +47,7 @@ impl<'a, C: Clock, E: Write + IsTerminal> Ticker<'a, C, E> {
         Ticker {
             clock,
             err,
+            name,
             last,
             due,
             is_shown: false,
@@ -57,9 +60,9 @@ impl<'a, C: Clock, E: Write> Progress for Ticker<'a, C, E> {
         if !is_past(self.clock, self.due) {
             return;
         }
-        let last = self.last;
+        let (name, last) = (self.name, self.last);
         // The line ends at its start, so that what is printed next is written over it.
-        self.due = match write!(self.err, "\ragc-study: cycle {cycle} of {last}\r") {
+        self.due = match write!(self.err, "\r{name}: cycle {cycle} of {last}\r") {
             Ok(()) => time_from_now(self.clock, PERIOD),
             Err(_) => None,
         };

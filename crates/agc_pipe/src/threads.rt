@@ -1,0 +1,18 @@
+//! Whether a thread can be had, where no run will need it.
+ghost use Rattle.std.specs.Prelude.{◌≡◌, IfErr};
+ghost use Rattle.agc_pipe.specs.declared.shown.ShowFault.TheVariants as fault;
+
+use crate::shown::ShowFault;
+use std::thread;
+use std::thread::Threads;
+
+/// Starts a thread that does nothing, and waits for its end: a run to be shown would want one, and where
+/// none can be had this is told as it is told there.
+pub fn try_thread<R: Threads>(rt: &R) -> Result<(), ShowFault>
+    ensures fault { IfErr result (λ why. why ≡ fault.Thread) }
+{
+    match thread::spawn(rt, || ()) {
+        Ok(child) => Ok(child.join(rt)),
+        Err(_) => Err(ShowFault::Thread),
+    }
+}

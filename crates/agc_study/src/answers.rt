@@ -1,0 +1,96 @@
+//! What is asked for, answered: on standard output, or in a line on standard error.
+ghost use Rattle.std.specs.Prelude.{◌≡◌, ◌≢◌, ◌<◌};
+ghost use Rattle.std.specs.Io.KnownBytes.{Keeps};
+ghost use Rattle.agc_study.specs.Ended.{IsEnded, LooksForFaults};
+
+use crate::asked::{Asked, Listing, Weaving};
+use crate::check_told::check_to;
+use crate::ropes::{list_rope, weave_text};
+use crate::runs_told::{compare_to, film_to, trace_to};
+use crate::trouble::Trouble;
+use agc_args::ArgsFault;
+use agc_progress::Shown;
+use agc_session::{DONE, InputFile, Refusal, status_of};
+use std::fs;
+use std::io::Write;
+use std::rt::Files;
+
+/// The status where nothing is printed: a mistake in the command line, or a file at fault.
+pub const TROUBLE: u8 = 2;
+
+/// The cycle at which what is asked for ends at the latest; 0 where no machine runs.
+pub fn last_cycle(asked: &Result<Asked, ArgsFault>) -> u64 {
+    match asked {
+        Ok(Asked::Trace(tracing)) => tracing.limit.min(tracing.selection.to),
+        Ok(Asked::Compare(comparing)) => comparing.limit,
+        Ok(Asked::Film(filming)) => filming.limit,
+        Ok(Asked::List(_) | Asked::Weave(_) | Asked::Check(_)) | Err(_) => 0,
+    }
+}
+
+/// Does what the command line asks for. With status 0 the answer, or the text of help, stands on
+/// `out` and nothing on `err`, and so does with status 1 the report of `check` on a file at fault, or that
+/// of `compare` on runs that are not the same; with status 2 one line on `err`, or clap's text of a
+/// mistake, and nothing on `out`. A write that fails gives status 3, and so does a trace that is cut off.
+/// How far a run has come is told beside that, to a progress that is wiped before the run's end is told; and what
+/// else is worth a line beside an answer goes to `remarks`.
+pub fn answer<R, W: Write, E: Write, N: Write, P: Shown>(
+    rt: &R,
+    asked: Result<Asked, ArgsFault>,
+    out: &mut W,
+    err: &mut E,
+    remarks: &mut N,
+    progress: &mut P,
+) -> u8
+where
+    R: Files + AllocGlobal,
+    ensures status { result < 4 }
+    ensures faulty { result ≡ 1 → LooksForFaults asked }
+    ensures silent { result < 2 → Keeps (E.contents err.old) (E.contents err.new) }
+    ensures nothing { result ≡ 2 → Keeps (W.contents out.old) (W.contents out.new) }
+    ensures plain { result ≡ 2 → Keeps (N.contents remarks.old) (N.contents remarks.new) }
+{
+    match asked {
+        Ok(Asked::List(listing)) => list_to(rt, &listing, out, err),
+        Ok(Asked::Weave(weaving)) => weave_to(rt, &weaving, out, err),
+        Ok(Asked::Check(checking)) => check_to(rt, &checking, out, err),
+        Ok(Asked::Trace(tracing)) => trace_to(rt, &tracing, out, err, remarks, progress),
+        Ok(Asked::Compare(comparing)) => compare_to(rt, &comparing, out, err, progress),
+        Ok(Asked::Film(filming)) => film_to(rt, &filming, out, err, progress),
+        Err(ArgsFault::Help(text)) => status_of(DONE, out.write_all(text.as_bytes())),
+        Err(ArgsFault::Command(text)) => status_of(TROUBLE, err.write_all(text.as_bytes())),
+        Err(ArgsFault::Memory) => {
+            status_of(TROUBLE, Trouble::Refused(Refusal::Memory).write_to(err))
+        }
+    }
+}
+
+/// Lists a rope file.
+fn list_to<R, W: Write, E: Write>(rt: &R, listing: &Listing, out: &mut W, err: &mut E) -> u8
+where
+    R: Files + AllocGlobal,
+    ensures ended { IsEnded result (W.contents out.old) (W.contents out.new)
+        (E.contents err.old) (E.contents err.new) }
+    ensures faulty { result ≢ 1 }
+{
+    let mut rope = InputFile::new(fs::open(rt, listing.rope.as_str()));
+    match list_rope(rt.alloc(), listing.form, &listing.bank, &mut rope) {
+        Ok(text) => status_of(DONE, out.write_all(text.as_bytes())),
+        Err(trouble) => status_of(TROUBLE, trouble.write_to(err)),
+    }
+}
+
+/// Weaves a text file.
+fn weave_to<R, W: Write, E: Write>(rt: &R, weaving: &Weaving, out: &mut W, err: &mut E) -> u8
+where
+    R: Files + AllocGlobal,
+    ensures ended { IsEnded result (W.contents out.old) (W.contents out.new)
+        (E.contents err.old) (E.contents err.new) }
+    ensures faulty { result ≢ 1 }
+{
+    let mut text = InputFile::new(fs::open(rt, weaving.text.as_str()));
+    match weave_text(rt.alloc(), weaving.form, &mut text) {
+        Ok(bytes) => status_of(DONE, out.write_all(bytes.as_slice())),
+        Err(trouble) => status_of(TROUBLE, trouble.write_to(err)),
+    }
+}

@@ -1,0 +1,215 @@
+//! What is told of runs, written: a trace, a comparison, a film.
+ghost use Rattle.std.specs.Prelude.{◌≡◌, ◌≢◌, ◌⊎◌, true, false, IfOk, IfErr};
+ghost use Rattle.std.specs.Io.KnownBytes.{Keeps};
+ghost use Rattle.agc_study.specs.Compared.{IsComparisonWritten, IsToldTo};
+ghost use Rattle.agc_study.specs.Ended.{IsEnded};
+
+use crate::answers::TROUBLE;
+use crate::asked::{Comparing, Filming, Tracing};
+use crate::compares::{Told, compare_files};
+use crate::films::{film_file_pairs, film_files};
+use crate::runs::read_machine;
+use crate::trouble::Trouble;
+use agc_machine::{Machine, Upcoming};
+use agc_progress::Shown;
+use agc_session::{DONE, InputFile, Refusal, UNWRITTEN, status_of};
+use agc_trace::{Selection, TraceFault, reason_name, trace};
+use std::alloc::Global;
+use std::fs;
+use std::io::{Read, Write};
+use std::rt::Files;
+
+/// The status of two runs that are not the same.
+const APART: u8 = 1;
+
+/// Traces the run of a rope file and a script file; where its range is empty, a remark says so.
+pub fn trace_to<R, W: Write, E: Write, N: Write, P: Shown>(
+    rt: &R,
+    tracing: &Tracing,
+    out: &mut W,
+    err: &mut E,
+    remarks: &mut N,
+    progress: &mut P,
+) -> u8
+where
+    R: Files + AllocGlobal,
+    ensures ended { IsEnded result (W.contents out.old) (W.contents out.new)
+        (E.contents err.old) (E.contents err.new) }
+    ensures plain { result ≡ 2 → Keeps (N.contents remarks.old) (N.contents remarks.new) }
+    ensures faulty { result ≢ 1 }
+{
+    let alloc = rt.alloc();
+    let (form, limit, until) = (tracing.form, tracing.limit, &tracing.until);
+    let mut rope = InputFile::new(fs::open(rt, tracing.rope.as_str()));
+    let mut script = InputFile::new(fs::open(rt, tracing.script.as_str()));
+    match read_machine(alloc, form, limit, until, &mut rope, &mut script) {
+        Ok(mut machine) => {
+            let traced = trace(alloc, &mut machine, tracing.selection, out, progress);
+            progress.wipe();
+            remark_on_range(&machine, tracing.selection, remarks);
+            status_of_trace(traced, err)
+        }
+        Err(refusal) => status_of(TROUBLE, Trouble::Refused(refusal).write_to(err)),
+    }
+}
+
+/// Says why no boundary of a run was selected, where none begins in the range. A remark that cannot be written
+/// changes nothing of the trace.
+fn remark_on_range<N: Write>(machine: &Machine, selection: Selection, remarks: &mut N) {
+    let Selection { from, to, .. } = selection;
+    let cycle = machine.cycle();
+    let _told = match machine.upcoming() {
+        Upcoming::Stop(why) if cycle < from => {
+            let reason = reason_name(why);
+            writeln!(
+                remarks,
+                "agc-study: the run stopped at cycle {cycle}, before cycle {from}: {reason}"
+            )
+        }
+        _ if to < from => writeln!(remarks, "agc-study: no cycle is from {from} to {to}"),
+        _ => Ok(()),
+    };
+}
+
+/// Compares the runs of two rope files and two script files.
+pub fn compare_to<R, W: Write, E: Write, P: Shown>(
+    rt: &R,
+    asked: &Comparing,
+    out: &mut W,
+    err: &mut E,
+    progress: &mut P,
+) -> u8
+where
+    R: Files + AllocGlobal,
+    ensures ended { IsEnded result (W.contents out.old) (W.contents out.new)
+        (E.contents err.old) (E.contents err.new) }
+{
+    let mut rope = InputFile::new(fs::open(rt, asked.rope.as_str()));
+    let mut script = InputFile::new(fs::open(rt, asked.script.as_str()));
+    let mut other_rope = InputFile::new(fs::open(rt, asked.other_rope.as_str()));
+    let mut other_script = InputFile::new(fs::open(rt, asked.other_script.as_str()));
+    write_comparison(
+        rt.alloc(),
+        asked,
+        &mut rope,
+        &mut script,
+        &mut other_rope,
+        &mut other_script,
+        out,
+        err,
+        progress,
+    )
+}
+
+/// Compares the runs of two ropes and two scripts, and writes what is told of them.
+fn write_comparison<R: Read, S: Read, T: Read, U: Read, W: Write, E: Write, P: Shown>(
+    alloc: Global,
+    asked: &Comparing,
+    rope: &mut R,
+    script: &mut S,
+    other_rope: &mut T,
+    other_script: &mut U,
+    out: &mut W,
+    err: &mut E,
+    progress: &mut P,
+) -> u8
+    ensures ended { IsEnded result (W.contents out.old) (W.contents out.new)
+        (E.contents err.old) (E.contents err.new) }
+    ensures same { result ≡ 0 → IsComparisonWritten asked.now
+        (R.remaining rope.old) (S.remaining script.old)
+        (T.remaining other_rope.old) (U.remaining other_script.old) true
+        (W.contents out.old) (W.contents out.new) }
+    ensures apart { result ≡ 1 → IsComparisonWritten asked.now
+        (R.remaining rope.old) (S.remaining script.old)
+        (T.remaining other_rope.old) (U.remaining other_script.old) false
+        (W.contents out.old) (W.contents out.new) }
+{
+    let compared = compare_files(
+        alloc,
+        asked,
+        rope,
+        script,
+        other_rope,
+        other_script,
+        progress,
+    );
+    progress.wipe();
+    match compared {
+        Ok(told) => write_told(&told, out),
+        Err(trouble) => status_of(TROUBLE, trouble.write_to(err)),
+    }
+}
+
+/// Films the run of a rope file and a script file, or the runs of two of each.
+pub fn film_to<R, W: Write, E: Write, P: Shown>(
+    rt: &R,
+    asked: &Filming,
+    out: &mut W,
+    err: &mut E,
+    progress: &mut P,
+) -> u8
+where
+    R: Files + AllocGlobal,
+    ensures ended { IsEnded result (W.contents out.old) (W.contents out.new)
+        (E.contents err.old) (E.contents err.new) }
+    ensures faulty { result ≢ 1 }
+{
+    let filmed = filmed(rt, asked, progress);
+    progress.wipe();
+    match filmed {
+        Ok(page) => status_of(DONE, out.write_all(page.as_bytes())),
+        Err(trouble) => status_of(TROUBLE, trouble.write_to(err)),
+    }
+}
+
+/// The page that shows these runs.
+fn filmed<R, P: Shown>(rt: &R, asked: &Filming, progress: &mut P) -> Result<String, Trouble>
+where
+    R: Files + AllocGlobal,
+{
+    let alloc = rt.alloc();
+    let mut rope = InputFile::new(fs::open(rt, asked.files.rope.as_str()));
+    let mut script = InputFile::new(fs::open(rt, asked.files.script.as_str()));
+    let Some(other) = &asked.other else {
+        return Ok(film_files(alloc, asked, &mut rope, &mut script, progress)?);
+    };
+    let mut other_rope = InputFile::new(fs::open(rt, other.rope.as_str()));
+    let mut other_script = InputFile::new(fs::open(rt, other.script.as_str()));
+    film_file_pairs(
+        alloc,
+        asked,
+        other,
+        &mut rope,
+        &mut script,
+        &mut other_rope,
+        &mut other_script,
+        progress,
+    )
+}
+
+/// Writes what is told of two runs: the status is 0 where they are the same, and 1 where they are not.
+pub fn write_told<W: Write>(told: &Told, out: &mut W) -> u8
+    ensures same { result ≡ 0 → IsToldTo told.now true (W.contents out.old) (W.contents out.new) }
+    ensures apart { result ≡ 1 → IsToldTo told.now false (W.contents out.old) (W.contents out.new) }
+    ensures status { (result ≡ 0) ⊎ ((result ≡ 1) ⊎ (result ≡ 3)) }
+{
+    let status = if told.is_same { DONE } else { APART };
+    status_of(status, out.write_all(told.text.as_bytes()))
+}
+
+/// The status of a trace: one that is cut off is not whole, whatever stands there already.
+pub fn status_of_trace<E: Write>(traced: Result<(), TraceFault>, err: &mut E) -> u8
+    ensures whole { IfOk traced (λ _. result ≡ 0) }
+    ensures cut { IfErr traced (λ _. result ≡ 3) }
+    ensures status { (result ≡ 0) ⊎ (result ≡ 3) }
+    ensures silent { result ≡ 0 → Keeps (E.contents err.old) (E.contents err.new) }
+{
+    match traced {
+        Ok(()) => DONE,
+        Err(TraceFault::Write) => UNWRITTEN,
+        Err(TraceFault::Memory) => {
+            let _told = Trouble::Refused(Refusal::Memory).write_to(err);
+            UNWRITTEN
+        }
+    }
+}
