@@ -12,6 +12,11 @@ pub trait Gate {
     /// Called by the display's thread when it has put this live key into the key ring.
     fn key_sent(&self, _n: u64) {}
 
+    /// It is to be told how far the run has come: to look up from it now and then costs some instructions a write.
+    fn is_told(&self) -> bool {
+        false
+    }
+
     /// Called by the machine's thread now and then, when its run has come to this machine cycle.
     fn come_to(&self, _cycle: u64) {}
 

@@ -8,18 +8,21 @@ use std::sync::Mutex;
 #[derive(Drop)]
 pub struct Telling<P> {
     progress: Mutex<P>,
+    is_told: bool,
 }
 
 impl<P> Telling<P> {
-    pub fn new(progress: P) -> Telling<P> {
+    /// Tells this progress, where it is to be told at all.
+    pub fn new(progress: P, is_told: bool) -> Telling<P> {
         Telling {
             progress: Mutex::new(progress),
+            is_told,
         }
     }
 
     /// The progress again.
     pub fn into_inner(self) -> P {
-        let Telling { progress } = self;
+        let Telling { progress, .. } = self;
         progress.into_inner()
     }
 }
@@ -28,6 +31,10 @@ impl<P: Shown> Gate for Telling<P> {
     fn before_send(&self, _n: u64) {}
 
     fn after_receive(&self, _n: u64) {}
+
+    fn is_told(&self) -> bool {
+        self.is_told
+    }
 
     fn come_to(&self, cycle: u64) {
         if let Some(mut progress) = self.progress.try_lock() {

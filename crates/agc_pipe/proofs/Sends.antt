@@ -1,14 +1,12 @@
 -- A run that is being sent: what was sent so far, and then the run from where the machine stands.
-use Rattle.std.proofs.Common.{◌≡◌, ℕ, List, [], ◌∷◌, ◌++◌, sym, ◌∙◌, ap, append_assoc, append-nil, subst}
+use Rattle.std.proofs.Common.{◌≡◌, List, [], ◌∷◌, ◌++◌, sym, ◌∙◌, ap, append_assoc, append-nil}
 use Rattle.std.specs.Prelude.{map, Some}
 use Rattle.agc_machine.specs.declared.answer.ChannelWrite.{ChannelWrite}
 use Rattle.agc_machine.specs.declared.answer.Next.TheVariants as next
-use Rattle.agc_machine.specs.declared.answer.Stepped.TheVariants as stepped
 use Rattle.agc_machine.specs.declared.answer.Stop.{Stop}
-use Rattle.agc_machine.specs.Run.{Run, run_of, next_before, next_of, while_writing}
+use Rattle.agc_machine.specs.Run.{Run, run_of, next_of}
 use Rattle.agc_machine.specs.State.{State}
-use Rattle.agc_machine.proofs.Before.{next_after_way}
-use Rattle.agc_machine.proofs.Chain.{run_at_write, run_at_stop, run_by_next, stop_is_kept}
+use Rattle.agc_machine.proofs.Chain.{run_at_write, run_at_stop, stop_is_kept}
 use Rattle.agc_pipe.specs.Ring.{Sending}
 use Rattle.agc_pipe.specs.Shown.{items_of}
 use Rattle.agc_pipe.specs.declared.item.Item.{Item}
@@ -30,12 +28,6 @@ after_write whole sent s t write under e =
           ∙ sym (append_assoc sent (item.Write write ∷ []) (written (run_of t).writes));
       last = under.last ∙ ap (λ (run : Run). run.last) step;
     }
-
--- a quiet part of the way writes nothing
-pub after_quiet_way : (whole : Run) (sent : List Item) (end : ℕ) (s t : State) → IsSending whole sent (run_of s) → (t, stepped.Quiet) ≡ next_before end s
-    → IsSending whole sent (run_of t)
-after_quiet_way whole sent end s t under e =
-    subst (IsSending whole sent) (run_by_next s ∙ ap (while_writing run_of) (sym (next_after_way end s t e)) ∙ sym (run_by_next t)) under
 
 -- at the stop all writes were sent, and the machine stands at its last state
 pub record IsSent (whole : Run) (sent : List Item) (end : State) (why : Stop) : Type 0 where

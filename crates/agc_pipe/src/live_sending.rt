@@ -40,7 +40,7 @@ pub(crate) fn send_live_run<R: Wait, G: Gate>(
     let mut mark = 0u64;
     for _ in rt.forever() {
         match go_on(&mut machine, &mut taker) {
-            Stepped::Quiet => mark = tell_past(gate, mark, machine.cycle()),
+            Stepped::Quiet => mark = told_past(gate, mark, machine.cycle()),
             Stepped::Wrote(write) => outgoing.put(rt, gate, write),
             Stepped::Stopped(stop) => {
                 taker.close();
@@ -58,9 +58,10 @@ pub(crate) fn send_live_run<R: Wait, G: Gate>(
     unreachable!()
 }
 
-/// Tells the gate to which cycle a run has come, where that is the mark or past it; returns the next mark.
-fn tell_past<G: Gate>(gate: &G, mark: u64, cycle: u64) -> u64 {
-    if cycle < mark {
+/// Tells a gate that is to be told to which cycle a run has come, where that is the mark or past it; returns the
+/// next mark.
+fn told_past<G: Gate>(gate: &G, mark: u64, cycle: u64) -> u64 {
+    if cycle < mark || !gate.is_told() {
         mark
     } else {
         tell_mark(gate, cycle)

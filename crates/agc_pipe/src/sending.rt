@@ -1,7 +1,8 @@
 //! The machine's thread: it runs the machine to its stop and sends each channel write, then the
 //! end.
 ghost use Rattle.std.specs.Prelude.{◌≡◌, ◌<◌, ◌≤◌, [], ◌∷◌, ◌++◌, length, All, Some};
-ghost use Rattle.agc_machine.specs.Run.{run_of};
+ghost use Rattle.agc_machine.specs.Laws.{HasNextChannel};
+ghost use Rattle.agc_machine.specs.Run.{next_of, run_of};
 ghost use Rattle.agc_pipe.specs.Item.{IsOutside};
 ghost use Rattle.agc_pipe.specs.Shown.{items_of};
 ghost use Rattle.arrayvec.specs.ArrayVec.{array_vec_len};
@@ -9,7 +10,7 @@ ghost use Rattle.arrayvec.specs.ArrayVec.{array_vec_len};
 use crate::item::{BLOCK, Item};
 use crate::sender::Sender;
 use agc_gate::Gate;
-use agc_machine::{ChannelWrite, Machine, Stepped, Stop};
+use agc_machine::{ChannelWrite, Machine, Next, Stepped, Stop};
 use agc_progress::mark_past;
 use arrayvec::ArrayVec;
 use std::marker::Model;
@@ -41,10 +42,9 @@ pub(crate) fn send_run<R: Wait, G: Gate>(
     let mut outgoing = Outgoing::new(sender);
     let mut mark = 0u64;
     loop {
-        match machine.next_write_before(mark) {
-            Stepped::Quiet => mark = tell_mark(gate, machine.cycle()),
-            Stepped::Wrote(write) => outgoing.put(rt, gate, write),
-            Stepped::Stopped(stop) => {
+        match next_told(gate, &mut machine, &mut mark) {
+            Next::Wrote(write) => outgoing.put(rt, gate, write),
+            Next::Stopped(stop) => {
                 gate.at_stop();
                 return Sent {
                     sender: outgoing.finish(rt, gate),
@@ -52,6 +52,24 @@ pub(crate) fn send_run<R: Wait, G: Gate>(
                     stop,
                 };
             }
+        }
+    }
+}
+
+/// Goes on to the next channel write or the stop; a gate that is to be told is told at each mark how far the run has
+/// come.
+fn next_told<G: Gate>(gate: &G, machine: &mut Machine, mark: &mut u64) -> Next
+    ensures next { (machine.new, result) ≡ next_of machine.old }
+    ensures channel { HasNextChannel result }
+{
+    if !gate.is_told() {
+        return machine.next_write();
+    }
+    loop {
+        match machine.next_write_before(*mark) {
+            Stepped::Quiet => *mark = tell_mark(gate, machine.cycle()),
+            Stepped::Wrote(write) => return Next::Wrote(write),
+            Stepped::Stopped(stop) => return Next::Stopped(stop),
         }
     }
 }

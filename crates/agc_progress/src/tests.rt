@@ -1,6 +1,6 @@
 //! When it is shown how far a run has come.
-use crate::ticker::{Shown, Ticker};
 use crate::Progress;
+use crate::ticker::{Shown, Ticker};
 use std::io::{self, ErrorKind, IsTerminal, Write};
 use std::test::Fail;
 use std::time::{Clock, Duration, Instant};

@@ -15,7 +15,7 @@ use agc_args::{ArgsFault, options};
 use agc_gate::{Gate, Telling};
 use agc_progress::Ticker;
 use agc_session::{DONE, InputFile, Options, REFUSED, Refusal, session, status_of};
-use std::io::{Read, Write};
+use std::io::{IsTerminal, Read, Write};
 use std::process::ExitCode;
 use std::rt::Files;
 use std::sync::Wait;
@@ -29,7 +29,8 @@ fn main(rt: HostRuntime) -> ExitCode {
     let _stand_ins = stand_ins(&rt);
     let (mut keys, mut out, mut err) = (rt.stdin(), rt.stdout(), rt.stderr());
     let asked = options(&rt);
-    let gate = Telling::new(Ticker::new(&rt, rt.stderr(), "agc", limit_of(&asked)));
+    let ticker = Ticker::new(&rt, rt.stderr(), "agc", limit_of(&asked));
+    let gate = Telling::new(ticker, rt.stderr().is_terminal());
     ExitCode::from(run(&rt, asked, &mut keys, &mut out, &mut err, &gate))
 }
 

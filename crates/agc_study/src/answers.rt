@@ -1,5 +1,5 @@
 //! What is asked for, answered: on standard output, or in a line on standard error.
-ghost use Rattle.std.specs.Prelude.{◌≡◌, ◌≢◌, ◌<◌};
+ghost use Rattle.std.specs.Prelude.{◌≡◌, ◌≢◌, ◌<◌, Ok};
 ghost use Rattle.std.specs.Io.KnownBytes.{Keeps};
 ghost use Rattle.agc_study.specs.Ended.{IsEnded, LooksForFaults};
 
@@ -8,6 +8,7 @@ use crate::check_told::check_to;
 use crate::ropes::{list_rope, weave_text};
 use crate::runs_told::{compare_to, film_to, trace_to};
 use crate::trouble::Trouble;
+use crate::unreadable::remark_unreadable;
 use agc_args::ArgsFault;
 use agc_progress::Shown;
 use agc_session::{DONE, InputFile, Refusal, status_of};
@@ -32,8 +33,8 @@ pub fn last_cycle(asked: &Result<Asked, ArgsFault>) -> u64 {
 /// `out` and nothing on `err`, and so does with status 1 the report of `check` on a file at fault, or that
 /// of `compare` on runs that are not the same; with status 2 one line on `err`, or clap's text of a
 /// mistake, and nothing on `out`. A write that fails gives status 3, and so does a trace that is cut off.
-/// How far a run has come is told beside that, to a progress that is wiped before the run's end is told; and what
-/// else is worth a line beside an answer goes to `remarks`.
+/// How far a run has come is told beside that, to a progress that is wiped before the run's end is told. To
+/// `remarks` goes a line beside an answer: which file cannot be read, and why, or that a trace has no boundary.
 pub fn answer<R, W: Write, E: Write, N: Write, P: Shown>(
     rt: &R,
     asked: Result<Asked, ArgsFault>,
@@ -48,20 +49,45 @@ where
     ensures faulty { result ≡ 1 → LooksForFaults asked }
     ensures silent { result < 2 → Keeps (E.contents err.old) (E.contents err.new) }
     ensures nothing { result ≡ 2 → Keeps (W.contents out.old) (W.contents out.new) }
-    ensures plain { result ≡ 2 → Keeps (N.contents remarks.old) (N.contents remarks.new) }
 {
     match asked {
-        Ok(Asked::List(listing)) => list_to(rt, &listing, out, err),
-        Ok(Asked::Weave(weaving)) => weave_to(rt, &weaving, out, err),
-        Ok(Asked::Check(checking)) => check_to(rt, &checking, out, err),
-        Ok(Asked::Trace(tracing)) => trace_to(rt, &tracing, out, err, remarks, progress),
-        Ok(Asked::Compare(comparing)) => compare_to(rt, &comparing, out, err, progress),
-        Ok(Asked::Film(filming)) => film_to(rt, &filming, out, err, progress),
+        Ok(asked) => {
+            let status = answer_to(rt, &asked, out, err, remarks, progress);
+            if status == TROUBLE {
+                remark_unreadable(rt, &asked, remarks);
+            }
+            status
+        }
         Err(ArgsFault::Help(text)) => status_of(DONE, out.write_all(text.as_bytes())),
         Err(ArgsFault::Command(text)) => status_of(TROUBLE, err.write_all(text.as_bytes())),
         Err(ArgsFault::Memory) => {
             status_of(TROUBLE, Trouble::Refused(Refusal::Memory).write_to(err))
         }
+    }
+}
+
+/// Does what is asked for.
+fn answer_to<R, W: Write, E: Write, N: Write, P: Shown>(
+    rt: &R,
+    asked: &Asked,
+    out: &mut W,
+    err: &mut E,
+    remarks: &mut N,
+    progress: &mut P,
+) -> u8
+where
+    R: Files + AllocGlobal,
+    ensures ended { IsEnded result (W.contents out.old) (W.contents out.new)
+        (E.contents err.old) (E.contents err.new) }
+    ensures faulty { result ≡ 1 → LooksForFaults (Ok asked.now) }
+{
+    match asked {
+        Asked::List(listing) => list_to(rt, listing, out, err),
+        Asked::Weave(weaving) => weave_to(rt, weaving, out, err),
+        Asked::Check(checking) => check_to(rt, checking, out, err),
+        Asked::Trace(tracing) => trace_to(rt, tracing, out, err, remarks, progress),
+        Asked::Compare(comparing) => compare_to(rt, comparing, out, err, progress),
+        Asked::Film(filming) => film_to(rt, filming, out, err, progress),
     }
 }
 

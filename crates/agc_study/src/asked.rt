@@ -14,6 +14,25 @@ pub enum Asked {
     Film(Filming),
 }
 
+impl Asked {
+    /// The files to be read, in the order in which they are.
+    pub fn paths(&self) -> [Option<&str>; 4] {
+        match self {
+            Asked::List(asked) => [Some(asked.rope.as_str()), None, None, None],
+            Asked::Weave(asked) => [Some(asked.text.as_str()), None, None, None],
+            Asked::Check(asked) => asked.paths(),
+            Asked::Trace(asked) => [
+                Some(asked.rope.as_str()),
+                Some(asked.script.as_str()),
+                None,
+                None,
+            ],
+            Asked::Compare(asked) => asked.paths(),
+            Asked::Film(asked) => asked.paths(),
+        }
+    }
+}
+
 /// A rope file to list, or one bank of it.
 #[derive(Debug, Drop)]
 pub struct Listing {
@@ -39,6 +58,22 @@ pub struct Checking {
     /// The text file of a rope, as `weave` takes it.
     pub listing: Option<String>,
     pub form: RopeForm,
+}
+
+impl Checking {
+    fn paths(&self) -> [Option<&str>; 4] {
+        let keys = self.keys.as_deref();
+        let listing = self.listing.as_deref();
+        match &self.run {
+            Some(run) => [
+                keys,
+                listing,
+                Some(run.rope.as_str()),
+                Some(run.script.as_str()),
+            ],
+            None => [keys, listing, None, None],
+        }
+    }
 }
 
 /// A rope file and a script file to check.
@@ -73,6 +108,17 @@ pub struct Comparing {
     pub until: Option<String>,
 }
 
+impl Comparing {
+    fn paths(&self) -> [Option<&str>; 4] {
+        [
+            Some(self.rope.as_str()),
+            Some(self.script.as_str()),
+            Some(self.other_rope.as_str()),
+            Some(self.other_script.as_str()),
+        ]
+    }
+}
+
 /// A run to film, or two side by side.
 #[derive(Debug, Drop)]
 pub struct Filming {
@@ -83,4 +129,19 @@ pub struct Filming {
     pub limit: u64,
     /// The text of `--until`.
     pub until: Option<String>,
+}
+
+impl Filming {
+    fn paths(&self) -> [Option<&str>; 4] {
+        let (rope, script) = (self.files.rope.as_str(), self.files.script.as_str());
+        match &self.other {
+            Some(other) => [
+                Some(rope),
+                Some(script),
+                Some(other.rope.as_str()),
+                Some(other.script.as_str()),
+            ],
+            None => [Some(rope), Some(script), None, None],
+        }
+    }
 }

@@ -13,6 +13,7 @@ mod ropes;
 mod runs;
 mod runs_told;
 mod trouble;
+mod unreadable;
 mod words;
 
 pub use answers::{TROUBLE, answer, last_cycle};

@@ -26,7 +26,9 @@ pub fn asked_of<R: Env + AllocGlobal>(rt: &R) -> Result<Asked, ArgsFault> {
 
 /// The mistake of a command line whose word of this number is not text, counted from 1 after the program's own name.
 fn not_text(alloc: Global, number: usize) -> ArgsFault {
-    match format!(in alloc; "error: word {number} is not text\n\nUsage: {NAME} <COMMAND>\n\nFor more information, try '--help'.\n") {
+    match format!(in alloc;
+        "error: word {number} is not text\n\nUsage: {NAME} <COMMAND>\n\nFor more information, try '--help'.\n"
+    ) {
         Ok(text) => ArgsFault::Command(text),
         Err(_) => ArgsFault::Memory,
     }

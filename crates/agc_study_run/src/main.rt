@@ -14,14 +14,7 @@ fn main(rt: HostRuntime) -> ExitCode {
     let (mut out, mut err, mut remarks) = (rt.stdout(), rt.stderr(), rt.stderr());
     let asked = asked_of(&rt);
     let mut ticker = Ticker::new(&rt, rt.stderr(), NAME, last_cycle(&asked));
-    ExitCode::from(answer(
-        &rt,
-        asked,
-        &mut out,
-        &mut err,
-        &mut remarks,
-        &mut ticker,
-    ))
+    ExitCode::from(answer(&rt, asked, &mut out, &mut err, &mut remarks, &mut ticker))
 }
 
 /// Three files that can be neither read nor written, which take the numbers of closed standard

@@ -1,8 +1,8 @@
 //! Words that are text and words that are not, from a list in the place of the system's.
 use agc_args::{ArgsFault, options};
 use std::env::FillError;
-use std::rt::Env;
 use std::process::Abort;
+use std::rt::Env;
 
 /// The words of a command line.
 #[derive(Drop)]

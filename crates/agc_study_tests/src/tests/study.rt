@@ -7,9 +7,11 @@ use agc_progress::Untold;
 use agc_rope_text::{LineFault, WeaveFault};
 use agc_session::Refusal;
 use agc_store::{RopeFault, RopeForm};
-use agc_study::{Asked, Comparing, Filming, Trouble, answer, asked_by, check_files, check_key_file};
-use agc_study::{check_listing_file, check_with, compare_files, film_files, last_cycle, list_rope};
-use agc_study::{weave_text, write_report, write_told};
+use agc_study::{
+    Asked, Comparing, Filming, Trouble, answer, asked_by, check_files, check_key_file,
+    check_listing_file, check_with, compare_files, film_files, last_cycle, list_rope, weave_text,
+    write_report, write_told,
+};
 use std::process::Abort;
 use std::rt::Files;
 use std::test::Fail;
@@ -20,6 +22,7 @@ struct Ended {
     status: u8,
     out: String,
     err: String,
+    remarks: String,
 }
 
 /// What this command line asks for.
@@ -37,11 +40,11 @@ fn program(rt: &(impl AllocGlobal + Files + Abort), line: &str) -> Ended {
     let mut err = Vec::new(rt.alloc());
     let mut remarks = Vec::new(rt.alloc());
     let status = answer(rt, asked, &mut out, &mut err, &mut remarks, &mut Untold);
-    assert!(rt; remarks.is_empty());
     Ended {
         status,
         out: String::from_utf8(out).ok().expect(rt, "text"),
         err: String::from_utf8(err).ok().expect(rt, "text"),
+        remarks: String::from_utf8(remarks).ok().expect(rt, "text"),
     }
 }
 
@@ -100,10 +103,11 @@ fn mistakes(rt: HostRuntime) {
         assert_eq!(rt; ended.status, 2, "{line}");
         assert!(rt; ended.out.is_empty(), "{line}");
         assert!(rt; !ended.err.is_empty(), "{line}");
+        assert!(rt; ended.remarks.is_empty(), "{line}");
     }
 }
 
-/// Files that are not there, and a bank that no rope has, which is looked at first.
+/// Files that are not there, which is said beside it, and a bank that no rope has, which is looked at first.
 #[test]
 fn troubles(rt: HostRuntime) {
     for (line, told) in [
@@ -142,6 +146,10 @@ fn troubles(rt: HostRuntime) {
         assert_eq!(rt; ended.status, 2, "{line}");
         assert!(rt; ended.out.is_empty(), "{line}");
         assert_eq!(rt; ended.err.as_str(), told, "{line}");
+        assert!(rt;
+            ended.remarks.as_str().starts_with("agc-study: nothing: "),
+            "{line}"
+        );
     }
 }
 

@@ -3,9 +3,9 @@ use Rattle.agc_machine.specs.Run.{run_of, boundaries_left}
 use Rattle.agc_pipe.proofs.Sends.{IsSending}
 use Rattle.agc_pipe.proofs.sending.send_run.Given as goal
 
-abbrev pub invariant-loop-machine : goal.invariant-loop-machine
-invariant-loop-machine g l =
+abbrev pub invariant-loop-write : goal.invariant-loop-write
+invariant-loop-write g l =
     IsSending (run_of l.fn.machine) l.outgoing.sent (run_of l.machine) × (l.outgoing ≡ record l.fn.sender { sent = l.outgoing.sent })
 
-abbrev pub decreases-loop-machine : goal.decreases-loop-machine
-decreases-loop-machine g l = boundaries_left l.machine
+abbrev pub decreases-loop-write : goal.decreases-loop-write
+decreases-loop-write g l = boundaries_left l.machine

@@ -47,17 +47,18 @@ fn machine(rt: &(impl AllocGlobal + Abort)) -> Result<Machine, Fail>
     Ok(machine)
 }
 
-fn telling(rt: &impl AllocGlobal) -> Telling<Told> {
-    Telling::new(Told {
+fn telling(rt: &impl AllocGlobal, is_told: bool) -> Telling<Told> {
+    let told = Told {
         cycles: Vec::new(rt.alloc()),
         wiped: 0,
-    })
+    };
+    Telling::new(told, is_told)
 }
 
 /// Orders of one cycle: it is told after the first, and then a million cycles later each time.
 #[test]
 fn a_run_tells_how_far_it_has_come(rt: HostRuntime) -> Result<(), Fail> {
-    let gate = telling(&rt);
+    let gate = telling(&rt, true);
     let machine = machine(&rt)?;
     assert!(rt; run_shown(&rt, rt.alloc(), machine, 1, &gate).is_ok());
     let told = gate.into_inner();
@@ -66,10 +67,19 @@ fn a_run_tells_how_far_it_has_come(rt: HostRuntime) -> Result<(), Fail> {
     Ok(())
 }
 
+#[test]
+fn a_run_is_not_told_to_who_would_not_know(rt: HostRuntime) -> Result<(), Fail> {
+    let gate = telling(&rt, false);
+    let machine = machine(&rt)?;
+    assert!(rt; run_shown(&rt, rt.alloc(), machine, 1, &gate).is_ok());
+    assert!(rt; gate.into_inner().cycles.is_empty());
+    Ok(())
+}
+
 /// With live keys it is told where the machine looks for a key, every 256 cycles.
 #[test]
 fn a_live_run_tells_how_far_it_has_come(rt: HostRuntime) -> Result<(), Fail> {
-    let gate = telling(&rt);
+    let gate = telling(&rt, true);
     let machine = machine(&rt)?;
     let live = run_live(&rt, rt.alloc(), machine, Vec::new(rt.alloc()), 1, 1, &gate);
     assert!(rt; live.is_ok());
