@@ -6,7 +6,7 @@ use Rattle.agc_film.specs.Reel.{IsReelOf}
 use Rattle.agc_film.specs.declared.reel.Reel.{Reel}
 use Rattle.agc_study.specs.Filmed.{IsFilmed}
 use Rattle.agc_study.specs.Started.{IsAccepted, IsStarted}
-use Rattle.agc_study.specs.declared.asked.Filming.{Filming}
+use Rattle.agc_asked.specs.declared.asked.Filming.{Filming}
 
 -- the machine that was started is that of the files, and its run is shown
 pub filmed_run : (asked : Filming) (rope script : Option (List ℕ)) (machine : State) (reel : Reel)

@@ -10,7 +10,7 @@ use Rattle.agc_compare.specs.Follower.{WritesPart}
 use Rattle.agc_compare.specs.Report.{report_of}
 use Rattle.agc_compare.specs.declared.comparison.Comparison.{Comparison}
 use Rattle.agc_study.specs.Started.{IsStarted}
-use Rattle.agc_study.specs.declared.asked.Comparing.{Comparing}
+use Rattle.agc_asked.specs.declared.asked.Comparing.{Comparing}
 use Rattle.agc_study.specs.declared.compares.Told.{Told}
 
 -- What is told of two machines at their start: the runs are the same just where both traces are and

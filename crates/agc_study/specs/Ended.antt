@@ -2,8 +2,8 @@
 use Rattle.std.specs.Prelude.{◌≡◌, ℕ, ◌<◌, List, Option, Result, Ok}
 use Rattle.std.specs.Io.KnownBytes.{Keeps}
 use Rattle.agc_args.specs.declared.args.ArgsFault.{ArgsFault}
-use Rattle.agc_study.specs.declared.asked.Asked.{Asked}
-use Rattle.agc_study.specs.declared.asked.Asked.TheVariants as asked
+use Rattle.agc_asked.specs.declared.asked.Asked.{Asked}
+use Rattle.agc_asked.specs.declared.asked.Asked.TheVariants as asked
 
 -- a status from 0 to 3: nothing on standard error below 2, nothing on standard output with 2
 pub record IsEnded (ended : ℕ) (out_old out_new err_old err_new : Option (List ℕ)) : Type 0 where

@@ -9,7 +9,7 @@ use Rattle.agc_film.specs.Reel.{IsReelOf}
 use Rattle.agc_film.specs.declared.reel.Reel.{Reel}
 use Rattle.agc_film.specs.declared.title.RunFiles.{RunFiles}
 use Rattle.agc_study.specs.Started.{IsStartedOf}
-use Rattle.agc_study.specs.declared.asked.Filming.{Filming}
+use Rattle.agc_asked.specs.declared.asked.Filming.{Filming}
 
 -- nothing is refused, and the reel shows the run of the files
 pub record IsFilmedOf (form : RopeForm) (until : Option (String Global)) (limit : ℕ)

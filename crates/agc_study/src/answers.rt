@@ -3,13 +3,13 @@ ghost use Rattle.std.specs.Prelude.{◌≡◌, ◌≢◌, ◌<◌, Ok};
 ghost use Rattle.std.specs.Io.KnownBytes.{Keeps};
 ghost use Rattle.agc_study.specs.Ended.{IsEnded, LooksForFaults};
 
-use crate::asked::{Asked, Listing, Weaving};
 use crate::check_told::check_to;
 use crate::ropes::{list_rope, weave_text};
 use crate::runs_told::{compare_to, film_to, trace_to};
 use crate::trouble::Trouble;
 use crate::unreadable::remark_unreadable;
 use agc_args::ArgsFault;
+use agc_asked::{Asked, Listing, Weaving};
 use agc_progress::Shown;
 use agc_session::{DONE, InputFile, Refusal, status_of};
 use std::fs;

@@ -4,9 +4,9 @@ ghost use Rattle.agc_study.specs.Checked.{IsCheckWritten, IsWritten};
 ghost use Rattle.agc_study.specs.Ended.{IsEnded};
 
 use crate::answers::TROUBLE;
-use crate::asked::Checking;
 use crate::checks::{check_key_file, check_listing_file, check_with, joined};
 use crate::trouble::Trouble;
+use agc_asked::Checking;
 use agc_check::Report;
 use agc_session::{DONE, InputFile, status_of};
 use agc_store::RopeForm;

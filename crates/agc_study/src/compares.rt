@@ -3,9 +3,9 @@ ghost use Rattle.std.specs.Prelude.{IfErr, IfOk};
 ghost use Rattle.agc_study.specs.Compared.{IsCompared, IsToldOf};
 ghost use Rattle.agc_study.specs.Started.{IsPairRefused};
 
-use crate::asked::Comparing;
 use crate::runs::read_machine;
 use crate::trouble::Trouble;
+use agc_asked::Comparing;
 use agc_compare::{compare, push_comparison};
 use agc_machine::Machine;
 use agc_progress::Progress;

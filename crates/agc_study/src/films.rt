@@ -3,9 +3,9 @@ ghost use Rattle.std.specs.Prelude.{IfErr, IfOk};
 ghost use Rattle.agc_study.specs.Filmed.{IsFilm, IsFilmPair, IsFilmed};
 ghost use Rattle.agc_study.specs.Started.{IsPairRefused, IsRefused};
 
-use crate::asked::Filming;
 use crate::runs::read_machine;
 use crate::trouble::Trouble;
+use agc_asked::Filming;
 use agc_film::{HEAD, Reel, RunFiles, TAIL, film, push_film, push_film_pair};
 use agc_progress::Progress;
 use agc_session::Refusal;

@@ -3,10 +3,8 @@
 #![tactic(auto)]
 
 mod answers;
-mod asked;
 mod check_told;
 mod checks;
-mod command_line;
 mod compares;
 mod films;
 mod ropes;
@@ -14,10 +12,8 @@ mod runs;
 mod runs_told;
 mod trouble;
 mod unreadable;
-mod words;
 
 pub use answers::{TROUBLE, answer, last_cycle};
-pub use asked::{Asked, CheckedRun, Checking, Comparing, Filming, Listing, Tracing, Weaving};
 pub use check_told::write_report;
 pub use checks::{check_files, check_key_file, check_listing_file, check_with};
 pub use compares::{Told, compare_files};
@@ -25,4 +21,3 @@ pub use films::film_files;
 pub use ropes::{list_rope, weave_text};
 pub use runs_told::{status_of_trace, write_told};
 pub use trouble::Trouble;
-pub use words::{NAME, asked_by, asked_of};

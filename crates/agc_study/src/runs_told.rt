@@ -5,11 +5,11 @@ ghost use Rattle.agc_study.specs.Compared.{IsComparisonWritten, IsToldTo};
 ghost use Rattle.agc_study.specs.Ended.{IsEnded};
 
 use crate::answers::TROUBLE;
-use crate::asked::{Comparing, Filming, Tracing};
 use crate::compares::{Told, compare_files};
 use crate::films::{film_file_pairs, film_files};
 use crate::runs::read_machine;
 use crate::trouble::Trouble;
+use agc_asked::{Comparing, Filming, Tracing};
 use agc_machine::{Machine, Upcoming};
 use agc_progress::Shown;
 use agc_session::{DONE, InputFile, Refusal, UNWRITTEN, status_of};

@@ -1,5 +1,5 @@
 //! Which file cannot be read, and why: the system's reason, beside the line of the trouble.
-use crate::asked::Asked;
+use agc_asked::Asked;
 use std::fs;
 use std::io::{self, ErrorKind, Write};
 use std::rt::Files;

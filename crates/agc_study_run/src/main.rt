@@ -3,8 +3,9 @@
 //! does, boundary by boundary, `compare` tells where two runs part, and `film` shows the display over their time.
 #![tactic(auto)]
 
+use agc_asked::{NAME, asked_of};
 use agc_progress::Ticker;
-use agc_study::{NAME, answer, asked_of, last_cycle};
+use agc_study::{answer, last_cycle};
 use std::process::ExitCode;
 use std::rt::Files;
 use std::{fs, io};

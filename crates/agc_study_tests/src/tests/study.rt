@@ -2,15 +2,15 @@
 mod ends;
 
 use agc_args::ArgsFault;
+use agc_asked::{Asked, Comparing, Filming, asked_by};
 use agc_film::RunFiles;
 use agc_progress::Untold;
 use agc_rope_text::{LineFault, WeaveFault};
 use agc_session::Refusal;
 use agc_store::{RopeFault, RopeForm};
 use agc_study::{
-    Asked, Comparing, Filming, Trouble, answer, asked_by, check_files, check_key_file,
-    check_listing_file, check_with, compare_files, film_files, last_cycle, list_rope, weave_text,
-    write_report, write_told,
+    Trouble, answer, check_files, check_key_file, check_listing_file, check_with, compare_files,
+    film_files, last_cycle, list_rope, weave_text, write_report, write_told,
 };
 use std::process::Abort;
 use std::rt::Files;

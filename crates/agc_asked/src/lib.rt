@@ -1,0 +1,9 @@
+//! The command line of `agc-study`: from its words to what they ask for.
+#![tactic(auto)]
+
+mod asked;
+mod command_line;
+mod words;
+
+pub use asked::{Asked, CheckedRun, Checking, Comparing, Filming, Listing, Tracing, Weaving};
+pub use words::{NAME, asked_by, asked_of};
