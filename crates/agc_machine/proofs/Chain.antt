@@ -1,10 +1,10 @@
 -- The chain of boundaries comes to its end: what is left falls with each boundary, and enough is as good as more.
-use Rattle.std.proofs.Common.{◌≡◌, ℕ, ◌+◌, ◌≤◌, ◌<◌, suc, zero, List, [], ◌∷◌, length, Option, Some, None, Bool, true, false, refl, ap, sym, ◌∙◌, subst, arith, lit≤}
-use Rattle.std.specs.Prelude.{nat_le, option_map, IsSome}
-use Rattle.std.proofs.lemmas.Bool.Decides.{nat_tests}
+use Rattle.std.proofs.Common.{◌≡◌, ℕ, ◌+◌, ◌≤◌, ◌<◌, suc, zero, List, [], ◌∷◌, length, Option, Some, None, true, refl, ap, sym, ◌∙◌, subst, arith, lit≤}
+use Rattle.std.specs.Prelude.{IsSome}
 use Rattle.agc_word.specs.declared.pulse.Carry.{Carry}
 use Rattle.agc_word.specs.declared.pulse.Carry.TheVariants as carry
 use Rattle.agc_script.specs.declared.event.Event.{Event}
+use Rattle.agc_script.specs.declared.event.What.{What}
 use Rattle.agc_machine.specs.declared.answer.Stepped.{Stepped}
 use Rattle.agc_machine.specs.declared.answer.Stepped.TheVariants as stepped
 use Rattle.agc_machine.specs.declared.answer.Stop.{Stop}
@@ -14,11 +14,12 @@ use Rattle.agc_machine.specs.declared.answer.Next.TheVariants as next
 use Rattle.agc_processor.specs.declared.processor.Processor.{Processor}
 use Rattle.agc_processor.specs.declared.processor.Ran.{Ran}
 use Rattle.agc_processor.specs.declared.processor.Ran.TheVariants as ran
-use Rattle.agc_machine.specs.Boundary.{boundary, by_limit, by_event, by_timer, by_interrupt, by_address, by_order, ran_order, is_reached, stops, unless_stopped}
-use Rattle.agc_machine.proofs.Cases.{from_limit, from_event, from_timer, from_interrupt, from_address, one_or_on, event_or_on, timer_or_on, interrupt_or_on}
+use Rattle.agc_machine.specs.declared.upcoming.Upcoming.{Upcoming}
+use Rattle.agc_machine.specs.declared.upcoming.Upcoming.TheVariants as upcoming
+use Rattle.agc_machine.specs.Boundary.{Applies, boundary, by_order, carried_out, due_event, later_events, ran_order, unless_stopped}
+use Rattle.agc_machine.proofs.Cases.{by_cases}
 use Rattle.agc_processor.specs.Effect.{order_effect, IsOrderly}
-use Rattle.agc_processor.specs.Interrupt.{interrupt_taken}
-use Rattle.agc_processor.specs.Timer.{due_timer, timer_step, timer_stepped, time1_step, time2_by, time3_step, time4_step, time5_step, time6_step}
+use Rattle.agc_processor.specs.Timer.{timer_step, time1_step, time2_by, time3_step, time4_step, time5_step, time6_step}
 use Rattle.agc_processor.specs.declared.timer.Timer.{Timer}
 use Rattle.agc_processor.specs.declared.timer.Timer.TheVariants as timer
 use Rattle.agc_machine.specs.Run.{Run, boundaries_left, next_within, next_of, while_quiet, run_within, run_of, while_writing}
@@ -36,87 +37,35 @@ by_order_falls : (s : State) → s.cycle < s.limit → Falls s (by_order s)
 unfolding by_order
 by_order_falls s h = order_falls s (order_effect s.cycle s.processor) h (order_effect-orderly s.cycle s.processor)
 
-either_stop : (b : Bool) (s : State) (why : Stop) → Falls s (by_order s) → Falls s (one_or_on b (stops why s) (by_order s))
-either_stop true s why h = (refl, omega arith)
-either_stop false s why h = h
-
-by_address_falls : (s : State) → s.cycle < s.limit → Falls s (from_address s)
-unfolding by_address
-by_address_falls s h = either_stop (is_reached s.until s.processor) s _ (by_order_falls s h)
-
-interrupt_falls : (taken : Option Processor) (s : State) → s.cycle < s.limit → Falls s (interrupt_or_on taken s)
-unfolding boundaries_left
-interrupt_falls (Some p) s h = (omega arith, omega arith)
-interrupt_falls None s h = by_address_falls s h
-
-by_interrupt_falls : (s : State) → s.cycle < s.limit → Falls s (from_interrupt s)
-unfolding by_interrupt
-by_interrupt_falls s h = interrupt_falls (interrupt_taken s.processor) s h
-
 -- a timer's step costs a cycle at least
-abbrev pub Costs : Option (Processor × ℕ) → Type 0
-Costs (Some (p, cycles)) = 1 ≤ cycles
-Costs None = Unit {0}
-
 time2_costs : (c : Carry) (p : Processor) → 1 ≤ (time2_by c p).1
 time2_costs carry.Out p = lit≤ tt
 time2_costs carry.None p = lit≤ tt
 
-step_costs : (due : Option Timer) (p : Processor) → Costs (option_map (λ t. timer_step t p) due)
+step_costs : (t : Timer) (p : Processor) → 1 ≤ (timer_step t p).1
 unfolding time1_step time3_step time4_step time5_step time6_step
-step_costs (Some timer.Time1) p = time2_costs _ _
-step_costs (Some timer.Time3) p = lit≤ tt
-step_costs (Some timer.Time4) p = lit≤ tt
-step_costs (Some timer.Time5) p = lit≤ tt
-step_costs (Some timer.Time6) p = lit≤ tt
-step_costs None p = tt
+step_costs timer.Time1 p = time2_costs _ _
+step_costs timer.Time3 p = lit≤ tt
+step_costs timer.Time4 p = lit≤ tt
+step_costs timer.Time5 p = lit≤ tt
+step_costs timer.Time6 p = lit≤ tt
 
-timer_costs : (cycle : ℕ) (p : Processor) → Costs (timer_stepped cycle p)
-unfolding timer_stepped
-timer_costs cycle p = step_costs (due_timer cycle p) p
+-- an event that is due is one of those left
+one_fewer : (cycle : ℕ) (events : List Event) (what : What) → due_event cycle events ≡ Some what → length events ≡ suc (length (later_events events))
+one_fewer cycle [] what e = cc
+one_fewer cycle (event ∷ rest) what e = refl
 
-timer_falls : (stepped : Option (Processor × ℕ)) (s : State) → Costs stepped → s.cycle < s.limit → Falls s (timer_or_on stepped s)
+comes_falls : (u : Upcoming) (s : State) → Applies u s → Falls s (carried_out u (record s { begun = true }))
 unfolding boundaries_left
-timer_falls (Some (p, cycles)) s o h = (omega arith, omega arith)
-timer_falls None s o h = by_interrupt_falls s h
-
-pub by_timer_falls : (s : State) → s.cycle < s.limit → Falls s (from_timer s)
-unfolding by_timer
-by_timer_falls s h = timer_falls (timer_stepped s.cycle s.processor) s (timer_costs s.cycle s.processor) h
-
-either_event : (b : Bool) (s : State) (event : Event) (rest : List Event) (taken : State × Stepped) →
-    Falls s taken → Falls s (from_timer s) → Falls s (one_or_on b taken (from_timer s))
-either_event true s event rest taken h k = h
-either_event false s event rest taken h k = k
-
-event_falls : (events : List Event) (s : State) → s.events ≡ events → s.cycle < s.limit → Falls s (event_or_on events s)
-unfolding boundaries_left
-event_falls [] s e h = by_timer_falls s h
-event_falls (event ∷ rest) s e h =
-    let shorter : length s.events ≡ suc (length rest) = ap length e in
-    either_event (nat_le event.cycle s.cycle) s event rest _ (omega arith, omega arith) (by_timer_falls s h)
-
-by_event_falls : (s : State) → s.cycle < s.limit → Falls s (from_event s)
-unfolding by_event
-by_event_falls s h = event_falls s.events s refl h
-
-either_limit : (b : Bool) (s : State) (why : Stop) → nat_le s.limit s.cycle ≡ b → Falls s (one_or_on b (stops why s) (from_event s))
-either_limit true s why e = (refl, omega arith)
-either_limit false s why e = by_event_falls s (grind (arith, nat_tests))
-
-by_limit_falls : (s : State) → Falls s (from_limit s)
-unfolding by_limit
-by_limit_falls s = either_limit (nat_le s.limit s.cycle) s _ refl
-
-stopped_falls : (stopped : Option Stop) (s : State) → s.stopped ≡ stopped → Falls s (unless_stopped stopped s)
-unfolding boundaries_left
-stopped_falls (Some why) s e = (e, omega arith)
-stopped_falls None s e = by_limit_falls (record s { begun = true })
+comes_falls (upcoming.Stop why) s a = (refl, omega arith)
+comes_falls (upcoming.Event what) s a = let shorter = one_fewer s.cycle s.events what a.1 in (omega arith, omega arith)
+comes_falls (upcoming.Timer t) s a = let costs = step_costs t s.processor in (omega arith, omega arith)
+comes_falls (upcoming.Interrupt r) s a = (omega (arith, a.0.below), omega arith)
+comes_falls (upcoming.Order order) s a = by_order_falls (record s { begun = true }) a.0.below
 
 -- each boundary without a live key leaves fewer, unless it stops
 pub boundary_falls : (s : State) → Falls s (boundary None s)
-unfolding boundary
-boundary_falls s = stopped_falls s.stopped s refl
+boundary_falls s = by_cases (Falls s) s (λ why e. (e, omega arith)) (λ u a. comes_falls u s a)
 
 step_same : (go stay : State → State × Next) (s : State) (r : State × Stepped) → Falls s r →
     ((t : State) → boundaries_left t < boundaries_left s → go t ≡ stay t) → while_quiet go r ≡ while_quiet stay r

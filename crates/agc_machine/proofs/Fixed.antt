@@ -1,6 +1,6 @@
 -- Nothing that a processor does changes the fixed words.
-use Rattle.std.proofs.Common.{◌≡◌, ℕ, Bool, true, false, Option, Some, None, refl}
-use Rattle.std.specs.Prelude.{◌==◌, ◌&&◌, if◌then◌else◌, option_map}
+use Rattle.std.proofs.Common.{◌≡◌, ℕ, Bool, true, false, refl}
+use Rattle.std.specs.Prelude.{◌==◌, ◌&&◌, if◌then◌else◌}
 use Rattle.agc_word.specs.Number.{Number}
 use Rattle.agc_word.specs.Pulses.{pulsed}
 use Rattle.agc_word.specs.declared.pulse.Carry.{Carry}
@@ -17,7 +17,7 @@ use Rattle.agc_processor.specs.Channel.{set_channel, superbank_channel, time6_ch
 use Rattle.agc_processor.specs.Effect.{order_effect}
 use Rattle.agc_processor.specs.Interrupt.{interrupted}
 use Rattle.agc_processor.specs.Processor.{◌▷◌}
-use Rattle.agc_processor.specs.Timer.{carried, counter, set_counter, switched_off, time1_step, time2_by, time3_step, time4_step, time5_step, time6_step, due_timer, timer_step, timer_stepped}
+use Rattle.agc_processor.specs.Timer.{carried, counter, set_counter, switched_off, time1_step, time2_by, time3_step, time4_step, time5_step, time6_step, timer_step}
 use Rattle.agc_processor.specs.declared.timer.Timer.{Timer}
 use Rattle.agc_processor.specs.declared.timer.Timer.TheVariants as timer
 use Rattle.agc_processor.proofs.Fixed.{order_fixed}
@@ -54,11 +54,6 @@ switch_keeps : (c : Carry) (p q : Processor) → SameFixed p q → SameFixed p (
 switch_keeps carry.Out p q h = h
 switch_keeps carry.None p q h = h
 
--- the step of a timer, where one is due
-abbrev pub StepKeeps : Processor → Option (Processor × ℕ) → Type 0
-StepKeeps p (Some step) = SameFixed p step.0
-StepKeeps p None = Unit {0}
-
 time1_keeps : (p : Processor) → SameFixed p (time1_step p).0
 unfolding time1_step poke_of
 time1_keeps p = time2_keeps _ p _ refl
@@ -79,17 +74,13 @@ time6_keeps : (p : Processor) → SameFixed p (time6_step p).0
 unfolding time6_step poke_of
 time6_keeps p = switch_keeps _ p _ refl
 
-step_keeps : (due : Option Timer) (p : Processor) → StepKeeps p (option_map (λ t. timer_step t p) due)
-step_keeps (Some timer.Time1) p = time1_keeps p
-step_keeps (Some timer.Time3) p = time3_keeps p
-step_keeps (Some timer.Time4) p = time4_keeps p
-step_keeps (Some timer.Time5) p = time5_keeps p
-step_keeps (Some timer.Time6) p = time6_keeps p
-step_keeps None p = tt
-
-pub timer_keeps : (cycle : ℕ) (p : Processor) → StepKeeps p (timer_stepped cycle p)
-unfolding timer_stepped
-timer_keeps cycle p = step_keeps (due_timer cycle p) p
+-- the step of a timer
+pub timer_keeps : (t : Timer) (p : Processor) → SameFixed p (timer_step t p).0
+timer_keeps timer.Time1 p = time1_keeps p
+timer_keeps timer.Time3 p = time3_keeps p
+timer_keeps timer.Time4 p = time4_keeps p
+timer_keeps timer.Time5 p = time5_keeps p
+timer_keeps timer.Time6 p = time6_keeps p
 
 -- an interrupt
 pub interrupt_keeps : (r : Rupt) (p : Processor) → SameFixed p (interrupted r p)

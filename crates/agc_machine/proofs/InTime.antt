@@ -1,6 +1,6 @@
 -- The timers of a run are never ahead of its cycle, so none of them gets beyond counting below the largest limit.
 use Rattle.std.proofs.Common.{◌≡◌, ℕ, ◌+◌, ◌<◌, ◌≤◌, List, length, Bool, true, false, Option, Some, None, refl, sym, subst, arith, lit≤}
-use Rattle.std.specs.Prelude.{◌==◌, ◌&&◌, if◌then◌else◌, nat_lt, option_map, IfSome}
+use Rattle.std.specs.Prelude.{◌==◌, ◌&&◌, ◌^◌, if◌then◌else◌, nat_lt, IfSome}
 use Rattle.std.proofs.lemmas.Bool.Decides.{nat_tests}
 use Rattle.agc_word.specs.Number.{Number}
 use Rattle.agc_word.specs.Pulses.{pulsed}
@@ -9,7 +9,6 @@ use Rattle.agc_word.specs.declared.pulse.Carry.TheVariants as carry
 use Rattle.agc_word.specs.declared.pulse.Pulse.{Pulse}
 use Rattle.agc_script.specs.declared.event.What.{What}
 use Rattle.agc_script.specs.declared.event.What.TheVariants as what
-use Rattle.agc_script.specs.declared.key.Key.{Key}
 use Rattle.agc_store.specs.Places.{inlink_cell}
 use Rattle.agc_processor.specs.declared.interrupt.Rupt.{Rupt}
 use Rattle.agc_processor.specs.declared.interrupt.Rupt.TheVariants as rupt
@@ -20,11 +19,11 @@ use Rattle.agc_processor.specs.declared.timer.Timer.{Timer}
 use Rattle.agc_processor.specs.declared.timer.Timer.TheVariants as timer
 use Rattle.agc_processor.specs.Channel.{is_on, switch_word, time6_periods}
 use Rattle.agc_processor.specs.Effect.{order_effect}
-use Rattle.agc_processor.specs.Interrupt.{interrupt_cycles, interrupt_taken, interrupted, pending}
+use Rattle.agc_processor.specs.Interrupt.{interrupt_cycles, interrupted}
 use Rattle.agc_processor.specs.Period.{pulses_at, time1_first, time3_first, time4_first, time5_first}
 use Rattle.agc_processor.specs.Processor.{◌▷◌}
 use Rattle.agc_processor.specs.Start.{start_processor}
-use Rattle.agc_processor.specs.Timer.{IsCounted, carried, counter, set_counter, switched_off, time2_by, time1_step, time3_step, time4_step, time5_step, time6_step, is_due, is_time6_due, due_timer, timer_step, timer_stepped}
+use Rattle.agc_processor.specs.Timer.{IsCounted, carried, counter, set_counter, switched_off, time2_by, time1_step, time3_step, time4_step, time5_step, time6_step, is_due, is_time6_due, due_timer, steps_of, timer_step}
 use Rattle.agc_processor.proofs.Timed.{order_timed, set_channel_timed, with_periods}
 use Rattle.agc_machine.specs.Engine.{IsInTime, IsSound}
 use Rattle.agc_machine.specs.declared.engine.Engine.{Engine}
@@ -68,16 +67,10 @@ pub order_in_time : (c : ℕ) (p q : Processor) (r : Ran) → IsInTime c p.timer
 order_in_time c p q r t e = subst (λ (x : Processor × Ran). IsInTime c x.0.timers) (sym e) (effect_in_time c p t)
 
 -- an interrupt
-taken_in_time : (c d : ℕ) (p : Processor) (o : Option Rupt) → IsInTime c p.timers → c ≤ d →
-    IfSome (option_map (λ (r : Rupt). interrupted r p) o) (λ q. IsInTime d q.timers)
+pub interrupt_in_time : (c : ℕ) (r : Rupt) (p q : Processor) → IsInTime c p.timers → q ≡ interrupted r p → IsInTime (c + interrupt_cycles) q.timers
 unfolding interrupted
-taken_in_time c d p None t l = tt
-taken_in_time c d p (Some r) t l = later_in_time c d p.timers t l
-
-pub interrupt_in_time : (c : ℕ) (p q : Processor) → IsInTime c p.timers → interrupt_taken p ≡ Some q → IsInTime (c + interrupt_cycles) q.timers
-unfolding interrupt_taken
-interrupt_in_time c p q t e =
-    subst (λ (o : Option Processor). IfSome o (λ q. IsInTime (c + interrupt_cycles) q.timers)) e (taken_in_time c (c + interrupt_cycles) p (pending p) t (omega arith))
+interrupt_in_time c r p q t e =
+    subst (λ (x : Processor). IsInTime (c + interrupt_cycles) x.timers) (sym e) (later_in_time c (c + interrupt_cycles) p.timers t (omega arith))
 
 -- a carry asks for an interrupt, and leaves the timers alone
 carried_in_time : (c : ℕ) (r : Rupt) (x : Carry) (p : Processor) → IsInTime c p.timers → IsInTime c (carried r x p).timers
@@ -96,10 +89,6 @@ pulse_in_time c place kind p t =
     let after : Processor = p ▷ set_counter place stepped.0 in
     one_in_time c ((place == inlink_cell) && is_shift kind) (after ▷ carried rupt.Uprupt stepped.1) after
     (carried_in_time c rupt.Uprupt stepped.1 after t) t
-
-pub pressed_in_time : (c : ℕ) (key : Key) (p : Processor) → IsInTime c p.timers → IsInTime c (pressed key p).timers
-unfolding pressed
-pressed_in_time c key p t = t
 
 happened_in_time : (c : ℕ) (event : What) (p : Processor) → IsInTime c p.timers → IsInTime c (happened c event p).timers
 unfolding happened pressed proceeded
@@ -134,11 +123,6 @@ period_by false c mark e = cc
 period_counted : (c : ℕ) (t : Timers) (switch : Number) → is_time6_due c t switch ≡ true → t.mark + 1 ≤ time6_periods c
 period_counted c t switch due = period_by (is_on switch) c t.mark due
 
--- what a step leaves in time, where one is taken
-abbrev LeavesInTime : ℕ → Option (Processor × ℕ) → Type 0
-LeavesInTime c (Some step) = IsInTime c step.0.timers
-LeavesInTime c None = Unit {0}
-
 time1_in_time : (c : ℕ) (p : Processor) → IsInTime c p.timers → is_due c time1_first p.timers.time1 ≡ true → IsInTime c (time1_step p).0.timers
 unfolding time1_step
 time1_in_time c p t due =
@@ -164,30 +148,55 @@ unfolding time6_step
 time6_in_time c p t due =
     switch_in_time c _ _ (record { time1 = t.time1; time3 = t.time3; time4 = t.time4; time5 = t.time5; mark = period_counted c p.timers (switch_word p) due })
 
-first_in_time : (c : ℕ) (p : Processor) → IsInTime c p.timers → (a1 a3 a4 a5 a6 : Bool) → is_due c time1_first p.timers.time1 ≡ a1 →
+-- the step of a timer is due
+abbrev IsStepDue : ℕ → Processor → Timer → Type 0
+IsStepDue c p timer.Time1 = is_due c time1_first p.timers.time1 ≡ true
+IsStepDue c p timer.Time3 = is_due c time3_first p.timers.time3 ≡ true
+IsStepDue c p timer.Time4 = is_due c time4_first p.timers.time4 ≡ true
+IsStepDue c p timer.Time5 = is_due c time5_first p.timers.time5 ≡ true
+IsStepDue c p timer.Time6 = is_time6_due c p.timers (switch_word p) ≡ true
+
+first_is_due : (c : ℕ) (p : Processor) (a1 a3 a4 a5 a6 : Bool) → is_due c time1_first p.timers.time1 ≡ a1 →
     is_due c time3_first p.timers.time3 ≡ a3 → is_due c time4_first p.timers.time4 ≡ a4 → is_due c time5_first p.timers.time5 ≡ a5 →
     is_time6_due c p.timers (switch_word p) ≡ a6 →
-    LeavesInTime c
-    (option_map (λ (t : Timer). timer_step t p)
+    IfSome
     (if a1 then Some timer.Time1
     else if a3 then Some timer.Time3
     else if a4 then Some timer.Time4
     else if a5 then Some timer.Time5
     else if a6 then Some timer.Time6
-    else None))
-first_in_time c p t true a3 a4 a5 a6 e1 e3 e4 e5 e6 = time1_in_time c p t e1
-first_in_time c p t false true a4 a5 a6 e1 e3 e4 e5 e6 = time3_in_time c p t e3
-first_in_time c p t false false true a5 a6 e1 e3 e4 e5 e6 = time4_in_time c p t e4
-first_in_time c p t false false false true a6 e1 e3 e4 e5 e6 = time5_in_time c p t e5
-first_in_time c p t false false false false true e1 e3 e4 e5 e6 = time6_in_time c p t e6
-first_in_time c p t false false false false false e1 e3 e4 e5 e6 = tt
+    else None) (IsStepDue c p)
+first_is_due c p true a3 a4 a5 a6 e1 e3 e4 e5 e6 = e1
+first_is_due c p false true a4 a5 a6 e1 e3 e4 e5 e6 = e3
+first_is_due c p false false true a5 a6 e1 e3 e4 e5 e6 = e4
+first_is_due c p false false false true a6 e1 e3 e4 e5 e6 = e5
+first_is_due c p false false false false true e1 e3 e4 e5 e6 = e6
+first_is_due c p false false false false false e1 e3 e4 e5 e6 = tt
 
-stepped_in_time : (c : ℕ) (p : Processor) → IsInTime c p.timers → LeavesInTime c (timer_stepped c p)
-unfolding timer_stepped due_timer
-stepped_in_time c p t = first_in_time c p t _ _ _ _ _ refl refl refl refl refl
+due_is_due : (c : ℕ) (p : Processor) → IfSome (due_timer c p) (IsStepDue c p)
+unfolding due_timer
+due_is_due c p = first_is_due c p _ _ _ _ _ refl refl refl refl refl
 
-pub step_in_time : (c d : ℕ) (p q : Processor) (cycles : ℕ) → IsInTime c p.timers → timer_stepped c p ≡ Some (q, cycles) → c ≤ d → IsInTime d q.timers
-step_in_time c d p q cycles t e l = later_in_time c d q.timers (subst (LeavesInTime c) e (stepped_in_time c p t)) l
+stepped_in_time : (c : ℕ) (p : Processor) (t : Timer) → IsInTime c p.timers → IsStepDue c p t → IsInTime c (timer_step t p).0.timers
+stepped_in_time c p timer.Time1 h due = time1_in_time c p h due
+stepped_in_time c p timer.Time3 h due = time3_in_time c p h due
+stepped_in_time c p timer.Time4 h due = time4_in_time c p h due
+stepped_in_time c p timer.Time5 h due = time5_in_time c p h due
+stepped_in_time c p timer.Time6 h due = time6_in_time c p h due
+
+pub step_in_time : (c d : ℕ) (p q : Processor) (t : Timer) (cycles : ℕ) → IsInTime c p.timers → due_timer c p ≡ Some t → (q, cycles) ≡ timer_step t p →
+    c ≤ d → IsInTime d q.timers
+step_in_time c d p q t cycles h e is l =
+    let due : IsStepDue c p t = subst (λ (o : Option Timer). IfSome o (IsStepDue c p)) e (due_is_due c p) in
+    later_in_time c d q.timers (subst (λ (x : Processor × ℕ). IsInTime c x.0.timers) (sym is) (stepped_in_time c p t h due)) l
+
+-- and none has taken more steps than can be counted on
+pub steps_counted : (t : Timer) (c : ℕ) (timers : Timers) → IsInTime c timers → c ≤ 1000000000006 → steps_of t timers < 2 ^ 60
+steps_counted timer.Time1 c timers h l = omega (arith, h.time1)
+steps_counted timer.Time3 c timers h l = omega (arith, h.time3)
+steps_counted timer.Time4 c timers h l = omega (arith, h.time4)
+steps_counted timer.Time5 c timers h l = omega (arith, h.time5)
+steps_counted timer.Time6 c timers h l = omega (arith, h.mark)
 
 -- a machine that has begun is sound where no calm cycle is known
 pub sound_slowly : (m : Engine) → m.next ≤ length m.script → 0 < m.limit → m.limit ≤ 1000000000000 → m.cycle < m.limit + 6 →

@@ -12,6 +12,4 @@ pub mod Return
 pub mod Taken
 pub mod Live
 pub mod Place
-pub mod Told
 pub mod InTime
-pub mod CalmlyTold

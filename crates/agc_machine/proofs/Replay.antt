@@ -5,6 +5,7 @@ use Rattle.std.proofs.lemmas.Bool.Decides.{nat_tests}
 use Rattle.agc_script.proofs.Merges.{merged_event_first, merged_key_first, merged_keys_last, merged_no_keys}
 use Rattle.agc_script.specs.Merge.{merged, key_event}
 use Rattle.agc_script.specs.declared.event.Event.{Event}
+use Rattle.agc_script.specs.declared.event.What.{What}
 use Rattle.agc_script.specs.declared.key.Key.{Key}
 use Rattle.agc_machine.specs.declared.answer.Next.{Next}
 use Rattle.agc_machine.specs.declared.answer.Next.TheVariants as next
@@ -14,76 +15,41 @@ use Rattle.agc_machine.specs.declared.answer.Stop.{Stop}
 use Rattle.agc_processor.specs.declared.processor.Processor.{Processor}
 use Rattle.agc_processor.specs.declared.processor.Ran.{Ran}
 use Rattle.agc_processor.specs.declared.processor.Ran.TheVariants as ran
-use Rattle.agc_machine.specs.Boundary.{boundary, by_limit, by_timer, by_interrupt, by_address, by_order, ran_order, is_reached, stops, passes, unless_stopped, ◌otherwise◌, IsBefore, WantsKey}
-use Rattle.agc_machine.proofs.Cases.{from_limit, from_event, from_timer, from_interrupt, from_address, one_or_on, timer_or_on, interrupt_or_on}
+use Rattle.agc_machine.specs.declared.upcoming.Upcoming.{Upcoming}
+use Rattle.agc_machine.specs.declared.upcoming.Upcoming.TheVariants as upcoming
+use Rattle.agc_machine.specs.Boundary.{Applies, IsBefore, WantsKey, boundary, by_order, carried_out, due_event, later_events, passes, ran_order, upcoming_of}
+use Rattle.agc_machine.proofs.Cases.{FirstDue, event_upcoming, first_due, none_due, same_upcoming, upcoming_applies, upcoming_comes}
+use Rattle.agc_machine.proofs.Kept.{boundary_keeps}
 use Rattle.agc_processor.specs.Effect.{order_effect}
 use Rattle.agc_machine.specs.Happening.{happened, cycles_of}
-use Rattle.agc_processor.specs.Interrupt.{interrupt_taken}
-use Rattle.agc_processor.specs.Timer.{timer_stepped}
 use Rattle.agc_machine.specs.Laws.{Falls, Comes, HasChannel, HasNextChannel}
 use Rattle.agc_machine.specs.Replay.{Chain, chain, tape_of, AreWanted, with_tape, writes_in, run_in}
 use Rattle.agc_machine.specs.Run.{Run, boundaries_left, next_of, run_of, while_writing}
 use Rattle.agc_machine.specs.State.{State, with_key}
-use Rattle.agc_machine.proofs.Chain.{boundary_falls, by_timer_falls, stopped_stays, run_by_next, run_at_write, run_at_stop, next_at_write, next_at_stop, next_after_quiet, next_comes}
-use Rattle.agc_machine.proofs.Events.{met}
-use Rattle.agc_machine.proofs.Stillness.{past_limit, past_event}
-
--- an answer of a state with other events and another limit
-abbrev framed : List Event → ℕ → State × Stepped → State × Stepped
-framed events limit r = (record r.0 { events = events; limit = limit }, r.1)
-
--- timers, interrupts, the stop address and orders hand the events and the limit on
-order_framed : (events : List Event) (limit : ℕ) (s : State) (r : Processor × Ran) →
-    ran_order (record s { events = events; limit = limit }) r ≡ framed events limit (ran_order s r)
-order_framed events limit s (p, ran.Quiet cycles) = refl
-order_framed events limit s (p, ran.Wrote channel value) = refl
-order_framed events limit s (p, ran.Halted why) = refl
-
-by_order_framed : (events : List Event) (limit : ℕ) (s : State) →
-    by_order (record s { events = events; limit = limit }) ≡ framed events limit (by_order s)
-unfolding by_order
-by_order_framed events limit s = order_framed events limit s (order_effect s.cycle s.processor)
-
-either_framed : (b : Bool) (events : List Event) (limit : ℕ) (x y u v : State × Stepped) → x ≡ framed events limit u → y ≡ framed events limit v →
-    one_or_on b x y ≡ framed events limit (one_or_on b u v)
-either_framed true events limit x y u v h k = h
-either_framed false events limit x y u v h k = k
-
-by_address_framed : (events : List Event) (limit : ℕ) (s : State) →
-    from_address (record s { events = events; limit = limit }) ≡ framed events limit (from_address s)
-unfolding by_address
-by_address_framed events limit s =
-    either_framed (is_reached s.until s.processor) events limit _ _ _ _ refl (by_order_framed events limit s)
-
-interrupt_framed : (taken : Option Processor) (events : List Event) (limit : ℕ) (s : State) →
-    interrupt_or_on taken (record s { events = events; limit = limit }) ≡ framed events limit (interrupt_or_on taken s)
-interrupt_framed (Some p) events limit s = refl
-interrupt_framed None events limit s = by_address_framed events limit s
-
-by_interrupt_framed : (events : List Event) (limit : ℕ) (s : State) →
-    from_interrupt (record s { events = events; limit = limit }) ≡ framed events limit (from_interrupt s)
-unfolding by_interrupt
-by_interrupt_framed events limit s = interrupt_framed (interrupt_taken s.processor) events limit s
-
-timer_framed : (step : Option (Processor × ℕ)) (events : List Event) (limit : ℕ) (s : State) →
-    timer_or_on step (record s { events = events; limit = limit }) ≡ framed events limit (timer_or_on step s)
-timer_framed (Some (p, cycles)) events limit s = refl
-timer_framed None events limit s = by_interrupt_framed events limit s
-
-by_timer_framed : (events : List Event) (limit : ℕ) (s : State) →
-    from_timer (record s { events = events; limit = limit }) ≡ framed events limit (from_timer s)
-unfolding by_timer
-by_timer_framed events limit s = timer_framed (timer_stepped s.cycle s.processor) events limit s
-
-pub timer_keeps_events : (s : State) → (from_timer s).0.events ≡ s.events
-timer_keeps_events s = ap (λ (r : State × Stepped). r.0.events) (by_timer_framed s.events s.limit s)
-
-pub timer_keeps_limit : (s : State) → (from_timer s).0.limit ≡ s.limit
-timer_keeps_limit s = ap (λ (r : State × Stepped). r.0.limit) (by_timer_framed s.events s.limit s)
+use Rattle.agc_machine.proofs.Chain.{boundary_falls, stopped_stays, run_by_next, run_at_write, run_at_stop, next_at_write, next_at_stop, next_after_quiet, next_comes}
 
 -- an answer of a state with a tape among its events
 abbrev taped : List (ℕ × Key) → State × Stepped → State × Stepped
 taped tape r = (with_tape tape r.0, r.1)
+
+-- orders hand the events on
+ran_taped : (s : State) (tape : List (ℕ × Key)) (r : Processor × Ran) → ran_order (with_tape tape s) r ≡ taped tape (ran_order s r)
+ran_taped s tape (p, ran.Quiet cycles) = refl
+ran_taped s tape (p, ran.Wrote channel value) = refl
+ran_taped s tape (p, ran.Halted why) = refl
+
+order_taped : (s : State) (tape : List (ℕ × Key)) → by_order (with_tape tape s) ≡ taped tape (by_order s)
+unfolding by_order
+order_taped s tape = ran_taped s tape (order_effect s.cycle s.processor)
+
+ran_keeps_events : (s : State) (r : Processor × Ran) → (ran_order s r).0.events ≡ s.events
+ran_keeps_events s (p, ran.Quiet cycles) = refl
+ran_keeps_events s (p, ran.Wrote channel value) = refl
+ran_keeps_events s (p, ran.Halted why) = refl
+
+pub order_keeps_events : (s : State) → (by_order s).0.events ≡ s.events
+unfolding by_order
+order_keeps_events s = ran_keeps_events s (order_effect s.cycle s.processor)
 
 -- a tape's first key is not before a cycle
 abbrev pub IsFrom : ℕ → List (ℕ × Key) → Type 0
@@ -126,88 +92,93 @@ not_due cycle events [] h k = subst (IsBefore cycle) (sym (merged_no_keys events
 not_due cycle [] (entry ∷ tape) h k = subst (IsBefore cycle) (sym (merged_keys_last entry tape)) (omega arith)
 not_due cycle (event ∷ events) (entry ∷ tape) h k = not_due_by (nat_le event.cycle entry.0) cycle event events entry tape refl h k
 
-framed_is_taped : (s : State) (tape : List (ℕ × Key)) (r : State × Stepped) → r.0.events ≡ s.events → r.0.limit ≡ s.limit →
-    framed (merged s.events tape) s.limit r ≡ taped tape r
-framed_is_taped s tape r e l =
-    ap (λ (limit : ℕ). framed (merged s.events tape) limit r) (sym l)
-    ∙ ap (λ (events : List Event). framed (merged events tape) r.0.limit r) (sym e)
-
-timer_taped : (s : State) (tape : List (ℕ × Key)) → from_timer (with_tape tape s) ≡ taped tape (from_timer s)
-timer_taped s tape =
-    by_timer_framed (merged s.events tape) s.limit s
-    ∙ framed_is_taped s tape (from_timer s) (timer_keeps_events s) (timer_keeps_limit s)
-
--- no event is due
-undue_taped : (s : State) (tape : List (ℕ × Key)) → s.cycle < s.limit → IsBefore s.cycle s.events → Follows (from_event s) tape →
-    from_event (with_tape tape s) ≡ taped tape (from_event s)
-undue_taped s tape l b f =
-    let same : from_event s ≡ from_timer s = past_event s b in
-    let follows : Follows (from_timer s) tape = subst (λ (r : State × Stepped). Follows r tape) same f in
-    let later : IsFrom (s.cycle + 1) tape =
-    later_tape s (from_timer s) tape (timer_keeps_events s) (timer_keeps_limit s) (by_timer_falls s l) follows in
-    past_event (with_tape tape s) (not_due s.cycle s.events tape b later) ∙ timer_taped s tape ∙ ap (taped tape) (sym same)
-
 -- an event that is due comes before the keys
 pub event_first : (event : Event) (rest : List Event) (tape : List (ℕ × Key)) → IsFrom event.cycle tape →
     merged (event ∷ rest) tape ≡ event ∷ merged rest tape
 event_first event rest [] h = merged_no_keys (event ∷ rest) ∙ ap (λ (events : List Event). event ∷ events) (sym (merged_no_keys rest))
 event_first event rest (entry ∷ tape) h = merged_event_first event rest entry tape h
 
--- what a due event leaves
-abbrev after_event : State → Event → List Event → State × Stepped
-after_event s event rest = passes (happened s.cycle event.what s.processor) (cycles_of event.what) (record s { events = rest })
+-- with no tape left a boundary is as it was
+no_more : (s : State) → with_tape [] s ≡ s
+no_more s = ap (λ (events : List Event). record s { events = events }) (merged_no_keys s.events)
 
-event_taken : (s : State) (event : Event) (rest : List Event) → s.events ≡ event ∷ rest → event.cycle ≤ s.cycle →
-    from_event s ≡ after_event s event rest
-event_taken s event rest e l = ap (λ (o : Option (State × Stepped)). o otherwise from_timer s) (met s event rest _ _ e l refl refl)
+none_left : (s : State) (tape : List (ℕ × Key)) → tape ≡ [] → boundary None (with_tape tape s) ≡ taped tape (boundary None s)
+none_left s tape e =
+    subst (λ (t : List (ℕ × Key)). boundary None (with_tape t s) ≡ taped t (boundary None s)) (sym e)
+    (ap (λ (t : State). boundary None t) (no_more s) ∙ ap (λ (t : State). (t, (boundary None s).1)) (sym (no_more (boundary None s).0)))
 
-due_taped : (s : State) (tape : List (ℕ × Key)) (event : Event) (rest : List Event) → s.events ≡ event ∷ rest → event.cycle ≤ s.cycle →
-    Follows (from_event s) tape → from_event (with_tape tape s) ≡ taped tape (from_event s)
-due_taped s tape event rest e l f =
-    let taken : from_event s ≡ after_event s event rest = event_taken s event rest e l in
-    let follows : Follows (after_event s event rest) tape = subst (λ (r : State × Stepped). Follows r tape) taken f in
-    let from : IsFrom event.cycle tape = from_later event.cycle (s.cycle + cycles_of event.what) tape (omega arith) follows.from in
-    let first : merged s.events tape ≡ event ∷ merged rest tape =
-    ap (λ (events : List Event). merged events tape) e ∙ event_first event rest tape from in
-    event_taken (with_tape tape s) event (merged rest tape) first l ∙ ap (taped tape) (sym taken)
+abbrev pub begun : State → State
+begun s = record s { begun = true }
 
-event_taped_by : (b : Bool) (s : State) (tape : List (ℕ × Key)) (event : Event) (rest : List Event) → nat_le event.cycle s.cycle ≡ b →
-    s.events ≡ event ∷ rest → s.cycle < s.limit → Follows (from_event s) tape → from_event (with_tape tape s) ≡ taped tape (from_event s)
-event_taped_by true s tape event rest e h l f = due_taped s tape event rest h (grind (arith, nat_tests)) f
-event_taped_by false s tape event rest e h l f =
-    undue_taped s tape l (subst (IsBefore s.cycle) (sym h) (grind (arith, nat_tests))) f
+-- what comes, carried out
+comes_out : (s : State) (u : Upcoming) → s.stopped ≡ None → upcoming_of s ≡ u → boundary None s ≡ carried_out u (begun s)
+comes_out s u n e = (upcoming_comes s).comes n ∙ ap (λ (u : Upcoming). carried_out u (begun s)) e
 
-event_taped_at : (events : List Event) (s : State) (tape : List (ℕ × Key)) → s.events ≡ events → s.cycle < s.limit →
-    Follows (from_event s) tape → from_event (with_tape tape s) ≡ taped tape (from_event s)
-event_taped_at [] s tape e l f = undue_taped s tape l (subst (IsBefore s.cycle) (sym e) tt) f
-event_taped_at (event ∷ rest) s tape e l f = event_taped_by (nat_le event.cycle s.cycle) s tape event rest refl e l f
+-- the same comes with a tape among the events, where the same event is due
+along : (s : State) (u : Upcoming) (tape : List (ℕ × Key)) → s.stopped ≡ None → upcoming_of s ≡ u →
+    due_event s.cycle (merged s.events tape) ≡ due_event s.cycle s.events →
+    carried_out u (with_tape tape (begun s)) ≡ taped tape (carried_out u (begun s)) → boundary None (with_tape tape s) ≡ taped tape (boundary None s)
+along s u tape n e d c =
+    comes_out (with_tape tape s) u n (same_upcoming s (merged s.events tape) d ∙ e) ∙ c ∙ ap (taped tape) (sym (comes_out s u n e))
 
-either_limit_taped : (b : Bool) (s : State) (tape : List (ℕ × Key)) (why : Stop) → nat_le s.limit s.cycle ≡ b →
-    Follows (one_or_on b (stops why s) (from_event s)) tape →
-    one_or_on b (stops why (with_tape tape s)) (from_event (with_tape tape s)) ≡ taped tape (one_or_on b (stops why s) (from_event s))
-either_limit_taped true s tape why e f = refl
-either_limit_taped false s tape why e f = event_taped_at s.events s tape refl (grind (arith, nat_tests)) f
+-- no event is due
+undue : (s : State) (tape : List (ℕ × Key)) → IsBefore s.cycle s.events → (boundary None s).0.events ≡ s.events → Follows (boundary None s) tape →
+    due_event s.cycle (merged s.events tape) ≡ due_event s.cycle s.events
+undue s tape b same f =
+    let later : IsFrom (s.cycle + 1) tape = later_tape s (boundary None s) tape same (boundary_keeps None s).1 (boundary_falls s) f in
+    none_due s.cycle (merged s.events tape) (not_due s.cycle s.events tape b later) ∙ sym (none_due s.cycle s.events b)
 
-by_limit_taped : (s : State) (tape : List (ℕ × Key)) → Follows (from_limit s) tape → from_limit (with_tape tape s) ≡ taped tape (from_limit s)
-unfolding by_limit
-by_limit_taped s tape f = either_limit_taped (nat_le s.limit s.cycle) s tape _ refl f
+events_of : (s : State) (r : State × Stepped) → boundary None s ≡ r → r.0.events ≡ s.events → (boundary None s).0.events ≡ s.events
+events_of s r e h = ap (λ (x : State × Stepped). x.0.events) e ∙ h
 
-stopped_taped : (stopped : Option Stop) (s : State) (tape : List (ℕ × Key)) → Follows (unless_stopped stopped s) tape →
-    unless_stopped stopped (with_tape tape s) ≡ taped tape (unless_stopped stopped s)
-stopped_taped (Some why) s tape f = refl
-stopped_taped None s tape f = by_limit_taped (record s { begun = true }) tape f
+-- the first event is due
+due : (s : State) (tape : List (ℕ × Key)) (what : What) → s.stopped ≡ None → upcoming_of s ≡ upcoming.Event what →
+    FirstDue s.cycle s.events → Follows (boundary None s) tape → boundary None (with_tape tape s) ≡ taped tape (boundary None s)
+due s tape what n e first f =
+    let out = comes_out s (upcoming.Event what) n e in
+    let follows : Follows (carried_out (upcoming.Event what) (begun s)) tape = subst (λ (r : State × Stepped). Follows r tape) out f in
+    let from : IsFrom first.event.cycle tape = from_later first.event.cycle (s.cycle + cycles_of what) tape (omega (arith, first.due)) follows.from in
+    let all : merged s.events tape ≡ first.event ∷ merged first.rest tape =
+    ap (λ (events : List Event). merged events tape) first.had ∙ event_first first.event first.rest tape from in
+    let left : later_events (merged s.events tape) ≡ merged (later_events s.events) tape =
+    ap later_events all ∙ sym (ap (λ (events : List Event). merged (later_events events) tape) first.had) in
+    along s (upcoming.Event what) tape n e (ap (due_event s.cycle) all ∙ sym (ap (due_event s.cycle) first.had))
+    (ap (λ (events : List Event). passes (happened s.cycle what s.processor) (cycles_of what) (record (begun s) { events = events })) left)
+
+comes_taped : (u : Upcoming) (s : State) (tape : List (ℕ × Key)) → s.stopped ≡ None → upcoming_of s ≡ u → Applies u s → Follows (boundary None s) tape →
+    boundary None (with_tape tape s) ≡ taped tape (boundary None s)
+comes_taped (upcoming.Stop why) s tape n e a f =
+    none_left s tape (f.none why (ap (λ (r : State × Stepped). r.0.stopped) (comes_out s (upcoming.Stop why) n e)))
+comes_taped (upcoming.Event what) s tape n e a f = due s tape what n e (first_due s.cycle s.events what a.1) f
+comes_taped (upcoming.Timer t) s tape n e a f =
+    along s (upcoming.Timer t) tape n e (undue s tape a.1 (events_of s _ (comes_out s _ n e) refl) f) refl
+comes_taped (upcoming.Interrupt r) s tape n e a f =
+    along s (upcoming.Interrupt r) tape n e (undue s tape a.0.none_due (events_of s _ (comes_out s _ n e) refl) f) refl
+comes_taped (upcoming.Order order) s tape n e a f =
+    along s (upcoming.Order order) tape n e (undue s tape a.0.none_due (events_of s _ (comes_out s _ n e) (order_keeps_events (begun s))) f) (order_taped (begun s) tape)
+
+stopped_taped : (stopped : Option Stop) (s : State) (tape : List (ℕ × Key)) → s.stopped ≡ stopped → Follows (boundary None s) tape →
+    boundary None (with_tape tape s) ≡ taped tape (boundary None s)
+stopped_taped (Some why) s tape e f =
+    none_left s tape (f.none why (ap (λ (r : State × Stepped). r.0.stopped) (stopped_stays s why e) ∙ e))
+stopped_taped None s tape e f = comes_taped (upcoming_of s) s tape e refl (upcoming_applies s e) f
 
 -- a boundary without a live key, with the tape of what comes after it among the events
 pub none_taped : (s : State) (tape : List (ℕ × Key)) → Follows (boundary None s) tape → boundary None (with_tape tape s) ≡ taped tape (boundary None s)
-unfolding boundary
-none_taped s tape f = stopped_taped s.stopped s tape f
+none_taped s tape f = stopped_taped s.stopped s tape refl f
+
+-- what a due event leaves
+abbrev pub after_event : State → Event → List Event → State × Stepped
+after_event s event rest = passes (happened s.cycle event.what s.processor) (cycles_of event.what) (record s { events = rest })
 
 -- a boundary at which an event is due
 event_boundary : (s : State) (event : Event) (rest : List Event) → s.stopped ≡ None → s.cycle < s.limit → s.events ≡ event ∷ rest →
-    event.cycle ≤ s.cycle → unless_stopped s.stopped s ≡ after_event (record s { begun = true }) event rest
+    event.cycle ≤ s.cycle → boundary None s ≡ after_event (begun s) event rest
 event_boundary s event rest n l e d =
-    ap (λ (o : Option Stop). unless_stopped o s) n ∙ past_limit (record s { begun = true }) l
-    ∙ event_taken (record s { begun = true }) event rest e d
+    let test : nat_le event.cycle s.cycle ≡ true = grind (arith, nat_tests) in
+    let is_due : due_event s.cycle s.events ≡ Some event.what = ap (due_event s.cycle) e ∙ rw test refl in
+    comes_out s (upcoming.Event event.what) n (event_upcoming s event.what n l is_due)
+    ∙ ap (λ (events : List Event). after_event (begun s) event (later_events events)) e
 
 pub key_first : (events : List Event) (entry : ℕ × Key) (tape : List (ℕ × Key)) → IsBefore entry.0 events →
     merged events (entry ∷ tape) ≡ key_event entry ∷ merged events tape
@@ -310,13 +281,10 @@ falls_shown s (t, stepped.Wrote write) f = f.3
 falls_shown s (t, stepped.Stopped why) f = tt
 
 -- a boundary shows writes to channels from 5 to 777 octal alone
-pub boundary_shows : (live : Option Key) (s : State) (r : State × Stepped) → (IsSome live → WantsKey s) → r ≡ boundary live s → HasChannel r.1
+pub boundary_shows : (live : Option Key) (s : State) (r : State × Stepped) → r ≡ boundary live s → HasChannel r.1
 unfolding boundary
-boundary_shows None s r w e = subst (λ (x : State × Stepped). HasChannel x.1) (sym e) (falls_shown s (boundary None s) (boundary_falls s))
-boundary_shows (Some key) s r w e =
-    let wants : WantsKey s = w refl in
-    let taken = event_boundary (with_key (Some key) s) (key_event (s.cycle, key)) s.events wants.runs wants.below refl (omega arith) in
-    subst (λ (x : State × Stepped). HasChannel x.1) (sym (e ∙ taken)) tt
+boundary_shows live s r e =
+    let fed : State = with_key live s in subst (λ (x : State × Stepped). HasChannel x.1) (sym e) (falls_shown fed (boundary None fed) (boundary_falls fed))
 
 comes_shown : (s : State) (r : State × Next) → Comes s r → HasNextChannel r.1
 comes_shown s (t, next.Wrote write) c = c.3
@@ -327,8 +295,8 @@ pub next_shows : (s : State) (r : State × Next) → r ≡ next_of s → HasNext
 next_shows s r e = subst (λ (x : State × Next). HasNextChannel x.1) (sym e) (comes_shown s (next_of s) (next_comes s))
 
 -- a boundary with a wanted key leaves the events as they were, and answers nothing
-key_happens : (s : State) (key : Key) → WantsKey s →
-    boundary (Some key) s ≡ after_event (record (with_key (Some key) s) { begun = true }) (key_event (s.cycle, key)) s.events
+pub key_happens : (s : State) (key : Key) → WantsKey s →
+    boundary (Some key) s ≡ after_event (begun (with_key (Some key) s)) (key_event (s.cycle, key)) s.events
 unfolding boundary
 key_happens s key w = event_boundary (with_key (Some key) s) (key_event (s.cycle, key)) s.events w.runs w.below refl (omega arith)
 

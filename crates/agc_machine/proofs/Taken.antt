@@ -1,7 +1,7 @@
 -- The plain run on the merged events takes each key of a live run's tape at the key's own cycle; and every
 -- run meets the beginning of its events.
 use Rattle.std.proofs.Common.{◌≡◌, ℕ, ◌+◌, ◌-◌, ◌≤◌, ◌<◌, ◌⊎◌, suc, zero, List, [], ◌∷◌, ◌++◌, length, map, take, replicate, Option, Some, None, Bool, true, false, refl, ap, sym, ◌∙◌, subst, arith, inl, inr, one-add}
-use Rattle.std.specs.Prelude.{drop, nat_le, nat_lt, IsSome, All, slice_get, IfSome}
+use Rattle.std.specs.Prelude.{drop, nat_lt, IsSome, All, slice_get, IfSome}
 use Rattle.std.proofs.lemmas.Bool.Decides.{nat_tests}
 use Rattle.std.proofs.lemmas.List.{length-append, take_at}
 use Rattle.std.proofs.lemmas.List.Elements.{All-cons, All-nil}
@@ -10,8 +10,10 @@ use Rattle.agc_script.specs.declared.event.Event.{Event}
 use Rattle.agc_script.specs.declared.key.Key.{Key}
 use Rattle.agc_machine.specs.declared.answer.Stepped.{Stepped}
 use Rattle.agc_machine.specs.declared.answer.Stop.{Stop}
-use Rattle.agc_machine.specs.Boundary.{boundary, by_event, by_limit, stops, unless_stopped, IsBefore, WantsKey}
-use Rattle.agc_machine.proofs.Cases.{from_limit, from_event, from_timer, one_or_on, event_or_on}
+use Rattle.agc_machine.specs.declared.upcoming.Upcoming.{Upcoming}
+use Rattle.agc_machine.specs.declared.upcoming.Upcoming.TheVariants as upcoming
+use Rattle.agc_machine.specs.Boundary.{Applies, IsBefore, WantsKey, boundary, carried_out, later_events}
+use Rattle.agc_machine.proofs.Cases.{FirstDue, by_cases, first_due}
 use Rattle.agc_machine.specs.Laws.{after}
 use Rattle.agc_machine.specs.Replay.{Chain, chain, tape_of, AreWanted, with_tape, run_in}
 use Rattle.agc_machine.specs.Run.{Run, boundaries_left, run_of}
@@ -19,7 +21,7 @@ use Rattle.agc_machine.specs.State.{State}
 use Rattle.agc_machine.specs.Taken.{at_cycle, at_own_cycle, marked, met_between, tape_marks, taken_within, AreApart, TakesTape}
 use Rattle.agc_machine.proofs.Chain.{stopped_stays, stops_in_time}
 use Rattle.agc_machine.proofs.Kept.{boundary_keeps}
-use Rattle.agc_machine.proofs.Replay.{IsFrom, chain_is_run, chain_replays, event_first, from_later, key_taped, key_first, none_taped, tape_follows, tape_from, key_keeps_events, timer_keeps_events}
+use Rattle.agc_machine.proofs.Replay.{IsFrom, chain_is_run, chain_replays, event_first, from_later, key_taped, key_first, none_taped, tape_follows, tape_from, begun, key_keeps_events, order_keeps_events}
 
 none_met : (events : List Event) → take (length events - length events) events ≡ []
 none_met events = let none : length events - length events ≡ 0 = omega arith in ap (λ (n : ℕ). take n events) none
@@ -63,38 +65,18 @@ record TakesFirst (s t : State) : Type 0 where
 abbrev Meets : State → State → Type 0
 Meets s t = (t.events ≡ s.events) ⊎ TakesFirst s t
 
-either_meets : (b : Bool) (s : State) (event : Event) (rest : List Event) (x y : State × Stepped) → nat_le event.cycle s.cycle ≡ b →
-    s.events ≡ event ∷ rest → x.0.events ≡ rest → y.0.events ≡ s.events → Meets s (one_or_on b x y).0
-either_meets true s event rest x y e h k l = inr (record { event = event; rest = rest; had = h; left = k; due = grind (arith, nat_tests) })
-either_meets false s event rest x y e h k l = inl l
+due_meets : (s t : State) → t.events ≡ later_events s.events → FirstDue s.cycle s.events → Meets s t
+due_meets s t e f = inr (record { event = f.event; rest = f.rest; had = f.had; left = e ∙ ap later_events f.had; due = f.due })
 
-events_meet : (events : List Event) (s : State) → s.events ≡ events → Meets s (event_or_on events s).0
-events_meet [] s e = inl (timer_keeps_events s)
-events_meet (event ∷ rest) s e = either_meets (nat_le event.cycle s.cycle) s event rest _ (from_timer s) refl e refl (timer_keeps_events s)
-
-by_event_meets : (s : State) → Meets s (from_event s).0
-unfolding by_event
-by_event_meets s = events_meet s.events s refl
-
-limit_meets : (b : Bool) (s : State) (why : Stop) → Meets s (from_event s).0 → Meets s (one_or_on b (stops why s) (from_event s)).0
-limit_meets true s why h = inl refl
-limit_meets false s why h = h
-
-by_limit_meets : (s : State) → Meets s (from_limit s).0
-unfolding by_limit
-by_limit_meets s = limit_meets (nat_le s.limit s.cycle) s _ (by_event_meets s)
-
-begun_meets : (s t : State) → Meets (record s { begun = true }) t → Meets s t
-begun_meets s t (inl h) = inl h
-begun_meets s t (inr h) = inr (record { event = h.event; rest = h.rest; had = h.had; left = h.left; due = h.due })
-
-stopped_meets : (stopped : Option Stop) (s : State) → Meets s (unless_stopped stopped s).0
-stopped_meets (Some why) s = inl refl
-stopped_meets None s = begun_meets s _ (by_limit_meets (record s { begun = true }))
+comes_meets : (u : Upcoming) (s : State) → Applies u s → Meets s (carried_out u (begun s)).0
+comes_meets (upcoming.Stop why) s a = inl refl
+comes_meets (upcoming.Event what) s a = due_meets s _ refl (first_due s.cycle s.events what a.1)
+comes_meets (upcoming.Timer t) s a = inl refl
+comes_meets (upcoming.Interrupt r) s a = inl refl
+comes_meets (upcoming.Order order) s a = inl (order_keeps_events (begun s))
 
 boundary_meets : (s : State) → Meets s (boundary None s).0
-unfolding boundary
-boundary_meets s = stopped_meets s.stopped s
+boundary_meets s = by_cases (λ r. Meets s r.0) s (λ why e. inl refl) (λ u a. comes_meets u s a)
 
 no_marks : (marks : List Bool) → marked marks [] ≡ []
 unfolding marked

@@ -1,67 +1,54 @@
--- The boundary: of the things that may happen between two orders the first that applies happens,
--- and no other.
-use Rattle.std.specs.Prelude.{◌≡◌, ℕ, ◌<◌, ◌+◌, ◌%◌, ◌==◌, ◌&&◌, Bool, true, false, List, [], ◌∷◌}
+-- The boundary: what comes next, carried out. Of the things that may happen between two orders the
+-- first that applies comes, and no other.
+use Rattle.std.specs.Prelude.{◌≡◌, ℕ, ◌<◌, ◌≤◌, ◌+◌, ◌%◌, ◌==◌, ◌&&◌, Bool, true, false, List, [], ◌∷◌}
 use Rattle.std.specs.Prelude.{Option, Some, None, nat_lt, nat_le, option_map, if◌then◌else◌}
 use Rattle.agc_store.specs.Memory.{erasable_bank, selected_bank}
 use Rattle.agc_store.specs.Places.{erasable_window, fixed_fixed, fixed_window}
 use Rattle.agc_script.specs.declared.event.Event.{Event}
+use Rattle.agc_script.specs.declared.event.What.{What}
 use Rattle.agc_script.specs.declared.key.Key.{Key}
-use Rattle.agc_machine.specs.declared.answer.ChannelWrite.{ChannelWrite}
-use Rattle.agc_machine.specs.declared.answer.Stepped.{Stepped}
-use Rattle.agc_machine.specs.declared.answer.Stepped.TheVariants as stepped
-use Rattle.agc_machine.specs.declared.answer.Stop.{Stop}
-use Rattle.agc_machine.specs.declared.answer.Stop.TheVariants as stop
-use Rattle.agc_machine.specs.declared.stop_address.StopAddress.{StopAddress}
 use Rattle.agc_processor.specs.declared.processor.Processor.{Processor}
 use Rattle.agc_processor.specs.declared.processor.Halt.{Halt}
 use Rattle.agc_processor.specs.declared.processor.Halt.TheVariants as halt
 use Rattle.agc_processor.specs.declared.processor.Ran.{Ran}
 use Rattle.agc_processor.specs.declared.processor.Ran.TheVariants as ran
 use Rattle.agc_processor.specs.Effect.{order_effect, write_cycles}
-use Rattle.agc_machine.specs.Happening.{happened, cycles_of}
-use Rattle.agc_processor.specs.Interrupt.{interrupt_cycles, interrupt_taken}
+use Rattle.agc_processor.specs.Interrupt.{interrupt_cycles, interrupted, pending}
 use Rattle.agc_processor.specs.Processor.{z_at}
+use Rattle.agc_processor.specs.Timer.{due_timer, timer_step}
+use Rattle.agc_machine.specs.Happening.{happened, cycles_of}
 use Rattle.agc_machine.specs.State.{State, with_key}
-use Rattle.agc_processor.specs.Timer.{timer_stepped}
+use Rattle.agc_machine.specs.declared.answer.ChannelWrite.{ChannelWrite}
+use Rattle.agc_machine.specs.declared.answer.Stepped.{Stepped}
+use Rattle.agc_machine.specs.declared.answer.Stepped.TheVariants as stepped
+use Rattle.agc_machine.specs.declared.answer.Stop.{Stop}
+use Rattle.agc_machine.specs.declared.answer.Stop.TheVariants as stop
+use Rattle.agc_machine.specs.declared.stop_address.StopAddress.{StopAddress}
+use Rattle.agc_machine.specs.declared.upcoming.InHand.{InHand}
+use Rattle.agc_machine.specs.declared.upcoming.Upcoming.{Upcoming}
+use Rattle.agc_machine.specs.declared.upcoming.Upcoming.TheVariants as upcoming
 
 infixr 5 ◌otherwise◌
--- the machine stops, for this reason; nothing else changes, not even the cycle
-abbrev pub stops : Stop → State → State × Stepped
-stops why s = (record s { stopped = Some why }, stepped.Stopped why)
-
--- some cycles go by in which nothing shows outside
-abbrev pub passes : Processor → ℕ → State → State × Stepped
-passes p cycles s = (record s { processor = p; cycle = s.cycle + cycles }, stepped.Quiet)
-
--- the stop where an order does not run
-abbrev pub stop_of : Halt → Stop
-stop_of halt.DivisionUndefined = stop.DivisionUndefined
-stop_of halt.Edrupt = stop.Edrupt
-
 -- 1: the limit is reached
-unfoldable pub by_limit : State → Option (State × Stepped)
-by_limit s = if nat_le s.limit s.cycle then Some (stops stop.Limit s) else None
+abbrev pub limit_comes : State → Option Upcoming
+limit_comes s = if nat_le s.limit s.cycle then Some (upcoming.Stop stop.Limit) else None
 
--- the first event left happens where it is due
-abbrev pub event_due : List Event → State → Option (State × Stepped)
-event_due [] s = None
-event_due (event ∷ rest) s =
-    let p = happened s.cycle event.what s.processor in
-    if nat_le event.cycle s.cycle
-    then Some (passes p (cycles_of event.what) (record s { events = rest }))
-    else None
+-- the first event left, where it is due
+abbrev pub due_event : ℕ → List Event → Option What
+due_event cycle [] = None
+due_event cycle (event ∷ rest) = if nat_le event.cycle cycle then Some event.what else None
 
 -- 2: an event of the script is due
-unfoldable pub by_event : State → Option (State × Stepped)
-by_event s = event_due s.events s
+abbrev pub event_comes : State → Option Upcoming
+event_comes s = option_map (λ what. upcoming.Event what) (due_event s.cycle s.events)
 
 -- 3: a timer's step is due
-unfoldable pub by_timer : State → Option (State × Stepped)
-by_timer s = option_map (λ step. passes step.0 step.1 s) (timer_stepped s.cycle s.processor)
+abbrev pub timer_comes : State → Option Upcoming
+timer_comes s = option_map (λ t. upcoming.Timer t) (due_timer s.cycle s.processor)
 
--- 4: an interrupt is requested and allowed, which takes 3 cycles
-unfoldable pub by_interrupt : State → Option (State × Stepped)
-by_interrupt s = option_map (λ p. passes p interrupt_cycles s) (interrupt_taken s.processor)
+-- 4: an interrupt is requested and allowed
+abbrev pub interrupt_comes : State → Option Upcoming
+interrupt_comes s = option_map (λ r. upcoming.Interrupt r) (pending s.processor)
 
 -- the bank of an address agrees with the one that is asked for, in the two windows that banks are
 -- switched into
@@ -78,8 +65,65 @@ is_reached (Some at) p = ((z_at p + 0o7777) % 0o10000 == at.address) && bank_agr
 is_reached None p = false
 
 -- 5: the stop address is reached
-unfoldable pub by_address : State → Option (State × Stepped)
-by_address s = if is_reached s.until s.processor then Some (stops stop.Reached s) else None
+abbrev pub address_comes : State → Option Upcoming
+address_comes s =
+    if is_reached s.until s.processor then Some (upcoming.Stop stop.Reached) else None
+
+-- the bank that an address stands in, in the two windows that banks are switched into; elsewhere 0
+abbrev pub bank_of_address : ℕ → Processor → ℕ
+bank_of_address address p =
+    if nat_lt address erasable_window then 0
+    else if nat_lt address fixed_window then erasable_bank p.store.erasable
+    else if nat_lt address fixed_fixed then selected_bank p.store
+    else 0
+
+-- the order in hand, with its place, which is one before Z
+unfoldable pub in_hand : Processor → InHand
+in_hand p =
+    let address = (z_at p + 0o7777) % 0o10000 in
+    record {
+      bank = bank_of_address address p;
+      address = address;
+      word = p.hand;
+      extracode = p.extracode;
+    }
+
+-- 6: the order in hand
+abbrev pub order_comes : State → Upcoming
+order_comes s = upcoming.Order (in_hand s.processor)
+
+-- a machine that has stopped says why again
+abbrev pub stop_again : Option Stop → Option Upcoming
+stop_again stopped = option_map (λ why. upcoming.Stop why) stopped
+
+-- what applies, otherwise what comes after it
+abbrev pub ◌otherwise◌ : Option Upcoming → Upcoming → Upcoming
+(Some this) otherwise that = this
+None otherwise that = that
+
+-- what the next boundary without a live key will be: the first that applies
+unfoldable pub upcoming_of : State → Upcoming
+upcoming_of s =
+    stop_again s.stopped otherwise limit_comes s otherwise event_comes s otherwise timer_comes s
+    otherwise interrupt_comes s otherwise address_comes s otherwise order_comes s
+
+-- the machine stops, for this reason; nothing else changes, not even the cycle
+abbrev pub stops : Stop → State → State × Stepped
+stops why s = (record s { stopped = Some why }, stepped.Stopped why)
+
+-- some cycles go by in which nothing shows outside
+abbrev pub passes : Processor → ℕ → State → State × Stepped
+passes p cycles s = (record s { processor = p; cycle = s.cycle + cycles }, stepped.Quiet)
+
+-- the events after the first one left
+abbrev pub later_events : List Event → List Event
+later_events [] = []
+later_events (event ∷ rest) = rest
+
+-- the stop where an order does not run
+abbrev pub stop_of : Halt → Stop
+stop_of halt.DivisionUndefined = stop.DivisionUndefined
+stop_of halt.Edrupt = stop.Edrupt
 
 -- an order that has run takes its cycles, shows its write, or stops the machine
 abbrev pub ran_order : State → Processor × Ran → State × Stepped
@@ -89,34 +133,63 @@ ran_order s (p, ran.Wrote channel value) =
     (record s { processor = p; cycle = s.cycle + write_cycles }, stepped.Wrote write)
 ran_order s (p, ran.Halted why) = stops (stop_of why) (record s { processor = p })
 
--- 6: the order in hand runs
+-- the order in hand runs
 unfoldable pub by_order : State → State × Stepped
 by_order s = ran_order s (order_effect s.cycle s.processor)
 
--- what applies, otherwise what comes after it
-abbrev pub ◌otherwise◌ : Option (State × Stepped) → State × Stepped → State × Stepped
-(Some this) otherwise that = this
-None otherwise that = that
+-- What comes is done: the machine stops, the first event left happens, the timer steps, the
+-- interrupt is taken, which takes 3 cycles, or the order in hand runs.
+abbrev pub carried_out : Upcoming → State → State × Stepped
+carried_out (upcoming.Stop why) s = stops why s
+carried_out (upcoming.Event what) s =
+    let p = happened s.cycle what s.processor in
+    passes p (cycles_of what) (record s { events = later_events s.events })
+carried_out (upcoming.Timer t) s = let step = timer_step t s.processor in passes step.0 step.1 s
+carried_out (upcoming.Interrupt r) s = passes (interrupted r s.processor) interrupt_cycles s
+carried_out (upcoming.Order order) s = by_order s
 
--- the first that applies
-abbrev pub first_of_six : State → State × Stepped
-first_of_six s =
-    by_limit s otherwise by_event s otherwise by_timer s otherwise by_interrupt s
-    otherwise by_address s otherwise by_order s
-
--- a machine that has stopped stays as it is, and says why again
+-- a machine that has stopped stays as it is; in any other what comes is carried out, and it has
+-- begun
 abbrev pub unless_stopped : Option Stop → State → State × Stepped
 unless_stopped (Some why) s = (s, stepped.Stopped why)
-unless_stopped None s = first_of_six (record s { begun = true })
+unless_stopped None s = carried_out (upcoming_of s) (record s { begun = true })
 
 -- one boundary, with a live key or none
 unfoldable pub boundary : Option Key → State → State × Stepped
 boundary live s = let fed = with_key live s in unless_stopped fed.stopped fed
 
+-- The boundary does what comes: where the machine has stopped nothing, and the stop is told; else
+-- what is told is done by a machine that has begun.
+pub record ComesAsTold (s : State) (told : Upcoming) : Type 0 where
+  pub stays : (why : Stop) → s.stopped ≡ Some why → told ≡ upcoming.Stop why
+  pub comes : s.stopped ≡ None → boundary None s ≡ carried_out told (record s { begun = true })
+
 -- no event left is due at the present cycle
 abbrev pub IsBefore : ℕ → List Event → Type 0
 IsBefore cycle [] = Unit {0}
 IsBefore cycle (event ∷ rest) = cycle < event.cycle
+
+-- at the present cycle the clock brings nothing: no limit, event or timer's step
+pub record IsClockQuiet (s : State) : Type 0 where
+  pub below : s.cycle < s.limit
+  pub none_due : IsBefore s.cycle s.events
+  pub no_timer : due_timer s.cycle s.processor ≡ None
+
+-- Which case applies where, in a machine that has not stopped: what comes does, and none before it.
+abbrev pub Applies : Upcoming → State → Type 0
+Applies (upcoming.Stop stop.Limit) s = s.limit ≤ s.cycle
+Applies (upcoming.Event what) s =
+    (s.cycle < s.limit) × (due_event s.cycle s.events ≡ Some what)
+Applies (upcoming.Timer t) s =
+    (s.cycle < s.limit) × IsBefore s.cycle s.events × (due_timer s.cycle s.processor ≡ Some t)
+Applies (upcoming.Interrupt r) s = IsClockQuiet s × (pending s.processor ≡ Some r)
+Applies (upcoming.Stop stop.Reached) s =
+    IsClockQuiet s × (pending s.processor ≡ None) × (is_reached s.until s.processor ≡ true)
+Applies (upcoming.Order order) s =
+    IsClockQuiet s × (pending s.processor ≡ None) × (is_reached s.until s.processor ≡ false)
+    × (order ≡ in_hand s.processor)
+Applies (upcoming.Stop stop.DivisionUndefined) s = ⊥
+Applies (upcoming.Stop stop.Edrupt) s = ⊥
 
 -- a live key may be given where it happens at once: not after the stop, nor at the limit, nor
 -- before events that are due
@@ -124,3 +197,12 @@ pub record WantsKey (s : State) : Type 0 where
   pub runs : s.stopped ≡ None
   pub below : s.cycle < s.limit
   pub none_due : IsBefore s.cycle s.events
+
+-- an order's place has its digits: two for the bank, and one for an erasable bank
+abbrev pub HasPlace : Upcoming → Type 0
+HasPlace (upcoming.Order order) =
+    (order.bank < 0o50) × (order.address < fixed_window → order.bank < 0o10)
+HasPlace (upcoming.Stop why) = Unit {0}
+HasPlace (upcoming.Event what) = Unit {0}
+HasPlace (upcoming.Timer t) = Unit {0}
+HasPlace (upcoming.Interrupt r) = Unit {0}

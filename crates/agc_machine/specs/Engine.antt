@@ -1,5 +1,5 @@
 -- How the machine keeps its state: the script whole, with the place of the next event.
-use Rattle.std.specs.Prelude.{◌≡◌, ℕ, ◌+◌, ◌<◌, ◌≤◌, false, true, drop, length}
+use Rattle.std.specs.Prelude.{◌≡◌, ℕ, ◌+◌, ◌<◌, ◌≤◌, ◌^◌, false, true, drop, length}
 use Rattle.agc_processor.specs.Channel.{time6_periods}
 use Rattle.agc_processor.specs.Period.{pulses_at}
 use Rattle.agc_processor.specs.declared.processor.Timers.{Timers}
@@ -8,6 +8,9 @@ use Rattle.agc_machine.specs.declared.answer.Stepped.TheVariants as stepped
 use Rattle.agc_machine.specs.declared.engine.Engine.{Engine}
 use Rattle.agc_machine.specs.declared.engine.Paced.{Paced}
 use Rattle.agc_machine.specs.declared.engine.Paced.TheVariants as paced
+use Rattle.agc_script.specs.Event.{IsWhatInRange}
+use Rattle.agc_machine.specs.declared.upcoming.Upcoming.{Upcoming}
+use Rattle.agc_machine.specs.declared.upcoming.Upcoming.TheVariants as upcoming
 use Rattle.agc_machine.specs.Calm.{IsCalm, Serves}
 use Rattle.agc_machine.specs.State.{State, IsAtStart}
 
@@ -66,3 +69,12 @@ pub record IsRunning (m : Engine) : Type 0 where
   pub cycle : m.cycle < m.limit
   pub in_time : IsInTime m.cycle m.processor.timers
   pub begun : m.begun ≡ true
+
+-- an event that comes next stands at its place in the script, and it can happen
+abbrev pub StandsInScript : Upcoming → Engine → Type 0
+StandsInScript (upcoming.Event what) m =
+    (m.next < length m.script) × (m.next < 2 ^ 16) × IsWhatInRange what
+StandsInScript (upcoming.Stop why) m = Unit {0}
+StandsInScript (upcoming.Timer t) m = Unit {0}
+StandsInScript (upcoming.Interrupt r) m = Unit {0}
+StandsInScript (upcoming.Order order) m = Unit {0}

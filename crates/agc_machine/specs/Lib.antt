@@ -9,4 +9,3 @@ pub mod Laws
 pub mod Replay
 pub mod Taken
 pub mod Live
-pub mod Upcoming

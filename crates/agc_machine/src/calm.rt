@@ -5,6 +5,7 @@ ghost use Rattle.std.specs.Prelude.{◌+◌, ◌%◌};
 use crate::answer::{Stepped, Stop};
 use crate::engine::{Engine, Paced};
 use crate::stop_address::StopAddress;
+use agc_processor::Rupt;
 use agc_store::Addr;
 
 /// What may come before the order in hand where the clock brings nothing.
@@ -20,7 +21,8 @@ pub(crate) enum Pace {
 
 impl Engine {
     ghost use Rattle.std.specs.Prelude.{◌≡◌, ℕ, ◌<◌, ◌≤◌, drop, false, true, None, Some};
-    ghost use Rattle.agc_machine.specs.Boundary.{boundary, by_interrupt, is_reached, IsBefore};
+    ghost use Rattle.agc_processor.specs.Interrupt.{pending};
+    ghost use Rattle.agc_machine.specs.Boundary.{boundary, is_reached, IsBefore};
     ghost use Rattle.agc_machine.specs.Engine.{engine_at, state_of, IsInTime, IsSound, paced_engine, paced_state};
     ghost use Rattle.agc_machine.specs.Calm.{IsEventDue, IsLongest, IsCalm, Serves, is_timer_due, pace_of};
     ghost use Rattle.agc_machine.specs.Run.{next_before};
@@ -202,7 +204,7 @@ impl Engine {
     fn order_in_calm(&mut self, cycle: u64) -> Paced
         requires sound { IsSound (engine_at cycle self.old) }
         requires calm { cycle < self.old.calm_until }
-        requires uninterrupted { by_interrupt (state_of (engine_at cycle self.old)) ≡ None }
+        requires uninterrupted { pending self.old.processor ≡ None }
         requires unreached { is_reached self.old.until self.old.processor ≡ false }
         ensures step { paced_state self.new result ≡ boundary None (state_of (engine_at cycle self.old)) }
         ensures sound { IsSound (paced_engine self.new result) }
@@ -247,7 +249,7 @@ impl Engine {
     fn step_watched(&mut self) -> Stepped
         requires sound { IsSound self.old }
         requires calm { self.old.cycle < self.old.calm_until }
-        requires uninterrupted { by_interrupt (state_of self.old) ≡ None }
+        requires uninterrupted { pending self.old.processor ≡ None }
         ensures step { (state_of self.new, result) ≡ boundary None (state_of self.old) }
         ensures sound { IsSound self.new }
         ensures calm_until { result ≡ Stepped.Quiet → self.new.calm_until ≡ self.old.calm_until }
@@ -269,10 +271,21 @@ impl Engine {
         ensures sound { IsSound self.new }
         ensures calm_until { result ≡ Stepped.Quiet → self.new.calm_until ≡ self.old.calm_until }
     {
-        if self.take_interrupt() {
-            return Stepped::Quiet;
+        match self.pending() {
+            Some(rupt) => self.take_interrupt(rupt),
+            None => self.step_watched(),
         }
-        self.step_watched()
+    }
+
+    /// The interrupt that is taken next, where one is allowed at all.
+    #[inline(always)]
+    fn pending(&self) -> Option<Rupt>
+        ensures { result ≡ pending self.now.processor }
+    {
+        if self.is_held_off() {
+            return None;
+        }
+        self.processor.pending()
     }
 
     /// The cycle from which the clock brings something again; 0 where the machine has not begun or

@@ -6,11 +6,12 @@ ghost use Rattle.agc_machine.specs.Engine.{state_of, IsInTime, IsSound};
 
 use crate::answer::{ChannelWrite, Next, Stepped, Stop};
 use crate::calm::Pace;
-use crate::happening::{meet, press};
+use crate::happening::meet;
 use crate::stop_address::StopAddress;
+use crate::upcoming::Upcoming;
 use agc_processor::channel::CHAN13;
-use agc_processor::{INTERRUPT_MCT, Processor, Ran, WRITE_MCT};
-use agc_script::{Event, Key, Script};
+use agc_processor::{INTERRUPT_MCT, Processor, Ran, Rupt, Timer, WRITE_MCT};
+use agc_script::{Event, Key, Script, What};
 use agc_store::{Addr, Rope};
 
 /// The run's state and the script that it takes its events from.
@@ -44,11 +45,12 @@ pub(crate) enum Paced {
 impl Engine {
     ghost use Rattle.std.specs.Prelude.{◌≡◌, ℕ, ◌<◌, ◌≤◌, ◌+◌, ◌%◌, ◌^◌, ◌↔◌, ◌||◌, length, drop, slice_get, true, false, IsTrue, IsSome, IfSome, IfNone, Some, None};
     ghost use Rattle.agc_script.specs.Event.{IsInRange};
-    ghost use Rattle.agc_machine.specs.Engine.{engine_at, state_of, IsSound, IsRunning, paced_engine, paced_state};
+    ghost use Rattle.agc_machine.specs.Engine.{engine_at, state_of, IsSound, IsRunning, StandsInScript, paced_engine, paced_state};
     ghost use Rattle.agc_machine.specs.Calm.{IsLongest, IsCalm, Serves, pace_of};
+    ghost use Rattle.agc_processor.specs.Timer.{due_timer};
     ghost use Rattle.agc_machine.specs.State.{start_state};
     ghost use Rattle.agc_machine.specs.Run.{next_before, next_of};
-    ghost use Rattle.agc_machine.specs.Boundary.{boundary, WantsKey, IsBefore, by_event, by_timer, by_interrupt, by_order, stops, is_reached, bank_agrees};
+    ghost use Rattle.agc_machine.specs.Boundary.{Applies, boundary, WantsKey, IsBefore, by_order, carried_out, stops, is_reached, bank_agrees};
 
     /// The state at the start of a run.
     #[tactic(auto, unfolding(crate::specs::State::start_state))]
@@ -177,8 +179,8 @@ impl Engine {
         stepped
     }
 
-    /// Of the things that may happen at a boundary the first that applies.
-    #[tactic(auto, unfolding(crate::specs::Boundary::boundary, crate::specs::Boundary::by_limit, crate::specs::Boundary::by_event, crate::specs::Boundary::by_address, crate::specs::Happening::happened, crate::specs::Happening::cycles_of))]
+    /// What comes next, carried out.
+    #[tactic(auto, unfolding(crate::specs::Boundary::boundary))]
     fn step_by_cases(&mut self, live: Option<Key>) -> Stepped
         requires sound { IsSound self.old }
         requires wanted { IsSome live → WantsKey (state_of self.old) }
@@ -186,24 +188,48 @@ impl Engine {
         ensures step { (state_of self.new, result) ≡ boundary live (state_of self.old) }
         ensures sound { IsSound self.new }
     {
+        if let Some(key) = live {
+            return self.take_key(key);
+        }
         if let Some(why) = self.stopped {
             return Stepped::Stopped(why);
         }
+        let next = self.upcoming_by_cases();
         self.begun = true;
-        if self.cycle >= self.limit {
-            return self.stop(Stop::Limit);
+        self.carry_out(next)
+    }
+
+    /// A live key happens.
+    #[tactic(auto, unfolding(agc_script::specs::Event::IsWhatInRange))]
+    fn take_key(&mut self, key: Key) -> Stepped
+        requires sound { IsSound self.old }
+        requires wanted { WantsKey (state_of self.old) }
+        requires not_quiet { self.old.calm_until ≡ 0 }
+        ensures step { (state_of self.new, result) ≡ boundary (Some key) (state_of self.old) }
+        ensures sound { IsSound self.new }
+    {
+        self.begun = true;
+        self.cycle += meet(&mut self.processor, self.cycle, What::Key(key));
+        Stepped::Quiet
+    }
+
+    /// What comes next is done.
+    fn carry_out(&mut self, next: Upcoming) -> Stepped
+        requires sound { IsSound self.old }
+        requires begun { self.old.begun ≡ true }
+        requires not_quiet { self.old.calm_until ≡ 0 }
+        requires applies { Applies next (state_of self.old) }
+        requires script { StandsInScript next self.old }
+        ensures step { (state_of self.new, result) ≡ carried_out next (state_of self.old) }
+        ensures sound { IsSound self.new }
+    {
+        match next {
+            Upcoming::Stop(why) => self.stop(why),
+            Upcoming::Event(what) => self.meet_event(what),
+            Upcoming::Timer(timer) => self.step_timer(timer),
+            Upcoming::Interrupt(rupt) => self.take_interrupt(rupt),
+            Upcoming::Order(_) => self.run_order(),
         }
-        if let Some(key) = live {
-            press(&mut self.processor, key);
-            return Stepped::Quiet;
-        }
-        if self.meet_event() || self.step_timer() || self.take_interrupt() {
-            return Stepped::Quiet;
-        }
-        if self.is_reached() {
-            return self.stop(Stop::Reached);
-        }
-        self.run_order()
     }
 
     /// The first event that the run has not met.
@@ -220,68 +246,44 @@ impl Engine {
         }
     }
 
-    /// An event of the script happens where it is due; says whether one did.
-    #[tactic(auto, using(crate::proofs::Events::events_from, crate::proofs::Events::no_events), unfolding(crate::specs::Boundary::by_event, agc_script::specs::Event::IsInRange))]
-    fn meet_event(&mut self) -> bool
+    /// The first event that the run has not met happens.
+    fn meet_event(&mut self, what: What) -> Stepped
         requires running { IsRunning self.old }
         requires not_quiet { self.old.calm_until ≡ 0 }
-        ensures met { result ≡ true → by_event (state_of self.old) ≡ Some (state_of self.new, Stepped.Quiet) }
-        ensures none { result ≡ false → by_event (state_of self.old) ≡ None }
-        ensures unchanged { result ≡ false → self.new ≡ self.old }
+        requires script { StandsInScript (Upcoming.Event what) self.old }
+        ensures step { (state_of self.new, result) ≡ carried_out (Upcoming.Event what) (state_of self.old) }
         ensures sound { IsSound self.new }
     {
-        let Some(event) = self.next_event() else {
-            return false;
-        };
-        if event.cycle > self.cycle {
-            return false;
-        }
         self.next += 1;
-        self.cycle += meet(&mut self.processor, self.cycle, event.what);
-        true
+        self.cycle += meet(&mut self.processor, self.cycle, what);
+        Stepped::Quiet
     }
 
-    /// A timer's step is taken where one is due; says whether one was.
-    #[tactic(auto, unfolding(crate::specs::Boundary::by_timer))]
-    fn step_timer(&mut self) -> bool
+    /// A timer whose step is due takes it.
+    fn step_timer(&mut self, timer: Timer) -> Stepped
         requires running { IsRunning self.old }
         requires not_quiet { self.old.calm_until ≡ 0 }
-        ensures stepped { result ≡ true → by_timer (state_of self.old) ≡ Some (state_of self.new, Stepped.Quiet) }
-        ensures none { result ≡ false → by_timer (state_of self.old) ≡ None }
-        ensures unchanged { result ≡ false → self.new ≡ self.old }
+        requires due { due_timer self.old.cycle self.old.processor ≡ Some timer }
+        ensures step { (state_of self.new, result) ≡ carried_out (Upcoming.Timer timer) (state_of self.old) }
         ensures sound { IsSound self.new }
     {
-        match self.processor.step_timers(self.cycle) {
-            Some(cycles) => {
-                self.cycle += cycles;
-                true
-            }
-            None => false,
-        }
+        self.cycle += self.processor.step_timer(timer);
+        Stepped::Quiet
     }
 
-    /// An interrupt is taken where one is requested and allowed; says whether one was.
-    #[tactic(auto, unfolding(crate::specs::Boundary::by_interrupt))]
+    /// An interrupt is taken.
     #[inline(always)]
-    pub(crate) fn take_interrupt(&mut self) -> bool
+    pub(crate) fn take_interrupt(&mut self, rupt: Rupt) -> Stepped
         requires running { IsRunning self.old }
         requires calm { 0 < self.old.calm_until → IsCalm self.old.calm_until (state_of self.old) }
-        requires pace { 0 < self.old.calm_until → Serves self.old.pace (state_of self.old) }
-        ensures taken { result ≡ true → by_interrupt (state_of self.old) ≡ Some (state_of self.new, Stepped.Quiet) }
-        ensures none { result ≡ false → by_interrupt (state_of self.old) ≡ None }
-        ensures unchanged { result ≡ false → self.new ≡ self.old }
+        ensures step { (state_of self.new, result) ≡ carried_out (Upcoming.Interrupt rupt) (state_of self.old) }
         ensures calm_until { self.new.calm_until ≡ self.old.calm_until }
         ensures sound { IsSound self.new }
     {
-        if self.is_held_off() {
-            return false;
-        }
-        let taken = self.processor.interrupt();
-        if taken {
-            self.cycle += INTERRUPT_MCT;
-            self.pace = self.pace_from_here();
-        }
-        taken
+        self.processor.interrupt(rupt);
+        self.cycle += INTERRUPT_MCT;
+        self.pace = self.pace_from_here();
+        Stepped::Quiet
     }
 
     /// A service or INHINT holds every interrupt off.

@@ -11,7 +11,7 @@ use agc_word::{Carry, Narrow, Pulse};
 
 /// A key: its code comes into its channel, and KEYRUPT1 is requested.
 #[tactic(auto, unfolding(crate::specs::Happening::pressed))]
-pub(crate) fn press(processor: &mut Processor, key: Key)
+fn press(processor: &mut Processor, key: Key)
     ensures { processor.new ≡ pressed key processor.old }
 {
     processor.set_channel_cell(MNKEYIN, key.code());

@@ -1,8 +1,8 @@
-//! What the next boundary will be: the cases of the boundary, told and not done.
-ghost use Rattle.std.specs.Prelude.{◌≡◌, ◌<◌};
+//! What the next boundary will be: of its cases the first that applies, told and not done.
+ghost use Rattle.std.specs.Prelude.{◌≡◌, ◌<◌, None};
 ghost use Rattle.agc_machine.specs.State.{State};
 ghost use Rattle.agc_store.specs.Places.{fixed_window};
-ghost use Rattle.agc_machine.specs.Upcoming.{ComesAsTold, HasPlace, TellsEachCase, bank_of_address, in_hand, upcoming_of};
+ghost use Rattle.agc_machine.specs.Boundary.{Applies, ComesAsTold, HasPlace, bank_of_address, in_hand, upcoming_of};
 
 use crate::answer::Stop;
 use crate::calm::Pace;
@@ -42,16 +42,16 @@ pub enum Upcoming {
     Order(InHand),
 }
 
-/// What is told of a state comes: each case of the boundary applies exactly where it is told, and the
-/// boundary does what is told.
+/// What is told of a state comes: where the machine has not stopped it is the case that applies, where
+/// none before it does, and the boundary does what is told.
 pub fn the_upcoming_comes()
-    ensures cases { (s : State) → TellsEachCase s }
+    ensures cases { (s : State) → s.stopped ≡ None → Applies (upcoming_of s) s }
     ensures boundary { (s : State) → ComesAsTold s (upcoming_of s) }
 {}
 
 impl Machine {
     ghost use Rattle.std.specs.Prelude.{◌≡◌};
-    ghost use Rattle.agc_machine.specs.Upcoming.{ComesAsTold, HasPlace, upcoming_of};
+    ghost use Rattle.agc_machine.specs.Boundary.{ComesAsTold, HasPlace, upcoming_of};
 
     /// What the next boundary will be, as long as no live key is given.
     pub fn upcoming(&self) -> Upcoming
@@ -64,9 +64,9 @@ impl Machine {
 }
 
 impl Engine {
-    ghost use Rattle.std.specs.Prelude.{◌≡◌, drop, option_map};
-    ghost use Rattle.agc_machine.specs.Engine.{state_of, IsSound};
-    ghost use Rattle.agc_machine.specs.Upcoming.{HasPlace, due_told, upcoming_of};
+    ghost use Rattle.std.specs.Prelude.{◌≡◌, drop, IfSome};
+    ghost use Rattle.agc_machine.specs.Engine.{state_of, IsSound, StandsInScript};
+    ghost use Rattle.agc_machine.specs.Boundary.{HasPlace, due_event, upcoming_of};
 
     /// Of the things that may happen at the next boundary the first that applies. Where the clock brings
     /// nothing and nothing may come before it, that is the order in hand.
@@ -82,11 +82,12 @@ impl Engine {
     }
 
     /// The same, by looking at all of them.
-    #[tactic(auto, unfolding(crate::specs::Upcoming::upcoming_of, crate::specs::Upcoming::limit_told, crate::specs::Upcoming::event_told, crate::specs::Upcoming::timer_told, crate::specs::Upcoming::interrupt_told, crate::specs::Upcoming::address_told, crate::specs::Upcoming::order_told))]
-    fn upcoming_by_cases(&self) -> Upcoming
+    #[tactic(auto, unfolding(crate::specs::Boundary::upcoming_of))]
+    pub(crate) fn upcoming_by_cases(&self) -> Upcoming
         requires sound { IsSound self.now }
         ensures told { result ≡ upcoming_of (state_of self.now) }
         ensures place { HasPlace result }
+        ensures script { StandsInScript result self.now }
     {
         if let Some(why) = self.stopped {
             return Upcoming::Stop(why);
@@ -110,24 +111,22 @@ impl Engine {
     }
 
     /// The first event that the run has not met, where it is due.
-    #[tactic(auto, using(crate::proofs::Events::events_from, crate::proofs::Events::no_events))]
+    #[tactic(auto, using(crate::proofs::Events::no_events))]
     fn due_event(&self) -> Option<What>
-        ensures { option_map (λ what. Upcoming.Event what) result ≡ due_told self.now.cycle (drop self.now.next self.now.script) }
+        ensures due { result ≡ due_event self.now.cycle (drop self.now.next self.now.script) }
+        ensures script { IfSome result (λ what. StandsInScript (Upcoming.Event what) self.now) }
     {
-        if self.next >= self.script.len() {
-            return None;
-        }
-        let event = self.script.at(self.next);
-        if event.cycle <= self.cycle {
-            Some(event.what)
-        } else {
+        let event = self.next_event()?;
+        if event.cycle > self.cycle {
             None
+        } else {
+            Some(event.what)
         }
     }
 }
 
 /// The order in hand, with its place.
-#[tactic(auto, unfolding(crate::specs::Upcoming::in_hand))]
+#[tactic(auto, unfolding(crate::specs::Boundary::in_hand))]
 fn in_hand(processor: &Processor) -> InHand
     ensures order { result ≡ in_hand processor.now }
     ensures place { HasPlace (Upcoming.Order result) }

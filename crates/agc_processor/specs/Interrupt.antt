@@ -80,7 +80,3 @@ interrupted r p =
     p ▷ poke 0 zrupt_cell (narrow_number (z_at p)) ▷ poke 0 brupt_cell p.hand in
     saved ▷ set_hand (fetch_of saved.store (vector_of r)) ▷ withdraw r ▷ serve true
     ▷ jump (vector_of r + 1)
-
--- what the interrupt that is taken leaves
-unfoldable pub interrupt_taken : Processor → Option Processor
-interrupt_taken p = pending p ▷ option_map (λ r. p ▷ interrupted r)

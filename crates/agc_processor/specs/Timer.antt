@@ -1,6 +1,6 @@
 -- The five timers, which count pulses.
 use Rattle.std.specs.Prelude.{ℕ, ◌≤◌, ◌+◌, ◌*◌, ◌%◌, ◌^◌, ◌&&◌, ◌||◌, Bool}
-use Rattle.std.specs.Prelude.{Option, Some, None, option_map, nat_lt, nat_le, if◌then◌else◌}
+use Rattle.std.specs.Prelude.{Option, Some, None, nat_lt, nat_le, if◌then◌else◌}
 use Rattle.agc_word.specs.Number.{Number, pattern_of}
 use Rattle.agc_word.specs.Pulses.{pulsed}
 use Rattle.agc_word.specs.declared.pulse.Pulse.TheVariants as pulse
@@ -134,7 +134,3 @@ due_timer cycle p =
     else if is_due cycle time5_first p.timers.time5 then Some timer.Time5
     else if is_time6_due cycle p.timers (switch_word p) then Some timer.Time6
     else None
-
--- The first timer whose step is due takes it.
-unfoldable pub timer_stepped : ℕ → Processor → Option (Processor × ℕ)
-timer_stepped cycle p = option_map (λ t. timer_step t p) (due_timer cycle p)

@@ -108,27 +108,13 @@ impl Rupt {
 
 impl Processor {
     ghost use Rattle.std.specs.Prelude.{◌≡◌, ◌<◌, IfNone, IfSome, OnSome, IsSome, Some, None, true, false};
-    ghost use Rattle.agc_processor.specs.Interrupt.{interrupt_taken, is_allowed, pending, interrupted, request, first_request};
+    ghost use Rattle.agc_processor.specs.Interrupt.{is_allowed, pending, interrupted, request, first_request};
 
     /// Requests an interrupt; a request that waits already stays one.
     pub fn request(&mut self, rupt: Rupt)
         ensures { self.new ≡ request rupt self.old }
     {
         self.requests[rupt.place()] = true;
-    }
-
-    /// Takes the interrupt that is requested and allowed; returns whether there was one.
-    #[tactic(auto, unfolding(crate::specs::Interrupt::interrupt_taken))]
-    pub fn interrupt(&mut self) -> bool
-        ensures taken { result ≡ true → interrupt_taken self.old ≡ Some self.new }
-        ensures none { result ≡ false → interrupt_taken self.old ≡ None }
-        ensures unchanged { result ≡ false → self.new ≡ self.old }
-    {
-        let Some(rupt) = self.pending() else {
-            return false;
-        };
-        self.enter_service(rupt);
-        true
     }
 
     /// Some interrupt waits.
@@ -165,9 +151,10 @@ impl Processor {
         !self.serving && !self.inhibited && !self.midway && self.store.a().over() == Over::None
     }
 
-    /// ZRUPT and BRUPT keep Z and the order in hand, and the order at the vector comes into hand.
+    /// Takes an interrupt: ZRUPT and BRUPT keep Z and the order in hand, and the order at the vector
+    /// comes into hand.
     #[tactic(auto, unfolding(crate::specs::Interrupt::interrupted))]
-    fn enter_service(&mut self, rupt: Rupt)
+    pub fn interrupt(&mut self, rupt: Rupt)
         ensures { self.new ≡ interrupted rupt self.old }
     {
         let vector = rupt.vector();

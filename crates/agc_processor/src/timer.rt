@@ -64,22 +64,10 @@ fn time6_due_from(mark: u64) -> u64
 }
 
 impl Processor {
-    ghost use Rattle.std.specs.Prelude.{◌≡◌, ◌<◌, ◌≤◌, ◌^◌, ◌+◌, ◌*◌, option_map, IfNone, IfSome, ℕ, true, false};
+    ghost use Rattle.std.specs.Prelude.{◌≡◌, ◌<◌, ◌≤◌, ◌^◌, ◌+◌, ◌*◌, IfSome, ℕ, true, false};
     ghost use Rattle.agc_word.specs.Pulses.{pulsed};
     ghost use Rattle.agc_processor.specs.Channel.{switch_word};
-    ghost use Rattle.agc_processor.specs.Timer.{is_any_due, due_timer, IsCounted, steps_of, timer_step, timer_stepped, time1_step, time3_step, time4_step, time5_step, time6_step, is_time6_due, set_counter, counter, tick};
-
-    /// The first timer whose step is due at a cycle takes it; returns the cycles that it costs.
-    #[tactic(auto, unfolding(crate::specs::Timer::timer_stepped))]
-    pub fn step_timers(&mut self, cycle: u64) -> Option<u64>
-        requires { cycle < 2 ^ 41 }
-        ensures step { timer_stepped cycle self.old ≡ option_map (λ cycles. (self.new, cycles)) result }
-        ensures none { IfNone result (self.new ≡ self.old) }
-        ensures few { IfSome result (λ cycles. cycles ≤ 2) }
-    {
-        let timer = self.due_timer(cycle)?;
-        Some(self.step_timer(timer))
-    }
+    ghost use Rattle.agc_processor.specs.Timer.{is_any_due, due_timer, IsCounted, steps_of, timer_step, time1_step, time3_step, time4_step, time5_step, time6_step, is_time6_due, set_counter, counter, tick};
 
     /// The first timer whose step is due at a cycle.
     #[tactic(auto, unfolding(crate::specs::Timer::due_timer))]
@@ -105,8 +93,8 @@ impl Processor {
     }
 
     /// A timer takes its step; returns the cycles that it costs.
-    fn step_timer(&mut self, timer: Timer) -> u64
-        requires { steps_of timer self.old.timers < 2 ^ 60 }
+    pub fn step_timer(&mut self, timer: Timer) -> u64
+        requires counted { steps_of timer self.old.timers < 2 ^ 60 }
         ensures step { (self.new, result) ≡ timer_step timer self.old }
         ensures few { result ≤ 2 }
     {

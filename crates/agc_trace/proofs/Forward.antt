@@ -1,10 +1,9 @@
 -- Each entry of a trace tells its own boundary, and no entry is before the one before it.
 use Rattle.std.proofs.Common.{◌≡◌, ℕ, ◌≤◌, ◌<◌, suc, zero, List, [], ◌∷◌, length, Option, Some, None, Bool, true, false, refl, arith}
 use Rattle.std.specs.Prelude.{if◌then◌else◌, slice_get}
-use Rattle.agc_machine.specs.Boundary.{boundary}
+use Rattle.agc_machine.specs.Boundary.{boundary, upcoming_of}
 use Rattle.agc_machine.specs.Laws.{Falls, after}
 use Rattle.agc_machine.specs.State.{State}
-use Rattle.agc_machine.specs.Upcoming.{upcoming_of}
 use Rattle.agc_machine.specs.declared.answer.Stepped.{Stepped}
 use Rattle.agc_machine.specs.declared.answer.Stepped.TheVariants as stepped
 use Rattle.agc_machine.proofs.Chain.{boundary_falls}

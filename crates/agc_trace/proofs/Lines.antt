@@ -2,9 +2,8 @@
 use Rattle.std.proofs.Common.{◌≡◌, ℕ, List, [], ◌∷◌, ◌++◌, Option, Some, None, Bool, true, false, refl, ap, sym, ◌∙◌, subst, append_assoc, append-nil}
 use Rattle.std.specs.Prelude.{if◌then◌else◌, filter, flat_map}
 use Rattle.std.specs.Io.KnownBytes.{Appends}
-use Rattle.agc_machine.specs.Boundary.{boundary}
+use Rattle.agc_machine.specs.Boundary.{boundary, upcoming_of}
 use Rattle.agc_machine.specs.State.{State}
-use Rattle.agc_machine.specs.Upcoming.{upcoming_of}
 use Rattle.agc_trace.specs.Entry.{entry_of}
 use Rattle.agc_trace.specs.Line.{line_of}
 use Rattle.agc_trace.specs.Selection.{is_selected, selected_lines}

@@ -1,14 +1,14 @@
 -- The trace boundary by boundary.
 use Rattle.std.proofs.Common.{◌≡◌, ℕ, ◌+◌, ◌≤◌, ◌<◌, suc, zero, List, [], ◌∷◌, Option, Some, None, Bool, true, false, refl, ap, sym, ◌∙◌, subst, arith}
 use Rattle.std.specs.Prelude.{if◌then◌else◌}
-use Rattle.agc_machine.specs.Boundary.{boundary}
+use Rattle.agc_machine.specs.Boundary.{boundary, upcoming_of}
 use Rattle.agc_machine.specs.Laws.{Falls}
 use Rattle.agc_machine.specs.Run.{boundaries_left}
 use Rattle.agc_machine.specs.State.{State}
-use Rattle.agc_machine.specs.Upcoming.{upcoming_of, unless_stopped_told}
 use Rattle.agc_machine.specs.declared.answer.Stepped.{Stepped}
 use Rattle.agc_machine.specs.declared.answer.Stepped.TheVariants as stepped
 use Rattle.agc_machine.specs.declared.answer.Stop.{Stop}
+use Rattle.agc_machine.proofs.Cases.{upcoming_comes}
 use Rattle.agc_machine.proofs.Chain.{boundary_falls, some_left}
 use Rattle.agc_trace.specs.Entry.{entry_of}
 use Rattle.agc_trace.specs.Trace.{entries_left, entries_unless, is_stop, trace_of, trace_within}
@@ -32,13 +32,12 @@ falls_fewer s (t, stepped.Quiet) e h = omega (arith, at_most t.stopped t, at_run
 falls_fewer s (t, stepped.Wrote write) e h = omega (arith, at_most t.stopped t, at_run s.stopped s e, h.0)
 falls_fewer s (t, stepped.Stopped why) e h = omega (arith, at_stop t.stopped t why h.0, at_run s.stopped s e, some_left s)
 
-runs_by : (o : Option Stop) (s : State) → is_stop (unless_stopped_told o s) ≡ false → o ≡ None
-runs_by (Some why) s e = cc
-runs_by None s e = refl
+runs_by : (o : Option Stop) (s : State) → s.stopped ≡ o → is_stop (upcoming_of s) ≡ false → s.stopped ≡ None
+runs_by (Some why) s f e = let stop : is_stop (upcoming_of s) ≡ true = ap is_stop ((upcoming_comes s).stays why f) in cc
+runs_by None s f e = f
 
 runs : (s : State) → is_stop (upcoming_of s) ≡ false → s.stopped ≡ None
-unfolding upcoming_of
-runs s e = runs_by s.stopped s e
+runs s e = runs_by s.stopped s refl e
 
 -- a boundary that is no stop leaves fewer entries
 pub fewer_entries : (s : State) → is_stop (upcoming_of s) ≡ false → entries_left (boundary None s).0 < entries_left s

@@ -1,11 +1,10 @@
 -- What a stop leaves, and how a trace ends with it.
 use Rattle.std.proofs.Common.{◌≡◌, ℕ, ◌≤◌, suc, zero, List, [], ◌∷◌, Option, Some, None, Bool, true, false, refl, ap, sym, ◌∙◌, subst, arith}
 use Rattle.std.specs.Prelude.{if◌then◌else◌}
-use Rattle.agc_machine.specs.Boundary.{boundary}
+use Rattle.agc_machine.specs.Boundary.{boundary, ComesAsTold, carried_out, upcoming_of}
 use Rattle.agc_machine.specs.Laws.{Falls}
 use Rattle.agc_machine.specs.Run.{run_of}
 use Rattle.agc_machine.specs.State.{State}
-use Rattle.agc_machine.specs.Upcoming.{ComesAsTold, carried_out, upcoming_of}
 use Rattle.agc_machine.specs.declared.answer.Stepped.{Stepped}
 use Rattle.agc_machine.specs.declared.answer.Stepped.TheVariants as stepped
 use Rattle.agc_machine.specs.declared.answer.Stop.{Stop}
@@ -13,7 +12,7 @@ use Rattle.agc_machine.specs.declared.upcoming.Upcoming.{Upcoming}
 use Rattle.agc_machine.specs.declared.upcoming.Upcoming.TheVariants as upcoming
 use Rattle.agc_machine.proofs.Chain.{boundary_falls, next_after_quiet, next_at_stop, next_at_write, next_of_stopped, run_at_stop, run_at_write, run_by_next, stopped_stays}
 use Rattle.agc_machine.specs.Run.{Run, while_writing}
-use Rattle.agc_machine.proofs.Told.{upcoming_is_told}
+use Rattle.agc_machine.proofs.Cases.{upcoming_comes}
 use Rattle.agc_trace.specs.Entry.{entry_of, write_shown}
 use Rattle.agc_trace.specs.Trace.{entries_left, is_stop, trace_of, trace_within}
 use Rattle.agc_trace.specs.TraceLaws.{EndsWithStop, TellsStop}
@@ -42,11 +41,11 @@ stays_by None s told r o e c f = stop_done told s r (e ∙ c.comes o) f
 
 -- the boundary of a stop
 pub stop_stays : (s : State) → is_stop (upcoming_of s) ≡ true → Stays s (upcoming_of s) (boundary None s)
-stop_stays s f = stays_by s.stopped s (upcoming_of s) (boundary None s) refl refl (upcoming_is_told s) f
+stop_stays s f = stays_by s.stopped s (upcoming_of s) (boundary None s) refl refl (upcoming_comes s) f
 
 -- a machine that has stopped tells its stop
 pub stopped_tells : (s : State) (why : Stop) → s.stopped ≡ Some why → is_stop (upcoming_of s) ≡ true
-stopped_tells s why e = ap is_stop ((upcoming_is_told s).stays why e)
+stopped_tells s why e = ap is_stop ((upcoming_comes s).stays why e)
 
 stopped_last : (s : State) (why : Stop) → s.stopped ≡ Some why → (run_of s).last ≡ s
 stopped_last s why e = ap (λ (run : Run). run.last) (run_at_stop s s why (sym (next_of_stopped s why e)))

@@ -5,9 +5,8 @@ use Rattle.agc_store.specs.Cells.{cell_of}
 use Rattle.agc_store.specs.Memory.{Memory, erasable_bank}
 use Rattle.agc_store.specs.Places.{a_cell, l_cell, q_cell, fb_cell}
 use Rattle.agc_store.specs.Registers.{register, z_of}
-use Rattle.agc_machine.specs.Boundary.{boundary}
+use Rattle.agc_machine.specs.Boundary.{boundary, HasPlace, upcoming_of}
 use Rattle.agc_machine.specs.State.{State}
-use Rattle.agc_machine.specs.Upcoming.{HasPlace, upcoming_of}
 use Rattle.agc_machine.specs.declared.answer.ChannelWrite.{ChannelWrite}
 use Rattle.agc_machine.specs.declared.answer.Stepped.{Stepped}
 use Rattle.agc_machine.specs.declared.answer.Stepped.TheVariants as stepped

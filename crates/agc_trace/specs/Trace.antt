@@ -1,10 +1,9 @@
 -- The trace: an entry for each boundary of the chain without live keys, up to the stop.
 use Rattle.std.specs.Prelude.{ℕ, zero, suc, ◌+◌, Bool, true, false, if◌then◌else◌}
 use Rattle.std.specs.Prelude.{List, [], ◌∷◌, Option, Some, None}
-use Rattle.agc_machine.specs.Boundary.{boundary}
+use Rattle.agc_machine.specs.Boundary.{boundary, upcoming_of}
 use Rattle.agc_machine.specs.Run.{boundaries_left}
 use Rattle.agc_machine.specs.State.{State}
-use Rattle.agc_machine.specs.Upcoming.{upcoming_of}
 use Rattle.agc_machine.specs.declared.answer.Stop.{Stop}
 use Rattle.agc_machine.specs.declared.upcoming.Upcoming.{Upcoming}
 use Rattle.agc_machine.specs.declared.upcoming.Upcoming.TheVariants as upcoming

@@ -1,7 +1,7 @@
 //! An entry of the trace as a line.
 ghost use Rattle.std.specs.Prelude.{◌≡◌, ◌++◌, ◌<◌, OnOk, codes, string_bytes};
 ghost use Rattle.agc_store.specs.Places.{fixed_window};
-ghost use Rattle.agc_machine.specs.Upcoming.{HasPlace};
+ghost use Rattle.agc_machine.specs.Boundary.{HasPlace};
 ghost use Rattle.agc_rope_text.specs.Place.{IsInPrint};
 ghost use Rattle.agc_trace.specs.Entry.{FitsLine, FitsWrite};
 ghost use Rattle.agc_trace.specs.Line.{

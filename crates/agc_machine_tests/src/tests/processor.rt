@@ -2,7 +2,7 @@
 mod orders;
 
 use agc_listing::{IDLE, rope_file};
-use agc_processor::{Halt, Processor, Ran, Rupt, WRITE_MCT};
+use agc_processor::{Halt, Processor, Ran, Rupt, Timer, WRITE_MCT};
 use agc_store::Rope;
 use agc_word::{Carry, Narrow, Pulse};
 use std::test::Fail;
@@ -85,8 +85,10 @@ fn orders_halt(rt: HostRuntime) -> Result<(), Fail> {
 fn timers_step(rt: HostRuntime) -> Result<(), Fail> {
     let mut processor = processor_with(&rt, IDLE)?;
     assert_eq!(rt; processor.timers_calm_until(), 427);
-    assert_eq!(rt; processor.step_timers(426), None);
-    assert_eq!(rt; processor.step_timers(427), Some(1));
+    assert_eq!(rt; processor.due_timer(426), None);
+    let due = processor.due_timer(427).expect(&rt, "a timer is due");
+    assert_eq!(rt; due, Timer::Time5);
+    assert_eq!(rt; processor.step_timer(due), 1);
     assert_eq!(rt; processor.store.cell(0, 0o30).bits(), 0o00001);
     Ok(())
 }
@@ -97,11 +99,12 @@ fn interrupt_is_taken(rt: HostRuntime) -> Result<(), Fail> {
     let mut processor = processor_with(&rt, IDLE)?;
     processor.request(Rupt::Keyrupt1);
     assert!(rt; processor.is_requested());
-    assert!(rt; processor.interrupt());
+    assert_eq!(rt; processor.pending(), Some(Rupt::Keyrupt1));
+    processor.interrupt(Rupt::Keyrupt1);
     assert_eq!(rt; processor.store.z().bits(), 0o4025);
     assert_eq!(rt; processor.store.cell(0, 0o15).bits(), 0o04001);
     assert!(rt; !processor.is_requested());
-    assert!(rt; !processor.interrupt());
+    assert_eq!(rt; processor.pending(), None);
     Ok(())
 }
 

@@ -3,14 +3,13 @@ use Rattle.agc_machine.proofs.Before.{before_at_cycle, before_after_quiet, befor
 use Rattle.agc_machine.proofs.Chain.{fewer_after_quiet}
 use Rattle.agc_machine.specs.Boundary.{is_reached}
 use Rattle.agc_machine.specs.declared.stop_address.StopAddress.{StopAddress}
-use Rattle.agc_machine.specs.Engine.{engine_at, state_of}
-use Rattle.agc_machine.proofs.Stillness.{none_requested}
+use Rattle.agc_machine.proofs.Stillness.{none_pending}
 use Rattle.agc_machine.proofs.engine.Engine.go_bare.Goals as goal
 
 pub order_in_calm-requires-clause-uninterrupted : goal.order_in_calm-requires-clause-uninterrupted
 order_in_calm-requires-clause-uninterrupted c =
     let some : 0 < c.loop-next.self.calm_until = omega arith in
-    none_requested (state_of (engine_at c.loop-next.cycle c.loop-next.self)) (rw c.loop-next.invariant.4 at c.loop-next.invariant.0.pace some).0
+    none_pending c.loop-next.self.processor (rw c.loop-next.invariant.4 at c.loop-next.invariant.0.pace some).0
 
 pub order_in_calm-requires-clause-unreached : goal.order_in_calm-requires-clause-unreached
 order_in_calm-requires-clause-unreached c =

@@ -3,13 +3,12 @@ use Rattle.agc_machine.proofs.Before.{before_at_cycle, before_after_quiet, befor
 use Rattle.agc_machine.proofs.Chain.{fewer_after_quiet}
 use Rattle.agc_machine.specs.Boundary.{is_reached}
 use Rattle.agc_machine.specs.declared.stop_address.StopAddress.{StopAddress}
-use Rattle.agc_machine.specs.Engine.{engine_at, state_of}
 use Rattle.agc_machine.proofs.Stillness.{held_off}
 use Rattle.agc_machine.proofs.engine.Engine.go_held_off.Goals as goal
 
 pub order_in_calm-requires-clause-uninterrupted : goal.order_in_calm-requires-clause-uninterrupted
 order_in_calm-requires-clause-uninterrupted c =
-    held_off (state_of (engine_at c.loop-self.cycle c.loop-self.self)) (sym c.if-not-is_held_off.ensures)
+    held_off c.loop-self.self.processor (sym c.if-not-is_held_off.ensures)
 
 pub order_in_calm-requires-clause-unreached : goal.order_in_calm-requires-clause-unreached
 order_in_calm-requires-clause-unreached c =

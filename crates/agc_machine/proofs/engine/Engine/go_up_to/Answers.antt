@@ -6,13 +6,13 @@ use Rattle.agc_machine.specs.State.{State}
 use Rattle.agc_machine.specs.declared.answer.Stepped.{Stepped}
 use Rattle.agc_machine.specs.declared.stop_address.StopAddress.{StopAddress}
 use Rattle.agc_machine.specs.Engine.{engine_at, state_of}
-use Rattle.agc_machine.proofs.Stillness.{none_requested, reached_step}
+use Rattle.agc_machine.proofs.Stillness.{none_pending, reached_step}
 use Rattle.agc_machine.proofs.engine.Engine.go_up_to.Goals as goal
 
 pub order_in_calm-requires-clause-uninterrupted : goal.order_in_calm-requires-clause-uninterrupted
 order_in_calm-requires-clause-uninterrupted c =
     let some : 0 < c.loop-at.self.calm_until = omega arith in
-    none_requested (state_of (engine_at c.loop-at.cycle c.loop-at.self)) (rw c.loop-at.invariant.4 at c.loop-at.invariant.0.pace some)
+    none_pending c.loop-at.self.processor (rw c.loop-at.invariant.4 at c.loop-at.invariant.0.pace some)
 
 pub order_in_calm-requires-clause-unreached : goal.order_in_calm-requires-clause-unreached
 order_in_calm-requires-clause-unreached c =
@@ -36,7 +36,7 @@ returns-in-Ends-clause-next c =
 pub returns-then-is_one_past-clause-next : goal.returns-then-is_one_past-clause-next
 returns-then-is_one_past-clause-next c =
     let some : 0 < c.loop-at.self.calm_until = omega arith in
-    let none = none_requested (state_of (engine_at c.loop-at.cycle c.loop-at.self)) (rw c.loop-at.invariant.4 at c.loop-at.invariant.0.pace some) in
+    let none = none_pending c.loop-at.self.processor (rw c.loop-at.invariant.4 at c.loop-at.invariant.0.pace some) in
     let reached = ap (λ (u : Option StopAddress). is_reached u c.loop-at.self.processor) c.loop-at.invariant.5 ∙ sym c.if-is_one_past.ensures in
     let stops = ap (λ (r : State × Stepped). r.1) c.stop.ensures.step in
     before_at_end _ _ _ c.stop.result (c.stop.ensures.step ∙ sym (reached_step c.loop-at.self.calm_until (state_of (engine_at c.loop-at.cycle c.loop-at.self)) (c.loop-at.invariant.0.calm some) c.loop-at.invariant.2 none reached)) (λ e. cc)

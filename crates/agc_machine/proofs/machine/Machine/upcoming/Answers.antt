@@ -1,4 +1,4 @@
-use Rattle.agc_machine.proofs.Told.{told_comes}
+use Rattle.agc_machine.proofs.Cases.{told_comes}
 use Rattle.agc_machine.proofs.machine.Machine.upcoming.Goals as goal
 
 pub returns-clause-comes : goal.returns-clause-comes
