@@ -184,54 +184,43 @@ pub fewer_after_way : (end : ℕ) (s t : State) → (t, stepped.Quiet) ≡ next_
 unfolding next_before
 fewer_after_way end s t e = subst (IsFewer s) (sym e) (fewer_within (boundaries_left s) end s (omega arith))
 
-falls_shows : (s : State) (r : State × Stepped) → Falls s r → HasChannel r.1
+either_way : (P : State × Stepped → Type 0) (b : Bool) (x y : State × Stepped) → P x → P y → P (if b then x else y)
+either_way P true x y h k = h
+either_way P false x y h k = k
+
+way_by : (P : State × Stepped → Type 0) (cycle : ℕ) (go_on : State → State × Stepped) (r : State × Stepped) → P r → ((t : State) → P (go_on t)) →
+    P (while_quiet_before cycle go_on r)
+way_by P cycle go_on (t, stepped.Quiet) h f = either_way P (nat_le cycle t.cycle) (t, stepped.Quiet) (go_on t) h (f t)
+way_by P cycle go_on (t, stepped.Wrote write) h f = h
+way_by P cycle go_on (t, stepped.Stopped why) h f = h
+
+-- what holds where nothing shows, and after every boundary, holds where a way ends
+within_holds : (P : State × Stepped → Type 0) → ((s : State) → P (s, stepped.Quiet)) → ((s : State) → P (boundary None s)) →
+    (n cycle : ℕ) (s : State) → P (next_before_within n cycle s)
+unfolding next_before_within
+within_holds P quiet each zero cycle s = quiet s
+within_holds P quiet each (suc n) cycle s =
+    way_by P cycle (next_before_within n cycle) (boundary None s) (each s) (λ t. within_holds P quiet each n cycle t)
+
+before_holds : (P : State × Stepped → Type 0) → ((s : State) → P (s, stepped.Quiet)) → ((s : State) → P (boundary None s)) →
+    (cycle : ℕ) (s : State) (r : State × Stepped) → r ≡ next_before cycle s → P r
+unfolding next_before
+before_holds P quiet each cycle s r e = subst P (sym e) (within_holds P quiet each (boundaries_left s) cycle s)
+
+pub falls_shows : (s : State) (r : State × Stepped) → Falls s r → HasChannel r.1
 falls_shows s (t, stepped.Quiet) f = tt
 falls_shows s (t, stepped.Wrote write) f = f.3
 falls_shows s (t, stepped.Stopped why) f = tt
 
-either_shows : (b : Bool) (x y : State × Stepped) → HasChannel x.1 → HasChannel y.1 → HasChannel (if b then x else y).1
-either_shows true x y h k = h
-either_shows false x y h k = k
-
-shows_by : (cycle : ℕ) (go_on : State → State × Stepped) (r : State × Stepped) → HasChannel r.1 → ((t : State) → HasChannel (go_on t).1) →
-    HasChannel (while_quiet_before cycle go_on r).1
-shows_by cycle go_on (t, stepped.Quiet) h f = either_shows (nat_le cycle t.cycle) (t, stepped.Quiet) (go_on t) tt (f t)
-shows_by cycle go_on (t, stepped.Wrote write) h f = h
-shows_by cycle go_on (t, stepped.Stopped why) h f = tt
-
-within_shows : (n cycle : ℕ) (s : State) → HasChannel (next_before_within n cycle s).1
-unfolding next_before_within
-within_shows zero cycle s = tt
-within_shows (suc n) cycle s =
-    shows_by cycle (next_before_within n cycle) (boundary None s) (falls_shows s (boundary None s) (boundary_falls s)) (λ t. within_shows n cycle t)
-
 -- a write that comes before a cycle goes to a channel from 5 to 777 octal
 pub before_shows : (cycle : ℕ) (s : State) (r : State × Stepped) → r ≡ next_before cycle s → HasChannel r.1
-unfolding next_before
-before_shows cycle s r e = subst (λ (x : State × Stepped). HasChannel x.1) (sym e) (within_shows (boundaries_left s) cycle s)
+before_shows = before_holds (λ r. HasChannel r.1) (λ s. tt) (λ s. falls_shows s (boundary None s) (boundary_falls s))
 
 falls_keeps : (s : State) (r : State × Stepped) → Falls s r → KeepsStop r
 falls_keeps s (t, stepped.Quiet) f = tt
 falls_keeps s (t, stepped.Wrote write) f = tt
 falls_keeps s (t, stepped.Stopped why) f = f.0
 
-either_keeps : (b : Bool) (x y : State × Stepped) → KeepsStop x → KeepsStop y → KeepsStop (if b then x else y)
-either_keeps true x y h k = h
-either_keeps false x y h k = k
-
-keeps_by : (cycle : ℕ) (go_on : State → State × Stepped) (r : State × Stepped) → KeepsStop r → ((t : State) → KeepsStop (go_on t)) →
-    KeepsStop (while_quiet_before cycle go_on r)
-keeps_by cycle go_on (t, stepped.Quiet) h f = either_keeps (nat_le cycle t.cycle) (t, stepped.Quiet) (go_on t) tt (f t)
-keeps_by cycle go_on (t, stepped.Wrote write) h f = tt
-keeps_by cycle go_on (t, stepped.Stopped why) h f = h
-
-within_keeps : (n cycle : ℕ) (s : State) → KeepsStop (next_before_within n cycle s)
-unfolding next_before_within
-within_keeps zero cycle s = tt
-within_keeps (suc n) cycle s =
-    keeps_by cycle (next_before_within n cycle) (boundary None s) (falls_keeps s (boundary None s) (boundary_falls s)) (λ t. within_keeps n cycle t)
-
 -- a stop that comes before a cycle is kept in the state
 pub before_keeps : (cycle : ℕ) (s : State) (r : State × Stepped) → r ≡ next_before cycle s → KeepsStop r
-unfolding next_before
-before_keeps cycle s r e = subst KeepsStop (sym e) (within_keeps (boundaries_left s) cycle s)
+before_keeps = before_holds KeepsStop (λ s. tt) (λ s. falls_keeps s (boundary None s) (boundary_falls s))

@@ -148,15 +148,7 @@ unfolding time6_step
 time6_in_time c p t due =
     switch_in_time c _ _ (record { time1 = t.time1; time3 = t.time3; time4 = t.time4; time5 = t.time5; mark = period_counted c p.timers (switch_word p) due })
 
--- the step of a timer is due
-abbrev IsStepDue : ℕ → Processor → Timer → Type 0
-IsStepDue c p timer.Time1 = is_due c time1_first p.timers.time1 ≡ true
-IsStepDue c p timer.Time3 = is_due c time3_first p.timers.time3 ≡ true
-IsStepDue c p timer.Time4 = is_due c time4_first p.timers.time4 ≡ true
-IsStepDue c p timer.Time5 = is_due c time5_first p.timers.time5 ≡ true
-IsStepDue c p timer.Time6 = is_time6_due c p.timers (switch_word p) ≡ true
-
-first_is_due : (c : ℕ) (p : Processor) (a1 a3 a4 a5 a6 : Bool) → is_due c time1_first p.timers.time1 ≡ a1 →
+first_in_time : (c : ℕ) (p : Processor) → IsInTime c p.timers → (a1 a3 a4 a5 a6 : Bool) → is_due c time1_first p.timers.time1 ≡ a1 →
     is_due c time3_first p.timers.time3 ≡ a3 → is_due c time4_first p.timers.time4 ≡ a4 → is_due c time5_first p.timers.time5 ≡ a5 →
     is_time6_due c p.timers (switch_word p) ≡ a6 →
     IfSome
@@ -165,30 +157,23 @@ first_is_due : (c : ℕ) (p : Processor) (a1 a3 a4 a5 a6 : Bool) → is_due c ti
     else if a4 then Some timer.Time4
     else if a5 then Some timer.Time5
     else if a6 then Some timer.Time6
-    else None) (IsStepDue c p)
-first_is_due c p true a3 a4 a5 a6 e1 e3 e4 e5 e6 = e1
-first_is_due c p false true a4 a5 a6 e1 e3 e4 e5 e6 = e3
-first_is_due c p false false true a5 a6 e1 e3 e4 e5 e6 = e4
-first_is_due c p false false false true a6 e1 e3 e4 e5 e6 = e5
-first_is_due c p false false false false true e1 e3 e4 e5 e6 = e6
-first_is_due c p false false false false false e1 e3 e4 e5 e6 = tt
+    else None) (λ t. IsInTime c (timer_step t p).0.timers)
+first_in_time c p h true a3 a4 a5 a6 e1 e3 e4 e5 e6 = time1_in_time c p h e1
+first_in_time c p h false true a4 a5 a6 e1 e3 e4 e5 e6 = time3_in_time c p h e3
+first_in_time c p h false false true a5 a6 e1 e3 e4 e5 e6 = time4_in_time c p h e4
+first_in_time c p h false false false true a6 e1 e3 e4 e5 e6 = time5_in_time c p h e5
+first_in_time c p h false false false false true e1 e3 e4 e5 e6 = time6_in_time c p h e6
+first_in_time c p h false false false false false e1 e3 e4 e5 e6 = tt
 
-due_is_due : (c : ℕ) (p : Processor) → IfSome (due_timer c p) (IsStepDue c p)
+due_in_time : (c : ℕ) (p : Processor) → IsInTime c p.timers → IfSome (due_timer c p) (λ t. IsInTime c (timer_step t p).0.timers)
 unfolding due_timer
-due_is_due c p = first_is_due c p _ _ _ _ _ refl refl refl refl refl
-
-stepped_in_time : (c : ℕ) (p : Processor) (t : Timer) → IsInTime c p.timers → IsStepDue c p t → IsInTime c (timer_step t p).0.timers
-stepped_in_time c p timer.Time1 h due = time1_in_time c p h due
-stepped_in_time c p timer.Time3 h due = time3_in_time c p h due
-stepped_in_time c p timer.Time4 h due = time4_in_time c p h due
-stepped_in_time c p timer.Time5 h due = time5_in_time c p h due
-stepped_in_time c p timer.Time6 h due = time6_in_time c p h due
+due_in_time c p h = first_in_time c p h _ _ _ _ _ refl refl refl refl refl
 
 pub step_in_time : (c d : ℕ) (p q : Processor) (t : Timer) (cycles : ℕ) → IsInTime c p.timers → due_timer c p ≡ Some t → (q, cycles) ≡ timer_step t p →
     c ≤ d → IsInTime d q.timers
 step_in_time c d p q t cycles h e is l =
-    let due : IsStepDue c p t = subst (λ (o : Option Timer). IfSome o (IsStepDue c p)) e (due_is_due c p) in
-    later_in_time c d q.timers (subst (λ (x : Processor × ℕ). IsInTime c x.0.timers) (sym is) (stepped_in_time c p t h due)) l
+    let stepped = subst (λ (o : Option Timer). IfSome o (λ t. IsInTime c (timer_step t p).0.timers)) e (due_in_time c p h) in
+    later_in_time c d q.timers (subst (λ (x : Processor × ℕ). IsInTime c x.0.timers) (sym is) stepped) l
 
 -- and none has taken more steps than can be counted on
 pub steps_counted : (t : Timer) (c : ℕ) (timers : Timers) → IsInTime c timers → c ≤ 1000000000006 → steps_of t timers < 2 ^ 60

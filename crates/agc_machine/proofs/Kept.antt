@@ -1,13 +1,13 @@
 -- No boundary changes what a run was given for good: the fixed words, the limit and the stop address.
 use Rattle.std.proofs.Common.{Option, Some, None, true, refl}
-use Rattle.agc_script.specs.declared.key.Key.{Key}
+use Rattle.agc_script.specs.declared.event.What.{What}
 use Rattle.agc_processor.specs.declared.processor.Processor.{Processor}
 use Rattle.agc_processor.specs.declared.processor.Ran.{Ran}
 use Rattle.agc_processor.specs.declared.processor.Ran.TheVariants as ran
 use Rattle.agc_processor.specs.Effect.{order_effect}
 use Rattle.agc_machine.specs.Boundary.{boundary, by_order, carried_out, ran_order}
 use Rattle.agc_machine.specs.Laws.{IsSameRun}
-use Rattle.agc_machine.specs.State.{State, with_key}
+use Rattle.agc_machine.specs.State.{State, fed}
 use Rattle.agc_machine.specs.declared.upcoming.Upcoming.{Upcoming}
 use Rattle.agc_machine.specs.declared.upcoming.Upcoming.TheVariants as upcoming
 use Rattle.agc_machine.proofs.Cases.{by_cases}
@@ -32,7 +32,7 @@ comes_keeps (upcoming.Order order) s = by_order_keeps s
 plain_keeps : (s : State) → IsSameRun s (boundary None s).0
 plain_keeps s = by_cases (λ r. IsSameRun s r.0) s (λ why e. (refl, refl, refl)) (λ u a. comes_keeps u (record s { begun = true }))
 
-pub boundary_keeps : (live : Option Key) (s : State) → IsSameRun s (boundary live s).0
+pub boundary_keeps : (live : Option What) (s : State) → IsSameRun s (boundary live s).0
 unfolding boundary
 boundary_keeps None s = plain_keeps s
-boundary_keeps (Some key) s = plain_keeps (with_key (Some key) s)
+boundary_keeps (Some what) s = plain_keeps (fed (Some what) s)

@@ -1,12 +1,13 @@
--- The plain run on the merged events takes each key of a live run's tape at the key's own cycle; and every
+-- The plain run on the joined events takes each event of a live run's tape at its own cycle; and every
 -- run meets the beginning of its events.
 use Rattle.std.proofs.Common.{◌≡◌, ℕ, ◌+◌, ◌-◌, ◌≤◌, ◌<◌, ◌⊎◌, suc, zero, List, [], ◌∷◌, ◌++◌, length, map, take, replicate, Option, Some, None, Bool, true, false, refl, ap, sym, ◌∙◌, subst, arith, inl, inr, one-add}
 use Rattle.std.specs.Prelude.{drop, nat_lt, IsSome, All, slice_get, IfSome}
 use Rattle.std.proofs.lemmas.Bool.Decides.{nat_tests}
 use Rattle.std.proofs.lemmas.List.{length-append, take_at}
 use Rattle.std.proofs.lemmas.List.Elements.{All-cons, All-nil}
-use Rattle.agc_script.specs.Merge.{due_at, merged, key_event}
+use Rattle.agc_script.specs.Merge.{due_at, joined}
 use Rattle.agc_script.specs.declared.event.Event.{Event}
+use Rattle.agc_script.specs.declared.event.What.{What}
 use Rattle.agc_script.specs.declared.key.Key.{Key}
 use Rattle.agc_machine.specs.declared.answer.Stepped.{Stepped}
 use Rattle.agc_machine.specs.declared.answer.Stop.{Stop}
@@ -17,11 +18,11 @@ use Rattle.agc_machine.proofs.Cases.{FirstDue, by_cases, first_due}
 use Rattle.agc_machine.specs.Laws.{after}
 use Rattle.agc_machine.specs.Replay.{Chain, chain, tape_of, AreWanted, with_tape, run_in}
 use Rattle.agc_machine.specs.Run.{Run, boundaries_left, run_of}
-use Rattle.agc_machine.specs.State.{State}
-use Rattle.agc_machine.specs.Taken.{at_cycle, at_own_cycle, marked, met_between, tape_marks, taken_within, AreApart, TakesTape}
+use Rattle.agc_machine.specs.State.{State, live_event}
+use Rattle.agc_machine.specs.Taken.{at_cycle, at_own_cycle, marked, met_between, tape_marks, taken_within, AreApart, TakesLive}
 use Rattle.agc_machine.proofs.Chain.{stopped_stays, stops_in_time}
 use Rattle.agc_machine.proofs.Kept.{boundary_keeps}
-use Rattle.agc_machine.proofs.Replay.{IsFrom, chain_is_run, chain_replays, event_first, from_later, key_taped, key_first, none_taped, tape_follows, tape_from, begun, key_keeps_events, order_keeps_events}
+use Rattle.agc_machine.proofs.Replay.{IsFrom, chain_is_run, chain_replays, begun, event_first, from_later, live_first, live_keeps_events, live_taped, none_taped, order_keeps_events, tape_follows, tape_from}
 
 none_met : (events : List Event) → take (length events - length events) events ≡ []
 none_met events = let none : length events - length events ≡ 0 = omega arith in ap (λ (n : ℕ). take n events) none
@@ -54,23 +55,16 @@ taken_up_to_stop (suc n) (suc m) s i k = same_after n m s (taken_up_to_stop n m 
 one_met : (event : Event) (events : List Event) → take (length (event ∷ events) - length events) (event ∷ events) ≡ event ∷ []
 one_met event events = let one : suc (length events) - length events ≡ 1 = omega arith in ap (λ (n : ℕ). take n (event ∷ events)) one
 
--- what a boundary without a live key does to the events: it leaves them, or takes the first one, which is due
-record TakesFirst (s t : State) : Type 0 where
-  event : Event
-  rest : List Event
-  had : s.events ≡ event ∷ rest
-  left : t.events ≡ rest
-  due : event.cycle ≤ s.cycle
-
+-- what a boundary without a live event does to the events: it leaves them, or takes the first one, which is due
 abbrev Meets : State → State → Type 0
-Meets s t = (t.events ≡ s.events) ⊎ TakesFirst s t
+Meets s t = (t.events ≡ s.events) ⊎ ((first : FirstDue s.cycle s.events) × (t.events ≡ first.rest))
 
 due_meets : (s t : State) → t.events ≡ later_events s.events → FirstDue s.cycle s.events → Meets s t
-due_meets s t e f = inr (record { event = f.event; rest = f.rest; had = f.had; left = e ∙ ap later_events f.had; due = f.due })
+due_meets s t e first = inr (first, e ∙ ap later_events first.had)
 
 comes_meets : (u : Upcoming) (s : State) → Applies u s → Meets s (carried_out u (begun s)).0
 comes_meets (upcoming.Stop why) s a = inl refl
-comes_meets (upcoming.Event what) s a = due_meets s _ refl (first_due s.cycle s.events what a.1)
+comes_meets (upcoming.Event what) s a = due_meets s (carried_out (upcoming.Event what) (begun s)).0 refl (first_due s.cycle s.events what a.1)
 comes_meets (upcoming.Timer t) s a = inl refl
 comes_meets (upcoming.Interrupt r) s a = inl refl
 comes_meets (upcoming.Order order) s a = inl (order_keeps_events (begun s))
@@ -83,28 +77,28 @@ unfolding marked
 no_marks [] = refl
 no_marks (mark ∷ marks) = refl
 
--- a key before all events is marked first
-due_now : (entry : ℕ × Key) (events : List Event) → IsBefore entry.0 events → due_at entry.0 events ≡ 0
-due_now entry [] h = refl
-due_now entry (event ∷ events) h = let later : nat_lt entry.0 event.cycle ≡ true = grind (arith, nat_tests) in rw later refl
+-- a live event before all events is marked first
+due_now : (live : Event) (events : List Event) → IsBefore live.cycle events → due_at live.cycle events ≡ 0
+due_now live [] h = refl
+due_now live (event ∷ events) h = let later : nat_lt live.cycle event.cycle ≡ true = grind (arith, nat_tests) in rw later refl
 
-key_mark : (entry : ℕ × Key) (tape : List (ℕ × Key)) (events : List Event) → IsBefore entry.0 events →
-    tape_marks events (entry ∷ tape) ≡ true ∷ tape_marks events tape
+live_mark : (live : Event) (tape : List Event) (events : List Event) → IsBefore live.cycle events →
+    tape_marks events (live ∷ tape) ≡ true ∷ tape_marks events tape
 unfolding tape_marks
-key_mark entry tape events h =
-    ap (λ (due : ℕ). replicate due false ++ true ∷ tape_marks (drop due events) tape) (due_now entry events h)
+live_mark live tape events h =
+    ap (λ (due : ℕ). replicate due false ++ true ∷ tape_marks (drop due events) tape) (due_now live events h)
 
 -- an event that is due before a tape is not marked
-due_more : (entry : ℕ × Key) (event : Event) (events : List Event) → event.cycle ≤ entry.0 →
-    due_at entry.0 (event ∷ events) ≡ suc (due_at entry.0 events)
-due_more entry event events h = let due : nat_lt entry.0 event.cycle ≡ false = grind (arith, nat_tests) in rw (due, one-add) refl
+due_more : (live : Event) (event : Event) (events : List Event) → event.cycle ≤ live.cycle →
+    due_at live.cycle (event ∷ events) ≡ suc (due_at live.cycle events)
+due_more live event events h = let due : nat_lt live.cycle event.cycle ≡ false = grind (arith, nat_tests) in rw (due, one-add) refl
 
-event_mark : (event : Event) (events : List Event) (tape : List (ℕ × Key)) → IsFrom event.cycle tape →
+event_mark : (event : Event) (events : List Event) (tape : List Event) → IsFrom event.cycle tape →
     tape_marks (event ∷ events) tape ≡ false ∷ tape_marks events tape
 unfolding tape_marks
 event_mark event events [] h = refl
-event_mark event events (entry ∷ tape) h =
-    ap (λ (due : ℕ). replicate due false ++ true ∷ tape_marks (drop due (event ∷ events)) tape) (due_more entry event events h)
+event_mark event events (live ∷ tape) h =
+    ap (λ (due : ℕ). replicate due false ++ true ∷ tape_marks (drop due (event ∷ events)) tape) (due_more live event events h)
 
 -- nothing was taken
 nothing_met : (s t : State) → length t.events ≡ length s.events → at_cycle s.cycle (met_between s t) ≡ []
@@ -120,66 +114,67 @@ first_met s t event events cycle c e f =
     ∙ ap (at_cycle s.cycle) (one_met event events)
     ∙ ap (λ (n : ℕ). (n, event) ∷ []) c
 
--- so many boundaries from a state take the tape's keys at their own cycles
-abbrev Takes : ℕ → List Event → List (ℕ × Key) → State → Type 0
+-- so many boundaries from a state take the tape's events at their own cycles
+abbrev Takes : ℕ → List Event → List Event → State → Type 0
 Takes n events tape u = marked (tape_marks events tape) (taken_within n u) ≡ map at_own_cycle tape
 
-key_goes_on : (n : ℕ) (s t u : State) (key : Key) (tape : List (ℕ × Key)) → WantsKey s → t ≡ (boundary (Some key) s).0 →
-    u ≡ with_tape ((s.cycle, key) ∷ tape) s → Takes n t.events tape (with_tape tape t) → Takes (suc n) s.events ((s.cycle, key) ∷ tape) u
+live_goes_on : (n : ℕ) (s t u : State) (what : What) (tape : List Event) → WantsKey s → t ≡ (boundary (Some what) s).0 →
+    u ≡ with_tape (live_event s what ∷ tape) s → Takes n t.events tape (with_tape tape t) → Takes (suc n) s.events (live_event s what ∷ tape) u
 unfolding taken_within marked
-key_goes_on n s t u key tape w e is h =
-    let entry : ℕ × Key = (s.cycle, key) in
-    let after_key : (boundary None u).0 ≡ with_tape tape t =
-    ap (λ (x : State). (boundary None x).0) is ∙ ap (λ (r : State × Stepped). r.0) (key_taped s key tape w) ∙ ap (with_tape tape) (sym e) in
-    let kept : t.events ≡ s.events = ap (λ (x : State). x.events) e ∙ key_keeps_events s key w in
-    let had : u.events ≡ key_event entry ∷ merged s.events tape = ap (λ (x : State). x.events) is ∙ key_first s.events entry tape w.none_due in
-    let left : (boundary None u).0.events ≡ merged s.events tape =
-    ap (λ (x : State). x.events) after_key ∙ ap (λ (events : List Event). merged events tape) kept in
+live_goes_on n s t u what tape w e is h =
+    let live : Event = live_event s what in
+    let after_live : (boundary None u).0 ≡ with_tape tape t =
+    ap (λ (x : State). (boundary None x).0) is ∙ ap (λ (r : State × Stepped). r.0) (live_taped s what tape w) ∙ ap (with_tape tape) (sym e) in
+    let kept : t.events ≡ s.events = ap (λ (x : State). x.events) e ∙ live_keeps_events s what w in
+    let had : u.events ≡ live ∷ joined s.events tape = ap (λ (x : State). x.events) is ∙ live_first s.events live tape w.none_due in
+    let left : (boundary None u).0.events ≡ joined s.events tape =
+    ap (λ (x : State). x.events) after_live ∙ ap (λ (events : List Event). joined events tape) kept in
     let at : u.cycle ≡ s.cycle = ap (λ (x : State). x.cycle) is in
-    let met : at_cycle u.cycle (met_between u (boundary None u).0) ≡ (s.cycle, key_event entry) ∷ [] =
-    first_met u (boundary None u).0 (key_event entry) (merged s.events tape) s.cycle at had left in
+    let met : at_cycle u.cycle (met_between u (boundary None u).0) ≡ (s.cycle, live) ∷ [] =
+    first_met u (boundary None u).0 live (joined s.events tape) s.cycle at had left in
     ap (λ (marks : List Bool). marked marks (at_cycle u.cycle (met_between u (boundary None u).0) ++ taken_within n (boundary None u).0))
-    (key_mark entry tape s.events w.none_due)
+    (live_mark live tape s.events w.none_due)
     ∙ ap (λ (takings : List (ℕ × Event)). marked (true ∷ tape_marks s.events tape) (takings ++ taken_within n (boundary None u).0)) met
-    ∙ ap (λ (x : State). (s.cycle, key_event entry) ∷ marked (tape_marks s.events tape) (taken_within n x)) after_key
-    ∙ ap (λ (events : List Event). (s.cycle, key_event entry) ∷ marked (tape_marks events tape) (taken_within n (with_tape tape t))) (sym kept)
-    ∙ ap (λ (takings : List (ℕ × Event)). (s.cycle, key_event entry) ∷ takings) h
+    ∙ ap (λ (x : State). (s.cycle, live) ∷ marked (tape_marks s.events tape) (taken_within n x)) after_live
+    ∙ ap (λ (events : List Event). (s.cycle, live) ∷ marked (tape_marks events tape) (taken_within n (with_tape tape t))) (sym kept)
+    ∙ ap (λ (takings : List (ℕ × Event)). (s.cycle, live) ∷ takings) h
 
-none_goes_on : (n : ℕ) (s t u : State) (tape : List (ℕ × Key)) → IsFrom s.cycle tape → Meets s t → u ≡ with_tape tape s →
+none_goes_on : (n : ℕ) (s t u : State) (tape : List Event) → IsFrom s.cycle tape → Meets s t → u ≡ with_tape tape s →
     (boundary None u).0 ≡ with_tape tape t → Takes n t.events tape (with_tape tape t) → Takes (suc n) s.events tape u
 unfolding taken_within marked
 none_goes_on n s t u tape f (inl kept) is e h =
     let met : at_cycle u.cycle (met_between u (boundary None u).0) ≡ [] =
-    nothing_met u (boundary None u).0 (ap (λ (x : State). length x.events) e ∙ ap (λ (events : List Event). length (merged events tape)) kept
+    nothing_met u (boundary None u).0 (ap (λ (x : State). length x.events) e ∙ ap (λ (events : List Event). length (joined events tape)) kept
     ∙ ap (λ (x : State). length x.events) (sym is)) in
     ap (λ (takings : List (ℕ × Event)). marked (tape_marks s.events tape) (takings ++ taken_within n (boundary None u).0)) met
     ∙ ap (λ (x : State). marked (tape_marks s.events tape) (taken_within n x)) e
     ∙ ap (λ (events : List Event). marked (tape_marks events tape) (taken_within n (with_tape tape t))) (sym kept)
     ∙ h
-none_goes_on n s t u tape f (inr first) is e h =
+none_goes_on n s t u tape f (inr taken) is e h =
+    let first = taken.0 in
     let from : IsFrom first.event.cycle tape = from_later first.event.cycle s.cycle tape first.due f in
-    let had : u.events ≡ first.event ∷ merged first.rest tape =
-    ap (λ (x : State). x.events) is ∙ ap (λ (events : List Event). merged events tape) first.had ∙ event_first first.event first.rest tape from in
-    let left : (boundary None u).0.events ≡ merged first.rest tape =
-    ap (λ (x : State). x.events) e ∙ ap (λ (events : List Event). merged events tape) first.left in
+    let had : u.events ≡ first.event ∷ joined first.rest tape =
+    ap (λ (x : State). x.events) is ∙ ap (λ (events : List Event). joined events tape) first.had ∙ event_first first.event first.rest tape from in
+    let left : (boundary None u).0.events ≡ joined first.rest tape =
+    ap (λ (x : State). x.events) e ∙ ap (λ (events : List Event). joined events tape) taken.1 in
     let met : at_cycle u.cycle (met_between u (boundary None u).0) ≡ (u.cycle, first.event) ∷ [] =
-    first_met u (boundary None u).0 first.event (merged first.rest tape) u.cycle refl had left in
+    first_met u (boundary None u).0 first.event (joined first.rest tape) u.cycle refl had left in
     ap (λ (events : List Event). marked (tape_marks events tape) (at_cycle u.cycle (met_between u (boundary None u).0) ++ taken_within n (boundary None u).0)) first.had
     ∙ ap (λ (marks : List Bool). marked marks (at_cycle u.cycle (met_between u (boundary None u).0) ++ taken_within n (boundary None u).0))
     (event_mark first.event first.rest tape from)
     ∙ ap (λ (takings : List (ℕ × Event)). marked (false ∷ tape_marks first.rest tape) (takings ++ taken_within n (boundary None u).0)) met
     ∙ ap (λ (x : State). marked (tape_marks first.rest tape) (taken_within n x)) e
-    ∙ ap (λ (events : List Event). marked (tape_marks events tape) (taken_within n (with_tape tape t))) (sym first.left)
+    ∙ ap (λ (events : List Event). marked (tape_marks events tape) (taken_within n (with_tape tape t))) (sym taken.1)
     ∙ h
 
--- as many plain boundaries on the merged events take the tape
-taken_by_chain : (lives : List (Option Key)) (s : State) → AreWanted lives s →
+-- as many plain boundaries on the joined events take the tape
+taken_by_chain : (lives : List (Option What)) (s : State) → AreWanted lives s →
     Takes (length lives) s.events (tape_of lives s) (with_tape (tape_of lives s) s)
 unfolding tape_of AreWanted taken_within
 taken_by_chain [] s w = no_marks (tape_marks s.events [])
-taken_by_chain (Some key ∷ lives) s w =
-    let t : State = (boundary (Some key) s).0 in
-    key_goes_on (length lives) s t (with_tape ((s.cycle, key) ∷ tape_of lives t) s) key (tape_of lives t) w.0 refl refl (taken_by_chain lives t w.1)
+taken_by_chain (Some what ∷ lives) s w =
+    let t : State = (boundary (Some what) s).0 in
+    live_goes_on (length lives) s t (with_tape (live_event s what ∷ tape_of lives t) s) what (tape_of lives t) w.0 refl refl (taken_by_chain lives t w.1)
 taken_by_chain (None ∷ lives) s w =
     let t : State = (boundary None s).0 in
     let from : IsFrom s.cycle (tape_of (None ∷ lives) s) = tape_from (None ∷ lives) s in
@@ -192,9 +187,9 @@ unfolding after chain
 after_is_last zero s = refl
 after_is_last (suc n) s = after_is_last n (boundary None s).0
 
--- the run on the events merged with the tape of a live run that has stopped takes the tape
-pub tape_is_taken : (lives : List (Option Key)) (s : State) → AreWanted lives s → IsSome (chain lives s).last.stopped →
-    TakesTape s (tape_of lives s) (with_tape (tape_of lives s) s)
+-- the run on the events joined with the tape of a live run that has stopped takes the tape
+pub tape_is_taken : (lives : List (Option What)) (s : State) → AreWanted lives s → IsSome (chain lives s).last.stopped →
+    TakesLive s (tape_of lives s) (with_tape (tape_of lives s) s)
 tape_is_taken lives s w i =
     let u : State = with_tape (tape_of lives s) s in
     let stopped : IsSome (after (length lives) u).stopped =
@@ -203,16 +198,16 @@ tape_is_taken lives s w i =
     (taken_up_to_stop (boundaries_left u) (length lives) u (stops_in_time (boundaries_left u) u (omega arith)) stopped)
     ∙ taken_by_chain lives s w
 
--- and its keys come below the limit
-pub tape_is_below : (lives : List (Option Key)) (s : State) → AreWanted lives s → All (λ entry. entry.0 < s.limit) (tape_of lives s)
+-- and its events come below the limit
+pub tape_is_below : (lives : List (Option What)) (s : State) → AreWanted lives s → All (λ live. live.cycle < s.limit) (tape_of lives s)
 unfolding tape_of AreWanted
-tape_is_below [] s w = All-nil (λ entry. entry.0 < s.limit)
-tape_is_below (Some key ∷ lives) s w =
-    All-cons (λ entry. entry.0 < s.limit) (s.cycle, key) (tape_of lives (boundary (Some key) s).0) w.0.below
-    (subst (λ (limit : ℕ). All (λ entry. entry.0 < limit) (tape_of lives (boundary (Some key) s).0)) (boundary_keeps (Some key) s).1
-    (tape_is_below lives (boundary (Some key) s).0 w.1))
+tape_is_below [] s w = All-nil (λ live. live.cycle < s.limit)
+tape_is_below (Some what ∷ lives) s w =
+    All-cons (λ live. live.cycle < s.limit) (live_event s what) (tape_of lives (boundary (Some what) s).0) w.0.below
+    (subst (λ (limit : ℕ). All (λ live. live.cycle < limit) (tape_of lives (boundary (Some what) s).0)) (boundary_keeps (Some what) s).1
+    (tape_is_below lives (boundary (Some what) s).0 w.1))
 tape_is_below (None ∷ lives) s w =
-    subst (λ (limit : ℕ). All (λ entry. entry.0 < limit) (tape_of lives (boundary None s).0)) (boundary_keeps None s).1
+    subst (λ (limit : ℕ). All (λ live. live.cycle < limit) (tape_of lives (boundary None s).0)) (boundary_keeps None s).1
     (tape_is_below lives (boundary None s).0 w)
 
 pub chain_stops : (s : State) → IsSome (chain (replicate (boundaries_left s) None) s).last.stopped
@@ -246,8 +241,9 @@ record EndsIn (s t : State) : Type 0 where
 
 ends_after : (s t u : State) → Meets s t → EndsIn t u → EndsIn s u
 ends_after s t u (inl kept) h = record { met = h.met; had = sym kept ∙ h.had }
-ends_after s t u (inr first) h =
-    record { met = first.event ∷ h.met; had = first.had ∙ ap (λ (events : List Event). first.event ∷ events) (sym first.left ∙ h.had) }
+ends_after s t u (inr taken) h =
+    let first = taken.0 in
+    record { met = first.event ∷ h.met; had = first.had ∙ ap (λ (events : List Event). first.event ∷ events) (sym taken.1 ∙ h.had) }
 
 ends_within : (n : ℕ) (s : State) → EndsIn s (after n s)
 unfolding after

@@ -6,6 +6,7 @@ use Rattle.agc_store.specs.Memory.{erasable_bank, selected_bank}
 use Rattle.agc_store.specs.Places.{erasable_window, fixed_fixed, fixed_window}
 use Rattle.agc_script.specs.declared.event.Event.{Event}
 use Rattle.agc_script.specs.declared.event.What.{What}
+use Rattle.agc_script.specs.declared.event.What.TheVariants as what
 use Rattle.agc_script.specs.declared.key.Key.{Key}
 use Rattle.agc_processor.specs.declared.processor.Processor.{Processor}
 use Rattle.agc_processor.specs.declared.processor.Halt.{Halt}
@@ -17,7 +18,7 @@ use Rattle.agc_processor.specs.Interrupt.{interrupt_cycles, interrupted, pending
 use Rattle.agc_processor.specs.Processor.{z_at}
 use Rattle.agc_processor.specs.Timer.{due_timer, timer_step}
 use Rattle.agc_machine.specs.Happening.{happened, cycles_of}
-use Rattle.agc_machine.specs.State.{State, with_key}
+use Rattle.agc_machine.specs.State.{State, fed}
 use Rattle.agc_machine.specs.declared.answer.ChannelWrite.{ChannelWrite}
 use Rattle.agc_machine.specs.declared.answer.Stepped.{Stepped}
 use Rattle.agc_machine.specs.declared.answer.Stepped.TheVariants as stepped
@@ -101,7 +102,7 @@ abbrev pub ◌otherwise◌ : Option Upcoming → Upcoming → Upcoming
 (Some this) otherwise that = this
 None otherwise that = that
 
--- what the next boundary without a live key will be: the first that applies
+-- what the next boundary without a live event will be: the first that applies
 unfoldable pub upcoming_of : State → Upcoming
 upcoming_of s =
     stop_again s.stopped otherwise limit_comes s otherwise event_comes s otherwise timer_comes s
@@ -154,9 +155,14 @@ abbrev pub unless_stopped : Option Stop → State → State × Stepped
 unless_stopped (Some why) s = (s, stepped.Stopped why)
 unless_stopped None s = carried_out (upcoming_of s) (record s { begun = true })
 
--- one boundary, with a live key or none
-unfoldable pub boundary : Option Key → State → State × Stepped
-boundary live s = let fed = with_key live s in unless_stopped fed.stopped fed
+-- a live key as a live event
+abbrev pub pressed_live : Option Key → Option What
+pressed_live (Some key) = Some (what.Key key)
+pressed_live None = None
+
+-- one boundary, with a live event or none
+unfoldable pub boundary : Option What → State → State × Stepped
+boundary live s = let with_live = fed live s in unless_stopped with_live.stopped with_live
 
 -- The boundary does what comes: where the machine has stopped nothing, and the stop is told; else
 -- what is told is done by a machine that has begun.
@@ -191,8 +197,8 @@ Applies (upcoming.Order order) s =
 Applies (upcoming.Stop stop.DivisionUndefined) s = ⊥
 Applies (upcoming.Stop stop.Edrupt) s = ⊥
 
--- a live key may be given where it happens at once: not after the stop, nor at the limit, nor
--- before events that are due
+-- a live key, as any live event, may be given where it happens at once: not after the stop, nor at
+-- the limit, nor before events that are due
 pub record WantsKey (s : State) : Type 0 where
   pub runs : s.stopped ≡ None
   pub below : s.cycle < s.limit

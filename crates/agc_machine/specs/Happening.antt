@@ -1,4 +1,4 @@
--- What an event of a script, or a live key, does to the processor. None of them is a channel write.
+-- What an event of a script, or a live one, does to the processor. None of them is a channel write.
 use Rattle.std.specs.Prelude.{ℕ, ◌+◌, ◌*◌, ◌/◌, ◌%◌, ◌==◌, ◌&&◌, Bool, true, false, if◌then◌else◌}
 use Rattle.agc_word.specs.Number.{pattern_of}
 use Rattle.agc_word.specs.Pulses.{pulsed}

@@ -2,8 +2,7 @@
 use Rattle.std.specs.Prelude.{◌≡◌, ℕ, Bool, false, List, ◌∷◌, Option, Some, None}
 use Rattle.agc_word.specs.Number.{Number}
 use Rattle.agc_script.specs.declared.event.Event.{Event}
-use Rattle.agc_script.specs.declared.event.What.TheVariants as what
-use Rattle.agc_script.specs.declared.key.Key.{Key}
+use Rattle.agc_script.specs.declared.event.What.{What}
 use Rattle.agc_machine.specs.declared.answer.Stop.{Stop}
 use Rattle.agc_machine.specs.declared.stop_address.StopAddress.{StopAddress}
 use Rattle.agc_processor.specs.declared.processor.Processor.{Processor}
@@ -38,8 +37,11 @@ start_state words events limit until =
 abbrev pub IsAtStart : State → Type 0
 IsAtStart s = s ≡ start_state s.processor.store.fixed s.events s.limit s.until
 
--- a live key is an event of the present cycle, before all events left
-abbrev pub with_key : Option Key → State → State
-with_key (Some key) s =
-    record s { events = record { cycle = s.cycle; what = what.Key key } ∷ s.events }
-with_key None s = s
+-- what happens live as an event of the present cycle
+abbrev pub live_event : State → What → Event
+live_event s what = record { cycle = s.cycle; what = what }
+
+-- a live event stands before all events left
+abbrev pub fed : Option What → State → State
+fed (Some what) s = record s { events = live_event s what ∷ s.events }
+fed None s = s

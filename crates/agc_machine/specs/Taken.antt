@@ -28,11 +28,11 @@ taken_within (suc more) s =
 abbrev pub taken_in : State → List (ℕ × Event)
 taken_in s = taken_within (boundaries_left s) s
 
--- which of the events of a merge are the tape's
-unfoldable pub tape_marks : List Event → List (ℕ × Key) → List Bool
+-- which of the events of a script joined with a tape are the tape's
+unfoldable pub tape_marks : List Event → List Event → List Bool
 tape_marks events [] = map (λ event. false) events
-tape_marks events (entry ∷ tape) =
-    let due = due_at entry.0 events in
+tape_marks events (live ∷ tape) =
+    let due = due_at live.cycle events in
     replicate due false ++ true ∷ tape_marks (drop due events) tape
 
 -- what stands at the places that are marked
@@ -42,16 +42,20 @@ marked marks [] = []
 marked (true ∷ marks) (taking ∷ takings) = taking ∷ marked marks takings
 marked (false ∷ marks) (taking ∷ takings) = marked marks takings
 
--- a key of a tape, taken at its own cycle
-abbrev pub at_own_cycle : ℕ × Key → ℕ × Event
-at_own_cycle entry = (entry.0, key_event entry)
+-- an event, taken at its own cycle
+abbrev pub at_own_cycle : Event → ℕ × Event
+at_own_cycle event = (event.cycle, event)
 
--- The run on the events merged with a tape takes each key of the tape, and each at its own cycle.
--- What a run takes is the beginning of its events, so the marks of the merge are those of what is
--- taken; a script's event that is the same key is not marked.
+-- The run on the events joined with a tape takes each event of the tape, and each at its own cycle.
+-- What a run takes is the beginning of its events, so the marks of the join are those of what is
+-- taken; an event of the script that is the same is not marked.
+abbrev pub TakesLive : State → List Event → State → Type 0
+TakesLive start tape joined_start =
+    marked (tape_marks start.events tape) (taken_in joined_start) ≡ map at_own_cycle tape
+
+-- the same of a tape of keys
 abbrev pub TakesTape : State → List (ℕ × Key) → State → Type 0
-TakesTape start tape merged_start =
-    marked (tape_marks start.events tape) (taken_in merged_start) ≡ map at_own_cycle tape
+TakesTape start tape merged_start = TakesLive start (map key_event tape) merged_start
 
 -- keys that follow each other are at least so many cycles apart
 unfoldable pub AreApart : ℕ → List (ℕ × Key) → Type 0

@@ -11,7 +11,7 @@ use crate::stop_address::StopAddress;
 use crate::upcoming::Upcoming;
 use agc_processor::channel::CHAN13;
 use agc_processor::{INTERRUPT_MCT, Processor, Ran, Rupt, Timer, WRITE_MCT};
-use agc_script::{Event, Key, Script, What};
+use agc_script::{Event, Script, What};
 use agc_store::{Addr, Rope};
 
 /// The run's state and the script that it takes its events from.
@@ -44,7 +44,7 @@ pub(crate) enum Paced {
 
 impl Engine {
     ghost use Rattle.std.specs.Prelude.{◌≡◌, ℕ, ◌<◌, ◌≤◌, ◌+◌, ◌%◌, ◌^◌, ◌↔◌, ◌||◌, length, drop, slice_get, true, false, IsTrue, IsSome, IfSome, IfNone, Some, None};
-    ghost use Rattle.agc_script.specs.Event.{IsInRange};
+    ghost use Rattle.agc_script.specs.Event.{IsInRange, IsWhatInRange};
     ghost use Rattle.agc_machine.specs.Engine.{engine_at, state_of, IsSound, IsRunning, StandsInScript, paced_engine, paced_state};
     ghost use Rattle.agc_machine.specs.Calm.{IsLongest, IsCalm, Serves, pace_of};
     ghost use Rattle.agc_processor.specs.Timer.{due_timer};
@@ -74,7 +74,7 @@ impl Engine {
         }
     }
 
-    /// Boundaries without live keys, up to the next write or the stop.
+    /// Boundaries without live events, up to the next write or the stop.
     pub(crate) fn next_write(&mut self) -> Next
         requires sound { IsSound self.old }
         ensures next { (state_of self.new, result) ≡ next_of (state_of self.old) }
@@ -97,7 +97,7 @@ impl Engine {
         }
     }
 
-    /// Boundaries without live keys, up to the next write, the stop, or the first quiet boundary that
+    /// Boundaries without live events, up to the next write, the stop, or the first quiet boundary that
     /// ends at a cycle or later.
     pub(crate) fn next_write_before(&mut self, cycle: u64) -> Stepped
         requires sound { IsSound self.old }
@@ -129,7 +129,7 @@ impl Engine {
         }
     }
 
-    /// A live key would happen at once.
+    /// A live event would happen at once.
     pub(crate) fn wants_key(&self) -> bool
         ensures { IsTrue result ↔ WantsKey (state_of self.now) }
     {
@@ -149,9 +149,10 @@ impl Engine {
 
     /// One boundary.
     #[inline(always)]
-    pub(crate) fn step(&mut self, live: Option<Key>) -> Stepped
+    pub(crate) fn step(&mut self, live: Option<What>) -> Stepped
         requires sound { IsSound self.old }
         requires wanted { IsSome live → WantsKey (state_of self.old) }
+        requires range { IfSome live IsWhatInRange }
         ensures step { (state_of self.new, result) ≡ boundary live (state_of self.old) }
         ensures sound { IsSound self.new }
     {
@@ -164,9 +165,10 @@ impl Engine {
     /// One boundary at which the clock may bring something.
     #[cold]
     #[inline(never)]
-    fn step_slowly(&mut self, live: Option<Key>) -> Stepped
+    fn step_slowly(&mut self, live: Option<What>) -> Stepped
         requires sound { IsSound self.old }
         requires wanted { IsSome live → WantsKey (state_of self.old) }
+        requires range { IfSome live IsWhatInRange }
         ensures step { (state_of self.new, result) ≡ boundary live (state_of self.old) }
         ensures sound { IsSound self.new }
         ensures longest { IsLongest self.new.calm_until (state_of self.new) }
@@ -179,17 +181,20 @@ impl Engine {
         stepped
     }
 
-    /// What comes next, carried out.
+    /// A live event happens, where one is given; else what comes next is carried out.
     #[tactic(auto, unfolding(crate::specs::Boundary::boundary))]
-    fn step_by_cases(&mut self, live: Option<Key>) -> Stepped
+    fn step_by_cases(&mut self, live: Option<What>) -> Stepped
         requires sound { IsSound self.old }
         requires wanted { IsSome live → WantsKey (state_of self.old) }
+        requires range { IfSome live IsWhatInRange }
         requires not_quiet { self.old.calm_until ≡ 0 }
         ensures step { (state_of self.new, result) ≡ boundary live (state_of self.old) }
         ensures sound { IsSound self.new }
     {
-        if let Some(key) = live {
-            return self.take_key(key);
+        if let Some(what) = live {
+            self.begun = true;
+            self.cycle += meet(&mut self.processor, self.cycle, what);
+            return Stepped::Quiet;
         }
         if let Some(why) = self.stopped {
             return Stepped::Stopped(why);
@@ -199,21 +204,7 @@ impl Engine {
         self.carry_out(next)
     }
 
-    /// A live key happens.
-    #[tactic(auto, unfolding(agc_script::specs::Event::IsWhatInRange))]
-    fn take_key(&mut self, key: Key) -> Stepped
-        requires sound { IsSound self.old }
-        requires wanted { WantsKey (state_of self.old) }
-        requires not_quiet { self.old.calm_until ≡ 0 }
-        ensures step { (state_of self.new, result) ≡ boundary (Some key) (state_of self.old) }
-        ensures sound { IsSound self.new }
-    {
-        self.begun = true;
-        self.cycle += meet(&mut self.processor, self.cycle, What::Key(key));
-        Stepped::Quiet
-    }
-
-    /// What comes next is done.
+    /// What comes is done.
     fn carry_out(&mut self, next: Upcoming) -> Stepped
         requires sound { IsSound self.old }
         requires begun { self.old.begun ≡ true }
@@ -225,8 +216,15 @@ impl Engine {
     {
         match next {
             Upcoming::Stop(why) => self.stop(why),
-            Upcoming::Event(what) => self.meet_event(what),
-            Upcoming::Timer(timer) => self.step_timer(timer),
+            Upcoming::Event(what) => {
+                self.next += 1;
+                self.cycle += meet(&mut self.processor, self.cycle, what);
+                Stepped::Quiet
+            }
+            Upcoming::Timer(timer) => {
+                self.cycle += self.processor.step_timer(timer);
+                Stepped::Quiet
+            }
             Upcoming::Interrupt(rupt) => self.take_interrupt(rupt),
             Upcoming::Order(_) => self.run_order(),
         }
@@ -244,31 +242,6 @@ impl Engine {
         } else {
             None
         }
-    }
-
-    /// The first event that the run has not met happens.
-    fn meet_event(&mut self, what: What) -> Stepped
-        requires running { IsRunning self.old }
-        requires not_quiet { self.old.calm_until ≡ 0 }
-        requires script { StandsInScript (Upcoming.Event what) self.old }
-        ensures step { (state_of self.new, result) ≡ carried_out (Upcoming.Event what) (state_of self.old) }
-        ensures sound { IsSound self.new }
-    {
-        self.next += 1;
-        self.cycle += meet(&mut self.processor, self.cycle, what);
-        Stepped::Quiet
-    }
-
-    /// A timer whose step is due takes it.
-    fn step_timer(&mut self, timer: Timer) -> Stepped
-        requires running { IsRunning self.old }
-        requires not_quiet { self.old.calm_until ≡ 0 }
-        requires due { due_timer self.old.cycle self.old.processor ≡ Some timer }
-        ensures step { (state_of self.new, result) ≡ carried_out (Upcoming.Timer timer) (state_of self.old) }
-        ensures sound { IsSound self.new }
-    {
-        self.cycle += self.processor.step_timer(timer);
-        Stepped::Quiet
     }
 
     /// An interrupt is taken.

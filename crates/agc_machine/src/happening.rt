@@ -1,4 +1,4 @@
-//! What events of the script and live keys do to the processor.
+//! What events, of the script or live, do to the processor.
 ghost use Rattle.std.specs.Prelude.{◌≡◌, ◌<◌, ◌≤◌, ◌^◌};
 ghost use Rattle.agc_script.specs.Event.{IsWhatInRange};
 ghost use Rattle.agc_machine.specs.Happening.{pressed, proceeded, pulsed_counter, happened, cycles_of};

@@ -1,19 +1,19 @@
 //! Laws of every run, each the contract of a function that does nothing. The machine's own calls
 //! are proved equal to the definitions that these laws are about.
 ghost use Rattle.std.specs.Prelude.{◌≡◌, ℕ, ◌<◌, ◌≤◌, ◌^◌, ◌++◌, List, length, replicate, Option, Some, None, IsSome};
-ghost use Rattle.agc_script.specs.declared.key.Key.{Key};
+ghost use Rattle.agc_script.specs.declared.event.What.{What};
 ghost use Rattle.agc_store.specs.Registers.{HoldsRegisters};
 ghost use Rattle.agc_processor.specs.Basic.{resume_of};
 ghost use Rattle.agc_processor.specs.Interrupt.{interrupted};
 ghost use Rattle.agc_processor.specs.Processor.{◌▷◌};
 ghost use Rattle.agc_processor.specs.declared.interrupt.Rupt.{Rupt};
 ghost use Rattle.agc_processor.specs.declared.processor.Processor.{Processor};
-ghost use Rattle.agc_machine.specs.State.{IsAtStart, State, with_key};
+ghost use Rattle.agc_machine.specs.State.{IsAtStart, State, fed};
 ghost use Rattle.agc_machine.specs.Boundary.{boundary};
 ghost use Rattle.agc_machine.specs.Run.{boundaries_left, next_of, run_of, while_writing};
 ghost use Rattle.agc_machine.specs.Laws.{Falls, Comes, AreRising, ComesBack, IsSameRun, after};
 ghost use Rattle.agc_machine.specs.Replay.{chain, tape_of, AreWanted, with_tape, run_in};
-ghost use Rattle.agc_machine.specs.Taken.{TakesTape, met_between};
+ghost use Rattle.agc_machine.specs.Taken.{TakesLive, met_between};
 ghost use Rattle.agc_machine.specs.declared.answer.Stop.{Stop};
 ghost use Rattle.agc_machine.specs.declared.answer.Next.TheVariants as next;
 ghost use Rattle.agc_machine.specs.declared.answer.Stepped.TheVariants as stepped;
@@ -30,10 +30,10 @@ pub fn reruns_are_exact()
     ensures { (s t : State) → IsAtStart s → IsAtStart t → IsSameRun s t → s.events ≡ t.events → run_of s ≡ run_of t }
 {}
 
-/// No boundary, with a live key or without one, changes the fixed words, the limit or the stop
+/// No boundary, with a live event or without one, changes the fixed words, the limit or the stop
 /// address.
 pub fn the_rope_stays()
-    ensures { (live : Option Key) (s : State) → IsSameRun s (boundary live s).0 }
+    ensures { (live : Option What) (s : State) → IsSameRun s (boundary live s).0 }
 {}
 
 /// An interrupt that RESUME follows comes back: to the same Z and the same order in hand, with no
@@ -49,11 +49,11 @@ pub fn a_stop_is_final()
     ensures next { (s : State) (why : Stop) → s.stopped ≡ Some why → next_of s ≡ (s, next.Stopped why) }
 {}
 
-/// A boundary with a live key is the one without it of the same state with the key, as an event of
-/// the present cycle, before the events left.
+/// A boundary with a live event, as a key is one, is the one without it of the same state with the
+/// event, at the present cycle, before the events left.
 #[tactic(auto, unfolding(crate::specs::Boundary::boundary))]
 pub fn live_keys_are_events()
-    ensures { (key : Key) (s : State) → boundary (Some key) s ≡ boundary None (with_key (Some key) s) }
+    ensures { (what : What) (s : State) → boundary (Some what) s ≡ boundary None (fed (Some what) s) }
 {}
 
 /// A run meets the beginning of its events, and what it leaves is the rest of them.
@@ -83,10 +83,11 @@ pub fn writes_rise()
     ensures { (s : State) → AreRising s.cycle (run_of s).writes }
 {}
 
-/// Live keys can be played again: a chain of boundaries with keys that the machine wanted, however
-/// far apart, is the plain chain from the state whose events have the tape of those keys among them.
+/// Live keys, as all live events, can be played again: a chain of boundaries with live events that the
+/// machine wanted, however far apart, is the plain chain from the state whose events have the tape of
+/// those events among them.
 pub fn live_keys_replay()
-    ensures { (lives : List (Option Key)) (s : State) → AreWanted lives s
+    ensures { (lives : List (Option What)) (s : State) → AreWanted lives s
         → chain (replicate (length lives) None) (with_tape (tape_of lives s) s) ≡ chain lives s }
 {}
 
@@ -97,7 +98,7 @@ pub fn chains_are_runs()
 
 /// A live run that has come to a stop is the run of the state whose events have its tape among them.
 pub fn live_runs_replay()
-    ensures { (lives : List (Option Key)) (s : State) → AreWanted lives s → IsSome (chain lives s).last.stopped
+    ensures { (lives : List (Option What)) (s : State) → AreWanted lives s → IsSome (chain lives s).last.stopped
         → run_of (with_tape (tape_of lives s) s) ≡ run_in (chain lives s) }
 {}
 
@@ -108,9 +109,9 @@ pub fn a_run_is_its_chain()
     ensures stopped { (s : State) → IsSome (chain (replicate (boundaries_left s) None) s).last.stopped }
 {}
 
-/// The run on the events merged with the tape of a live run that has come to a stop takes each key
-/// of the tape, in order, at a boundary that begins at the key's own cycle.
+/// The run on the events joined with the tape of a live run that has come to a stop takes each event
+/// of the tape, in order, at a boundary that begins at the event's own cycle.
 pub fn tapes_are_taken()
-    ensures { (lives : List (Option Key)) (s : State) → AreWanted lives s → IsSome (chain lives s).last.stopped
-        → TakesTape s (tape_of lives s) (with_tape (tape_of lives s) s) }
+    ensures { (lives : List (Option What)) (s : State) → AreWanted lives s → IsSome (chain lives s).last.stopped
+        → TakesLive s (tape_of lives s) (with_tape (tape_of lives s) s) }
 {}

@@ -1,11 +1,13 @@
 //! The machine as callers see it: a run that goes on by boundaries or from write to write.
-ghost use Rattle.std.specs.Prelude.{◌≡◌, ◌<◌, ◌≤◌, ◌↔◌, IsTrue, IfOk, IfErr, IsOk, OnOk};
+ghost use Rattle.std.specs.Prelude.{◌≡◌, ◌<◌, ◌≤◌, ◌↔◌, IsTrue, IsSome, IfSome, IfOk, IfErr, IsOk, OnOk};
+ghost use Rattle.agc_script.specs.Event.{IsWhatInRange};
+ghost use Rattle.agc_machine.specs.Boundary.{pressed_live};
 
 use crate::answer::{Next, Stepped, Stop};
 use crate::engine::Engine;
 use crate::stop_address::StopAddress;
 use agc_processor::Processor;
-use agc_script::{Event, Key, Script};
+use agc_script::{Event, Key, Script, What};
 use agc_store::{Addr, Rope, Store};
 use agc_word::Narrow;
 use std::marker::Model;
@@ -49,7 +51,7 @@ pub struct Refused {
 impl Machine {
     ghost use Rattle.std.specs.Prelude.{◌≡◌, ◌<◌, ◌≤◌, ◌↔◌, IsTrue, IsSome, IfOk, IfErr, IsOk, None, Some, not, true, false};
     ghost use Rattle.agc_machine.specs.State.{start_state, IsAtStart};
-    ghost use Rattle.agc_machine.specs.Boundary.{boundary, WantsKey};
+    ghost use Rattle.agc_machine.specs.Boundary.{boundary, pressed_live, WantsKey};
     ghost use Rattle.agc_machine.specs.Run.{next_before, next_of};
     ghost use Rattle.agc_machine.specs.Laws.{HasChannel, HasNextChannel};
     ghost use Rattle.agc_processor.specs.Channel.{channel_word};
@@ -96,10 +98,10 @@ impl Machine {
     /// taken as an event of the present cycle, may come only where `wants_key` says so.
     pub fn step(&mut self, live: Option<Key>) -> Stepped
         requires { IsSome live → WantsKey self.old }
-        ensures boundary { (self.new, result) ≡ boundary live self.old }
+        ensures boundary { (self.new, result) ≡ boundary (pressed_live live) self.old }
         ensures channel { HasChannel result }
     {
-        self.engine.step(live)
+        self.engine.step(pressed_live(live))
     }
 
     /// Goes on to the next channel write, or to the stop where none comes before it.
@@ -177,4 +179,14 @@ impl Machine {
         let Processor { store, .. } = processor;
         store
     }
+}
+
+/// A live key as the event that it is.
+#[tactic(auto, unfolding(agc_script::specs::Event::IsWhatInRange))]
+fn pressed_live(live: Option<Key>) -> Option<What>
+    ensures event { result ≡ pressed_live live }
+    ensures some { IsSome result → IsSome live }
+    ensures range { IfSome result IsWhatInRange }
+{
+    Some(What::Key(live?))
 }

@@ -1,6 +1,7 @@
 -- A live run that is being sent: its writes so far were sent, and at its stop all of them.
 use Rattle.std.proofs.Common.{◌≡◌, ℕ, ◌<◌, ◌⊎◌, List, [], ◌∷◌, ◌++◌, refl, ap, sym, ◌∙◌, subst, append-nil, inl}
-use Rattle.std.specs.Prelude.{Some, All, Result, Ok, Err, IfErr}
+use Rattle.std.specs.Prelude.{Some, All, map, Result, Ok, Err, IfErr}
+use Rattle.agc_script.specs.Merge.{key_event}
 use Rattle.agc_script.specs.declared.key.Key.{Key}
 use Rattle.agc_machine.specs.Laws.{KeepsStop}
 use Rattle.agc_machine.specs.Live.{IsLive}
@@ -23,20 +24,20 @@ use Rattle.agc_pipe.proofs.Sends.{written}
 
 pub record IsLiveSending (start : State) (sender out : Sending) (tape : List (ℕ × Key)) (now : State) : Type 0 where
   pub writes : List ChannelWrite
-  pub live : IsLive start tape writes now
+  pub live : IsLive start (map key_event tape) writes now
   pub sent : out ≡ record sender { sent = written writes }
 
 -- what one step adds to a live run
 abbrev pub Adds : List (ℕ × Key) → List (ℕ × Key) → State → State → Stepped → Type 0
 Adds tape longer now later answer =
-    (start : State) → (writes : List ChannelWrite) → IsLive start tape writes now → IsLive start longer (writes ++ writes_in (answer ∷ [])) later
+    (start : State) → (writes : List ChannelWrite) → IsLive start (map key_event tape) writes now → IsLive start (map key_event longer) (writes ++ writes_in (answer ∷ [])) later
 
 pub sending_starts : (start : State) (sender : Sending) (tape : List (ℕ × Key)) → sender.sent ≡ [] → tape ≡ [] →
     IsLiveSending start sender sender tape start
 sending_starts start sender tape e f =
     record {
       writes = [];
-      live = subst (λ (t : List (ℕ × Key)). IsLive start t [] start) (sym f) (live_starts start);
+      live = subst (λ (t : List (ℕ × Key)). IsLive start (map key_event t) [] start) (sym f) (live_starts start);
       sent = ap (λ (items : List Item). record sender { sent = items }) e;
     }
 
@@ -48,7 +49,7 @@ after_quiet start now later sender out tape longer answer e f h =
     ap (λ (a : Stepped). h.writes ++ writes_in (a ∷ [])) e ∙ append-nil h.writes in
     record {
       writes = h.writes;
-      live = subst (λ (w : List ChannelWrite). IsLive start longer w later) none (f start h.writes h.live);
+      live = subst (λ (w : List ChannelWrite). IsLive start (map key_event longer) w later) none (f start h.writes h.live);
       sent = h.sent;
     }
 
@@ -64,7 +65,7 @@ after_live_write start now later sender out new tape longer answer write e f s h
     let one : h.writes ++ writes_in (answer ∷ []) ≡ h.writes ++ write ∷ [] = ap (λ (a : Stepped). h.writes ++ writes_in (a ∷ [])) e in
     record {
       writes = h.writes ++ write ∷ [];
-      live = subst (λ (w : List ChannelWrite). IsLive start longer w later) one (f start h.writes h.live);
+      live = subst (λ (w : List ChannelWrite). IsLive start (map key_event longer) w later) one (f start h.writes h.live);
       sent = s ∙ ap (λ (o : Sending). record o { sent = o.sent ++ item.Write write ∷ [] }) h.sent
           ∙ ap (λ (items : List Item). record sender { sent = items }) (written_snoc h.writes write);
     }
@@ -84,8 +85,8 @@ unfolding writes_in items_of
 at_live_stop start now later sender out done tape longer answer why at e f k s h =
     let none : h.writes ++ writes_in (answer ∷ []) ≡ h.writes =
     ap (λ (a : Stepped). h.writes ++ writes_in (a ∷ [])) e ∙ append-nil h.writes in
-    let live : IsLive start longer h.writes later =
-    subst (λ (w : List ChannelWrite). IsLive start longer w later) none (f start h.writes h.live) in
+    let live : IsLive start (map key_event longer) h.writes later =
+    subst (λ (w : List ChannelWrite). IsLive start (map key_event longer) w later) none (f start h.writes h.live) in
     let stopped : later.stopped ≡ Some why = subst (λ (a : Stepped). KeepsStop (later, a)) e k in
     let run : run_of (replayed longer start) ≡ record { writes = h.writes; last = later } = live_ends start later longer h.writes why at live stopped in
     record {

@@ -1,6 +1,7 @@
 //! The machine's thread of a live run: it looks for a key every so often, sends each channel write,
 //! and the end.
-ghost use Rattle.std.specs.Prelude.{◌≡◌, [], ◌∷◌, ◌++◌, List};
+ghost use Rattle.std.specs.Prelude.{◌≡◌, [], ◌∷◌, ◌++◌, List, map};
+ghost use Rattle.agc_script.specs.Merge.{key_event};
 ghost use Rattle.agc_machine.specs.Laws.{HasChannel, KeepsStop};
 ghost use Rattle.agc_machine.specs.Live.{IsLive};
 ghost use Rattle.agc_machine.specs.Replay.{writes_in};
@@ -72,8 +73,8 @@ fn told_past<G: Gate>(gate: &G, mark: u64, cycle: u64) -> u64 {
 /// the next look for a key.
 fn go_on(machine: &mut Machine, taker: &mut KeyTaker) -> Stepped
     ensures live { (start : State) (writes : List ChannelWrite)
-        → IsLive start taker.old.tape writes machine.old
-        → IsLive start taker.new.tape (writes ++ writes_in (result ∷ [])) machine.new }
+        → IsLive start (map key_event taker.old.tape) writes machine.old
+        → IsLive start (map key_event taker.new.tape) (writes ++ writes_in (result ∷ [])) machine.new }
     ensures channel { HasChannel result }
     ensures stop { KeepsStop (machine.new, result) }
     ensures ring { taker.new.ring ≡ taker.old.ring }

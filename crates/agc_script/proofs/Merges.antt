@@ -1,5 +1,5 @@
 -- The merge, one key after another, and that it is a script.
-use Rattle.std.specs.Prelude.{◌≡◌, ℕ, zero, suc, ◌+◌, ◌≤◌, ◌<◌, nat_lt, true, false, List, [], ◌∷◌, ◌++◌, length, take, drop, position, unwrap_or, Result, Ok, Err, is_ok, OnOk, All, if◌then◌else◌}
+use Rattle.std.specs.Prelude.{◌≡◌, ℕ, zero, suc, ◌+◌, ◌≤◌, ◌<◌, nat_lt, true, false, List, [], ◌∷◌, ◌++◌, length, map, take, drop, position, unwrap_or, Result, Ok, Err, is_ok, OnOk, All, if◌then◌else◌}
 use Rattle.std.proofs.Common.{refl, arith, ◌∙◌, add-one, append_assoc, get_or, one-add, inl, inr}
 use Rattle.std.proofs.Math.Seq.{drop-cons}
 use Rattle.std.proofs.Math.ListN.{drop_of_length-le}
@@ -13,7 +13,7 @@ use Rattle.agc_script.specs.declared.event.Event.{Event}
 use Rattle.agc_script.specs.Event.{IsInRange, IsWhatInRange, last_cycle}
 use Rattle.agc_script.specs.Script.{IsInOrder, IsScript}
 use Rattle.agc_script.specs.Tape.{IsRising, IsTape}
-use Rattle.agc_script.specs.Merge.{key_event, due_at, merged}
+use Rattle.agc_script.specs.Merge.{key_event, due_at, joined, merged}
 
 -- the number of events that are due, as the search for the first later one gives it
 pub due_found : (cycle : ℕ) (events : List Event) → unwrap_or (position (λ event. nat_lt cycle event.cycle) events) (length events) ≡ due_at cycle events
@@ -25,14 +25,14 @@ due_found cycle events =
 pub merged-next : (done rest more : List Event) (tape : List (ℕ × Key)) (i due : ℕ) (entry other : ℕ × Key) → i < length tape → entry ≡ get_or tape i other
     → due ≡ due_at entry.0 rest → more ≡ (done ++ take due rest) ++ key_event entry ∷ []
     → more ++ merged (drop due rest) (drop (i + 1) tape) ≡ done ++ merged rest (drop i tape)
-unfolding merged
+unfolding joined
 merged-next done rest more tape i due entry other l e d m =
     let cut : drop i tape ≡ entry ∷ drop (i + 1) tape = rw (e, add-one) (drop-cons tape i other l) in
     rw (cut, m, d, append_assoc, append_assoc)
 
 -- no key is left
 pub merged-end : (rest : List Event) (tape : List (ℕ × Key)) (i : ℕ) → length tape ≤ i → merged rest (drop i tape) ≡ rest
-unfolding merged
+unfolding joined
 merged-end rest tape i l = rw (drop_of_length-le tape l)
 
 -- a last step that may fail
@@ -42,7 +42,7 @@ on_ok_if (Err x) new now old all e h = tt
 
 -- what holds of all events and of all keys
 merged-All : (P : Event → Type 0) (events : List Event) (tape : List (ℕ × Key)) → All P events → All (λ entry. P (key_event entry)) tape → All P (merged events tape)
-unfolding merged
+unfolding joined
 merged-All P events [] h k = h
 merged-All P events (entry ∷ tape) h k =
     let due = due_at entry.0 events in
@@ -93,7 +93,7 @@ later_after c (event ∷ events) h =
 
 -- a script with keys in it is in order
 merged-in_order : (events : List Event) (tape : List (ℕ × Key)) → IsInOrder events → IsRising tape → IsInOrder (merged events tape)
-unfolding merged IsInOrder IsRising
+unfolding joined IsInOrder IsRising
 merged-in_order events [] h r = h
 merged-in_order events (entry ∷ tape) h r =
     let due = due_at entry.0 events in
@@ -107,7 +107,7 @@ unfolding IsInRange IsWhatInRange
 key-in_range entry h = (h, tt)
 
 length-merged : (events : List Event) (tape : List (ℕ × Key)) → length (merged events tape) ≡ length events + length tape
-unfolding merged
+unfolding joined
 length-merged events [] = omega arith
 length-merged events (entry ∷ tape) =
     let due : ℕ = due_at entry.0 events in
@@ -128,26 +128,41 @@ merged_script events tape s t h = record {
   few = omega (arith, length-merged events tape);
 }
 
--- laws for those who play a merged script: an event of a key's cycle or less comes before the key ..
-pub merged_event_first : (event : Event) (events : List Event) (entry : ℕ × Key) (tape : List (ℕ × Key)) → event.cycle ≤ entry.0
-    → merged (event ∷ events) (entry ∷ tape) ≡ event ∷ merged events (entry ∷ tape)
-unfolding merged
-merged_event_first event events entry tape h =
-    let due : nat_lt entry.0 event.cycle ≡ false = lt-leb (suc entry.0) event.cycle (omega arith) in
+-- laws for those who play a joined script: an event of a given one's cycle or less comes before it ..
+pub joined_event_first : (event : Event) (events : List Event) (given : Event) (later : List Event) → event.cycle ≤ given.cycle
+    → joined (event ∷ events) (given ∷ later) ≡ event ∷ joined events (given ∷ later)
+unfolding joined
+joined_event_first event events given later h =
+    let due : nat_lt given.cycle event.cycle ≡ false = lt-leb (suc given.cycle) event.cycle (omega arith) in
     rw (due, one-add)
 
--- .. and where the first event comes later, or none is left, the key comes first
+-- .. and where the first event comes later, or none is left, the given one comes first
+pub joined_given_first : (event : Event) (events : List Event) (given : Event) (later : List Event) → given.cycle < event.cycle
+    → joined (event ∷ events) (given ∷ later) ≡ given ∷ joined (event ∷ events) later
+unfolding joined
+joined_given_first event events given later h =
+    let above : nat_lt given.cycle event.cycle ≡ true = le-leb (suc given.cycle) event.cycle h in
+    rw above
+
+pub joined_given_last : (given : Event) (later : List Event) → joined [] (given ∷ later) ≡ given ∷ joined [] later
+unfolding joined
+joined_given_last given later = refl
+
+pub joined_none : (events : List Event) → joined events [] ≡ events
+unfolding joined
+joined_none events = refl
+
+-- the same of the live keys of a tape
+pub merged_event_first : (event : Event) (events : List Event) (entry : ℕ × Key) (tape : List (ℕ × Key)) → event.cycle ≤ entry.0
+    → merged (event ∷ events) (entry ∷ tape) ≡ event ∷ merged events (entry ∷ tape)
+merged_event_first event events entry tape h = joined_event_first event events (key_event entry) (map key_event tape) h
+
 pub merged_key_first : (event : Event) (events : List Event) (entry : ℕ × Key) (tape : List (ℕ × Key)) → entry.0 < event.cycle
     → merged (event ∷ events) (entry ∷ tape) ≡ key_event entry ∷ merged (event ∷ events) tape
-unfolding merged
-merged_key_first event events entry tape h =
-    let later : nat_lt entry.0 event.cycle ≡ true = le-leb (suc entry.0) event.cycle h in
-    rw later
+merged_key_first event events entry tape h = joined_given_first event events (key_event entry) (map key_event tape) h
 
 pub merged_keys_last : (entry : ℕ × Key) (tape : List (ℕ × Key)) → merged [] (entry ∷ tape) ≡ key_event entry ∷ merged [] tape
-unfolding merged
-merged_keys_last entry tape = refl
+merged_keys_last entry tape = joined_given_last (key_event entry) (map key_event tape)
 
 pub merged_no_keys : (events : List Event) → merged events [] ≡ events
-unfolding merged
-merged_no_keys events = refl
+merged_no_keys events = joined_none events

@@ -8,7 +8,7 @@ use Rattle.agc_script.specs.declared.key.Key.{Key}
 use Rattle.agc_script.specs.declared.event.Event.{Event}
 use Rattle.agc_script.specs.Script.{IsInOrder}
 use Rattle.agc_script.specs.Tape.{IsRising}
-use Rattle.agc_script.specs.Merge.{key_event, due_at, merged, Entry, event_of, scripted, live, ComesBefore, AreInPlace, IsMerge}
+use Rattle.agc_script.specs.Merge.{key_event, due_at, joined, merged, Entry, event_of, scripted, live, ComesBefore, AreInPlace, IsMerge}
 use Rattle.agc_script.proofs.Merges.{due_before, drop-in_order}
 
 abbrev scripts : List Event → List Entry
@@ -33,7 +33,7 @@ scripts-live [] = refl
 scripts-live (event ∷ events) = scripts-live events
 
 merged_entries : (events : List Event) (tape : List (ℕ × Key)) → merged events tape ≡ map event_of (entries_of events tape)
-unfolding merged entries_of
+unfolding joined entries_of
 merged_entries events [] = sym (scripts-events events)
 merged_entries events (key ∷ tape) =
     rw (map-append event_of (scripts (take (due_at key.0 events) events)) (inr key ∷ entries_of (drop (due_at key.0 events) events) tape), scripts-events (take (due_at key.0 events) events))

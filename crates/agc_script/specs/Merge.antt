@@ -13,17 +13,21 @@ use Rattle.agc_script.specs.declared.fault.FaultKind.TheVariants.{TooMany, Memor
 abbrev pub key_event : ℕ × Key → Event
 key_event entry = record { cycle = entry.0; what = what.Key entry.1 }
 
--- how many events stand before a live key: those of its cycle or less
+-- how many events stand before a given one: those of its cycle or less
 abbrev pub due_at : ℕ → List Event → ℕ
 due_at cycle events = position_or_len (λ event. nat_lt cycle event.cycle) events
 
--- The events of a script and of a tape in one list: each live key stands after all script events of
--- its cycle or less, and before all others.
-unfoldable pub merged : List Event → List (ℕ × Key) → List Event
-merged events [] = events
-merged events (entry ∷ tape) =
-    let due = due_at entry.0 events in
-    take due events ++ key_event entry ∷ merged (drop due events) tape
+-- The events of a script and given events in one list: each given event stands after all script
+-- events of its cycle or less, and before all others.
+unfoldable pub joined : List Event → List Event → List Event
+joined events [] = events
+joined events (given ∷ later) =
+    let due = due_at given.cycle events in
+    take due events ++ given ∷ joined (drop due events) later
+
+-- the events of a script and the live keys of a tape in one list
+abbrev pub merged : List Event → List (ℕ × Key) → List Event
+merged events tape = joined events (map key_event tape)
 
 -- an entry of a merge: an event of the script, or a live key of the tape
 abbrev pub Entry : Type 0

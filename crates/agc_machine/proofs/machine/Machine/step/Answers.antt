@@ -2,4 +2,4 @@ use Rattle.agc_machine.proofs.Replay.{boundary_shows}
 use Rattle.agc_machine.proofs.machine.Machine.step.Goals as goal
 
 pub returns-clause-channel : goal.returns-clause-channel
-returns-clause-channel c = boundary_shows c.args.live _ _ c.step.ensures.step
+returns-clause-channel c = boundary_shows c.pressed_live.result _ _ c.step.ensures.step
