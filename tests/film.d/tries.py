@@ -16,6 +16,8 @@ from browser import Browser
 HERE = os.path.dirname(os.path.abspath(__file__))
 SIDES = ('left', 'right')
 FIELDS = ('PROG', 'VERB', 'NOUN', 'R1', 'R2', 'R3')
+LINES = (*FIELDS, 'FLASH', 'LAMPS')
+KEYFRAME_EVERY = 1024
 BLOCKS = re.compile('<script type="text/plain".*</script>\n(?=<script>)', re.DOTALL)
 
 # The segments of the DSKY's digits: a top, b upper right, c lower right, d bottom, e lower left, f upper left, g middle.
@@ -36,6 +38,7 @@ HALF_LOWER = {'VERB': '+', 'NOUN': '-', 'ENTR': 'CLR', 'RSET': 'PRO'}
 A_SECOND = 1024000 / 12  # cycles
 SPEEDS = {'1×': 1, '10×': 10, '100×': 100, '1000×': 1000}
 CONTROLS = ('apart', 'strip', 'time', 'start', 'previous', 'play', 'next', 'end', 'difference', 'speed', 'clock')
+PART = (140000, 265000)  # the first and the last cycle of the part that tests/film films
 WIDTH, HEIGHT = 1000, 900  # in which all controls are seen
 
 
@@ -116,16 +119,25 @@ def run(frames, keys=(), stop=2000000, rope='rope', script='script'):
     return text + ''.join(f'key {cycle} {name}\n' for cycle, name in keys) + f'stop {stop} Limit\n'
 
 
-def frames_in(page, side):
-    """The frames of a block of a page: their cycles and panels."""
-    block = page.split(f'id="{side}">\n')[1].split('</script>')[0]
+def written_in(page, side):
+    """The frames of a run of a page as they are written: their cycles, and the lines that each has."""
+    blocks = re.findall(f'<script type="text/plain" (?:id|class)="{side}">\n(.*?)</script>', page, re.DOTALL)
     frames = []
-    for line in block.splitlines():
+    for line in ''.join(blocks).splitlines():
         word, _, rest = line.partition(' ')
         if word == 'frame':
-            frames.append((int(rest), ''))
-        elif word not in ('rope', 'script', 'limit', 'key', 'stop'):
-            frames[-1] = (frames[-1][0], frames[-1][1] + line + '\n')
+            frames.append((int(rest), []))
+        elif word in LINES:
+            frames[-1][1].append(line)
+    return frames
+
+
+def frames_in(page, side):
+    """The frames of a run of a page, unpacked: their cycles and panels."""
+    frames, shown = [], dict(zip(LINES, panel().splitlines()))
+    for cycle, lines in written_in(page, side):
+        shown.update((line.split(' ')[0], line) for line in lines)
+        frames.append((cycle, ''.join(shown[name] + '\n' for name in LINES)))
     return frames
 
 
@@ -220,6 +232,99 @@ def try_long_film(tries):
     tries.check('the panel after the border', (after, panel(PROG='12')), (tries.cycle(), tries.look("panel('left')")))
     tries.press('ArrowLeft', 'ArrowLeft')
     tries.check('back over the border', (int(cycles[0][-2]), panel(PROG='12')), (tries.cycle(), tries.look("panel('left')")))
+    try_keyframes(tries, written_in(page, 'left'))
+
+
+def try_keyframes(tries, frames):
+    """Each 1024th frame has all lines, and each other one those alone that changed: that of PROG."""
+    whole = [panel(PROG='12').splitlines()] * len(frames[::KEYFRAME_EVERY])
+    tries.check('the keyframes', whole, [lines for _, lines in frames[::KEYFRAME_EVERY]])
+    others = [lines for place, (_, lines) in enumerate(frames) if place % KEYFRAME_EVERY]
+    tries.check('the other frames', [['PROG 11'], ['PROG 12']], [list(lines) for lines in sorted(set(map(tuple, others)))])
+    for place in (KEYFRAME_EVERY - 1, KEYFRAME_EVERY, KEYFRAME_EVERY + 1, 10 * KEYFRAME_EVERY - 1):
+        tries.go(frames[place][0])
+        tries.check(f'the panel of frame {place}', panel(PROG='11' if place % 2 else '12'), tries.look("panel('left')"))
+
+
+def try_unpacking(tries):
+    """Frames of the lines that changed alone: what a frame does not say stays, as far as the keyframe before it."""
+    frames = [(1000, panel(PROG='12', R1='+12345', lamps='TEMP')), (2000, 'PROG 34\n'), (3000, 'R1 ______\nFLASH on\n'),
+              (4000, 'LAMPS none\n'), (5000, 'PROG __\nVERB 16\n')]
+    wanted = [panel(), panel(PROG='12', R1='+12345', lamps='TEMP'), panel(PROG='34', R1='+12345', lamps='TEMP'),
+              panel(PROG='34', flash='on', lamps='TEMP'), panel(PROG='34', flash='on'), panel(VERB='16', flash='on')]
+    tries.open(tries.page('packed.html', left=run(frames, [(1500, 'VERB')])))
+    for place, shown in enumerate(wanted):
+        tries.go(1000 * place + 500)
+        tries.check(f'the panel of {1000 * place + 500}, unpacked', shown, tries.look("panel('left')"))
+    for place, shown in reversed(list(enumerate(wanted))):
+        tries.go(1000 * place)
+        tries.check(f'the panel of {1000 * place}, unpacked backwards', shown, tries.look("panel('left')"))
+    # the keyframe at place 1024 says all: what stands before it does not show through
+    many = [(10 * n, panel(NOUN='77') if n == 1 else f'VERB {n % 64:02o}\n') for n in range(1, KEYFRAME_EVERY + 1)]
+    after = (10 * KEYFRAME_EVERY + 10, panel(PROG='21'))
+    tries.open(tries.page('many.html', left=run([*many, after, (after[0] + 10, 'PROG 22\n')])))
+    for cycle, shown in [(after[0] - 10, panel(VERB='00', NOUN='77')), (after[0], panel(PROG='21')), (after[0] + 10, panel(PROG='22')),
+                         (50, panel(VERB='05', NOUN='77'))]:
+        tries.go(cycle)
+        tries.check(f'the panel of {cycle} beside a keyframe', shown, tries.look("panel('left')"))
+
+
+def try_part(tries):
+    """The film of a part: its first panel, its controls, its keys, and what a whole film shows at each of its cycles."""
+    whole, part = frames_in(tries.file('one.html'), 'left'), frames_in(tries.file('part.html'), 'left')
+    first = [shown for cycle, shown in whole if cycle <= PART[0]][-1]
+    tries.check('the frames of the part', [(PART[0], first), *(frame for frame in whole if PART[0] < frame[0] <= PART[1])], part)
+    tries.open('part.html')
+    tries.check('a part opens at its first cycle', (PART[0], first), (tries.cycle(), tries.look("panel('left')")))
+    for cycle in (60000, 110000):
+        tries.go(cycle)
+        tries.check('nothing before it is shown', PART[0], tries.cycle())
+    for cycle in (150004, 200000, 229999, 260000):
+        tries.go(cycle)
+        tries.check(f"agc's panel of {cycle} in the part", tries.file(f'panel.{cycle}'), tries.look("panel('left')"))
+    tries.check('the keys up to then', 'Keys: VERB 1 6 NOUN 6 2 ENTR PRO', tries.look("keys('left')"))
+    for key, cycle in (('Home', PART[0]), ('End', PART[1])):
+        tries.press(key)
+        tries.check(f'where {key} goes', cycle, tries.cycle())
+    tries.check('no stop in the part', 'Keys: VERB 1 6 NOUN 6 2 ENTR PRO', tries.look("keys('left')"))
+    tries.check('PRO is held at its end', 'PRO', tries.look("down('left')"))
+    tries.press('Home', 'ArrowLeft')
+    tries.check('no change before the first', PART[0], tries.cycle())
+    tries.press('ArrowRight')
+    tries.check('the change after the first', part[1][0], tries.cycle())
+    box = tries.look("box('time')")
+    tries.browser.click((box['left'] + box['right']) / 2, (box['top'] + box['bottom']) / 2)
+    tries.near('the middle of the slider', sum(PART) / 2, tries.cycle(), (PART[1] - PART[0]) / 100)
+    strip = tries.look("box('strip')")
+    width = strip['right'] - strip['left']
+    keys = [cycle for cycle in (130000, 150000, 170000, 190000, 210000, 230000, 250000, 260000) if cycle >= PART[0]]
+    found = tries.look('strokes(16, [244, 244, 238])')
+    tries.check('how many keys the strip of a part has', len(keys), len(found))
+    for cycle, at in zip(keys, found):
+        tries.near(f'where the strip of a part has the key of {cycle}', 8 + (width - 16) * (cycle - PART[0]) / (PART[1] - PART[0]), at, 1.5)
+    tries.press('Home')
+    tries.click('play')
+    tries.look('pictures(3)')
+    tries.check('a part plays from its first cycle', True, PART[0] < tries.cycle() < PART[1])
+    tries.click('play')
+    tries.open('later.html')
+    tries.check('after the stop there is its panel', [tries.file('panel.299999'), 'cycle 400000 of 400000'],
+                [tries.look("panel('left')"), tries.clock()[:22]])
+    tries.check('and the stop is told', True, tries.look("keys('left')").endswith('Stopped: Limit'))
+
+
+def try_remark(tries):
+    """A film of more than a million frames has a remark that names a part; the page is shown all the same."""
+    frames = tries.file('million.html').count('\nframe ')
+    tries.check('more than a million frames', True, frames > 1000000)
+    told = f'agc-study: the film has {frames} frames, and a browser may be slow with it; --from and --to film a part\n'
+    tries.check('the remark on a long film', told, tries.file('remark'))
+    tries.check('no remark on a part of it', '', tries.file('no_remark'))
+    tries.open('million.html', 'cycle=5650000')
+    shown = tries.look("panel('left')")
+    tries.check('a long film is shown', True, shown in (panel(PROG='11'), panel(PROG='12')))
+    tries.open('few.html', 'cycle=5650000')
+    tries.check('its part shows the same', shown, tries.look("panel('left')"))
 
 
 def try_two_films(tries):
@@ -243,6 +348,16 @@ def try_two_films(tries):
     tries.open('same.html')
     tries.check('two equal runs', 'never', tries.look("text('parting')"))
     tries.check('no first difference of them', None, tries.look("box('difference')"))
+
+
+def try_long_names(tries):
+    """However long the names of files, the cycles and what is told are, all controls are seen."""
+    name = 'a-long-folder/' * 12 + 'rope'
+    sides = [run([(100, panel(PROG=shown, **{field: '+12345' if field[0] == 'R' else '16' for field in others}))], stop=1000000000, rope=name, script=name)
+             for shown, others in (('11', ()), ('12', ('VERB', 'NOUN', 'R1', 'R2', 'R3')))]
+    tries.open(tries.page('names.html', left=sides[0], right=sides[1], parting='100'), 'cycle=999999999')
+    try_controls(tries)
+    tries.check('the whole title', f'Left run: {name}, {name}', tries.look("title('left')"))
 
 
 def try_controls(tries):
@@ -471,7 +586,7 @@ def try_playing(tries):
     tries.check('from the end it plays from the start', True, tries.cycle() < 1000000)
 
 
-TRIES = (try_constants, try_film, try_changes, try_blocks, try_long_film, try_two_films, try_segments, try_lamps, try_keyboard, try_keys, try_short_run,
+TRIES = (try_constants, try_film, try_changes, try_blocks, try_unpacking, try_long_film, try_remark, try_part, try_two_films, try_long_names, try_segments, try_lamps, try_keyboard, try_keys, try_short_run,
          try_two_runs, try_unread, try_slider, try_speeds, try_playing)
 
 

@@ -1,5 +1,5 @@
 //! What the program is asked for.
-use agc_film::RunFiles;
+use agc_film::{Part, RunFiles};
 use agc_store::RopeForm;
 use agc_trace::Selection;
 
@@ -125,6 +125,8 @@ pub struct Filming {
     pub files: RunFiles,
     /// The files of the run on the right.
     pub other: Option<RunFiles>,
+    /// The part that is filmed.
+    pub part: Part,
     pub form: RopeForm,
     pub limit: u64,
     /// The text of `--until`.

@@ -84,7 +84,9 @@ fn film_command<'a>(alloc: Global) -> Result<Command<'a>, AllocError> {
         .arg(other_script(alloc))?
         .arg(limit_option(alloc))?
         .arg(form_option(alloc))?
-        .arg(until_option(alloc))
+        .arg(until_option(alloc))?
+        .arg(cycle_option(alloc, "from", "The first cycle that is filmed"))?
+        .arg(cycle_option(alloc, "to", "The last cycle that is filmed"))
 }
 
 fn other_rope<'a>(alloc: Global) -> Arg<'a> {

@@ -2,7 +2,7 @@
 use crate::asked::{Asked, CheckedRun, Checking, Comparing, Filming, Listing, Tracing, Weaving};
 use crate::command_line::command;
 use agc_args::{ArgsFault, WordsFault, fault_of, words_of};
-use agc_film::RunFiles;
+use agc_film::{Part, RunFiles};
 use agc_store::RopeForm;
 use agc_trace::{Only, Selection};
 use clap::ArgMatches;
@@ -159,6 +159,7 @@ fn filming_of(alloc: Global, given: &ArgMatches<'_>) -> Result<Filming, ArgsFaul
             script: path_of(alloc, given, "script")?,
         },
         other: other_run_of(alloc, given)?,
+        part: part_of(alloc, given)?,
         form: form_of(given),
         limit: number_of(given, "limit", 0),
         until: text_of(alloc, given, "until")?,
@@ -178,6 +179,17 @@ fn other_run_of(alloc: Global, given: &ArgMatches<'_>) -> Result<Option<RunFiles
             "error: the other run needs a SCRIPT beside its ROPE\n",
         )),
     }
+}
+
+/// The part of a run that is filmed, which has a cycle.
+fn part_of(alloc: Global, given: &ArgMatches<'_>) -> Result<Part, ArgsFault> {
+    let from = number_of(given, "from", 0);
+    let to = number_of(given, "to", u64::MAX);
+    if to < from {
+        let text = format!(in alloc; "{NAME}: no cycle is from {from} to {to}\n")?;
+        return Err(ArgsFault::Command(text));
+    }
+    Ok(Part { from, to })
 }
 
 /// The number of an option, or this one where it is not given.

@@ -12,6 +12,7 @@ use Rattle.agc_film.specs.Frames.{shown_after, shown_at}
 use Rattle.agc_film.specs.Laws.{AreCuts, frames_of_run}
 use Rattle.agc_film.specs.Parting.{PartAt, first_difference}
 use Rattle.agc_film.specs.declared.frame.Frame.{Frame}
+use Rattle.agc_film.specs.declared.part.Part.{Part}
 use Rattle.agc_film.proofs.Alone.{earlier_alone, left_alone, right_alone}
 use Rattle.agc_film.proofs.Cuts.{cuts_later, film_is_cut}
 use Rattle.agc_film.proofs.Differ.{DifferFirst, at_the_same_cycle}
@@ -55,11 +56,12 @@ unfolding shown_at
 part_where_differ ls rs None d = d
 part_where_differ ls rs (Some cycle) d = (d.1, d.2)
 
-cut_from_start : (s : State) → AreCuts 0 (panel_text (panel_of [])) (frames_of_run s)
+cut_from_start : (s : State) (part : Part) → AreCuts 0 (panel_text (panel_of [])) (frames_of_run part s)
 unfolding shown_after
-cut_from_start s = cuts_later 0 s.cycle (panel_text (panel_of [])) (frames_of_run s) (omega arith) (film_is_cut s)
+cut_from_start s part = cuts_later 0 part.from (panel_text (panel_of [])) (frames_of_run part s) (omega arith) (film_is_cut s part)
 
-pub films_part : (s t : State) → PartAt (frames_of_run s) (frames_of_run t) (first_difference (frames_of_run s) (frames_of_run t))
-films_part s t =
-    part_where_differ (frames_of_run s) (frames_of_run t) (first_difference (frames_of_run s) (frames_of_run t))
-    (differ_first 0 (panel_of []) (panel_of []) (frames_of_run s) (frames_of_run t) refl (cut_from_start s) (cut_from_start t))
+pub films_part : (s t : State) (part : Part) →
+    PartAt (frames_of_run part s) (frames_of_run part t) (first_difference (frames_of_run part s) (frames_of_run part t))
+films_part s t part =
+    part_where_differ (frames_of_run part s) (frames_of_run part t) (first_difference (frames_of_run part s) (frames_of_run part t))
+    (differ_first 0 (panel_of []) (panel_of []) (frames_of_run part s) (frames_of_run part t) refl (cut_from_start s part) (cut_from_start t part))

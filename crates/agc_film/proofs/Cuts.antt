@@ -12,9 +12,11 @@ use Rattle.agc_machine.proofs.Chain.{run_rises}
 use Rattle.agc_panel.specs.Face.{panel_of}
 use Rattle.agc_panel.specs.Text.{panel_text}
 use Rattle.agc_panel.specs.declared.face.Face.{Face}
-use Rattle.agc_film.specs.Frames.{frame_of, frames_after, frames_of, shown_after}
+use Rattle.agc_film.specs.Frames.{between, frame_of, frames_after, frames_of, last_of, opening_of, shown_after, up_to}
 use Rattle.agc_film.specs.Laws.{AreCuts, frames_of_run}
 use Rattle.agc_film.specs.declared.frame.Frame.{Frame}
+use Rattle.agc_film.specs.declared.part.Part.{Part}
+use Rattle.agc_film.proofs.Spans.{between_rises}
 
 -- the frame of a write, where both panels do not show the same
 abbrev pub one_or_none : Bool → ℕ → Face → List Frame
@@ -39,6 +41,16 @@ cuts_after from before (write ∷ writes) r =
     (bytes_eq (panel_text (panel_of before)) (panel_text (panel_of (before ++ write ∷ [])))) refl r.0
     (cuts_after (write.cycle + 1) (before ++ write ∷ []) writes r.2)
 
-pub film_is_cut : (s : State) → AreCuts s.cycle (shown_after []) (frames_of_run s)
+-- the frames of a part, of its writes
+pub part_is_cut : (from : ℕ) (before writes : List ChannelWrite) → AreRising (from + 1) writes →
+    AreCuts from (shown_after []) (opening_of from before ++ frames_after before writes)
+unfolding opening_of shown_after
+part_is_cut from before writes r =
+    cut from (panel_text (panel_of [])) from (panel_of before) (frames_after before writes)
+    (bytes_eq (panel_text (panel_of [])) (panel_text (panel_of before))) refl (omega arith) (cuts_after (from + 1) before writes r)
+
+pub film_is_cut : (s : State) (part : Part) → AreCuts part.from (shown_after []) (frames_of_run part s)
 unfolding frames_of
-film_is_cut s = cuts_after s.cycle [] (run_of s).writes (run_rises s)
+film_is_cut s part =
+    part_is_cut part.from (up_to part.from (run_of s).writes) (between part.from (last_of part) (run_of s).writes)
+    (between_rises part.from (last_of part) s.cycle (run_of s).writes (run_rises s))

@@ -1,5 +1,6 @@
--- The frames of a run: the panel at each write that changes what it shows.
-use Rattle.std.specs.Prelude.{◌≡◌, ℕ, nat_le, if◌then◌else◌, List, [], ◌∷◌, ◌++◌, filter, map}
+-- The frames of a part of a run: the panel at its first cycle, and at each write after it that changes what
+-- the panel shows.
+use Rattle.std.specs.Prelude.{ℕ, ◌&&◌, max, nat_le, nat_lt, if◌then◌else◌, List, [], ◌∷◌, ◌++◌, filter, map}
 use Rattle.std.specs.Prelude.{None, unwrap_or}
 use Rattle.std.specs.List.{last_or}
 use Rattle.std.specs.Str.{bytes_eq}
@@ -7,7 +8,7 @@ use Rattle.agc_machine.specs.declared.answer.ChannelWrite.{ChannelWrite}
 use Rattle.agc_panel.specs.Face.{panel_of}
 use Rattle.agc_panel.specs.Text.{panel_text}
 use Rattle.agc_film.specs.declared.frame.Frame.{Frame}
-use Rattle.agc_film.specs.declared.recorder.Recorder.{Recorder}
+use Rattle.agc_film.specs.declared.part.Part.{Part}
 
 -- what the panel shows after these writes
 unfoldable pub shown_after : List ChannelWrite → List ℕ
@@ -27,14 +28,32 @@ frames_after before [] = []
 frames_after before (write ∷ writes) =
     frame_of before write ++ frames_after (before ++ write ∷ []) writes
 
--- the frames of writes; before the first one the panel is blank
-unfoldable pub frames_of : List ChannelWrite → List Frame
-frames_of writes = frames_after [] writes
+-- The frame with which a film begins at a cycle, after these writes: none where the panel shows then what
+-- it shows before any write.
+unfoldable pub opening_of : ℕ → List ChannelWrite → List Frame
+opening_of from before =
+    if bytes_eq (shown_after []) (shown_after before) then []
+    else record { cycle = from; panel = panel_of before } ∷ []
 
--- a recorder has taken these writes
-pub record HasTaken (writes : List ChannelWrite) (recorder : Recorder) : Type 0 where
-  pub panel : recorder.panel ≡ panel_of writes
-  pub frames : recorder.frames.items ≡ frames_of writes
+-- the writes up to a cycle
+abbrev pub up_to : ℕ → List ChannelWrite → List ChannelWrite
+up_to cycle writes = filter (λ write. nat_le write.cycle cycle) writes
+
+-- the writes after a cycle, up to a later one
+abbrev pub between : ℕ → ℕ → List ChannelWrite → List ChannelWrite
+between from to writes =
+    filter (λ write. nat_lt from write.cycle && nat_le write.cycle to) writes
+
+-- the last cycle of a part: one that would end before it begins has its first cycle alone
+abbrev pub last_of : Part → ℕ
+last_of part = max part.from part.to
+
+-- The frames of a part of these writes: the panel at its first cycle, and each change after that, up to its
+-- last cycle. Before the first frame the panel is blank.
+unfoldable pub frames_of : Part → List ChannelWrite → List Frame
+frames_of part writes =
+    let before = up_to part.from writes in
+    opening_of part.from before ++ frames_after before (between part.from (last_of part) writes)
 
 -- What frames show at a cycle: the panel of the last one up to then, or the blank panel.
 unfoldable pub shown_at : List Frame → ℕ → List ℕ

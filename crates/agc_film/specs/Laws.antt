@@ -1,19 +1,20 @@
--- What holds of the film of a run, in words of the time.
-use Rattle.std.specs.Prelude.{◌≢◌, ℕ, ◌+◌, ◌≤◌, nat_le, List, [], ◌∷◌, filter}
+-- What holds of the film of a part of a run, in words of the time.
+use Rattle.std.specs.Prelude.{◌≢◌, ℕ, ◌+◌, ◌≤◌, List, [], ◌∷◌}
 use Rattle.agc_machine.specs.Run.{run_of}
 use Rattle.agc_machine.specs.State.{State}
 use Rattle.agc_machine.specs.declared.answer.ChannelWrite.{ChannelWrite}
 use Rattle.agc_panel.specs.Text.{panel_text}
-use Rattle.agc_film.specs.Frames.{frames_of}
+use Rattle.agc_film.specs.Frames.{frames_of, up_to}
 use Rattle.agc_film.specs.declared.frame.Frame.{Frame}
+use Rattle.agc_film.specs.declared.part.Part.{Part}
 
--- the frames of the run from a state
-abbrev pub frames_of_run : State → List Frame
-frames_of_run s = frames_of (run_of s).writes
+-- the frames of a part of the run from a state
+abbrev pub frames_of_run : Part → State → List Frame
+frames_of_run part s = frames_of part (run_of s).writes
 
 -- the writes of the run from a state up to a cycle
 abbrev pub writes_up_to : ℕ → State → List ChannelWrite
-writes_up_to cycle s = filter (λ write. nat_le write.cycle cycle) (run_of s).writes
+writes_up_to cycle s = up_to cycle (run_of s).writes
 
 -- Frames from a cycle on, after a panel that shows this: each is later than the one before it, and
 -- shows something else.

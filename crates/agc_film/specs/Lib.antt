@@ -1,6 +1,8 @@
 pub mod Frames
+pub mod Way
 pub mod Presses
 pub mod Reel
+pub mod Packed
 pub mod Parting
 pub mod Title
 pub mod Page

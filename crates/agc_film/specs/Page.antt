@@ -2,20 +2,21 @@
 -- after.
 use Rattle.std.specs.Prelude.{ℕ, ◌%◌, ◌==◌, List, [], ◌++◌, codes, flat_map, Option, Some, None, if◌then◌else◌}
 use Rattle.std.specs.Fmt.{decimal}
+use Rattle.std.specs.List.{concat}
+use Rattle.agc_machine.specs.declared.answer.Stop.{Stop}
 use Rattle.agc_panel.specs.TablesText.{numbered}
-use Rattle.agc_panel.specs.Text.{panel_text}
 use Rattle.agc_trace.specs.Line.{reason_name}
 use Rattle.agc_film.specs.Parting.{first_difference}
+use Rattle.agc_film.specs.Packed.{Packed, packed}
 use Rattle.agc_film.specs.Presses.{button_name}
 use Rattle.agc_film.specs.Title.{title_text}
-use Rattle.agc_film.specs.declared.frame.Frame.{Frame}
 use Rattle.agc_film.specs.declared.press.Press.{Press}
 use Rattle.agc_film.specs.declared.reel.Reel.{Reel}
 use Rattle.agc_film.specs.declared.title.RunFiles.{RunFiles}
 
--- a frame: its cycle, and the eight lines of its panel
-unfoldable pub frame_text : Frame → List ℕ
-frame_text frame = codes "frame " ++ decimal frame.cycle ++ codes "\n" ++ panel_text frame.panel
+-- a frame: its cycle, and the lines of its panel that are written
+unfoldable pub frame_text : Packed → List ℕ
+frame_text frame = codes "frame " ++ decimal frame.cycle ++ codes "\n" ++ concat frame.lines
 
 -- the end of a block of a run, and the beginning of the run's next one
 unfoldable pub border_text : List ℕ → List ℕ
@@ -26,7 +27,7 @@ unfoldable pub after_frame : List ℕ → ℕ → List ℕ
 after_frame name place = if place % 65536 == 65535 then border_text name else []
 
 -- the frame at a place, and what stands after it
-unfoldable pub placed_frame : List ℕ → ℕ → Frame → List ℕ
+unfoldable pub placed_frame : List ℕ → ℕ → Packed → List ℕ
 placed_frame name place frame = frame_text frame ++ after_frame name place
 
 -- a key: its cycle and its name
@@ -34,16 +35,24 @@ unfoldable pub press_text : Press → List ℕ
 press_text press =
     codes "key " ++ decimal press.cycle ++ codes " " ++ button_name press.button ++ codes "\n"
 
--- the stop: its cycle and its reason
-unfoldable pub reel_end_text : Reel → List ℕ
-reel_end_text reel =
-    codes "stop " ++ decimal reel.cycle ++ codes " " ++ reason_name reel.stop ++ codes "\n"
+-- the first cycle
+unfoldable pub reel_start_text : Reel → List ℕ
+reel_start_text reel = codes "from " ++ decimal reel.from ++ codes "\n"
 
--- a run: all its frames, all its keys, its stop
+-- the end at a cycle: the stop with its reason, or that the run goes on
+abbrev pub end_text : ℕ → Option Stop → List ℕ
+end_text cycle (Some why) =
+    codes "stop " ++ decimal cycle ++ codes " " ++ reason_name why ++ codes "\n"
+end_text cycle None = codes "to " ++ decimal cycle ++ codes "\n"
+
+unfoldable pub reel_end_text : Reel → List ℕ
+reel_end_text reel = end_text reel.cycle reel.stop
+
+-- a run: its first cycle, all its frames, all its keys, its end
 unfoldable pub reel_text : List ℕ → Reel → List ℕ
 reel_text name reel =
-    numbered (placed_frame name) reel.frames.items ++ flat_map press_text reel.presses.items
-    ++ reel_end_text reel
+    reel_start_text reel ++ numbered (placed_frame name) (packed reel.frames.items)
+    ++ flat_map press_text reel.presses.items ++ reel_end_text reel
 
 -- a run as blocks of the page, under a name: what it is of, and what it shows
 unfoldable pub block_text : List ℕ → ℕ → RunFiles → Reel → List ℕ

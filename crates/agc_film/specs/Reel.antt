@@ -1,16 +1,28 @@
--- The reel of a run: its frames, its keys and its stop.
-use Rattle.std.specs.Prelude.{◌≡◌, Some}
+-- The reel of a part of a run: its frames, its keys and its end.
+use Rattle.std.specs.Prelude.{◌≡◌, min, nat_le, if◌then◌else◌, Option, None}
 use Rattle.agc_machine.specs.Run.{run_of}
 use Rattle.agc_machine.specs.State.{State}
 use Rattle.agc_machine.specs.Taken.{met_between}
-use Rattle.agc_film.specs.Frames.{frames_of}
+use Rattle.agc_machine.specs.declared.answer.Stop.{Stop}
+use Rattle.agc_film.specs.Frames.{frames_of, last_of}
 use Rattle.agc_film.specs.Presses.{presses_of}
+use Rattle.agc_film.specs.Way.{past}
+use Rattle.agc_film.specs.declared.part.Part.{Part}
 use Rattle.agc_film.specs.declared.reel.Reel.{Reel}
 
--- A reel shows the run from a state up to its stop: a frame for each write that changes what the
--- panel shows, the keys of the events that the run has met, and the stop's cycle and reason.
-pub record IsReelOf (start : State) (reel : Reel) : Type 0 where
-  pub frames : reel.frames.items ≡ frames_of (run_of start).writes
-  pub keys : reel.presses.items ≡ presses_of (met_between start (run_of start).last)
-  pub cycle : reel.cycle ≡ (run_of start).last.cycle
-  pub stop : (run_of start).last.stopped ≡ Some reel.stop
+-- the state to which a part of a run goes: the first one past its last cycle, or that of the stop
+abbrev pub end_of : Part → State → State
+end_of part start = past (last_of part) start
+
+-- the stop in a part, where its cycle is one of the part's
+abbrev pub stop_in : Part → State → Option Stop
+stop_in part end = if nat_le end.cycle (last_of part) then end.stopped else None
+
+-- A reel shows a part of the run from a state: its frames, the keys of the events that the run has met
+-- up to its end, and its last cycle, which is that of the stop where the run stops before.
+pub record IsReelOf (part : Part) (start : State) (reel : Reel) : Type 0 where
+  pub from : reel.from ≡ part.from
+  pub frames : reel.frames.items ≡ frames_of part (run_of start).writes
+  pub keys : reel.presses.items ≡ presses_of (met_between start (end_of part start))
+  pub cycle : reel.cycle ≡ min (last_of part) (end_of part start).cycle
+  pub stop : reel.stop ≡ stop_in part (end_of part start)

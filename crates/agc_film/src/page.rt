@@ -10,7 +10,7 @@ pub const HEAD: &str = "<!doctype html>
 <style>
 body { margin: 0 auto; padding: 16px 20px; max-width: 1060px; background: #17191a; color: #e6e6e0; font: 14px/1.45 system-ui, sans-serif; }
 h1 { margin: 0 0 12px; font-size: 18px; font-weight: 600; }
-h2 { margin: 0 0 6px; font-size: 14px; font-weight: 600; color: #b9bab2; overflow-wrap: anywhere; }
+h2 { display: -webkit-box; -webkit-box-orient: vertical; -webkit-line-clamp: 3; overflow: hidden; margin: 0 0 6px; font-size: 14px; font-weight: 600; color: #b9bab2; overflow-wrap: anywhere; }
 #runs { display: flex; flex-wrap: wrap; gap: 24px; justify-content: center; }
 .run { width: 460px; }
 .dsky { display: grid; grid-template-columns: 180px 1fr; gap: 14px; padding: 18px; border-radius: 12px; background: linear-gradient(#a3a69f, #7d807a); box-shadow: inset 0 1px #d5d7d0, inset 0 -3px 6px #55575299, 0 6px 18px #000a; }

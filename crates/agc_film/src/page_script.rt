@@ -9,7 +9,8 @@ const BACKSLASH = String.fromCharCode(92);
 const FRAME = LINE + 'frame ';
 const BLOCK_SIZE = 2 ** 29; // more than a text of the browser can have
 const BLANK = 'PROG __,VERB __,NOUN __,R1 ______,R2 ______,R3 ______,FLASH off,LAMPS none'.split(',').join(LINE) + LINE;
-const SHORTEST = BLANK.length - 9; // a panel has no fewer letters
+const NAMES = BLANK.split(LINE).map((line) => line.split(' ')[0]).filter(Boolean);
+const KEYFRAME_EVERY = 1024; // of so many frames one has all lines of its panel
 
 // the lamps beside the digits, row by row; those of the right column are cautions
 const LAMPS = 'UPLINK ACTY,TEMP,NO ATT,GIMBAL LOCK,,PROG,KEY REL,,OPR ERR,TRACKER,,ALT,ISS,VEL'.split(',');
@@ -48,23 +49,37 @@ function readKey(cycle, name, before) {
   return { cycle, name, held: name.startsWith('PRO') ? name === 'PRO' : Boolean(before && before.held) };
 }
 
-// Takes the frames of a block: the cycle of each, and where its panel stands. Their lines are looked at when they are shown.
+// Takes the frames of a block: the cycle of each, and where its lines stand. These are looked at when they are shown.
 function readFrames(run, block) {
   run.blocks.push(block);
   for (let at = block.indexOf(FRAME); at >= 0; at = block.indexOf(FRAME, at)) {
-    const panel = block.indexOf(LINE, at + FRAME.length) + 1;
-    run.cycles.push(Number(block.slice(at + FRAME.length, panel - 1)));
-    run.places.push((run.blocks.length - 1) * BLOCK_SIZE + panel);
-    at = panel + SHORTEST;
+    const number = at + FRAME.length;
+    at = block.indexOf(LINE, number);
+    if (at < 0) at = block.length;
+    run.cycles.push(Number(block.slice(number, at)));
+    run.places.push((run.blocks.length - 1) * BLOCK_SIZE + at + 1);
   }
 }
 
-// the panel of a frame
-function panelOf(run, frame) {
-  if (frame < 0) return BLANK;
+// Lays the lines of a frame over those of its names. Returns where they end.
+function layLines(run, frame, lines) {
   const block = run.blocks[Math.floor(run.places[frame] / BLOCK_SIZE)];
-  const from = run.places[frame] % BLOCK_SIZE;
-  return block.slice(from, block.indexOf(LINE, block.indexOf('LAMPS', from)) + 1);
+  let from = run.places[frame] % BLOCK_SIZE;
+  for (;;) {
+    const end = block.indexOf(LINE, from);
+    const line = block.slice(from, end);
+    const name = line.slice(0, line.indexOf(' '));
+    if (end < 0 || !lines.has(name)) return from;
+    lines.set(name, line);
+    from = end + 1;
+  }
+}
+
+// the panel of a frame: its keyframe with the lines that changed up to it
+function panelOf(run, frame) {
+  const lines = new Map(BLANK.split(LINE).map((line, i) => [NAMES[i], line]).filter(([name]) => name));
+  for (let one = frame - (frame % KEYFRAME_EVERY); one >= 0 && one <= frame; one += 1) layLines(run, one, lines);
+  return [...lines.values(), ''].join(LINE);
 }
 
 // takes a line that belongs to no frame
@@ -73,9 +88,12 @@ function readLine(run, line) {
   if (word === 'key') {
     run.keyCycles.push(Number(number));
     run.keys.push(readKey(Number(number), rest.join(' '), run.keys.at(-1)));
-  } else if (word === 'stop') {
+  } else if (word === 'stop' || word === 'to') {
     run.stop = Number(number);
     run.reason = rest.join(' ');
+    run.ended = true;
+  } else if (word === 'from') {
+    run.from = Number(number);
   } else if (word === 'limit') {
     run.limit = number;
   } else if (word === 'rope' || word === 'script') {
@@ -83,14 +101,15 @@ function readLine(run, line) {
   }
 }
 
-// a run of the page: its files and its limit, its frames, its keys and its stop; before the first frame the panel is blank
+// a run of the page: its files and its limit, its frames, its keys and its end; before the first frame the panel is blank
 function readRun(id) {
-  const run = { id, blocks: [], cycles: [], places: [], keys: [], keyCycles: [], stop: 0, reason: '' };
+  const run = { id, blocks: [], cycles: [], places: [], keys: [], keyCycles: [], from: 0, stop: 0, reason: '', ended: false };
   for (const part of document.querySelectorAll(`#${id}, script.${id}`)) {
     const block = part.textContent;
+    const before = run.cycles.length;
     readFrames(run, block);
     const first = block.indexOf(FRAME);
-    const last = first < 0 ? 0 : block.indexOf(LINE, block.lastIndexOf(LINE + 'LAMPS') + 1);
+    const last = run.cycles.length > before ? layLines(run, run.cycles.length - 1, new Map(NAMES.map((name) => [name, '']))) : 0;
     if (first >= 0) block.slice(0, first).split(LINE).forEach((line) => readLine(run, line));
     block.slice(last).split(LINE).forEach((line) => readLine(run, line));
   }
@@ -98,9 +117,10 @@ function readRun(id) {
 }
 
 const runs = ['left', 'right'].filter(find).map(readRun);
-const end = Math.max(...runs.map((run) => run.stop));
+const begin = Math.max(...runs.map((run) => run.from));
+const end = Math.max(begin, ...runs.map((run) => run.stop));
 const parting = find('parting') ? Number(find('parting').textContent) : NaN;
-let now = 0;
+let now = begin;
 let playing = false;
 
 // the place of the last of some rising cycles up to a cycle, or -1
@@ -115,7 +135,7 @@ function lastUpTo(cycles, cycle) {
 }
 
 // the last change before a cycle, and the first one after it
-const changeBefore = (cycle) => Math.max(0, ...runs.map((run) => run.cycles[lastUpTo(run.cycles, Math.ceil(cycle) - 1)] ?? 0));
+const changeBefore = (cycle) => Math.max(begin, ...runs.map((run) => run.cycles[lastUpTo(run.cycles, Math.ceil(cycle) - 1)] ?? begin));
 const changeAfter = (cycle) => Math.min(end, ...runs.map((run) => run.cycles[lastUpTo(run.cycles, cycle) + 1] ?? end));
 
 // places for digits, of which the first may be a sign
@@ -145,6 +165,7 @@ function build(run) {
   section.innerHTML = `<h2></h2><div class='dsky' aria-hidden='true'><ul class='lamps'>${lamps}</ul><div class='display'>${display}</div><div class='keys'>${keyPad()}</div></div>`
     + `<div class='copy'><pre id='${run.id}-panel' aria-live='polite' aria-label='The panel'></pre><p id='${run.id}-keys'></p></div>`;
   section.querySelector('h2').textContent = (runs.length === 1 ? '' : run.id === 'left' ? 'Left run: ' : 'Right run: ') + files(run);
+  section.querySelector('h2').title = files(run);
   find('runs').append(section);
   run.section = section;
 }
@@ -188,7 +209,7 @@ function showKeys(run) {
   if (key && key.held) down.add('PRO');
   for (const shown of run.section.querySelectorAll('[data-key]')) shown.classList.toggle('down', down.has(shown.dataset.key));
   const past = run.keys.slice(Math.max(0, last - 11), last + 1);
-  const stop = now >= run.stop ? `${LINE}Stopped: ${run.reason}` : '';
+  const stop = run.reason && now >= run.stop ? `${LINE}Stopped: ${run.reason}` : '';
   find(`${run.id}-keys`).textContent = `Keys: ${past.map((one) => one.name).join(' ') || 'none yet'}${stop}`;
 }
 
@@ -200,7 +221,7 @@ function showDifference() {
 }
 
 function show(cycle) {
-  now = Math.min(Math.max(cycle, 0), end);
+  now = Math.min(Math.max(cycle, begin), end);
   for (const run of runs) {
     showPanel(run, panelOf(run, lastUpTo(run.cycles, now)));
     showKeys(run);
@@ -222,16 +243,17 @@ function drawStrip() {
   strip.height = 40 * scale;
   const pen = strip.getContext('2d');
   pen.scale(scale, scale);
-  const place = (cycle) => 8 + (width - 16) * (cycle / end);
+  const length = Math.max(1, end - begin);
+  const place = (cycle) => 8 + (width - 16) * ((cycle - begin) / length);
   const stroke = (cycle, top, height, wide) => pen.fillRect(place(cycle) - wide / 2, top, wide, height);
   // of cycles that lie closer than a quarter of a point the first one
   const strokes = (cycles, top) => {
-    for (let i = 0; i < cycles.length; i = lastUpTo(cycles, cycles[i] + end / width / 4) + 1) stroke(cycles[i], top, lane / 2 - 3, 1);
+    for (let i = lastUpTo(cycles, begin - 1) + 1; i < cycles.length; i = lastUpTo(cycles, cycles[i] + length / width / 4) + 1) stroke(cycles[i], top, lane / 2 - 3, 1);
   };
   runs.forEach((run, i) => {
     const line = lane * (i + 0.5);
     pen.fillStyle = '#6a6d68';
-    pen.fillRect(8, line, place(run.stop) - 8, 1);
+    pen.fillRect(8, line, Math.max(0, place(run.stop) - 8), 1);
     pen.fillStyle = '#5dff9b';
     strokes(run.cycles, line + 1);
     pen.fillStyle = '#f4f4ee';
@@ -246,8 +268,8 @@ function drawStrip() {
 }
 
 function setPlaying(on) {
-  playing = on && end > 0;
-  if (playing && now >= end) show(0);
+  playing = on && end > begin;
+  if (playing && now >= end) show(begin);
   document.body.classList.toggle('playing', playing);
   find('play').textContent = playing ? '\u{275a}\u{275a} Pause' : '\u{25b6} Play';
   for (const run of runs) find(`${run.id}-panel`).setAttribute('aria-live', playing ? 'off' : 'polite');
@@ -266,7 +288,7 @@ function go(cycle) {
 }
 
 const ACTIONS = {
-  start: () => go(0),
+  start: () => go(begin),
   previous: () => go(changeBefore(now)),
   play: () => setPlaying(!playing),
   next: () => go(changeAfter(now)),
@@ -301,6 +323,7 @@ function followHash() {
 function start() {
   runs.forEach(build);
   showTitle();
+  find('time').min = begin;
   find('time').max = end;
   find('time').addEventListener('input', () => go(Number(find('time').value)));
   for (const [name, action] of Object.entries(ACTIONS)) find(name).addEventListener('click', action);
@@ -309,15 +332,15 @@ function start() {
   document.addEventListener('keydown', onKey);
   window.addEventListener('resize', drawStrip);
   window.addEventListener('hashchange', followHash);
-  show(0);
+  show(begin);
   drawStrip();
   followHash();
 }
 
-// A run without its stop was not read to its end.
-const unread = ['left', 'right'].filter((id) => (id === 'left' || find(id)) && !runs.some((run) => run.id === id && run.reason));
+// A run without its end was not read whole.
+const unread = ['left', 'right'].filter((id) => (id === 'left' || find(id)) && !runs.some((run) => run.id === id && run.ended));
 if (unread.length) {
-  find('trouble').textContent = `This film cannot be read: the browser finds no end of the run ${unread.join(' and ')}. The file is cut off, or the browser cannot hold it; a film of a lower limit is shorter.`;
+  find('trouble').textContent = `This film cannot be read: the browser finds no end of the run ${unread.join(' and ')}. The file is cut off, or the browser cannot hold it; a film of a part, by --from and --to, is shorter.`;
   find('controls').hidden = true;
 } else {
   start();

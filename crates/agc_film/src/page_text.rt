@@ -1,23 +1,20 @@
 //! The page of a film: a constant text with the runs in it as blocks of plain lines.
 ghost use Rattle.std.specs.Prelude.{◌≡◌, ◌++◌, OnOk, flat_map, string_bytes};
 ghost use Rattle.agc_film.specs.Parting.{first_difference};
-ghost use Rattle.agc_panel.specs.TablesText.{numbered};
-ghost use Rattle.agc_film.specs.Page.{after_frame, block_text, border_text, film_pair_text, film_text};
-ghost use Rattle.agc_film.specs.Page.{frame_text, placed_frame};
-ghost use Rattle.agc_film.specs.Page.{parting_block, parting_name, press_text, reel_end_text, reel_text};
+ghost use Rattle.agc_film.specs.Page.{block_text, film_pair_text, film_text, parting_block, parting_name};
+ghost use Rattle.agc_film.specs.Page.{end_text, press_text, reel_end_text, reel_start_text, reel_text};
 
 use crate::frame::Frame;
+use crate::packing::push_frames;
 use crate::page::HEAD;
 use crate::page_script::TAIL;
 use crate::parting::first_difference;
 use crate::press::Press;
 use crate::reel::Reel;
 use crate::title::{RunFiles, push_title};
+use agc_machine::Stop;
 use agc_trace::reason_name;
 use std::alloc::AllocError;
-
-/// How many frames stand in a block, with which it has some 12 MB at most.
-const BLOCK_FRAMES: usize = 65536;
 
 /// Adds the page of one run, with the names of its files and its limit. Fails where memory runs out.
 pub fn push_film(
@@ -123,65 +120,20 @@ fn push_reel(text: &mut String, name: &str, reel: &Reel) -> Result<(), AllocErro
     ensures { OnOk result (string_bytes text.new
         ≡ string_bytes text.old ++ reel_text name.now reel.now) }
 {
+    push_reel_start(text, reel)?;
     push_frames(text, name, reel.frames.as_slice())?;
     push_presses(text, reel.presses.as_slice())?;
     push_reel_end(text, reel)
 }
 
-/// Adds each of some frames, in blocks of a run.
-#[tactic(auto, using(agc_panel::proofs::Lines::numbered_lines))]
-fn push_frames(text: &mut String, name: &str, frames: &[Frame]) -> Result<(), AllocError>
+/// Adds the first cycle of a run's film.
+#[tactic(auto, unfolding(crate::specs::Page::reel_start_text))]
+fn push_reel_start(text: &mut String, reel: &Reel) -> Result<(), AllocError>
     ensures { OnOk result (string_bytes text.new
-        ≡ string_bytes text.old ++ numbered (placed_frame name.now) frames.now) }
+        ≡ string_bytes text.old ++ reel_start_text reel.now) }
 {
-    for (place, frame) in frames.iter().enumerate() {
-        push_placed(text, name, place, frame)?;
-    }
-    Ok(())
-}
-
-/// Adds the frame at a place, and the border to the next block where it is the last one of its block.
-#[tactic(auto, unfolding(crate::specs::Page::placed_frame))]
-fn push_placed(text: &mut String, name: &str, place: usize, frame: &Frame) -> Result<(), AllocError>
-    ensures { OnOk result (string_bytes text.new
-        ≡ string_bytes text.old ++ placed_frame name.now place frame.now) }
-{
-    push_frame(text, frame)?;
-    push_after(text, name, place)
-}
-
-/// Adds what stands after the frame at a place.
-#[tactic(auto, unfolding(crate::specs::Page::after_frame))]
-fn push_after(text: &mut String, name: &str, place: usize) -> Result<(), AllocError>
-    ensures { OnOk result (string_bytes text.new
-        ≡ string_bytes text.old ++ after_frame name.now place) }
-{
-    if place % BLOCK_FRAMES == BLOCK_FRAMES - 1 {
-        push_border(text, name)?;
-    }
-    Ok(())
-}
-
-/// Adds the border to the next block of a run.
-#[tactic(auto, unfolding(crate::specs::Page::border_text))]
-fn push_border(text: &mut String, name: &str) -> Result<(), AllocError>
-    ensures { OnOk result (string_bytes text.new ≡ string_bytes text.old ++ border_text name.now) }
-{
-    text.push_str("</script>\n<script type=\"text/plain\" class=\"")?;
-    text.push_str(name)?;
-    text.push_str("\">\n")
-}
-
-/// Adds a frame.
-#[tactic(auto, unfolding(crate::specs::Page::frame_text))]
-fn push_frame(text: &mut String, frame: &Frame) -> Result<(), AllocError>
-    ensures { OnOk result (string_bytes text.new ≡ string_bytes text.old ++ frame_text frame.now) }
-{
-    let alloc = *text.allocator();
-    let cycle = frame.cycle;
-    let panel = frame.panel.text(alloc)?;
-    writeln!(text, "frame {cycle}")?;
-    text.push_str(panel.as_str())
+    let from = reel.from;
+    writeln!(text, "from {from}")
 }
 
 /// Adds each of some keys.
@@ -205,14 +157,25 @@ fn push_press(text: &mut String, press: Press) -> Result<(), AllocError>
     writeln!(text, "key {cycle} {name}")
 }
 
-/// Adds the stop of a run.
+/// Adds the end of a run's film.
 #[tactic(auto, unfolding(crate::specs::Page::reel_end_text))]
 fn push_reel_end(text: &mut String, reel: &Reel) -> Result<(), AllocError>
     ensures { OnOk result (string_bytes text.new ≡ string_bytes text.old ++ reel_end_text reel.now) }
 {
-    let cycle = reel.cycle;
-    let stop = reason_name(reel.stop);
-    writeln!(text, "stop {cycle} {stop}")
+    push_end(text, reel.cycle, reel.stop)
+}
+
+/// Adds an end: the stop, or that the run goes on.
+fn push_end(text: &mut String, cycle: u64, stop: Option<Stop>) -> Result<(), AllocError>
+    ensures { OnOk result (string_bytes text.new ≡ string_bytes text.old ++ end_text cycle stop) }
+{
+    match stop {
+        Some(why) => {
+            let reason = reason_name(why);
+            writeln!(text, "stop {cycle} {reason}")
+        }
+        None => writeln!(text, "to {cycle}"),
+    }
 }
 
 /// Adds the cycle at which two films part.

@@ -1,5 +1,5 @@
 //! The frames of a run while it goes on.
-ghost use Rattle.std.specs.Prelude.{◌≡◌, OnOk};
+ghost use Rattle.std.specs.Prelude.{◌≡◌, IfOk, OnOk};
 
 use crate::alike::show_alike;
 use crate::frame::Frame;
@@ -7,7 +7,7 @@ use agc_machine::ChannelWrite;
 use agc_panel::Panel;
 use std::alloc::{AllocError, Global};
 
-/// The frames of the writes so far, and the panel of all of them.
+/// The frames so far, and the panel of all writes so far.
 #[derive(Debug, Drop)]
 pub(crate) struct Recorder {
     pub(crate) panel: Panel,
@@ -15,25 +15,29 @@ pub(crate) struct Recorder {
 }
 
 impl Recorder {
-    ghost use Rattle.std.specs.Prelude.{[], ◌∷◌, ◌++◌, List, OnOk};
+    ghost use Rattle.std.specs.Prelude.{◌≡◌, [], ◌∷◌, ◌++◌, ℕ, List, IfOk, OnOk};
     ghost use Rattle.agc_machine.specs.declared.answer.ChannelWrite.{ChannelWrite};
-    ghost use Rattle.agc_film.specs.Frames.{HasTaken};
+    ghost use Rattle.agc_panel.specs.Face.{panel_of};
+    ghost use Rattle.agc_film.specs.Way.{HasTaken};
 
-    /// No write yet.
-    pub(crate) fn new(alloc: Global) -> Recorder
-        ensures { HasTaken [] result }
+    /// A film that begins at a cycle with this panel. Fails where memory runs out.
+    pub(crate) fn new(alloc: Global, cycle: u64, panel: Panel) -> Result<Recorder, AllocError>
+        ensures { IfOk result (λ recorder. (before : List ChannelWrite) → panel ≡ panel_of before
+            → HasTaken cycle before [] recorder) }
     {
-        Recorder {
-            panel: Panel::new(),
-            frames: Vec::new(alloc),
+        let mut frames = Vec::new(alloc);
+        if !show_alike(alloc, &Panel::new(), &panel)? {
+            frames.push(Frame { cycle, panel })?;
         }
+        Ok(Recorder { panel, frames })
     }
 
     /// Takes a write after those so far: one more frame, where the panel shows something else with
     /// it. Fails where memory runs out.
     pub(crate) fn take(&mut self, alloc: Global, write: &ChannelWrite) -> Result<(), AllocError>
-        ensures { OnOk result ((taken : List ChannelWrite) → HasTaken taken self.old
-            → HasTaken (taken ++ write.now ∷ []) self.new) }
+        ensures { OnOk result ((from : ℕ) (before taken : List ChannelWrite)
+            → HasTaken from before taken self.old
+            → HasTaken from before (taken ++ write.now ∷ []) self.new) }
     {
         let before = self.panel;
         self.panel.take(write);

@@ -1,6 +1,8 @@
 //! Films of small programs, worked out by hand. The numbers are octal, but for cycles.
 use crate::press::presses;
-use crate::{Button, Press, Reel, RunFiles, film, first_difference, push_film, push_film_pair};
+use crate::{
+    Button, Part, Press, Reel, RunFiles, film, first_difference, push_film, push_film_pair,
+};
 use agc_listing::rope_file;
 use agc_machine::{Machine, Stop};
 use agc_progress::{Progress, Untold};
@@ -34,7 +36,22 @@ fn reel_of(
     limit: u64,
 ) -> Result<Reel, Fail> {
     let mut machine = machine(rt, listing, script, limit)?;
-    Ok(film(rt.alloc(), &mut machine, &mut Untold)?)
+    Ok(film(rt.alloc(), &mut machine, Part::whole(), &mut Untold)?)
+}
+
+/// The reel of a part of PROG's run, whose limit is 20.
+fn part_of(rt: &(impl AllocGlobal + Abort), from: u64, to: u64) -> Result<Reel, Fail> {
+    let mut machine = machine(rt, PROG, "1 pro down\n7 pro up\n15 pro down\n", 20)?;
+    Ok(film(rt.alloc(), &mut machine, Part { from, to }, &mut Untold)?)
+}
+
+/// The cycles of the first and the last frame.
+fn ends_of(reel: &Reel) -> (Option<u64>, Option<u64>) {
+    let frames = reel.frames.as_slice();
+    (
+        frames.first().map(|frame| frame.cycle),
+        frames.last().map(|frame| frame.cycle),
+    )
 }
 
 /// Two files of these names.
@@ -82,6 +99,7 @@ fn a_frame_for_each_change(rt: HostRuntime) -> Result<(), Fail> {
         "rope prog",
         "script none",
         "limit 20",
+        "from 0",
         "frame 3",
         "PROG 12",
         "VERB __",
@@ -92,12 +110,6 @@ fn a_frame_for_each_change(rt: HostRuntime) -> Result<(), Fail> {
         "FLASH off",
         "LAMPS none",
         "frame 9",
-        "PROG 12",
-        "VERB __",
-        "NOUN __",
-        "R1 ______",
-        "R2 ______",
-        "R3 ______",
         "FLASH on",
         "LAMPS TEMP, KEY REL, OPR ERR, ISS",
         "stop 20 Limit",
@@ -106,6 +118,85 @@ fn a_frame_for_each_change(rt: HostRuntime) -> Result<(), Fail> {
         assert_eq!(rt; lines.next(), Some(line));
     }
     assert_eq!(rt; lines.next(), None);
+    Ok(())
+}
+
+/// PROG 12 is shown from 3 on, and the lamps from 9 on. PRO is held from 1 on and comes up in the part; it goes
+/// down again after it.
+#[test]
+fn a_part_of_a_run(rt: HostRuntime) -> Result<(), Fail> {
+    let reel = part_of(&rt, 5, 12)?;
+    let mut page = String::new(rt.alloc());
+    push_film(&mut page, 20, &files(&rt, "prog", "keys")?, &reel)?;
+    let mut lines = blocks(&rt, page.as_str()).lines();
+    for line in [
+        "left\">",
+        "rope prog",
+        "script keys",
+        "limit 20",
+        "from 5",
+        "frame 5",
+        "PROG 12",
+        "VERB __",
+        "NOUN __",
+        "R1 ______",
+        "R2 ______",
+        "R3 ______",
+        "FLASH off",
+        "LAMPS none",
+        "frame 9",
+        "FLASH on",
+        "LAMPS TEMP, KEY REL, OPR ERR, ISS",
+        "key 1 PRO",
+        "key 7 PRO up",
+        "to 12",
+        "</script>",
+    ] {
+        assert_eq!(rt; lines.next(), Some(line));
+    }
+    assert_eq!(rt; lines.next(), None);
+    Ok(())
+}
+
+/// Of the changes at 3 and 9 a part begins with the last one up to its first cycle.
+#[test]
+fn parts_with_other_ends(rt: HostRuntime) -> Result<(), Fail> {
+    let before = part_of(&rt, 0, 2)?;
+    assert_eq!(rt;
+        (before.frames.len(), before.stop, before.cycle),
+        (0, None, 2)
+    );
+    let at_both = part_of(&rt, 3, 9)?;
+    assert_eq!(rt;
+        ends_of(&at_both),
+        (Some(3), Some(9))
+    );
+    assert_eq!(rt;
+        (at_both.frames.len(), at_both.stop, at_both.cycle),
+        (2, None, 9)
+    );
+    let one = part_of(&rt, 4, 4)?;
+    assert_eq!(rt; ends_of(&one), (Some(4), Some(4)));
+    assert_eq!(rt; (one.frames.len(), one.stop, one.cycle), (1, None, 4));
+    Ok(())
+}
+
+/// The run stops at 20: a part that begins later has the panel of the stop.
+#[test]
+fn parts_and_the_stop(rt: HostRuntime) -> Result<(), Fail> {
+    let up_to = part_of(&rt, 4, 20)?;
+    assert_eq!(rt; (up_to.stop, up_to.cycle), (Some(Stop::Limit), 20));
+    let later = part_of(&rt, 25, 30)?;
+    assert_eq!(rt;
+        ends_of(&later),
+        (Some(25), Some(25))
+    );
+    assert_eq!(rt; (later.stop, later.cycle), (Some(Stop::Limit), 20));
+    let backwards = part_of(&rt, 4, 1)?;
+    assert_eq!(rt;
+        (backwards.frames.len(), backwards.stop, backwards.cycle),
+        (1, None, 4)
+    );
     Ok(())
 }
 
@@ -119,7 +210,7 @@ fn no_frame(rt: HostRuntime) -> Result<(), Fail> {
     let reel = reel_of(&rt, IDLE, "", 8)?;
     assert_eq!(rt; reel.frames.len(), 0);
     assert_eq!(rt; reel.cycle, 8);
-    assert_eq!(rt; reel.stop, Stop::Limit);
+    assert_eq!(rt; reel.stop, Some(Stop::Limit));
     Ok(())
 }
 
@@ -149,6 +240,7 @@ fn keys_before_the_limit(rt: HostRuntime) -> Result<(), Fail> {
         "rope a b~\\074",
         "script \\134/\\303\\251\\012\\177",
         "limit 30",
+        "from 0",
         "key 10 VERB",
         "key 20 PRO",
         "stop 30 Limit",
@@ -178,7 +270,7 @@ fn no_key_that_was_not_met(rt: HostRuntime) -> Result<(), Fail> {
         button: Button::ProDown,
     };
     assert!(rt; reel.presses.as_slice() == [key].as_slice());
-    assert_eq!(rt; (reel.stop, reel.cycle), (Stop::Limit, 11));
+    assert_eq!(rt; (reel.stop, reel.cycle), (Some(Stop::Limit), 11));
     Ok(())
 }
 
@@ -238,16 +330,16 @@ impl Progress for Told {
     }
 }
 
-/// The first order ends at cycle 2. From cycle 11 on each order takes one cycle, so that it is told at
-/// 1000002 and 2000002, in decimal.
+/// The first order ends at cycle 2, past the film's first cycle, and the second one at 3. From cycle 11 on each order
+/// takes one cycle, so that it is told at 2, 3, 1000003 and 2000003, in decimal.
 #[test]
 fn tells_how_far_it_has_come(rt: HostRuntime) -> Result<(), Fail> {
     let mut machine = machine(&rt, PROG, "", 2_500_000)?;
     let mut told = Told::default();
-    let reel = film(rt.alloc(), &mut machine, &mut told)?;
-    assert_eq!(rt; reel.stop, Stop::Limit);
+    let reel = film(rt.alloc(), &mut machine, Part::whole(), &mut told)?;
+    assert_eq!(rt; reel.stop, Some(Stop::Limit));
     assert_eq!(rt; reel.frames.len(), 2);
-    assert_eq!(rt; told.times, 3);
-    assert_eq!(rt; told.cycle, 2_000_002);
+    assert_eq!(rt; told.times, 4);
+    assert_eq!(rt; told.cycle, 2_000_003);
     Ok(())
 }

@@ -61,3 +61,16 @@ panel_text face =
     ++ register_line (codes "R3") face.r3
     ++ flash_line face.flash
     ++ lamps_line face.lamps
+
+-- the same lines, one by one
+unfoldable pub panel_lines : Face → List (List ℕ)
+panel_lines face =
+    pair_line (codes "PROG") face.program
+    ∷ pair_line (codes "VERB") face.verb
+    ∷ pair_line (codes "NOUN") face.noun
+    ∷ register_line (codes "R1") face.r1
+    ∷ register_line (codes "R2") face.r2
+    ∷ register_line (codes "R3") face.r3
+    ∷ flash_line face.flash
+    ∷ lamps_line face.lamps
+    ∷ []

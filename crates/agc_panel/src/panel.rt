@@ -1,11 +1,11 @@
 //! The panel as the display keeps it up, write by write.
-ghost use Rattle.std.specs.Prelude.{◌≡◌, List, [], ◌∷◌, ◌++◌, IfOk, string_bytes};
+ghost use Rattle.std.specs.Prelude.{◌≡◌, List, [], ◌∷◌, ◌++◌, IfOk, map, string_bytes};
 ghost use Rattle.agc_machine.specs.declared.answer.ChannelWrite.{ChannelWrite};
 ghost use Rattle.agc_panel.specs.Face.{face_after, panel_of};
-ghost use Rattle.agc_panel.specs.Text.{panel_text};
+ghost use Rattle.agc_panel.specs.Text.{panel_lines, panel_text};
 
 use crate::face::Face;
-use crate::text::text_of;
+use crate::text::{lines_of, text_of};
 use agc_machine::ChannelWrite;
 use std::alloc::{AllocError, Global};
 use std::marker::Model;
@@ -53,6 +53,13 @@ impl Panel {
         ensures { IfOk result (λ text. string_bytes text ≡ panel_text self.now) }
     {
         text_of(alloc, &self.face)
+    }
+
+    /// The same lines one by one, each ended by a line feed. Fails where memory runs out.
+    pub fn lines(&self, alloc: Global) -> Result<Vec<String>, AllocError>
+        ensures { IfOk result (λ lines. map string_bytes lines.items ≡ panel_lines self.now) }
+    {
+        lines_of(alloc, &self.face)
     }
 
     /// What the panel shows.

@@ -1,7 +1,7 @@
 //! The panel in print: eight lines.
-ghost use Rattle.std.specs.Prelude.{◌≡◌, ◌++◌, IfOk, OnOk, Some, string_bytes};
+ghost use Rattle.std.specs.Prelude.{◌≡◌, ◌++◌, IfOk, OnOk, Some, map, string_bytes};
 ghost use Rattle.agc_panel.specs.Text.{lit_lamps, sign_of, sign_glyph, pair_line, digits_text};
-ghost use Rattle.agc_panel.specs.Text.{register_line, flash_line, lamps_line, panel_text};
+ghost use Rattle.agc_panel.specs.Text.{register_line, flash_line, lamps_line, panel_lines, panel_text};
 
 use crate::face::{Face, Pair, Register};
 use crate::lamp::{Lamp, Lamps};
@@ -124,4 +124,53 @@ pub(crate) fn text_of(alloc: Global, face: &Face) -> Result<String, AllocError>
     push_flash(&mut text, face.flash)?;
     push_lamps(&mut text, alloc, &face.lamps)?;
     Ok(text)
+}
+
+/// The eight lines of the panel, one by one.
+#[tactic(auto, unfolding(crate::specs::Text::panel_lines))]
+pub(crate) fn lines_of(alloc: Global, face: &Face) -> Result<Vec<String>, AllocError>
+    ensures { IfOk result (λ lines. map string_bytes lines.items ≡ panel_lines face.now) }
+{
+    let mut lines = Vec::new(alloc);
+    lines.push(pair_line(alloc, "PROG", face.program)?)?;
+    lines.push(pair_line(alloc, "VERB", face.verb)?)?;
+    lines.push(pair_line(alloc, "NOUN", face.noun)?)?;
+    lines.push(register_line(alloc, "R1", &face.r1)?)?;
+    lines.push(register_line(alloc, "R2", &face.r2)?)?;
+    lines.push(register_line(alloc, "R3", &face.r3)?)?;
+    lines.push(flash_line(alloc, face.flash)?)?;
+    lines.push(lamps_line(alloc, &face.lamps)?)?;
+    Ok(lines)
+}
+
+fn pair_line(alloc: Global, name: &str, pair: Pair) -> Result<String, AllocError>
+    ensures { IfOk result (λ line. string_bytes line ≡ pair_line name.now pair) }
+{
+    let mut line = String::new(alloc);
+    push_pair(&mut line, name, pair)?;
+    Ok(line)
+}
+
+fn register_line(alloc: Global, name: &str, register: &Register) -> Result<String, AllocError>
+    ensures { IfOk result (λ line. string_bytes line ≡ register_line name.now register.now) }
+{
+    let mut line = String::new(alloc);
+    push_register(&mut line, name, register)?;
+    Ok(line)
+}
+
+fn flash_line(alloc: Global, flash: bool) -> Result<String, AllocError>
+    ensures { IfOk result (λ line. string_bytes line ≡ flash_line flash) }
+{
+    let mut line = String::new(alloc);
+    push_flash(&mut line, flash)?;
+    Ok(line)
+}
+
+fn lamps_line(alloc: Global, lamps: &Lamps) -> Result<String, AllocError>
+    ensures { IfOk result (λ line. string_bytes line ≡ lamps_line lamps.now) }
+{
+    let mut line = String::new(alloc);
+    push_lamps(&mut line, alloc, lamps)?;
+    Ok(line)
 }

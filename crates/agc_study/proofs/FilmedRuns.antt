@@ -10,7 +10,7 @@ use Rattle.agc_asked.specs.declared.asked.Filming.{Filming}
 
 -- the machine that was started is that of the files, and its run is shown
 pub filmed_run : (asked : Filming) (rope script : Option (List ℕ)) (machine : State) (reel : Reel)
-    → IsStarted asked.form asked.until asked.limit rope script machine → IsReelOf machine reel
+    → IsStarted asked.form asked.until asked.limit rope script machine → IsReelOf asked.part machine reel
     → IsFilmed asked rope script reel
 filmed_run asked None script machine reel start shows = tt
 filmed_run asked (Some rope) None machine reel start shows = tt

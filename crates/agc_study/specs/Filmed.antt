@@ -6,24 +6,25 @@ use Rattle.agc_store.specs.declared.rope_file.RopeForm.{RopeForm}
 use Rattle.agc_machine.specs.State.{State}
 use Rattle.agc_film.specs.Page.{film_text, film_pair_text}
 use Rattle.agc_film.specs.Reel.{IsReelOf}
+use Rattle.agc_film.specs.declared.part.Part.{Part}
 use Rattle.agc_film.specs.declared.reel.Reel.{Reel}
 use Rattle.agc_film.specs.declared.title.RunFiles.{RunFiles}
 use Rattle.agc_study.specs.Started.{IsStartedOf}
 use Rattle.agc_asked.specs.declared.asked.Filming.{Filming}
 
--- nothing is refused, and the reel shows the run of the files
+-- nothing is refused, and the reel shows this part of the run of the files
 pub record IsFilmedOf (form : RopeForm) (until : Option (String Global)) (limit : ℕ)
-    (rope script : List ℕ) (reel : Reel) : Type 0 where
+    (part : Part) (rope script : List ℕ) (reel : Reel) : Type 0 where
   pub machine : State
   pub start : IsStartedOf form until limit rope script machine
-  pub shows : IsReelOf machine reel
+  pub shows : IsReelOf part machine reel
 
 -- the same, as far as the readers of the files tell their bytes
 abbrev pub IsFilmed : Filming → Option (List ℕ) → Option (List ℕ) → Reel → Type 0
 IsFilmed asked None script reel = Unit {0}
 IsFilmed asked (Some rope) None reel = Unit {0}
 IsFilmed asked (Some rope) (Some script) reel =
-    IsFilmedOf asked.form asked.until asked.limit rope script reel
+    IsFilmedOf asked.form asked.until asked.limit asked.part rope script reel
 
 -- the page of one run, between its constant head and tail
 pub record IsFilm (head tail : List ℕ) (asked : Filming) (rope script : Option (List ℕ))

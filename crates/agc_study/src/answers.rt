@@ -24,7 +24,7 @@ pub fn last_cycle(asked: &Result<Asked, ArgsFault>) -> u64 {
     match asked {
         Ok(Asked::Trace(tracing)) => tracing.limit.min(tracing.selection.to),
         Ok(Asked::Compare(comparing)) => comparing.limit,
-        Ok(Asked::Film(filming)) => filming.limit,
+        Ok(Asked::Film(filming)) => filming.limit.min(filming.part.to),
         Ok(Asked::List(_) | Asked::Weave(_) | Asked::Check(_)) | Err(_) => 0,
     }
 }
@@ -34,7 +34,8 @@ pub fn last_cycle(asked: &Result<Asked, ArgsFault>) -> u64 {
 /// of `compare` on runs that are not the same; with status 2 one line on `err`, or clap's text of a
 /// mistake, and nothing on `out`. A write that fails gives status 3, and so does a trace that is cut off.
 /// How far a run has come is told beside that, to a progress that is wiped before the run's end is told. To
-/// `remarks` goes a line beside an answer: which file cannot be read, and why, or that a trace has no boundary.
+/// `remarks` goes a line beside an answer: which file cannot be read, and why, that a trace has no boundary, or that a
+/// film is long.
 pub fn answer<R, W: Write, E: Write, N: Write, P: Shown>(
     rt: &R,
     asked: Result<Asked, ArgsFault>,
@@ -87,7 +88,7 @@ where
         Asked::Check(checking) => check_to(rt, checking, out, err),
         Asked::Trace(tracing) => trace_to(rt, tracing, out, err, remarks, progress),
         Asked::Compare(comparing) => compare_to(rt, comparing, out, err, progress),
-        Asked::Film(filming) => film_to(rt, filming, out, err, progress),
+        Asked::Film(filming) => film_to(rt, filming, out, err, remarks, progress),
     }
 }
 

@@ -12,6 +12,14 @@ use agc_session::Refusal;
 use std::alloc::Global;
 use std::io::Read;
 
+/// A page for a browser.
+#[derive(Debug, Drop)]
+pub struct FilmPage {
+    pub text: String,
+    /// How many frames it has.
+    pub frames: usize,
+}
+
 /// Reads a rope and a script, and makes the page that shows their run. The refusal is the first that applies
 /// of the rope, the script, the text of `--until` and the limit, or want of memory.
 pub fn film_files<R: Read, S: Read, P: Progress>(
@@ -20,16 +28,17 @@ pub fn film_files<R: Read, S: Read, P: Progress>(
     rope: &mut R,
     script: &mut S,
     progress: &mut P,
-) -> Result<String, Refusal>
-    ensures film { IfOk result (IsFilm HEAD.now TAIL.now asked.now
-        (R.remaining rope.old) (S.remaining script.old)) }
+) -> Result<FilmPage, Refusal>
+    ensures film { IfOk result (λ page. IsFilm HEAD.now TAIL.now asked.now
+        (R.remaining rope.old) (S.remaining script.old) page.text) }
     ensures refused { IfErr result (IsRefused asked.now.form asked.now.until asked.now.limit
         (R.remaining rope.old) (S.remaining script.old)) }
 {
     let reel = read_reel(alloc, asked, rope, script, progress)?;
-    let mut page = String::new(alloc);
-    push_film(&mut page, asked.limit, &asked.files, &reel)?;
-    Ok(page)
+    let frames = reel.frames.len();
+    let mut text = String::new(alloc);
+    push_film(&mut text, asked.limit, &asked.files, &reel)?;
+    Ok(FilmPage { text, frames })
 }
 
 /// Reads two ropes and two scripts, and makes the page that shows their runs side by side, the one on the right
@@ -43,10 +52,10 @@ pub fn film_file_pairs<R: Read, S: Read, T: Read, U: Read, P: Progress>(
     right_rope: &mut T,
     right_script: &mut U,
     progress: &mut P,
-) -> Result<String, Trouble>
-    ensures film { IfOk result (IsFilmPair HEAD.now TAIL.now asked.now other.now
+) -> Result<FilmPage, Trouble>
+    ensures film { IfOk result (λ page. IsFilmPair HEAD.now TAIL.now asked.now other.now
         (R.remaining left_rope.old) (S.remaining left_script.old)
-        (T.remaining right_rope.old) (U.remaining right_script.old)) }
+        (T.remaining right_rope.old) (U.remaining right_script.old) page.text) }
     ensures refused { IfErr result (IsPairRefused asked.now.form asked.now.until asked.now.limit
         (R.remaining left_rope.old) (S.remaining left_script.old)
         (T.remaining right_rope.old) (U.remaining right_script.old)) }
@@ -56,9 +65,10 @@ pub fn film_file_pairs<R: Read, S: Read, T: Read, U: Read, P: Progress>(
         Ok(reel) => reel,
         Err(refusal) => return Err(Trouble::of_other_run(refusal)),
     };
-    let mut page = String::new(alloc);
-    match push_film_pair(&mut page, asked.limit, &asked.files, &left, other, &right) {
-        Ok(()) => Ok(page),
+    let frames = left.frames.len().saturating_add(right.frames.len());
+    let mut text = String::new(alloc);
+    match push_film_pair(&mut text, asked.limit, &asked.files, &left, other, &right) {
+        Ok(()) => Ok(FilmPage { text, frames }),
         Err(_) => Err(Trouble::Refused(Refusal::Memory)),
     }
 }
@@ -78,5 +88,5 @@ fn read_reel<R: Read, S: Read, P: Progress>(
 {
     let (form, limit) = (asked.form, asked.limit);
     let mut machine = read_machine(alloc, form, limit, &asked.until, rope, script)?;
-    Ok(film(alloc, &mut machine, progress)?)
+    Ok(film(alloc, &mut machine, asked.part, progress)?)
 }

@@ -17,7 +17,7 @@ pub use answers::{TROUBLE, answer, last_cycle};
 pub use check_told::write_report;
 pub use checks::{check_files, check_key_file, check_listing_file, check_with};
 pub use compares::{Told, compare_files};
-pub use films::film_files;
+pub use films::{FilmPage, film_files};
 pub use ropes::{list_rope, weave_text};
 pub use runs_told::{status_of_trace, write_told};
 pub use trouble::Trouble;

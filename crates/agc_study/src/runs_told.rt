@@ -6,7 +6,7 @@ ghost use Rattle.agc_study.specs.Ended.{IsEnded};
 
 use crate::answers::TROUBLE;
 use crate::compares::{Told, compare_files};
-use crate::films::{film_file_pairs, film_files};
+use crate::films::{FilmPage, film_file_pairs, film_files};
 use crate::runs::read_machine;
 use crate::trouble::Trouble;
 use agc_asked::{Comparing, Filming, Tracing};
@@ -21,6 +21,9 @@ use std::rt::Files;
 
 /// The status of two runs that are not the same.
 const APART: u8 = 1;
+
+/// How many frames a film may have without a remark.
+const MANY_FRAMES: usize = 1_000_000;
 
 /// Traces the run of a rope file and a script file; where its range is empty, a remark says so.
 pub fn trace_to<R, W: Write, E: Write, N: Write, P: Shown>(
@@ -140,30 +143,46 @@ fn write_comparison<R: Read, S: Read, T: Read, U: Read, W: Write, E: Write, P: S
     }
 }
 
-/// Films the run of a rope file and a script file, or the runs of two of each.
-pub fn film_to<R, W: Write, E: Write, P: Shown>(
+/// Films the run of a rope file and a script file, or the runs of two of each; where the page is so long that a browser
+/// may be slow with it, a remark says so.
+pub fn film_to<R, W: Write, E: Write, N: Write, P: Shown>(
     rt: &R,
     asked: &Filming,
     out: &mut W,
     err: &mut E,
+    remarks: &mut N,
     progress: &mut P,
 ) -> u8
 where
     R: Files + AllocGlobal,
     ensures ended { IsEnded result (W.contents out.old) (W.contents out.new)
         (E.contents err.old) (E.contents err.new) }
+    ensures plain { result ≡ 2 → Keeps (N.contents remarks.old) (N.contents remarks.new) }
     ensures faulty { result ≢ 1 }
 {
     let filmed = filmed(rt, asked, progress);
     progress.wipe();
     match filmed {
-        Ok(page) => status_of(DONE, out.write_all(page.as_bytes())),
+        Ok(page) => {
+            remark_on_length(page.frames, remarks);
+            status_of(DONE, out.write_all(page.text.as_bytes()))
+        }
         Err(trouble) => status_of(TROUBLE, trouble.write_to(err)),
     }
 }
 
+/// Says of a film of many frames how a shorter one is made. A remark that cannot be written changes nothing of the film.
+fn remark_on_length<N: Write>(frames: usize, remarks: &mut N) {
+    if frames > MANY_FRAMES {
+        let _told = writeln!(
+            remarks,
+            "agc-study: the film has {frames} frames, and a browser may be slow with it; --from and --to film a part"
+        );
+    }
+}
+
 /// The page that shows these runs.
-fn filmed<R, P: Shown>(rt: &R, asked: &Filming, progress: &mut P) -> Result<String, Trouble>
+fn filmed<R, P: Shown>(rt: &R, asked: &Filming, progress: &mut P) -> Result<FilmPage, Trouble>
 where
     R: Files + AllocGlobal,
 {

@@ -3,7 +3,7 @@ mod ends;
 
 use agc_args::ArgsFault;
 use agc_asked::{Asked, Comparing, Filming, asked_by};
-use agc_film::RunFiles;
+use agc_film::{Part, RunFiles};
 use agc_progress::Untold;
 use agc_rope_text::{LineFault, WeaveFault};
 use agc_session::Refusal;
@@ -96,6 +96,7 @@ fn mistakes(rt: HostRuntime) {
         "agc-study trace rope --limit 10",
         "agc-study trace rope script --limit ten",
         "agc-study trace rope script --limit 10 --only orders",
+        "agc-study film rope script --limit 10 --from 3 --to 2",
         "agc-study compare rope script rope --limit 10",
         "agc-study compare rope script rope script",
     ] {
@@ -368,6 +369,7 @@ fn runs_are_filmed(rt: HostRuntime) -> Result<(), Fail> {
             script: String::from_str(alloc, "pro")?,
         },
         other: None,
+        part: Part::whole(),
         form: RopeForm::Classic,
         limit: 10,
         until: None,
@@ -377,13 +379,14 @@ fn runs_are_filmed(rt: HostRuntime) -> Result<(), Fail> {
     let page = film_files(alloc, &asked, &mut rope, &mut script, &mut Untold)
         .ok()
         .ok_or("a page")?;
+    assert_eq!(rt; page.frames, 1);
     assert!(rt;
-        page.as_str()
+        page.text.as_str()
             .contains("\nrope prog12\nscript pro\nlimit 10\n")
     );
-    assert!(rt; page.as_str().contains("\nframe 3\nPROG 12\nVERB __\n"));
-    assert!(rt; page.as_str().contains("\nkey 7 PRO\nstop 10 Limit\n"));
-    assert!(rt; !page.as_str().contains("frame 7"));
+    assert!(rt; page.text.as_str().contains("\nframe 3\nPROG 12\nVERB __\n"));
+    assert!(rt; page.text.as_str().contains("\nkey 7 PRO\nstop 10 Limit\n"));
+    assert!(rt; !page.text.as_str().contains("frame 7"));
     Ok(())
 }
 
@@ -399,6 +402,7 @@ fn last_cycles(rt: HostRuntime) {
         ),
         ("agc-study compare rope script rope script --limit 10", 10),
         ("agc-study film rope script --limit 10", 10),
+        ("agc-study film rope script --limit 10 --to 7", 7),
         ("agc-study list rope", 0),
         ("agc-study", 0),
     ] {

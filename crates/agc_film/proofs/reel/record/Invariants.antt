@@ -1,10 +1,15 @@
+use Rattle.std.specs.Prelude.{ℕ, List, []}
 use Rattle.agc_machine.specs.Run.{boundaries_left}
-use Rattle.agc_film.proofs.Recording.{IsRecording}
+use Rattle.agc_machine.specs.declared.answer.ChannelWrite.{ChannelWrite}
+use Rattle.agc_film.specs.Way.{HasTaken}
+use Rattle.agc_film.proofs.Recording.{IsPassing}
 use Rattle.agc_film.proofs.reel.record.Given as goal
 
 -- the recorder has taken the writes so far
-abbrev pub invariant-loop-machine : goal.invariant-loop-machine
-invariant-loop-machine g l = IsRecording l.initial.machine l.recorder l.machine
+abbrev pub invariant-loop-alloc : goal.invariant-loop-alloc
+invariant-loop-alloc g l =
+    (taken : List ChannelWrite) × IsPassing l.initial.cycle l.initial.machine taken l.machine
+    × ((from : ℕ) (before : List ChannelWrite) → HasTaken from before [] l.initial.recorder → HasTaken from before taken l.recorder)
 
-abbrev pub decreases-loop-machine : goal.decreases-loop-machine
-decreases-loop-machine g l = boundaries_left l.machine
+abbrev pub decreases-loop-alloc : goal.decreases-loop-alloc
+decreases-loop-alloc g l = boundaries_left l.machine

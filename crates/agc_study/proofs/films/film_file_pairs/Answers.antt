@@ -8,7 +8,7 @@ returns-in-Ok-push_film_pair-clause-film g c = record {
   right = c.in-Ok.reel;
   left_filmed = c.in_ok-left.ensures.filmed;
   right_filmed = c.in-Ok.ensures.filmed;
-  text = rw c.new-page.ensures.bytes at c.in-Ok-push_film_pair.ensures;
+  text = rw c.new-text.ensures.bytes at c.in-Ok-push_film_pair.ensures;
 }
 
 pub returns-clause-refused : goal.returns-clause-refused

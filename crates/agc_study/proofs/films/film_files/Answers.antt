@@ -6,7 +6,7 @@ pub returns-clause-film : goal.returns-clause-film
 returns-clause-film g c = record {
   reel = c.in_ok-reel.reel;
   filmed = c.in_ok-reel.ensures.filmed;
-  text = rw c.new-page.ensures.bytes at c.in_ok-push_film.ensures;
+  text = rw c.new-text.ensures.bytes at c.in_ok-push_film.ensures;
 }
 
 pub returns-in_err-push_film-clause-refused : goal.returns-in_err-push_film-clause-refused
