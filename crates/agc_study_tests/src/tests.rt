@@ -4,4 +4,5 @@ mod compare;
 mod progress;
 mod rope_text;
 mod study;
+mod source;
 mod trace;
