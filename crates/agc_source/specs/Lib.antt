@@ -9,3 +9,4 @@ pub mod Operand
 pub mod Shape
 pub mod Meaning
 pub mod Source
+pub mod Told
