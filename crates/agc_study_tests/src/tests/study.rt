@@ -4,7 +4,8 @@ mod ends;
 use agc_args::ArgsFault;
 use agc_film::RunFiles;
 use agc_progress::Untold;
-use agc_rope_text::{LineFault, WeaveFault};
+use agc_rope_text::LineFault;
+use agc_source::{SourceFault, SourceTrouble};
 use agc_session::Refusal;
 use agc_store::{RopeFault, RopeForm};
 use agc_study::{Asked, Comparing, Filming, Trouble, answer, asked_by, check_files, check_key_file};
@@ -179,7 +180,10 @@ fn a_text_is_woven(rt: HostRuntime) -> Result<(), Fail> {
     let refused = weave_text(alloc, RopeForm::Classic, &mut faulty);
     assert_eq!(rt;
         refused.err(),
-        Some(Trouble::Text(WeaveFault::Line(2, LineFault::BadWord)))
+        Some(Trouble::Text(SourceTrouble::Line(
+            2,
+            SourceFault::Listed(LineFault::BadWord),
+        )))
     );
     Ok(())
 }
