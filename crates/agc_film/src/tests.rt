@@ -167,10 +167,7 @@ fn parts_with_other_ends(rt: HostRuntime) -> Result<(), Fail> {
         (0, None, 2)
     );
     let at_both = part_of(&rt, 3, 9)?;
-    assert_eq!(rt;
-        ends_of(&at_both),
-        (Some(3), Some(9))
-    );
+    assert_eq!(rt; ends_of(&at_both), (Some(3), Some(9)));
     assert_eq!(rt;
         (at_both.frames.len(), at_both.stop, at_both.cycle),
         (2, None, 9)
@@ -187,10 +184,7 @@ fn parts_and_the_stop(rt: HostRuntime) -> Result<(), Fail> {
     let up_to = part_of(&rt, 4, 20)?;
     assert_eq!(rt; (up_to.stop, up_to.cycle), (Some(Stop::Limit), 20));
     let later = part_of(&rt, 25, 30)?;
-    assert_eq!(rt;
-        ends_of(&later),
-        (Some(25), Some(25))
-    );
+    assert_eq!(rt; ends_of(&later), (Some(25), Some(25)));
     assert_eq!(rt; (later.stop, later.cycle), (Some(Stop::Limit), 20));
     let backwards = part_of(&rt, 4, 1)?;
     assert_eq!(rt;

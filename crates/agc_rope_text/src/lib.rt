@@ -12,10 +12,12 @@ mod weaving;
 
 pub use fault::{LineFault, WeaveFault};
 pub use laws::{files_say_rope_words, listings_say_their_words, words_listed_make_the_rope};
-pub use listed::list;
+pub use line::{Named, read_line, read_place};
+pub use listed::{list, listed_address};
+pub use loom::Loom;
 pub use order::{
     Operand, basic_mnemonic, basic_operand, extracode_mnemonic, extracode_operand, leads_extracode,
     push_order,
 };
 pub use place::{Place, push_place};
-pub use weaving::weave;
+pub use weaving::{file_of, weave};

@@ -23,14 +23,14 @@ use agc_word::{Narrow, read_octal};
 
 /// A word and its place in the rope: 2000 octal times its bank, and its offset; below 36,864.
 #[derive(Clone, Copy, Debug, PartialEq, Eq)]
-pub(crate) struct Named {
+pub struct Named {
     pub place: usize,
     pub word: Narrow,
 }
 
-/// What a line says.
+/// What a line of a rope's text says, as `weave` takes it, or its first fault.
 #[tactic(auto, unfolding(crate::specs::Line::line_named))]
-pub(crate) fn read_line(line: &[u8]) -> Result<Option<Named>, LineFault>
+pub fn read_line(line: &[u8]) -> Result<Option<Named>, LineFault>
     ensures line { result ≡ line_named line.now }
     ensures range { IfOk result (λ said. IfSome said (λ named. named.place < 0o110000)) }
 {
@@ -72,9 +72,9 @@ fn is_hash(word: &[u8]) -> bool
     matches!(word, [b'#', ..])
 }
 
-/// The place that a text names.
+/// The place of a rope that a text names: `bb,oooo`, or `oooo` from 4000 to 7777.
 #[tactic(auto, unfolding(crate::specs::Line::place_named))]
-fn read_place(text: &[u8]) -> Option<usize>
+pub fn read_place(text: &[u8]) -> Option<usize>
     ensures place { result ≡ place_named text.now }
     ensures range { IfSome result (λ place. place < 0o110000) }
 {

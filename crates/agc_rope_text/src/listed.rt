@@ -127,7 +127,7 @@ fn push_word(
 
 /// The address under which a listing names a place.
 #[tactic(auto, unfolding(crate::specs::List::listed_address))]
-pub(crate) fn listed_address(place: usize) -> u16
+pub fn listed_address(place: usize) -> u16
     requires { place < 36864 }
     ensures address { result ≡ listed_address place }
     ensures range { result < 0o10000 }

@@ -1,10 +1,11 @@
 //! The words that lines have named so far, each place once.
-ghost use Rattle.std.specs.Prelude.{◌≡◌, ◌<◌, [], IfOk, IfSome, OnOk};
+ghost use Rattle.std.specs.Prelude.{◌≡◌, ◌<◌, [], IfOk, IfSome, OnOk, Ok};
 ghost use Rattle.agc_rope_text.specs.Weave.{
   ArePlaces,
   no_flags,
   said_next,
   said_with,
+  unless_named,
 };
 
 use crate::fault::LineFault;
@@ -15,9 +16,10 @@ use std::marker::Model;
 /// The words of a rope.
 const PLACES: usize = 0o110000;
 
-/// The words that lines have named so far, in their order.
+/// The words that lines have named so far, in their order. A text's words are put into one, and `file_of`
+/// makes the rope file of them.
 #[derive(Drop)]
-pub(crate) struct Loom {
+pub struct Loom {
     words: Vec<Named>,
     /// For each place of a rope, whether it is named.
     named: Vec<bool>,
@@ -36,7 +38,7 @@ impl Model for Loom {
 }
 
 impl Loom {
-    /// No words.
+    /// No words. Fails where memory runs out.
     pub fn new(alloc: Global) -> Result<Loom, AllocError>
         ensures { IfOk result (λ loom. loom ≡ []) }
     {
@@ -60,7 +62,15 @@ impl Loom {
         ensures line { result ≡ said_next self.now line.now }
         ensures range { IfOk result (λ said. IfSome said (λ named. named.place < 0o110000)) }
     {
-        let Some(named) = read_line(line)? else {
+        self.unless_named(read_line(line)?)
+    }
+
+    /// A word, where no earlier one stands at its place.
+    pub fn unless_named(&self, said: Option<Named>) -> Result<Option<Named>, LineFault>
+        requires { IfSome said (λ named. named.place < 0o110000) }
+        ensures { result ≡ unless_named self.now (Ok said) }
+    {
+        let Some(named) = said else {
             return Ok(None);
         };
         let place = named.place;
@@ -70,7 +80,7 @@ impl Loom {
         Ok(Some(named))
     }
 
-    /// Adds what a line says.
+    /// Adds what a line says. Fails where memory runs out.
     pub fn add(&mut self, said: Option<Named>) -> Result<(), AllocError>
         requires { IfSome said (λ named. named.place < 0o110000) }
         ensures { OnOk result (self.new ≡ said_with self.old said) }

@@ -60,8 +60,9 @@ fn read_text(alloc: Global, text: &[u8]) -> Result<Loom, WeaveFault>
     Ok(loom)
 }
 
-/// The file of the words that a text names.
-fn file_of(alloc: Global, form: RopeForm, words: &[Named]) -> Result<Vec<u8>, AllocError>
+/// The rope file of a form that holds some words, as long as they need, and one word at least. Fails where
+/// memory runs out.
+pub fn file_of(alloc: Global, form: RopeForm, words: &[Named]) -> Result<Vec<u8>, AllocError>
     requires { ArePlaces words.now }
     ensures { IfOk result (λ bytes. bytes.items ≡ woven_file form words.now) }
 {

@@ -8,9 +8,9 @@ use Rattle.agc_word.specs.Number.{Number}
 use Rattle.agc_store.specs.RopeFile.{rope_fault_of, rope_words}
 use Rattle.agc_store.specs.declared.rope_file.RopeForm.{RopeForm}
 use Rattle.agc_rope_text.specs.List.{rope_text}
-use Rattle.agc_rope_text.specs.Weave.{said_in}
-use Rattle.agc_rope_text.specs.declared.fault.WeaveFault.{WeaveFault}
-use Rattle.agc_rope_text.specs.declared.fault.WeaveFault.TheVariants as weave
+use Rattle.agc_source.specs.Source.{source_in}
+use Rattle.agc_source.specs.declared.fault.SourceTrouble.{SourceTrouble}
+use Rattle.agc_source.specs.declared.fault.SourceTrouble.TheVariants as source
 use Rattle.agc_session.proofs.Whole.{all_read, of_all}
 use Rattle.agc_session.specs.Options.{said_by}
 use Rattle.agc_study.specs.Listed.{IsFaulty, IsListing, IsWeaveRefused, bank_named}
@@ -28,10 +28,10 @@ listing form bank (Some file) rope text words accepted listed = record { rope = 
 
 -- a text that was read and is not woven
 pub weave_refused : (before after : Option (List ℕ)) (text : List ℕ) (t : Trouble) → Consumes before after text → IsAtEnd after → length text ≤ 16777216
-    → (fault : WeaveFault) × (t ≡ trouble.Text fault) × (fault ≢ weave.Memory → said_in text ≡ Err fault) → IsWeaveRefused before t
-weave_refused before after text t c end few (weave.Memory, is, named) = rw is tt
-weave_refused before after text t c end few (weave.Line n why, is, named) =
-    rw is (of_all before after text (λ all. IsFaulty all (weave.Line n why)) c end (record { short = few; fault = named (λ h. cc) }))
+    → (fault : SourceTrouble) × (t ≡ trouble.Text fault) × (fault ≢ source.Memory → source_in text ≡ Err fault) → IsWeaveRefused before t
+weave_refused before after text t c end few (source.Memory, is, named) = rw is tt
+weave_refused before after text t c end few (source.Line n why, is, named) =
+    rw is (of_all before after text (λ all. IsFaulty all (source.Line n why)) c end (record { short = few; fault = named (λ h. cc) }))
 
 -- a report on the bytes of two files
 pub checked : (form : RopeForm) (rope rope_left script script_left : Option (List ℕ)) (rope_read script_read : List ℕ) (report : Report)

@@ -7,9 +7,9 @@ use Rattle.agc_word.specs.Numeral.{octal_number}
 use Rattle.agc_store.specs.RopeFile.{rope_fault_of, rope_words}
 use Rattle.agc_store.specs.declared.rope_file.RopeForm.{RopeForm}
 use Rattle.agc_rope_text.specs.List.{rope_text}
-use Rattle.agc_rope_text.specs.Weave.{IsWovenOf, said_in}
-use Rattle.agc_rope_text.specs.declared.fault.WeaveFault.{WeaveFault}
-use Rattle.agc_rope_text.specs.declared.fault.WeaveFault.TheVariants as weave
+use Rattle.agc_source.specs.Source.{IsSourceWoven, source_in}
+use Rattle.agc_source.specs.declared.fault.SourceTrouble.{SourceTrouble}
+use Rattle.agc_source.specs.declared.fault.SourceTrouble.TheVariants as source
 use Rattle.agc_session.specs.Files.{rope_steps}
 use Rattle.agc_session.specs.Options.{said_by, says_nothing}
 use Rattle.agc_session.specs.Steps.{IsTold}
@@ -42,18 +42,18 @@ IsListRefused form bank known t = ⊥
 -- a text has 16,777,216 bytes at most, and weaves to a file
 pub record IsWoven (form : RopeForm) (text file : List ℕ) : Type 0 where
   pub short : length text ≤ 16777216
-  pub woven : IsWovenOf form text file
+  pub woven : IsSourceWoven form text file
 
 -- a text has 16,777,216 bytes at most, and this is its first fault
-pub record IsFaulty (text : List ℕ) (why : WeaveFault) : Type 0 where
+pub record IsFaulty (text : List ℕ) (why : SourceTrouble) : Type 0 where
   pub short : length text ≤ 16777216
-  pub fault : said_in text ≡ Err why
+  pub fault : source_in text ≡ Err why
 
 -- how `weave` refuses a text that a reader may tell: a read failed, or memory ran out, or there are too
 -- many bytes, or a line is faulty
 abbrev pub IsWeaveRefused : Option (List ℕ) → Trouble → Type 0
 IsWeaveRefused known trouble.CannotReadText = Unit {0}
-IsWeaveRefused known (trouble.Text weave.Memory) = Unit {0}
-IsWeaveRefused known (trouble.Text (weave.Line n why)) =
-    IfSome known (λ text. IsFaulty text (weave.Line n why))
+IsWeaveRefused known (trouble.Text source.Memory) = Unit {0}
+IsWeaveRefused known (trouble.Text (source.Line n why)) =
+    IfSome known (λ text. IsFaulty text (source.Line n why))
 IsWeaveRefused known t = ⊥

@@ -4,23 +4,15 @@ use Rattle.std.specs.Fmt.{decimal}
 use Rattle.agc_session.specs.Refusal.{refusal_text}
 use Rattle.agc_session.specs.declared.refusal.Refusal.{Refusal}
 use Rattle.agc_session.specs.declared.refusal.Refusal.TheVariants as refusal
-use Rattle.agc_rope_text.specs.declared.fault.LineFault.{LineFault}
-use Rattle.agc_rope_text.specs.declared.fault.LineFault.TheVariants as line
-use Rattle.agc_rope_text.specs.declared.fault.WeaveFault.{WeaveFault}
-use Rattle.agc_rope_text.specs.declared.fault.WeaveFault.TheVariants as weave
+use Rattle.agc_source.specs.Told.{fault_text}
+use Rattle.agc_source.specs.declared.fault.SourceTrouble.{SourceTrouble}
+use Rattle.agc_source.specs.declared.fault.SourceTrouble.TheVariants as source
 use Rattle.agc_study.specs.declared.trouble.Trouble.{Trouble}
 use Rattle.agc_study.specs.declared.trouble.Trouble.TheVariants as trouble
 
-abbrev pub line_fault_name : LineFault → List ℕ
-line_fault_name line.NotText = codes "NotText"
-line_fault_name line.BadAddress = codes "BadAddress"
-line_fault_name line.BadWord = codes "BadWord"
-line_fault_name line.NamedTwice = codes "NamedTwice"
-
-abbrev pub weave_text : WeaveFault → List ℕ
-weave_text (weave.Line n why) =
-    codes "text line " ++ decimal n ++ codes ": " ++ line_fault_name why
-weave_text weave.Memory = codes "memory"
+abbrev pub weave_text : SourceTrouble → List ℕ
+weave_text (source.Line n why) = codes "text line " ++ decimal n ++ codes ": " ++ fault_text why
+weave_text source.Memory = codes "memory"
 
 -- what is told: a refusal in the words of `agc`, after the run where it is that on the right
 abbrev pub trouble_text : Trouble → List ℕ

@@ -1,17 +1,18 @@
 //! Ropes to texts, and texts to ropes.
 ghost use Rattle.std.specs.Prelude.{◌≡◌, ◌≢◌, Err, IfOk, IfErr, IfSome, OnOk, false, true};
 ghost use Rattle.std.specs.Prelude.{string_bytes};
-ghost use Rattle.agc_rope_text.specs.Weave.{IsWovenOf, said_in};
+ghost use Rattle.agc_source.specs.Source.{IsSourceWoven, source_in};
 ghost use Rattle.agc_session.specs.Options.{said_by, says_nothing};
 ghost use Rattle.agc_study.specs.Listed.{IsListRefused, IsListing, IsWeaveRefused, IsWoven};
 ghost use Rattle.agc_study.specs.Listed.{bank_named};
-ghost use Rattle.agc_rope_text.specs.declared.fault.WeaveFault.{WeaveFault};
-ghost use Rattle.agc_rope_text.specs.declared.fault.WeaveFault.TheVariants as weave_fault;
+ghost use Rattle.agc_source.specs.declared.fault.SourceTrouble.{SourceTrouble};
+ghost use Rattle.agc_source.specs.declared.fault.SourceTrouble.TheVariants as source_trouble;
 ghost use Rattle.agc_study.specs.declared.trouble.Trouble.TheVariants as told;
 
 use crate::trouble::Trouble;
-use agc_rope_text::{WeaveFault, list, weave};
+use agc_rope_text::list;
 use agc_session::{Refusal, SCRIPT_BYTES, Unread, read_limited, read_rope};
+use agc_source::{SourceTrouble, weave_source};
 use agc_store::{RopeForm, Store};
 use agc_word::read_octal;
 use std::alloc::Global;
@@ -77,17 +78,17 @@ pub fn weave_text<R: Read>(
     let text = match read_limited(alloc, reader, SCRIPT_BYTES) {
         Ok(text) => text,
         Err(Unread::CannotRead(_)) => return Err(Trouble::CannotReadText),
-        Err(Unread::Memory) => return Err(Trouble::Text(WeaveFault::Memory)),
+        Err(Unread::Memory) => return Err(Trouble::Text(SourceTrouble::Memory)),
     };
     woven_of(alloc, form, text.as_slice())
 }
 
 fn woven_of(alloc: Global, form: RopeForm, text: &[u8]) -> Result<Vec<u8>, Trouble>
-    ensures woven { IfOk result (λ bytes. IsWovenOf form text.now bytes.items) }
-    ensures refused { IfErr result (λ t. (fault : WeaveFault) × (t ≡ told.Text fault)
-        × (fault ≢ weave_fault.Memory → said_in text.now ≡ Err fault)) }
+    ensures woven { IfOk result (λ bytes. IsSourceWoven form text.now bytes.items) }
+    ensures refused { IfErr result (λ t. (fault : SourceTrouble) × (t ≡ told.Text fault)
+        × (fault ≢ source_trouble.Memory → source_in text.now ≡ Err fault)) }
 {
-    match weave(alloc, form, text) {
+    match weave_source(alloc, form, text) {
         Ok(bytes) => Ok(bytes),
         Err(fault) => Err(Trouble::Text(fault)),
     }

@@ -1,11 +1,11 @@
 //! What the program says where it cannot do what was asked for: one line.
 ghost use Rattle.std.specs.Prelude.{◌≡◌, OnOk};
 ghost use Rattle.std.specs.Io.KnownBytes.{Appends};
-ghost use Rattle.agc_study.specs.Trouble.{line_fault_name, other_trouble, trouble_line};
+ghost use Rattle.agc_study.specs.Trouble.{other_trouble, trouble_line};
 ghost use Rattle.agc_study.specs.declared.trouble.Trouble.TheVariants as told;
 
-use agc_rope_text::{LineFault, WeaveFault};
 use agc_session::Refusal;
+use agc_source::SourceTrouble;
 use std::fmt;
 use std::io::{self, Write};
 
@@ -19,7 +19,7 @@ pub enum Trouble {
     /// The text file cannot be opened or read, or has more than 16,777,216 bytes.
     CannotReadText,
     /// The text is no rope's.
-    Text(WeaveFault),
+    Text(SourceTrouble),
     /// The text of `--bank` is no bank.
     BadBankSpec,
 }
@@ -66,22 +66,11 @@ impl fmt::Display for Trouble {
             Trouble::Refused(refusal) => write!(f, "{refusal}"),
             Trouble::OtherRefused(refusal) => write!(f, "other run: {refusal}"),
             Trouble::CannotReadText => f.write_str("cannot read text"),
-            Trouble::Text(WeaveFault::Line(line, fault)) => {
-                write!(f, "text line {line}: {}", line_fault_name(fault))
+            Trouble::Text(SourceTrouble::Line(line, fault)) => {
+                write!(f, "text line {line}: {fault}")
             }
-            Trouble::Text(WeaveFault::Memory) => f.write_str("memory"),
+            Trouble::Text(SourceTrouble::Memory) => f.write_str("memory"),
             Trouble::BadBankSpec => f.write_str("bank: BadSpec"),
         }
-    }
-}
-
-fn line_fault_name(fault: LineFault) -> &'static str
-    ensures { result.now ≡ line_fault_name fault }
-{
-    match fault {
-        LineFault::NotText => "NotText",
-        LineFault::BadAddress => "BadAddress",
-        LineFault::BadWord => "BadWord",
-        LineFault::NamedTwice => "NamedTwice",
     }
 }

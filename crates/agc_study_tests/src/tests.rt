@@ -3,5 +3,6 @@ mod check;
 mod compare;
 mod progress;
 mod rope_text;
+mod source;
 mod study;
 mod trace;

@@ -5,8 +5,9 @@ use agc_args::ArgsFault;
 use agc_asked::{Asked, Comparing, Filming, asked_by};
 use agc_film::{Part, RunFiles};
 use agc_progress::Untold;
-use agc_rope_text::{LineFault, WeaveFault};
+use agc_rope_text::LineFault;
 use agc_session::Refusal;
+use agc_source::{SourceFault, SourceTrouble};
 use agc_store::{RopeFault, RopeForm};
 use agc_study::{
     Trouble, answer, check_files, check_key_file, check_listing_file, check_with, compare_files,
@@ -188,7 +189,7 @@ fn a_text_is_woven(rt: HostRuntime) -> Result<(), Fail> {
     let refused = weave_text(alloc, RopeForm::Classic, &mut faulty);
     assert_eq!(rt;
         refused.err(),
-        Some(Trouble::Text(WeaveFault::Line(2, LineFault::BadWord)))
+        Some(Trouble::Text(SourceTrouble::Line(2, SourceFault::Listed(LineFault::BadWord),)))
     );
     Ok(())
 }
@@ -381,7 +382,8 @@ fn runs_are_filmed(rt: HostRuntime) -> Result<(), Fail> {
         .ok_or("a page")?;
     assert_eq!(rt; page.frames, 1);
     assert!(rt;
-        page.text.as_str()
+        page.text
+            .as_str()
             .contains("\nrope prog12\nscript pro\nlimit 10\n")
     );
     assert!(rt; page.text.as_str().contains("\nframe 3\nPROG 12\nVERB __\n"));

@@ -1,0 +1,4 @@
+mod BasicRows
+mod ExtracodeRows
+mod Naming
+mod Ways

@@ -1,0 +1,56 @@
+-- Where the next line of a source stands.
+use Rattle.std.specs.Prelude.{ℕ, ◌+◌, ◌*◌, ◌/◌, ◌%◌, ◌<◌, ◌≤◌, nat_le, get_or, set, replicate}
+use Rattle.std.specs.Prelude.{Result, Ok, Err, if◌then◌else◌}
+use Rattle.agc_source.specs.declared.cursor.At.{At}
+use Rattle.agc_source.specs.declared.cursor.At.TheVariants as at
+use Rattle.agc_source.specs.declared.cursor.Cursor.{Cursor}
+use Rattle.agc_source.specs.declared.fault.SourceFault.{SourceFault}
+use Rattle.agc_source.specs.declared.fault.SourceFault.TheVariants as fault
+use Rattle.agc_source.specs.declared.location.Location.{Location}
+use Rattle.agc_source.specs.declared.location.Location.TheVariants as location
+
+-- one of the 36 banks, or a cell, or the end of erasable memory
+abbrev pub IsAt : At → Type 0
+IsAt (at.Bank bank) = bank < 36
+IsAt (at.Cell cell) = cell ≤ 0o4000
+
+-- a text begins at the first place of bank 02, where runs start
+abbrev pub first_cursor : Cursor
+first_cursor = record { left = replicate 36 0; at = at.Bank 2 }
+
+-- the offset at which a bank was left
+abbrev pub left_in : Cursor → ℕ → ℕ
+left_in cursor bank = get_or cursor.left bank 0
+
+-- the place or the cell of the next line
+abbrev pub location_at : Cursor → At → Location
+location_at cursor (at.Bank bank) = location.Fixed (0o2000 * bank + left_in cursor bank)
+location_at cursor (at.Cell cell) = location.Erasable cell
+
+-- the place of the first of so many words
+abbrev pub room_at : Cursor → At → ℕ → Result ℕ SourceFault
+room_at cursor (at.Bank bank) count =
+    if nat_le (left_in cursor bank + count) 0o2000
+    then Ok (0o2000 * bank + left_in cursor bank)
+    else Err fault.Full
+room_at cursor (at.Cell cell) count = Err fault.WrongMemory
+
+-- after so many words
+abbrev pub after_words : Cursor → At → ℕ → Cursor
+after_words cursor (at.Bank bank) count =
+    record cursor { left = set cursor.left bank (left_in cursor bank + count) }
+after_words cursor (at.Cell cell) count = cursor
+
+-- at a place or a cell
+abbrev pub moved_to : Cursor → Location → Cursor
+moved_to cursor (location.Fixed place) =
+    record { left = set cursor.left (place / 0o2000) (place % 0o2000); at = at.Bank (place / 0o2000) }
+moved_to cursor (location.Erasable cell) = record cursor { at = at.Cell cell }
+
+-- after so many cells
+abbrev pub after_cells : Cursor → At → ℕ → Result Cursor SourceFault
+after_cells cursor (at.Cell cell) count =
+    if nat_le (cell + count) 0o4000
+    then Ok (record cursor { at = at.Cell (cell + count) })
+    else Err fault.Full
+after_cells cursor (at.Bank bank) count = Err fault.WrongMemory

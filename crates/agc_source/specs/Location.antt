@@ -1,0 +1,77 @@
+-- Where a name stands: a place of the rope, or a cell of erasable memory.
+use Rattle.std.specs.Prelude.{ℕ, ◌+◌, ◌*◌, ◌/◌, ◌%◌, ◌<◌, ◌==◌, nat_lt, nat_le, Bool, false, ◌&&◌, ◌||◌, List, [], ◌∷◌}
+use Rattle.std.specs.Prelude.{take, drop, position, Option, Some, None, if◌then◌else◌}
+use Rattle.agc_word.specs.Numeral.{octal_number}
+use Rattle.agc_rope_text.specs.Line.{is_comma, place_named}
+use Rattle.agc_source.specs.declared.location.Location.{Location}
+use Rattle.agc_source.specs.declared.location.Location.TheVariants as location
+
+-- a place of one of the 36 banks, or one of the 2048 cells
+abbrev pub IsWithin : Location → Type 0
+IsWithin (location.Fixed place) = place < 0o110000
+IsWithin (location.Erasable cell) = cell < 0o4000
+
+-- the cell of an erasable bank and an address: in the window, or below it the bank's own
+abbrev pub cell_in_bank : Option ℕ → Option ℕ → Option ℕ
+cell_in_bank (Some bank) (Some address) =
+    if nat_le 0o1400 address && nat_lt address 0o2000
+    then Some (0o400 * bank + address % 0o400)
+    else (if address / 0o400 == bank then Some address else None)
+cell_in_bank _ _ = None
+
+-- the cell that a text with a comma there names after its `E`
+abbrev pub cell_cut : Option ℕ → List ℕ → Option ℕ
+cell_cut (Some at) text =
+    cell_in_bank (octal_number 1 (take at text)) (octal_number 4 (drop (at + 1) text))
+cell_cut None text = None
+
+-- the cell that an address alone names: those below the window
+abbrev pub cell_alone : Option ℕ → Option ℕ
+cell_alone (Some address) = if nat_lt address 0o1400 then Some address else None
+cell_alone None = None
+
+abbrev pub erasable_at : Option ℕ → Option Location
+erasable_at (Some cell) = Some (location.Erasable cell)
+erasable_at None = None
+
+abbrev pub fixed_at_place : Option ℕ → Option Location
+fixed_at_place (Some place) = Some (location.Fixed place)
+fixed_at_place None = None
+
+abbrev pub cell_or_place : Option ℕ → List ℕ → Option Location
+cell_or_place (Some cell) text = Some (location.Erasable cell)
+cell_or_place None text = fixed_at_place (place_named text)
+
+-- a letter E, and what follows it
+abbrev pub begins_with_e : List ℕ → Bool
+begins_with_e [] = false
+begins_with_e (b ∷ bs) = b == 0x45
+
+unfoldable pub cell_named : List ℕ → Option ℕ
+cell_named text = cell_cut (position is_comma text) text
+
+-- The location that a text names: `En,oooo`, an address below 1400, `bb,oooo`, or an address from
+-- 4000 on.
+unfoldable pub location_named : List ℕ → Option Location
+location_named text =
+    if begins_with_e text
+    then erasable_at (cell_named (drop 1 text))
+    else cell_or_place (cell_alone (octal_number 4 text)) text
+
+-- the address of a cell: its own below the window, and else that in the window
+abbrev pub cell_address : ℕ → ℕ
+cell_address cell = if nat_lt cell 0o1400 then cell else 0o1400 + cell % 0o400
+
+-- the bank that FB has for a place: with the superbank it reads ten octal less
+abbrev pub bank_register : ℕ → ℕ
+bank_register place =
+    if nat_lt (place / 0o2000) 0o40 then place / 0o2000 else (place / 0o2000) % 0o10 + 0o30
+
+-- the complete address of a place: the bank that FB has, and the offset
+abbrev pub complete_address : ℕ → ℕ
+complete_address place = 0o2000 * bank_register place + place % 0o2000
+
+-- whether a line at a place sees another place: that is in bank 02 or 03, or in its own bank
+abbrev pub sees : ℕ → ℕ → Bool
+sees here place =
+    nat_le 0o4000 place && nat_lt place 0o10000 || (place / 0o2000 == here / 0o2000)

@@ -1,0 +1,57 @@
+-- The words that begin a line's order or directive.
+use Rattle.std.specs.Prelude.{ℕ, Bool, List, [], ◌∷◌, ◌||◌, Option, find, is_some, codes}
+use Rattle.std.specs.Str.{bytes_eq}
+use Rattle.agc_order.specs.declared.order.Basic.{Basic}
+use Rattle.agc_order.specs.declared.order.Basic.TheVariants as basic
+use Rattle.agc_order.specs.declared.order.Extracode.{Extracode}
+use Rattle.agc_order.specs.declared.order.Extracode.TheVariants as extra
+use Rattle.agc_rope_text.specs.Order.{basic_mnemonic, extracode_mnemonic}
+use Rattle.agc_source.specs.declared.mnemonic.Directive.{Directive}
+use Rattle.agc_source.specs.declared.mnemonic.Directive.TheVariants as directive
+
+unfoldable pub all_basics : List Basic
+all_basics =
+    basic.Tc ∷ basic.Relint ∷ basic.Inhint ∷ basic.Extend ∷ basic.Ccs ∷ basic.Tcf ∷ basic.Das ∷
+    basic.Lxch ∷ basic.Incr ∷ basic.Ads ∷ basic.Ca ∷ basic.Cs ∷ basic.Index ∷ basic.Resume ∷
+    basic.Dxch ∷ basic.Ts ∷ basic.Xch ∷ basic.Ad ∷ basic.Mask ∷ []
+
+unfoldable pub all_extracodes : List Extracode
+all_extracodes =
+    extra.Read ∷ extra.Write ∷ extra.Rand ∷ extra.Wand ∷ extra.Ror ∷ extra.Wor ∷ extra.Rxor ∷
+    extra.Edrupt ∷ extra.Dv ∷ extra.Bzf ∷ extra.Msu ∷ extra.Qxch ∷ extra.Aug ∷ extra.Dim ∷
+    extra.Dca ∷ extra.Dcs ∷ extra.Index ∷ extra.Su ∷ extra.Bzmf ∷ extra.Mp ∷ []
+
+-- the orders by the mnemonics of listings
+unfoldable pub basic_named : List ℕ → Option Basic
+basic_named name = find (λ order. bytes_eq (basic_mnemonic order) name) all_basics
+
+unfoldable pub extracode_named : List ℕ → Option Extracode
+extracode_named name = find (λ order. bytes_eq (extracode_mnemonic order) name) all_extracodes
+
+-- the directives
+unfoldable pub directive_name : Directive → List ℕ
+directive_name directive.SetLoc = codes "SETLOC"
+directive_name directive.Bank = codes "BANK"
+directive_name directive.Oct = codes "OCT"
+directive_name directive.Dec = codes "DEC"
+directive_name directive.PairOct = codes "2OCT"
+directive_name directive.PairDec = codes "2DEC"
+directive_name directive.Adres = codes "ADRES"
+directive_name directive.Cadr = codes "CADR"
+directive_name directive.Bbcon = codes "BBCON"
+directive_name directive.Is = codes "="
+directive_name directive.Equals = codes "EQUALS"
+directive_name directive.Erase = codes "ERASE"
+
+unfoldable pub all_directives : List Directive
+all_directives =
+    directive.SetLoc ∷ directive.Bank ∷ directive.Oct ∷ directive.Dec ∷ directive.PairOct ∷
+    directive.PairDec ∷ directive.Adres ∷ directive.Cadr ∷ directive.Bbcon ∷ directive.Is ∷
+    directive.Equals ∷ directive.Erase ∷ []
+
+unfoldable pub directive_named : List ℕ → Option Directive
+directive_named name = find (λ d. bytes_eq (directive_name d) name) all_directives
+
+-- whether a word is an order's, basic or extracode
+abbrev pub is_order : List ℕ → Bool
+is_order name = is_some (basic_named name) || is_some (extracode_named name)

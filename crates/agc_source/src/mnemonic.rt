@@ -1,0 +1,166 @@
+//! The words that begin a line's order or directive.
+ghost use Rattle.std.specs.Prelude.{◌≡◌};
+ghost use Rattle.agc_source.specs.Mnemonic.{
+  basic_named,
+  directive_name,
+  directive_named,
+  extracode_named,
+  is_order,
+};
+
+use agc_order::{Basic, Extracode};
+use agc_rope_text::{basic_mnemonic, extracode_mnemonic};
+
+/// Every basic order, once.
+const BASICS: [Basic; 19] = [
+    Basic::Tc,
+    Basic::Relint,
+    Basic::Inhint,
+    Basic::Extend,
+    Basic::Ccs,
+    Basic::Tcf,
+    Basic::Das,
+    Basic::Lxch,
+    Basic::Incr,
+    Basic::Ads,
+    Basic::Ca,
+    Basic::Cs,
+    Basic::Index,
+    Basic::Resume,
+    Basic::Dxch,
+    Basic::Ts,
+    Basic::Xch,
+    Basic::Ad,
+    Basic::Mask,
+];
+
+/// Every extracode, once.
+const EXTRACODES: [Extracode; 20] = [
+    Extracode::Read,
+    Extracode::Write,
+    Extracode::Rand,
+    Extracode::Wand,
+    Extracode::Ror,
+    Extracode::Wor,
+    Extracode::Rxor,
+    Extracode::Edrupt,
+    Extracode::Dv,
+    Extracode::Bzf,
+    Extracode::Msu,
+    Extracode::Qxch,
+    Extracode::Aug,
+    Extracode::Dim,
+    Extracode::Dca,
+    Extracode::Dcs,
+    Extracode::Index,
+    Extracode::Su,
+    Extracode::Bzmf,
+    Extracode::Mp,
+];
+
+/// What a line may say beside orders.
+#[derive(Clone, Copy, Debug, PartialEq, Eq)]
+pub(crate) enum Directive {
+    /// The lines that follow stand from a place on.
+    SetLoc,
+    /// They go on where a bank was left.
+    Bank,
+    /// A word in octal.
+    Oct,
+    /// A number.
+    Dec,
+    /// Two words in octal.
+    PairOct,
+    /// A number of two words.
+    PairDec,
+    /// An address.
+    Adres,
+    /// A complete address: bank and offset.
+    Cadr,
+    /// A word for BB.
+    Bbcon,
+    /// A name for a place.
+    Is,
+    /// The same.
+    Equals,
+    /// Cells in a row.
+    Erase,
+}
+
+impl Directive {
+    /// Every directive, once.
+    pub const ALL: [Directive; 12] = [
+        Directive::SetLoc,
+        Directive::Bank,
+        Directive::Oct,
+        Directive::Dec,
+        Directive::PairOct,
+        Directive::PairDec,
+        Directive::Adres,
+        Directive::Cadr,
+        Directive::Bbcon,
+        Directive::Is,
+        Directive::Equals,
+        Directive::Erase,
+    ];
+
+    /// The directive of this name.
+    #[tactic(auto, unfolding(crate::specs::Mnemonic::directive_named, crate::specs::Mnemonic::all_directives))]
+    pub fn from_name(name: &[u8]) -> Option<Directive>
+        ensures { result ≡ directive_named name.now }
+    {
+        Directive::ALL
+            .iter()
+            .copied()
+            .find(|directive| directive.name().as_bytes() == name)
+    }
+
+    #[tactic(auto, unfolding(crate::specs::Mnemonic::directive_name))]
+    pub fn name(self) -> &'static str
+        ensures { result.now ≡ directive_name self }
+    {
+        match self {
+            Directive::SetLoc => "SETLOC",
+            Directive::Bank => "BANK",
+            Directive::Oct => "OCT",
+            Directive::Dec => "DEC",
+            Directive::PairOct => "2OCT",
+            Directive::PairDec => "2DEC",
+            Directive::Adres => "ADRES",
+            Directive::Cadr => "CADR",
+            Directive::Bbcon => "BBCON",
+            Directive::Is => "=",
+            Directive::Equals => "EQUALS",
+            Directive::Erase => "ERASE",
+        }
+    }
+}
+
+/// The basic order of a mnemonic.
+#[tactic(auto, unfolding(crate::specs::Mnemonic::basic_named, crate::specs::Mnemonic::all_basics))]
+pub(crate) fn basic_named(name: &[u8]) -> Option<Basic>
+    ensures { result ≡ basic_named name.now }
+{
+    BASICS
+        .iter()
+        .copied()
+        .find(|order| basic_mnemonic(*order).as_bytes() == name)
+}
+
+/// The extracode of a mnemonic.
+#[tactic(auto, unfolding(crate::specs::Mnemonic::extracode_named, crate::specs::Mnemonic::all_extracodes))]
+pub(crate) fn extracode_named(name: &[u8]) -> Option<Extracode>
+    ensures { result ≡ extracode_named name.now }
+{
+    EXTRACODES
+        .iter()
+        .copied()
+        .find(|order| extracode_mnemonic(*order).as_bytes() == name)
+}
+
+/// Whether a word is an order's, basic or extracode.
+pub(crate) fn is_order(name: &[u8]) -> bool
+    ensures { result ≡ is_order name.now }
+{
+    basic_named(name).is_some() || extracode_named(name).is_some()
+}

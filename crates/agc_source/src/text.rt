@@ -1,0 +1,118 @@
+//! How a line of a source is cut: its words before the comment, and the name in its first column.
+ghost use Rattle.std.specs.Prelude.{◌≡◌, [], ◌∷◌, MatchOption, option_map};
+ghost use Rattle.std.specs.List.{list_any};
+ghost use Rattle.agc_word.specs.Numeral.{is_digit};
+ghost use Rattle.agc_rope_text.specs.Line.{is_comma, is_no_text};
+ghost use Rattle.agc_source.specs.Text.{
+  are_listed,
+  body_of,
+  first_of,
+  is_indented,
+  is_name,
+  is_no_number,
+  is_place_text,
+  label_of,
+  only_of,
+  said_by,
+};
+
+use agc_script::next_word;
+
+/// The first word that a text says before its comment, and what follows it; `None` where it says nothing.
+#[tactic(auto, unfolding(crate::specs::Text::said_by))]
+pub(crate) fn next_said(text: &[u8]) -> Option<(&[u8], &[u8])>
+    ensures { MatchOption result (said_by text.now ≡ [])
+        (λ cut. said_by text.now ≡ cut.0.now ∷ said_by cut.1.now) }
+{
+    let (word, rest) = next_word(text)?;
+    if matches!(word, [b'#', ..]) {
+        return None;
+    }
+    Some((word, rest))
+}
+
+/// Whether a line is one of a listing: it says nothing, or begins with a place.
+pub(crate) fn is_listed(line: &[u8]) -> bool
+    ensures { result ≡ are_listed (said_by line.now) }
+{
+    match next_said(line) {
+        Some((first, _)) => is_place_text(first),
+        None => true,
+    }
+}
+
+#[tactic(auto, unfolding(crate::specs::Text::is_place_text))]
+fn is_place_text(word: &[u8]) -> bool
+    ensures { result ≡ is_place_text word.now }
+{
+    word.iter().all(|b| is_decimal(*b) || *b == b',')
+}
+
+fn is_decimal(b: u8) -> bool
+    ensures { result ≡ is_digit 10 b }
+{
+    b'0' <= b && b <= b'9'
+}
+
+/// Whether a line begins with a blank, so that it has no name.
+fn is_indented(line: &[u8]) -> bool
+    ensures { result ≡ is_indented line.now }
+{
+    matches!(line, [b' ' | b'\t', ..])
+}
+
+/// The name of a line, and where its order or directive begins.
+#[tactic(auto, unfolding(crate::specs::Text::label_of, crate::specs::Text::body_of))]
+pub(crate) fn cut_label(line: &[u8]) -> (Option<&[u8]>, &[u8])
+    ensures label { option_map (λ label. label.now) result.0 ≡ label_of line.now }
+    ensures body { said_by result.1.now ≡ body_of line.now }
+{
+    if is_indented(line) {
+        return (None, line);
+    }
+    match next_said(line) {
+        Some((label, body)) => (Some(label), body),
+        None => (None, line),
+    }
+}
+
+/// The only word of a text.
+pub(crate) fn only_word(text: &[u8]) -> Option<&[u8]>
+    ensures { option_map (λ word. word.now) result ≡ only_of (said_by text.now) }
+{
+    let (word, rest) = next_said(text)?;
+    match next_said(rest) {
+        Some(_) => None,
+        None => Some(word),
+    }
+}
+
+/// Whether a word is a name: eight characters at most, one that is of no number, and no comma.
+#[tactic(auto, unfolding(crate::specs::Text::is_name))]
+pub(crate) fn is_name(word: &[u8]) -> bool
+    ensures { result ≡ is_name word.now }
+{
+    word.len() <= 8 && has_other_than_numbers(word) && !has_comma(word)
+}
+
+fn has_comma(word: &[u8]) -> bool
+    ensures { result ≡ list_any is_comma word.now }
+{
+    word.iter().any(|b| *b == b',')
+}
+
+/// Whether a byte of a word is of no number.
+fn has_other_than_numbers(word: &[u8]) -> bool
+    ensures { result ≡ list_any is_no_number word.now }
+{
+    word.iter()
+        .any(|b| !(is_decimal(*b) || (*b == b'+' || *b == b'-')))
+}
+
+/// Whether a byte of a line is no text: neither a tab nor one of ASCII's that print.
+pub(crate) fn has_other_byte(line: &[u8]) -> bool
+    ensures { result ≡ list_any is_no_text line.now }
+{
+    line.iter()
+        .any(|b| *b != b'\t' && (*b < 0x20 || *b >= 0x7F))
+}

@@ -1,0 +1,239 @@
+//! Sources of ropes, each line's word worked by hand from the tables of orders. The numbers are octal.
+use agc_rope_text::{LineFault, list};
+use agc_source::{SourceFault, SourceTrouble, weave_source};
+use agc_store::{Rope, RopeForm, Store};
+use std::process::Abort;
+use std::test::Fail;
+
+/// Looks that a source weaves to the rope that a listing of its words makes.
+fn weaves(rt: &(impl AllocGlobal + Abort), source: &str, words: &str) -> Result<(), Fail> {
+    let alloc = rt.alloc();
+    for form in [RopeForm::Classic, RopeForm::Parity] {
+        let file = weave_source(alloc, form, source.as_bytes())?;
+        let wanted = weave_source(alloc, form, words.as_bytes())?;
+        assert!(rt; file == wanted);
+    }
+    Ok(())
+}
+
+/// Looks that the line with this number has this fault, and is told.
+fn refuses(rt: &(impl AllocGlobal + Abort), line: usize, fault: SourceFault, source: &str) {
+    let told = weave_source(rt.alloc(), RopeForm::Classic, source.as_bytes()).err();
+    assert_eq!(rt; told, Some(SourceTrouble::Line(line, fault)));
+}
+
+/// A name stands for the place of its line, in either direction, and a text begins at 4000.
+#[test]
+fn names_stand_for_their_lines(rt: HostRuntime) -> Result<(), Fail> {
+    weaves(
+        &rt,
+        "# waits
+START CA PROG
+ EXTEND
+ WRITE 10
+LOOP TCF LOOP
+PROG OCT 54171
+ TCF START +1 # over the CA
+ TCF -1
+ TC LOOP
+",
+        "4000 34004\n4001 00006\n4002 01010\n4003 14003\n4004 54171\n4005 14001\n4006 14005\n4007 04003\n",
+    )
+}
+
+/// Double orders hold the address of the lower word.
+#[test]
+fn double_orders_name_the_upper_word(rt: HostRuntime) -> Result<(), Fail> {
+    weaves(
+        &rt,
+        "DBL = 100
+ DXCH DBL
+ DAS DBL +2
+ EXTEND
+ DCA TWO
+ EXTEND
+ DCS TWO
+TWO 2DEC -16385
+",
+        "4000 52101\n4001 20103\n4002 00006\n4003 34007\n4004 00006\n4005 44007\n4006 77776\n4007 77776\n",
+    )
+}
+
+/// The computer's own names, and banks 3 to 7 in the window.
+#[test]
+fn erasable_names(rt: HostRuntime) -> Result<(), Fail> {
+    weaves(
+        &rt,
+        " SETLOC E3,1400
+COUNT ERASE
+TABLE ERASE +2
+AFTER ERASE
+LOW EQUALS E0,0061
+ SETLOC 02,4000
+ TS TIME4
+ XCH EBANK
+ INDEX A
+ CA COUNT
+ CA TABLE +1
+ TS AFTER
+ LXCH LOW
+",
+        "4000 54027\n4001 56003\n4002 50000\n4003 31400\n4004 31402\n4005 55404\n4006 22061\n",
+    )
+}
+
+/// An extracode after EXTEND and after INDEX as an extracode; channels by their names.
+#[test]
+fn extracodes(rt: HostRuntime) -> Result<(), Fail> {
+    weaves(
+        &rt,
+        "DSKY = 10
+ EXTEND
+ INDEX 4005
+ MP 4005
+ INDEX 5
+ EXTEND
+ WRITE DSKY
+ EXTEND
+ READ L
+ EXTEND
+ BZF +1
+ RESUME
+ RELINT
+",
+        "4000 00006\n4001 54005\n4002 74005\n4003 50005\n4004 00006\n4005 01010\n4006 00006\n4007 00001\n4010 00006\n4011 14012\n4012 50017\n4013 00003\n",
+    )
+}
+
+/// Numbers and their two zeros, addresses, and the words of banks.
+#[test]
+fn data(rt: HostRuntime) -> Result<(), Fail> {
+    weaves(
+        &rt,
+        " DEC 10
+ DEC -10
+ DEC +0
+ DEC -0
+ OCT 7
+ 2DEC 16385
+ 2OCT 0000100002
+ ADRES HERE
+ CADR HERE
+ BBCON HERE
+ ADRES CELL
+ BANK 5
+HERE CA HERE
+ BANK 2
+ CADR HIGH
+ BANK 42
+ OCT 1
+HIGH OCT 2
+CELL = E4,1412
+",
+        "4000 00012\n4001 77765\n4002 00000\n4003 77777\n4004 00007\n4005 00001\n4006 00001\n4007 00001\n4010 00002\n4011 02000\n4012 12000\n4013 12000\n4014 01412\n05,2000 32000\n4015 64001\n42,2000 00001\n42,2001 00002\n",
+    )
+}
+
+/// What the program lists is what the source says.
+#[test]
+fn listed_back(rt: HostRuntime) -> Result<(), Fail> {
+    let alloc = rt.alloc();
+    let source = " EXTEND\n DCA 4010\n DXCH 100\n EXTEND\n WRITE 10\n TCF 4000\n";
+    let file = weave_source(alloc, RopeForm::Classic, source.as_bytes())?;
+    let store = Store::new(Rope::read(alloc, file.as_slice())?);
+    let text = list(alloc, &store, None)?;
+    assert_eq!(&rt;
+        text.as_str(),
+        "02,4000 00006 EXTEND
+02,4001 34011 DCA 4010
+02,4002 52101 DXCH 0100
+02,4003 00006 EXTEND
+02,4004 01010 WRITE 010
+02,4005 14000 TCF 4000
+"
+    );
+    Ok(())
+}
+
+/// Places with words stand among lines of orders, and change nothing of where these stand.
+#[test]
+fn places_among_orders(rt: HostRuntime) -> Result<(), Fail> {
+    weaves(
+        &rt,
+        " CA 4010\n4010 00007 the seven\n TS 100\n",
+        "4000 34010\n4001 54100\n4010 00007\n",
+    )
+}
+
+#[test]
+fn faults_of_form(rt: HostRuntime) {
+    refuses(&rt, 1, SourceFault::UnknownOrder, " CAA 100\n");
+    refuses(&rt, 2, SourceFault::UnknownOrder, " EXTEND\nTCF 4000\n");
+    refuses(&rt, 1, SourceFault::BadName, "NINELONGS CA 1\n");
+    refuses(&rt, 1, SourceFault::BadName, "A,B CA 1\n");
+    refuses(&rt, 2, SourceFault::NameTwice, "HERE CA 1\nHERE CA 1\n");
+    refuses(&rt, 1, SourceFault::NameTwice, "TIME1 CA 1\n");
+    refuses(&rt, 1, SourceFault::MisplacedName, "HERE BANK 2\n");
+    refuses(&rt, 1, SourceFault::MisplacedName, " = 100\n");
+    refuses(&rt, 1, SourceFault::BadOperand, " CA\n");
+    refuses(&rt, 1, SourceFault::BadOperand, " RELINT 3\n");
+    refuses(&rt, 1, SourceFault::BadOperand, " CA 100 X\n");
+    refuses(&rt, 1, SourceFault::BadNumber, " DEC 16384\n");
+    refuses(&rt, 1, SourceFault::BadNumber, " OCT 8\n");
+    refuses(&rt, 1, SourceFault::BadPlace, " SETLOC 2000\n");
+    refuses(&rt, 1, SourceFault::BadPlace, " BANK 44\n");
+    refuses(
+        &rt,
+        2,
+        SourceFault::Listed(LineFault::NotText),
+        " EXTEND\n READ 1\x01\n",
+    );
+}
+
+#[test]
+fn faults_of_operands(rt: HostRuntime) {
+    refuses(&rt, 1, SourceFault::UnknownName, " CA NOWHERE\n");
+    refuses(&rt, 1, SourceFault::NoSuchPlace, " CA 10000\n");
+    refuses(&rt, 1, SourceFault::NoSuchPlace, " CA 0 -1\n");
+    refuses(&rt, 2, SourceFault::ErasableWanted, "HERE CA 1\n TS HERE\n");
+    refuses(&rt, 1, SourceFault::ErasableWanted, " CCS 2000\n");
+    refuses(&rt, 1, SourceFault::FixedWanted, " TCF A\n");
+    refuses(&rt, 1, SourceFault::FixedWanted, " CADR 4000\n");
+    refuses(&rt, 2, SourceFault::ChannelWanted, " EXTEND\n READ 1000\n");
+}
+
+#[test]
+fn faults_of_places(rt: HostRuntime) {
+    refuses(
+        &rt,
+        4,
+        SourceFault::AnotherBank,
+        " BANK 5\nHERE CA 1\n BANK 6\n CA HERE\n",
+    );
+    refuses(&rt, 1, SourceFault::OtherOrder, " TC 6\n");
+    refuses(&rt, 1, SourceFault::OtherOrder, " INDEX 17\n");
+    refuses(&rt, 1, SourceFault::ExtracodeAlone, " WRITE 10\n");
+    refuses(&rt, 2, SourceFault::BasicAfterExtend, " EXTEND\n CA 1\n");
+    refuses(&rt, 3, SourceFault::Full, " SETLOC 02,5777\n CA 1\n CA 1\n");
+    refuses(&rt, 2, SourceFault::Full, " SETLOC E7,1777\n ERASE +1\n");
+    refuses(&rt, 2, SourceFault::WrongMemory, " SETLOC 100\n CA 1\n");
+    refuses(&rt, 1, SourceFault::WrongMemory, " ERASE\n");
+    refuses(
+        &rt,
+        2,
+        SourceFault::Listed(LineFault::NamedTwice),
+        " CA 1\n4000 30002\n",
+    );
+}
+
+/// Of two faults on one way through the text the first is told, and names go before words.
+#[test]
+fn the_first_fault_is_told(rt: HostRuntime) {
+    refuses(&rt, 1, SourceFault::UnknownName, " CA ONE\n CA TWO\n");
+    refuses(
+        &rt,
+        2,
+        SourceFault::UnknownOrder,
+        " CA ONE\n CAA 1\n CAB 1\n",
+    );
+}
