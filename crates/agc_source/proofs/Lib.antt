@@ -1,4 +1,1 @@
-mod BasicRows
-mod ExtracodeRows
-mod Naming
 mod Ways

@@ -4,13 +4,13 @@ use Rattle.std.specs.Prelude.{Result, Ok, Err}
 use Rattle.agc_script.specs.Text.{lines_of}
 use Rattle.agc_rope_text.specs.declared.line.Named.{Named}
 use Rattle.agc_source.specs.Cursor.{first_cursor}
-use Rattle.agc_source.specs.Name.{Naming, own_names}
+use Rattle.agc_source_words.specs.Name.{Naming, own_names}
 use Rattle.agc_source.specs.Source.{both_said, first_state, line_labelled, line_woven, names_from, names_in, naming_after, told_at, words_from, words_in}
-use Rattle.agc_source.specs.Text.{label_of}
+use Rattle.agc_source_words.specs.Text.{label_of}
 use Rattle.agc_source.specs.declared.cursor.Cursor.{Cursor}
-use Rattle.agc_source.specs.declared.fault.SourceFault.{SourceFault}
-use Rattle.agc_source.specs.declared.fault.SourceTrouble.{SourceTrouble}
-use Rattle.agc_source.specs.declared.fault.SourceTrouble.TheVariants as trouble
+use Rattle.agc_source_words.specs.declared.fault.SourceFault.{SourceFault}
+use Rattle.agc_source_words.specs.declared.fault.SourceTrouble.{SourceTrouble}
+use Rattle.agc_source_words.specs.declared.fault.SourceTrouble.TheVariants as trouble
 use Rattle.agc_source.specs.declared.labels.Labelled.{Labelled}
 use Rattle.agc_source.specs.declared.steps.State.{State}
 use Rattle.agc_source.specs.declared.steps.Step.{Step}

@@ -4,10 +4,10 @@ use Rattle.std.specs.Prelude.{Result, Ok, Err, if◌then◌else◌}
 use Rattle.agc_source.specs.declared.cursor.At.{At}
 use Rattle.agc_source.specs.declared.cursor.At.TheVariants as at
 use Rattle.agc_source.specs.declared.cursor.Cursor.{Cursor}
-use Rattle.agc_source.specs.declared.fault.SourceFault.{SourceFault}
-use Rattle.agc_source.specs.declared.fault.SourceFault.TheVariants as fault
-use Rattle.agc_source.specs.declared.location.Location.{Location}
-use Rattle.agc_source.specs.declared.location.Location.TheVariants as location
+use Rattle.agc_source_words.specs.declared.fault.SourceFault.{SourceFault}
+use Rattle.agc_source_words.specs.declared.fault.SourceFault.TheVariants as fault
+use Rattle.agc_source_words.specs.declared.location.Location.{Location}
+use Rattle.agc_source_words.specs.declared.location.Location.TheVariants as location
 
 -- one of the 36 banks, or a cell, or the end of erasable memory
 abbrev pub IsAt : At → Type 0

@@ -1,12 +1,5 @@
-pub mod Text
-pub mod Number
-pub mod Location
-pub mod Row
-pub mod Name
-pub mod Mnemonic
 pub mod Cursor
 pub mod Operand
 pub mod Shape
 pub mod Meaning
 pub mod Source
-pub mod Told

@@ -7,20 +7,20 @@ use Rattle.agc_order.specs.declared.order.Basic.{Basic}
 use Rattle.agc_order.specs.declared.order.Extracode.{Extracode}
 use Rattle.agc_rope_text.specs.List.{listed_address}
 use Rattle.agc_rope_text.specs.declared.order.Operand.{Operand}
-use Rattle.agc_source.specs.Location.{bank_register, cell_address, complete_address}
-use Rattle.agc_source.specs.Mnemonic.{basic_named, directive_named, extracode_named}
-use Rattle.agc_source.specs.Name.{Naming}
-use Rattle.agc_source.specs.Number.{decimal_word, octal_word, signed_number}
+use Rattle.agc_source_words.specs.Location.{bank_register, cell_address, complete_address}
+use Rattle.agc_source_words.specs.Mnemonic.{basic_named, directive_named, extracode_named}
+use Rattle.agc_source_words.specs.Name.{Naming}
+use Rattle.agc_source_words.specs.Number.{decimal_word, octal_word, signed_number}
 use Rattle.agc_source.specs.Operand.{operand_for, value_of}
-use Rattle.agc_source.specs.Row.{as_word, basic_row, basic_word, extracode_row, extracode_word}
-use Rattle.agc_source.specs.Text.{only_of}
-use Rattle.agc_source.specs.declared.fault.SourceFault.{SourceFault}
-use Rattle.agc_source.specs.declared.fault.SourceFault.TheVariants as fault
-use Rattle.agc_source.specs.declared.location.Location.TheVariants as location
+use Rattle.agc_source_words.specs.Row.{as_word, basic_row, basic_word, extracode_row, extracode_word}
+use Rattle.agc_source_words.specs.Text.{only_of}
+use Rattle.agc_source_words.specs.declared.fault.SourceFault.{SourceFault}
+use Rattle.agc_source_words.specs.declared.fault.SourceFault.TheVariants as fault
+use Rattle.agc_source_words.specs.declared.location.Location.TheVariants as location
 use Rattle.agc_source.specs.declared.meaning.Pair.{Pair}
-use Rattle.agc_source.specs.declared.mnemonic.Directive.{Directive}
-use Rattle.agc_source.specs.declared.mnemonic.Directive.TheVariants as directive
-use Rattle.agc_source.specs.declared.number.Signed.{Signed}
+use Rattle.agc_source_words.specs.declared.mnemonic.Directive.{Directive}
+use Rattle.agc_source_words.specs.declared.mnemonic.Directive.TheVariants as directive
+use Rattle.agc_source_words.specs.declared.number.Signed.{Signed}
 use Rattle.agc_source.specs.declared.operand.Value.{Value}
 use Rattle.agc_source.specs.declared.operand.Value.TheVariants as value
 

@@ -5,19 +5,19 @@ use Rattle.agc_word.specs.Numeral.{octal_number}
 use Rattle.agc_rope_text.specs.List.{listed_address}
 use Rattle.agc_rope_text.specs.declared.order.Operand.{Operand}
 use Rattle.agc_rope_text.specs.declared.order.Operand.TheVariants as operand
-use Rattle.agc_source.specs.Location.{cell_address, sees}
-use Rattle.agc_source.specs.Name.{Naming}
-use Rattle.agc_source.specs.Number.{offset_named}
-use Rattle.agc_source.specs.Text.{is_name}
-use Rattle.agc_source.specs.declared.fault.SourceFault.{SourceFault}
-use Rattle.agc_source.specs.declared.fault.SourceFault.TheVariants as fault
-use Rattle.agc_source.specs.declared.location.Location.{Location}
-use Rattle.agc_source.specs.declared.location.Location.TheVariants as location
-use Rattle.agc_source.specs.declared.number.Signed.{Signed}
+use Rattle.agc_source_words.specs.Location.{cell_address, sees}
+use Rattle.agc_source_words.specs.Name.{Naming}
+use Rattle.agc_source_words.specs.Number.{offset_named}
+use Rattle.agc_source_words.specs.Text.{is_name}
+use Rattle.agc_source_words.specs.declared.fault.SourceFault.{SourceFault}
+use Rattle.agc_source_words.specs.declared.fault.SourceFault.TheVariants as fault
+use Rattle.agc_source_words.specs.declared.location.Location.{Location}
+use Rattle.agc_source_words.specs.declared.location.Location.TheVariants as location
+use Rattle.agc_source_words.specs.declared.number.Signed.{Signed}
 use Rattle.agc_source.specs.declared.operand.Value.{Value}
 use Rattle.agc_source.specs.declared.operand.Value.TheVariants as value
-use Rattle.agc_source.specs.declared.row.Takes.{Takes}
-use Rattle.agc_source.specs.declared.row.Takes.TheVariants as takes
+use Rattle.agc_source_words.specs.declared.row.Takes.{Takes}
+use Rattle.agc_source_words.specs.declared.row.Takes.TheVariants as takes
 
 -- a number moved by another one, where the sum is no less than 0 and below a bound
 abbrev pub moved : ℕ → ℕ → Signed → Option ℕ

@@ -3,18 +3,18 @@ use Rattle.std.specs.Prelude.{ℕ, ◌+◌, ◌<◌, ◌≤◌, nat_le, List, []
 use Rattle.std.specs.Prelude.{if◌then◌else◌}
 use Rattle.agc_word.specs.Numeral.{octal_number}
 use Rattle.agc_source.specs.Cursor.{after_cells, after_words, moved_to, room_at}
-use Rattle.agc_source.specs.Location.{IsWithin, location_named}
-use Rattle.agc_source.specs.Mnemonic.{directive_named, is_order}
-use Rattle.agc_source.specs.Number.{offset_named}
-use Rattle.agc_source.specs.Text.{only_of}
+use Rattle.agc_source_words.specs.Location.{IsWithin, location_named}
+use Rattle.agc_source_words.specs.Mnemonic.{directive_named, is_order}
+use Rattle.agc_source_words.specs.Number.{offset_named}
+use Rattle.agc_source_words.specs.Text.{only_of}
 use Rattle.agc_source.specs.declared.cursor.At.TheVariants as at
 use Rattle.agc_source.specs.declared.cursor.Cursor.{Cursor}
-use Rattle.agc_source.specs.declared.fault.SourceFault.{SourceFault}
-use Rattle.agc_source.specs.declared.fault.SourceFault.TheVariants as fault
-use Rattle.agc_source.specs.declared.location.Location.{Location}
-use Rattle.agc_source.specs.declared.mnemonic.Directive.{Directive}
-use Rattle.agc_source.specs.declared.mnemonic.Directive.TheVariants as directive
-use Rattle.agc_source.specs.declared.number.Signed.{Signed}
+use Rattle.agc_source_words.specs.declared.fault.SourceFault.{SourceFault}
+use Rattle.agc_source_words.specs.declared.fault.SourceFault.TheVariants as fault
+use Rattle.agc_source_words.specs.declared.location.Location.{Location}
+use Rattle.agc_source_words.specs.declared.mnemonic.Directive.{Directive}
+use Rattle.agc_source_words.specs.declared.mnemonic.Directive.TheVariants as directive
+use Rattle.agc_source_words.specs.declared.number.Signed.{Signed}
 use Rattle.agc_source.specs.declared.shape.Shape.{Shape}
 use Rattle.agc_source.specs.declared.shape.Shape.TheVariants as shape
 

@@ -15,16 +15,16 @@ use Rattle.agc_rope_text.specs.declared.fault.WeaveFault.TheVariants as weave
 use Rattle.agc_rope_text.specs.declared.line.Named.{Named}
 use Rattle.agc_source.specs.Cursor.{after_words, first_cursor, location_at, room_at}
 use Rattle.agc_source.specs.Meaning.{pair_meaning, word_meaning}
-use Rattle.agc_source.specs.Name.{Naming, own_names, with_name}
+use Rattle.agc_source_words.specs.Name.{Naming, own_names, with_name}
 use Rattle.agc_source.specs.Shape.{cursor_after, shape_of}
-use Rattle.agc_source.specs.Text.{are_listed, body_of, is_name, label_of, said_by}
+use Rattle.agc_source_words.specs.Text.{are_listed, body_of, is_name, label_of, said_by}
 use Rattle.agc_source.specs.declared.cursor.Cursor.{Cursor}
-use Rattle.agc_source.specs.declared.fault.SourceFault.{SourceFault}
-use Rattle.agc_source.specs.declared.fault.SourceFault.TheVariants as fault
-use Rattle.agc_source.specs.declared.fault.SourceTrouble.{SourceTrouble}
-use Rattle.agc_source.specs.declared.fault.SourceTrouble.TheVariants as trouble
+use Rattle.agc_source_words.specs.declared.fault.SourceFault.{SourceFault}
+use Rattle.agc_source_words.specs.declared.fault.SourceFault.TheVariants as fault
+use Rattle.agc_source_words.specs.declared.fault.SourceTrouble.{SourceTrouble}
+use Rattle.agc_source_words.specs.declared.fault.SourceTrouble.TheVariants as trouble
 use Rattle.agc_source.specs.declared.labels.Labelled.{Labelled}
-use Rattle.agc_source.specs.declared.location.Location.{Location}
+use Rattle.agc_source_words.specs.declared.location.Location.{Location}
 use Rattle.agc_source.specs.declared.meaning.Pair.{Pair}
 use Rattle.agc_source.specs.declared.shape.Shape.{Shape}
 use Rattle.agc_source.specs.declared.shape.Shape.TheVariants as shape

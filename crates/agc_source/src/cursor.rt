@@ -9,11 +9,10 @@ ghost use Rattle.agc_source.specs.Cursor.{
   moved_to,
   room_at,
 };
-ghost use Rattle.agc_source.specs.Location.{IsWithin};
+ghost use Rattle.agc_source_words.specs.Location.{IsWithin};
 ghost use Rattle.agc_source.specs.declared.cursor.At.TheVariants as at;
 
-use crate::fault::SourceFault;
-use crate::location::Location;
+use agc_source_words::{Location, SourceFault};
 
 /// Which memory the lines go into.
 #[derive(Clone, Copy, Debug, PartialEq, Eq)]

@@ -1,7 +1,7 @@
 //! The first way through a text: where its names stand.
 ghost use Rattle.std.specs.Prelude.{◌≡◌, ◌≢◌, None, Ok, Err, IfOk, IfErr, IfSome, OnOk, option_map};
 ghost use Rattle.agc_source.specs.Cursor.{IsAt};
-ghost use Rattle.agc_source.specs.Name.{naming_of};
+ghost use Rattle.agc_source_words.specs.Name.{naming_of};
 ghost use Rattle.agc_source.specs.Shape.{IsShape, shape_of};
 ghost use Rattle.agc_source.specs.Source.{
   label_place,
@@ -12,18 +12,17 @@ ghost use Rattle.agc_source.specs.Source.{
   place_labelled,
   shape_labelled,
 };
-ghost use Rattle.agc_source.specs.Text.{body_of, label_of, said_by};
+ghost use Rattle.agc_source_words.specs.Text.{body_of, label_of, said_by};
 ghost use Rattle.agc_rope_text.specs.Line.{line_named};
-ghost use Rattle.agc_source.specs.declared.fault.SourceTrouble.TheVariants.{Memory};
+ghost use Rattle.agc_source_words.specs.declared.fault.SourceTrouble.TheVariants.{Memory};
 
 use crate::cursor::Cursor;
-use crate::fault::{SourceFault, SourceTrouble};
-use crate::location::Location;
-use crate::names::Names;
 use crate::shape::{Shape, cursor_after, shape_of};
-use crate::text::{cut_label, has_other_byte, is_listed, is_name};
 use agc_rope_text::{LineFault, read_line};
 use agc_script::next_line;
+use agc_source_words::{
+    Location, Names, SourceFault, SourceTrouble, cut_label, has_other_byte, is_listed, is_name,
+};
 use std::alloc::{AllocError, Global};
 
 /// What a line says of names: where its own stands, and where the next line stands.

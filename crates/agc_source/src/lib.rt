@@ -2,22 +2,12 @@
 #![tactic(auto)]
 
 mod cursor;
-mod fault;
 mod labels;
-mod location;
 mod meaning;
-mod mnemonic;
-mod names;
-mod number;
 mod operand;
-mod register;
-mod row;
 mod shape;
 mod source;
 mod steps;
-mod text;
 
-pub use fault::{SourceFault, SourceTrouble};
-pub use location::Location;
-pub use row::{basic_word, extracode_word};
+pub use agc_source_words::{Location, SourceFault, SourceTrouble, basic_word, extracode_word};
 pub use source::weave_source;

@@ -13,22 +13,20 @@ ghost use Rattle.agc_source.specs.Meaning.{
   place_in,
   word_meaning,
 };
-ghost use Rattle.agc_source.specs.Name.{naming_of};
+ghost use Rattle.agc_source_words.specs.Name.{naming_of};
 ghost use Rattle.agc_source.specs.Operand.{value_of};
-ghost use Rattle.agc_source.specs.Text.{only_of, said_by};
-ghost use Rattle.agc_source.specs.Number.{signed_number};
+ghost use Rattle.agc_source_words.specs.Text.{only_of, said_by};
+ghost use Rattle.agc_source_words.specs.Number.{signed_number};
 ghost use Rattle.agc_word.specs.Numeral.{octal_number};
 
-use crate::fault::SourceFault;
-use crate::location::{Location, bank_word, cell_address, complete_address};
-use crate::mnemonic::{Directive, basic_named, extracode_named};
-use crate::names::Names;
-use crate::number::{decimal_word, octal_word, signed_number};
 use crate::operand::{Value, operand_for, value_of};
-use crate::row::{basic_row, basic_word, extracode_row, extracode_word};
-use crate::text::{next_said, only_word};
 use agc_order::{Basic, Extracode};
 use agc_rope_text::listed_address;
+use agc_source_words::{
+    Directive, Location, Names, SourceFault, bank_word, basic_named, basic_row, basic_word,
+    cell_address, complete_address, decimal_word, extracode_named, extracode_row, extracode_word,
+    next_said, octal_word, only_word, signed_number,
+};
 use agc_word::{Narrow, read_octal};
 
 /// Two words, the upper one first.

@@ -1,6 +1,6 @@
 //! What an operand says: an address, a place or a cell, and the distance from it.
 ghost use Rattle.std.specs.Prelude.{◌≡◌, ◌<◌, ◌^◌, IfOk};
-ghost use Rattle.agc_source.specs.Name.{naming_of};
+ghost use Rattle.agc_source_words.specs.Name.{naming_of};
 ghost use Rattle.agc_source.specs.Operand.{
   address_at,
   channel_at,
@@ -12,16 +12,14 @@ ghost use Rattle.agc_source.specs.Operand.{
   value_moved,
   value_of,
 };
-ghost use Rattle.agc_source.specs.Number.{offset_named};
-ghost use Rattle.agc_source.specs.Text.{said_by};
+ghost use Rattle.agc_source_words.specs.Number.{offset_named};
+ghost use Rattle.agc_source_words.specs.Text.{said_by};
 
-use crate::fault::SourceFault;
-use crate::location::{Location, cell_address, sees};
-use crate::names::Names;
-use crate::number::{Signed, offset_named};
-use crate::row::Takes;
-use crate::text::{is_name, next_said};
 use agc_rope_text::{Operand, listed_address};
+use agc_source_words::{
+    Location, Names, Signed, SourceFault, Takes, cell_address, is_name, next_said, offset_named,
+    sees,
+};
 use agc_word::read_octal;
 
 /// What an operand says.

@@ -1,7 +1,7 @@
 //! What a line takes up, and where the next one stands.
 ghost use Rattle.std.specs.Prelude.{◌≡◌, ◌<◌, ◌≤◌, IfOk, IfSome};
 ghost use Rattle.agc_source.specs.Cursor.{IsAt};
-ghost use Rattle.agc_source.specs.Location.{IsWithin};
+ghost use Rattle.agc_source_words.specs.Location.{IsWithin};
 ghost use Rattle.agc_source.specs.Shape.{
   IsShape,
   bank_in,
@@ -11,14 +11,12 @@ ghost use Rattle.agc_source.specs.Shape.{
   location_in,
   shape_of,
 };
-ghost use Rattle.agc_source.specs.Text.{only_of, said_by};
+ghost use Rattle.agc_source_words.specs.Text.{only_of, said_by};
 
 use crate::cursor::Cursor;
-use crate::fault::SourceFault;
-use crate::location::{Location, location_named};
-use crate::mnemonic::{Directive, is_order};
-use crate::number::offset_named;
-use crate::text::{next_said, only_word};
+use agc_source_words::{
+    Directive, Location, SourceFault, is_order, location_named, next_said, offset_named, only_word,
+};
 use agc_word::read_octal;
 
 /// What a line takes up.

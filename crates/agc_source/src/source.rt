@@ -2,14 +2,13 @@
 ghost use Rattle.std.specs.Prelude.{◌≡◌, ◌≢◌, true, Ok, Err, IfOk, IfErr};
 ghost use Rattle.agc_rope_text.specs.Weave.{IsWovenOf};
 ghost use Rattle.agc_source.specs.Source.{IsSourceWoven, is_listing, source_in};
-ghost use Rattle.agc_source.specs.declared.fault.SourceTrouble.TheVariants.{Memory};
+ghost use Rattle.agc_source_words.specs.declared.fault.SourceTrouble.TheVariants.{Memory};
 
-use crate::fault::{SourceFault, SourceTrouble};
 use crate::labels::read_names;
 use crate::steps::read_words;
-use crate::text::is_listed;
 use agc_rope_text::{WeaveFault, file_of, weave};
 use agc_script::next_line;
+use agc_source_words::{SourceFault, SourceTrouble, is_listed};
 use agc_store::RopeForm;
 use std::alloc::Global;
 

@@ -1,7 +1,7 @@
 //! The second way through a text: the words of its lines.
 ghost use Rattle.std.specs.Prelude.{◌≡◌, ◌≢◌, ◌<◌, Ok, Err, IfOk, IfErr, IfSome, OnOk};
 ghost use Rattle.agc_source.specs.Cursor.{IsAt};
-ghost use Rattle.agc_source.specs.Name.{naming_of};
+ghost use Rattle.agc_source_words.specs.Name.{naming_of};
 ghost use Rattle.agc_source.specs.Shape.{IsShape, shape_of};
 ghost use Rattle.agc_source.specs.Source.{
   IsPlaced,
@@ -19,18 +19,16 @@ ghost use Rattle.agc_source.specs.Source.{
 };
 ghost use Rattle.agc_source.specs.Shape.{cursor_after};
 ghost use Rattle.agc_source.specs.Cursor.{room_at};
-ghost use Rattle.agc_source.specs.Text.{body_of, said_by};
+ghost use Rattle.agc_source_words.specs.Text.{body_of, said_by};
 ghost use Rattle.agc_rope_text.specs.Line.{line_named};
-ghost use Rattle.agc_source.specs.declared.fault.SourceTrouble.TheVariants.{Memory};
+ghost use Rattle.agc_source_words.specs.declared.fault.SourceTrouble.TheVariants.{Memory};
 
 use crate::cursor::Cursor;
-use crate::fault::{SourceFault, SourceTrouble};
 use crate::meaning::{pair_meaning, word_meaning};
-use crate::names::Names;
 use crate::shape::{Shape, cursor_after, shape_of};
-use crate::text::{cut_label, is_listed};
 use agc_rope_text::{Loom, Named, leads_extracode, read_line};
 use agc_script::next_line;
+use agc_source_words::{Names, SourceFault, SourceTrouble, cut_label, is_listed};
 use std::alloc::Global;
 
 /// What the lines so far leave: where the next one stands, and whether an extracode is wanted there.

@@ -8,8 +8,8 @@ use Rattle.agc_store.specs.RopeFile.{rope_fault_of, rope_words}
 use Rattle.agc_store.specs.declared.rope_file.RopeForm.{RopeForm}
 use Rattle.agc_rope_text.specs.List.{rope_text}
 use Rattle.agc_source.specs.Source.{IsSourceWoven, source_in}
-use Rattle.agc_source.specs.declared.fault.SourceTrouble.{SourceTrouble}
-use Rattle.agc_source.specs.declared.fault.SourceTrouble.TheVariants as source
+use Rattle.agc_source_words.specs.declared.fault.SourceTrouble.{SourceTrouble}
+use Rattle.agc_source_words.specs.declared.fault.SourceTrouble.TheVariants as source
 use Rattle.agc_session.specs.Files.{rope_steps}
 use Rattle.agc_session.specs.Options.{said_by, says_nothing}
 use Rattle.agc_session.specs.Steps.{IsTold}

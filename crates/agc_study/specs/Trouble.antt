@@ -4,9 +4,9 @@ use Rattle.std.specs.Fmt.{decimal}
 use Rattle.agc_session.specs.Refusal.{refusal_text}
 use Rattle.agc_session.specs.declared.refusal.Refusal.{Refusal}
 use Rattle.agc_session.specs.declared.refusal.Refusal.TheVariants as refusal
-use Rattle.agc_source.specs.Told.{fault_text}
-use Rattle.agc_source.specs.declared.fault.SourceTrouble.{SourceTrouble}
-use Rattle.agc_source.specs.declared.fault.SourceTrouble.TheVariants as source
+use Rattle.agc_source_words.specs.Told.{fault_text}
+use Rattle.agc_source_words.specs.declared.fault.SourceTrouble.{SourceTrouble}
+use Rattle.agc_source_words.specs.declared.fault.SourceTrouble.TheVariants as source
 use Rattle.agc_study.specs.declared.trouble.Trouble.{Trouble}
 use Rattle.agc_study.specs.declared.trouble.Trouble.TheVariants as trouble
 

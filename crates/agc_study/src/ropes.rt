@@ -5,8 +5,8 @@ ghost use Rattle.agc_source.specs.Source.{IsSourceWoven, source_in};
 ghost use Rattle.agc_session.specs.Options.{said_by, says_nothing};
 ghost use Rattle.agc_study.specs.Listed.{IsListRefused, IsListing, IsWeaveRefused, IsWoven};
 ghost use Rattle.agc_study.specs.Listed.{bank_named};
-ghost use Rattle.agc_source.specs.declared.fault.SourceTrouble.{SourceTrouble};
-ghost use Rattle.agc_source.specs.declared.fault.SourceTrouble.TheVariants as source_trouble;
+ghost use Rattle.agc_source_words.specs.declared.fault.SourceTrouble.{SourceTrouble};
+ghost use Rattle.agc_source_words.specs.declared.fault.SourceTrouble.TheVariants as source_trouble;
 ghost use Rattle.agc_study.specs.declared.trouble.Trouble.TheVariants as told;
 
 use crate::trouble::Trouble;

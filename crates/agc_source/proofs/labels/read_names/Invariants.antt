@@ -1,7 +1,7 @@
 use Rattle.std.specs.Prelude.{◌≡◌, ◌+◌, ◌≤◌, length}
 use Rattle.agc_script.specs.Text.{lines_of}
 use Rattle.agc_source.specs.Cursor.{IsAt, first_cursor}
-use Rattle.agc_source.specs.Name.{naming_of, own_names}
+use Rattle.agc_source_words.specs.Name.{naming_of, own_names}
 use Rattle.agc_source.specs.Source.{names_from}
 use Rattle.agc_source.proofs.labels.read_names.Given as goal
 

@@ -1,7 +1,7 @@
 use Rattle.std.specs.Prelude.{◌≡◌, length}
 use Rattle.std.specs.List.{list_all}
 use Rattle.agc_script.specs.Text.{lines_of}
-use Rattle.agc_source.specs.Text.{are_listed, said_by}
+use Rattle.agc_source_words.specs.Text.{are_listed, said_by}
 use Rattle.agc_source.proofs.source.is_listing.Given as goal
 
 abbrev pub invariant-loop-line : goal.invariant-loop-line

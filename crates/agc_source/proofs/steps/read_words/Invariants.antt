@@ -1,7 +1,7 @@
 use Rattle.std.specs.Prelude.{◌≡◌, ◌+◌, ◌≤◌, [], length}
 use Rattle.agc_script.specs.Text.{lines_of}
 use Rattle.agc_source.specs.Cursor.{IsAt}
-use Rattle.agc_source.specs.Name.{naming_of}
+use Rattle.agc_source_words.specs.Name.{naming_of}
 use Rattle.agc_source.specs.Source.{first_state, words_from}
 use Rattle.agc_source.proofs.steps.read_words.Given as goal
 

@@ -1,7 +1,7 @@
 //! Where a name stands, and the addresses of places and cells.
 ghost use Rattle.std.specs.Prelude.{◌≡◌, ◌*◌, ◌<◌, ◌≤◌, IfSome, length, position};
 ghost use Rattle.agc_rope_text.specs.Line.{is_comma};
-ghost use Rattle.agc_source.specs.Location.{
+ghost use Rattle.agc_source_words.specs.Location.{
   IsWithin,
   bank_register,
   cell_address,
@@ -29,7 +29,7 @@ pub enum Location {
 
 /// The location that a text names: `En,oooo`, an address below 1400, `bb,oooo`, or an address from 4000 on.
 #[tactic(auto, unfolding(crate::specs::Location::location_named))]
-pub(crate) fn location_named(text: &[u8]) -> Option<Location>
+pub fn location_named(text: &[u8]) -> Option<Location>
     ensures location { result ≡ location_named text.now }
     ensures range { IfSome result IsWithin }
 {
@@ -95,7 +95,7 @@ fn cell_in_bank(bank: Option<u64>, address: Option<u64>) -> Option<u32>
 }
 
 /// The address by which an order names a cell: in the window, where the cell is in banks 3 to 7.
-pub(crate) fn cell_address(cell: u32) -> u16
+pub fn cell_address(cell: u32) -> u16
     ensures address { result ≡ cell_address cell }
     ensures range { result < 0o2000 }
 {
@@ -121,7 +121,7 @@ fn bank_register(place: u32) -> u32
 }
 
 /// The word that puts a place's bank into BB.
-pub(crate) fn bank_word(place: u32) -> u16
+pub fn bank_word(place: u32) -> u16
     requires { place < 0o110000 }
     ensures word { result ≡ 0o2000 * bank_register place }
     ensures range { result < 0o100000 }
@@ -130,7 +130,7 @@ pub(crate) fn bank_word(place: u32) -> u16
 }
 
 /// The bank that FB has for a place, and the offset.
-pub(crate) fn complete_address(place: u32) -> u16
+pub fn complete_address(place: u32) -> u16
     requires { place < 0o110000 }
     ensures address { result ≡ complete_address place }
     ensures range { result < 0o100000 }
@@ -139,7 +139,7 @@ pub(crate) fn complete_address(place: u32) -> u16
 }
 
 /// Whether a line at a place sees another place.
-pub(crate) fn sees(here: u32, place: u32) -> bool
+pub fn sees(here: u32, place: u32) -> bool
     ensures { result ≡ sees here place }
 {
     0o4000 <= place && place < 0o10000 || place / 0o2000 == here / 0o2000

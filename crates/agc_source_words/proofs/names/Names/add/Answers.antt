@@ -1,8 +1,8 @@
 use Rattle.std.proofs.Math.Path.{fun_ext}
 use Rattle.std.proofs.lemmas.Map.Text.{btree_map_updates_str}
 use Rattle.std.specs.Prelude.{Some}
-use Rattle.agc_source.proofs.Naming.{one_more}
-use Rattle.agc_source.proofs.names.Names.add.Goals as goal
+use Rattle.agc_source_words.proofs.Naming.{one_more}
+use Rattle.agc_source_words.proofs.names.Names.add.Goals as goal
 
 pub returns : goal.returns
 returns c = fun_ext (λ q.

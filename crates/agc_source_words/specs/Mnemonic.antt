@@ -6,8 +6,8 @@ use Rattle.agc_order.specs.declared.order.Basic.TheVariants as basic
 use Rattle.agc_order.specs.declared.order.Extracode.{Extracode}
 use Rattle.agc_order.specs.declared.order.Extracode.TheVariants as extra
 use Rattle.agc_rope_text.specs.Order.{basic_mnemonic, extracode_mnemonic}
-use Rattle.agc_source.specs.declared.mnemonic.Directive.{Directive}
-use Rattle.agc_source.specs.declared.mnemonic.Directive.TheVariants as directive
+use Rattle.agc_source_words.specs.declared.mnemonic.Directive.{Directive}
+use Rattle.agc_source_words.specs.declared.mnemonic.Directive.TheVariants as directive
 
 unfoldable pub all_basics : List Basic
 all_basics =

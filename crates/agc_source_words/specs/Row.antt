@@ -8,11 +8,11 @@ use Rattle.agc_order.specs.declared.order.Extracode.{Extracode}
 use Rattle.agc_order.specs.declared.order.Extracode.TheVariants as extra
 use Rattle.agc_rope_text.specs.declared.order.Operand.{Operand}
 use Rattle.agc_rope_text.specs.declared.order.Operand.TheVariants as operand
-use Rattle.agc_source.specs.declared.fault.SourceFault.{SourceFault}
-use Rattle.agc_source.specs.declared.fault.SourceFault.TheVariants as fault
-use Rattle.agc_source.specs.declared.row.Row.{Row}
-use Rattle.agc_source.specs.declared.row.Takes.{Takes}
-use Rattle.agc_source.specs.declared.row.Takes.TheVariants as takes
+use Rattle.agc_source_words.specs.declared.fault.SourceFault.{SourceFault}
+use Rattle.agc_source_words.specs.declared.fault.SourceFault.TheVariants as fault
+use Rattle.agc_source_words.specs.declared.row.Row.{Row}
+use Rattle.agc_source_words.specs.declared.row.Takes.{Takes}
+use Rattle.agc_source_words.specs.declared.row.Takes.TheVariants as takes
 
 abbrev pub row : ℕ → Takes → Row
 row first wanted = record { first = first; takes = wanted }

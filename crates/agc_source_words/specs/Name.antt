@@ -4,11 +4,11 @@ use Rattle.std.specs.Str.{bytes_eq}
 use Rattle.std.specs.BTreeMap.{get_by}
 use Rattle.std.specs.Cmp.Lexicographic.{slice_cmp}
 use Rattle.std.specs.Ordering.{nat_cmp}
-use Rattle.agc_source.specs.declared.names.Names.{Names}
-use Rattle.agc_source.specs.declared.location.Location.{Location}
-use Rattle.agc_source.specs.declared.location.Location.TheVariants as location
-use Rattle.agc_source.specs.declared.register.Register.{Register}
-use Rattle.agc_source.specs.declared.register.Register.TheVariants as register
+use Rattle.agc_source_words.specs.declared.names.Names.{Names}
+use Rattle.agc_source_words.specs.declared.location.Location.{Location}
+use Rattle.agc_source_words.specs.declared.location.Location.TheVariants as location
+use Rattle.agc_source_words.specs.declared.register.Register.{Register}
+use Rattle.agc_source_words.specs.declared.register.Register.TheVariants as register
 
 -- the computer's own names
 unfoldable pub register_name : Register → List ℕ

@@ -3,7 +3,7 @@ ghost use Rattle.std.specs.Prelude.{◌≡◌, [], ◌∷◌, MatchOption, optio
 ghost use Rattle.std.specs.List.{list_any};
 ghost use Rattle.agc_word.specs.Numeral.{is_digit};
 ghost use Rattle.agc_rope_text.specs.Line.{is_comma, is_no_text};
-ghost use Rattle.agc_source.specs.Text.{
+ghost use Rattle.agc_source_words.specs.Text.{
   are_listed,
   body_of,
   first_of,
@@ -20,7 +20,7 @@ use agc_script::next_word;
 
 /// The first word that a text says before its comment, and what follows it; `None` where it says nothing.
 #[tactic(auto, unfolding(crate::specs::Text::said_by))]
-pub(crate) fn next_said(text: &[u8]) -> Option<(&[u8], &[u8])>
+pub fn next_said(text: &[u8]) -> Option<(&[u8], &[u8])>
     ensures { MatchOption result (said_by text.now ≡ [])
         (λ cut. said_by text.now ≡ cut.0.now ∷ said_by cut.1.now) }
 {
@@ -32,7 +32,7 @@ pub(crate) fn next_said(text: &[u8]) -> Option<(&[u8], &[u8])>
 }
 
 /// Whether a line is one of a listing: it says nothing, or begins with a place.
-pub(crate) fn is_listed(line: &[u8]) -> bool
+pub fn is_listed(line: &[u8]) -> bool
     ensures { result ≡ are_listed (said_by line.now) }
 {
     match next_said(line) {
@@ -63,7 +63,7 @@ fn is_indented(line: &[u8]) -> bool
 
 /// The name of a line, and where its order or directive begins.
 #[tactic(auto, unfolding(crate::specs::Text::label_of, crate::specs::Text::body_of))]
-pub(crate) fn cut_label(line: &[u8]) -> (Option<&[u8]>, &[u8])
+pub fn cut_label(line: &[u8]) -> (Option<&[u8]>, &[u8])
     ensures label { option_map (λ label. label.now) result.0 ≡ label_of line.now }
     ensures body { said_by result.1.now ≡ body_of line.now }
 {
@@ -77,7 +77,7 @@ pub(crate) fn cut_label(line: &[u8]) -> (Option<&[u8]>, &[u8])
 }
 
 /// The only word of a text.
-pub(crate) fn only_word(text: &[u8]) -> Option<&[u8]>
+pub fn only_word(text: &[u8]) -> Option<&[u8]>
     ensures { option_map (λ word. word.now) result ≡ only_of (said_by text.now) }
 {
     let (word, rest) = next_said(text)?;
@@ -89,7 +89,7 @@ pub(crate) fn only_word(text: &[u8]) -> Option<&[u8]>
 
 /// Whether a word is a name: eight characters at most, one that is of no number, and no comma.
 #[tactic(auto, unfolding(crate::specs::Text::is_name))]
-pub(crate) fn is_name(word: &[u8]) -> bool
+pub fn is_name(word: &[u8]) -> bool
     ensures { result ≡ is_name word.now }
 {
     word.len() <= 8 && has_other_than_numbers(word) && !has_comma(word)
@@ -110,7 +110,7 @@ fn has_other_than_numbers(word: &[u8]) -> bool
 }
 
 /// Whether a byte of a line is no text: neither a tab nor one of ASCII's that print.
-pub(crate) fn has_other_byte(line: &[u8]) -> bool
+pub fn has_other_byte(line: &[u8]) -> bool
     ensures { result ≡ list_any is_no_text line.now }
 {
     line.iter()

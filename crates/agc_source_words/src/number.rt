@@ -1,6 +1,6 @@
 //! The numbers of a source: octal words, and decimal numbers with a sign.
 ghost use Rattle.std.specs.Prelude.{◌≡◌, ◌^◌, ◌<◌, IfSome};
-ghost use Rattle.agc_source.specs.Number.{
+ghost use Rattle.agc_source_words.specs.Number.{
   begins_with_minus,
   begins_with_sign,
   decimal_word,
@@ -14,14 +14,14 @@ use agc_word::{Narrow, read_decimal, read_octal};
 
 /// A decimal number with its sign: there are two zeros.
 #[derive(Clone, Copy, Debug, PartialEq, Eq)]
-pub(crate) struct Signed {
+pub struct Signed {
     pub minus: bool,
     pub magnitude: u64,
 }
 
 /// The number that a sign, where one stands, and up to so many decimal digits write.
 #[tactic(auto, unfolding(crate::specs::Number::signed_number))]
-pub(crate) fn signed_number(most: usize, text: &[u8]) -> Option<Signed>
+pub fn signed_number(most: usize, text: &[u8]) -> Option<Signed>
     requires { most < 10 }
     ensures number { result ≡ signed_number most text.now }
     ensures range { IfSome result (λ n. n.magnitude < 10 ^ most) }
@@ -42,7 +42,7 @@ fn without_sign(text: &[u8]) -> &[u8]
 
 /// The number that a text writes with its sign.
 #[tactic(auto, unfolding(crate::specs::Number::offset_named))]
-pub(crate) fn offset_named(text: &[u8]) -> Option<Signed>
+pub fn offset_named(text: &[u8]) -> Option<Signed>
     ensures number { result ≡ offset_named text.now }
     ensures range { IfSome result (λ n. n.magnitude < 100000) }
 {
@@ -54,7 +54,7 @@ pub(crate) fn offset_named(text: &[u8]) -> Option<Signed>
 
 /// The word that a decimal number writes.
 #[tactic(auto, unfolding(crate::specs::Number::decimal_word))]
-pub(crate) fn decimal_word(text: &[u8]) -> Option<Narrow>
+pub fn decimal_word(text: &[u8]) -> Option<Narrow>
     ensures { result ≡ decimal_word text.now }
 {
     let number = signed_number(5, text)?;
@@ -67,7 +67,7 @@ pub(crate) fn decimal_word(text: &[u8]) -> Option<Narrow>
 
 /// The word that up to five octal digits write.
 #[tactic(auto, unfolding(crate::specs::Number::octal_word))]
-pub(crate) fn octal_word(text: &[u8]) -> Option<Narrow>
+pub fn octal_word(text: &[u8]) -> Option<Narrow>
     ensures { result ≡ octal_word text.now }
 {
     let bits = read_octal(5, text)?;

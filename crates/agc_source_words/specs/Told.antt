@@ -3,10 +3,10 @@ use Rattle.std.specs.Prelude.{ℕ, List, ◌++◌, codes}
 use Rattle.std.specs.Fmt.{decimal}
 use Rattle.agc_rope_text.specs.declared.fault.LineFault.{LineFault}
 use Rattle.agc_rope_text.specs.declared.fault.LineFault.TheVariants as line
-use Rattle.agc_source.specs.declared.fault.SourceFault.{SourceFault}
-use Rattle.agc_source.specs.declared.fault.SourceFault.TheVariants as fault
-use Rattle.agc_source.specs.declared.fault.SourceTrouble.{SourceTrouble}
-use Rattle.agc_source.specs.declared.fault.SourceTrouble.TheVariants as trouble
+use Rattle.agc_source_words.specs.declared.fault.SourceFault.{SourceFault}
+use Rattle.agc_source_words.specs.declared.fault.SourceFault.TheVariants as fault
+use Rattle.agc_source_words.specs.declared.fault.SourceTrouble.{SourceTrouble}
+use Rattle.agc_source_words.specs.declared.fault.SourceTrouble.TheVariants as trouble
 
 abbrev pub listed_name : LineFault → List ℕ
 listed_name line.NotText = codes "NotText"

@@ -3,8 +3,8 @@ use Rattle.std.specs.Prelude.{ℕ, ◌+◌, ◌*◌, ◌/◌, ◌%◌, ◌<◌, 
 use Rattle.std.specs.Prelude.{take, drop, position, Option, Some, None, if◌then◌else◌}
 use Rattle.agc_word.specs.Numeral.{octal_number}
 use Rattle.agc_rope_text.specs.Line.{is_comma, place_named}
-use Rattle.agc_source.specs.declared.location.Location.{Location}
-use Rattle.agc_source.specs.declared.location.Location.TheVariants as location
+use Rattle.agc_source_words.specs.declared.location.Location.{Location}
+use Rattle.agc_source_words.specs.declared.location.Location.TheVariants as location
 
 -- a place of one of the 36 banks, or one of the 2048 cells
 abbrev pub IsWithin : Location → Type 0

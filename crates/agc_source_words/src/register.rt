@@ -1,6 +1,6 @@
 //! The computer's own names for cells: registers, editing registers and counters.
 ghost use Rattle.std.specs.Prelude.{◌≡◌, ◌<◌};
-ghost use Rattle.agc_source.specs.Name.{register_cell, register_name, register_named};
+ghost use Rattle.agc_source_words.specs.Name.{register_cell, register_name, register_named};
 
 /// A cell with a name of its own.
 #[derive(Clone, Copy, Debug, PartialEq, Eq)]

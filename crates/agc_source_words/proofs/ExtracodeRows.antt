@@ -7,8 +7,8 @@ use Rattle.agc_order.specs.declared.order.Extracode.{Extracode}
 use Rattle.agc_order.specs.declared.order.Extracode.TheVariants as extra
 use Rattle.agc_rope_text.specs.Order.{extracode_operand}
 use Rattle.agc_rope_text.specs.declared.order.Operand.{Operand}
-use Rattle.agc_source.specs.Row.{extracode_word}
-use Rattle.agc_source.specs.declared.fault.SourceFault.{SourceFault}
+use Rattle.agc_source_words.specs.Row.{extracode_word}
+use Rattle.agc_source_words.specs.declared.fault.SourceFault.{SourceFault}
 
 -- the word names the order
 pub names_it : (order : Extracode) (given : Operand) (bits : ℕ) → extracode_word order given ≡ Ok bits → extracode_of bits ≡ order

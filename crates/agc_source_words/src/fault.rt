@@ -1,6 +1,6 @@
 //! Why a text is no source of a rope.
 ghost use Rattle.std.specs.Prelude.{◌≡◌};
-ghost use Rattle.agc_source.specs.Told.{fault_text, listed_name};
+ghost use Rattle.agc_source_words.specs.Told.{fault_text, listed_name};
 
 use agc_rope_text::LineFault;
 use std::alloc::AllocError;
@@ -87,7 +87,7 @@ impl SourceFault {
 
 impl fmt::Display for SourceFault {
     ghost use Rattle.std.specs.Prelude.{Some};
-    ghost use Rattle.agc_source.specs.Told.{fault_text};
+    ghost use Rattle.agc_source_words.specs.Told.{fault_text};
 
     ghost output = { λ fault. Some (fault_text fault) };
 
@@ -118,7 +118,7 @@ pub enum SourceTrouble {
 
 impl From<AllocError> for SourceTrouble {
     ghost use Rattle.std.specs.Prelude.{◌≡◌};
-    ghost use Rattle.agc_source.specs.declared.fault.SourceTrouble.TheVariants.{Memory};
+    ghost use Rattle.agc_source_words.specs.declared.fault.SourceTrouble.TheVariants.{Memory};
 
     ghost from_gives = { λ _ trouble. trouble ≡ Memory };
 
@@ -129,7 +129,7 @@ impl From<AllocError> for SourceTrouble {
 
 impl fmt::Display for SourceTrouble {
     ghost use Rattle.std.specs.Prelude.{Some};
-    ghost use Rattle.agc_source.specs.Told.{trouble_text};
+    ghost use Rattle.agc_source_words.specs.Told.{trouble_text};
 
     ghost output = { λ trouble. Some (trouble_text trouble) };
 

@@ -8,8 +8,8 @@ use Rattle.agc_order.specs.declared.order.Basic.TheVariants as basic
 use Rattle.agc_rope_text.specs.Order.{basic_operand}
 use Rattle.agc_rope_text.specs.declared.order.Operand.{Operand}
 use Rattle.agc_rope_text.specs.declared.order.Operand.TheVariants as operand
-use Rattle.agc_source.specs.Row.{basic_word}
-use Rattle.agc_source.specs.declared.fault.SourceFault.{SourceFault}
+use Rattle.agc_source_words.specs.Row.{basic_word}
+use Rattle.agc_source_words.specs.declared.fault.SourceFault.{SourceFault}
 
 -- TC of an address that is of no other order
 tc_of : (k : ℕ) → k < 0o10000 → k ≢ 3 → k ≢ 4 → k ≢ 6 → basic_of k ≡ basic.Tc

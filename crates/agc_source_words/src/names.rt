@@ -1,6 +1,6 @@
 //! The names of a text, each with the place or the cell where it stands.
 ghost use Rattle.std.specs.Prelude.{◌≡◌, None, OnOk};
-ghost use Rattle.agc_source.specs.Name.{naming_of, own_names, with_name};
+ghost use Rattle.agc_source_words.specs.Name.{naming_of, own_names, with_name};
 
 use crate::location::Location;
 use crate::register::Register;
@@ -9,7 +9,7 @@ use std::collections::BTreeMap;
 
 /// The computer's own names, and those that lines have.
 #[derive(Drop)]
-pub(crate) struct Names<'a> {
+pub struct Names<'a> {
     given: BTreeMap<&'a [u8], Location>,
 }
 

@@ -1,8 +1,8 @@
 use Rattle.std.proofs.Common.{refl, sym}
 use Rattle.agc_word.specs.Patterns.{pattern_back}
-use Rattle.agc_rope_text.specs.Order.{basic_text}
-use Rattle.agc_source.proofs.BasicRows.{names_it, not_refused, only, shows_it}
-use Rattle.agc_source.proofs.row.basic_word.Goals as goal
+use Rattle.agc_rope_text.specs.Order.{extracode_text}
+use Rattle.agc_source_words.proofs.ExtracodeRows.{names_it, not_refused, only, shows_it}
+use Rattle.agc_source_words.proofs.row.extracode_word.Goals as goal
 
 pub returns-clause-named : goal.returns-clause-named
 returns-clause-named c =
@@ -13,7 +13,7 @@ returns-clause-operand c =
     rw (c.with_bits.ensures, pattern_back 15 c.in_ok-bits.bits c.in_ok-bits.ensures.range) (shows_it c.args.order c.args.given c.in_ok-bits.bits (sym c.in_ok-bits.ensures.word))
 
 pub returns-clause-shown : goal.returns-clause-shown
-unfolding basic_text
+unfolding extracode_text
 returns-clause-shown c =
     let given = c.in_ok-bits.bits in
     let word = sym c.in_ok-bits.ensures.word in

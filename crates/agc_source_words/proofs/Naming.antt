@@ -4,9 +4,9 @@ use Rattle.std.specs.Str.{bytes_eq}
 use Rattle.std.proofs.Common.{arith, refl}
 use Rattle.std.proofs.lemmas.Bool.Decides.{nat_tests}
 use Rattle.std.proofs.lemmas.Slice.Eq.{bytes_eq-Decides}
-use Rattle.agc_source.specs.Name.{own_or, register_named}
-use Rattle.agc_source.specs.declared.location.Location.{Location}
-use Rattle.agc_source.specs.declared.register.Register.{Register}
+use Rattle.agc_source_words.specs.Name.{own_or, register_named}
+use Rattle.agc_source_words.specs.declared.location.Location.{Location}
+use Rattle.agc_source_words.specs.declared.register.Register.{Register}
 
 not_own : (r : Option Register) (given : Option Location) → own_or r given ≡ None → r ≡ None
 not_own None given is = refl

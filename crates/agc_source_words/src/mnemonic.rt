@@ -1,6 +1,6 @@
 //! The words that begin a line's order or directive.
 ghost use Rattle.std.specs.Prelude.{◌≡◌};
-ghost use Rattle.agc_source.specs.Mnemonic.{
+ghost use Rattle.agc_source_words.specs.Mnemonic.{
   basic_named,
   directive_name,
   directive_named,
@@ -60,7 +60,7 @@ const EXTRACODES: [Extracode; 20] = [
 
 /// What a line may say beside orders.
 #[derive(Clone, Copy, Debug, PartialEq, Eq)]
-pub(crate) enum Directive {
+pub enum Directive {
     /// The lines that follow stand from a place on.
     SetLoc,
     /// They go on where a bank was left.
@@ -138,7 +138,7 @@ impl Directive {
 
 /// The basic order of a mnemonic.
 #[tactic(auto, unfolding(crate::specs::Mnemonic::basic_named, crate::specs::Mnemonic::all_basics))]
-pub(crate) fn basic_named(name: &[u8]) -> Option<Basic>
+pub fn basic_named(name: &[u8]) -> Option<Basic>
     ensures { result ≡ basic_named name.now }
 {
     BASICS
@@ -149,7 +149,7 @@ pub(crate) fn basic_named(name: &[u8]) -> Option<Basic>
 
 /// The extracode of a mnemonic.
 #[tactic(auto, unfolding(crate::specs::Mnemonic::extracode_named, crate::specs::Mnemonic::all_extracodes))]
-pub(crate) fn extracode_named(name: &[u8]) -> Option<Extracode>
+pub fn extracode_named(name: &[u8]) -> Option<Extracode>
     ensures { result ≡ extracode_named name.now }
 {
     EXTRACODES
@@ -159,7 +159,7 @@ pub(crate) fn extracode_named(name: &[u8]) -> Option<Extracode>
 }
 
 /// Whether a word is an order's, basic or extracode.
-pub(crate) fn is_order(name: &[u8]) -> bool
+pub fn is_order(name: &[u8]) -> bool
     ensures { result ≡ is_order name.now }
 {
     basic_named(name).is_some() || extracode_named(name).is_some()

@@ -3,7 +3,7 @@ ghost use Rattle.std.specs.Prelude.{◌≡◌, ◌++◌, false, true, ◌<◌, �
 ghost use Rattle.agc_word.specs.Number.{number_from_pattern, pattern_of};
 ghost use Rattle.agc_order.specs.Order.{basic_of, extracode_of};
 ghost use Rattle.agc_rope_text.specs.Order.{basic_mnemonic, basic_operand, extracode_mnemonic, extracode_operand, operand_text, order_text};
-ghost use Rattle.agc_source.specs.Row.{
+ghost use Rattle.agc_source_words.specs.Row.{
   as_word,
   basic_row,
   basic_word,
@@ -21,7 +21,7 @@ use agc_word::Narrow;
 
 /// What an order takes after its mnemonic.
 #[derive(Clone, Copy, Debug, PartialEq, Eq)]
-pub(crate) enum Takes {
+pub enum Takes {
     Nothing,
     /// An address of ten bits.
     Erasable,
@@ -39,13 +39,13 @@ pub(crate) enum Takes {
 
 /// The row of an order: the word with address 0, or with nothing, and what it takes.
 #[derive(Clone, Copy, Debug, PartialEq, Eq)]
-pub(crate) struct Row {
+pub struct Row {
     pub first: u16,
     pub takes: Takes,
 }
 
 /// The row of a basic order.
-pub(crate) fn basic_row(order: Basic) -> Row
+pub fn basic_row(order: Basic) -> Row
     ensures row { result ≡ basic_row order }
     ensures range { result.first ≤ 0o70000 }
 {
@@ -74,7 +74,7 @@ pub(crate) fn basic_row(order: Basic) -> Row
 }
 
 /// The row of an extracode.
-pub(crate) fn extracode_row(order: Extracode) -> Row
+pub fn extracode_row(order: Extracode) -> Row
     ensures row { result ≡ extracode_row order }
     ensures range { result.first ≤ 0o70000 }
 {

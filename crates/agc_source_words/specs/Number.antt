@@ -3,7 +3,7 @@ use Rattle.std.specs.Prelude.{ℕ, ◌%◌, ◌==◌, nat_lt, Bool, false, ◌||
 use Rattle.std.specs.Prelude.{Option, Some, None, if◌then◌else◌}
 use Rattle.agc_word.specs.Number.{Number, number_from_pattern}
 use Rattle.agc_word.specs.Numeral.{decimal_number, octal_number}
-use Rattle.agc_source.specs.declared.number.Signed.{Signed}
+use Rattle.agc_source_words.specs.declared.number.Signed.{Signed}
 
 abbrev pub is_sign : ℕ → Bool
 is_sign b = (b == 0x2B) || (b == 0x2D)

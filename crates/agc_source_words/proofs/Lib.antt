@@ -1,0 +1,3 @@
+mod BasicRows
+mod ExtracodeRows
+mod Naming
