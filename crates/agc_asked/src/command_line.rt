@@ -29,7 +29,9 @@ fn list_command<'a>(alloc: Global) -> Result<Command<'a>, AllocError> {
 
 fn weave_command<'a>(alloc: Global) -> Result<Command<'a>, AllocError> {
     Command::new(alloc, "weave")
-        .about("Writes the rope file of a text: lines BB,AAAA WWWWW, or AAAA WWWWW from 4000 on.")
+        .about(
+            "Writes the rope file of a text: places with words, or names, orders and directives, a line each.",
+        )
         .arg(text_file(alloc))?
         .arg(form_option(alloc))
 }
@@ -153,7 +155,9 @@ fn text_file<'a>(alloc: Global) -> Arg<'a> {
     Arg::new(alloc, "text")
         .value_name("FILE")
         .required(true)
-        .help("The text of a rope, as list prints it; # starts a comment")
+        .help(
+            "The text of a rope, as list prints it or as listings of programs are; # starts a comment",
+        )
 }
 
 fn form_option<'a>(alloc: Global) -> Arg<'a> {
