@@ -13,3 +13,4 @@ pub mod Taken
 pub mod Live
 pub mod Place
 pub mod InTime
+pub mod LiveTime

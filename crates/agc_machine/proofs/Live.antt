@@ -65,7 +65,7 @@ unfolding chain tape_of AreWanted writes_in
 live_starts s = record { lives = []; wanted = tt; taped = refl; written = refl; last = refl }
 
 -- a live run, and some boundaries more
-goes_on : (start now : State) (tape : List Event) (writes : List ChannelWrite) (more : List (Option What)) → IsLive start tape writes now →
+pub goes_on : (start now : State) (tape : List Event) (writes : List ChannelWrite) (more : List (Option What)) → IsLive start tape writes now →
     AreWanted more now → IsLive start (tape ++ tape_of more now) (writes ++ writes_in (chain more now).answers) (chain more now).last
 goes_on start now tape writes more h w =
     record {

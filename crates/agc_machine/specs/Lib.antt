@@ -1,3 +1,4 @@
+pub mod Answer
 pub mod Happening
 pub mod StopAddress
 pub mod State

@@ -1,5 +1,6 @@
 //! What a boundary of the machine returns.
 ghost use Rattle.std.specs.Prelude.{◌≡◌};
+ghost use Rattle.agc_machine.specs.Answer.{stop_name};
 ghost use Rattle.agc_machine.specs.Boundary.{stop_of};
 
 use agc_processor::Halt;
@@ -30,6 +31,19 @@ pub enum Stop {
 }
 
 impl Stop {
+    /// The stop as all texts name it: `Limit`, `DivisionUndefined`, `Edrupt` or `Reached`.
+    #[tactic(auto, unfolding(crate::specs::Answer::stop_name))]
+    pub fn name(self) -> &'static str
+        ensures { result.now ≡ stop_name self }
+    {
+        match self {
+            Stop::Limit => "Limit",
+            Stop::DivisionUndefined => "DivisionUndefined",
+            Stop::Edrupt => "Edrupt",
+            Stop::Reached => "Reached",
+        }
+    }
+
     /// The stop where an order does not run.
     pub(crate) fn at_halt(halt: Halt) -> Stop
         ensures { result ≡ stop_of halt }

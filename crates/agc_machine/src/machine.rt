@@ -104,6 +104,16 @@ impl Machine {
         self.engine.step(pressed_live(live))
     }
 
+    /// An event happens at the present cycle, as any event of a script may: a key, PRO, an input, a
+    /// pulse, a request or a poke. It may come only where `wants_key` says so.
+    pub fn give(&mut self, what: What)
+        requires wants { WantsKey self.old }
+        requires range { IsWhatInRange what }
+        ensures { (self.new, Stepped.Quiet) ≡ boundary (Some what) self.old }
+    {
+        self.engine.step(Some(what));
+    }
+
     /// Goes on to the next channel write, or to the stop where none comes before it.
     pub fn next_write(&mut self) -> Next
         ensures next { (self.new, result) ≡ next_of self.old }
@@ -128,6 +138,13 @@ impl Machine {
         ensures limit { self.now.limit ≤ 1000000000000 }
     {
         self.engine.wants_key()
+    }
+
+    /// Why the machine has stopped, where it has; no boundary changes that any more.
+    pub fn stopped(&self) -> Option<Stop>
+        ensures { result ≡ self.now.stopped }
+    {
+        self.engine.stopped
     }
 
     /// No boundary was taken yet: the machine is at the start of its run.
@@ -168,6 +185,18 @@ impl Machine {
             .processor
             .channel(self.engine.cycle, channel)
             .narrow()
+    }
+
+    /// The machine at the start of another run of the same rope, with these events, the same limit
+    /// and no stop address.
+    pub fn anew(self, script: Script) -> Machine
+        ensures { result ≡ start_state self.processor.store.fixed script self.limit None }
+    {
+        let limit = self.engine.limit;
+        let rope = self.into_store().into_rope();
+        Machine {
+            engine: Engine::new(rope, script, limit),
+        }
     }
 
     /// The memory as the run left it.

@@ -19,3 +19,10 @@ pub mod Told
 pub mod Merging
 pub mod OneMerge
 pub mod Ranges
+pub mod ScriptMore
+pub mod Spelled
+pub mod Octals
+pub mod Spaced
+pub mod CommandsBack
+pub mod Printed
+pub mod ScriptBack

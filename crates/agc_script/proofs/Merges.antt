@@ -1,5 +1,5 @@
--- The merge, one key after another, and that it is a script.
-use Rattle.std.specs.Prelude.{◌≡◌, ℕ, zero, suc, ◌+◌, ◌≤◌, ◌<◌, nat_lt, true, false, List, [], ◌∷◌, ◌++◌, length, map, take, drop, position, unwrap_or, Result, Ok, Err, is_ok, OnOk, All, if◌then◌else◌}
+-- The merge, one given event after another, and that it is a script.
+use Rattle.std.specs.Prelude.{◌≡◌, ℕ, zero, suc, ◌+◌, ◌≤◌, ◌<◌, nat_lt, true, false, List, [], ◌∷◌, ◌++◌, length, take, drop, position, unwrap_or, Result, Ok, Err, is_ok, OnOk, All, if◌then◌else◌}
 use Rattle.std.proofs.Common.{refl, arith, ◌∙◌, add-one, append_assoc, get_or, one-add, inl, inr}
 use Rattle.std.proofs.Math.Seq.{drop-cons}
 use Rattle.std.proofs.Math.ListN.{drop_of_length-le}
@@ -8,12 +8,10 @@ use Rattle.std.proofs.lemmas.Bool.{leb-false, lt-leb, le-leb}
 use Rattle.std.proofs.lemmas.List.{length-append, length-drop, length-take-le, get_or-take}
 use Rattle.std.proofs.lemmas.List.Sums.{prefix_len-le-length, fails_before_first}
 use Rattle.std.proofs.lemmas.List.Elements.{All-append, All-cons, All-drop, All-nil, All-tail, All-take}
-use Rattle.agc_script.specs.declared.key.Key.{Key}
 use Rattle.agc_script.specs.declared.event.Event.{Event}
-use Rattle.agc_script.specs.Event.{IsInRange, IsWhatInRange, last_cycle}
+use Rattle.agc_script.specs.Event.{IsInRange}
 use Rattle.agc_script.specs.Script.{IsInOrder, IsScript}
-use Rattle.agc_script.specs.Tape.{IsRising, IsTape}
-use Rattle.agc_script.specs.Merge.{key_event, due_at, joined, merged}
+use Rattle.agc_script.specs.Merge.{due_at, joined}
 
 -- the number of events that are due, as the search for the first later one gives it
 pub due_found : (cycle : ℕ) (events : List Event) → unwrap_or (position (λ event. nat_lt cycle event.cycle) events) (length events) ≡ due_at cycle events
@@ -21,37 +19,37 @@ due_found cycle events =
     let bound : due_at cycle events ≤ length events = prefix_len-le-length _ events in
     grind (arith, nat_tests)
 
--- one key more
-pub merged-next : (done rest more : List Event) (tape : List (ℕ × Key)) (i due : ℕ) (entry other : ℕ × Key) → i < length tape → entry ≡ get_or tape i other
-    → due ≡ due_at entry.0 rest → more ≡ (done ++ take due rest) ++ key_event entry ∷ []
-    → more ++ merged (drop due rest) (drop (i + 1) tape) ≡ done ++ merged rest (drop i tape)
+-- one given event more
+pub joined-next : (done rest more given : List Event) (i due : ℕ) (event other : Event) → i < length given → event ≡ get_or given i other
+    → due ≡ due_at event.cycle rest → more ≡ (done ++ take due rest) ++ event ∷ []
+    → more ++ joined (drop due rest) (drop (i + 1) given) ≡ done ++ joined rest (drop i given)
 unfolding joined
-merged-next done rest more tape i due entry other l e d m =
-    let cut : drop i tape ≡ entry ∷ drop (i + 1) tape = rw (e, add-one) (drop-cons tape i other l) in
+joined-next done rest more given i due event other l e d m =
+    let cut : drop i given ≡ event ∷ drop (i + 1) given = rw (e, add-one) (drop-cons given i other l) in
     rw (cut, m, d, append_assoc, append_assoc)
 
--- no key is left
-pub merged-end : (rest : List Event) (tape : List (ℕ × Key)) (i : ℕ) → length tape ≤ i → merged rest (drop i tape) ≡ rest
+-- no given event is left
+pub joined-end : (rest given : List Event) (i : ℕ) → length given ≤ i → joined rest (drop i given) ≡ rest
 unfolding joined
-merged-end rest tape i l = rw (drop_of_length-le tape l)
+joined-end rest given i l = rw (drop_of_length-le given l)
 
 -- a last step that may fail
 pub on_ok_if : {T E : Type 0} (r : Result T E) (new now old all : List Event) → new ≡ (if is_ok r then now else old) → now ≡ all → OnOk r (new ≡ all)
 on_ok_if (Ok x) new now old all e h = e ∙ h
 on_ok_if (Err x) new now old all e h = tt
 
--- what holds of all events and of all keys
-merged-All : (P : Event → Type 0) (events : List Event) (tape : List (ℕ × Key)) → All P events → All (λ entry. P (key_event entry)) tape → All P (merged events tape)
+-- what holds of all events of both
+joined-All : (P : Event → Type 0) (events given : List Event) → All P events → All P given → All P (joined events given)
 unfolding joined
-merged-All P events [] h k = h
-merged-All P events (entry ∷ tape) h k =
-    let due = due_at entry.0 events in
-    let rest = merged-All P (drop due events) tape (All-drop P due events h) (All-tail (λ e. P (key_event e)) entry tape k) in
-    All-append P (take due events) (key_event entry ∷ merged (drop due events) tape) (All-take P due events h)
-    (All-cons P (key_event entry) (merged (drop due events) tape) (k 0 entry (omega arith)) rest)
+joined-All P events [] h k = h
+joined-All P events (event ∷ given) h k =
+    let due = due_at event.cycle events in
+    let rest = joined-All P (drop due events) given (All-drop P due events h) (All-tail P event given k) in
+    All-append P (take due events) (event ∷ joined (drop due events) given) (All-take P due events h)
+    (All-cons P event (joined (drop due events) given) (k 0 event (omega arith)) rest)
 
 -- parts of a list in order
-take-in_order : (n : ℕ) (events : List Event) → IsInOrder events → IsInOrder (take n events)
+pub take-in_order : (n : ℕ) (events : List Event) → IsInOrder events → IsInOrder (take n events)
 unfolding IsInOrder
 take-in_order zero events h = tt
 take-in_order (suc n) [] h = tt
@@ -73,7 +71,7 @@ append-in_order c (x ∷ xs) ys a b h k =
       append-in_order c xs ys a.1 (All-tail (λ e. e.cycle ≤ c) x xs b) h k,
     )
 
--- the events before a key, and those after it
+-- the events before a given one, and those after it
 pub due_before : (c : ℕ) (events : List Event) → All (λ e. e.cycle ≤ c) (take (due_at c events) events)
 due_before c events i d l =
     let bound : due_at c events ≤ length events = prefix_len-le-length _ events in
@@ -91,41 +89,37 @@ later_after c (event ∷ events) h =
       | inr w ↦ rw (w.0, one-add) (later_after c events h.1)
     ]
 
--- a script with keys in it is in order
-merged-in_order : (events : List Event) (tape : List (ℕ × Key)) → IsInOrder events → IsRising tape → IsInOrder (merged events tape)
-unfolding joined IsInOrder IsRising
-merged-in_order events [] h r = h
-merged-in_order events (entry ∷ tape) h r =
-    let due = due_at entry.0 events in
-    let rest = merged-in_order (drop due events) tape (drop-in_order due events h) r.1 in
-    let later = merged-All (λ e. entry.0 ≤ e.cycle) (drop due events) tape (later_after entry.0 events h) (λ i d l. omega (arith, r.0 i d l)) in
-    append-in_order entry.0 (take due events) (key_event entry ∷ merged (drop due events) tape) (take-in_order due events h) (due_before entry.0 events)
-    (later, rest) (All-cons (λ e. entry.0 ≤ e.cycle) (key_event entry) (merged (drop due events) tape) (omega arith) later)
+-- two scripts in one are in order
+joined-in_order : (events given : List Event) → IsInOrder events → IsInOrder given → IsInOrder (joined events given)
+unfolding joined IsInOrder
+joined-in_order events [] h r = h
+joined-in_order events (event ∷ given) h r =
+    let due = due_at event.cycle events in
+    let rest = joined-in_order (drop due events) given (drop-in_order due events h) r.1 in
+    let later = joined-All (λ e. event.cycle ≤ e.cycle) (drop due events) given (later_after event.cycle events h) r.0 in
+    append-in_order event.cycle (take due events) (event ∷ joined (drop due events) given) (take-in_order due events h) (due_before event.cycle events)
+    (later, rest) (All-cons (λ e. event.cycle ≤ e.cycle) event (joined (drop due events) given) (omega arith) later)
 
-key-in_range : (entry : ℕ × Key) → entry.0 ≤ last_cycle → IsInRange (key_event entry)
-unfolding IsInRange IsWhatInRange
-key-in_range entry h = (h, tt)
-
-length-merged : (events : List Event) (tape : List (ℕ × Key)) → length (merged events tape) ≡ length events + length tape
+length-joined : (events given : List Event) → length (joined events given) ≡ length events + length given
 unfolding joined
-length-merged events [] = omega arith
-length-merged events (entry ∷ tape) =
-    let due : ℕ = due_at entry.0 events in
+length-joined events [] = omega arith
+length-joined events (event ∷ given) =
+    let due : ℕ = due_at event.cycle events in
     let bound : due ≤ length events = prefix_len-le-length _ events in
     omega (
       arith,
-      length-append (take due events) (key_event entry ∷ merged (drop due events) tape),
+      length-append (take due events) (event ∷ joined (drop due events) given),
       length-take-le due events bound,
       length-drop due events,
-      length-merged (drop due events) tape,
+      length-joined (drop due events) given,
     )
 
--- a script with a tape in it is a script, if that has room
-pub merged_script : (events : List Event) (tape : List (ℕ × Key)) → IsScript events → IsTape tape → length events + length tape ≤ 65536 → IsScript (merged events tape)
-merged_script events tape s t h = record {
-  in_range = merged-All IsInRange events tape s.in_range (λ i d l. key-in_range (get_or tape i d) (t.in_range i d l));
-  in_order = merged-in_order events tape s.in_order t.rising;
-  few = omega (arith, length-merged events tape);
+-- two scripts in one are a script, if that has room
+pub joined_script : (events given : List Event) → IsScript events → IsScript given → length events + length given ≤ 65536 → IsScript (joined events given)
+joined_script events given s t h = record {
+  in_range = joined-All IsInRange events given s.in_range t.in_range;
+  in_order = joined-in_order events given s.in_order t.in_order;
+  few = omega (arith, length-joined events given);
 }
 
 -- laws for those who play a joined script: an event of a given one's cycle or less comes before it ..
@@ -151,18 +145,3 @@ joined_given_last given later = refl
 pub joined_none : (events : List Event) → joined events [] ≡ events
 unfolding joined
 joined_none events = refl
-
--- the same of the live keys of a tape
-pub merged_event_first : (event : Event) (events : List Event) (entry : ℕ × Key) (tape : List (ℕ × Key)) → event.cycle ≤ entry.0
-    → merged (event ∷ events) (entry ∷ tape) ≡ event ∷ merged events (entry ∷ tape)
-merged_event_first event events entry tape h = joined_event_first event events (key_event entry) (map key_event tape) h
-
-pub merged_key_first : (event : Event) (events : List Event) (entry : ℕ × Key) (tape : List (ℕ × Key)) → entry.0 < event.cycle
-    → merged (event ∷ events) (entry ∷ tape) ≡ key_event entry ∷ merged (event ∷ events) tape
-merged_key_first event events entry tape h = joined_given_first event events (key_event entry) (map key_event tape) h
-
-pub merged_keys_last : (entry : ℕ × Key) (tape : List (ℕ × Key)) → merged [] (entry ∷ tape) ≡ key_event entry ∷ merged [] tape
-merged_keys_last entry tape = joined_given_last (key_event entry) (map key_event tape)
-
-pub merged_no_keys : (events : List Event) → merged events [] ≡ events
-merged_no_keys events = joined_none events

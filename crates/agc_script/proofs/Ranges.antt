@@ -1,5 +1,5 @@
 -- The numbers of a command are its words that have a range, each by that range.
-use Rattle.std.specs.Prelude.{◌≡◌, ℕ, Bool, true, false, List, [], ◌∷◌, length, Option, Some, None, is_some, IfSome}
+use Rattle.std.specs.Prelude.{◌≡◌, ℕ, Bool, true, false, List, [], ◌∷◌, length, is_some, IfSome}
 use Rattle.std.proofs.Common.{refl}
 use Rattle.agc_script.specs.Key.{key_named}
 use Rattle.agc_script.specs.Grammar.{argument_count, counters, direction_named, pulse_named, ranges_of}

@@ -1,9 +1,13 @@
--- A tape stays a tape with one more entry.
-use Rattle.std.specs.Prelude.{◌≡◌, ℕ, suc, ◌-◌, ◌≤◌, ◌<◌, List, [], ◌∷◌, ◌++◌, length, All}
+-- A tape stays a tape with one more entry, and its keys as events are a script's.
+use Rattle.std.specs.Prelude.{◌≡◌, ℕ, suc, ◌-◌, ◌≤◌, ◌<◌, List, [], ◌∷◌, ◌++◌, length, map, slice_index_or, All}
 use Rattle.std.proofs.Common.{arith}
-use Rattle.std.proofs.lemmas.List.Elements.{All-cons, All-nil, All-push}
+use Rattle.std.proofs.lemmas.List.{length-map}
+use Rattle.std.proofs.lemmas.List.Elements.{All-cons, All-map, All-nil, All-push}
 use Rattle.agc_script.specs.declared.key.Key.{Key}
-use Rattle.agc_script.specs.Event.{last_cycle}
+use Rattle.agc_script.specs.declared.event.Event.{Event}
+use Rattle.agc_script.specs.Event.{IsInRange, IsWhatInRange, last_cycle, most_events}
+use Rattle.agc_script.specs.Merge.{key_event}
+use Rattle.agc_script.specs.Script.{IsInOrder, IsScript}
 use Rattle.agc_script.specs.Tape.{IsRising, IsTape, IsAfter}
 
 -- what comes after the last entry comes after all
@@ -29,4 +33,22 @@ pub tape_more : (tape : List (ℕ × Key)) (cycle : ℕ) (key : Key) → IsTape 
 tape_more tape cycle key t h l = record {
   rising = rising_more tape (cycle, key) t.rising (all_before tape cycle t.rising h);
   in_range = All-push (λ entry. entry.0 ≤ last_cycle) tape (cycle, key) t.in_range l;
+}
+
+-- the keys of a tape as events
+pub keys-in_order : (tape : List (ℕ × Key)) → IsRising tape → IsInOrder (map key_event tape)
+unfolding IsRising IsInOrder
+keys-in_order [] r = tt
+keys-in_order (entry ∷ tape) r =
+    (All-map (λ (later : Event). entry.0 ≤ later.cycle) key_event tape (λ i d l. omega (arith, r.0 i d l)), keys-in_order tape r.1)
+
+key-in_range : (entry : ℕ × Key) → entry.0 ≤ last_cycle → IsInRange (key_event entry)
+unfolding IsInRange IsWhatInRange
+key-in_range entry h = (h, tt)
+
+pub keys_script : (tape : List (ℕ × Key)) → IsTape tape → length tape ≤ most_events → IsScript (map key_event tape)
+keys_script tape t few = record {
+  in_range = All-map IsInRange key_event tape (λ i d l. key-in_range (slice_index_or tape i d) (t.in_range i d l));
+  in_order = keys-in_order tape t.rising;
+  few = omega (arith, length-map tape key_event);
 }

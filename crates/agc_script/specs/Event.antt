@@ -1,6 +1,7 @@
 -- What an event of a script may hold.
-use Rattle.std.specs.Prelude.{◌≡◌, ◌≢◌, ℕ, ◌≤◌, ◌==◌, if◌then◌else◌}
+use Rattle.std.specs.Prelude.{◌≡◌, ◌≢◌, ℕ, ◌≤◌, ◌<◌, ◌^◌, ◌==◌, if◌then◌else◌}
 use Rattle.agc_word.specs.Channels.{IsIoChannel}
+use Rattle.agc_word.specs.Number.{Number}
 use Rattle.agc_word.specs.declared.pulse.Pulse.TheVariants as pulse
 use Rattle.agc_script.specs.declared.event.Event.{Event}
 use Rattle.agc_script.specs.declared.event.What.{What}
@@ -37,14 +38,18 @@ last_counter = 0o60
 abbrev pub IsCounter : ℕ → Type 0
 IsCounter cell = (first_counter ≤ cell) × (cell ≤ last_counter)
 
+-- a word of fifteen bits: a sign and fourteen bits of magnitude
+abbrev pub IsNarrow : Number → Type 0
+IsNarrow value = value.magnitude < 2 ^ 14
+
 -- What happens has each of its numbers in range; no script has a Dinc, which is the timers' own.
 unfoldable pub IsWhatInRange : What → Type 0
 IsWhatInRange (what.Key key) = Unit {0}
 IsWhatInRange (what.Pro down) = Unit {0}
-IsWhatInRange (what.Input channel value) = IsIoChannel channel
+IsWhatInRange (what.Input channel value) = IsIoChannel channel × IsNarrow value
 IsWhatInRange (what.Pulse counter kind) = IsCounter counter × (kind ≢ pulse.Dinc)
 IsWhatInRange (what.Raise number) = IsInterrupt number
-IsWhatInRange (what.Poke bank offset value) = IsPokePlace bank offset
+IsWhatInRange (what.Poke bank offset value) = IsPokePlace bank offset × IsNarrow value
 
 -- the latest cycle that a script may name
 abbrev pub last_cycle : ℕ

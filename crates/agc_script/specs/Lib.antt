@@ -8,6 +8,7 @@ pub mod Line
 pub mod Parse
 pub mod Tape
 pub mod Merge
+pub mod Written
 pub mod Said
 pub mod Fault
 pub mod Laws

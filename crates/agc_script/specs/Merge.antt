@@ -1,4 +1,4 @@
--- A script with the live keys of a tape in it.
+-- A script with given events in it: those of another script, or the live keys of a tape.
 use Rattle.std.specs.Prelude.{◌≡◌, ◌⊎◌, ℕ, ◌≤◌, ◌<◌, nat_lt, List, [], ◌∷◌, ◌++◌, map, take, drop}
 use Rattle.std.specs.Prelude.{filter_map, All, Option, Some, None}
 use Rattle.std.proofs.Common.{inl, inr}
@@ -29,43 +29,43 @@ joined events (given ∷ later) =
 abbrev pub merged : List Event → List (ℕ × Key) → List Event
 merged events tape = joined events (map key_event tape)
 
--- an entry of a merge: an event of the script, or a live key of the tape
+-- an entry of a merge: an event of the script, or a given one
 abbrev pub Entry : Type 0
-Entry = Event ⊎ (ℕ × Key)
+Entry = Event ⊎ Event
 
 -- what an entry is as an event
 abbrev pub event_of : Entry → Event
 event_of (inl event) = event
-event_of (inr key) = key_event key
+event_of (inr given) = given
 
--- the script's event that an entry is, or the tape's key
+-- the script's event that an entry is, or the given one
 abbrev pub scripted : Entry → Option Event
 scripted (inl event) = Some event
-scripted (inr key) = None
+scripted (inr given) = None
 
-abbrev pub live : Entry → Option (ℕ × Key)
-live (inl event) = None
-live (inr key) = Some key
+abbrev pub given_of : Entry → Option Event
+given_of (inl event) = None
+given_of (inr given) = Some given
 
--- Of an event and a live key the event stands first where it is due at the key's cycle, and else
--- the key.
+-- Of a script's event and a given one the script's stands first where it is due at the cycle of the
+-- given one, and else the given one.
 abbrev pub ComesBefore : Entry → Entry → Type 0
-ComesBefore (inl event) (inr key) = event.cycle ≤ key.0
-ComesBefore (inr key) (inl event) = key.0 < event.cycle
+ComesBefore (inl event) (inr given) = event.cycle ≤ given.cycle
+ComesBefore (inr given) (inl event) = given.cycle < event.cycle
 ComesBefore (inl event) (inl later) = Unit {0}
-ComesBefore (inr key) (inr later) = Unit {0}
+ComesBefore (inr given) (inr later) = Unit {0}
 
 unfoldable pub AreInPlace : List Entry → Type 0
 AreInPlace [] = Unit {0}
 AreInPlace (entry ∷ entries) = All (ComesBefore entry) entries × AreInPlace entries
 
--- A merge has both lists in it, each in its order, and nothing else; before each live key stand the
--- events of its cycle or less, and no others.
-pub record IsMerge (events : List Event) (tape : List (ℕ × Key)) (all : List Event) : Type 0 where
+-- A merge has both lists in it, each in its order, and nothing else; before each given event stand
+-- the script's events of its cycle or less, and no others.
+pub record IsMerge (events given all : List Event) : Type 0 where
   pub entries : List Entry
   pub all_are : all ≡ map event_of entries
   pub events_are : filter_map scripted entries ≡ events
-  pub keys_are : filter_map live entries ≡ tape
+  pub given_are : filter_map given_of entries ≡ given
   pub in_place : AreInPlace entries
 
 -- a merge is refused with no line

@@ -17,9 +17,10 @@ use crate::key::Key;
 use crate::text::next_word;
 use agc_word::{Narrow, Pulse};
 
-/// The event that a command and its arguments say.
+/// What a command and its arguments say, as they stand in a line of a script after its cycle. A
+/// refusal is the lowest kind of fault in the words, in the order of [`FaultKind`].
 #[tactic(auto, unfolding(crate::specs::Command::command_of, crate::specs::Command::said_by))]
-pub(crate) fn read_command(text: &[u8]) -> Result<What, FaultKind>
+pub fn read_command(text: &[u8]) -> Result<What, FaultKind>
     ensures command { result ≡ command_of (words_of text.now) }
     ensures range { IfOk result IsWhatInRange }
 {

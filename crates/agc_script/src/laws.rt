@@ -1,18 +1,23 @@
 //! Laws of scripts, each the contract of a function that does nothing. The calls are proved equal
 //! to the definitions that these laws are about.
-ghost use Rattle.std.specs.Prelude.{◌≡◌, ℕ, ◌+◌, ◌*◌, ◌≤◌, ◌<◌, nat_le, List, [], ◌∷◌, Some, None};
+ghost use Rattle.std.specs.Prelude.{◌≡◌, ℕ, ◌+◌, ◌*◌, ◌≤◌, ◌<◌, nat_le, List, [], ◌∷◌, Some, None, Ok};
 ghost use Rattle.std.specs.Prelude.{IfOk, IfSome, length, slice_get, if◌then◌else◌};
 ghost use Rattle.agc_script.specs.declared.event.Event.{Event};
 ghost use Rattle.agc_script.specs.declared.event.What.{What};
 ghost use Rattle.agc_script.specs.declared.grammar.Command.{Command};
-ghost use Rattle.agc_script.specs.declared.key.Key.{Key};
 ghost use Rattle.agc_script.specs.Fault.{numbers_after};
 ghost use Rattle.agc_script.specs.Grammar.{argument_count, ranges_of};
 ghost use Rattle.agc_script.specs.Laws.{first_number, with_ranges};
 ghost use Rattle.agc_script.specs.Line.{repeat_of};
 ghost use Rattle.agc_script.specs.Parse.{events_of};
 ghost use Rattle.agc_script.specs.Said.{said_at};
-ghost use Rattle.agc_script.specs.Merge.{merged, key_event, IsMerge};
+ghost use Rattle.agc_script.specs.Merge.{joined, IsMerge};
+ghost use Rattle.agc_script.specs.Command.{command_of};
+ghost use Rattle.agc_script.specs.Event.{IsWhatInRange};
+ghost use Rattle.agc_script.specs.Parse.{script_of};
+ghost use Rattle.agc_script.specs.Script.{IsScript};
+ghost use Rattle.agc_script.specs.Text.{words_of};
+ghost use Rattle.agc_script.specs.Written.{script_text, what_text};
 
 /// A line `every N FROM TO` brings its command at FROM, FROM + N, FROM + 2N and so on, each time in
 /// its place, as far as TO and no further.
@@ -22,26 +27,38 @@ pub fn every_goes_as_far_as_to()
         ≡ (if nat_le (from + i * n) to then Some (said_at what (from + i * n)) else None)) }
 {}
 
-/// Of the first event and the first live key the merge begins with the event where that is due at
-/// the key's cycle, and with the key where it is not; then it goes on with what is left. Where one
-/// list is at its end, the merge goes on with the other.
+/// Of a script's first event and the first given one (an event of another script, or a live key) the
+/// merge begins with the script's where that is due at the cycle of the given one, and with the given
+/// one where it is not; then it goes on with what is left. Where one list is at its end, the merge
+/// goes on with the other.
 pub fn merges_begin_with_what_is_due()
-    ensures event { (event : Event) (events : List Event) (entry : ℕ × Key) (tape : List (ℕ × Key))
-        → event.cycle ≤ entry.0
-        → merged (event ∷ events) (entry ∷ tape) ≡ event ∷ merged events (entry ∷ tape) }
-    ensures key { (event : Event) (events : List Event) (entry : ℕ × Key) (tape : List (ℕ × Key))
-        → entry.0 < event.cycle
-        → merged (event ∷ events) (entry ∷ tape) ≡ key_event entry ∷ merged (event ∷ events) tape }
-    ensures keys_left { (entry : ℕ × Key) (tape : List (ℕ × Key))
-        → merged [] (entry ∷ tape) ≡ key_event entry ∷ merged [] tape }
-    ensures events_left { (events : List Event) → merged events [] ≡ events }
+    ensures event { (event : Event) (events : List Event) (one : Event) (given : List Event)
+        → event.cycle ≤ one.cycle
+        → joined (event ∷ events) (one ∷ given) ≡ event ∷ joined events (one ∷ given) }
+    ensures given { (event : Event) (events : List Event) (one : Event) (given : List Event)
+        → one.cycle < event.cycle
+        → joined (event ∷ events) (one ∷ given) ≡ one ∷ joined (event ∷ events) given }
+    ensures given_left { (one : Event) (given : List Event)
+        → joined [] (one ∷ given) ≡ one ∷ joined [] given }
+    ensures events_left { (events : List Event) → joined events [] ≡ events }
 {}
 
 /// There is one merge: whatever has both lists in it, each in its order, and nothing else, with
-/// each live key in its place, is the merge that [`Script::merge`](crate::Script::merge) gives.
+/// each given event in its place, is the merge that [`Script::join`](crate::Script::join) gives, and
+/// of a tape's keys [`Script::merge`](crate::Script::merge).
 pub fn there_is_one_merge()
-    ensures { (events : List Event) (tape : List (ℕ × Key)) (all : List Event)
-        → IsMerge events tape all → all ≡ merged events tape }
+    ensures { (events given all : List Event)
+        → IsMerge events given all → all ≡ joined events given }
+{}
+
+/// A command as it is written down reads back as what happens.
+pub fn commands_read_back()
+    ensures { (what : What) → IsWhatInRange what → command_of (words_of (what_text what)) ≡ Ok what }
+{}
+
+/// Every list of events that a script can be is the script that its text is.
+pub fn scripts_read_back()
+    ensures { (events : List Event) → IsScript events → script_of (script_text events) ≡ Ok events }
 {}
 
 /// The numbers that the parser reads and judges are those words of a command that have a range, each by

@@ -14,7 +14,9 @@ mod parse;
 mod script;
 mod tape;
 mod text;
+mod written;
 
+pub use command::read_command;
 pub use event::{Event, LAST_CYCLE, MOST_EVENTS, What};
 pub use fault::{FaultKind, ScriptFault};
 pub use grammar::{
@@ -26,3 +28,4 @@ pub use line::{EVERY, LONGEST_LINE, MOST_CYCLE_DIGITS, read_cycle};
 pub use script::Script;
 pub use tape::Tape;
 pub use text::{next_line, next_word};
+pub use written::push_what;

@@ -1,21 +1,26 @@
 //! A script: events in the order of their cycles.
-ghost use Rattle.std.specs.Prelude.{◌≡◌, ◌≢◌, ◌==◌, ◌<◌, [], length, drop, slice_get, Some, Ok, Err};
-ghost use Rattle.std.specs.Prelude.{IfOk, IfErr, IsErrOf, ◌+◌, ◌↔◌};
-ghost use Rattle.agc_script.specs.Event.{IsInRange, most_events};
+ghost use Rattle.std.specs.Prelude.{◌≡◌, ◌≢◌, ◌==◌, ◌<◌, ◌≤◌, [], ◌∷◌, ◌++◌, length, drop, slice_get};
+ghost use Rattle.std.specs.Prelude.{Some, Ok, Err, IfOk, IfErr, IsErrOf, OnOk, OnErr, ◌+◌, ◌↔◌};
+ghost use Rattle.std.specs.Prelude.{map, nat_le, position, string_bytes, IfSome};
+ghost use Rattle.agc_script.specs.Event.{IsInRange, IsWhatInRange, last_cycle, most_events};
 ghost use Rattle.agc_script.specs.Text.{lines_of};
 ghost use Rattle.agc_script.specs.Said.{events_of_lines};
 ghost use Rattle.agc_script.specs.Fault.{AreFaultless, IsFirstFault};
 ghost use Rattle.agc_script.specs.Laws.{IsArrangement};
-ghost use Rattle.agc_script.specs.Script.{IsScript};
+ghost use Rattle.agc_script.specs.Said.{said_at};
+ghost use Rattle.agc_script.specs.Script.{before, IsNotBefore, IsScript};
 ghost use Rattle.agc_script.specs.Parse.{script_of, IsSoundLine};
-ghost use Rattle.agc_script.specs.Merge.{merged, IsMerge, too_many, no_memory};
+ghost use Rattle.agc_script.specs.Merge.{joined, key_event, merged, IsMerge, too_many, no_memory};
+ghost use Rattle.agc_script.specs.Tape.{IsTape};
+ghost use Rattle.agc_script.specs.Written.{script_text};
 
-use crate::event::{Event, MOST_EVENTS};
+use crate::event::{Event, MOST_EVENTS, What};
 use crate::fault::{FaultKind, ScriptFault};
-use crate::merge::merge_events;
+use crate::merge::join_events;
 use crate::parse::{Reading, arrange, read_lines};
 use crate::tape::Tape;
-use std::alloc::Global;
+use crate::written::push_event;
+use std::alloc::{AllocError, Global};
 use std::marker::Model;
 
 /// The events that a run meets, at most 65,536, each in its ranges and in the order of their
@@ -110,27 +115,117 @@ impl Script {
         &events[from.min(events.len())..]
     }
 
+    /// The events that come before a cycle, as a script of their own. Fails where memory runs out.
+    pub fn before(&self, alloc: Global, cycle: u64) -> Result<Script, AllocError>
+        ensures { IfOk result (λ script. script ≡ before cycle self.now) }
+    {
+        let events = self.events.as_slice();
+        let count = first_from(events, cycle).unwrap_or(events.len());
+        let mut earlier = Vec::with_capacity(alloc, count)?;
+        earlier.extend_from_slice(&events[..count])?;
+        Ok(Script { events: earlier })
+    }
+
+    /// Makes room for an event more, so that no memory is wanting when it is added.
+    pub fn reserve(&mut self) -> Result<(), AllocError>
+        ensures { self.new ≡ self.old }
+    {
+        self.events.reserve(1)
+    }
+
+    /// Adds an event after all others; none of them comes later. A refusal is `TooMany`, where the
+    /// script has 65,536 events, or else `Memory`; it names no line, and the script stays as it was.
+    pub fn push(&mut self, cycle: u64, what: What) -> Result<(), ScriptFault>
+        requires later { IsNotBefore self.old cycle }
+        requires range { cycle ≤ last_cycle }
+        requires what { IsWhatInRange what }
+        ensures ok { OnOk result (self.new ≡ self.old ++ said_at what cycle ∷ []) }
+        ensures err { OnErr result (self.new ≡ self.old) }
+        ensures many { IsErrOf result too_many ↔ (length self.old ≡ most_events) }
+        ensures memory { IfErr result (λ fault. fault ≢ too_many → fault ≡ no_memory) }
+    {
+        if self.events.len() == MOST_EVENTS {
+            return Err(refused(FaultKind::TooMany));
+        }
+        let event = Event { cycle, what };
+        match self.events.push(event) {
+            Ok(()) => Ok(()),
+            Err(_) => Err(refused(FaultKind::Memory)),
+        }
+    }
+
+    /// The script with the events of another in it, each after all events of this one of its cycle
+    /// or less. A refusal is `TooMany`, where both together have more than 65,536 events, or else
+    /// `Memory`; it names no line.
+    pub fn join(&self, alloc: Global, given: &Script) -> Result<Script, ScriptFault>
+        ensures ok { IfOk result (λ script. script ≡ joined self.now given.now) }
+        ensures both { IfOk result (λ script. IsMerge self.now given.now script) }
+        ensures many { IsErrOf result too_many ↔ (most_events < length self.now + length given.now) }
+        ensures memory { IfErr result (λ fault. fault ≢ too_many → fault ≡ no_memory) }
+    {
+        if given.len() > MOST_EVENTS - self.len() {
+            return Err(refused(FaultKind::TooMany));
+        }
+        match join_events(alloc, &self.events, &given.events) {
+            Ok(events) => Ok(Script { events }),
+            Err(_) => Err(refused(FaultKind::Memory)),
+        }
+    }
+
     /// The script with the keys of a tape in it, each after all events of its cycle or less. A
     /// refusal is `TooMany`, where both together have more than 65,536 entries, or else `Memory`;
     /// it names no line.
     pub fn merge(&self, alloc: Global, tape: &Tape) -> Result<Script, ScriptFault>
         ensures ok { IfOk result (λ script. script ≡ merged self.now tape.now) }
-        ensures both { IfOk result (λ script. IsMerge self.now tape.now script) }
+        ensures both { IfOk result (λ script. IsMerge self.now (map key_event tape.now) script) }
         ensures many { IsErrOf result too_many ↔ (most_events < length self.now + length tape.now) }
         ensures memory { IfErr result (λ fault. fault ≢ too_many → fault ≡ no_memory) }
     {
         if tape.len() > MOST_EVENTS - self.len() {
-            return Err(ScriptFault {
-                line: 0,
-                kind: FaultKind::TooMany,
-            });
+            return Err(refused(FaultKind::TooMany));
         }
-        match merge_events(alloc, &self.events, tape.entries()) {
+        match merge_tape(alloc, &self.events, tape) {
             Ok(events) => Ok(Script { events }),
-            Err(_) => Err(ScriptFault {
-                line: 0,
-                kind: FaultKind::Memory,
-            }),
+            Err(_) => Err(refused(FaultKind::Memory)),
         }
     }
+
+    /// Adds the script as text, a line for each event, which reads back as the same script. Fails
+    /// where memory runs out.
+    #[tactic(auto, unfolding(crate::specs::Written::script_text))]
+    pub fn push_text(&self, text: &mut String) -> Result<(), AllocError>
+        ensures { OnOk result
+            (string_bytes text.new ≡ string_bytes text.old ++ script_text self.now) }
+    {
+        let events = self.events.as_slice();
+        for event in events {
+            push_event(text, event)?;
+        }
+        Ok(())
+    }
+}
+
+/// The place of the first event at a cycle or later.
+fn first_from(events: &[Event], cycle: u64) -> Option<usize>
+    ensures place { result ≡ position (λ event. nat_le cycle event.cycle) events.now }
+    ensures bound { IfSome result (λ place. place < length events.now) }
+{
+    events.iter().position(|event| event.cycle >= cycle)
+}
+
+/// A script's events and the keys of a tape in one list.
+fn merge_tape(alloc: Global, script: &[Event], tape: &Tape) -> Result<Vec<Event>, AllocError>
+    requires { length script.now + length tape.now ≤ most_events }
+    ensures merged { IfOk result (λ events. events.items ≡ merged script.now tape.now) }
+    ensures tape { IfOk result (λ _. IsTape tape.now) }
+{
+    let given = tape.events(alloc)?;
+    join_events(alloc, script, &given)
+}
+
+/// Why a script is not made longer: no line is at fault.
+fn refused(kind: FaultKind) -> ScriptFault
+    ensures { result ≡ record { line = 0; kind = kind } }
+{
+    ScriptFault { line: 0, kind }
 }

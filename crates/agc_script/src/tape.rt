@@ -1,9 +1,11 @@
 //! The tape: the keys that were pressed live, so that a run can be played again.
 ghost use Rattle.std.specs.Prelude.{◌≡◌, ◌==◌, ◌≤◌, ◌<◌, [], ◌∷◌, ◌++◌, length, slice_get, Some};
-ghost use Rattle.std.specs.Prelude.{OnOk, OnErr};
+ghost use Rattle.std.specs.Prelude.{map, OnOk, OnErr, IfOk};
 ghost use Rattle.agc_script.specs.Event.{last_cycle};
+ghost use Rattle.agc_script.specs.Merge.{key_event};
 ghost use Rattle.agc_script.specs.Tape.{IsTape, IsAfter};
 
+use crate::event::{Event, What};
 use crate::key::Key;
 use std::alloc::{AllocError, Global};
 use std::marker::Model;
@@ -74,11 +76,19 @@ impl Tape {
         Ok(())
     }
 
-    /// The entries, for the merge.
-    pub(crate) fn entries(&self) -> &[(u64, Key)]
-        ensures entries { result.now ≡ self.now }
-        ensures tape { IsTape self.now }
+    /// The keys as events, for the merge.
+    pub(crate) fn events(&self, alloc: Global) -> Result<Vec<Event>, AllocError>
+        ensures events { IfOk result (λ events. events.items ≡ map key_event self.now) }
+        ensures tape { IfOk result (λ _. IsTape self.now) }
     {
-        &self.entries
+        let entries = self.entries.as_slice();
+        let mut events = Vec::with_capacity(alloc, entries.len())?;
+        for (cycle, key) in entries {
+            events.push(Event {
+                cycle: *cycle,
+                what: What::Key(*key),
+            })?;
+        }
+        Ok(events)
     }
 }

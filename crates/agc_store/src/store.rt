@@ -75,6 +75,14 @@ impl Store {
         }
     }
 
+    /// The rope of the memory, which no run changes.
+    pub fn into_rope(self) -> Rope
+        ensures { result ≡ self.fixed }
+    {
+        let Store { rope, .. } = self;
+        rope
+    }
+
     /// The word at an address, widened where the cell is narrow: of A and Q all sixteen bits, of BB
     /// the banks in FB and EB, of ZERO +0, and of the fixed banks above 43 octal +0.
     #[inline]

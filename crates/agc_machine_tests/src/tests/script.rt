@@ -6,6 +6,7 @@ mod grammar;
 mod keys;
 mod lines;
 mod merges;
+mod written;
 
 use agc_script::{Event, FaultKind, Key, LAST_CYCLE, MOST_EVENTS, Script, ScriptFault, Tape, What};
 use agc_word::{Narrow, Pulse};

@@ -1,7 +1,8 @@
 //! What comes from outside: keys, inputs, pulses, and the channels that show them.
 use super::*;
 use agc_listing::IDLE;
-use agc_script::{Key, Tape};
+use agc_script::{Key, Tape, What};
+use agc_word::Pulse;
 use std::test::Fail;
 
 /// KEYRUPT1 is taken at cycle 0 before INHINT runs; RESUME at 3, INHINT at 5, TCF 4001 from 6 on.
@@ -32,6 +33,39 @@ fn live_key(rt: HostRuntime) -> Result<(), Fail> {
     assert_eq!(rt; (machine.cycle(), cell(&machine, 0o15)), (3, 0o04001));
     assert_eq!(rt; machine.wants_key(), false);
     assert_eq!(rt; machine.step(None), Stepped::Stopped(Stop::Limit));
+    Ok(())
+}
+
+/// What is given happens at once, as an event of the present cycle: PRO clears bit 14 of channel 32, and
+/// takes no cycle, nor does a request; a pulse counts its cell up and takes one.
+#[test]
+#[tactic(auto, unfolding(agc_script::specs::Event::IsWhatInRange))]
+fn given_events_happen_at_once(rt: HostRuntime) -> Result<(), Fail> {
+    let mut machine = machine(&rt, IDLE, "", 10)?;
+    assert!(rt; machine.wants_key());
+    machine.give(What::Pro(true));
+    assert_eq!(rt; (machine.cycle(), channel(&machine, 0o32)), (0, 0o57777));
+    assert!(rt; machine.wants_key());
+    machine.give(What::Raise(9));
+    assert_eq!(rt; machine.cycle(), 0);
+    assert!(rt; machine.wants_key());
+    let (counter, kind) = (0o40, Pulse::Pinc);
+    machine.give(What::Pulse { counter, kind });
+    assert_eq!(rt; (machine.cycle(), cell(&machine, 0o40)), (1, 0o00001));
+    assert!(rt; machine.wants_key());
+    Ok(())
+}
+
+/// Another run of the same rope begins at cycle 0 with its own events.
+#[test]
+fn a_machine_begins_anew(rt: HostRuntime) -> Result<(), Fail> {
+    let mut machine = machine(&rt, IDLE, "0 pro down", 5)?;
+    stopped(&rt, &mut machine, Stop::Limit, 5);
+    let script = Script::parse(rt.alloc(), b"2 raise 1")?;
+    let anew = machine.anew(script);
+    assert_eq!(rt; (anew.cycle(), anew.fresh()), (0, true));
+    assert_eq!(rt; channel(&anew, 0o32), 0o77777);
+    assert_eq!(rt; anew.events_left().len(), 1);
     Ok(())
 }
 
