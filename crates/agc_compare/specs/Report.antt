@@ -15,7 +15,9 @@ use Rattle.agc_machine.specs.declared.answer.ChannelWrite.{ChannelWrite}
 use Rattle.agc_rope_text.specs.Place.{place_text}
 use Rattle.agc_rope_text.specs.declared.place.Place.{Place}
 use Rattle.agc_rope_text.specs.declared.place.Place.TheVariants as place
-use Rattle.agc_trace.specs.Line.{line_of, reason_name, word_digits}
+use Rattle.agc_trace.specs.Line.{line_of}
+use Rattle.agc_script.specs.Written.{word_digits}
+use Rattle.agc_machine.specs.Answer.{stop_name}
 use Rattle.agc_trace.specs.declared.entry.Entry.{Entry}
 use Rattle.agc_compare.specs.Compare.{is_same}
 use Rattle.agc_compare.specs.declared.cells.CellPair.{CellPair}
@@ -116,7 +118,7 @@ cells_text cells =
 -- the stop of a run
 unfoldable pub end_text : End → List ℕ
 end_text end =
-    codes "stop " ++ reason_name end.stop ++ codes " at cycle " ++ decimal end.cycle ++ codes "\n"
+    codes "stop " ++ stop_name end.stop ++ codes " at cycle " ++ decimal end.cycle ++ codes "\n"
 
 -- the stops of both runs
 unfoldable pub ends_text : End → End → List ℕ

@@ -33,7 +33,7 @@ use agc_machine::ChannelWrite;
 use agc_panel::Panel;
 use agc_rope_text::{Place, push_place};
 use agc_store::place::{A, Q};
-use agc_trace::{Entry, push_line, reason_name};
+use agc_trace::{Entry, push_line};
 use agc_word::Wide;
 use std::alloc::{AllocError, Global};
 
@@ -340,7 +340,7 @@ fn push_ends(text: &mut String, left: End, right: End) -> Result<(), AllocError>
 fn push_end(text: &mut String, end: End) -> Result<(), AllocError>
     ensures { OnOk result (string_bytes text.new ≡ string_bytes text.old ++ end_text end) }
 {
-    let stop = reason_name(end.stop);
+    let stop = end.stop.name();
     let cycle = end.cycle;
     writeln!(text, "stop {stop} at cycle {cycle}")
 }

@@ -5,7 +5,7 @@ use Rattle.std.specs.Fmt.{decimal}
 use Rattle.std.specs.List.{concat}
 use Rattle.agc_machine.specs.declared.answer.Stop.{Stop}
 use Rattle.agc_panel.specs.TablesText.{numbered}
-use Rattle.agc_trace.specs.Line.{reason_name}
+use Rattle.agc_machine.specs.Answer.{stop_name}
 use Rattle.agc_film.specs.Parting.{first_difference}
 use Rattle.agc_film.specs.Packed.{Packed, packed}
 use Rattle.agc_film.specs.Presses.{button_name}
@@ -42,7 +42,7 @@ reel_start_text reel = codes "from " ++ decimal reel.from ++ codes "\n"
 -- the end at a cycle: the stop with its reason, or that the run goes on
 abbrev pub end_text : ℕ → Option Stop → List ℕ
 end_text cycle (Some why) =
-    codes "stop " ++ decimal cycle ++ codes " " ++ reason_name why ++ codes "\n"
+    codes "stop " ++ decimal cycle ++ codes " " ++ stop_name why ++ codes "\n"
 end_text cycle None = codes "to " ++ decimal cycle ++ codes "\n"
 
 unfoldable pub reel_end_text : Reel → List ℕ

@@ -13,7 +13,6 @@ use crate::press::Press;
 use crate::reel::Reel;
 use crate::title::{RunFiles, push_title};
 use agc_machine::Stop;
-use agc_trace::reason_name;
 use std::alloc::AllocError;
 
 /// Adds the page of one run, with the names of its files and its limit. Fails where memory runs out.
@@ -171,7 +170,7 @@ fn push_end(text: &mut String, cycle: u64, stop: Option<Stop>) -> Result<(), All
 {
     match stop {
         Some(why) => {
-            let reason = reason_name(why);
+            let reason = why.name();
             writeln!(text, "stop {cycle} {reason}")
         }
         None => writeln!(text, "to {cycle}"),

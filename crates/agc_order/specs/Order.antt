@@ -5,14 +5,14 @@ use Rattle.agc_order.specs.declared.order.Basic.TheVariants as basic
 use Rattle.agc_order.specs.declared.order.Extracode.{Extracode}
 use Rattle.agc_order.specs.declared.order.Extracode.TheVariants as extra
 
--- the words from `first` on name this order, as far as the next row
-pub record Row (Order : Type 0) : Type 0 where
+-- the words from `first` on name this order, as far as the next stretch
+pub record Stretch (Order : Type 0) : Type 0 where
   pub first : ℕ
   pub names : Order
 
 -- The basic orders, in the order of their codes. The first digit is the code, and the digits below
 -- it hold the quarter, or the whole of a special word.
-unfoldable pub basic_orders : List (Row Basic)
+unfoldable pub basic_orders : List (Stretch Basic)
 basic_orders =
     record { first = 0o00000; names = basic.Tc } ∷
     record { first = 0o00003; names = basic.Relint } ∷
@@ -38,7 +38,7 @@ basic_orders =
     record { first = 0o70000; names = basic.Mask } ∷ []
 
 -- The extracodes, in the same way: code 0 goes by eighths, one channel order each.
-unfoldable pub extracodes : List (Row Extracode)
+unfoldable pub extracodes : List (Stretch Extracode)
 extracodes =
     record { first = 0o00000; names = extra.Read } ∷
     record { first = 0o01000; names = extra.Write } ∷
@@ -61,19 +61,19 @@ extracodes =
     record { first = 0o62000; names = extra.Bzmf } ∷
     record { first = 0o70000; names = extra.Mp } ∷ []
 
--- the order of the last row that begins at or below the word
-abbrev pub last_row : {Order : Type 0} → ℕ → Order → List (Row Order) → Order
-last_row word found [] = found
-last_row word found (row ∷ rows) =
-    if nat_le row.first word then last_row word row.names rows else found
+-- the order of the last stretch that begins at or below the word
+abbrev pub last_begun : {Order : Type 0} → ℕ → Order → List (Stretch Order) → Order
+last_begun word found [] = found
+last_begun word found (stretch ∷ stretches) =
+    if nat_le stretch.first word then last_begun word stretch.names stretches else found
 
 -- the basic order that a word names
 unfoldable pub basic_of : ℕ → Basic
-basic_of word = last_row word basic.Tc basic_orders
+basic_of word = last_begun word basic.Tc basic_orders
 
 -- the extracode that a word names, after EXTEND and after the extracode INDEX
 unfoldable pub extracode_of : ℕ → Extracode
-extracode_of word = last_row word extra.Read extracodes
+extracode_of word = last_begun word extra.Read extracodes
 
 -- Of the basic orders EXTEND alone makes the next order an extracode, and of the extracodes INDEX
 -- alone.

@@ -2,5 +2,7 @@
 #![tactic(auto)]
 
 mod order;
+mod row;
 
 pub use order::{Basic, Extracode};
+pub use row::{Row, Takes};

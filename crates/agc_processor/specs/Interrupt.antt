@@ -1,6 +1,6 @@
 -- The interrupts, when one is taken, and what that does.
 use Rattle.std.specs.Prelude.{ℕ, ◌+◌, ◌-◌, ◌*◌, ◌&&◌, not, Bool, true, false, List, [], ◌∷◌}
-use Rattle.std.specs.Prelude.{get_or, set, position, Option, None, option_map, if◌then◌else◌}
+use Rattle.std.specs.Prelude.{codes, get_or, set, position, Option, None, option_map, if◌then◌else◌}
 use Rattle.agc_word.specs.Arithmetic.{over_of}
 use Rattle.agc_word.specs.declared.wide.Over.{Over}
 use Rattle.agc_word.specs.declared.wide.Over.TheVariants as over
@@ -10,6 +10,19 @@ use Rattle.agc_processor.specs.declared.interrupt.Rupt.{Rupt}
 use Rattle.agc_processor.specs.declared.interrupt.Rupt.TheVariants as rupt
 use Rattle.agc_processor.specs.declared.processor.Processor.{Processor}
 use Rattle.agc_processor.specs.Processor.{◌▷◌, a_of, z_at, jump, set_hand, serve, poke}
+
+-- an interrupt's name
+abbrev pub rupt_name : Rupt → List ℕ
+rupt_name rupt.T6rupt = codes "T6RUPT"
+rupt_name rupt.T5rupt = codes "T5RUPT"
+rupt_name rupt.T3rupt = codes "T3RUPT"
+rupt_name rupt.T4rupt = codes "T4RUPT"
+rupt_name rupt.Keyrupt1 = codes "KEYRUPT1"
+rupt_name rupt.Keyrupt2 = codes "KEYRUPT2"
+rupt_name rupt.Uprupt = codes "UPRUPT"
+rupt_name rupt.Downrupt = codes "DOWNRUPT"
+rupt_name rupt.Radarupt = codes "RADARUPT"
+rupt_name rupt.Rupt10 = codes "RUPT10"
 
 -- an interrupt's number, from 1
 abbrev pub rupt_number : Rupt → ℕ

@@ -1,6 +1,6 @@
 -- The five timers, which count pulses.
 use Rattle.std.specs.Prelude.{ℕ, ◌≤◌, ◌+◌, ◌*◌, ◌%◌, ◌^◌, ◌&&◌, ◌||◌, Bool}
-use Rattle.std.specs.Prelude.{Option, Some, None, nat_lt, nat_le, if◌then◌else◌}
+use Rattle.std.specs.Prelude.{List, codes, Option, Some, None, nat_lt, nat_le, if◌then◌else◌}
 use Rattle.agc_word.specs.Number.{Number, pattern_of}
 use Rattle.agc_word.specs.Pulses.{pulsed}
 use Rattle.agc_word.specs.declared.pulse.Pulse.TheVariants as pulse
@@ -19,6 +19,14 @@ use Rattle.agc_processor.specs.Processor.{◌▷◌, poke}
 use Rattle.agc_processor.specs.Interrupt.{request}
 use Rattle.agc_processor.specs.Period.{pulses_at, timer_period, time1_first}
 use Rattle.agc_processor.specs.Period.{time3_first, time4_first, time5_first}
+
+-- the name of a timer, which is that of its counter
+abbrev pub timer_name : Timer → List ℕ
+timer_name timer.Time1 = codes "TIME1"
+timer_name timer.Time3 = codes "TIME3"
+timer_name timer.Time4 = codes "TIME4"
+timer_name timer.Time5 = codes "TIME5"
+timer_name timer.Time6 = codes "TIME6"
 
 -- A timer's next step is due where its first and all that were taken have gone by.
 abbrev pub is_due : ℕ → ℕ → ℕ → Bool

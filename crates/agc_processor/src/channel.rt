@@ -36,7 +36,6 @@ pub const CHAN32: u16 = 0o32;
 pub const CHAN33: u16 = 0o33;
 
 impl Processor {
-    ghost use Rattle.std.specs.Prelude.{◌≡◌, ◌<◌, ◌≤◌, ◌^◌, ◌%◌};
     ghost use Rattle.agc_processor.specs.Channel.{channel_word, channel_cell, set_channel_cell, switch_word, superbank_switched, time6_switched, set_channel, write_channel, read_order, write_order, rand_order, ror_order, rxor_order, wand_order, wor_order};
 
     /// The word in a channel's cell, which the channels 1 to 4 do not show.

@@ -8,7 +8,6 @@ use agc_store::Addr;
 use agc_word::{Narrow, Over, Wide, complement, sum, widen};
 
 impl Processor {
-    ghost use Rattle.std.specs.Prelude.{◌≡◌, ◌<◌};
     ghost use Rattle.agc_processor.specs.Double.{das_of, dxch_of, dca_of, dcs_of, das_upper};
 
     #[inline(never)]

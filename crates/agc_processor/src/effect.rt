@@ -8,7 +8,6 @@ use agc_store::Addr;
 use agc_word::FIRST_IO_CHANNEL;
 
 impl Processor {
-    ghost use Rattle.std.specs.Prelude.{◌≡◌, ◌<◌, ◌^◌, ◌%◌};
     ghost use Rattle.agc_processor.specs.Keeps.{Keeps};
     ghost use Rattle.agc_processor.specs.Processor.{jump};
     ghost use Rattle.agc_processor.specs.Effect.{basic_effect, extracode_effect, order_effect, IsOrderly, long_address, short_address, channel_number, branches, ends, shows};

@@ -1,6 +1,4 @@
 //! The extracodes on A, L, Q and a memory word, up to the fetch of the order that follows.
-ghost use Rattle.std.specs.Prelude.{◌≡◌, ◌<◌};
-
 use crate::processor::Processor;
 use crate::signs::{is_minus, is_zero};
 use agc_store::Addr;

@@ -39,7 +39,25 @@ pub enum Rupt {
 
 impl Rupt {
     ghost use Rattle.std.specs.Prelude.{◌≡◌, ℕ, ◌<◌, ◌≤◌, ◌-◌};
-    ghost use Rattle.agc_processor.specs.Interrupt.{rupt_number, rupt_at, rupt_numbered, vector_of};
+    ghost use Rattle.agc_processor.specs.Interrupt.{rupt_name, rupt_number, rupt_at, rupt_numbered, vector_of};
+
+    /// Its name in the memos, as traces print it.
+    pub fn name(self) -> &'static str
+        ensures { result.now ≡ rupt_name self }
+    {
+        match self {
+            Rupt::T6rupt => "T6RUPT",
+            Rupt::T5rupt => "T5RUPT",
+            Rupt::T3rupt => "T3RUPT",
+            Rupt::T4rupt => "T4RUPT",
+            Rupt::Keyrupt1 => "KEYRUPT1",
+            Rupt::Keyrupt2 => "KEYRUPT2",
+            Rupt::Uprupt => "UPRUPT",
+            Rupt::Downrupt => "DOWNRUPT",
+            Rupt::Radarupt => "RADARUPT",
+            Rupt::Rupt10 => "RUPT10",
+        }
+    }
 
     /// Its number, as a script names it.
     pub fn number(self) -> u8

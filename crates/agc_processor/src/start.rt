@@ -11,7 +11,6 @@ use agc_word::Narrow;
 const START: u16 = 0o4000;
 
 impl Processor {
-    ghost use Rattle.std.specs.Prelude.{◌≡◌, ◌<◌};
     ghost use Rattle.agc_processor.specs.Start.{start_processor};
 
     /// The processor at the start of a run: the order at 4000 octal is in hand.

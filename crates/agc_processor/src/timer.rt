@@ -2,7 +2,7 @@
 ghost use Rattle.std.specs.Prelude.{◌≡◌, ℕ, ◌<◌, ◌≤◌, ◌^◌, ◌*◌, ◌/◌, nat_lt, true, false};
 ghost use Rattle.agc_processor.specs.Period.{timer_period};
 ghost use Rattle.agc_processor.specs.Channel.{time6_periods};
-ghost use Rattle.agc_processor.specs.Timer.{is_due};
+ghost use Rattle.agc_processor.specs.Timer.{is_due, timer_name};
 
 use crate::channel::CHAN13;
 use crate::interrupt::Rupt;
@@ -21,6 +21,21 @@ pub enum Timer {
     Time4,
     Time5,
     Time6,
+}
+
+impl Timer {
+    /// The name of its counter.
+    pub fn name(self) -> &'static str
+        ensures { result.now ≡ timer_name self }
+    {
+        match self {
+            Timer::Time1 => "TIME1",
+            Timer::Time3 => "TIME3",
+            Timer::Time4 => "TIME4",
+            Timer::Time5 => "TIME5",
+            Timer::Time6 => "TIME6",
+        }
+    }
 }
 
 /// A step is due: the timer's first and all that were taken have gone by.

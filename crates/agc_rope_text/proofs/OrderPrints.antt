@@ -1,15 +1,16 @@
 -- The bytes of an order in print are all such as print.
-use Rattle.std.specs.Prelude.{◌≡◌, Bool, true, false, codes}
+use Rattle.std.specs.Prelude.{◌≡◌, ℕ, Bool, true, false, codes}
 use Rattle.std.specs.List.{list_all}
 use Rattle.std.proofs.Common.{refl}
 use Rattle.agc_word.specs.Number.{Number, pattern_of}
 use Rattle.agc_word.specs.Octal.{octal_digits}
 use Rattle.agc_order.specs.Order.{basic_of, extracode_of}
+use Rattle.agc_order.specs.Row.{Row, basic_row, extracode_row}
 use Rattle.agc_order.specs.declared.order.Basic.{Basic}
 use Rattle.agc_order.specs.declared.order.Basic.TheVariants as basic
 use Rattle.agc_order.specs.declared.order.Extracode.{Extracode}
 use Rattle.agc_order.specs.declared.order.Extracode.TheVariants as extra
-use Rattle.agc_rope_text.specs.Order.{basic_mnemonic, basic_operand, basic_text, extracode_mnemonic, extracode_operand, extracode_text, operand_text, order_text}
+use Rattle.agc_rope_text.specs.Order.{basic_text, extracode_text, operand_in, operand_text, order_text, row_text}
 use Rattle.agc_rope_text.specs.declared.order.Operand.{Operand}
 use Rattle.agc_rope_text.specs.declared.order.Operand.TheVariants as operand
 use Rattle.agc_rope_text.proofs.Prints.{both, digits_print, prints}
@@ -19,7 +20,7 @@ operand_prints operand.Nothing = refl
 operand_prints (operand.Address address) = both prints (codes " ") (octal_digits 4 address) refl (digits_print 4 address)
 operand_prints (operand.Channel channel) = both prints (codes " ") (octal_digits 3 channel) refl (digits_print 3 channel)
 
-basic_prints : (b : Basic) → list_all prints (basic_mnemonic b) ≡ true
+basic_prints : (b : Basic) → list_all prints (basic_row b).mnemonic ≡ true
 basic_prints basic.Tc = refl
 basic_prints basic.Relint = refl
 basic_prints basic.Inhint = refl
@@ -40,7 +41,7 @@ basic_prints basic.Xch = refl
 basic_prints basic.Ad = refl
 basic_prints basic.Mask = refl
 
-extracode_prints : (e : Extracode) → list_all prints (extracode_mnemonic e) ≡ true
+extracode_prints : (e : Extracode) → list_all prints (extracode_row e).mnemonic ≡ true
 extracode_prints extra.Read = refl
 extracode_prints extra.Write = refl
 extracode_prints extra.Rand = refl
@@ -62,12 +63,16 @@ extracode_prints extra.Su = refl
 extracode_prints extra.Bzmf = refl
 extracode_prints extra.Mp = refl
 
+row_prints : (r : Row) (word : ℕ) → list_all prints r.mnemonic ≡ true → list_all prints (row_text r word) ≡ true
+row_prints r word mnemonic =
+    both prints r.mnemonic (operand_text (operand_in r.takes word)) mnemonic (operand_prints (operand_in r.takes word))
+
 -- an order's text prints
 pub order_prints : (extracode : Bool) (word : Number) → list_all prints (order_text extracode word) ≡ true
 unfolding basic_text extracode_text
 order_prints true word =
     let p = pattern_of 15 word in
-    both prints (extracode_mnemonic (extracode_of p)) (operand_text (extracode_operand (extracode_of p) p)) (extracode_prints (extracode_of p)) (operand_prints (extracode_operand (extracode_of p) p))
+    row_prints (extracode_row (extracode_of p)) p (extracode_prints (extracode_of p))
 order_prints false word =
     let p = pattern_of 15 word in
-    both prints (basic_mnemonic (basic_of p)) (operand_text (basic_operand (basic_of p) p)) (basic_prints (basic_of p)) (operand_prints (basic_operand (basic_of p) p))
+    row_prints (basic_row (basic_of p)) p (basic_prints (basic_of p))

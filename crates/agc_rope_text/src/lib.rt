@@ -15,9 +15,6 @@ pub use laws::{files_say_rope_words, listings_say_their_words, words_listed_make
 pub use line::{Named, read_line, read_place};
 pub use listed::{list, listed_address};
 pub use loom::Loom;
-pub use order::{
-    Operand, basic_mnemonic, basic_operand, extracode_mnemonic, extracode_operand, leads_extracode,
-    push_order,
-};
+pub use order::{Operand, leads_extracode, operand_in, push_order};
 pub use place::{Place, push_place};
 pub use weaving::{file_of, weave};

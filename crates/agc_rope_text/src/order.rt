@@ -3,18 +3,15 @@ ghost use Rattle.std.specs.Prelude.{◌≡◌, ◌++◌, OnOk, string_bytes};
 ghost use Rattle.agc_word.specs.Number.{pattern_of};
 ghost use Rattle.agc_rope_text.specs.Order.{
   FitsPrint,
-  basic_mnemonic,
-  basic_operand,
   basic_text,
-  extracode_mnemonic,
-  extracode_operand,
   extracode_text,
   leads_extracode,
+  operand_in,
   operand_text,
   order_text,
 };
 
-use agc_order::{Basic, Extracode};
+use agc_order::{Basic, Extracode, Row, Takes};
 use agc_word::Narrow;
 use std::alloc::AllocError;
 
@@ -29,109 +26,20 @@ pub enum Operand {
     Channel(u16),
 }
 
-/// The mnemonic of a basic order.
-pub fn basic_mnemonic(order: Basic) -> &'static str
-    ensures { result.now ≡ basic_mnemonic order }
-{
-    match order {
-        Basic::Tc => "TC",
-        Basic::Relint => "RELINT",
-        Basic::Inhint => "INHINT",
-        Basic::Extend => "EXTEND",
-        Basic::Ccs => "CCS",
-        Basic::Tcf => "TCF",
-        Basic::Das => "DAS",
-        Basic::Lxch => "LXCH",
-        Basic::Incr => "INCR",
-        Basic::Ads => "ADS",
-        Basic::Ca => "CA",
-        Basic::Cs => "CS",
-        Basic::Index => "INDEX",
-        Basic::Resume => "RESUME",
-        Basic::Dxch => "DXCH",
-        Basic::Ts => "TS",
-        Basic::Xch => "XCH",
-        Basic::Ad => "AD",
-        Basic::Mask => "MASK",
-    }
-}
-
-/// The mnemonic of an extracode.
-pub fn extracode_mnemonic(order: Extracode) -> &'static str
-    ensures { result.now ≡ extracode_mnemonic order }
-{
-    match order {
-        Extracode::Read => "READ",
-        Extracode::Write => "WRITE",
-        Extracode::Rand => "RAND",
-        Extracode::Wand => "WAND",
-        Extracode::Ror => "ROR",
-        Extracode::Wor => "WOR",
-        Extracode::Rxor => "RXOR",
-        Extracode::Edrupt => "EDRUPT",
-        Extracode::Dv => "DV",
-        Extracode::Bzf => "BZF",
-        Extracode::Msu => "MSU",
-        Extracode::Qxch => "QXCH",
-        Extracode::Aug => "AUG",
-        Extracode::Dim => "DIM",
-        Extracode::Dca => "DCA",
-        Extracode::Dcs => "DCS",
-        Extracode::Index => "INDEX",
-        Extracode::Su => "SU",
-        Extracode::Bzmf => "BZMF",
-        Extracode::Mp => "MP",
-    }
-}
-
-/// What stands after the mnemonic of a basic order in a word: of DAS and DXCH the address of the
-/// upper word, as source listings show it, where the word itself holds that of the lower one.
-pub fn basic_operand(order: Basic, word: Narrow) -> Operand
-    ensures operand { result ≡ basic_operand order (pattern_of 15 word) }
+/// What stands after the mnemonic of an order in its word: of a pair the address of the upper word, as
+/// source listings show it, where the word itself holds that of the lower one.
+pub fn operand_in(takes: Takes, word: Narrow) -> Operand
+    ensures operand { result ≡ operand_in takes (pattern_of 15 word) }
     ensures range { FitsPrint result }
 {
     let bits = word.bits();
-    match order {
-        Basic::Relint | Basic::Inhint | Basic::Extend | Basic::Resume => Operand::Nothing,
-        Basic::Tc | Basic::Tcf | Basic::Ca | Basic::Cs | Basic::Ad | Basic::Mask =>
-            Operand::Address(bits % 0o10000),
-        Basic::Das | Basic::Dxch => Operand::Address((bits % 0o2000 + 0o1777) % 0o2000),
-        Basic::Ccs
-        | Basic::Lxch
-        | Basic::Incr
-        | Basic::Ads
-        | Basic::Index
-        | Basic::Ts
-        | Basic::Xch => Operand::Address(bits % 0o2000),
-    }
-}
-
-/// What stands after the mnemonic of an extracode in a word: of DCA and DCS the address of the upper
-/// word, as source listings show it, where the word itself holds that of the lower one.
-pub fn extracode_operand(order: Extracode, word: Narrow) -> Operand
-    ensures operand { result ≡ extracode_operand order (pattern_of 15 word) }
-    ensures range { FitsPrint result }
-{
-    let bits = word.bits();
-    match order {
-        Extracode::Read
-        | Extracode::Write
-        | Extracode::Rand
-        | Extracode::Wand
-        | Extracode::Ror
-        | Extracode::Wor
-        | Extracode::Rxor
-        | Extracode::Edrupt => Operand::Channel(bits % 0o1000),
-        Extracode::Dv
-        | Extracode::Msu
-        | Extracode::Qxch
-        | Extracode::Aug
-        | Extracode::Dim
-        | Extracode::Su => Operand::Address(bits % 0o2000),
-        Extracode::Bzf | Extracode::Index | Extracode::Bzmf | Extracode::Mp => Operand::Address(
-            bits % 0o10000,
-        ),
-        Extracode::Dca | Extracode::Dcs => Operand::Address((bits % 0o10000 + 0o7777) % 0o10000),
+    match takes {
+        Takes::Nothing => Operand::Nothing,
+        Takes::Erasable => Operand::Address(bits % 0o2000),
+        Takes::ErasablePair => Operand::Address((bits % 0o2000 + 0o1777) % 0o2000),
+        Takes::Fixed | Takes::Memory => Operand::Address(bits % 0o10000),
+        Takes::MemoryPair => Operand::Address((bits % 0o10000 + 0o7777) % 0o10000),
+        Takes::Channel => Operand::Channel(bits % 0o1000),
     }
 }
 
@@ -165,9 +73,7 @@ fn push_basic(text: &mut String, word: Narrow) -> Result<(), AllocError>
     ensures { OnOk result
         (string_bytes text.new ≡ string_bytes text.old ++ basic_text (pattern_of 15 word)) }
 {
-    let order = Basic::named_by(word);
-    text.push_str(basic_mnemonic(order))?;
-    push_operand(text, basic_operand(order, word))
+    push_row(text, Basic::named_by(word).row(), word)
 }
 
 #[tactic(auto, unfolding(crate::specs::Order::extracode_text))]
@@ -175,9 +81,16 @@ fn push_extracode(text: &mut String, word: Narrow) -> Result<(), AllocError>
     ensures { OnOk result
         (string_bytes text.new ≡ string_bytes text.old ++ extracode_text (pattern_of 15 word)) }
 {
-    let order = Extracode::named_by(word);
-    text.push_str(extracode_mnemonic(order))?;
-    push_operand(text, extracode_operand(order, word))
+    push_row(text, Extracode::named_by(word).row(), word)
+}
+
+/// Adds a word as the order of a row.
+fn push_row(text: &mut String, row: Row, word: Narrow) -> Result<(), AllocError>
+    ensures { OnOk result (string_bytes text.new ≡ string_bytes text.old
+        ++ row.mnemonic.now ++ operand_text (operand_in row.takes (pattern_of 15 word))) }
+{
+    text.push_str(row.mnemonic)?;
+    push_operand(text, operand_in(row.takes, word))
 }
 
 fn push_operand(text: &mut String, operand: Operand) -> Result<(), AllocError>

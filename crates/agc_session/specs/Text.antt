@@ -6,17 +6,10 @@ use Rattle.agc_word.specs.Number.{pattern_of}
 use Rattle.agc_word.specs.Octal.{octal_digits}
 use Rattle.agc_script.specs.Key.{name_of}
 use Rattle.agc_script.specs.declared.key.Key.{Key}
+use Rattle.agc_machine.specs.Answer.{stop_name}
 use Rattle.agc_machine.specs.declared.answer.ChannelWrite.{ChannelWrite}
 use Rattle.agc_machine.specs.declared.answer.Stop.{Stop}
-use Rattle.agc_machine.specs.declared.answer.Stop.TheVariants as stop
 use Rattle.agc_session.specs.declared.report.LiveKeys.{LiveKeys}
-
--- a stop as the program names it
-abbrev pub stop_name : Stop → List ℕ
-stop_name stop.Limit = codes "Limit"
-stop_name stop.DivisionUndefined = codes "DivisionUndefined"
-stop_name stop.Edrupt = codes "Edrupt"
-stop_name stop.Reached = codes "Reached"
 
 -- why the run ended, at which cycle, and after how many channel writes
 abbrev pub stop_line : Stop → ℕ → ℕ → List ℕ

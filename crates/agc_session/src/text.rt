@@ -1,24 +1,12 @@
 //! The lines that the program prints of its own: the stop, the log and the live keys.
 ghost use Rattle.std.specs.Prelude.{◌≡◌, ◌++◌, ◌<◌, ◌^◌, All, OnOk, string_bytes};
-ghost use Rattle.agc_session.specs.Text.{stop_name, stop_line, log_line, log_text, tape_line};
+ghost use Rattle.agc_session.specs.Text.{stop_line, log_line, log_text, tape_line};
 ghost use Rattle.agc_session.specs.Text.{tape_text, live_text};
 
 use crate::report::LiveKeys;
 use agc_machine::{ChannelWrite, Stop};
 use agc_script::{Key, Tape};
 use std::alloc::AllocError;
-
-/// The stop as the program names it.
-pub fn stop_name(stop: Stop) -> &'static str
-    ensures { result.now ≡ stop_name stop }
-{
-    match stop {
-        Stop::Limit => "Limit",
-        Stop::DivisionUndefined => "DivisionUndefined",
-        Stop::Edrupt => "Edrupt",
-        Stop::Reached => "Reached",
-    }
-}
 
 /// Adds the line that says why the run ended, at which machine cycle, and after how many channel
 /// writes.
@@ -31,7 +19,7 @@ pub fn push_stop_line(
     ensures { OnOk result
         (string_bytes text.new ≡ string_bytes text.old ++ stop_line stop cycle writes) }
 {
-    let name = stop_name(stop);
+    let name = stop.name();
     writeln!(text, "STOP {name} CYCLE {cycle} WRITES {writes}")
 }
 

@@ -3,9 +3,10 @@ use Rattle.std.specs.Prelude.{◌≡◌, ◌≢◌, ℕ, ◌<◌, Ok, Err}
 use Rattle.std.proofs.Common.{arith}
 use Rattle.std.proofs.lemmas.Bool.Decides.{nat_tests}
 use Rattle.agc_order.specs.Order.{basic_of, basic_orders}
+use Rattle.agc_order.specs.Row.{basic_row}
 use Rattle.agc_order.specs.declared.order.Basic.{Basic}
 use Rattle.agc_order.specs.declared.order.Basic.TheVariants as basic
-use Rattle.agc_rope_text.specs.Order.{basic_operand}
+use Rattle.agc_rope_text.specs.Order.{operand_in}
 use Rattle.agc_rope_text.specs.declared.order.Operand.{Operand}
 use Rattle.agc_rope_text.specs.declared.order.Operand.TheVariants as operand
 use Rattle.agc_source_words.specs.Row.{basic_word}
@@ -61,7 +62,7 @@ names_it basic.Ad given bits is = grind (arith, nat_tests)
 names_it basic.Mask given bits is = grind (arith, nat_tests)
 
 -- and the operand
-pub shows_it : (order : Basic) (given : Operand) (bits : ℕ) → basic_word order given ≡ Ok bits → basic_operand order bits ≡ given
+pub shows_it : (order : Basic) (given : Operand) (bits : ℕ) → basic_word order given ≡ Ok bits → operand_in (basic_row order).takes bits ≡ given
 unfolding basic_word
 shows_it basic.Tc given bits is = grind (arith, nat_tests)
 shows_it basic.Relint given bits is = grind (arith, nat_tests)
@@ -84,7 +85,7 @@ shows_it basic.Ad given bits is = grind (arith, nat_tests)
 shows_it basic.Mask given bits is = grind (arith, nat_tests)
 
 -- a word is that of its own order and operand
-own : (order : Basic) (bits : ℕ) → bits < 0o100000 → basic_of bits ≡ order → basic_word order (basic_operand order bits) ≡ Ok bits
+own : (order : Basic) (bits : ℕ) → bits < 0o100000 → basic_of bits ≡ order → basic_word order (operand_in (basic_row order).takes bits) ≡ Ok bits
 unfolding basic_of basic_orders basic_word
 own basic.Tc bits h is = grind (arith, nat_tests)
 own basic.Relint bits h is = grind (arith, nat_tests)
@@ -106,12 +107,12 @@ own basic.Xch bits h is = grind (arith, nat_tests)
 own basic.Ad bits h is = grind (arith, nat_tests)
 own basic.Mask bits h is = grind (arith, nat_tests)
 
-pub only : (order : Basic) (given : Operand) (word bits : ℕ) → basic_word order given ≡ Ok word → bits < 0o100000 → basic_of bits ≡ order → basic_operand order bits ≡ given → word ≡ bits
+pub only : (order : Basic) (given : Operand) (word bits : ℕ) → basic_word order given ≡ Ok word → bits < 0o100000 → basic_of bits ≡ order → operand_in (basic_row order).takes bits ≡ given → word ≡ bits
 only order given word bits is h named shown =
     let mine = rw shown at (own order bits h named) in
     cc
 
-pub not_refused : (order : Basic) (given : Operand) (why : SourceFault) (bits : ℕ) → basic_word order given ≡ Err why → bits < 0o100000 → basic_of bits ≡ order → basic_operand order bits ≡ given → ⊥
+pub not_refused : (order : Basic) (given : Operand) (why : SourceFault) (bits : ℕ) → basic_word order given ≡ Err why → bits < 0o100000 → basic_of bits ≡ order → operand_in (basic_row order).takes bits ≡ given → ⊥
 not_refused order given why bits is h named shown =
     let mine = rw shown at (own order bits h named) in
     cc

@@ -3,9 +3,10 @@ use Rattle.std.specs.Prelude.{◌≡◌, ℕ, ◌<◌, Ok, Err}
 use Rattle.std.proofs.Common.{arith}
 use Rattle.std.proofs.lemmas.Bool.Decides.{nat_tests}
 use Rattle.agc_order.specs.Order.{extracode_of, extracodes}
+use Rattle.agc_order.specs.Row.{extracode_row}
 use Rattle.agc_order.specs.declared.order.Extracode.{Extracode}
 use Rattle.agc_order.specs.declared.order.Extracode.TheVariants as extra
-use Rattle.agc_rope_text.specs.Order.{extracode_operand}
+use Rattle.agc_rope_text.specs.Order.{operand_in}
 use Rattle.agc_rope_text.specs.declared.order.Operand.{Operand}
 use Rattle.agc_source_words.specs.Row.{extracode_word}
 use Rattle.agc_source_words.specs.declared.fault.SourceFault.{SourceFault}
@@ -35,7 +36,7 @@ names_it extra.Bzmf given bits is = grind (arith, nat_tests)
 names_it extra.Mp given bits is = grind (arith, nat_tests)
 
 -- and the operand
-pub shows_it : (order : Extracode) (given : Operand) (bits : ℕ) → extracode_word order given ≡ Ok bits → extracode_operand order bits ≡ given
+pub shows_it : (order : Extracode) (given : Operand) (bits : ℕ) → extracode_word order given ≡ Ok bits → operand_in (extracode_row order).takes bits ≡ given
 unfolding extracode_word
 shows_it extra.Read given bits is = grind (arith, nat_tests)
 shows_it extra.Write given bits is = grind (arith, nat_tests)
@@ -59,7 +60,7 @@ shows_it extra.Bzmf given bits is = grind (arith, nat_tests)
 shows_it extra.Mp given bits is = grind (arith, nat_tests)
 
 -- a word is that of its own order and operand
-own : (order : Extracode) (bits : ℕ) → bits < 0o100000 → extracode_of bits ≡ order → extracode_word order (extracode_operand order bits) ≡ Ok bits
+own : (order : Extracode) (bits : ℕ) → bits < 0o100000 → extracode_of bits ≡ order → extracode_word order (operand_in (extracode_row order).takes bits) ≡ Ok bits
 unfolding extracode_of extracodes extracode_word
 own extra.Read bits h is = grind (arith, nat_tests)
 own extra.Write bits h is = grind (arith, nat_tests)
@@ -82,12 +83,12 @@ own extra.Su bits h is = grind (arith, nat_tests)
 own extra.Bzmf bits h is = grind (arith, nat_tests)
 own extra.Mp bits h is = grind (arith, nat_tests)
 
-pub only : (order : Extracode) (given : Operand) (word bits : ℕ) → extracode_word order given ≡ Ok word → bits < 0o100000 → extracode_of bits ≡ order → extracode_operand order bits ≡ given → word ≡ bits
+pub only : (order : Extracode) (given : Operand) (word bits : ℕ) → extracode_word order given ≡ Ok word → bits < 0o100000 → extracode_of bits ≡ order → operand_in (extracode_row order).takes bits ≡ given → word ≡ bits
 only order given word bits is h named shown =
     let mine = rw shown at (own order bits h named) in
     cc
 
-pub not_refused : (order : Extracode) (given : Operand) (why : SourceFault) (bits : ℕ) → extracode_word order given ≡ Err why → bits < 0o100000 → extracode_of bits ≡ order → extracode_operand order bits ≡ given → ⊥
+pub not_refused : (order : Extracode) (given : Operand) (why : SourceFault) (bits : ℕ) → extracode_word order given ≡ Err why → bits < 0o100000 → extracode_of bits ≡ order → operand_in (extracode_row order).takes bits ≡ given → ⊥
 not_refused order given why bits is h named shown =
     let mine = rw shown at (own order bits h named) in
     cc

@@ -2,6 +2,8 @@
 use Rattle.std.specs.Prelude.{ℕ, ◌+◌, ◌*◌, ◌/◌, ◌%◌, ◌<◌, ◌==◌, nat_lt, nat_le, Bool, false, ◌&&◌, ◌||◌, List, [], ◌∷◌}
 use Rattle.std.specs.Prelude.{take, drop, position, Option, Some, None, if◌then◌else◌}
 use Rattle.agc_word.specs.Numeral.{octal_number}
+use Rattle.agc_store.specs.Places.{erasable_bank_size, erasable_window, fixed_bank_size}
+use Rattle.agc_store.specs.Places.{fixed_fixed, fixed_window}
 use Rattle.agc_rope_text.specs.Line.{is_comma, place_named}
 use Rattle.agc_source_words.specs.declared.location.Location.{Location}
 use Rattle.agc_source_words.specs.declared.location.Location.TheVariants as location
@@ -75,3 +77,14 @@ complete_address place = 0o2000 * bank_register place + place % 0o2000
 abbrev pub sees : ℕ → ℕ → Bool
 sees here place =
     nat_le 0o4000 place && nat_lt place 0o10000 || (place / 0o2000 == here / 0o2000)
+
+-- The place of an order by its bank and its address. A cell that the window shows is the same cell
+-- by its own address.
+unfoldable pub location_at : ℕ → ℕ → Location
+location_at bank address =
+    if nat_lt address erasable_window then location.Erasable address
+    else if nat_lt address fixed_window
+    then location.Erasable (erasable_bank_size * bank + address % erasable_bank_size)
+    else if nat_lt address fixed_fixed
+    then location.Fixed (fixed_bank_size * bank + address % fixed_bank_size)
+    else location.Fixed address

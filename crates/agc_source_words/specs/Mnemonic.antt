@@ -1,32 +1,18 @@
 -- The words that begin a line's order or directive.
 use Rattle.std.specs.Prelude.{ℕ, Bool, List, [], ◌∷◌, ◌||◌, Option, find, is_some, codes}
 use Rattle.std.specs.Str.{bytes_eq}
+use Rattle.agc_order.specs.Row.{all_basics, all_extracodes, basic_row, extracode_row}
 use Rattle.agc_order.specs.declared.order.Basic.{Basic}
-use Rattle.agc_order.specs.declared.order.Basic.TheVariants as basic
 use Rattle.agc_order.specs.declared.order.Extracode.{Extracode}
-use Rattle.agc_order.specs.declared.order.Extracode.TheVariants as extra
-use Rattle.agc_rope_text.specs.Order.{basic_mnemonic, extracode_mnemonic}
 use Rattle.agc_source_words.specs.declared.mnemonic.Directive.{Directive}
 use Rattle.agc_source_words.specs.declared.mnemonic.Directive.TheVariants as directive
 
-unfoldable pub all_basics : List Basic
-all_basics =
-    basic.Tc ∷ basic.Relint ∷ basic.Inhint ∷ basic.Extend ∷ basic.Ccs ∷ basic.Tcf ∷ basic.Das ∷
-    basic.Lxch ∷ basic.Incr ∷ basic.Ads ∷ basic.Ca ∷ basic.Cs ∷ basic.Index ∷ basic.Resume ∷
-    basic.Dxch ∷ basic.Ts ∷ basic.Xch ∷ basic.Ad ∷ basic.Mask ∷ []
-
-unfoldable pub all_extracodes : List Extracode
-all_extracodes =
-    extra.Read ∷ extra.Write ∷ extra.Rand ∷ extra.Wand ∷ extra.Ror ∷ extra.Wor ∷ extra.Rxor ∷
-    extra.Edrupt ∷ extra.Dv ∷ extra.Bzf ∷ extra.Msu ∷ extra.Qxch ∷ extra.Aug ∷ extra.Dim ∷
-    extra.Dca ∷ extra.Dcs ∷ extra.Index ∷ extra.Su ∷ extra.Bzmf ∷ extra.Mp ∷ []
-
 -- the orders by the mnemonics of listings
 unfoldable pub basic_named : List ℕ → Option Basic
-basic_named name = find (λ order. bytes_eq (basic_mnemonic order) name) all_basics
+basic_named name = find (λ order. bytes_eq (basic_row order).mnemonic name) all_basics
 
 unfoldable pub extracode_named : List ℕ → Option Extracode
-extracode_named name = find (λ order. bytes_eq (extracode_mnemonic order) name) all_extracodes
+extracode_named name = find (λ order. bytes_eq (extracode_row order).mnemonic name) all_extracodes
 
 -- the directives
 unfoldable pub directive_name : Directive → List ℕ

@@ -1,4 +1,4 @@
-//! What stands in a line of a source: words and numbers, places and names, mnemonics and directives, each order's row,
+//! What stands in a line of a source: words and numbers, places and names, mnemonics and directives, the words of orders,
 //! and what is wrong where one of them is.
 #![tactic(auto)]
 
@@ -12,9 +12,11 @@ mod row;
 mod text;
 
 pub use fault::{SourceFault, SourceTrouble};
-pub use location::{Location, bank_word, cell_address, complete_address, location_named, sees};
+pub use location::{
+    Location, bank_word, cell_address, complete_address, location_at, location_named, sees,
+};
 pub use mnemonic::{Directive, basic_named, extracode_named, is_order};
 pub use names::Names;
 pub use number::{Signed, decimal_word, octal_word, offset_named, signed_number};
-pub use row::{Takes, basic_row, basic_word, extracode_row, extracode_word};
+pub use row::{basic_word, extracode_word};
 pub use text::{cut_label, has_other_byte, is_listed, is_name, next_said, only_word};

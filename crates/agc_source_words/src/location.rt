@@ -1,4 +1,4 @@
-//! Where a name stands, and the addresses of places and cells.
+//! Where a name and an order in hand stand, and the addresses of places and cells.
 ghost use Rattle.std.specs.Prelude.{◌≡◌, ◌*◌, ◌<◌, ◌≤◌, IfSome, length, position};
 ghost use Rattle.agc_rope_text.specs.Line.{is_comma};
 ghost use Rattle.agc_source_words.specs.Location.{
@@ -10,12 +10,14 @@ ghost use Rattle.agc_source_words.specs.Location.{
   cell_named,
   cell_or_place,
   complete_address,
+  location_at,
   location_named,
   sees,
 };
 ghost use Rattle.agc_word.specs.Numeral.{octal_number};
 
 use agc_rope_text::read_place;
+use agc_store::Addr;
 use agc_word::read_octal;
 
 /// Where a name stands.
@@ -91,6 +93,20 @@ fn cell_in_bank(bank: Option<u64>, address: Option<u64>) -> Option<u32>
         Some(address as u32)
     } else {
         None
+    }
+}
+
+/// The place of an order in hand: the cell or the word that its bank and its address name.
+#[tactic(auto, unfolding(crate::specs::Location::location_at))]
+pub fn location_at(bank: u8, address: Addr) -> Location
+    ensures { result ≡ location_at bank address }
+{
+    let (bank, address) = (u32::from(bank), u32::from(address.bits()));
+    match address {
+        0..0o1400 => Location::Erasable(address),
+        0o1400..0o2000 => Location::Erasable(0o400 * bank + address % 0o400),
+        0o2000..0o4000 => Location::Fixed(0o2000 * bank + address % 0o2000),
+        _ => Location::Fixed(address),
     }
 }
 

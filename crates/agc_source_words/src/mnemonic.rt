@@ -9,54 +9,6 @@ ghost use Rattle.agc_source_words.specs.Mnemonic.{
 };
 
 use agc_order::{Basic, Extracode};
-use agc_rope_text::{basic_mnemonic, extracode_mnemonic};
-
-/// Every basic order, once.
-const BASICS: [Basic; 19] = [
-    Basic::Tc,
-    Basic::Relint,
-    Basic::Inhint,
-    Basic::Extend,
-    Basic::Ccs,
-    Basic::Tcf,
-    Basic::Das,
-    Basic::Lxch,
-    Basic::Incr,
-    Basic::Ads,
-    Basic::Ca,
-    Basic::Cs,
-    Basic::Index,
-    Basic::Resume,
-    Basic::Dxch,
-    Basic::Ts,
-    Basic::Xch,
-    Basic::Ad,
-    Basic::Mask,
-];
-
-/// Every extracode, once.
-const EXTRACODES: [Extracode; 20] = [
-    Extracode::Read,
-    Extracode::Write,
-    Extracode::Rand,
-    Extracode::Wand,
-    Extracode::Ror,
-    Extracode::Wor,
-    Extracode::Rxor,
-    Extracode::Edrupt,
-    Extracode::Dv,
-    Extracode::Bzf,
-    Extracode::Msu,
-    Extracode::Qxch,
-    Extracode::Aug,
-    Extracode::Dim,
-    Extracode::Dca,
-    Extracode::Dcs,
-    Extracode::Index,
-    Extracode::Su,
-    Extracode::Bzmf,
-    Extracode::Mp,
-];
 
 /// What a line may say beside orders.
 #[derive(Clone, Copy, Debug, PartialEq, Eq)]
@@ -137,25 +89,25 @@ impl Directive {
 }
 
 /// The basic order of a mnemonic.
-#[tactic(auto, unfolding(crate::specs::Mnemonic::basic_named, crate::specs::Mnemonic::all_basics))]
+#[tactic(auto, unfolding(crate::specs::Mnemonic::basic_named, agc_order::specs::Row::all_basics))]
 pub fn basic_named(name: &[u8]) -> Option<Basic>
     ensures { result ≡ basic_named name.now }
 {
-    BASICS
+    Basic::ALL
         .iter()
         .copied()
-        .find(|order| basic_mnemonic(*order).as_bytes() == name)
+        .find(|order| order.row().mnemonic.as_bytes() == name)
 }
 
 /// The extracode of a mnemonic.
-#[tactic(auto, unfolding(crate::specs::Mnemonic::extracode_named, crate::specs::Mnemonic::all_extracodes))]
+#[tactic(auto, unfolding(crate::specs::Mnemonic::extracode_named, agc_order::specs::Row::all_extracodes))]
 pub fn extracode_named(name: &[u8]) -> Option<Extracode>
     ensures { result ≡ extracode_named name.now }
 {
-    EXTRACODES
+    Extracode::ALL
         .iter()
         .copied()
-        .find(|order| extracode_mnemonic(*order).as_bytes() == name)
+        .find(|order| order.row().mnemonic.as_bytes() == name)
 }
 
 /// Whether a word is an order's, basic or extracode.

@@ -1,0 +1,157 @@
+//! The table of the orders: of each the word that it begins with, its mnemonic and what it takes.
+ghost use Rattle.std.specs.Prelude.{◌≡◌, ◌≤◌};
+ghost use Rattle.agc_order.specs.Row.{basic_row, extracode_row};
+
+use crate::order::{Basic, Extracode};
+
+/// What an order takes after its mnemonic.
+#[derive(Clone, Copy, Debug, PartialEq, Eq)]
+pub enum Takes {
+    /// The mnemonic says all, as EXTEND does.
+    Nothing,
+    /// An address of ten bits.
+    Erasable,
+    /// An address of ten bits, of the upper of two words; the order's word has that of the lower one.
+    ErasablePair,
+    /// An address from 2000 octal on.
+    Fixed,
+    /// An address of twelve bits.
+    Memory,
+    /// An address of twelve bits, of the upper of two words.
+    MemoryPair,
+    /// A channel of nine bits.
+    Channel,
+}
+
+/// The row of an order.
+#[derive(Clone, Copy, Debug, PartialEq, Eq)]
+pub struct Row {
+    /// The word with address or channel 0, or with nothing.
+    pub first: u16,
+    /// Its name in the instruction memos.
+    pub mnemonic: &'static str,
+    /// What it takes after its mnemonic.
+    pub takes: Takes,
+}
+
+impl Basic {
+    /// Every basic order, once.
+    pub const ALL: [Basic; 19] = [
+        Basic::Tc,
+        Basic::Relint,
+        Basic::Inhint,
+        Basic::Extend,
+        Basic::Ccs,
+        Basic::Tcf,
+        Basic::Das,
+        Basic::Lxch,
+        Basic::Incr,
+        Basic::Ads,
+        Basic::Ca,
+        Basic::Cs,
+        Basic::Index,
+        Basic::Resume,
+        Basic::Dxch,
+        Basic::Ts,
+        Basic::Xch,
+        Basic::Ad,
+        Basic::Mask,
+    ];
+
+    /// Its row.
+    pub fn row(self) -> Row
+        ensures first { result.first ≡ (basic_row self).first }
+        ensures mnemonic { result.mnemonic.now ≡ (basic_row self).mnemonic }
+        ensures takes { result.takes ≡ (basic_row self).takes }
+        ensures range { result.first ≤ 0o70000 }
+    {
+        let (first, mnemonic, takes) = match self {
+            Basic::Tc => (0o00000, "TC", Takes::Memory),
+            Basic::Relint => (0o00003, "RELINT", Takes::Nothing),
+            Basic::Inhint => (0o00004, "INHINT", Takes::Nothing),
+            Basic::Extend => (0o00006, "EXTEND", Takes::Nothing),
+            Basic::Ccs => (0o10000, "CCS", Takes::Erasable),
+            Basic::Tcf => (0o10000, "TCF", Takes::Fixed),
+            Basic::Das => (0o20000, "DAS", Takes::ErasablePair),
+            Basic::Lxch => (0o22000, "LXCH", Takes::Erasable),
+            Basic::Incr => (0o24000, "INCR", Takes::Erasable),
+            Basic::Ads => (0o26000, "ADS", Takes::Erasable),
+            Basic::Ca => (0o30000, "CA", Takes::Memory),
+            Basic::Cs => (0o40000, "CS", Takes::Memory),
+            Basic::Index => (0o50000, "INDEX", Takes::Erasable),
+            Basic::Resume => (0o50017, "RESUME", Takes::Nothing),
+            Basic::Dxch => (0o52000, "DXCH", Takes::ErasablePair),
+            Basic::Ts => (0o54000, "TS", Takes::Erasable),
+            Basic::Xch => (0o56000, "XCH", Takes::Erasable),
+            Basic::Ad => (0o60000, "AD", Takes::Memory),
+            Basic::Mask => (0o70000, "MASK", Takes::Memory),
+        };
+        Row {
+            first,
+            mnemonic,
+            takes,
+        }
+    }
+}
+
+impl Extracode {
+    /// Every extracode, once.
+    pub const ALL: [Extracode; 20] = [
+        Extracode::Read,
+        Extracode::Write,
+        Extracode::Rand,
+        Extracode::Wand,
+        Extracode::Ror,
+        Extracode::Wor,
+        Extracode::Rxor,
+        Extracode::Edrupt,
+        Extracode::Dv,
+        Extracode::Bzf,
+        Extracode::Msu,
+        Extracode::Qxch,
+        Extracode::Aug,
+        Extracode::Dim,
+        Extracode::Dca,
+        Extracode::Dcs,
+        Extracode::Index,
+        Extracode::Su,
+        Extracode::Bzmf,
+        Extracode::Mp,
+    ];
+
+    /// Its row.
+    pub fn row(self) -> Row
+        ensures first { result.first ≡ (extracode_row self).first }
+        ensures mnemonic { result.mnemonic.now ≡ (extracode_row self).mnemonic }
+        ensures takes { result.takes ≡ (extracode_row self).takes }
+        ensures range { result.first ≤ 0o70000 }
+    {
+        let (first, mnemonic, takes) = match self {
+            Extracode::Read => (0o00000, "READ", Takes::Channel),
+            Extracode::Write => (0o01000, "WRITE", Takes::Channel),
+            Extracode::Rand => (0o02000, "RAND", Takes::Channel),
+            Extracode::Wand => (0o03000, "WAND", Takes::Channel),
+            Extracode::Ror => (0o04000, "ROR", Takes::Channel),
+            Extracode::Wor => (0o05000, "WOR", Takes::Channel),
+            Extracode::Rxor => (0o06000, "RXOR", Takes::Channel),
+            Extracode::Edrupt => (0o07000, "EDRUPT", Takes::Channel),
+            Extracode::Dv => (0o10000, "DV", Takes::Erasable),
+            Extracode::Bzf => (0o10000, "BZF", Takes::Fixed),
+            Extracode::Msu => (0o20000, "MSU", Takes::Erasable),
+            Extracode::Qxch => (0o22000, "QXCH", Takes::Erasable),
+            Extracode::Aug => (0o24000, "AUG", Takes::Erasable),
+            Extracode::Dim => (0o26000, "DIM", Takes::Erasable),
+            Extracode::Dca => (0o30000, "DCA", Takes::MemoryPair),
+            Extracode::Dcs => (0o40000, "DCS", Takes::MemoryPair),
+            Extracode::Index => (0o50000, "INDEX", Takes::Memory),
+            Extracode::Su => (0o60000, "SU", Takes::Erasable),
+            Extracode::Bzmf => (0o60000, "BZMF", Takes::Fixed),
+            Extracode::Mp => (0o70000, "MP", Takes::Memory),
+        };
+        Row {
+            first,
+            mnemonic,
+            takes,
+        }
+    }
+}
