@@ -1,5 +1,5 @@
 //! The command line that `clap` reads: the subcommands with their files and options.
-use clap::{Arg, Command, value_parser};
+use clap::{Arg, ArgAction, Command, value_parser};
 use std::alloc::{AllocError, Global};
 
 static FORMS: [&str; 2] = ["classic", "parity"];
@@ -60,7 +60,11 @@ fn trace_command<'a>(alloc: Global) -> Result<Command<'a>, AllocError> {
         .arg(until_option(alloc))?
         .arg(cycle_option(alloc, "from", "The first cycle whose line is printed"))?
         .arg(cycle_option(alloc, "to", "The last cycle whose line is printed"))?
-        .arg(only_option(alloc))
+        .arg(only_option(alloc))?
+        .arg(at_option(alloc))?
+        .arg(order_option(alloc))?
+        .arg(channel_option(alloc))?
+        .arg(last_option(alloc))
 }
 
 fn compare_command<'a>(alloc: Global) -> Result<Command<'a>, AllocError> {
@@ -142,6 +146,42 @@ fn only_option<'a>(alloc: Global) -> Arg<'a> {
         .help(
             "Print these lines and the stop's: orders that write to a channel, interrupts and RESUMEs, or orders that jump",
         )
+}
+
+fn at_option<'a>(alloc: Global) -> Arg<'a> {
+    Arg::new(alloc, "at")
+        .long("at")
+        .value_name("PLACES")
+        .action(ArgAction::Append)
+        .help(
+            "Print the orders at these places and the stop: 4100, 05,2071, E3,1400, or two of a bank as 4100-4177; may be said again",
+        )
+}
+
+fn order_option<'a>(alloc: Global) -> Arg<'a> {
+    Arg::new(alloc, "order")
+        .long("order")
+        .value_name("NAME")
+        .action(ArgAction::Append)
+        .help("Print the orders of this mnemonic and the stop; may be said again")
+}
+
+fn channel_option<'a>(alloc: Global) -> Arg<'a> {
+    Arg::new(alloc, "channel")
+        .long("channel")
+        .value_name("CCC")
+        .action(ArgAction::Append)
+        .help(
+            "Print the orders that read or write this channel and the stop: octal, 0 to 777; may be said again",
+        )
+}
+
+fn last_option<'a>(alloc: Global) -> Arg<'a> {
+    Arg::new(alloc, "last")
+        .long("last")
+        .value_name("N")
+        .value_parser(value_parser!(u64))
+        .help("Print the last N of these lines alone, where the run has come to its end")
 }
 
 fn rope_file<'a>(alloc: Global) -> Arg<'a> {

@@ -3,6 +3,7 @@
 
 mod asked;
 mod command_line;
+mod questions;
 mod words;
 
 pub use asked::{Asked, CheckedRun, Checking, Comparing, Filming, Listing, Tracing, Weaving};

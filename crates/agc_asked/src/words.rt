@@ -1,6 +1,7 @@
 //! The words of a command line to what they ask for.
 use crate::asked::{Asked, CheckedRun, Checking, Comparing, Filming, Listing, Tracing, Weaving};
 use crate::command_line::command;
+use crate::questions::{channels_of, orders_of, places_of};
 use agc_args::{ArgsFault, WordsFault, fault_of, words_of};
 use agc_film::{Part, RunFiles};
 use agc_store::RopeForm;
@@ -125,7 +126,7 @@ fn checked_run_of(alloc: Global, given: &ArgMatches<'_>) -> Result<Option<Checke
     }
 }
 
-fn tracing_of(alloc: Global, given: &ArgMatches<'_>) -> Result<Tracing, AllocError> {
+fn tracing_of(alloc: Global, given: &ArgMatches<'_>) -> Result<Tracing, ArgsFault> {
     Ok(Tracing {
         rope: path_of(alloc, given, "rope")?,
         script: path_of(alloc, given, "script")?,
@@ -136,6 +137,10 @@ fn tracing_of(alloc: Global, given: &ArgMatches<'_>) -> Result<Tracing, AllocErr
             from: number_of(given, "from", 0),
             to: number_of(given, "to", u64::MAX),
             only: only_of(given),
+            places: places_of(alloc, given)?,
+            orders: orders_of(alloc, given)?,
+            channels: channels_of(alloc, given)?,
+            last: given.get_one::<u64>("last"),
         },
     })
 }

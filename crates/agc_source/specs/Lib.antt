@@ -3,3 +3,4 @@ pub mod Operand
 pub mod Shape
 pub mod Meaning
 pub mod Source
+pub mod Misnamed

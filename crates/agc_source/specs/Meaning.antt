@@ -3,6 +3,7 @@ use Rattle.std.specs.Prelude.{ℕ, ◌*◌, ◌/◌, ◌%◌, ◌^◌, nat_lt, B
 use Rattle.std.specs.Prelude.{Option, Some, None, Result, Ok, Err, is_some, if◌then◌else◌}
 use Rattle.agc_word.specs.Number.{Number, number_from_pattern}
 use Rattle.agc_word.specs.Numeral.{octal_number}
+use Rattle.agc_order.specs.Row.{basic_row, extracode_row}
 use Rattle.agc_order.specs.declared.order.Basic.{Basic}
 use Rattle.agc_order.specs.declared.order.Extracode.{Extracode}
 use Rattle.agc_rope_text.specs.List.{listed_address}
@@ -12,7 +13,7 @@ use Rattle.agc_source_words.specs.Mnemonic.{basic_named, directive_named, extrac
 use Rattle.agc_source_words.specs.Name.{Naming}
 use Rattle.agc_source_words.specs.Number.{decimal_word, octal_word, signed_number}
 use Rattle.agc_source.specs.Operand.{operand_for, value_of}
-use Rattle.agc_source_words.specs.Row.{as_word, basic_row, basic_word, extracode_row, extracode_word}
+use Rattle.agc_source_words.specs.Row.{as_word, basic_word, extracode_word}
 use Rattle.agc_source_words.specs.Text.{only_of}
 use Rattle.agc_source_words.specs.declared.fault.SourceFault.{SourceFault}
 use Rattle.agc_source_words.specs.declared.fault.SourceFault.TheVariants as fault

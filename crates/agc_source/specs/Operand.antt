@@ -2,6 +2,8 @@
 use Rattle.std.specs.Prelude.{ℕ, ◌+◌, ◌-◌, nat_lt, nat_le, ◌&&◌, List, [], ◌∷◌}
 use Rattle.std.specs.Prelude.{Option, Some, None, Result, Ok, Err, if◌then◌else◌}
 use Rattle.agc_word.specs.Numeral.{octal_number}
+use Rattle.agc_order.specs.declared.row.Takes.{Takes}
+use Rattle.agc_order.specs.declared.row.Takes.TheVariants as takes
 use Rattle.agc_rope_text.specs.List.{listed_address}
 use Rattle.agc_rope_text.specs.declared.order.Operand.{Operand}
 use Rattle.agc_rope_text.specs.declared.order.Operand.TheVariants as operand
@@ -16,8 +18,6 @@ use Rattle.agc_source_words.specs.declared.location.Location.TheVariants as loca
 use Rattle.agc_source_words.specs.declared.number.Signed.{Signed}
 use Rattle.agc_source.specs.declared.operand.Value.{Value}
 use Rattle.agc_source.specs.declared.operand.Value.TheVariants as value
-use Rattle.agc_source_words.specs.declared.row.Takes.{Takes}
-use Rattle.agc_source_words.specs.declared.row.Takes.TheVariants as takes
 
 -- a number moved by another one, where the sum is no less than 0 and below a bound
 abbrev pub moved : ℕ → ℕ → Signed → Option ℕ

@@ -4,10 +4,12 @@
 mod cursor;
 mod labels;
 mod meaning;
+mod misnamed;
 mod operand;
 mod shape;
 mod source;
 mod steps;
 
 pub use agc_source_words::{Location, SourceFault, SourceTrouble, basic_word, extracode_word};
+pub use misnamed::{Misnamed, Written, first_misnamed};
 pub use source::weave_source;

@@ -23,9 +23,9 @@ use crate::operand::{Value, operand_for, value_of};
 use agc_order::{Basic, Extracode};
 use agc_rope_text::listed_address;
 use agc_source_words::{
-    Directive, Location, Names, SourceFault, bank_word, basic_named, basic_row, basic_word,
-    cell_address, complete_address, decimal_word, extracode_named, extracode_row, extracode_word,
-    next_said, octal_word, only_word, signed_number,
+    Directive, Location, Names, SourceFault, bank_word, basic_named, basic_word, cell_address,
+    complete_address, decimal_word, extracode_named, extracode_word, next_said, octal_word,
+    only_word, signed_number,
 };
 use agc_word::{Narrow, read_octal};
 
@@ -82,7 +82,7 @@ fn order_meaning(
 fn basic_meaning(names: &Names, here: u32, order: Basic, rest: &[u8]) -> Result<Narrow, SourceFault>
     ensures { result ≡ basic_meaning (naming_of names.now) here order (said_by rest.now) }
 {
-    let given = operand_for(basic_row(order).takes, names, here, rest)?;
+    let given = operand_for(order.row().takes, names, here, rest)?;
     basic_word(order, given)
 }
 
@@ -94,7 +94,7 @@ fn extracode_meaning(
 ) -> Result<Narrow, SourceFault>
     ensures { result ≡ extracode_meaning (naming_of names.now) here order (said_by rest.now) }
 {
-    let given = operand_for(extracode_row(order).takes, names, here, rest)?;
+    let given = operand_for(order.row().takes, names, here, rest)?;
     extracode_word(order, given)
 }
 

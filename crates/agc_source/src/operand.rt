@@ -15,10 +15,10 @@ ghost use Rattle.agc_source.specs.Operand.{
 ghost use Rattle.agc_source_words.specs.Number.{offset_named};
 ghost use Rattle.agc_source_words.specs.Text.{said_by};
 
+use agc_order::Takes;
 use agc_rope_text::{Operand, listed_address};
 use agc_source_words::{
-    Location, Names, Signed, SourceFault, Takes, cell_address, is_name, next_said, offset_named,
-    sees,
+    Location, Names, Signed, SourceFault, cell_address, is_name, next_said, offset_named, sees,
 };
 use agc_word::read_octal;
 

@@ -5,3 +5,4 @@ pub mod Started
 pub mod Ended
 pub mod Compared
 pub mod Filmed
+pub mod Traced

@@ -1,18 +1,25 @@
 -- What `list` and `weave` print of the files that they are given, and how they refuse them.
-use Rattle.std.specs.Prelude.{◌≡◌, ◌≤◌, ℕ, false, true, nat_le, length, List, Option, Some, None, Err}
+use Rattle.std.specs.Prelude.{◌≡◌, ◌≤◌, ℕ, false, true, nat_le, length, List, ◌++◌, codes, Option, Some, None, Err}
 use Rattle.std.specs.Prelude.{if◌then◌else◌, IfSome}
+use Rattle.std.specs.Fmt.{decimal}
 use Rattle.std.specs.declared.alloc.Global.{Global}
 use Rattle.std.specs.declared.string.String.{String}
+use Rattle.agc_word.specs.Number.{pattern_of}
 use Rattle.agc_word.specs.Numeral.{octal_number}
+use Rattle.agc_word.specs.Octal.{octal_digits}
 use Rattle.agc_store.specs.RopeFile.{rope_fault_of, rope_words}
 use Rattle.agc_store.specs.declared.rope_file.RopeForm.{RopeForm}
 use Rattle.agc_rope_text.specs.List.{rope_text}
+use Rattle.agc_rope_text.specs.Order.{order_text}
+use Rattle.agc_source.specs.Misnamed.{is_extracode, misnamed_in, mnemonic_of}
 use Rattle.agc_source.specs.Source.{IsSourceWoven, source_in}
+use Rattle.agc_source.specs.declared.misnamed.Misnamed.{Misnamed}
 use Rattle.agc_source_words.specs.declared.fault.SourceTrouble.{SourceTrouble}
 use Rattle.agc_source_words.specs.declared.fault.SourceTrouble.TheVariants as source
 use Rattle.agc_session.specs.Files.{rope_steps}
 use Rattle.agc_session.specs.Options.{said_by, says_nothing}
 use Rattle.agc_session.specs.Steps.{IsTold}
+use Rattle.agc_study.specs.declared.ropes.Woven.{Woven}
 use Rattle.agc_study.specs.declared.trouble.Trouble.{Trouble}
 use Rattle.agc_study.specs.declared.trouble.Trouble.TheVariants as trouble
 
@@ -39,10 +46,19 @@ IsListRefused form bank known (trouble.Refused r) =
     (says_nothing bank_named bank ≡ false) × IfSome known (λ file. IsTold (rope_steps form file) r)
 IsListRefused form bank known t = ⊥
 
--- a text has 16,777,216 bytes at most, and weaves to a file
-pub record IsWoven (form : RopeForm) (text file : List ℕ) : Type 0 where
+-- a text has 16,777,216 bytes at most, weaves to a file, and this is its first line with another order than its word's
+pub record IsWoven (form : RopeForm) (text : List ℕ) (woven : Woven) : Type 0 where
   pub short : length text ≤ 16777216
-  pub woven : IsSourceWoven form text file
+  pub file : IsSourceWoven form text woven.bytes.items
+  pub first : woven.misnamed ≡ misnamed_in text
+
+-- the remark on such a line: the order that its word names, and the mnemonic that stands behind it
+abbrev pub misnamed_line : Misnamed → List ℕ
+misnamed_line told =
+    codes "agc-study: text line " ++ decimal told.line
+    ++ codes ": the word " ++ octal_digits 5 (pattern_of 15 told.word)
+    ++ codes " is " ++ order_text (is_extracode told.written) told.word
+    ++ codes ", not " ++ mnemonic_of told.written ++ codes "\n"
 
 -- a text has 16,777,216 bytes at most, and this is its first fault
 pub record IsFaulty (text : List ℕ) (why : SourceTrouble) : Type 0 where

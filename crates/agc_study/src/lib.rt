@@ -10,6 +10,7 @@ mod films;
 mod ropes;
 mod runs;
 mod runs_told;
+mod traces;
 mod trouble;
 mod unreadable;
 
@@ -18,6 +19,7 @@ pub use check_told::write_report;
 pub use checks::{check_files, check_key_file, check_listing_file, check_with};
 pub use compares::{Told, compare_files};
 pub use films::{FilmPage, film_files};
-pub use ropes::{list_rope, weave_text};
-pub use runs_told::{status_of_trace, write_told};
+pub use ropes::{Woven, list_rope, misnamed_line, weave_text};
+pub use runs_told::write_told;
+pub use traces::{Traced, Untraced, remark_service, status_of_untraced, trace_files};
 pub use trouble::Trouble;

@@ -1,21 +1,22 @@
 //! Ropes to texts, and texts to ropes.
 ghost use Rattle.std.specs.Prelude.{◌≡◌, ◌≢◌, Err, IfOk, IfErr, IfSome, OnOk, false, true};
 ghost use Rattle.std.specs.Prelude.{string_bytes};
+ghost use Rattle.agc_source.specs.Misnamed.{misnamed_in};
 ghost use Rattle.agc_source.specs.Source.{IsSourceWoven, source_in};
 ghost use Rattle.agc_session.specs.Options.{said_by, says_nothing};
 ghost use Rattle.agc_study.specs.Listed.{IsListRefused, IsListing, IsWeaveRefused, IsWoven};
-ghost use Rattle.agc_study.specs.Listed.{bank_named};
+ghost use Rattle.agc_study.specs.Listed.{bank_named, misnamed_line};
 ghost use Rattle.agc_source_words.specs.declared.fault.SourceTrouble.{SourceTrouble};
 ghost use Rattle.agc_source_words.specs.declared.fault.SourceTrouble.TheVariants as source_trouble;
 ghost use Rattle.agc_study.specs.declared.trouble.Trouble.TheVariants as told;
 
 use crate::trouble::Trouble;
-use agc_rope_text::list;
+use agc_rope_text::{list, push_order};
 use agc_session::{Refusal, SCRIPT_BYTES, Unread, read_limited, read_rope};
-use agc_source::{SourceTrouble, weave_source};
+use agc_source::{Misnamed, SourceTrouble, first_misnamed, weave_source};
 use agc_store::{RopeForm, Store};
 use agc_word::read_octal;
-use std::alloc::Global;
+use std::alloc::{AllocError, Global};
 use std::io::Read;
 
 /// The text of a rope file, or of one of its banks. A text of `--bank` that names none is refused before the
@@ -64,15 +65,20 @@ fn bank_named(text: &[u8]) -> Option<u8>
     if bank <= 0o43 { Some(bank as u8) } else { None }
 }
 
+/// A text that was woven.
+#[derive(Drop)]
+pub struct Woven {
+    /// The rope file.
+    pub bytes: Vec<u8>,
+    /// The first line of a listing in it whose word names another order than stands behind the word.
+    pub misnamed: Option<Misnamed>,
+}
+
 /// The rope file that a text file weaves to. It is refused where it cannot be read, has more than
 /// `SCRIPT_BYTES` bytes or a faulty line, or where memory runs out.
-pub fn weave_text<R: Read>(
-    alloc: Global,
-    form: RopeForm,
-    reader: &mut R,
-) -> Result<Vec<u8>, Trouble>
-    ensures woven { IfOk result (λ bytes. IfSome (R.remaining reader.old)
-        (λ text. IsWoven form text bytes.items)) }
+pub fn weave_text<R: Read>(alloc: Global, form: RopeForm, reader: &mut R) -> Result<Woven, Trouble>
+    ensures woven { IfOk result (λ woven. IfSome (R.remaining reader.old)
+        (λ text. IsWoven form text woven)) }
     ensures refused { IfErr result (IsWeaveRefused (R.remaining reader.old)) }
 {
     let text = match read_limited(alloc, reader, SCRIPT_BYTES) {
@@ -83,13 +89,36 @@ pub fn weave_text<R: Read>(
     woven_of(alloc, form, text.as_slice())
 }
 
-fn woven_of(alloc: Global, form: RopeForm, text: &[u8]) -> Result<Vec<u8>, Trouble>
-    ensures woven { IfOk result (λ bytes. IsSourceWoven form text.now bytes.items) }
+fn woven_of(alloc: Global, form: RopeForm, text: &[u8]) -> Result<Woven, Trouble>
+    ensures woven { IfOk result (λ woven. IsSourceWoven form text.now woven.bytes.items
+        × (woven.misnamed ≡ misnamed_in text.now)) }
     ensures refused { IfErr result (λ t. (fault : SourceTrouble) × (t ≡ told.Text fault)
         × (fault ≢ source_trouble.Memory → source_in text.now ≡ Err fault)) }
 {
     match weave_source(alloc, form, text) {
-        Ok(bytes) => Ok(bytes),
+        Ok(bytes) => Ok(Woven {
+            bytes,
+            misnamed: first_misnamed(text),
+        }),
         Err(fault) => Err(Trouble::Text(fault)),
     }
+}
+
+/// The remark on such a line: the order that its word names, and the mnemonic that stands behind it. Fails where
+/// memory runs out.
+pub fn misnamed_line(alloc: Global, misnamed: Misnamed) -> Result<String, AllocError>
+    ensures { IfOk result (λ text. string_bytes text ≡ misnamed_line misnamed) }
+{
+    let Misnamed {
+        line,
+        word,
+        written,
+    } = misnamed;
+    let mut text = String::new(alloc);
+    write!(text, "agc-study: text line {line}: the word {word} is ")?;
+    push_order(&mut text, written.is_extracode(), word)?;
+    text.push_str(", not ")?;
+    text.push_str(written.mnemonic())?;
+    text.push_str("\n")?;
+    Ok(text)
 }

@@ -1,5 +1,5 @@
 //! What is told of runs, written: a trace, a comparison, a film.
-ghost use Rattle.std.specs.Prelude.{◌≡◌, ◌≢◌, ◌⊎◌, true, false, IfOk, IfErr};
+ghost use Rattle.std.specs.Prelude.{◌≡◌, ◌≢◌, ◌⊎◌, true, false};
 ghost use Rattle.std.specs.Io.KnownBytes.{Keeps};
 ghost use Rattle.agc_study.specs.Compared.{IsComparisonWritten, IsToldTo};
 ghost use Rattle.agc_study.specs.Ended.{IsEnded};
@@ -7,13 +7,13 @@ ghost use Rattle.agc_study.specs.Ended.{IsEnded};
 use crate::answers::TROUBLE;
 use crate::compares::{Told, compare_files};
 use crate::films::{FilmPage, film_file_pairs, film_files};
-use crate::runs::read_machine;
+use crate::traces::{Traced, remark_service, status_of_untraced, trace_files};
 use crate::trouble::Trouble;
 use agc_asked::{Comparing, Filming, Tracing};
 use agc_machine::{Machine, Upcoming};
 use agc_progress::Shown;
-use agc_session::{DONE, InputFile, Refusal, UNWRITTEN, status_of};
-use agc_trace::{Selection, TraceFault, reason_name, trace};
+use agc_session::{DONE, InputFile, status_of};
+use agc_trace::Selection;
 use std::alloc::Global;
 use std::fs;
 use std::io::{Read, Write};
@@ -25,7 +25,8 @@ const APART: u8 = 1;
 /// How many frames a film may have without a remark.
 const MANY_FRAMES: usize = 1_000_000;
 
-/// Traces the run of a rope file and a script file; where its range is empty, a remark says so.
+/// Traces the run of a rope file and a script file. A remark says where its range is empty, and where the
+/// service of an interrupt goes on at the stop.
 pub fn trace_to<R, W: Write, E: Write, N: Write, P: Shown>(
     rt: &R,
     tracing: &Tracing,
@@ -41,29 +42,35 @@ where
     ensures plain { result ≡ 2 → Keeps (N.contents remarks.old) (N.contents remarks.new) }
     ensures faulty { result ≢ 1 }
 {
-    let alloc = rt.alloc();
-    let (form, limit, until) = (tracing.form, tracing.limit, &tracing.until);
     let mut rope = InputFile::new(fs::open(rt, tracing.rope.as_str()));
     let mut script = InputFile::new(fs::open(rt, tracing.script.as_str()));
-    match read_machine(alloc, form, limit, until, &mut rope, &mut script) {
-        Ok(mut machine) => {
-            let traced = trace(alloc, &mut machine, tracing.selection, out, progress);
-            progress.wipe();
-            remark_on_range(&machine, tracing.selection, remarks);
-            status_of_trace(traced, err)
+    let traced = trace_files(rt.alloc(), tracing, &mut rope, &mut script, out, progress);
+    progress.wipe();
+    match traced {
+        Ok(traced) => {
+            remark_on_trace(&traced, &tracing.selection, remarks);
+            DONE
         }
-        Err(refusal) => status_of(TROUBLE, Trouble::Refused(refusal).write_to(err)),
+        Err(untraced) => status_of_untraced(untraced, err),
     }
 }
 
-/// Says why no boundary of a run was selected, where none begins in the range. A remark that cannot be written
-/// changes nothing of the trace.
-fn remark_on_range<N: Write>(machine: &Machine, selection: Selection, remarks: &mut N) {
-    let Selection { from, to, .. } = selection;
+/// Says why no boundary of a run was selected, and which service goes on at its stop. A remark that cannot be
+/// written changes nothing of the trace.
+fn remark_on_trace<N: Write>(traced: &Traced, selection: &Selection, remarks: &mut N) {
+    remark_on_range(&traced.machine, selection, remarks);
+    if let Some(service) = traced.service {
+        let _told = remark_service(service, remarks);
+    }
+}
+
+/// Says why no boundary of a run was selected, where none begins in the range.
+fn remark_on_range<N: Write>(machine: &Machine, selection: &Selection, remarks: &mut N) {
+    let (from, to) = (selection.from, selection.to);
     let cycle = machine.cycle();
     let _told = match machine.upcoming() {
         Upcoming::Stop(why) if cycle < from => {
-            let reason = reason_name(why);
+            let reason = why.name();
             writeln!(
                 remarks,
                 "agc-study: the run stopped at cycle {cycle}, before cycle {from}: {reason}"
@@ -214,21 +221,4 @@ pub fn write_told<W: Write>(told: &Told, out: &mut W) -> u8
 {
     let status = if told.is_same { DONE } else { APART };
     status_of(status, out.write_all(told.text.as_bytes()))
-}
-
-/// The status of a trace: one that is cut off is not whole, whatever stands there already.
-pub fn status_of_trace<E: Write>(traced: Result<(), TraceFault>, err: &mut E) -> u8
-    ensures whole { IfOk traced (λ _. result ≡ 0) }
-    ensures cut { IfErr traced (λ _. result ≡ 3) }
-    ensures status { (result ≡ 0) ⊎ (result ≡ 3) }
-    ensures silent { result ≡ 0 → Keeps (E.contents err.old) (E.contents err.new) }
-{
-    match traced {
-        Ok(()) => DONE,
-        Err(TraceFault::Write) => UNWRITTEN,
-        Err(TraceFault::Memory) => {
-            let _told = Trouble::Refused(Refusal::Memory).write_to(err);
-            UNWRITTEN
-        }
-    }
 }

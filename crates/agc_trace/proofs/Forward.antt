@@ -37,7 +37,7 @@ forward_by : (b : Bool) (from later : ℕ) (rest : List Entry) → from ≤ late
 forward_by true from later rest l h = tt
 forward_by false from later rest l h = from_earlier from later rest l h
 
-never_earlier : (s : State) (r : State × Stepped) → Falls s r → s.cycle ≤ r.0.cycle
+pub never_earlier : (s : State) (r : State × Stepped) → Falls s r → s.cycle ≤ r.0.cycle
 never_earlier s (t, stepped.Quiet) f = f.1
 never_earlier s (t, stepped.Wrote write) f = omega arith
 never_earlier s (t, stepped.Stopped why) f = f.1

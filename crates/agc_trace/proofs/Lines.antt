@@ -1,47 +1,84 @@
 -- The lines of a trace boundary by boundary, and what is written of them.
 use Rattle.std.proofs.Common.{◌≡◌, ℕ, List, [], ◌∷◌, ◌++◌, Option, Some, None, Bool, true, false, refl, ap, sym, ◌∙◌, subst, append_assoc, append-nil}
-use Rattle.std.specs.Prelude.{if◌then◌else◌, filter, flat_map}
+use Rattle.std.specs.Prelude.{if◌then◌else◌, filter}
+use Rattle.std.proofs.lemmas.Grind.{flat_map-append}
 use Rattle.std.specs.Io.KnownBytes.{Appends}
 use Rattle.agc_machine.specs.Boundary.{boundary, upcoming_of}
 use Rattle.agc_machine.specs.State.{State}
 use Rattle.agc_trace.specs.Entry.{entry_of}
 use Rattle.agc_trace.specs.Line.{line_of}
-use Rattle.agc_trace.specs.Selection.{is_selected, selected_lines}
+use Rattle.agc_trace.specs.Selection.{is_selected, kept, last_of, lines_of, selected, selected_lines}
 use Rattle.agc_trace.specs.Trace.{is_stop, trace_of}
 use Rattle.agc_trace.specs.declared.entry.Entry.{Entry}
 use Rattle.agc_trace.specs.declared.selection.Selection.{Selection}
 use Rattle.agc_trace.proofs.Steps.{rest_ends, rest_goes_on, told_by, trace_by_entry}
 
-either_line : (b : Bool) (entry : Entry) (rest : List Entry) →
-    flat_map line_of (if b then entry ∷ rest else rest) ≡ flat_map line_of (if b then entry ∷ [] else []) ++ flat_map line_of rest
-either_line true entry rest = ap (λ (xs : List ℕ). xs ++ flat_map line_of rest) (sym (append-nil (line_of entry)))
-either_line false entry rest = refl
+either_entry : (b : Bool) (entry : Entry) (rest : List Entry) → (if b then entry ∷ rest else rest) ≡ (if b then entry ∷ [] else []) ++ rest
+either_entry true entry rest = refl
+either_entry false entry rest = refl
 
-no_line_by : (b : Bool) (entry : Entry) (rest : List Entry) → b ≡ false → flat_map line_of (if b then entry ∷ rest else rest) ≡ flat_map line_of rest
-no_line_by true entry rest e = cc
-no_line_by false entry rest e = refl
+no_entry_by : (b : Bool) (entry : Entry) (rest : List Entry) → b ≡ false → (if b then entry ∷ rest else rest) ≡ rest
+no_entry_by true entry rest e = cc
+no_entry_by false entry rest e = refl
+
+-- the lines of two lists, one after the other
+pub lines_of-append : (xs ys : List Entry) → lines_of (xs ++ ys) ≡ lines_of xs ++ lines_of ys
+unfolding lines_of
+lines_of-append xs ys = flat_map-append line_of xs ys
+
+pub lines_of-none : lines_of [] ≡ []
+unfolding lines_of
+lines_of-none = refl
+
+pub lines_of-cons : (entry : Entry) (entries : List Entry) → lines_of (entry ∷ entries) ≡ line_of entry ++ lines_of entries
+unfolding lines_of
+lines_of-cons entry entries = refl
 
 module _ (w : Selection) where
-  pub split_line : (entry : Entry) (entries : List Entry) → selected_lines w (entry ∷ entries) ≡ selected_lines w (entry ∷ []) ++ selected_lines w entries
+  split_entry : (entry : Entry) (entries : List Entry) → selected w (entry ∷ entries) ≡ selected w (entry ∷ []) ++ selected w entries
+  unfolding selected
+  split_entry entry entries = either_entry (is_selected w entry) entry (filter (is_selected w) entries)
+
+  pub no_entry : (entry : Entry) (entries : List Entry) → is_selected w entry ≡ false → selected w (entry ∷ entries) ≡ selected w entries
+  unfolding selected
+  no_entry entry entries e = no_entry_by (is_selected w entry) entry (filter (is_selected w) entries) e
+
+  -- the selected entries of a trace begin with that of its first boundary
+  pub entries_by_entry : (s : State) → is_stop (upcoming_of s) ≡ false →
+      selected w (trace_of s) ≡ selected w (entry_of s ∷ []) ++ selected w (trace_of (boundary None s).0)
+  entries_by_entry s f =
+      ap (λ (xs : List Entry). selected w xs) (trace_by_entry s)
+      ∙ ap (λ (xs : List Entry). selected w (entry_of s ∷ xs)) (rest_goes_on (is_stop (upcoming_of s)) (trace_of (boundary None s).0) f)
+      ∙ split_entry (entry_of s) (trace_of (boundary None s).0)
+
+  pub entries_at_stop : (s : State) → is_stop (upcoming_of s) ≡ true → selected w (trace_of s) ≡ selected w (entry_of s ∷ [])
+  entries_at_stop s f =
+      ap (λ (xs : List Entry). selected w xs) (trace_by_entry s)
+      ∙ ap (λ (xs : List Entry). selected w (entry_of s ∷ xs)) (rest_ends (is_stop (upcoming_of s)) (trace_of (boundary None s).0) f)
+
+  -- the same of a boundary that was told
+  pub entries_after : (s t : State) (entry : Entry) → entry ≡ entry_of s → t ≡ (boundary None s).0 → is_stop entry.happening ≡ false →
+      selected w (trace_of s) ≡ selected w (entry ∷ []) ++ selected w (trace_of t)
+  entries_after s t entry e f stop =
+      entries_by_entry s (told_by false s entry e stop)
+      ∙ ap (λ (x : Entry). selected w (x ∷ []) ++ selected w (trace_of (boundary None s).0)) (sym e)
+      ∙ ap (λ (u : State). selected w (entry ∷ []) ++ selected w (trace_of u)) (sym f)
+
+  pub entries_of_stop : (s : State) (entry : Entry) → entry ≡ entry_of s → is_stop entry.happening ≡ true →
+      selected w (trace_of s) ≡ selected w (entry ∷ [])
+  entries_of_stop s entry e stop = entries_at_stop s (told_by true s entry e stop) ∙ ap (λ (x : Entry). selected w (x ∷ [])) (sym e)
+
+  -- where no number of last lines is said, every selected entry has its line
+  pub all_lines : (xs ys : List Entry) → w.last ≡ None → selected w xs ≡ selected w ys → lines_of (selected w xs) ≡ selected_lines w ys
   unfolding selected_lines
-  split_line entry entries = either_line (is_selected w entry) entry (filter (is_selected w) entries)
+  all_lines xs ys e f =
+      ap (λ (zs : List Entry). lines_of zs) (f ∙ ap (λ (o : Option ℕ). kept o (selected w ys)) (sym e))
 
-  pub no_line : (entry : Entry) (entries : List Entry) → is_selected w entry ≡ false → selected_lines w (entry ∷ entries) ≡ selected_lines w entries
+  pub last_lines : (most : ℕ) (xs ys : List Entry) → w.last ≡ Some most → selected w xs ≡ selected w ys →
+      lines_of (last_of most (selected w xs)) ≡ selected_lines w ys
   unfolding selected_lines
-  no_line entry entries e = no_line_by (is_selected w entry) entry (filter (is_selected w) entries) e
-
-  -- the lines of a trace begin with that of its first boundary
-  pub lines_by_entry : (s : State) → is_stop (upcoming_of s) ≡ false →
-      selected_lines w (trace_of s) ≡ selected_lines w (entry_of s ∷ []) ++ selected_lines w (trace_of (boundary None s).0)
-  lines_by_entry s f =
-      ap (λ (xs : List Entry). selected_lines w xs) (trace_by_entry s)
-      ∙ ap (λ (xs : List Entry). selected_lines w (entry_of s ∷ xs)) (rest_goes_on (is_stop (upcoming_of s)) (trace_of (boundary None s).0) f)
-      ∙ split_line (entry_of s) (trace_of (boundary None s).0)
-
-  pub lines_at_stop : (s : State) → is_stop (upcoming_of s) ≡ true → selected_lines w (trace_of s) ≡ selected_lines w (entry_of s ∷ [])
-  lines_at_stop s f =
-      ap (λ (xs : List Entry). selected_lines w xs) (trace_by_entry s)
-      ∙ ap (λ (xs : List Entry). selected_lines w (entry_of s ∷ xs)) (rest_ends (is_stop (upcoming_of s)) (trace_of (boundary None s).0) f)
+  last_lines most xs ys e f =
+      ap (λ (zs : List Entry). lines_of zs) (ap (λ (zs : List Entry). last_of most zs) f ∙ ap (λ (o : Option ℕ). kept o (selected w ys)) (sym e))
 
 -- what a writer took since a start, and what is left of the whole
 abbrev pub IsWritten : Option (List ℕ) → Option (List ℕ) → List ℕ → List ℕ → Type 0
@@ -65,27 +102,28 @@ pub written_whole : (start now : Option (List ℕ)) (left whole : List ℕ) → 
 written_whole start now left whole e h =
     subst (λ (xs : List ℕ). Appends start now xs) (sym (append-nil h.0) ∙ ap (λ (xs : List ℕ). h.0 ++ xs) (sym e) ∙ h.2) h.1
 
+-- one more line is written
+pub written_more : (start now new : Option (List ℕ)) (line left whole : List ℕ) → IsWritten start now (line ++ left) whole → Appends now new line →
+    IsWritten start new left whole
+written_more start now new line left whole h k =
+    (h.0 ++ line, appends_more start now new h.0 line h.1 k, append_assoc h.0 line left ∙ h.2)
+
 -- one more line is written, and what is left is that of the next boundary's trace
 pub line_written : (w : Selection) (start now new : Option (List ℕ)) (s t : State) (entry : Entry) (whole : List ℕ) →
     entry ≡ entry_of s → t ≡ (boundary None s).0 → is_stop entry.happening ≡ false →
-    IsWritten start now (selected_lines w (trace_of s)) whole → Appends now new (selected_lines w (entry ∷ [])) →
-    IsWritten start new (selected_lines w (trace_of t)) whole
+    IsWritten start now (lines_of (selected w (trace_of s))) whole → Appends now new (lines_of (selected w (entry ∷ []))) →
+    IsWritten start new (lines_of (selected w (trace_of t))) whole
 line_written w start now new s t entry whole e f stop h k =
-    let line = selected_lines w (entry ∷ []) in
-    let left = selected_lines w (trace_of t) in
-    let next : selected_lines w (trace_of s) ≡ line ++ left =
-    lines_by_entry w s (told_by false s entry e stop)
-    ∙ ap (λ (x : Entry). selected_lines w (x ∷ []) ++ selected_lines w (trace_of (boundary None s).0)) (sym e)
-    ∙ ap (λ (u : State). selected_lines w (entry ∷ []) ++ selected_lines w (trace_of u)) (sym f) in
-    (h.0 ++ line, appends_more start now new h.0 line h.1 k, append_assoc h.0 line left ∙ ap (λ (xs : List ℕ). h.0 ++ xs) (sym next) ∙ h.2)
+    let next = ap (λ (xs : List Entry). lines_of xs) (entries_after w s t entry e f stop) ∙ lines_of-append (selected w (entry ∷ [])) (selected w (trace_of t)) in
+    written_more start now new (lines_of (selected w (entry ∷ []))) (lines_of (selected w (trace_of t))) whole
+    (subst (λ (xs : List ℕ). IsWritten start now xs whole) next h) k
 
 -- the last line is written
 pub all_written : (w : Selection) (start now new : Option (List ℕ)) (s : State) (entry : Entry) (whole : List ℕ) →
     entry ≡ entry_of s → is_stop entry.happening ≡ true →
-    IsWritten start now (selected_lines w (trace_of s)) whole → Appends now new (selected_lines w (entry ∷ [])) →
+    IsWritten start now (lines_of (selected w (trace_of s))) whole → Appends now new (lines_of (selected w (entry ∷ []))) →
     Appends start new whole
 all_written w start now new s entry whole e stop h k =
-    let line = selected_lines w (entry ∷ []) in
-    let last : selected_lines w (trace_of s) ≡ line =
-    lines_at_stop w s (told_by true s entry e stop) ∙ ap (λ (x : Entry). selected_lines w (x ∷ [])) (sym e) in
+    let line = lines_of (selected w (entry ∷ [])) in
+    let last : lines_of (selected w (trace_of s)) ≡ line = ap (λ (xs : List Entry). lines_of xs) (entries_of_stop w s entry e stop) in
     subst (λ (xs : List ℕ). Appends start new xs) (ap (λ (xs : List ℕ). h.0 ++ xs) (sym last) ∙ h.2) (appends_more start now new h.0 line h.1 k)

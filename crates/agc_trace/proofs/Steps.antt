@@ -82,7 +82,7 @@ pub rest_ends : (b : Bool) (xs : List Entry) → b ≡ true → (if b then [] el
 rest_ends true xs e = refl
 rest_ends false xs e = cc
 
-tells : (s : State) → (entry_of s).happening ≡ upcoming_of s
+pub tells : (s : State) → (entry_of s).happening ≡ upcoming_of s
 unfolding entry_of
 tells s = refl
 

@@ -1,17 +1,27 @@
 -- Which boundaries of a run have a line: those that begin in a range of cycles, all of them or
--- those of one kind.
-use Rattle.std.specs.Prelude.{ℕ, ◌+◌, ◌%◌, ◌==◌, ◌&&◌, ◌||◌, not, Bool, true, false, nat_le}
-use Rattle.std.specs.Prelude.{List, filter, flat_map, Option, Some, None, is_some}
+-- those that answer each question that is asked, and the stop; of these the last so many, or all.
+use Rattle.std.specs.Prelude.{ℕ, ◌+◌, ◌-◌, ◌%◌, ◌==◌, ◌&&◌, ◌||◌, not, Bool, true, false, nat_le}
+use Rattle.std.specs.Prelude.{List, drop, length, filter, flat_map, string_bytes}
+use Rattle.std.specs.Prelude.{Option, Some, None, is_some, if◌then◌else◌}
+use Rattle.std.specs.List.{list_any}
+use Rattle.std.specs.Str.{bytes_eq}
 use Rattle.agc_word.specs.Number.{pattern_of}
-use Rattle.agc_order.specs.Order.{basic_of}
+use Rattle.agc_order.specs.Order.{basic_of, extracode_of}
+use Rattle.agc_order.specs.Row.{basic_row, extracode_row}
 use Rattle.agc_order.specs.declared.order.Basic.{Basic}
 use Rattle.agc_order.specs.declared.order.Basic.TheVariants as basic
+use Rattle.agc_order.specs.declared.order.Extracode.{Extracode}
+use Rattle.agc_order.specs.declared.order.Extracode.TheVariants as extra
+use Rattle.agc_source_words.specs.Location.{location_at}
+use Rattle.agc_machine.specs.declared.upcoming.InHand.{InHand}
 use Rattle.agc_machine.specs.declared.upcoming.Upcoming.{Upcoming}
 use Rattle.agc_machine.specs.declared.upcoming.Upcoming.TheVariants as upcoming
 use Rattle.agc_trace.specs.Line.{line_of}
+use Rattle.agc_trace.specs.Places.{has_place}
 use Rattle.agc_trace.specs.Trace.{is_stop}
 use Rattle.agc_trace.specs.declared.entry.Entry.{Entry}
 use Rattle.agc_trace.specs.declared.entry.Registers.{Registers}
+use Rattle.agc_trace.specs.declared.places.Places.{Places}
 use Rattle.agc_trace.specs.declared.selection.Only.{Only}
 use Rattle.agc_trace.specs.declared.selection.Only.TheVariants as only
 use Rattle.agc_trace.specs.declared.selection.Selection.{Selection}
@@ -21,11 +31,13 @@ abbrev pub is_resume : Basic → Bool
 is_resume basic.Resume = true
 is_resume _ = false
 
+abbrev pub ends_service : InHand → Bool
+ends_service order = not order.extracode && is_resume (basic_of (pattern_of 15 order.word))
+
 -- an interrupt, or RESUME
 abbrev pub is_interrupt : Upcoming → Bool
 is_interrupt (upcoming.Interrupt r) = true
-is_interrupt (upcoming.Order order) =
-    not order.extracode && is_resume (basic_of (pattern_of 15 order.word))
+is_interrupt (upcoming.Order order) = ends_service order
 is_interrupt (upcoming.Stop why) = false
 is_interrupt (upcoming.Event what) = false
 is_interrupt (upcoming.Timer t) = false
@@ -49,18 +61,91 @@ is_of_kind only.Writes entry = is_some entry.write
 is_of_kind only.Interrupts entry = is_interrupt entry.happening
 is_of_kind only.Jumps entry = is_jump entry.happening entry.registers
 
--- where one kind is asked for, the entries of that kind are kept, and the stop
-abbrev pub is_kept : Option Only → Entry → Bool
-is_kept None entry = true
-is_kept (Some kind) entry = is_of_kind kind entry || is_stop entry.happening
+-- where no kind is asked for, any will do
+abbrev pub is_of_kinds : Option Only → Entry → Bool
+is_of_kinds None entry = true
+is_of_kinds (Some kind) entry = is_of_kind kind entry
+
+-- an order that stands at one of these places
+abbrev pub runs_at : Places → Upcoming → Bool
+runs_at places (upcoming.Order order) = has_place places (location_at order.bank order.address)
+runs_at places (upcoming.Stop why) = false
+runs_at places (upcoming.Event what) = false
+runs_at places (upcoming.Timer t) = false
+runs_at places (upcoming.Interrupt r) = false
+
+-- the mnemonic by which a line names an order
+abbrev pub mnemonic_of : InHand → List ℕ
+mnemonic_of order =
+    if order.extracode
+    then (extracode_row (extracode_of (pattern_of 15 order.word))).mnemonic
+    else (basic_row (basic_of (pattern_of 15 order.word))).mnemonic
+
+-- an order of this mnemonic
+abbrev pub is_called : List ℕ → Upcoming → Bool
+is_called name (upcoming.Order order) = bytes_eq (mnemonic_of order) name
+is_called name (upcoming.Stop why) = false
+is_called name (upcoming.Event what) = false
+is_called name (upcoming.Timer t) = false
+is_called name (upcoming.Interrupt r) = false
+
+-- READ, WRITE, RAND, WAND, ROR, WOR and RXOR, the orders that read or write a channel
+abbrev pub is_channel_order : Extracode → Bool
+is_channel_order extra.Read = true
+is_channel_order extra.Write = true
+is_channel_order extra.Rand = true
+is_channel_order extra.Wand = true
+is_channel_order extra.Ror = true
+is_channel_order extra.Wor = true
+is_channel_order extra.Rxor = true
+is_channel_order _ = false
+
+-- an order that reads or writes this channel
+abbrev pub touches : ℕ → Upcoming → Bool
+touches channel (upcoming.Order order) =
+    order.extracode && is_channel_order (extracode_of (pattern_of 15 order.word))
+    && (pattern_of 15 order.word % 0o1000 == channel)
+touches channel (upcoming.Stop why) = false
+touches channel (upcoming.Event what) = false
+touches channel (upcoming.Timer t) = false
+touches channel (upcoming.Interrupt r) = false
+
+-- what one of several asks for; where none is said, anything will do
+abbrev pub is_asked : {A : Type 0} → (A → Bool) → List A → Bool
+is_asked test several = (length several == 0) || list_any test several
+
+-- an entry that answers every question
+abbrev pub is_answer : Selection → Entry → Bool
+is_answer s entry =
+    is_of_kinds s.only entry && is_asked (λ places. runs_at places entry.happening) s.places.items
+    && is_asked (λ name. is_called (string_bytes name) entry.happening) s.orders.items
+    && is_asked (λ channel. touches channel entry.happening) s.channels.items
 
 -- an entry whose boundary begins at a cycle of a range
 abbrev pub is_between : ℕ → ℕ → Entry → Bool
 is_between from to entry = nat_le from entry.cycle && nat_le entry.cycle to
 
+-- in the range the answers have a line, and the stop, which says why nothing more comes
 unfoldable pub is_selected : Selection → Entry → Bool
-is_selected s entry = is_between s.from s.to entry && is_kept s.only entry
+is_selected s entry =
+    is_between s.from s.to entry && (is_stop entry.happening || is_answer s entry)
 
--- the lines of the entries that are selected
+-- the entries that are selected
+unfoldable pub selected : Selection → List Entry → List Entry
+selected s entries = filter (is_selected s) entries
+
+-- the last so many of several, or all where there are no more
+abbrev pub last_of : {A : Type 0} → ℕ → List A → List A
+last_of most several = drop (length several - most) several
+
+-- the last so many, where a number is said
+abbrev pub kept : Option ℕ → List Entry → List Entry
+kept None entries = entries
+kept (Some most) entries = last_of most entries
+
+unfoldable pub lines_of : List Entry → List ℕ
+lines_of entries = flat_map line_of entries
+
+-- the lines of the entries that are selected, or of the last so many of them
 unfoldable pub selected_lines : Selection → List Entry → List ℕ
-selected_lines s entries = flat_map line_of (filter (is_selected s) entries)
+selected_lines s entries = lines_of (kept s.last (selected s entries))

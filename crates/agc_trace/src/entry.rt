@@ -79,7 +79,7 @@ fn write_shown(stepped: Stepped) -> Option<ChannelWrite>
 
 /// The registers of a memory.
 #[tactic(auto, unfolding(crate::specs::Entry::registers_of))]
-fn registers_in(store: &Store) -> Registers
+pub fn registers_in(store: &Store) -> Registers
     ensures registers { result ≡ registers_of store.now }
     ensures erasable { result.erasable_bank < 0o10 }
     ensures fixed { result.fixed_bank < 0o100 }

@@ -2,12 +2,17 @@
 #![tactic(auto)]
 
 mod entry;
+mod last;
 pub mod laws;
 mod line;
+mod places;
 mod selection;
+mod service;
 mod tracing;
 
-pub use entry::{Entry, Registers, next_entry};
-pub use line::{push_line, reason_name};
+pub use entry::{Entry, Registers, next_entry, registers_in};
+pub use line::{push_happening, push_line, push_registers};
+pub use places::{Places, PlacesFault};
 pub use selection::{Only, Selection};
+pub use service::Service;
 pub use tracing::{TraceFault, trace};

@@ -3,29 +3,22 @@ ghost use Rattle.std.specs.Prelude.{◌≡◌, ◌++◌, ◌<◌, OnOk, codes, s
 ghost use Rattle.agc_store.specs.Places.{fixed_window};
 ghost use Rattle.agc_machine.specs.Boundary.{HasPlace};
 ghost use Rattle.agc_rope_text.specs.Place.{IsInPrint};
+ghost use Rattle.agc_script.specs.Written.{word_digits};
 ghost use Rattle.agc_trace.specs.Entry.{FitsLine, FitsWrite};
 ghost use Rattle.agc_trace.specs.Line.{
-  event_text,
   happening_text,
-  interrupt_name,
   line_of,
   order_place,
-  pro_name,
-  pulse_name,
-  reason_name,
   registers_text,
   shown_text,
-  timer_name,
-  word_digits,
 };
 
 use crate::entry::{Entry, Registers};
-use agc_machine::{ChannelWrite, InHand, Stop, Upcoming};
-use agc_processor::{Rupt, Timer};
+use agc_machine::{ChannelWrite, InHand, Upcoming};
 use agc_rope_text::{Place, push_order, push_place};
-use agc_script::What;
+use agc_script::push_what;
 use agc_store::Addr;
-use agc_word::{Narrow, Pulse};
+use agc_word::Narrow;
 use std::alloc::AllocError;
 
 /// Adds the line of an entry: `CYCLE PLACE WORD ORDER operand | A .. FB ff`, with ` > ccc vvvvv`
@@ -45,9 +38,10 @@ pub fn push_line(text: &mut String, entry: &Entry) -> Result<(), AllocError>
     text.push_str("\n")
 }
 
-/// Adds what happened.
+/// Adds what happened, or will: an order with its place and its word, or after a dash anything else. Fails
+/// where memory runs out.
 #[tactic(auto, unfolding(crate::specs::Line::happening_text))]
-fn push_happening(text: &mut String, happening: Upcoming) -> Result<(), AllocError>
+pub fn push_happening(text: &mut String, happening: Upcoming) -> Result<(), AllocError>
     requires { HasPlace happening }
     ensures { OnOk result
         (string_bytes text.new ≡ string_bytes text.old ++ happening_text happening) }
@@ -56,19 +50,19 @@ fn push_happening(text: &mut String, happening: Upcoming) -> Result<(), AllocErr
         Upcoming::Order(order) => push_in_hand(text, order),
         Upcoming::Event(what) => {
             text.push_str("- event ")?;
-            push_event(text, what)
+            push_what(text, what)
         }
         Upcoming::Timer(timer) => {
             text.push_str("- timer ")?;
-            text.push_str(timer_name(timer))
+            text.push_str(timer.name())
         }
         Upcoming::Interrupt(rupt) => {
             text.push_str("- interrupt ")?;
-            text.push_str(interrupt_name(rupt))
+            text.push_str(rupt.name())
         }
         Upcoming::Stop(why) => {
             text.push_str("- stop ")?;
-            text.push_str(reason_name(why))
+            text.push_str(why.name())
         }
     }
 }
@@ -115,34 +109,6 @@ fn order_place(bank: u8, address: Addr) -> Place
     }
 }
 
-/// Adds an event as a script names it.
-#[tactic(auto, unfolding(crate::specs::Line::event_text))]
-fn push_event(text: &mut String, what: What) -> Result<(), AllocError>
-    ensures { OnOk result (string_bytes text.new ≡ string_bytes text.old ++ event_text what) }
-{
-    match what {
-        What::Key(key) => {
-            text.push_str("key ")?;
-            text.push_str(key.name())
-        }
-        What::Pro(down) => {
-            text.push_str("pro ")?;
-            text.push_str(pro_name(down))
-        }
-        What::Input { channel, value } => write!(text, "input {channel:o} {value}"),
-        What::Pulse { counter, kind } => {
-            write!(text, "pulse {counter:o} ")?;
-            text.push_str(pulse_name(kind))
-        }
-        What::Raise(number) => write!(text, "raise {number}"),
-        What::Poke {
-            bank,
-            offset,
-            value,
-        } => write!(text, "poke {bank:o} {offset:o} {value}"),
-    }
-}
-
 /// Adds a channel write, where there is one.
 fn push_write(text: &mut String, write: Option<ChannelWrite>) -> Result<(), AllocError>
     requires { FitsWrite write }
@@ -158,9 +124,9 @@ fn push_write(text: &mut String, write: Option<ChannelWrite>) -> Result<(), Allo
     }
 }
 
-/// Adds the registers.
+/// Adds the registers: `A aaaaaa L lllll Q qqqqqq Z zzzz EB e FB ff`. Fails where memory runs out.
 #[tactic(auto, unfolding(crate::specs::Line::registers_text))]
-fn push_registers(text: &mut String, registers: Registers) -> Result<(), AllocError>
+pub fn push_registers(text: &mut String, registers: Registers) -> Result<(), AllocError>
     requires erasable { registers.erasable_bank < 0o10 }
     requires fixed { registers.fixed_bank < 0o100 }
     ensures { OnOk result
@@ -179,69 +145,4 @@ fn push_registers(text: &mut String, registers: Registers) -> Result<(), AllocEr
         text,
         "A {a} L {l} Q {q} Z {z:04o} EB {erasable_bank:01o} FB {fixed_bank:02o}"
     )
-}
-
-/// The name of a stop: `Limit`, `DivisionUndefined`, `Edrupt` or `Reached`.
-pub fn reason_name(why: Stop) -> &'static str
-    ensures { result.now ≡ reason_name why }
-{
-    match why {
-        Stop::Limit => "Limit",
-        Stop::DivisionUndefined => "DivisionUndefined",
-        Stop::Edrupt => "Edrupt",
-        Stop::Reached => "Reached",
-    }
-}
-
-/// The name of a timer.
-fn timer_name(timer: Timer) -> &'static str
-    ensures { result.now ≡ timer_name timer }
-{
-    match timer {
-        Timer::Time1 => "TIME1",
-        Timer::Time3 => "TIME3",
-        Timer::Time4 => "TIME4",
-        Timer::Time5 => "TIME5",
-        Timer::Time6 => "TIME6",
-    }
-}
-
-/// The name of an interrupt.
-fn interrupt_name(rupt: Rupt) -> &'static str
-    ensures { result.now ≡ interrupt_name rupt }
-{
-    match rupt {
-        Rupt::T6rupt => "T6RUPT",
-        Rupt::T5rupt => "T5RUPT",
-        Rupt::T3rupt => "T3RUPT",
-        Rupt::T4rupt => "T4RUPT",
-        Rupt::Keyrupt1 => "KEYRUPT1",
-        Rupt::Keyrupt2 => "KEYRUPT2",
-        Rupt::Uprupt => "UPRUPT",
-        Rupt::Downrupt => "DOWNRUPT",
-        Rupt::Radarupt => "RADARUPT",
-        Rupt::Rupt10 => "RUPT10",
-    }
-}
-
-/// A pulse as scripts name it.
-fn pulse_name(kind: Pulse) -> &'static str
-    ensures { result.now ≡ pulse_name kind }
-{
-    match kind {
-        Pulse::Pinc => "pinc",
-        Pulse::Minc => "minc",
-        Pulse::Dinc => "dinc",
-        Pulse::Pcdu => "pcdu",
-        Pulse::Mcdu => "mcdu",
-        Pulse::Shinc => "shinc",
-        Pulse::Shanc => "shanc",
-    }
-}
-
-/// The direction of the PRO key, as scripts name it.
-fn pro_name(down: bool) -> &'static str
-    ensures { result.now ≡ pro_name down }
-{
-    if down { "down" } else { "up" }
 }

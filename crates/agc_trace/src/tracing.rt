@@ -1,14 +1,18 @@
 //! The trace of a run, written line by line: memory does not grow with the run.
-ghost use Rattle.std.specs.Prelude.{◌≡◌, [], ◌∷◌, OnOk};
-ghost use Rattle.std.specs.Io.KnownBytes.{Appends};
+ghost use Rattle.std.specs.Prelude.{◌≡◌, [], ◌∷◌, OnOk, IfOk, IfErr};
+ghost use Rattle.std.specs.Io.KnownBytes.{Appends, Keeps};
+ghost use Rattle.agc_trace.specs.Cut.{IsCut};
 ghost use Rattle.agc_trace.specs.Entry.{FitsLine};
 ghost use Rattle.agc_trace.specs.Line.{line_of};
-ghost use Rattle.agc_trace.specs.Selection.{selected_lines};
+ghost use Rattle.agc_trace.specs.Selection.{last_of, lines_of, selected, selected_lines};
+ghost use Rattle.agc_trace.specs.Service.{service_left};
 ghost use Rattle.agc_trace.specs.Trace.{trace_of};
 
 use crate::entry::{Entry, next_entry};
+use crate::last::write_last;
 use crate::line::push_line;
 use crate::selection::Selection;
+use crate::service::{Service, service_after};
 use agc_machine::{Machine, Stepped};
 use agc_progress::{Progress, tell_at};
 use std::alloc::Global;
@@ -25,25 +29,34 @@ pub enum TraceFault {
 }
 
 /// Runs a machine, and writes the line of each boundary that is selected. The run goes to its stop, or
-/// as far as such a boundary may come: past the last cycle that is selected there is none.
+/// as far as such a boundary may come: past the last cycle that is selected there is none. At the stop the
+/// service is returned that an interrupt has begun in the range of cycles, and no RESUME has ended.
 pub fn trace<W: Write, P: Progress>(
     alloc: Global,
     machine: &mut Machine,
-    selection: Selection,
+    selection: &Selection,
     out: &mut W,
     progress: &mut P,
-) -> Result<(), TraceFault>
-    ensures { OnOk result (Appends (W.contents out.old) (W.contents out.new)
-        (selected_lines selection (trace_of machine.old))) }
+) -> Result<Option<Service>, TraceFault>
+    ensures lines { OnOk result (Appends (W.contents out.old) (W.contents out.new)
+        (selected_lines selection.now (trace_of machine.old))) }
+    ensures service { IfOk result (λ left. left ≡ service_left selection.now (trace_of machine.old)) }
+    ensures cut { IfErr result (λ why. IsCut why (W.contents out.old) (W.contents out.new)
+        (selected_lines selection.now (trace_of machine.old))) }
 {
     go_to_first(machine, selection, progress);
-    write_lines(alloc, machine, selection, out, progress)
+    match selection.last {
+        None => write_lines(alloc, machine, selection, out, progress),
+        Some(most) => write_last(alloc, machine, selection, most, out, progress),
+    }
 }
 
 /// Runs a machine to the first cycle that is selected, or to its stop where that comes before.
-fn go_to_first<P: Progress>(machine: &mut Machine, selection: Selection, progress: &mut P)
-    ensures { selected_lines selection (trace_of machine.new)
-        ≡ selected_lines selection (trace_of machine.old) }
+fn go_to_first<P: Progress>(machine: &mut Machine, selection: &Selection, progress: &mut P)
+    ensures entries { selected selection.now (trace_of machine.new)
+        ≡ selected selection.now (trace_of machine.old) }
+    ensures service { service_left selection.now (trace_of machine.new)
+        ≡ service_left selection.now (trace_of machine.old) }
 {
     let mut mark = 0;
     while machine.cycle() < selection.from {
@@ -59,36 +72,43 @@ fn go_to_first<P: Progress>(machine: &mut Machine, selection: Selection, progres
 fn write_lines<W: Write, P: Progress>(
     alloc: Global,
     machine: &mut Machine,
-    selection: Selection,
+    selection: &Selection,
     out: &mut W,
     progress: &mut P,
-) -> Result<(), TraceFault>
-    ensures { OnOk result (Appends (W.contents out.old) (W.contents out.new)
-        (selected_lines selection (trace_of machine.old))) }
+) -> Result<Option<Service>, TraceFault>
+    ensures lines { OnOk result (Appends (W.contents out.old) (W.contents out.new)
+        (lines_of (selected selection.now (trace_of machine.old)))) }
+    ensures service { IfOk result (λ left. left ≡ service_left selection.now (trace_of machine.old)) }
+    ensures cut { IfErr result (λ why. IsCut why (W.contents out.old) (W.contents out.new)
+        (lines_of (selected selection.now (trace_of machine.old)))) }
 {
     let mut mark = 0;
+    let mut service = None;
     while machine.cycle() <= selection.to {
         let entry = next_entry(machine);
         write_selected(alloc, selection, &entry, out)?;
         if entry.is_stop() {
-            return Ok(());
+            return Ok(service);
         }
+        service = service_after(selection, service, &entry);
         mark = tell_at(mark, entry.cycle, progress);
     }
-    Ok(())
+    Ok(None)
 }
 
 /// Writes the line of an entry, where it is selected.
-#[tactic(auto, unfolding(crate::specs::Selection::selected_lines))]
+#[tactic(auto, unfolding(crate::specs::Selection::lines_of, crate::specs::Selection::selected))]
 fn write_selected<W: Write>(
     alloc: Global,
-    selection: Selection,
+    selection: &Selection,
     entry: &Entry,
     out: &mut W,
 ) -> Result<(), TraceFault>
     requires { FitsLine entry.now }
-    ensures { OnOk result (Appends (W.contents out.old) (W.contents out.new)
-        (selected_lines selection (entry.now ∷ []))) }
+    ensures line { OnOk result (Appends (W.contents out.old) (W.contents out.new)
+        (lines_of (selected selection.now (entry.now ∷ [])))) }
+    ensures kept { IfErr result (λ why. why ≡ TraceFault.Memory
+        → Keeps (W.contents out.old) (W.contents out.new)) }
 {
     if selection.takes(entry) {
         write_line(alloc, entry, out)
@@ -98,9 +118,16 @@ fn write_selected<W: Write>(
 }
 
 /// Writes the line of an entry.
-fn write_line<W: Write>(alloc: Global, entry: &Entry, out: &mut W) -> Result<(), TraceFault>
+pub(crate) fn write_line<W: Write>(
+    alloc: Global,
+    entry: &Entry,
+    out: &mut W,
+) -> Result<(), TraceFault>
     requires { FitsLine entry.now }
-    ensures { OnOk result (Appends (W.contents out.old) (W.contents out.new) (line_of entry.now)) }
+    ensures line { OnOk result
+        (Appends (W.contents out.old) (W.contents out.new) (line_of entry.now)) }
+    ensures kept { IfErr result (λ why. why ≡ TraceFault.Memory
+        → Keeps (W.contents out.old) (W.contents out.new)) }
 {
     let mut line = String::new(alloc);
     if push_line(&mut line, entry).is_err() {

@@ -45,10 +45,14 @@ fn a_trace_tells_how_far_it_has_come(rt: HostRuntime) -> Result<(), Fail> {
         from: 1_100_000,
         to: 1_100_010,
         only: None,
+        places: Vec::new(rt.alloc()),
+        orders: Vec::new(rt.alloc()),
+        channels: Vec::new(rt.alloc()),
+        last: None,
     };
     let mut told = Told::default();
     let mut out = Vec::new(rt.alloc());
-    trace(rt.alloc(), &mut machine, selection, &mut out, &mut told)?;
+    trace(rt.alloc(), &mut machine, &selection, &mut out, &mut told)?;
     assert_eq!(rt; told.times, 3);
     assert_eq!(rt; told.cycle, 1_100_000);
     assert_eq!(rt; told.sum, 2_100_000);

@@ -181,10 +181,10 @@ fn a_rope_is_listed(rt: HostRuntime) -> Result<(), Fail> {
 fn a_text_is_woven(rt: HostRuntime) -> Result<(), Fail> {
     let alloc = rt.alloc();
     let mut text: &[u8] = b"4000 34004 CA 4004";
-    let file = weave_text(alloc, RopeForm::Classic, &mut text)
+    let woven = weave_text(alloc, RopeForm::Classic, &mut text)
         .ok()
         .ok_or("a file")?;
-    assert!(rt; file.as_slice() == [0x70, 0x08].as_slice());
+    assert!(rt; woven.bytes.as_slice() == [0x70, 0x08].as_slice());
     let mut faulty: &[u8] = b"4000 34004\n4001";
     let refused = weave_text(alloc, RopeForm::Classic, &mut faulty);
     assert_eq!(rt;

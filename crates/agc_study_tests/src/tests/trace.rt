@@ -1,12 +1,31 @@
 //! Traces of small programs, worked out by hand.
 use agc_listing::rope_file;
 use agc_machine::Machine;
+use agc_processor::Rupt;
 use agc_progress::Untold;
 use agc_script::Script;
-use agc_store::Rope;
-use agc_trace::{Only, Selection, trace};
+use agc_source_words::{Location, location_at};
+use agc_store::{Addr, Rope};
+use agc_trace::{Only, Places, PlacesFault, Selection, Service, trace};
 use std::process::Abort;
 use std::test::Fail;
+
+/// The machine of a listing and a script at the start of its run.
+fn machine_of(
+    rt: &(impl AllocGlobal + Abort),
+    listing: &str,
+    script: &str,
+    limit: u64,
+) -> Result<Machine, Fail> {
+    let bytes = rope_file(rt.alloc(), listing)?;
+    let rope = Rope::read(rt.alloc(), bytes.as_slice())?;
+    let script = Script::parse(rt.alloc(), script.as_bytes())?;
+    Ok(
+        Machine::new(rope, script, limit)
+            .ok()
+            .expect(rt, "the limit is in range"),
+    )
+}
 
 /// What is selected of the trace of a run of a listing.
 fn traced(
@@ -14,21 +33,24 @@ fn traced(
     listing: &str,
     script: &str,
     limit: u64,
-    selection: Selection,
+    selection: &Selection,
 ) -> Result<String, Fail> {
-    let bytes = rope_file(rt.alloc(), listing)?;
-    let rope = Rope::read(rt.alloc(), bytes.as_slice())?;
-    let script = Script::parse(rt.alloc(), script.as_bytes())?;
-    let mut machine = Machine::new(rope, script, limit)
-        .ok()
-        .expect(rt, "the limit is in range");
+    let mut machine = machine_of(rt, listing, script, limit)?;
     let mut out = Vec::new(rt.alloc());
     trace(rt.alloc(), &mut machine, selection, &mut out, &mut Untold)?;
     Ok(String::from_utf8(out).ok().expect(rt, "a text"))
 }
 
-fn between(from: u64, to: u64, only: Option<Only>) -> Selection {
-    Selection { from, to, only }
+fn between(rt: &impl AllocGlobal, from: u64, to: u64, only: Option<Only>) -> Selection {
+    Selection {
+        from,
+        to,
+        only,
+        places: Vec::new(rt.alloc()),
+        orders: Vec::new(rt.alloc()),
+        channels: Vec::new(rt.alloc()),
+        last: None,
+    }
 }
 
 /// Writes one word, and waits.
@@ -43,7 +65,7 @@ static TEN_BYTES: &str = "
 /// CA 4004, EXTEND, WRITE 10 and TCF 4003 from 0, 2, 3 and 5 on; the limit stops at 10.
 #[test]
 fn ten_bytes(rt: HostRuntime) -> Result<(), Fail> {
-    let text = traced(&rt, TEN_BYTES, "", 10, between(0, 10, None))?;
+    let text = traced(&rt, TEN_BYTES, "", 10, &between(&rt, 0, 10, None))?;
     let mut lines = text.as_str().lines();
     for line in [
         "0 4000 34004 CA 4004 | A 154171 L 00000 Q 000000 Z 4002 EB 0 FB 00",
@@ -65,17 +87,154 @@ fn ten_bytes(rt: HostRuntime) -> Result<(), Fail> {
 /// Of the same run the order that writes, and the orders that jump; the stop stands with both.
 #[test]
 fn writes_and_jumps(rt: HostRuntime) -> Result<(), Fail> {
-    let text = traced(&rt, TEN_BYTES, "", 10, between(0, 10, Some(Only::Writes)))?;
+    let text = traced(
+        &rt,
+        TEN_BYTES,
+        "",
+        10,
+        &between(&rt, 0, 10, Some(Only::Writes)),
+    )?;
     assert_eq!(rt;
         text.as_str(),
         "3 4002 01010 WRITE 010 > 010 54171 | A 154171 L 00000 Q 000000 Z 4004 EB 0 FB 00\n10 - stop Limit | A 154171 L 00000 Q 000000 Z 4004 EB 0 FB 00\n"
     );
-    let text = traced(&rt, TEN_BYTES, "", 10, between(0, 6, Some(Only::Jumps)))?;
+    let text = traced(
+        &rt,
+        TEN_BYTES,
+        "",
+        10,
+        &between(&rt, 0, 6, Some(Only::Jumps)),
+    )?;
     assert_eq!(rt;
         text.as_str(),
         "5 4003 14003 TCF 4003 | A 154171 L 00000 Q 000000 Z 4004 EB 0 FB 00\n6 4003 14003 TCF 4003 | A 154171 L 00000 Q 000000 Z 4004 EB 0 FB 00\n"
     );
     Ok(())
+}
+
+/// Of the same run the orders at two places, and then those of them that are called EXTEND. The places are named by
+/// their bank, where the lines have four digits.
+#[test]
+fn orders_at_places(rt: HostRuntime) -> Result<(), Fail> {
+    let extend = "2 4001 00006 EXTEND | A 154171 L 00000 Q 000000 Z 4003 EB 0 FB 00\n";
+    let write =
+        "3 4002 01010 WRITE 010 > 010 54171 | A 154171 L 00000 Q 000000 Z 4004 EB 0 FB 00\n";
+    let stop = "10 - stop Limit | A 154171 L 00000 Q 000000 Z 4004 EB 0 FB 00\n";
+    let mut selection = between(&rt, 0, 10, None);
+    let places = Places::named(b"02,4001-4002").ok().ok_or("places")?;
+    selection.places.push(places)?;
+    let text = traced(&rt, TEN_BYTES, "", 10, &selection)?;
+    let wanted = format!(in rt.alloc(); "{extend}{write}{stop}")?;
+    assert_eq!(rt; text.as_str(), wanted.as_str());
+    selection.orders.push("TCF".to_string(rt.alloc())?)?;
+    let text = traced(&rt, TEN_BYTES, "", 10, &selection)?;
+    assert_eq!(rt; text.as_str(), stop);
+    selection.orders.push("EXTEND".to_string(rt.alloc())?)?;
+    let text = traced(&rt, TEN_BYTES, "", 10, &selection)?;
+    let wanted = format!(in rt.alloc(); "{extend}{stop}")?;
+    assert_eq!(rt; text.as_str(), wanted.as_str());
+    Ok(())
+}
+
+/// Of the same run the order that writes to channel 10. Nothing reads or writes channel 11, or channel 4, as CA 4004 and
+/// TCF 4003 would if their last digits were a channel's.
+#[test]
+fn orders_at_a_channel(rt: HostRuntime) -> Result<(), Fail> {
+    let stop = "10 - stop Limit | A 154171 L 00000 Q 000000 Z 4004 EB 0 FB 00\n";
+    let mut selection = between(&rt, 0, 10, None);
+    selection.channels.push(0o11)?;
+    selection.channels.push(0o4)?;
+    let text = traced(&rt, TEN_BYTES, "", 10, &selection)?;
+    assert_eq!(rt; text.as_str(), stop);
+    selection.channels.push(0o10)?;
+    let text = traced(&rt, TEN_BYTES, "", 10, &selection)?;
+    assert_eq!(rt;
+        text.as_str(),
+        "3 4002 01010 WRITE 010 > 010 54171 | A 154171 L 00000 Q 000000 Z 4004 EB 0 FB 00\n10 - stop Limit | A 154171 L 00000 Q 000000 Z 4004 EB 0 FB 00\n"
+    );
+    Ok(())
+}
+
+/// Of the same run the last lines: of all, of the orders that write, and of a range that ends before the stop.
+#[test]
+fn last_lines(rt: HostRuntime) -> Result<(), Fail> {
+    let two =
+        "9 4003 14003 TCF 4003 | A 154171 L 00000 Q 000000 Z 4004 EB 0 FB 00\n10 - stop Limit | A 154171 L 00000 Q 000000 Z 4004 EB 0 FB 00\n";
+    let stop = "10 - stop Limit | A 154171 L 00000 Q 000000 Z 4004 EB 0 FB 00\n";
+    let write =
+        "3 4002 01010 WRITE 010 > 010 54171 | A 154171 L 00000 Q 000000 Z 4004 EB 0 FB 00\n";
+    for (to, only, last, wanted) in [
+        (10, None, 2, two),
+        (10, None, 1, stop),
+        (10, None, 0, ""),
+        (10, Some(Only::Writes), 1, stop),
+        (9, Some(Only::Writes), 1, write),
+        (9, Some(Only::Writes), 9, write),
+        (3, None, 1, write),
+    ] {
+        let mut selection = between(&rt, 0, to, only);
+        selection.last = Some(last);
+        let text = traced(&rt, TEN_BYTES, "", 10, &selection)?;
+        assert_eq!(rt; text.as_str(), wanted, "{to} {last}");
+    }
+    Ok(())
+}
+
+/// The places that texts name: 2000 octal times its bank and the offset, or of a cell 400 times.
+#[test]
+fn places_by_name(rt: HostRuntime) {
+    for (text, first, last) in [
+        ("4100", Location::Fixed(0o4100), Location::Fixed(0o4100)),
+        ("02,4100", Location::Fixed(0o4100), Location::Fixed(0o4100)),
+        (
+            "02,4000-5777",
+            Location::Fixed(0o4000),
+            Location::Fixed(0o5777),
+        ),
+        (
+            "43,2000-43,3777",
+            Location::Fixed(0o106000),
+            Location::Fixed(0o107777),
+        ),
+        (
+            "E3,1400",
+            Location::Erasable(0o1400),
+            Location::Erasable(0o1400),
+        ),
+        (
+            "E1,1400-0777",
+            Location::Erasable(0o400),
+            Location::Erasable(0o777),
+        ),
+    ] {
+        let named = Places::named(text.as_bytes());
+        assert_eq!(rt; named, Ok(Places { first, last }), "{text}");
+    }
+    for (text, fault) in [
+        ("", PlacesFault::BadPlace),
+        ("410x", PlacesFault::BadPlace),
+        ("44,2000", PlacesFault::BadPlace),
+        ("02,2100", PlacesFault::BadPlace),
+        ("4100-", PlacesFault::BadPlace),
+        ("-4100", PlacesFault::BadPlace),
+        ("4100-4101-4102", PlacesFault::BadPlace),
+        ("5777-6000", PlacesFault::BadRange),
+        ("4101-4100", PlacesFault::BadRange),
+        ("0377-0400", PlacesFault::BadRange),
+        ("0400-4000", PlacesFault::BadRange),
+    ] {
+        assert_eq!(rt; Places::named(text.as_bytes()), Err(fault), "{text}");
+    }
+}
+
+#[test]
+fn an_order_in_the_window_stands_in_its_bank(rt: HostRuntime) {
+    let at = |bank, bits| location_at(bank, Addr::wrapped(bits));
+    assert_eq!(rt; at(0, 0o1377), Location::Erasable(0o1377));
+    assert_eq!(rt; at(0, 0o1500), Location::Erasable(0o100));
+    assert_eq!(rt; at(7, 0o1777), Location::Erasable(0o3777));
+    assert_eq!(rt; at(0o43, 0o3777), Location::Fixed(0o107777));
+    assert_eq!(rt; at(0, 0o7777), Location::Fixed(0o7777));
 }
 
 /// Waits, and serves a key by going back at once.
@@ -92,7 +251,7 @@ fn interrupts(rt: HostRuntime) -> Result<(), Fail> {
         KEY,
         "2 key VERB\n",
         8,
-        between(0, 8, Some(Only::Interrupts)),
+        &between(&rt, 0, 8, Some(Only::Interrupts)),
     )?;
     let mut lines = text.as_str().lines();
     for line in [
@@ -103,6 +262,51 @@ fn interrupts(rt: HostRuntime) -> Result<(), Fail> {
         assert_eq!(rt; lines.next(), Some(line));
     }
     assert_eq!(rt; lines.next(), None);
+    Ok(())
+}
+
+/// Waits, goes back from a key at once, and never from one of the second keyboard.
+static TWO_KEYS: &str = "
+4000 14000 TCF 4000
+4024 50017 RESUME
+4030 14030 TCF 4030
+";
+
+/// Interrupts that were taken, and not ended. KEYRUPT1 is taken at 2 and ended by the RESUME that begins at 5; KEYRUPT2,
+/// asked for meanwhile, is taken at 7, and serves from 10 on. A range that ends before the stop, or begins after the
+/// interrupt, tells of no service.
+#[test]
+fn services_at_the_stop(rt: HostRuntime) -> Result<(), Fail> {
+    let first = Service {
+        rupt: Rupt::Keyrupt1,
+        cycle: 2,
+    };
+    let second = Service {
+        rupt: Rupt::Keyrupt2,
+        cycle: 7,
+    };
+    for (limit, from, to, only, left) in [
+        (2, 0, u64::MAX, None, None),
+        (5, 0, u64::MAX, None, Some(first)),
+        (5, 2, 5, None, Some(first)),
+        (5, 3, u64::MAX, None, None),
+        (5, 0, 4, None, None),
+        (6, 0, u64::MAX, None, None),
+        (7, 0, u64::MAX, None, None),
+        (8, 0, u64::MAX, None, Some(second)),
+        (20, 0, u64::MAX, None, Some(second)),
+        (20, 0, u64::MAX, Some(Only::Writes), Some(second)),
+        (20, 6, u64::MAX, None, Some(second)),
+        (20, 8, u64::MAX, None, None),
+        (20, 21, u64::MAX, None, None),
+        (20, 5, 3, None, None),
+    ] {
+        let mut machine = machine_of(&rt, TWO_KEYS, "2 key VERB\n3 raise 6\n", limit)?;
+        let mut out = Vec::new(rt.alloc());
+        let selection = between(&rt, from, to, only);
+        let told = trace(rt.alloc(), &mut machine, &selection, &mut out, &mut Untold)?;
+        assert_eq!(rt; told, left, "{limit} {from} {to}");
+    }
     Ok(())
 }
 
@@ -121,13 +325,13 @@ fn far_ranges(rt: HostRuntime) -> Result<(), Fail> {
         WAITS,
         "",
         3_000_000,
-        between(3_000_000, u64::MAX, None),
+        &between(&rt, 3_000_000, u64::MAX, None),
     )?;
     assert_eq!(rt; text.as_str(), last);
     let first = "0 4000 00004 INHINT | A 000000 L 00000 Q 000000 Z 4002 EB 0 FB 00\n";
-    let text = traced(&rt, WAITS, "", 1_000_000_000_000, between(0, 0, None))?;
+    let text = traced(&rt, WAITS, "", 1_000_000_000_000, &between(&rt, 0, 0, None))?;
     assert_eq!(rt; text.as_str(), first);
-    let text = traced(&rt, WAITS, "", 10, between(11, u64::MAX, None))?;
+    let text = traced(&rt, WAITS, "", 10, &between(&rt, 11, u64::MAX, None))?;
     assert_eq!(rt; text.as_str(), "");
     Ok(())
 }
@@ -223,7 +427,13 @@ static HAPPENINGS: [(&str, &str); 40] = [
 /// (TIME5), 7680 (TIME4) and 10240 (TIME1, and TIME3 after it), twelve of which are a cycle.
 #[test]
 fn all_that_happens(rt: HostRuntime) -> Result<(), Fail> {
-    let text = traced(&rt, SERVES_ALL, EVERYTHING, 860, between(0, 860, None))?;
+    let text = traced(
+        &rt,
+        SERVES_ALL,
+        EVERYTHING,
+        860,
+        &between(&rt, 0, 860, None),
+    )?;
     let mut lines = text.as_str().lines().filter(|line| line.contains(" - "));
     for (happening, z) in &HAPPENINGS {
         let line = format!(in rt.alloc();

@@ -10,8 +10,8 @@ returns-clause-woven g c =
     let woven = rw c.as_slice.ensures.value at c.woven_of.ensures.woven in
     let few : length c.in-Ok.text.items ≤ 16777216 = omega (arith, c.in-Ok.text.ok.0, c.in-Ok.ensures.bound) in
     IfOk-weaker c.woven_of.result _ _
-    (λ bytes e. of_all _ _ c.in-Ok.text.items (λ file. IsWoven c.args.form file bytes.items) c.in-Ok.ensures.bytes c.in-Ok.ensures.end
-    (record { short = few; woven = e })) woven
+    (λ woven e. of_all _ _ c.in-Ok.text.items (λ file. IsWoven c.args.form file woven) c.in-Ok.ensures.bytes c.in-Ok.ensures.end
+    (record { short = few; file = e.0; first = e.1 })) woven
 
 pub returns-clause-refused : goal.returns-clause-refused
 returns-clause-refused g c =

@@ -1,12 +1,15 @@
 use Rattle.std.proofs.Common.{◌≡◌}
 use Rattle.agc_machine.specs.Run.{boundaries_left}
-use Rattle.agc_trace.specs.Selection.{selected_lines}
+use Rattle.agc_trace.specs.Selection.{selected}
+use Rattle.agc_trace.specs.Service.{service_left}
 use Rattle.agc_trace.specs.Trace.{trace_of}
 use Rattle.agc_trace.proofs.tracing.go_to_first.Given as goal
 
--- no line was left out
-abbrev pub invariant-loop-selection : goal.invariant-loop-selection
-invariant-loop-selection g l = selected_lines l.selection (trace_of l.machine) ≡ selected_lines l.selection (trace_of l.initial.machine)
+-- no selected entry was left out, and no service
+abbrev pub invariant-loop-machine : goal.invariant-loop-machine
+invariant-loop-machine g l =
+    (selected l.selection (trace_of l.machine) ≡ selected l.selection (trace_of l.initial.machine))
+    × (service_left l.selection (trace_of l.machine) ≡ service_left l.selection (trace_of l.initial.machine))
 
-abbrev pub decreases-loop-selection : goal.decreases-loop-selection
-decreases-loop-selection g l = boundaries_left l.machine
+abbrev pub decreases-loop-machine : goal.decreases-loop-machine
+decreases-loop-machine g l = boundaries_left l.machine

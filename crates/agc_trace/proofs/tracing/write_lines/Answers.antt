@@ -1,13 +1,22 @@
-use Rattle.std.proofs.Common.{sym, ◌∙◌, arith}
-use Rattle.agc_trace.proofs.Lines.{all_written, line_written, written_whole}
-use Rattle.agc_trace.proofs.Range.{no_late_lines}
+use Rattle.std.proofs.Common.{sym, ◌∙◌, ap, List, arith}
+use Rattle.agc_trace.specs.Selection.{lines_of}
+use Rattle.agc_trace.specs.declared.entry.Entry.{Entry}
+use Rattle.agc_trace.proofs.Lines.{all_written, line_written, lines_of-none, written_whole}
+use Rattle.agc_trace.proofs.Range.{no_late_entries}
+use Rattle.agc_trace.proofs.Services.{left_after, left_at_stop, none_past}
 use Rattle.agc_trace.proofs.Steps.{fewer_after_entry}
 use Rattle.agc_trace.proofs.tracing.write_lines.Goals as goal
 
-pub returns-then-is_stop : goal.returns-then-is_stop
-returns-then-is_stop g c =
-    all_written c.args.selection _ _ _ _ c.next_entry-entry.result _ c.next_entry-entry.ensures.entry
-    (sym c.is_stop.ensures ∙ c.if-is_stop.true) c.loop-alloc.invariant c.in_ok-write_selected.ensures
+pub returns-then-is_stop-clause-lines : goal.returns-then-is_stop-clause-lines
+returns-then-is_stop-clause-lines g c =
+    all_written c.args.selection.now _ _ _ _ c.next_entry-entry.result _ c.next_entry-entry.ensures.entry
+    (sym c.is_stop.ensures ∙ c.if-is_stop.true) c.loop-alloc.invariant.0 c.in_ok-write_selected.ensures.line
+
+pub returns-then-is_stop-clause-service : goal.returns-then-is_stop-clause-service
+returns-then-is_stop-clause-service g c =
+    sym (left_at_stop c.args.selection.now _ _ c.next_entry-entry.result c.next_entry-entry.ensures.entry
+    (omega (arith, c.cycle.ensures.cycle, c.loop-alloc-test.true)) (sym c.is_stop.ensures ∙ c.if-is_stop.true))
+    ∙ c.loop-alloc.invariant.1
 
 pub loop-alloc-smaller : goal.loop-alloc-smaller
 loop-alloc-smaller g c =
@@ -15,10 +24,22 @@ loop-alloc-smaller g c =
     (sym c.is_stop.ensures ∙ c.if-is_stop.false)
 
 pub loop-alloc-preserved : goal.loop-alloc-preserved
-loop-alloc-preserved g c =
-    line_written c.args.selection _ _ _ _ _ c.next_entry-entry.result _ c.next_entry-entry.ensures.entry c.next_entry-entry.ensures.after
-    (sym c.is_stop.ensures ∙ c.if-is_stop.false) c.loop-alloc.invariant c.in_ok-write_selected.ensures
+loop-alloc-preserved g c = (
+  line_written c.args.selection.now _ _ _ _ _ c.next_entry-entry.result _ c.next_entry-entry.ensures.entry c.next_entry-entry.ensures.after
+      (sym c.is_stop.ensures ∙ c.if-is_stop.false) c.loop-alloc.invariant.0 c.in_ok-write_selected.ensures.line,
+  rw c.service_after-service.ensures
+      (left_after c.args.selection.now _ _ _ c.next_entry-entry.result c.next_entry-entry.ensures.entry c.next_entry-entry.ensures.after
+      (omega (arith, c.cycle.ensures.cycle, c.loop-alloc-test.true)) (sym c.is_stop.ensures ∙ c.if-is_stop.false)
+      ∙ c.loop-alloc.invariant.1),
+)
 
-pub returns : goal.returns
-returns g c =
-    written_whole _ _ _ _ (no_late_lines c.args.selection _ (omega (arith, c.cycle.ensures.cycle, c.loop-alloc-test.false))) c.loop-alloc.invariant
+pub returns-clause-lines : goal.returns-clause-lines
+returns-clause-lines g c =
+    written_whole _ _ _ _
+    (ap (λ (xs : List Entry). lines_of xs) (no_late_entries c.args.selection.now _ (omega (arith, c.cycle.ensures.cycle, c.loop-alloc-test.false))) ∙ lines_of-none)
+    c.loop-alloc.invariant.0
+
+pub returns-clause-service : goal.returns-clause-service
+returns-clause-service g c =
+    sym (none_past c.args.selection.now _ _ (omega (arith, c.cycle.ensures.cycle, c.loop-alloc-test.false)))
+    ∙ c.loop-alloc.invariant.1

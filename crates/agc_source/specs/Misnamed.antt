@@ -1,0 +1,77 @@
+-- The order that stands behind the word of a listing's line, and whether it is one that the word names.
+use Rattle.std.specs.Prelude.{ℕ, ◌+◌, nat_lt, Bool, true, false, ◌||◌, ◌&&◌, codes, List, [], ◌∷◌}
+use Rattle.std.specs.Prelude.{Option, Some, None, Result, Ok, if◌then◌else◌}
+use Rattle.std.specs.Str.{bytes_eq}
+use Rattle.agc_word.specs.Number.{Number, pattern_of}
+use Rattle.agc_order.specs.Order.{basic_of, extracode_of}
+use Rattle.agc_order.specs.Row.{basic_row, extracode_row}
+use Rattle.agc_order.specs.declared.order.Basic.{Basic}
+use Rattle.agc_order.specs.declared.order.Extracode.{Extracode}
+use Rattle.agc_script.specs.Text.{lines_of, words_of}
+use Rattle.agc_rope_text.specs.Line.{line_named}
+use Rattle.agc_rope_text.specs.declared.fault.LineFault.{LineFault}
+use Rattle.agc_rope_text.specs.declared.line.Named.{Named}
+use Rattle.agc_source_words.specs.Mnemonic.{basic_named, extracode_named}
+use Rattle.agc_source.specs.declared.misnamed.Misnamed.{Misnamed}
+use Rattle.agc_source.specs.declared.misnamed.Written.{Written}
+use Rattle.agc_source.specs.declared.misnamed.Written.TheVariants as kind
+
+-- the order of a mnemonic: of INDEX, which two orders have, the basic one
+abbrev pub either_order : Option Basic → Option Extracode → Option Written
+either_order (Some order) other = Some (kind.Basic order)
+either_order None (Some order) = Some (kind.Extracode order)
+either_order None None = None
+
+abbrev pub order_named : List ℕ → Option Written
+order_named name = either_order (basic_named name) (extracode_named name)
+
+-- its mnemonic, and whether it is read as an extracode
+abbrev pub mnemonic_of : Written → List ℕ
+mnemonic_of (kind.Basic order) = (basic_row order).mnemonic
+mnemonic_of (kind.Extracode order) = (extracode_row order).mnemonic
+
+abbrev pub is_extracode : Written → Bool
+is_extracode (kind.Basic order) = false
+is_extracode (kind.Extracode order) = true
+
+-- Whether a mnemonic is one of a word's: `list` shows the word with it, as a basic order or as an extracode.
+-- Words below 10000 are TC too, as RELINT, INHINT and EXTEND are TC 3, 4 and 6.
+abbrev pub has_mnemonic : ℕ → List ℕ → Bool
+has_mnemonic word name =
+    bytes_eq (basic_row (basic_of word)).mnemonic name
+    || bytes_eq (extracode_row (extracode_of word)).mnemonic name
+    || (bytes_eq (codes "TC") name && nat_lt word 0o10000)
+
+-- the order of a mnemonic that a word does not have
+abbrev pub order_amiss : ℕ → List ℕ → Option Written
+order_amiss word name = if has_mnemonic word name then None else order_named name
+
+-- what stands behind a line's place and word
+abbrev pub third_of : List (List ℕ) → Option (List ℕ)
+third_of (place ∷ word ∷ third ∷ more) = Some third
+third_of words = None
+
+abbrev pub misnamed_as : ℕ → Number → Option Written → Option Misnamed
+misnamed_as n word (Some order) = Some (record { line = n; word = word; written = order })
+misnamed_as n word None = None
+
+abbrev pub misnamed_by : ℕ → Result (Option Named) LineFault → Option (List ℕ) → Option Misnamed
+misnamed_by n (Ok (Some said)) (Some name) =
+    misnamed_as n said.word (order_amiss (pattern_of 15 said.word) name)
+misnamed_by n said name = None
+
+-- a line of a listing whose order is none of its word's, with its number
+unfoldable pub misnamed_at : ℕ → List ℕ → Option Misnamed
+misnamed_at n line = misnamed_by n (line_named line) (third_of (words_of line))
+
+-- the first such line; n is the number of the first of the lines
+unfoldable pub misnamed_from : ℕ → List (List ℕ) → Option Misnamed
+misnamed_from n [] = None
+misnamed_from n (line ∷ lines) =
+    elim (misnamed_at n line) [
+      | Some told ↦ Some told
+      | None ↦ misnamed_from (n + 1) lines
+    ]
+
+unfoldable pub misnamed_in : List ℕ → Option Misnamed
+misnamed_in text = misnamed_from 1 (lines_of text)

@@ -1,0 +1,54 @@
+-- The stretches of places that a question to a trace names.
+use Rattle.std.specs.Prelude.{ℕ, ◌+◌, ◌/◌, ◌==◌, nat_le, Bool, false, ◌&&◌, List, take, drop, position}
+use Rattle.std.specs.Prelude.{Option, Some, None, Result, Ok, Err, if◌then◌else◌}
+use Rattle.agc_store.specs.Places.{erasable_bank_size, fixed_bank_size}
+use Rattle.agc_source_words.specs.Location.{location_named}
+use Rattle.agc_source_words.specs.declared.location.Location.{Location}
+use Rattle.agc_source_words.specs.declared.location.Location.TheVariants as location
+use Rattle.agc_trace.specs.declared.places.Places.{Places}
+use Rattle.agc_trace.specs.declared.places.PlacesFault.{PlacesFault}
+use Rattle.agc_trace.specs.declared.places.PlacesFault.TheVariants as fault
+
+-- a place from one to another, both included
+abbrev pub is_from_to : Location → Location → Location → Bool
+is_from_to (location.Fixed first) (location.Fixed last) (location.Fixed here) =
+    nat_le first here && nat_le here last
+is_from_to (location.Erasable first) (location.Erasable last) (location.Erasable here) =
+    nat_le first here && nat_le here last
+is_from_to _ _ _ = false
+
+abbrev pub has_place : Places → Location → Bool
+has_place places here = is_from_to places.first places.last here
+
+-- two places of one bank, the first not after the last
+abbrev pub is_stretch : Location → Location → Bool
+is_stretch (location.Fixed first) (location.Fixed last) =
+    (first / fixed_bank_size == last / fixed_bank_size) && nat_le first last
+is_stretch (location.Erasable first) (location.Erasable last) =
+    (first / erasable_bank_size == last / erasable_bank_size) && nat_le first last
+is_stretch _ _ = false
+
+abbrev pub one_place : Option Location → Result Places PlacesFault
+one_place (Some place) = Ok (record { first = place; last = place })
+one_place None = Err fault.BadPlace
+
+abbrev pub two_places : Option Location → Option Location → Result Places PlacesFault
+two_places (Some first) (Some last) =
+    if is_stretch first last
+    then Ok (record { first = first; last = last })
+    else Err fault.BadRange
+two_places _ _ = Err fault.BadPlace
+
+-- a dash, which stands between two places
+abbrev pub is_dash : ℕ → Bool
+is_dash b = b == 0x2D
+
+-- a text with a dash there, or with none
+abbrev pub places_cut : Option ℕ → List ℕ → Result Places PlacesFault
+places_cut (Some at) text =
+    two_places (location_named (take at text)) (location_named (drop (at + 1) text))
+places_cut None text = one_place (location_named text)
+
+-- the places that a text names: a place, or two of one bank with a dash between, `05,2071-05,2100`
+unfoldable pub places_named : List ℕ → Result Places PlacesFault
+places_named text = places_cut (position is_dash text) text

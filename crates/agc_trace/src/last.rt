@@ -1,0 +1,122 @@
+//! The last lines of a trace: so many entries are kept, and written where the run has come to its end.
+ghost use Rattle.std.specs.Prelude.{◌≡◌, ◌≤◌, [], ◌∷◌, ◌++◌, All, IfErr, IfOk, OnOk, if◌then◌else◌, length};
+ghost use Rattle.std.specs.Io.KnownBytes.{Appends};
+ghost use Rattle.agc_trace.specs.Cut.{IsCut};
+ghost use Rattle.agc_trace.specs.Entry.{FitsLine};
+ghost use Rattle.agc_trace.specs.Selection.{last_of, lines_of, selected};
+ghost use Rattle.agc_trace.specs.Service.{service_left};
+ghost use Rattle.agc_trace.specs.Trace.{trace_of};
+
+use crate::entry::{Entry, next_entry};
+use crate::selection::Selection;
+use crate::service::{Service, service_after};
+use crate::tracing::{TraceFault, write_line};
+use agc_machine::Machine;
+use agc_progress::{Progress, tell_at};
+use std::alloc::Global;
+use std::collections::VecDeque;
+use std::io::Write;
+
+/// Runs a machine to its stop, or past the last cycle that is selected, and writes the lines of the last
+/// selected entries, at most so many. Memory holds no more of them.
+pub(crate) fn write_last<W: Write, P: Progress>(
+    alloc: Global,
+    machine: &mut Machine,
+    selection: &Selection,
+    most: u64,
+    out: &mut W,
+    progress: &mut P,
+) -> Result<Option<Service>, TraceFault>
+    ensures lines { OnOk result (Appends (W.contents out.old) (W.contents out.new)
+        (lines_of (last_of most (selected selection.now (trace_of machine.old))))) }
+    ensures service { IfOk result (λ left. left ≡ service_left selection.now (trace_of machine.old)) }
+    ensures cut { IfErr result (λ why. IsCut why (W.contents out.old) (W.contents out.new)
+        (lines_of (last_of most (selected selection.now (trace_of machine.old))))) }
+{
+    let mut last = VecDeque::new(alloc);
+    let service = keep_last(machine, selection, most, &mut last, progress)?;
+    write_kept(alloc, &mut last, out)?;
+    Ok(service)
+}
+
+/// Runs a machine to its stop, or past the last cycle that is selected, and keeps the last selected entries.
+fn keep_last<P: Progress>(
+    machine: &mut Machine,
+    selection: &Selection,
+    most: u64,
+    last: &mut VecDeque<Entry>,
+    progress: &mut P,
+) -> Result<Option<Service>, TraceFault>
+    requires { last.old.items ≡ [] }
+    ensures entries { OnOk result
+        (last.new.items ≡ last_of most (selected selection.now (trace_of machine.old))) }
+    ensures fits { OnOk result (All FitsLine last.new.items) }
+    ensures service { IfOk result (λ left. left ≡ service_left selection.now (trace_of machine.old)) }
+    ensures fault { IfErr result (λ why. why ≡ TraceFault.Memory) }
+{
+    let mut mark = 0;
+    let mut service = None;
+    while machine.cycle() <= selection.to {
+        let entry = next_entry(machine);
+        let is_taken = selection.takes(&entry);
+        keep(last, most, entry, is_taken)?;
+        if entry.is_stop() {
+            return Ok(service);
+        }
+        service = service_after(selection, service, &entry);
+        mark = tell_at(mark, entry.cycle, progress);
+    }
+    Ok(None)
+}
+
+/// Keeps a value as the last one, where it is taken.
+fn keep<T: Drop>(
+    last: &mut VecDeque<T>,
+    most: u64,
+    value: T,
+    is_taken: bool,
+) -> Result<(), TraceFault>
+    requires { length last.old.items ≤ most }
+    ensures kept { OnOk result (last.new.items
+        ≡ last_of most (last.old.items ++ (if is_taken then value ∷ [] else []))) }
+    ensures fault { IfErr result (λ why. why ≡ TraceFault.Memory) }
+{
+    if is_taken {
+        push_last(last, most, value)
+    } else {
+        Ok(())
+    }
+}
+
+/// Puts a value after the last ones, and lets the first of these go where there are too many.
+fn push_last<T: Drop>(last: &mut VecDeque<T>, most: u64, value: T) -> Result<(), TraceFault>
+    requires { length last.old.items ≤ most }
+    ensures kept { OnOk result (last.new.items ≡ last_of most (last.old.items ++ value ∷ [])) }
+    ensures fault { IfErr result (λ why. why ≡ TraceFault.Memory) }
+{
+    if last.push_back(value).is_err() {
+        return Err(TraceFault::Memory);
+    }
+    if last.len() as u64 > most {
+        let _first = last.pop_front();
+    }
+    Ok(())
+}
+
+/// Writes the lines of the entries that are kept.
+fn write_kept<W: Write>(
+    alloc: Global,
+    last: &mut VecDeque<Entry>,
+    out: &mut W,
+) -> Result<(), TraceFault>
+    requires { All FitsLine last.old.items }
+    ensures lines { OnOk result
+        (Appends (W.contents out.old) (W.contents out.new) (lines_of last.old.items)) }
+    ensures cut { IfErr result (λ why. IsCut why (W.contents out.old) (W.contents out.new)
+        (lines_of last.old.items)) }
+{
+    while let Some(entry) = last.pop_front() {
+        write_line(alloc, &entry, out)?;
+    }
+    Ok(())
+}

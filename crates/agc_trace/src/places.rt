@@ -1,0 +1,108 @@
+//! The stretches of places that a question to a trace names.
+ghost use Rattle.std.specs.Prelude.{◌≡◌, ◌<◌, IfSome, length, position};
+ghost use Rattle.agc_trace.specs.Places.{is_dash, is_stretch, one_place, two_places};
+ghost use Rattle.agc_source_words.specs.Location.{location_named};
+
+use agc_source_words::{Location, location_named};
+
+/// The places from a first one to a last one of the same bank, both included.
+#[derive(Clone, Copy, Debug, PartialEq, Eq)]
+pub struct Places {
+    pub first: Location,
+    pub last: Location,
+}
+
+/// Why a text names no places.
+#[derive(Clone, Copy, Debug, PartialEq, Eq)]
+pub enum PlacesFault {
+    /// A place that there is not.
+    BadPlace,
+    /// Two places of different banks, or the first after the last.
+    BadRange,
+}
+
+impl PlacesFault {
+    /// Its name.
+    pub fn name(self) -> &'static str {
+        match self {
+            PlacesFault::BadPlace => "BadPlace",
+            PlacesFault::BadRange => "BadRange",
+        }
+    }
+}
+
+impl Places {
+    ghost use Rattle.std.specs.Prelude.{◌≡◌};
+    ghost use Rattle.agc_trace.specs.Places.{has_place, places_named};
+
+    /// The places that a text names: a place as sources name it, or two with a dash between.
+    #[tactic(auto, unfolding(crate::specs::Places::places_named))]
+    pub fn named(text: &[u8]) -> Result<Places, PlacesFault>
+        ensures { result ≡ places_named text.now }
+    {
+        match first_dash(text) {
+            Some(at) => two_places(&text[..at], &text[at + 1..]),
+            None => one_place(text),
+        }
+    }
+
+    /// A place is one of them.
+    pub fn has(self, here: Location) -> bool
+        ensures { result ≡ has_place self here }
+    {
+        match (self.first, self.last, here) {
+            (Location::Fixed(first), Location::Fixed(last), Location::Fixed(place)) => {
+                first <= place && place <= last
+            }
+            (Location::Erasable(first), Location::Erasable(last), Location::Erasable(cell)) => {
+                first <= cell && cell <= last
+            }
+            _ => false,
+        }
+    }
+}
+
+fn first_dash(text: &[u8]) -> Option<usize>
+    ensures place { result ≡ position is_dash text.now }
+    ensures bound { IfSome result (λ at. at < length text.now) }
+{
+    text.iter().position(|b| *b == b'-')
+}
+
+fn one_place(text: &[u8]) -> Result<Places, PlacesFault>
+    ensures { result ≡ one_place (location_named text.now) }
+{
+    match location_named(text) {
+        Some(place) => Ok(Places {
+            first: place,
+            last: place,
+        }),
+        None => Err(PlacesFault::BadPlace),
+    }
+}
+
+fn two_places(first: &[u8], last: &[u8]) -> Result<Places, PlacesFault>
+    ensures { result ≡ two_places (location_named first.now) (location_named last.now) }
+{
+    match (location_named(first), location_named(last)) {
+        (Some(first), Some(last)) => if is_stretch(first, last) {
+            Ok(Places { first, last })
+        } else {
+            Err(PlacesFault::BadRange)
+        },
+        _ => Err(PlacesFault::BadPlace),
+    }
+}
+
+/// Two places of one bank, the first not after the last.
+fn is_stretch(first: Location, last: Location) -> bool
+    ensures { result ≡ is_stretch first last }
+{
+    match (first, last) {
+        (Location::Fixed(first), Location::Fixed(last)) => first / 0o2000 == last / 0o2000
+            && first <= last,
+        (Location::Erasable(first), Location::Erasable(last)) => first / 0o400 == last / 0o400
+            && first <= last,
+        _ => false,
+    }
+}
