@@ -1,0 +1,3 @@
+pub mod Begun
+pub mod Gone
+pub mod Reached
