@@ -69,8 +69,9 @@ pub fn not_text(alloc: Global, number: usize) -> ArgsFault
     }
 }
 
-/// What is said of a word that is not text.
-fn mistaken_word(alloc: Global, number: usize, usage: &str) -> Result<String, AllocError>
+/// What is said of a word that is not text: its number, counted from 1 after the program's own name, and the
+/// usage.
+pub fn mistaken_word(alloc: Global, number: usize, usage: &str) -> Result<String, AllocError>
     ensures { IfOk result (λ text. string_bytes text ≡ not_text_told number usage.now) }
 {
     let mut text = format!(in alloc; "error: word {number} is not text\n\n")?;
@@ -103,7 +104,8 @@ fn command<'a>(alloc: Global) -> Result<Command<'a>, AllocError>
         .arg(spacing_option(alloc))
 }
 
-fn rope_file<'a>(alloc: Global) -> Arg<'a>
+/// The word that names the rope file.
+pub fn rope_file<'a>(alloc: Global) -> Arg<'a>
     ensures rule { rule_of result ≡ file_parameter (codes "rope") }
     ensures local { result.global ≡ false }
 {
@@ -115,7 +117,8 @@ fn rope_file<'a>(alloc: Global) -> Arg<'a>
         )
 }
 
-fn script_file<'a>(alloc: Global) -> Arg<'a>
+/// The word that names the script file.
+pub fn script_file<'a>(alloc: Global) -> Arg<'a>
     ensures rule { rule_of result ≡ file_parameter (codes "script") }
     ensures local { result.global ≡ false }
 {
@@ -127,7 +130,8 @@ fn script_file<'a>(alloc: Global) -> Arg<'a>
         )
 }
 
-fn limit_option<'a>(alloc: Global) -> Arg<'a>
+/// The option that names the cycle at which a run ends at the latest.
+pub fn limit_option<'a>(alloc: Global) -> Arg<'a>
     ensures rule { rule_of result ≡ record (number_option (codes "limit")) { required = true } }
     ensures local { result.global ≡ false }
 {
@@ -174,7 +178,8 @@ fn log_option<'a>(alloc: Global) -> Arg<'a>
         .help("Print each channel write: cycle (decimal), channel and value (octal)")
 }
 
-fn form_option<'a>(alloc: Global) -> Arg<'a>
+/// The option that names the form of the rope file.
+pub fn form_option<'a>(alloc: Global) -> Arg<'a>
     ensures rule { IsFormOption (rule_of result) }
     ensures local { result.global ≡ false }
 {
@@ -241,7 +246,8 @@ fn options_of(alloc: Global, matches: &ArgMatches<'_>) -> Result<Options, ArgsFa
     })
 }
 
-fn path_of(alloc: Global, matches: &ArgMatches<'_>, id: &str) -> Result<String, AllocError>
+/// The path that a word names, empty where there is none.
+pub fn path_of(alloc: Global, matches: &ArgMatches<'_>, id: &str) -> Result<String, AllocError>
     ensures { IfOk result
         (λ path. string_bytes path
         ≡ unwrap_or (first_of id.now (rows_of (found_of matches.now))) []) }
@@ -262,7 +268,8 @@ fn text_of(alloc: Global, matches: &ArgMatches<'_>, id: &str) -> Result<Option<S
     }
 }
 
-fn limit_of(matches: &ArgMatches<'_>) -> u64
+/// The number that the limit names, 0 where it names none.
+pub fn limit_of(matches: &ArgMatches<'_>) -> u64
     ensures { result ≡ unwrap_or
         (option_and_then number_written
         (one_of (codes "limit") (rows_of (found_of matches.now)))) 0 }
@@ -286,7 +293,8 @@ fn spacing_of(matches: &ArgMatches<'_>) -> u64
     matches.get_one::<u64>("spacing").unwrap_or(DEFAULT_SPACING)
 }
 
-fn form_of(matches: &ArgMatches<'_>) -> RopeForm
+/// The form that the option names, the classic one where it names none.
+pub fn form_of(matches: &ArgMatches<'_>) -> RopeForm
     ensures { result ≡ unwrap_or
         (option_map form_named
         (first_of (codes "form") (rows_of (found_of matches.now)))) form.Classic }

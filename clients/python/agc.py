@@ -1,0 +1,317 @@
+"""A client of agc-console: an Apollo Guidance Computer that listens, from Python.
+
+    from agc import Console
+
+    with Console("examples/keys/rope") as agc:
+        agc.go(10)
+        agc.key("4")
+        for write in agc.writes(until=1000):
+            print(write.cycle, oct(write.channel), oct(write.value))
+        print(agc.panel()["NOUN"], agc.cell("0101"))
+        print(agc.script())
+
+This file stands over the standard library alone. A console is one process, `agc-console ROPE SCRIPT`, to which each
+call says one command and whose answer it reads to its last line. Cycles are machine cycles, 85,333 a second. Words,
+channels and addresses are Python's integers here (0o54171), and octal digits where the console's own text is handed
+on. What the console refuses is a `Refused`, and changes nothing; what the process itself says as it ends is an `Ended`.
+A console is to be used by one thread at a time. Start `agc-console --help` once before, so that it is built.
+"""
+
+import os
+import shutil
+import subprocess
+import tempfile
+from types import TracebackType
+from typing import IO, Dict, Iterator, List, NamedTuple, Optional, Sequence, Type, Union
+
+__all__ = ["Answer", "Came", "Console", "Ended", "Error", "Refused", "Registers", "Write"]
+
+Path = Union[str, "os.PathLike[str]"]
+
+LAST_CYCLE = 1_000_000_000_000
+"""The last cycle of all: a machine stops there, where no limit is named."""
+
+
+class Error(Exception):
+    """What went wrong with a console."""
+
+
+class Refused(Error):
+    """A command was answered by an error, and nothing has changed."""
+
+
+class Ended(Error):
+    """The console has ended, or never began: its rope, its script or its limit is refused, or it is closed."""
+
+    def __init__(self, told: str, status: Optional[int]) -> None:
+        super().__init__(told)
+        self.status = status
+        """The status with which the process ended; None where it was closed before."""
+
+
+class Write(NamedTuple):
+    """A channel write: the cycle at which its order began, the channel, and the channel's word after it."""
+
+    cycle: int
+    channel: int
+    value: int
+
+
+class Registers(NamedTuple):
+    """The central registers. A and Q have sixteen bits; EB and FB are the banks that they name."""
+
+    a: int
+    l: int
+    q: int
+    z: int
+    eb: int
+    fb: int
+    bb: int
+
+
+class Answer(NamedTuple):
+    """The lines of an answer, the cycle that the machine has come to, and why it has stopped, if it has."""
+
+    lines: List[str]
+    cycle: int
+    stop: Optional[str]
+
+
+class Came(NamedTuple):
+    """How a run to something ended: whether it came, and the channel writes on the way."""
+
+    came: bool
+    writes: List[Write]
+
+
+class Console:
+    """A machine to sit before. Of `with`, it is closed at the end."""
+
+    def __init__(
+        self,
+        rope: Path,
+        script: Path = os.devnull,
+        *,
+        limit: Optional[int] = None,
+        form: Optional[str] = None,
+        program: Union[None, Path, Sequence[str]] = None,
+    ) -> None:
+        """Begins a session. The program is `agc-console` of the folder that this file stands in, two levels up, or the
+        one on the path; `program` names another one, or its words."""
+        words = _program(program)
+        if limit is not None:
+            words += ["--limit", str(limit)]
+        if form is not None:
+            words += ["--form", form]
+        words += ["--", os.fspath(rope), os.fspath(script)]
+        self.cycle = 0
+        """The cycle that the machine has come to, as the last answer said it."""
+        self.stop: Optional[str] = None
+        """Why the machine has stopped: Limit, DivisionUndefined, Edrupt or Reached; None while it goes on."""
+        # A file takes what is told as the session ends, since a pipe would hold the console up where it is full.
+        self._told = tempfile.TemporaryFile()
+        self._process = subprocess.Popen(words, stdin=subprocess.PIPE, stdout=subprocess.PIPE, stderr=self._told)
+        assert self._process.stdin and self._process.stdout
+        self._commands: IO[bytes] = self._process.stdin
+        self._answers: IO[bytes] = self._process.stdout
+        try:
+            self.say("writes")
+        except BaseException:
+            self.close()
+            raise
+
+    def __enter__(self) -> "Console":
+        return self
+
+    def __exit__(
+        self, kind: Optional[Type[BaseException]], error: Optional[BaseException], trace: Optional[TracebackType]
+    ) -> None:
+        self.close()
+
+    def close(self) -> None:
+        """Ends the session: the console ends where its commands end. A second call does nothing."""
+        try:
+            self._commands.close()
+        except BrokenPipeError:
+            pass
+        self._answers.close()
+        self._process.wait()
+        self._told.close()
+
+    # what all commands go through
+
+    def say(self, command: str) -> Answer:
+        """Says a command, as docs/CONSOLE.md has them, and returns its answer; `Refused` where that is an error."""
+        if "\n" in command or not command.strip() or command.lstrip().startswith("#"):
+            raise ValueError(f"no command: {command!r}")
+        if self._commands.closed:
+            raise Ended("the console is closed", self._process.returncode)
+        try:
+            self._commands.write(command.encode() + b"\n")
+            self._commands.flush()
+        except BrokenPipeError:
+            raise self._ended() from None
+        return self._answer()
+
+    def _answer(self) -> Answer:
+        lines = []
+        while True:
+            line = self._answers.readline()
+            if not line.endswith(b"\n"):
+                raise self._ended()
+            text = line[:-1].decode()
+            first, _, rest = text.partition(" ")
+            if first == "at":
+                self.cycle, self.stop = int(rest), None
+            elif first == "stop":
+                self.stop, _, cycle = rest.partition(" at ")
+                self.cycle = int(cycle)
+            elif first == "error:":
+                raise Refused(rest)
+            else:
+                lines.append(text)
+                continue
+            return Answer(lines, self.cycle, self.stop)
+
+    def _ended(self) -> Ended:
+        status = self._process.wait()
+        self._told.seek(0)
+        told = self._told.read().decode(errors="replace").strip()
+        return Ended(told or f"the console ended with status {status}", status)
+
+    # going on, and back
+
+    def go(self, cycles: int) -> List[Write]:
+        """So many cycles on. Returns the channel writes on the way, as all that go on do."""
+        return _writes(self.say(f"go {cycles}"))
+
+    def go_to(self, cycle: int) -> List[Write]:
+        """On until a cycle is reached or passed: the last order, interrupt or step may end past it."""
+        return _writes(self.say(f"go to {cycle}"))
+
+    def step(self, boundaries: int = 1) -> List[str]:
+        """So many boundaries, each an order, an event, a timer's step or an interrupt. Returns their lines, as
+        `agc-study trace` prints them."""
+        return self.say(f"step {boundaries}").lines
+
+    def until(self, place: str, within: Optional[int] = None) -> Came:
+        """On until the order at a place is in hand: "4100", "12,2000" or "E3,1400"; 1,000,000 cycles at most, or as
+        many as are named."""
+        return self._until(place, within)
+
+    def until_write(self, channel: int, within: Optional[int] = None) -> Came:
+        """On until the next write to a channel."""
+        return self._until(f"write {channel:o}", within)
+
+    def until_cell(self, place: str, within: Optional[int] = None) -> Came:
+        """On until the next change of a cell."""
+        return self._until(f"cell {place}", within)
+
+    def _until(self, what: str, within: Optional[int]) -> Came:
+        bound = "" if within is None else f" within {within}"
+        answer = self.say(f"until {what}{bound}")
+        return Came("came yes" in answer.lines, _writes(answer))
+
+    def writes(self, until: int = LAST_CYCLE, channel: Optional[int] = None) -> Iterator[Write]:
+        """The channel writes to come, one by one, up to a cycle or the stop; of one channel, where one is named. The
+        machine goes on as they are asked for, so that events can be given between two of them: after a write to the
+        channel that is named, or else after the writes of a hundredth of a second, which are at hand at once."""
+        while self.stop is None and self.cycle < until:
+            left = until - self.cycle
+            if channel is None:
+                yield from self.go(min(left, 853))
+            else:
+                came = self.until_write(channel, min(left, 1_000_000))
+                yield from (write for write in came.writes if write.channel == channel)
+
+    def back(self, cycle: int) -> None:
+        """Back to the state before a cycle. What was given at it or later is dropped."""
+        self.say(f"back {cycle}")
+
+    # what happens to the machine, now
+
+    def key(self, name: str) -> None:
+        """A key goes down: "0" to "9", "+", "-", "VERB", "NOUN", "ENTR", "CLR", "RSET" or "KEYREL"."""
+        self.say(f"key {name}")
+
+    def pro(self, down: bool) -> None:
+        """The PRO key goes down, or comes up."""
+        self.say("pro down" if down else "pro up")
+
+    def input(self, channel: int, word: int) -> None:
+        """A channel takes a word from outside."""
+        self.say(f"input {channel:o} {word:o}")
+
+    def pulse(self, counter: int, kind: str) -> None:
+        """A counter is pulsed: pinc, minc, pcdu, mcdu, shinc or shanc. It costs a cycle."""
+        self.say(f"pulse {counter:o} {kind}")
+
+    def raise_interrupt(self, number: int) -> None:
+        """The interrupt with this number, 1 to 10, is requested."""
+        self.say(f"raise {number}")
+
+    def poke(self, bank: int, offset: int, word: int) -> None:
+        """A cell of an erasable bank takes a word."""
+        self.say(f"poke {bank:o} {offset:o} {word:o}")
+
+    # what can be seen
+
+    def panel(self) -> Dict[str, str]:
+        """The display: what stands in PROG, VERB, NOUN, R1, R2 and R3, FLASH and LAMPS, as `agc` prints it."""
+        return dict(line.split(" ", 1) for line in self.say("panel").lines)
+
+    def tables(self, spec: str) -> List[str]:
+        """The lines of the Executive's tables, of which the spec is that of `agc --watch`."""
+        return self.say(f"watch {spec}").lines
+
+    def registers(self) -> Registers:
+        """The central registers."""
+        return Registers(*(int(word, 8) for word in self.say("registers").lines[0].split()[1::2]))
+
+    def next(self) -> str:
+        """What comes next, as a trace names it: "4000 14000 TCF 4000", or "- interrupt KEYRUPT1"."""
+        return self.say("next").lines[0].split(" ", 1)[1]
+
+    def cell(self, place: str) -> int:
+        """The word of a cell of erasable memory: "0100", or "E3,1400"."""
+        return self.cells(place, 1)[0]
+
+    def cells(self, place: str, count: int) -> List[int]:
+        """The words of so many cells, from this one on."""
+        return [int(line.rsplit(" ", 1)[1], 8) for line in self.say(f"cell {place} {count}").lines]
+
+    def channel(self, channel: int) -> int:
+        """The word of a channel."""
+        return int(self.say(f"channel {channel:o}").lines[0].rsplit(" ", 1)[1], 8)
+
+    def count_of_writes(self) -> int:
+        """How many channel writes there were."""
+        return int(self.say("writes").lines[0].split()[1])
+
+    def script(self) -> str:
+        """The script that repeats this session: `agc ROPE SCRIPT --limit CYCLE` makes the same run of it."""
+        return "".join(line + "\n" for line in self.say("script").lines)
+
+
+def _writes(answer: Answer) -> List[Write]:
+    """The channel writes of an answer."""
+    found = []
+    for line in answer.lines:
+        if line.startswith("write "):
+            _, cycle, channel, value = line.split(" ")
+            found.append(Write(int(cycle), int(channel, 8), int(value, 8)))
+    return found
+
+
+def _program(named: Union[None, Path, Sequence[str]]) -> List[str]:
+    """The words that start the program."""
+    if named is None:
+        here = os.path.dirname(os.path.realpath(__file__))
+        beside = os.path.join(here, "..", "..", "agc-console")
+        found = beside if os.access(beside, os.X_OK) else shutil.which("agc-console")
+        if found is None:
+            raise FileNotFoundError("agc-console is neither in the folder of this client nor on the path")
+        return [found]
+    if isinstance(named, (str, os.PathLike)):
+        return [os.fspath(named)]
+    return list(named)

@@ -1,0 +1,45 @@
+//! What the program says where there is no session, or no end of one: a line.
+use agc_session::Refusal;
+use agc_sitting::BeginFault;
+use std::fmt;
+use std::io::{self, Write};
+
+/// Why no session begins, or one breaks off.
+#[derive(Clone, Copy, Debug, PartialEq, Eq)]
+pub enum Trouble {
+    /// `agc` refuses this too: a rope, a script or a limit at fault, or no memory.
+    Refused(Refusal),
+    /// A read of the commands failed.
+    CannotReadCommands,
+}
+
+impl Trouble {
+    /// Writes the line of this trouble.
+    pub fn write_to<W: Write>(self, err: &mut W) -> io::Result<()> {
+        writeln!(err, "agc-console: {self}")
+    }
+}
+
+impl From<Refusal> for Trouble {
+    fn from(refusal: Refusal) -> Trouble {
+        Trouble::Refused(refusal)
+    }
+}
+
+impl From<BeginFault> for Trouble {
+    fn from(fault: BeginFault) -> Trouble {
+        match fault {
+            BeginFault::Limit(limit) => Trouble::Refused(Refusal::Limit(limit)),
+            BeginFault::Memory => Trouble::Refused(Refusal::Memory),
+        }
+    }
+}
+
+impl fmt::Display for Trouble {
+    fn fmt<W: fmt::Write>(&self, f: &mut fmt::Formatter<W>) -> fmt::Result {
+        match *self {
+            Trouble::Refused(refusal) => write!(f, "{refusal}"),
+            Trouble::CannotReadCommands => f.write_str("cannot read commands"),
+        }
+    }
+}

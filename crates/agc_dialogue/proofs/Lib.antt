@@ -1,0 +1,5 @@
+pub mod Answering
+pub mod Cells
+pub mod Going
+pub mod Stepping
+pub mod Telling

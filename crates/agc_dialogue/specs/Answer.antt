@@ -1,0 +1,72 @@
+-- The lines that answer a command.
+use Rattle.std.specs.Prelude.{ℕ, ◌/◌, ◌%◌, nat_lt, Bool, true, false, List, ◌++◌, codes}
+use Rattle.std.specs.Prelude.{Option, Some, None, if◌then◌else◌}
+use Rattle.std.specs.Fmt.{decimal}
+use Rattle.agc_machine.specs.Answer.{stop_name}
+use Rattle.agc_machine.specs.declared.answer.ChannelWrite.{ChannelWrite}
+use Rattle.agc_machine.specs.declared.answer.Stop.{Stop}
+use Rattle.agc_machine.specs.declared.upcoming.Upcoming.{Upcoming}
+use Rattle.agc_rope_text.specs.Place.{place_text}
+use Rattle.agc_rope_text.specs.declared.place.Place.{Place}
+use Rattle.agc_rope_text.specs.declared.place.Place.TheVariants as place
+use Rattle.agc_source_words.specs.Location.{cell_address}
+use Rattle.agc_store.specs.Cells.{cell_of}
+use Rattle.agc_store.specs.Memory.{Memory}
+use Rattle.agc_store.specs.Places.{bb_cell, erasable_bank_size, erasable_window}
+use Rattle.agc_trace.specs.Entry.{registers_of}
+use Rattle.agc_trace.specs.Line.{happening_text, registers_text}
+use Rattle.agc_script.specs.Written.{word_digits}
+use Rattle.agc_word.specs.Number.{Number}
+use Rattle.agc_word.specs.Octal.{octal_digits}
+
+-- a channel write: the cycle in decimal, the channel in three octal digits, the word in five
+abbrev pub write_line : ChannelWrite → List ℕ
+write_line w =
+    codes "write " ++ decimal w.cycle ++ codes " " ++ octal_digits 3 w.channel
+    ++ codes " " ++ word_digits w.value ++ codes "\n"
+
+-- the end of an answer: the cycle, and why the machine has stopped, where it has
+abbrev pub end_line : Option Stop → ℕ → List ℕ
+end_line None cycle = codes "at " ++ decimal cycle ++ codes "\n"
+end_line (Some why) cycle =
+    codes "stop " ++ stop_name why ++ codes " at " ++ decimal cycle ++ codes "\n"
+
+-- the end of an answer where nothing was done
+abbrev pub error_line : List ℕ → List ℕ
+error_line reason = codes "error: " ++ reason ++ codes "\n"
+
+-- the registers as a trace shows them, and BB
+unfoldable pub registers_line : Memory → List ℕ
+registers_line m =
+    registers_text (registers_of m) ++ codes " BB " ++ word_digits (cell_of m 0 bb_cell)
+    ++ codes "\n"
+
+-- what comes next, as a trace names it
+unfoldable pub next_line : Upcoming → List ℕ
+next_line next = codes "next " ++ happening_text next ++ codes "\n"
+
+-- a cell by its number: its address, or its bank and its address in the window
+abbrev pub cell_place : ℕ → Place
+cell_place cell =
+    if nat_lt cell erasable_window then place.Plain cell
+    else place.Erasable (cell / erasable_bank_size) (cell_address cell)
+
+-- a cell with its word, overflow corrected
+unfoldable pub cell_line : Memory → ℕ → List ℕ
+cell_line m cell =
+    codes "cell " ++ place_text (cell_place cell) ++ codes " "
+    ++ word_digits (cell_of m (cell / erasable_bank_size) (cell % erasable_bank_size)) ++ codes "\n"
+
+-- a channel with its word
+abbrev pub channel_line : ℕ → Number → List ℕ
+channel_line channel value =
+    codes "channel " ++ octal_digits 3 channel ++ codes " " ++ word_digits value ++ codes "\n"
+
+-- how many channel writes there were
+abbrev pub writes_line : ℕ → List ℕ
+writes_line writes = codes "writes " ++ decimal writes ++ codes "\n"
+
+-- whether what a run went on to has come
+abbrev pub came_line : Bool → List ℕ
+came_line true = codes "came yes\n"
+came_line false = codes "came no\n"

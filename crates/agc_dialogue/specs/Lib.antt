@@ -1,0 +1,5 @@
+pub mod Answer
+pub mod Talk
+pub mod Told
+pub mod Shown
+pub mod Answered

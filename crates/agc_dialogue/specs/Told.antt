@@ -1,0 +1,27 @@
+-- What an answer has said of a machine that went on.
+use Rattle.std.specs.Prelude.{ℕ, Bool, List, [], Option, flat_map}
+use Rattle.std.specs.Io.KnownBytes.{Appends}
+use Rattle.agc_machine.specs.Live.{IsLive}
+use Rattle.agc_machine.specs.State.{State}
+use Rattle.agc_machine.specs.declared.answer.ChannelWrite.{ChannelWrite}
+use Rattle.agc_machine.specs.declared.answer.Stepped.{Stepped}
+use Rattle.agc_machine.specs.declared.answer.Stepped.TheVariants as stepped
+use Rattle.agc_dialogue.specs.Answer.{came_line, write_line}
+
+-- the line of what was shown, if it is a channel write
+abbrev pub told : Stepped → List ℕ
+told stepped.Quiet = []
+told (stepped.Wrote write) = write_line write
+told (stepped.Stopped why) = []
+
+-- A machine came from a state to another by boundaries with nothing given, and what was said grew by the
+-- lines of the channel writes on the way: each of them once, in their order, and nothing else.
+pub record TellsWrites (s t : State) (old new : Option (List ℕ)) : Type 0 where
+  pub writes : List ChannelWrite
+  pub way : IsLive s [] writes t
+  pub said : Appends old new (flat_map write_line writes)
+
+-- the same, and then whether it has come to what it went on to
+abbrev pub TellsUntil : State → State → Option (List ℕ) → Option (List ℕ) → Type 0
+TellsUntil s t old new =
+    (way : Option (List ℕ)) × (came : Bool) × TellsWrites s t old way × Appends way new (came_line came)

@@ -1,0 +1,3 @@
+//! Lines that answer, and whole conversations, worked by hand.
+mod answer;
+mod conversation;

@@ -1,0 +1,123 @@
+//! Whole conversations: the texts were worked by hand from the programs and the cycles of their orders.
+use crate::converse;
+use agc_listing::{DIVISION, EDRUPT, IDLE, RELAY_WORD, rope_file};
+use agc_script::Script;
+use agc_sitting::Sitting;
+use agc_store::Rope;
+use std::process::Abort;
+use std::test::Fail;
+
+/// What is answered to a text.
+#[tactic(auto, unfolding(agc_machine::specs::State::start_state))]
+fn answers(
+    rt: &(impl AllocGlobal + Abort),
+    listing: &str,
+    script: &str,
+    said: &[u8],
+) -> Result<String, Fail> {
+    let bytes = rope_file(rt.alloc(), listing)?;
+    let rope = Rope::read(rt.alloc(), bytes.as_slice())?;
+    let script = Script::parse(rt.alloc(), script.as_bytes())?;
+    let sitting = Sitting::new(rt.alloc(), rope, script, 1000)
+        .ok()
+        .expect(rt, "the limit is in range");
+    let mut input = said;
+    let mut output = Vec::new(rt.alloc());
+    let ended = converse(rt.alloc(), sitting, &mut input, &mut output);
+    assert_eq!(rt; ended, Ok(()));
+    Ok(String::from_utf8(output).ok().expect(rt, "ASCII"))
+}
+
+#[test]
+fn ten_lines_are_answered_in_turn(rt: HostRuntime) -> Result<(), Fail> {
+    let said = b"go to 3\nnext\nstep\nwrites\nkey VERB\n\ngo 10\nscript\nback 3\nwrites\n";
+    let text = answers(&rt, RELAY_WORD, "", said)?;
+    let wanted = "at 3
+next 4002 01010 WRITE 010
+at 3
+3 4002 01010 WRITE 010 > 010 54171 | A 154171 L 00000 Q 000000 Z 4004 EB 0 FB 00
+at 5
+writes 1
+at 5
+at 5
+at 5
+at 15
+5 key VERB
+at 15
+at 3
+writes 0
+at 3
+";
+    assert_eq!(rt; text.as_str(), wanted);
+    Ok(())
+}
+
+#[test]
+fn a_run_is_told_until_its_stop(rt: HostRuntime) -> Result<(), Fail> {
+    let text = answers(
+        &rt,
+        EDRUPT,
+        "",
+        b"until write 10\nuntil 4002\ngo 9\ngo 9\nkey VERB\nback 0\n",
+    )?;
+    let wanted = "write 1 010 00000
+came yes
+at 3
+came no
+stop Edrupt at 4
+stop Edrupt at 4
+stop Edrupt at 4
+error: Stopped: the machine takes no event any more
+at 0
+";
+    assert_eq!(rt; text.as_str(), wanted);
+    Ok(())
+}
+
+#[test]
+fn what_is_given_comes_after_the_events_that_are_due(rt: HostRuntime) -> Result<(), Fail> {
+    let said =
+        b"poke 0 100 1\nuntil cell 101 within 3\npoke 0 101 2\ncell 100 2\nscript\ngo to 1000\nkey VERB\n";
+    let text = answers(&rt, IDLE, "0 poke 0 100 7\n", said)?;
+    let wanted = "at 0
+came no
+at 3
+at 3
+cell 0100 00001
+cell 0101 00002
+at 3
+0 poke 0 100 00007
+0 poke 0 100 00001
+3 poke 0 101 00002
+at 3
+at 1000
+error: Stopped: the machine takes no event any more
+";
+    assert_eq!(rt; text.as_str(), wanted);
+    Ok(())
+}
+
+#[test]
+fn a_line_of_121_bytes_is_refused_once(rt: HostRuntime) -> Result<(), Fail> {
+    let mut said = Vec::new(rt.alloc());
+    said.extend_from_slice(&[b' '; 121])?;
+    said.extend_from_slice(b"\n")?;
+    said.extend_from_slice(&[b' '; 120])?;
+    said.extend_from_slice(b"\r\n")?;
+    said.extend_from_slice(&[b'x'; 500])?;
+    said.extend_from_slice(b"\r\nquit\nnext\n")?;
+    let text = answers(&rt, DIVISION, "", said.as_slice())?;
+    let wanted = "error: LineTooLong: a line has at most 120 bytes
+at 0
+error: LineTooLong: a line has at most 120 bytes
+";
+    assert_eq!(rt; text.as_str(), wanted);
+    Ok(())
+}
+
+#[test]
+fn a_last_line_needs_no_line_feed(rt: HostRuntime) -> Result<(), Fail> {
+    let text = answers(&rt, IDLE, "", b"# nothing\r\ngo 5")?;
+    assert_eq!(rt; text.as_str(), "at 0\nat 5\n");
+    Ok(())
+}

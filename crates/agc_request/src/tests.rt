@@ -1,0 +1,2 @@
+//! Lines that are said, worked by hand.
+mod request;

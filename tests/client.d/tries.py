@@ -1,0 +1,146 @@
+"""The client of agc-console, call by call. The words are: the program agc, the program agc-console, the top of the
+repository."""
+
+import os
+import subprocess
+import sys
+import tempfile
+
+from agc import Came, Console, Ended, Refused, Registers, Write
+
+program, console, top = sys.argv[1:4]
+passed = 0
+failed = 0
+
+
+def judge(what, wanted, came):
+    """A case, which is told where it is not as it should be."""
+    global passed, failed
+    if wanted == came:
+        passed += 1
+    else:
+        failed += 1
+        print(f"client: {what}: wanted {wanted!r}, came {came!r}", file=sys.stderr)
+
+
+def raised(kind, call, *words):
+    """The text of the exception of this kind that a call raises, or what it returns."""
+    try:
+        return call(*words)
+    except kind as error:
+        return str(error)
+
+
+def example(name, **named):
+    return Console(os.path.join(top, "examples", name, "rope"), program=console, **named)
+
+
+def script_of(name):
+    return os.path.join(top, "examples", name, "script")
+
+
+def try_keys():
+    """The session of examples/console/keys."""
+    with example("keys") as agc:
+        judge("it begins at 0", (0, None), (agc.cycle, agc.stop))
+        judge("no writes yet", [], agc.go(10))
+        agc.key("4")
+        judge("what comes next", "- interrupt KEYRUPT1", agc.next())
+        judge("a write", [Write(cycle=30, channel=0o10, value=0o44017)], agc.go(30))
+        judge("the panel", ("_4", "off", "none"), tuple(agc.panel()[name] for name in ("NOUN", "FLASH", "LAMPS")))
+        judge("on to a cycle", ([], 200), (agc.go_to(200), agc.cycle))
+        agc.key("2")
+        judge("until a write", Came(True, [Write(220, 0o10, 0o44771)]), agc.until_write(0o10))
+        judge("the count", 2, agc.count_of_writes())
+        judge("a cell", 2, agc.cell("0101"))
+        judge("cells", [4, 2], agc.cells("100", 2))
+        judge("a channel", 2, agc.channel(0o15))
+        judge("the script", "10 key 4\n200 key 2\n", agc.script())
+        agc.back(200)
+        judge("back", (200, 1, "10 key 4\n"), (agc.cycle, agc.count_of_writes(), agc.script()))
+
+
+def try_events():
+    """Each event, and its line in the script."""
+    with example("watch") as agc:
+        agc.input(0o30, 0o37776)
+        agc.pro(True)
+        judge("PRO is down", 0o57777, agc.channel(0o32))
+        agc.pro(False)
+        agc.pulse(0o37, "pinc")
+        judge("a pulse costs a cycle", (1, 1), (agc.cycle, agc.cell("37")))
+        agc.poke(3, 0, 0o12345)
+        agc.raise_interrupt(8)
+        wanted = "0 input 30 37776\n0 pro down\n0 pro up\n0 pulse 37 pinc\n1 poke 3 0 12345\n1 raise 8\n"
+        judge("the script of events", wanted, agc.script())
+        lines = ["1 - interrupt DOWNRUPT | A 000000 L 00000 Q 000000 Z 4041 EB 0 FB 00"]
+        judge("a step", lines, agc.step())
+        judge("registers", Registers(a=0, l=0, q=0, z=0o4041, eb=0, fb=0, bb=0), agc.registers())
+        judge("steps", 2, len(agc.step(2)))
+        judge("until a place", (Came(True, []), 0), (agc.until("4000"), agc.registers().a))
+        judge("tables", 12, len(agc.tables("1,0,2,1,100,1,200")))
+
+
+def try_until():
+    """The sessions of examples/console/until and stop."""
+    with example("timers", script=script_of("timers")) as agc:
+        judge("until a cell changes", (Came(True, []), 647), (agc.until_cell("100"), agc.cycle))
+        judge("what does not come", Came(False, []), agc.until("4100", within=0))
+    with example("division", limit=100, form="classic") as agc:
+        judge("until the stop", Came(False, [Write(3, 0o10, 2)]), agc.until_write(0o11))
+        judge("the stop", ("DivisionUndefined", 6), (agc.stop, agc.cycle))
+        judge("no event", "Stopped: the machine takes no event any more", raised(Refused, agc.key, "1"))
+        agc.back(5)
+        judge("back from the stop", (None, 5), (agc.stop, agc.cycle))
+
+
+def try_writes():
+    """The iterator, with an event between two writes; and the told script in agc."""
+    with example("timers", script=script_of("timers")) as agc:
+        writes = agc.writes(until=10000, channel=0o11)
+        first = next(writes)
+        judge("the first write", (Write(654, 0o11, 1), 656), (first, agc.cycle))
+        agc.poke(0, 0o100, 0o77)
+        found = [first, *writes]
+        judge("the second write has what was given", Write(1508, 0o11, 0o100), found[1])
+        judge("the writes end", True, agc.cycle >= 10000)
+        with tempfile.NamedTemporaryFile("w") as told:
+            told.write(agc.script())
+            told.flush()
+            rope = os.path.join(top, "examples", "timers", "rope")
+            words = [program, rope, told.name, "--limit", str(agc.cycle), "--log"]
+            log = subprocess.run(words, capture_output=True, text=True, check=True).stdout.splitlines()[9:]
+        judge("agc makes the same run", log, [f"{write.cycle} {write.channel:03o} {write.value:05o}" for write in found])
+    with example("timers", script=script_of("timers")) as agc:
+        judge("all writes", [Write(654, 0o11, 1), Write(1508, 0o11, 2)], list(agc.writes(until=2000)))
+    with example("division") as agc:
+        judge("writes up to the stop", [Write(3, 0o10, 2)], list(agc.writes()))
+
+
+def try_faults():
+    """What is refused, and consoles that have ended."""
+    with example("keys") as agc:
+        judge("a fault", "BadChannel: a channel is octal, 0 to 777", raised(Refused, agc.channel, 0o1000))
+        judge("two lines are no command", "no command: 'go 1\\ngo 1'", raised(ValueError, agc.say, "go 1\ngo 1"))
+        judge("nothing has changed", (0, 0), (agc.say("writes").cycle, agc.count_of_writes()))
+        agc.close()
+        agc.close()
+        judge("a closed console", "the console is closed", raised(Ended, agc.go, 1))
+    with example("keys") as agc:
+        judge("quit ends it", "the console ended with status 0", raised(Ended, agc.say, "quit"))
+        judge("it stays so", "the console ended with status 0", raised(Ended, agc.go, 1))
+    try:
+        Console("/dev/null", program=[console])
+        judge("an empty rope", "refused", "taken")
+    except Ended as error:
+        judge("an empty rope", ("agc-console: rope: Empty", 1), (str(error), error.status))
+    judge("a limit of 0", "agc-console: limit: Zero", raised(Ended, lambda: example("keys", limit=0)))
+
+
+for each in (try_keys, try_events, try_until, try_writes, try_faults):
+    try:
+        each()
+    except Exception as error:
+        judge(each.__doc__, "no exception", repr(error))
+print(f"{passed} passed, {failed} failed")
+sys.exit(failed > 0)

@@ -1,0 +1,324 @@
+"""Random sessions of agc-console against the plain run of agc on the script that each tells, and odd uses of it.
+
+The words are: the programs agc, agc-study and agc-console, the top of the repository, a folder for files, and seeds.
+"""
+
+import os
+import random
+import re
+import subprocess
+import sys
+import time
+
+import session as cases
+from reading import faults_of, wrong_line
+from session import Session, judge, meaning
+from walks import walk
+
+agc, study, console, top, scratch = sys.argv[1:6]
+seeds = [int(seed) for seed in sys.argv[6:]] or range(200)
+
+LAST_CYCLE = 1_000_000_000_000
+TABLES = "0,100,4,0,100,0,200"
+GIVEN = ("key ", "pro ", "input ", "pulse ", "raise ", "poke ")
+TRACED = re.compile(r"(\d+) .* > (\d{3}) (\d{5}) \| ")
+
+
+def random_rope(dice):
+    """A rope of random words, most of them orders that do much, with RESUME at some vectors."""
+    words = [0] * 0o100
+    for place in range(len(words)):
+        words[place] = dice.choice(
+            [
+                dice.randrange(0o100000),
+                0o00006,
+                0o01010,
+                0o01011,
+                0o05000 + dice.randrange(5, 0o200),
+                0o24100 + dice.randrange(8),
+                0o30100 + dice.randrange(8),
+                0o34000 + dice.randrange(0o100),
+                0o54100 + dice.randrange(8),
+                0o60100 + dice.randrange(8),
+                0o14000 + dice.randrange(0o100),
+            ]
+        )
+    for vector in range(0o4, 0o54, 4):
+        if dice.random() < 0.8:
+            words[vector] = 0o50017
+    words[0] = 0o14054
+    return b"".join((word << 1).to_bytes(2, "big") for word in words)
+
+
+def files_of(dice, seed):
+    """A rope and a script: those of an example, or random ones."""
+    script = os.path.join(scratch, f"{seed}.script")
+    with open(script, "w") as file:
+        cycle = 0
+        for _ in range(dice.choice([0, 0, 3, 20])):
+            cycle += dice.randrange(2000)
+            file.write(f"{cycle} {an_event(dice)}\n")
+    if dice.random() < 0.5:
+        rope = os.path.join(scratch, f"{seed}.rope")
+        with open(rope, "wb") as file:
+            file.write(random_rope(dice))
+        return rope, script
+    example = os.path.join(top, "examples", dice.choice(["keys", "timers", "count-4", "downlink", "division", "watch"]))
+    return os.path.join(example, "rope"), dice.choice([script, os.path.join(example, "script")])
+
+
+def an_event(dice):
+    """What a script may say after a cycle."""
+    kind = dice.randrange(6)
+    if kind == 0:
+        return "key " + dice.choice("0 1 2 3 4 5 6 7 8 9 + - VERB NOUN ENTR CLR RSET KEYREL".split())
+    if kind == 1:
+        return dice.choice(["pro down", "pro up"])
+    if kind == 2:
+        return f"input {dice.choice([5, 7, 0o13, 0o16, 0o30, 0o32, 0o777]):o} {dice.randrange(0o100000):o}"
+    if kind == 3:
+        pulse = dice.choice("pinc minc pcdu mcdu shinc shanc".split())
+        return f"pulse {dice.randrange(0o24, 0o61):o} {pulse}"
+    if kind == 4:
+        return f"raise {dice.randrange(1, 11)}"
+    bank = dice.choice([0, 0, 0, 3, 7])
+    return f"poke {bank} {dice.choice([0o27, 0o31, 0o100, 0o101, 0o377]):o} {dice.randrange(0o100000):o}"
+
+
+def a_place(dice):
+    return dice.choice(["4000", "4054", "4020", "4100", "100", "10,2000", "E3,1400", "0027"])
+
+
+def a_cell(dice):
+    return dice.choice(["100", "101", "27", "0", "E3,1400", "777"])
+
+
+def a_command(dice, cycle):
+    """Any command, wrong ones among them, and now and then none."""
+    kind = dice.randrange(20)
+    within = dice.choice(["", f" within {dice.randrange(5000)}"])
+    if kind < 4:
+        return f"go {dice.choice([0, 1, 7, 100, 853, 5000, 30000])}"
+    if kind == 4:
+        return f"go to {dice.randrange(cycle + 3000)}"
+    if kind == 5:
+        return dice.choice(["step", f"step {dice.randrange(60)}"])
+    if kind == 6:
+        return f"until {a_place(dice)} within {dice.randrange(5000)}"
+    if kind == 7:
+        return f"until write {dice.choice(['10', '11', '7', '5'])}{within}"
+    if kind == 8:
+        return f"until cell {a_cell(dice)} within {dice.randrange(5000)}"
+    if kind < 14:
+        return an_event(dice)
+    if kind == 14 and dice.random() < 0.5:
+        return f"back {dice.randrange(cycle + 500)}"
+    if kind == 15:
+        return dice.choice(["panel", "registers", "next", "writes", "script", "help", f"watch {TABLES}", "", "# so"])
+    if kind == 16:
+        return dice.choice([f"cell {a_cell(dice)}", f"cell 100 {dice.randrange(1, 9)}", "channel 10", "channel 777"])
+    return wrong_line(dice)
+
+
+def shown_in(command, lines):
+    """The channel writes that an answer tells, as agc's log has them."""
+    if command.startswith("step"):
+        return [f"{found[1]} {found[2]} {found[3]}" for found in map(TRACED.match, lines) if found]
+    return [line[len("write ") :] for line in lines if line.startswith("write ")]
+
+
+class Told:
+    """What a session should tell: its script, and the channel writes that its commands have told."""
+
+    def __init__(self, session):
+        self.session = session
+        self.script = self.asked()
+        self.given = []
+        self.writes = []
+        self.untold = []
+
+    def asked(self):
+        return [meaning(line) for line in self.session.say("script")]
+
+    def take_event(self, command, before):
+        """An event stands in the script at its cycle, after what is due by then, and nothing else has changed."""
+        cycle = self.session.cycle - command.startswith("pulse ")
+        pulses = sum(event[1] == "pulse" for event in self.script)
+        judge(f"{command} happens now", True, before <= cycle <= before + pulses)
+        event = (cycle, *meaning(command))
+        at = sum(other[0] <= cycle for other in self.script)
+        self.script.insert(at, event)
+        self.given.append(event)
+        judge(f"the script after {command}", self.script, self.asked())
+
+    def take_back(self, command, before):
+        """What was given at the cycle or later is dropped, and so is what was written; from an earlier cycle nothing
+        is told of the way."""
+        cycle = int(command.split()[1])
+        for event in self.given:
+            if event[0] >= cycle:
+                self.script.remove(event)
+        self.given = [event for event in self.given if event[0] < cycle]
+        judge(f"the script after {command}", self.script, self.asked())
+        self.writes = [write for write in self.writes if int(write.split()[0]) < cycle]
+        self.untold = [(first, min(end, cycle)) for first, end in self.untold] + [(before, cycle)]
+
+    def without_untold(self, log):
+        """The lines of a log but for those that were made while nothing was told."""
+        cycles = [int(line.split()[0]) for line in log]
+        return [
+            line
+            for line, cycle in zip(log, cycles)
+            if not any(first <= cycle < end for first, end in self.untold)
+        ]
+
+
+def try_wrong_line(session, line):
+    """A line at fault is answered by one of its faults, and changes nothing."""
+    before = session.cycle, session.stop
+    lines = session.say(line)
+    judge(f"a fault of {line!r:.140}", (None, True), (lines, (session.error or "").split(":")[0] in faults_of(line)))
+    session.say("")
+    judge(f"an error changes nothing: {line!r:.140}", before, (session.cycle, session.stop))
+
+
+def goes_on(session, dice, limit):
+    """Says random commands, and returns what was told."""
+    told = Told(session)
+    for _ in range(dice.randrange(1, 60)):
+        command = a_command(dice, session.cycle)
+        if isinstance(command, bytes):
+            try_wrong_line(session, command)
+            continue
+        before = session.cycle, session.stop
+        lines = session.say(command)
+        if lines is None:
+            late = before[1] is not None or session.cycle >= limit
+            judge(f"only an event that comes too late is refused: {command}", True, late and command.startswith(GIVEN))
+            judge(f"why {command} is refused", "Stopped", session.error.split(":")[0])
+        elif command.startswith(GIVEN):
+            told.take_event(command, before[0])
+        elif command.startswith("back "):
+            told.take_back(command, before[0])
+        else:
+            told.writes += shown_in(command, lines)
+    # what was given last has happened, and no boundary is half a cycle's
+    told.writes += shown_in("go", session.say("go 1"))
+    return told
+
+
+def try_seed(seed):
+    """A session, then the plain run of what it tells, and the session again from a file."""
+    dice = random.Random(seed)
+    rope, script = files_of(dice, seed)
+    limit = dice.choice([LAST_CYCLE, LAST_CYCLE, 5000, 100])
+    words = [rope, script, "--limit", str(limit)]
+    session = Session(console, words)
+    told = goes_on(session, dice, limit)
+    panel = session.say("panel")
+    count = session.say("writes")
+    tables = session.say(f"watch {TABLES}")
+    events = session.say("script")
+    came = session.cycle, session.stop
+    judge(f"seed {seed}: the end", (b"", 0), session.close())
+
+    name = os.path.join(scratch, f"{seed}.told")
+    with open(name, "w") as file:
+        file.writelines(line + "\n" for line in events)
+    # A machine that has stopped at a cycle has a limit above it, but where the limit itself was the stop.
+    end = limit if came[1] == "Limit" else came[0] + (came[1] is not None)
+    plain = subprocess.run(
+        [agc, rope, name, "--limit", str(end), "--log", "--watch", TABLES], capture_output=True, text=True
+    )
+    lines = plain.stdout.splitlines()
+    stop = f"STOP {came[1] or 'Limit'} CYCLE {came[0]} WRITES {count[0].split()[1] if count else None}"
+    judge(f"seed {seed}: the panel", lines[:8], panel)
+    judge(f"seed {seed}: the stop", lines[8:9], [stop])
+    log = lines[9 : 9 + int(count[0].split()[1])]
+    judge(f"seed {seed}: each write is told once", told.without_untold(log), told.writes)
+    judge(f"seed {seed}: the tables", lines[9 + len(log) :], tables)
+
+    again = subprocess.run([console, *words], input=session.said, capture_output=True)
+    judge(f"seed {seed}: all at once", (0, session.answered, b""), (again.returncode, again.stdout, again.stderr))
+
+
+def try_odd_uses():
+    """Streams that end, are closed or take nothing, and many commands."""
+    rope = os.path.join(top, "examples", "keys", "rope")
+    words = f'"{console}" "{rope}" /dev/null'
+
+    def ended(line):
+        run = subprocess.run(["bash", "-c", line], capture_output=True)
+        return run.returncode, run.stdout, run.stderr
+
+    judge("no commands", (0, b"", b""), ended(f"{words} </dev/null"))
+    judge("no line feed at the end", (0, b"at 7\n", b""), ended(f"printf 'go 7' | {words}"))
+    judge("a line of 120 bytes and its end", (0, b"at 0\n", b""), ended(f"printf '%120s\\r\\n' | {words}"))
+    judge(
+        "a line of 121 bytes",
+        (0, b"error: LineTooLong: a line has at most 120 bytes\nat 1\n", b""),
+        ended(f"printf '%121s\\ngo 1\\n' | {words}"),
+    )
+    judge(
+        "a line of a million bytes",
+        (0, b"error: LineTooLong: a line has at most 120 bytes\nat 1\n", b""),
+        ended(f"printf '%1000000s\\ngo 1\\n' | {words}"),
+    )
+    judge(
+        "a byte 0",
+        (0, b"error: UnknownCommand: help lists the commands\nat 1\n", b""),
+        ended(f"printf '\\0\\ngo 1\\n' | {words}"),
+    )
+    unread = b"agc-console: cannot read commands\n"
+    judge("commands from a folder", (1, b"", unread), ended(f"{words} </"))
+    judge("a closed standard input", (1, b"", unread), ended(f"{words} <&-"))
+    judge("a closed standard output", (3, b"", b""), ended(f"echo go 1 | {words} >&-"))
+    judge("nothing after quit", (0, b"at 1\n", b""), ended(f"printf 'go 1\\nquit\\ngo 1\\n' | {words}"))
+    judge(
+        "a million commands in 64 megabytes",
+        (0, b"at 1000000\n", b""),
+        ended(f"ulimit -v 65536; yes 'go 1' | head -n 1000000 | {words} | tail -n 1"),
+    )
+
+
+def try_full_script():
+    """A script takes 65,536 events, be they given or not, and one that is dropped makes room again."""
+    script = os.path.join(scratch, "full")
+    with open(script, "w") as file:
+        file.write("every 1 1000 66534 raise 8\n")
+    session = Session(console, [os.path.join(top, "examples", "keys", "rope"), script])
+    judge("65,535 events and one", [], session.say("raise 1"))
+    judge("one more", (None, "TooMany: a script has at most 65536 events"), (session.say("raise 1"), session.error))
+    judge("it is not told", 65536, len(session.say("script")))
+    session.say("back 0")
+    judge("room again", ([], None), (session.say("raise 1"), session.say("raise 1")))
+    judge("the end of a full script", (b"", 0), session.close())
+
+
+def try_an_hour_back():
+    """An hour of machine time, and back to its middle and to its start. How long it takes is told."""
+    session = Session(console, [os.path.join(top, "examples", "keys", "rope"), os.devnull])
+    session.say("key 4")
+    for command, cycle in (("go 307200000", 307200000), ("back 307199999", 307199999), ("back 0", 0)):
+        begun = time.monotonic()
+        lines = session.say(command)
+        took = time.monotonic() - begun
+        print(f"console: {command}: {took:.1f} seconds")
+        judge(command, ([], cycle), ([line for line in lines if not line.startswith("write 20 ")], session.cycle))
+        judge(f"{command} takes less than three minutes", True, took < 180)
+    judge("the end of an hour", (b"", 0), session.close())
+
+
+for each in seeds:
+    try:
+        try_seed(each)
+        dice = random.Random(-1 - each)
+        walk(console, study, files_of(dice, each)[0], dice, an_event, scratch)
+    except (EOFError, IndexError, subprocess.CalledProcessError) as error:
+        judge(f"seed {each}", "answers", repr(error))
+if len(sys.argv) == 6:
+    try_odd_uses()
+    try_full_script()
+    try_an_hour_back()
+print(f"{cases.passed} passed, {cases.failed} failed")
+sys.exit(cases.failed > 0)
