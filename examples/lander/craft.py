@@ -1,0 +1,110 @@
+#!/usr/bin/env python3
+"""A spacecraft in a loop with agc-console: the rope beside this file holds its angle by two jets.
+
+Every hundredth of a second of machine time the craft takes the jets that channel 5 commands, turns, and sends what it
+has turned to the counter CDUX. Machine and craft go in lockstep: neither looks at a clock, and each run is the same.
+"""
+
+import argparse
+import os
+import sys
+
+here = os.path.dirname(os.path.realpath(__file__))
+sys.path.append(os.path.join(here, "..", "..", "clients", "python"))
+from agc import Console  # noqa: E402
+
+ROPE = os.path.join(here, "rope")
+STEP = 853  # cycles: a hundredth of a second, but for a third of a cycle
+CDUX, CHANNEL = 0o32, 5
+UP, DOWN = 1, 2  # the jets of the channel
+PARTS = 64  # of a pulse; in a step a jet makes the turning one of them a step faster: 1.7 degrees a second, each second
+TURN = 32768  # the pulses of CDUX
+DEGREE = TURN / 360
+
+
+class Craft:
+    """What turns: its angle, and by how much it turns in a step, in parts of a pulse."""
+
+    def __init__(self, degrees=10.0, degrees_a_second=1.0):
+        self.angle = round(degrees * DEGREE) * PARTS
+        self.turning = round(degrees_a_second * DEGREE * PARTS / 100)
+        self.jets = 0
+
+    def pulses(self):
+        return self.angle // PARTS
+
+    def step(self):
+        """Turns for a step, and returns how many pulses CDUX is to count for it."""
+        before = self.pulses()
+        self.turning += bool(self.jets & UP) - bool(self.jets & DOWN)
+        self.angle += self.turning
+        return self.pulses() - before
+
+
+def fly(agc, craft, steps):
+    """Goes on so many steps, and yields after each one what the machine has written in it."""
+    agc.poke(0, CDUX, craft.pulses() % TURN)
+    for step in range(1, steps + 1):
+        writes = agc.go_to(step * STEP)
+        for write in writes:
+            if write.channel == CHANNEL:
+                craft.jets = write.value
+        turned = craft.step()
+        for _ in range(abs(turned)):
+            agc.pulse(CDUX, "pcdu" if turned > 0 else "mcdu")
+        yield writes
+
+
+def line_of(degrees):
+    """A star where the angle is, from -12 to +12 degrees, and the two edges of the dead band."""
+    line = [" "] * 49
+    line[22] = line[26] = "|"
+    line[max(0, min(48, 24 + round(2 * degrees)))] = "*"
+    return "".join(line).rstrip()
+
+
+def draw(angles, file):
+    """The angle over time, where matplotlib is there."""
+    try:
+        from matplotlib.figure import Figure
+    except ImportError:
+        sys.exit("no picture is drawn: there is no matplotlib")
+    figure = Figure(figsize=(8, 3), layout="tight")
+    axes = figure.subplots()
+    axes.axhspan(-91 / DEGREE, 91 / DEGREE, alpha=0.2)
+    axes.plot([step / 100 for step in range(len(angles))], angles)
+    axes.set(xlabel="seconds", ylabel="degrees")
+    figure.savefig(file)
+
+
+def asked():
+    words = argparse.ArgumentParser(description="Flies a craft whose angle the rope beside this file holds.")
+    words.add_argument("--seconds", type=int, default=120, help="how long, in machine time (120)")
+    words.add_argument("--angle", type=float, default=10.0, help="where it begins, in degrees (10)")
+    words.add_argument("--turning", type=float, default=1.0, help="how it turns then, in degrees a second (1)")
+    words.add_argument("--save", metavar="FILE", help="write the script that repeats the flight")
+    words.add_argument("--png", metavar="FILE", help="draw the angle over time, by matplotlib")
+    words.add_argument("--program", help="another agc-console")
+    return words.parse_args()
+
+
+def main():
+    words = asked()
+    craft = Craft(words.angle, words.turning)
+    angles, writes = [craft.pulses() / DEGREE], 0
+    with Console(ROPE, program=words.program) as agc:
+        for step, written in enumerate(fly(agc, craft, 100 * words.seconds), 1):
+            angles.append(craft.pulses() / DEGREE)
+            writes += len(written)
+            if step % (5 * words.seconds) == 0:
+                print(f"{step / 100:6.1f} s {angles[-1]:+7.2f} degrees {line_of(angles[-1])}")
+        print(f"{writes} writes by cycle {agc.cycle}, CDUX is {agc.cell('32'):05o}")
+        if words.save:
+            with open(words.save, "w") as file:
+                file.write(agc.script())
+    if words.png:
+        draw(angles, words.png)
+
+
+if __name__ == "__main__":
+    main()
