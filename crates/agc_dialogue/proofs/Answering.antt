@@ -1,15 +1,19 @@
 -- What is said of a request, and the end of its answer.
 use Rattle.std.specs.Prelude.{◌≡◌, ℕ, List, [], ◌++◌, Option, None, Some, Result, Ok, Err, OnOk, codes}
 use Rattle.std.specs.Io.KnownBytes.{Appends, Keeps, append_known}
-use Rattle.std.proofs.Common.{refl, sym, subst, ◌∙◌, ap, append-nil}
+use Rattle.std.proofs.Common.{refl, sym, subst, ◌∙◌, ap, append-nil, inl, inr}
 use Rattle.std.proofs.KnownBytes.{Appends-kept, Keeps-refl, append_known-grown}
 use Rattle.agc_request.specs.Fault.{fault_text}
 use Rattle.agc_request.specs.declared.command.Command.{Command}
 use Rattle.agc_request.specs.declared.command.Command.TheVariants as command
 use Rattle.agc_request.specs.declared.fault.CommandFault.{CommandFault}
+use Rattle.agc_machine.specs.Boundary.{WantsKey}
 use Rattle.agc_script.specs.declared.event.What.{What}
+use Rattle.agc_sitting.specs.Sitting.{SittingState, given_now}
+use Rattle.agc_sitting.specs.declared.fault.GiveFault.{GiveFault}
 use Rattle.agc_dialogue.specs.Answer.{error_line}
-use Rattle.agc_dialogue.specs.Answered.{Does, IsAnswered, IsGiven, IsSaid, RunsOut, SaysOf, last_line}
+use Rattle.agc_dialogue.specs.Answered.{Does, IsAnswered, IsGiven, IsRefused, IsSaid, RunsOut, SaysOf, last_line, refusal_text}
+use Rattle.agc_dialogue.specs.Talk.{HasTakenEvents}
 use Rattle.agc_dialogue.specs.declared.conversation.ConverseFault.{ConverseFault}
 use Rattle.agc_dialogue.specs.declared.talk.Talk.{Talk}
 
@@ -85,3 +89,13 @@ answer_written request s t a b c none text shown e f h w =
 
 pub ran_out : (b c : Option (List ℕ)) → Appends b c (codes "error: memory\n") → RunsOut c
 ran_out b c h = record { way = b; ends = h }
+
+-- an event that was given, or refused, and the line that says so
+pub given_is_said : (what : What) (s t : Talk) (old new : List ℕ)
+    → (due : SittingState) × HasTakenEvents s.sitting due × WantsKey due.now × (t.sitting ≡ given_now what due) → new ≡ old ++ last_line t
+    → (said : List ℕ) × IsGiven what s t said × (new ≡ old ++ said)
+given_is_said what s t old new h e = (last_line t, inl (h.0, h.1, h.2, h.3, refl), e)
+
+pub refusal_is_said : (what : What) (why : GiveFault) (s t : Talk) (old new : List ℕ) → IsRefused why s t → new ≡ old ++ error_line (refusal_text why)
+    → (said : List ℕ) × IsGiven what s t said × (new ≡ old ++ said)
+refusal_is_said what why s t old new h e = (error_line (refusal_text why), inr (why, h, refl), e)

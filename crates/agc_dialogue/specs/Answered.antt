@@ -1,20 +1,22 @@
 -- How a request is answered, and what a conversation comes to by it.
-use Rattle.std.specs.Prelude.{◌≡◌, ◌⊎◌, ℕ, ◌+◌, ◌-◌, ◌^◌, min, List, Option, None, Some, Result, Ok, Err, codes, flat_map}
+use Rattle.std.specs.Prelude.{length, ◌≡◌, ◌⊎◌, ℕ, ◌+◌, ◌-◌, ◌^◌, min, List, Option, None, Some, Result, Ok, Err, codes, flat_map}
 use Rattle.std.specs.Io.KnownBytes.{Appends}
-use Rattle.agc_machine.specs.Boundary.{upcoming_of}
+use Rattle.agc_machine.specs.Boundary.{WantsKey}
+use Rattle.agc_machine.specs.Laws.{after}
 use Rattle.agc_request.specs.Fault.{fault_text}
 use Rattle.agc_request.specs.declared.command.Command.{Command}
 use Rattle.agc_request.specs.declared.command.Command.TheVariants as command
 use Rattle.agc_request.specs.declared.fault.CommandFault.{CommandFault}
+use Rattle.agc_script.specs.Event.{most_events}
 use Rattle.agc_script.specs.declared.event.What.{What}
-use Rattle.agc_sitting.specs.Sitting.{HasReached, given_now}
+use Rattle.agc_sitting.specs.Sitting.{HasReached, SittingState, given_now}
 use Rattle.agc_sitting.specs.declared.fault.GiveFault.{GiveFault}
 use Rattle.agc_sitting.specs.declared.fault.GiveFault.TheVariants as fault
 use Rattle.agc_trace.specs.Line.{line_of}
 use Rattle.agc_trace.specs.Trace.{trace_within}
 use Rattle.agc_dialogue.specs.Answer.{end_line, error_line}
 use Rattle.agc_dialogue.specs.Shown.{shown_text}
-use Rattle.agc_dialogue.specs.Talk.{IsEvent}
+use Rattle.agc_dialogue.specs.Talk.{HasTakenEvents}
 use Rattle.agc_dialogue.specs.Told.{TellsUntil, TellsWrites}
 use Rattle.agc_dialogue.specs.declared.talk.Talk.{Talk}
 
@@ -27,11 +29,13 @@ abbrev pub GoesTo : ℕ → Talk → Talk → Option (List ℕ) → Option (List
 GoesTo cycle s t old new =
     HasReached cycle s.sitting.now t.sitting.now × TellsWrites s.sitting.now t.sitting.now old new
 
--- What is done by a command that gives no event, and what is said of it before the end of the answer.
+-- What is done by a command that gives no event, and what is said of it before the end of the answer. Of `back` and
+-- `quit` nothing is done here: a conversation does that.
 unfoldable pub Does : Command → Talk → Talk → Option (List ℕ) → Option (List ℕ) → Type 0
 Does (command.Go cycles) s t old new = GoesTo (min (s.sitting.now.cycle + cycles) (2 ^ 64 - 1)) s t old new
 Does (command.GoTo cycle) s t old new = GoesTo cycle s t old new
-Does (command.Step boundaries) s t old new = Appends old new (flat_map line_of (trace_within boundaries s.sitting.now))
+Does (command.Step boundaries) s t old new =
+    (after boundaries s.sitting.now ≡ t.sitting.now) × Appends old new (flat_map line_of (trace_within boundaries s.sitting.now))
 Does (command.Until what within) s t old new = TellsUntil s.sitting.now t.sitting.now old new
 Does shown s t old new = (t ≡ s) × Appends old new (shown_text shown s.sitting s.writes)
 
@@ -41,12 +45,21 @@ refusal_text fault.Unwanted = codes "Stopped: the machine takes no event any mor
 refusal_text fault.TooMany = codes "TooMany: a script has at most 65536 events"
 refusal_text fault.Memory = codes "memory"
 
--- An event was given, after those of the script that were due, and the answer is its end; or it was refused,
--- nothing was given, and the answer says why.
+-- why an event was refused: the machine takes none any more, after the script's events that were due; the script has
+-- as many as there may be; or memory ran out
+unfoldable pub IsRefused : GiveFault → Talk → Talk → Type 0
+IsRefused fault.Unwanted s t = HasTakenEvents s.sitting t.sitting × (WantsKey t.sitting.now → ⊥)
+IsRefused fault.TooMany s t =
+    (length s.sitting.script + length s.sitting.given ≡ most_events) × (t.sitting ≡ s.sitting)
+IsRefused fault.Memory s t = HasTakenEvents s.sitting t.sitting
+
+-- An event was given where the script's events that were due have happened, and the answer is its end; or it was
+-- refused, and the answer says why.
 abbrev pub IsGiven : What → Talk → Talk → List ℕ → Type 0
 IsGiven what s t said =
-    ((said ≡ last_line t) × ((IsEvent (upcoming_of s.sitting.now) → ⊥) → t.sitting ≡ given_now what s.sitting))
-    ⊎ ((fault : GiveFault) × (said ≡ error_line (refusal_text fault)) × (t.sitting.given ≡ s.sitting.given))
+    ((due : SittingState) × HasTakenEvents s.sitting due × WantsKey due.now × (t.sitting ≡ given_now what due)
+    × (said ≡ last_line t))
+    ⊎ ((fault : GiveFault) × IsRefused fault s t × (said ≡ error_line (refusal_text fault)))
 
 -- What was said of a command before its last line, and this line.
 unfoldable pub SaysOf : Command → Talk → Talk → Option (List ℕ) → Option (List ℕ) → List ℕ → Type 0

@@ -1,15 +1,15 @@
 //! The commands that move the machine.
-ghost use Rattle.std.specs.Prelude.{◌≡◌, ◌+◌, ◌≤◌, ◌<◌, length, None, Err, OnOk, OnErr, flat_map, string_bytes};
+ghost use Rattle.std.specs.Prelude.{◌≡◌, ◌+◌, ◌≤◌, ◌<◌, length, None, Err, IsErrOf, OnOk, OnErr, flat_map, string_bytes};
 ghost use Rattle.std.specs.Io.KnownBytes.{Appends, append_known};
-ghost use Rattle.agc_machine.specs.Boundary.{boundary, upcoming_of};
-ghost use Rattle.agc_machine.specs.Laws.{HasChannel};
-ghost use Rattle.agc_sitting.specs.Sitting.{HasGone, HasReached, given_now};
+ghost use Rattle.agc_machine.specs.Boundary.{WantsKey, boundary, upcoming_of};
+ghost use Rattle.agc_machine.specs.Laws.{HasChannel, after};
+ghost use Rattle.agc_sitting.specs.Sitting.{HasGone, HasReached, SittingState, given_now};
 ghost use Rattle.agc_trace.specs.Entry.{FitsLine, entry_of};
 ghost use Rattle.agc_trace.specs.Line.{line_of};
 ghost use Rattle.agc_trace.specs.Trace.{trace_within};
 ghost use Rattle.agc_request.specs.Command.{IsTargetInRange};
 ghost use Rattle.agc_dialogue.specs.Answered.{refusal_text};
-ghost use Rattle.agc_dialogue.specs.Talk.{IsEvent};
+ghost use Rattle.agc_dialogue.specs.Talk.{HasTakenEvents, IsEvent};
 ghost use Rattle.agc_dialogue.specs.Told.{TellsUntil, TellsWrites, told};
 ghost use Rattle.agc_script.specs.Event.{IsWhatInRange, most_events};
 
@@ -69,6 +69,7 @@ pub(crate) fn step<W: Write>(
     text: &mut String,
     output: &mut W,
 ) -> Result<(), ConverseFault>
+    ensures gone { OnOk result (after boundaries talk.old.sitting.now ≡ talk.new.sitting.now) }
     ensures lines { OnOk result (Appends (append_known (W.contents output.old) (string_bytes text.old))
         (append_known (W.contents output.new) (string_bytes text.new))
         (flat_map line_of (trace_within boundaries talk.old.sitting.now))) }
@@ -242,6 +243,12 @@ pub(crate) fn give(talk: &mut Talk, what: What) -> Result<(), GiveFault>
     ensures err { (IsEvent (upcoming_of talk.old.sitting.now) → ⊥)
         → OnErr result (talk.new.sitting ≡ talk.old.sitting) }
     ensures nothing_given { OnErr result (talk.new.sitting.given ≡ talk.old.sitting.given) }
+    ensures given { OnOk result ((due : SittingState) × HasTakenEvents talk.old.sitting due
+        × WantsKey due.now × (talk.new.sitting ≡ given_now what due)) }
+    ensures refused { OnErr result (HasTakenEvents talk.old.sitting talk.new.sitting) }
+    ensures unwanted { IsErrOf result GiveFault.Unwanted → WantsKey talk.new.sitting.now → ⊥ }
+    ensures many { IsErrOf result GiveFault.TooMany
+        → (length talk.old.sitting.script + length talk.old.sitting.given ≡ most_events) × (talk.new.sitting ≡ talk.old.sitting) }
     ensures full { length talk.old.sitting.script + length talk.old.sitting.given ≡ most_events
         → (result ≡ Err GiveFault.TooMany) × (talk.new.sitting ≡ talk.old.sitting) }
 {
@@ -254,6 +261,7 @@ pub(crate) fn give(talk: &mut Talk, what: What) -> Result<(), GiveFault>
 fn take_due_events(talk: &mut Talk)
     ensures script { talk.new.sitting.script ≡ talk.old.sitting.script }
     ensures given { talk.new.sitting.given ≡ talk.old.sitting.given }
+    ensures taken { HasTakenEvents talk.old.sitting talk.new.sitting }
     ensures none_due { (IsEvent (upcoming_of talk.old.sitting.now) → ⊥)
         → talk.new.sitting ≡ talk.old.sitting }
 {

@@ -1,6 +1,6 @@
 //! The sitting: its machine, the panel of its writes, and what was given so far.
 ghost use Rattle.std.specs.Prelude.{◌≡◌, ◌+◌, ◌<◌, ◌≤◌, ◌↔◌, List, [], ◌∷◌, ◌++◌, length, None, Some};
-ghost use Rattle.std.specs.Prelude.{IfOk, IfErr, IfSome, IsErrOf, OnOk, OnErr};
+ghost use Rattle.std.specs.Prelude.{IfOk, IfErr, IfSome, IsErrOf, IsOk, OnOk, OnErr};
 ghost use Rattle.agc_script.specs.Event.{IsWhatInRange, last_cycle, most_events};
 ghost use Rattle.agc_script.specs.Said.{said_at};
 ghost use Rattle.agc_script.specs.Script.{IsNotBefore};
@@ -68,6 +68,7 @@ impl Sitting {
         ensures panel { IfOk result (λ sitting. sitting.panel ≡ panel_of []) }
         ensures zero { IfErr result (λ fault. fault ≡ BeginFault.Limit LimitFault.Zero → limit ≡ 0) }
         ensures too_large { IfErr result (λ fault. fault ≡ BeginFault.Limit LimitFault.TooLarge → 1000000000000 < limit) }
+        ensures in_range { IsOk result → (0 < limit) × (limit ≤ 1000000000000) }
     {
         let known = copied(alloc, &script).ok_or(BeginFault::Memory)?;
         let events = copied(alloc, &script).ok_or(BeginFault::Memory)?;
@@ -191,6 +192,7 @@ impl Sitting {
         requires { IsWhatInRange what }
         ensures ok { OnOk result (self.new ≡ given_now what self.old) }
         ensures err { OnErr result (self.new ≡ self.old) }
+        ensures wanted { OnOk result (WantsKey self.old.now) }
         ensures unwanted { IsErrOf result GiveFault.Unwanted ↔ (WantsKey self.old.now → ⊥) }
         ensures many { WantsKey self.old.now → (IsErrOf result GiveFault.TooMany
             ↔ (length self.old.script + length self.old.given ≡ most_events)) }
@@ -209,11 +211,12 @@ impl Sitting {
         Ok(())
     }
 
-    /// Makes room for an event more, so that giving it is refused by the machine alone.
+    /// Makes room for an event more. A refusal is `TooMany` or `Memory`.
     pub fn make_room(&mut self) -> Result<(), GiveFault>
         ensures same { self.new ≡ self.old }
         ensures many { IsErrOf result GiveFault.TooMany
             ↔ (length self.old.script + length self.old.given ≡ most_events) }
+        ensures fault { IsErrOf result GiveFault.Unwanted → ⊥ }
     {
         if MOST_EVENTS <= self.script.len() + self.given.len() {
             return Err(GiveFault::TooMany);
