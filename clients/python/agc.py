@@ -12,9 +12,10 @@
 
 This file stands over the standard library alone. A console is one process, `agc-console ROPE SCRIPT`, to which each
 call says one command and whose answer it reads to its last line. Cycles are machine cycles, 85,333 a second. Words,
-channels and addresses are Python's integers here (0o54171), and octal digits where the console's own text is handed
-on. What the console refuses is a `Refused`, and changes nothing; what the process itself says as it ends is an `Ended`.
-A console is to be used by one thread at a time. Start `agc-console --help` once before, so that it is built.
+channels and addresses are Python's integers here (0o54171); a place may be the console's own text, too ("E3,1400").
+What the console refuses is a `Refused`, and what the process itself says as it ends an `Ended`; a call that is broken
+off, as by a time-out, ends the console. A console is to be used by one thread at a time. Start `agc-console --help`
+once before, so that it is built.
 """
 
 import os
@@ -28,6 +29,9 @@ __all__ = ["Answer", "Came", "Console", "Ended", "Error", "Refused", "Registers"
 
 Path = Union[str, "os.PathLike[str]"]
 
+Place = Union[int, str]
+"""An address alone, as 0o4100 or 0o100, or a place as docs/CONSOLE.md names it: "4100", "12,2000" or "E3,1400"."""
+
 LAST_CYCLE = 1_000_000_000_000
 """The last cycle of all: a machine stops there, where no limit is named."""
 
@@ -37,16 +41,19 @@ class Error(Exception):
 
 
 class Refused(Error):
-    """A command was answered by an error, and nothing has changed."""
+    """A command was answered by an error. A line at fault changes nothing. Where an event comes too late, the events of
+    the script that were due have happened; where memory ran out in `go`, `step` or `until`, the machine may have gone
+    on, and some writes are untold. `cycle` is right again after the next answer."""
 
 
 class Ended(Error):
-    """The console has ended, or never began: its rope, its script or its limit is refused, or it is closed."""
+    """The console has ended, or never began: there is no such program, its rope, its script or its limit is refused, it
+    is closed, or a call was broken off before its answer was whole."""
 
     def __init__(self, told: str, status: Optional[int]) -> None:
         super().__init__(told)
         self.status = status
-        """The status with which the process ended; None where it was closed before."""
+        """The status with which the process ended; None where it never began."""
 
 
 class Write(NamedTuple):
@@ -107,10 +114,14 @@ class Console:
         self.cycle = 0
         """The cycle that the machine has come to, as the last answer said it."""
         self.stop: Optional[str] = None
-        """Why the machine has stopped: Limit, DivisionUndefined, Edrupt or Reached; None while it goes on."""
+        """Why the machine has stopped: Limit, DivisionUndefined or Edrupt; None while it goes on."""
         # A file takes what is told as the session ends, since a pipe would hold the console up where it is full.
         self._told = tempfile.TemporaryFile()
-        self._process = subprocess.Popen(words, stdin=subprocess.PIPE, stdout=subprocess.PIPE, stderr=self._told)
+        try:
+            self._process = subprocess.Popen(words, stdin=subprocess.PIPE, stdout=subprocess.PIPE, stderr=self._told)
+        except OSError as error:
+            self._told.close()
+            raise Ended(f"{words[0]}: {error.strerror}", None) from None
         assert self._process.stdin and self._process.stdout
         self._commands: IO[bytes] = self._process.stdin
         self._answers: IO[bytes] = self._process.stdout
@@ -138,6 +149,11 @@ class Console:
         self._process.wait()
         self._told.close()
 
+    def _break_off(self) -> None:
+        """Ends a console whose answer was not read to its end: what comes next would be taken for another's."""
+        self._process.kill()
+        self.close()
+
     # what all commands go through
 
     def say(self, command: str) -> Answer:
@@ -149,9 +165,14 @@ class Console:
         try:
             self._commands.write(command.encode() + b"\n")
             self._commands.flush()
+            return self._answer()
         except BrokenPipeError:
             raise self._ended() from None
-        return self._answer()
+        except Error:
+            raise
+        except BaseException:
+            self._break_off()
+            raise
 
     def _answer(self) -> Answer:
         lines = []
@@ -194,18 +215,17 @@ class Console:
         `agc-study trace` prints them."""
         return self.say(f"step {boundaries}").lines
 
-    def until(self, place: str, within: Optional[int] = None) -> Came:
-        """On until the order at a place is in hand: "4100", "12,2000" or "E3,1400"; 1,000,000 cycles at most, or as
-        many as are named."""
-        return self._until(place, within)
+    def until(self, place: Place, within: Optional[int] = None) -> Came:
+        """On until the order at a place is in hand; 1,000,000 cycles at most, or as many as are named."""
+        return self._until(_place(place), within)
 
     def until_write(self, channel: int, within: Optional[int] = None) -> Came:
-        """On until the next write to a channel."""
+        """On until the next write to a channel, 5 to 0o777: orders show no write to the others."""
         return self._until(f"write {channel:o}", within)
 
-    def until_cell(self, place: str, within: Optional[int] = None) -> Came:
+    def until_cell(self, place: Place, within: Optional[int] = None) -> Came:
         """On until the next change of a cell."""
-        return self._until(f"cell {place}", within)
+        return self._until(f"cell {_place(place)}", within)
 
     def _until(self, what: str, within: Optional[int]) -> Came:
         bound = "" if within is None else f" within {within}"
@@ -215,7 +235,8 @@ class Console:
     def writes(self, until: int = LAST_CYCLE, channel: Optional[int] = None) -> Iterator[Write]:
         """The channel writes to come, one by one, up to a cycle or the stop; of one channel, where one is named. The
         machine goes on as they are asked for, so that events can be given between two of them: after a write to the
-        channel that is named, or else after the writes of a hundredth of a second, which are at hand at once."""
+        channel that is named, or else after the writes of a hundredth of a second, which are at hand at once: who leaves
+        off between these has the machine behind all of them."""
         while self.stop is None and self.cycle < until:
             left = until - self.cycle
             if channel is None:
@@ -235,7 +256,9 @@ class Console:
         self.say(f"key {name}")
 
     def pro(self, down: bool) -> None:
-        """The PRO key goes down, or comes up."""
+        """The PRO key goes down (True), or comes up (False)."""
+        if not isinstance(down, bool):
+            raise TypeError("PRO is down or not: True or False")
         self.say("pro down" if down else "pro up")
 
     def input(self, channel: int, word: int) -> None:
@@ -272,13 +295,13 @@ class Console:
         """What comes next, as a trace names it: "4000 14000 TCF 4000", or "- interrupt KEYRUPT1"."""
         return self.say("next").lines[0].split(" ", 1)[1]
 
-    def cell(self, place: str) -> int:
-        """The word of a cell of erasable memory: "0100", or "E3,1400"."""
+    def cell(self, place: Place) -> int:
+        """The word of a cell of erasable memory: 0o100, "0100" or "E3,1400"."""
         return self.cells(place, 1)[0]
 
-    def cells(self, place: str, count: int) -> List[int]:
+    def cells(self, place: Place, count: int) -> List[int]:
         """The words of so many cells, from this one on."""
-        return [int(line.rsplit(" ", 1)[1], 8) for line in self.say(f"cell {place} {count}").lines]
+        return [int(line.rsplit(" ", 1)[1], 8) for line in self.say(f"cell {_place(place)} {count}").lines]
 
     def channel(self, channel: int) -> int:
         """The word of a channel."""
@@ -289,8 +312,14 @@ class Console:
         return int(self.say("writes").lines[0].split()[1])
 
     def script(self) -> str:
-        """The script that repeats this session: `agc ROPE SCRIPT --limit CYCLE` makes the same run of it."""
+        """The script that repeats this session: `agc ROPE SCRIPT --limit CYCLE` makes the same run of it. An order that
+        stops the machine wants a limit above its cycle, and so does what was given at the present one."""
         return "".join(line + "\n" for line in self.say("script").lines)
+
+
+def _place(place: Place) -> str:
+    """A place as the console reads it."""
+    return f"{place:04o}" if isinstance(place, int) else place
 
 
 def _writes(answer: Answer) -> List[Write]:
@@ -310,7 +339,7 @@ def _program(named: Union[None, Path, Sequence[str]]) -> List[str]:
         beside = os.path.join(here, "..", "..", "agc-console")
         found = beside if os.access(beside, os.X_OK) else shutil.which("agc-console")
         if found is None:
-            raise FileNotFoundError("agc-console is neither in the folder of this client nor on the path")
+            raise Ended("agc-console is neither in the folder of this client nor on the path", None)
         return [found]
     if isinstance(named, (str, os.PathLike)):
         return [os.fspath(named)]

@@ -11,7 +11,7 @@ import sys
 
 here = os.path.dirname(os.path.realpath(__file__))
 sys.path.append(os.path.join(here, "..", "..", "clients", "python"))
-from agc import Console  # noqa: E402
+from agc import Console, Refused  # noqa: E402
 
 ROPE = os.path.join(here, "rope")
 STEP = 853  # cycles: a hundredth of a second, but for a third of a cycle
@@ -93,11 +93,14 @@ def main():
     craft = Craft(words.angle, words.turning)
     angles, writes = [craft.pulses() / DEGREE], 0
     with Console(ROPE, program=words.program) as agc:
-        for step, written in enumerate(fly(agc, craft, 100 * words.seconds), 1):
-            angles.append(craft.pulses() / DEGREE)
-            writes += len(written)
-            if step % (5 * words.seconds) == 0:
-                print(f"{step / 100:6.1f} s {angles[-1]:+7.2f} degrees {line_of(angles[-1])}")
+        try:
+            for step, written in enumerate(fly(agc, craft, 100 * words.seconds), 1):
+                angles.append(craft.pulses() / DEGREE)
+                writes += len(written)
+                if step % (5 * words.seconds) == 0:
+                    print(f"{step / 100:6.1f} s {angles[-1]:+7.2f} degrees {line_of(angles[-1])}")
+        except Refused as refused:
+            print(f"craft: the flight ends after {(len(angles) - 1) / 100} s: {refused}", file=sys.stderr)
         print(f"{writes} writes by cycle {agc.cycle}, CDUX is {agc.cell('32'):05o}")
         if words.save:
             with open(words.save, "w") as file:

@@ -2,6 +2,7 @@
 repository."""
 
 import os
+import signal
 import subprocess
 import sys
 import tempfile
@@ -35,6 +36,24 @@ def example(name, **named):
     return Console(os.path.join(top, "examples", name, "rope"), program=console, **named)
 
 
+def example_of(program):
+    return Console(os.path.join(top, "examples", "keys", "rope"), program=program)
+
+
+def timed(call, *words):
+    """Calls, for a twentieth of a second at most."""
+
+    def late(number, frame):
+        raise TimeoutError("time")
+
+    signal.signal(signal.SIGALRM, late)
+    signal.setitimer(signal.ITIMER_REAL, 0.05)
+    try:
+        return call(*words)
+    finally:
+        signal.setitimer(signal.ITIMER_REAL, 0)
+
+
 def script_of(name):
     return os.path.join(top, "examples", name, "script")
 
@@ -54,6 +73,7 @@ def try_keys():
         judge("the count", 2, agc.count_of_writes())
         judge("a cell", 2, agc.cell("0101"))
         judge("cells", [4, 2], agc.cells("100", 2))
+        judge("cells by an address", [4, 2], agc.cells(0o100, 2))
         judge("a channel", 2, agc.channel(0o15))
         judge("the script", "10 key 4\n200 key 2\n", agc.script())
         agc.back(200)
@@ -67,6 +87,7 @@ def try_events():
         agc.pro(True)
         judge("PRO is down", 0o57777, agc.channel(0o32))
         agc.pro(False)
+        judge("PRO by a name", "PRO is down or not: True or False", raised(TypeError, agc.pro, "up"))
         agc.pulse(0o37, "pinc")
         judge("a pulse costs a cycle", (1, 1), (agc.cycle, agc.cell("37")))
         agc.poke(3, 0, 0o12345)
@@ -78,6 +99,7 @@ def try_events():
         judge("registers", Registers(a=0, l=0, q=0, z=0o4041, eb=0, fb=0, bb=0), agc.registers())
         judge("steps", 2, len(agc.step(2)))
         judge("until a place", (Came(True, []), 0), (agc.until("4000"), agc.registers().a))
+        judge("until an address", (Came(True, []), 0), (agc.until(0o4000), agc.registers().a))
         judge("tables", 12, len(agc.tables("1,0,2,1,100,1,200")))
 
 
@@ -129,6 +151,11 @@ def try_faults():
     with example("keys") as agc:
         judge("quit ends it", "the console ended with status 0", raised(Ended, agc.say, "quit"))
         judge("it stays so", "the console ended with status 0", raised(Ended, agc.go, 1))
+    missing = "no-such-program: No such file or directory"
+    judge("no program", missing, raised(Ended, lambda: example_of("no-such-program")))
+    with example("keys") as agc:
+        judge("a call that takes too long", "time", raised(TimeoutError, timed, agc.go, 10**9))
+        judge("ends the console", "the console is closed", raised(Ended, agc.channel, 0o30))
     try:
         Console("/dev/null", program=[console])
         judge("an empty rope", "refused", "taken")
