@@ -32,6 +32,7 @@ fn a_command_is_written_without_its_cycle(rt: HostRuntime) {
 
 /// Events of one cycle stay in the order in which they were added.
 #[test]
+#[tactic(auto, unfolding(agc_script::specs::Event::IsWhatInRange))]
 fn events_are_added_after_the_last(rt: HostRuntime) {
     let mut script = Script::empty(rt.alloc());
     assert!(rt; script.push(4, What::Raise(9)).is_ok());
