@@ -1,11 +1,13 @@
 -- A sitting: what it was begun with, what was given to it, where it has come, and what it shows.
-use Rattle.std.specs.Prelude.{◌≡◌, ◌⊎◌, ℕ, zero, suc, ◌+◌, ◌<◌, ◌≤◌, List, [], ◌∷◌, ◌++◌, length, replicate, Some, None, IsSome}
+use Rattle.std.specs.Prelude.{◌≡◌, ◌⊎◌, ℕ, zero, suc, ◌+◌, ◌<◌, ◌≤◌, List, [], ◌∷◌, ◌++◌, length, drop, nat_le, replicate, Some, None, IsSome}
+use Rattle.std.specs.List.{position_or_len}
 use Rattle.agc_script.specs.Event.{most_events}
 use Rattle.agc_script.specs.Merge.{joined}
 use Rattle.agc_script.specs.Script.{before}
 use Rattle.agc_script.specs.declared.event.Event.{Event}
 use Rattle.agc_script.specs.declared.event.What.{What}
 use Rattle.agc_machine.specs.Boundary.{boundary}
+use Rattle.agc_machine.specs.Laws.{after}
 use Rattle.agc_machine.specs.Live.{IsLive}
 use Rattle.agc_machine.specs.Replay.{Chain, chain, writes_in}
 use Rattle.agc_machine.specs.State.{State, live_event, start_state}
@@ -50,6 +52,14 @@ kept_before cycle s = joined (before cycle s.kept) (before cycle s.given)
 abbrev pub told_before : ℕ → SittingState → List Event
 told_before cycle s = joined s.first (kept_before cycle s)
 
+-- the events from the first on that comes at a cycle or later: those that are not before it
+abbrev pub since : ℕ → List Event → List Event
+since cycle events = drop (position_or_len (λ event. nat_le cycle event.cycle) events) events
+
+-- what was given at a cycle or later, before time last began anew and since: going back to it drops this
+abbrev pub dropped : ℕ → SittingState → List Event
+dropped cycle s = joined (since cycle s.kept) (since cycle s.given)
+
 -- so many boundaries of the plain run of a script from the start of a sitting's time
 abbrev pub plain_run : ℕ → List Event → SittingState → Chain
 plain_run boundaries events s = chain (replicate boundaries None) (start_with events s.now)
@@ -59,6 +69,10 @@ pub record IsReplay (script : List Event) (s : SittingState) : Type 0 where
   pub boundaries : ℕ
   pub state : (plain_run boundaries script s).last ≡ s.now
   pub panel : panel_of (writes_in (plain_run boundaries script s).answers) ≡ s.panel
+
+-- a run goes on from a state to another by boundaries at which nothing is given
+abbrev pub ComesTo : State → State → Type 0
+ComesTo s t = (boundaries : ℕ) × (after boundaries s ≡ t)
 
 -- a sitting in which an event was given now
 abbrev pub given_now : What → SittingState → SittingState

@@ -3,7 +3,8 @@ ghost use Rattle.std.specs.Prelude.{◌≡◌, ◌+◌, ◌<◌, ◌≤◌, ◌�
 ghost use Rattle.std.specs.Prelude.{IfOk, IfErr, IfSome, IsErrOf, IsOk, OnOk, OnErr};
 ghost use Rattle.agc_script.specs.Event.{IsWhatInRange, last_cycle, most_events};
 ghost use Rattle.agc_script.specs.Said.{said_at};
-ghost use Rattle.agc_script.specs.Script.{IsNotBefore};
+ghost use Rattle.agc_script.specs.Merge.{joined};
+ghost use Rattle.agc_script.specs.Script.{IsInOrder, IsNotBefore};
 ghost use Rattle.agc_machine.specs.Boundary.{boundary, WantsKey};
 ghost use Rattle.agc_machine.specs.Run.{next_before};
 ghost use Rattle.agc_machine.specs.State.{start_state};
@@ -11,7 +12,7 @@ ghost use Rattle.agc_machine.specs.Replay.{writes_in};
 ghost use Rattle.agc_machine.specs.declared.answer.ChannelWrite.{ChannelWrite};
 ghost use Rattle.agc_panel.specs.Face.{panel_of};
 ghost use Rattle.agc_sitting.specs.Sitting.{HasGone, HasReached, IsReplay, given_now, shown_after, start_with};
-ghost use Rattle.agc_sitting.specs.Sitting.{kept_before, told, told_before};
+ghost use Rattle.agc_sitting.specs.Sitting.{dropped, kept_before, told, told_before};
 
 use crate::fault::{BeginFault, GiveFault, NotGoneBack};
 use agc_machine::{LimitFault, Machine, Stepped};
@@ -120,12 +121,13 @@ impl Sitting {
     }
 
     /// Begins anew with what was told before a cycle: what was given at it or later is gone, what was
-    /// given before it is met again, and nothing has happened. Where memory runs out the sitting comes
-    /// back as it was.
+    /// given before it is met again, and nothing has happened. Where all that is gone is given again,
+    /// the script that is told is what it was. Where memory runs out the sitting comes back as it was.
     pub fn begin_anew(self, alloc: Global, cycle: u64) -> Result<Sitting, NotGoneBack>
         ensures first { IfOk result (λ sitting. sitting.first ≡ self.first) }
         ensures kept { IfOk result (λ sitting. sitting.kept ≡ kept_before cycle self) }
         ensures script { IfOk result (λ sitting. sitting.script ≡ told_before cycle self) }
+        ensures again { IfOk result (λ sitting. joined sitting.script (dropped cycle self) ≡ told self) }
         ensures given { IfOk result (λ sitting. sitting.given ≡ []) }
         ensures now { IfOk result
             (λ sitting. sitting.now ≡ start_with (told_before cycle self) self.now) }
@@ -157,6 +159,7 @@ impl Sitting {
         ensures first { IfOk result (λ sitting. sitting.first ≡ self.first) }
         ensures kept { IfOk result (λ sitting. sitting.kept ≡ kept_before cycle self) }
         ensures script { IfOk result (λ sitting. sitting.script ≡ told_before cycle self) }
+        ensures again { IfOk result (λ sitting. joined sitting.script (dropped cycle self) ≡ told self) }
         ensures given { IfOk result (λ sitting. sitting.given ≡ []) }
         ensures reached { IfOk result
             (λ sitting. HasReached cycle (start_with (told_before cycle self) self.now) sitting.now) }
@@ -171,9 +174,12 @@ impl Sitting {
     fn known_before(&self, alloc: Global, cycle: u64) -> Option<Known>
         ensures kept { IfSome result (λ known. known.kept ≡ kept_before cycle self.now) }
         ensures script { IfSome result (λ known. known.script ≡ told_before cycle self.now) }
+        ensures again { IfSome result (λ known. joined known.script (dropped cycle self.now) ≡ told self.now) }
         ensures same { IfSome result (λ known. known.events ≡ known.script) }
         ensures few { IfSome result (λ known. length known.script ≤ most_events) }
     {
+        rises(&self.kept);
+        rises(&self.given);
         let kept = self.kept.before(alloc, cycle).ok()?;
         let given = self.given.before(alloc, cycle).ok()?;
         let kept = kept.join(alloc, &given).ok()?;
@@ -267,6 +273,13 @@ fn show(panel: &mut Panel, stepped: Stepped) -> Stepped
         }
         Stepped::Stopped(why) => Stepped::Stopped(why),
     }
+}
+
+/// The cycles of a script never fall. Nothing is done: the proof has to be shown this.
+fn rises(script: &Script)
+    ensures { IsInOrder script.now }
+{
+    let _events = script.len();
 }
 
 /// Adds what is given now to what was given before.
