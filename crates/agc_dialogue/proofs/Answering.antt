@@ -21,7 +21,7 @@ abbrev Request : Type 0
 Request = Result (Option Command) CommandFault
 
 -- a line is added to the text that waits
-grown : (o : Option (List ℕ)) (old new line : List ℕ) → new ≡ old ++ line → Appends (append_known o old) (append_known o new) line
+pub grown : (o : Option (List ℕ)) (old new line : List ℕ) → new ≡ old ++ line → Appends (append_known o old) (append_known o new) line
 grown o old new line e = append_known-grown (append_known o old) o old new line (Keeps-refl (append_known o old)) e
 
 pub when_ok : {P Q : Type 0} (r : Result (Unit {0}) ConverseFault) → OnOk r P → (P → Q) → OnOk r Q

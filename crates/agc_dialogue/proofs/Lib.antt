@@ -4,3 +4,6 @@ pub mod Due
 pub mod Going
 pub mod Stepping
 pub mod Telling
+pub mod Waiting
+pub mod Coming
+pub mod Changing

@@ -32,6 +32,10 @@ told_is (stepped.Stopped why) = refl
 pub nothing_told : (s : State) (known : Option (List ℕ)) → TellsWrites s s known known
 nothing_told s known = record { writes = []; way = live_starts s; said = Appends-nil known }
 
+pub no_writes_told : (s : State) (known : Option (List ℕ)) → (nothing_told s known).writes ≡ []
+unfolding nothing_told
+no_writes_told s known = refl
+
 tells_more : (s now later : State) (old mid new : Option (List ℕ)) (answer : Stepped) (h : TellsWrites s now old mid)
     → IsLive s [] (h.writes ++ written answer) later → Appends mid new (told answer) → TellsWrites s later old new
 tells_more s now later old mid new answer h way said =
@@ -53,3 +57,10 @@ pub tells_step : (s now later : State) (old mid new : Option (List ℕ)) (answer
     → (later, answer) ≡ boundary None now → Appends mid new (told answer) → TellsWrites s later old new
 tells_step s now later old mid new answer h e said =
     tells_more s now later old mid new answer h (live_steps s now later [] h.writes answer h.way e) said
+
+-- the writes that are told then
+pub writes_before : (cycle : ℕ) (s now later : State) (old mid new : Option (List ℕ)) (answer : Stepped) (h : TellsWrites s now old mid)
+    (e : (later, answer) ≡ next_before cycle now) (said : Appends mid new (told answer))
+    → (tells_before cycle s now later old mid new answer h e said).writes ≡ h.writes ++ written answer
+unfolding tells_before tells_more
+writes_before cycle s now later old mid new answer h e said = refl

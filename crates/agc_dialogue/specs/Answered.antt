@@ -36,7 +36,8 @@ Does (command.Go cycles) s t old new = GoesTo (min (s.sitting.now.cycle + cycles
 Does (command.GoTo cycle) s t old new = GoesTo cycle s t old new
 Does (command.Step boundaries) s t old new =
     (after boundaries s.sitting.now ≡ t.sitting.now) × Appends old new (flat_map line_of (trace_within boundaries s.sitting.now))
-Does (command.Until what within) s t old new = TellsUntil s.sitting.now t.sitting.now old new
+Does (command.Until what within) s t old new =
+    TellsUntil what (min (s.sitting.now.cycle + within) (2 ^ 64 - 1)) s.sitting.now t.sitting.now old new
 Does shown s t old new = (t ≡ s) × Appends old new (shown_text shown s.sitting s.writes)
 
 -- why an event was not taken

@@ -6,7 +6,9 @@ use Rattle.agc_machine.specs.State.{State}
 use Rattle.agc_machine.specs.declared.answer.ChannelWrite.{ChannelWrite}
 use Rattle.agc_machine.specs.declared.answer.Stepped.{Stepped}
 use Rattle.agc_machine.specs.declared.answer.Stepped.TheVariants as stepped
+use Rattle.agc_request.specs.declared.command.Target.{Target}
 use Rattle.agc_dialogue.specs.Answer.{came_line, write_line}
+use Rattle.agc_dialogue.specs.Until.{CameOrNot}
 
 -- the line of what was shown, if it is a channel write
 abbrev pub told : Stepped → List ℕ
@@ -21,7 +23,13 @@ pub record TellsWrites (s t : State) (old new : Option (List ℕ)) : Type 0 wher
   pub way : IsLive s [] writes t
   pub said : Appends old new (flat_map write_line writes)
 
--- the same, and then whether it has come to what it went on to
-abbrev pub TellsUntil : State → State → Option (List ℕ) → Option (List ℕ) → Type 0
-TellsUntil s t old new =
-    (way : Option (List ℕ)) × (came : Bool) × TellsWrites s t old way × Appends way new (came_line came)
+-- the same of a run that went on to something, up to a cycle, and it has come or not
+abbrev pub TellsComing : Target → ℕ → Bool → State → State → Option (List ℕ) → Option (List ℕ) → Type 0
+TellsComing what cycle came s t old new =
+    (told : TellsWrites s t old new) × CameOrNot what cycle came s t told.writes
+
+-- the same, and then the line that says whether it has come
+abbrev pub TellsUntil : Target → ℕ → State → State → Option (List ℕ) → Option (List ℕ) → Type 0
+TellsUntil what cycle s t old new =
+    (way : Option (List ℕ)) × (came : Bool) × TellsComing what cycle came s t old way
+    × Appends way new (came_line came)

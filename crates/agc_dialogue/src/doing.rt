@@ -1,5 +1,5 @@
 //! The commands that move the machine.
-ghost use Rattle.std.specs.Prelude.{◌≡◌, ◌+◌, ◌≤◌, ◌<◌, length, None, Err, IsErrOf, OnOk, OnErr, flat_map, string_bytes};
+ghost use Rattle.std.specs.Prelude.{◌≡◌, ◌+◌, ◌-◌, ◌^◌, ◌≤◌, ◌<◌, ◌↔◌, min, length, None, Err, IfOk, IsErrOf, IsTrue, OnOk, OnErr, flat_map, string_bytes};
 ghost use Rattle.std.specs.Io.KnownBytes.{Appends, append_known};
 ghost use Rattle.agc_machine.specs.Boundary.{WantsKey, boundary, upcoming_of};
 ghost use Rattle.agc_machine.specs.Laws.{HasChannel, after};
@@ -10,7 +10,8 @@ ghost use Rattle.agc_trace.specs.Trace.{trace_within};
 ghost use Rattle.agc_request.specs.Command.{IsTargetInRange};
 ghost use Rattle.agc_dialogue.specs.Answered.{refusal_text};
 ghost use Rattle.agc_dialogue.specs.Talk.{HasTakenEvents, IsEvent};
-ghost use Rattle.agc_dialogue.specs.Told.{TellsUntil, TellsWrites, told};
+ghost use Rattle.agc_dialogue.specs.Told.{TellsComing, TellsUntil, TellsWrites, told};
+ghost use Rattle.agc_dialogue.specs.Until.{IsOrderAt, IsWriteTo, word_at};
 ghost use Rattle.agc_script.specs.Event.{IsWhatInRange, most_events};
 
 use crate::answer::{push_came_line, push_write_line};
@@ -121,7 +122,8 @@ pub(crate) fn until<W: Write>(
     output: &mut W,
 ) -> Result<(), ConverseFault>
     requires { IsTargetInRange what }
-    ensures told { OnOk result (TellsUntil talk.old.sitting.now talk.new.sitting.now
+    ensures told { OnOk result (TellsUntil what (min (talk.old.sitting.now.cycle + within) (2 ^ 64 - 1))
+        talk.old.sitting.now talk.new.sitting.now
         (append_known (W.contents output.old) (string_bytes text.old))
         (append_known (W.contents output.new) (string_bytes text.new))) }
     ensures script { talk.new.sitting.script ≡ talk.old.sitting.script }
@@ -145,7 +147,7 @@ fn until_write<W: Write>(
     text: &mut String,
     output: &mut W,
 ) -> Result<bool, ConverseFault>
-    ensures told { OnOk result (TellsWrites talk.old.sitting.now talk.new.sitting.now
+    ensures told { IfOk result (λ came. TellsComing (Target.Write channel) end came talk.old.sitting.now talk.new.sitting.now
         (append_known (W.contents output.old) (string_bytes text.old))
         (append_known (W.contents output.new) (string_bytes text.new))) }
     ensures script { talk.new.sitting.script ≡ talk.old.sitting.script }
@@ -162,7 +164,9 @@ fn until_write<W: Write>(
 }
 
 /// A write to this channel was shown.
-fn is_write_to(stepped: &Stepped, channel: u16) -> bool {
+fn is_write_to(stepped: &Stepped, channel: u16) -> bool
+    ensures { IsTrue result ↔ IsWriteTo channel stepped.now }
+{
     match stepped {
         Stepped::Wrote(write) => write.channel == channel,
         Stepped::Quiet | Stepped::Stopped(_) => false,
@@ -177,7 +181,7 @@ fn until_order<W: Write>(
     text: &mut String,
     output: &mut W,
 ) -> Result<bool, ConverseFault>
-    ensures told { OnOk result (TellsWrites talk.old.sitting.now talk.new.sitting.now
+    ensures told { IfOk result (λ came. TellsComing (Target.Order place) end came talk.old.sitting.now talk.new.sitting.now
         (append_known (W.contents output.old) (string_bytes text.old))
         (append_known (W.contents output.new) (string_bytes text.new))) }
     ensures script { talk.new.sitting.script ≡ talk.old.sitting.script }
@@ -194,7 +198,9 @@ fn until_order<W: Write>(
 }
 
 /// The order at a place comes next.
-fn is_in_hand(machine: &Machine, place: Location) -> bool {
+fn is_in_hand(machine: &Machine, place: Location) -> bool
+    ensures { IsTrue result ↔ IsOrderAt place (upcoming_of machine.now) }
+{
     match machine.upcoming() {
         Upcoming::Order(order) => location_at(order.bank, order.address) == place,
         _ => false,
@@ -210,7 +216,7 @@ fn until_cell<W: Write>(
     output: &mut W,
 ) -> Result<bool, ConverseFault>
     requires { cell < 0o4000 }
-    ensures told { OnOk result (TellsWrites talk.old.sitting.now talk.new.sitting.now
+    ensures told { IfOk result (λ came. TellsComing (Target.Cell cell) end came talk.old.sitting.now talk.new.sitting.now
         (append_known (W.contents output.old) (string_bytes text.old))
         (append_known (W.contents output.new) (string_bytes text.new))) }
     ensures script { talk.new.sitting.script ≡ talk.old.sitting.script }
@@ -230,6 +236,7 @@ fn until_cell<W: Write>(
 /// The word of a cell by its number.
 fn word_of(store: &Store, cell: u16) -> Narrow
     requires { cell < 0o4000 }
+    ensures { result ≡ word_at cell store.now }
 {
     store.cell((cell / ERASABLE_BANK_SIZE) as u8, cell % ERASABLE_BANK_SIZE)
 }
