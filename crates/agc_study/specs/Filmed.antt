@@ -1,5 +1,6 @@
 -- The page that shows the runs of a rope and a script, or of two of each.
 use Rattle.std.specs.Prelude.{◌≡◌, ℕ, List, Option, Some, None, string_bytes}
+use Rattle.std.specs.Io.KnownBytes.{Appends}
 use Rattle.std.specs.declared.alloc.Global.{Global}
 use Rattle.std.specs.declared.string.String.{String}
 use Rattle.agc_store.specs.declared.rope_file.RopeForm.{RopeForm}
@@ -42,3 +43,18 @@ pub record IsFilmPair (head tail : List ℕ) (asked : Filming) (other : RunFiles
   pub left_filmed : IsFilmed asked left_rope left_script left
   pub right_filmed : IsFilmed asked right_rope right_script right
   pub text : string_bytes page ≡ film_pair_text head tail asked.limit asked.files left other right
+
+-- the page of one run was written
+pub record IsFilmWritten (head tail : List ℕ) (asked : Filming)
+    (rope script before after : Option (List ℕ)) : Type 0 where
+  pub page : String Global
+  pub film : IsFilm head tail asked rope script page
+  pub written : Appends before after (string_bytes page)
+
+-- the page of two runs was written
+pub record IsFilmPairWritten (head tail : List ℕ) (asked : Filming) (other : RunFiles)
+    (left_rope left_script right_rope right_script before after : Option (List ℕ))
+    : Type 0 where
+  pub page : String Global
+  pub film : IsFilmPair head tail asked other left_rope left_script right_rope right_script page
+  pub written : Appends before after (string_bytes page)

@@ -2,6 +2,7 @@
 use Rattle.std.specs.Prelude.{◌≡◌, ◌≤◌, ℕ, false, true, nat_le, length, List, ◌++◌, codes, Option, Some, None, Err}
 use Rattle.std.specs.Prelude.{if◌then◌else◌, IfSome}
 use Rattle.std.specs.Fmt.{decimal}
+use Rattle.std.specs.Io.KnownBytes.{Appends}
 use Rattle.std.specs.declared.alloc.Global.{Global}
 use Rattle.std.specs.declared.string.String.{String}
 use Rattle.agc_word.specs.Number.{pattern_of}
@@ -38,6 +39,13 @@ pub record IsListing (form : RopeForm) (bank : Option (String Global)) (file tex
   pub rope : rope_fault_of form file ≡ None
   pub listed : text ≡ rope_text (said_by bank_named bank) (rope_words form file)
 
+-- the text of a rope was written, as far as the rope's reader tells its bytes
+pub record IsListWritten (form : RopeForm) (bank : Option (String Global))
+    (rope before after : Option (List ℕ)) : Type 0 where
+  pub text : List ℕ
+  pub listed : IfSome rope (λ file. IsListing form bank file text)
+  pub written : Appends before after text
+
 -- How `list` refuses a file that a reader may tell: a text of `--bank` that names no bank is told, and
 -- else what `agc` tells of the rope, which has asked for memory too.
 abbrev pub IsListRefused : RopeForm → Option (String Global) → Option (List ℕ) → Trouble → Type 0
@@ -51,6 +59,12 @@ pub record IsWoven (form : RopeForm) (text : List ℕ) (woven : Woven) : Type 0 
   pub short : length text ≤ 16777216
   pub file : IsSourceWoven form text woven.bytes.items
   pub first : woven.misnamed ≡ misnamed_in text
+
+-- the file of a text was written, as far as the text's reader tells its bytes
+pub record IsWeaveWritten (form : RopeForm) (known before after : Option (List ℕ)) : Type 0 where
+  pub woven : Woven
+  pub weaves : IfSome known (λ text. IsWoven form text woven)
+  pub written : Appends before after woven.bytes.items
 
 -- the remark on such a line: the order that its word names, and the mnemonic that stands behind it
 abbrev pub misnamed_line : Misnamed → List ℕ

@@ -26,6 +26,12 @@ pub record IsTraced (asked : Tracing) (rope script before after : Option (List �
   pub lines : Appends before after (selected_lines asked.selection (trace_of machine))
   pub left : service ≡ service_left asked.selection (trace_of machine)
 
+-- the same, and of the service that goes on nothing is told
+pub record IsTraceWritten (asked : Tracing) (rope script before after : Option (List ℕ))
+    : Type 0 where
+  pub service : Option Service
+  pub traced : IsTraced asked rope script before after service
+
 -- the lines of the run of two files were cut off
 pub record IsCutOff (asked : Tracing) (rope script before after : Option (List ℕ))
     (why : TraceFault) : Type 0 where

@@ -1,6 +1,7 @@
 -- The line that the program prints where it cannot do what was asked for.
-use Rattle.std.specs.Prelude.{ℕ, List, ◌++◌, codes}
+use Rattle.std.specs.Prelude.{ℕ, List, ◌++◌, Option, codes}
 use Rattle.std.specs.Fmt.{decimal}
+use Rattle.std.specs.Io.KnownBytes.{Appends}
 use Rattle.agc_session.specs.Refusal.{refusal_text}
 use Rattle.agc_session.specs.declared.refusal.Refusal.{Refusal}
 use Rattle.agc_session.specs.declared.refusal.Refusal.TheVariants as refusal
@@ -25,6 +26,12 @@ trouble_text trouble.BadBankSpec = codes "bank: BadSpec"
 -- the line of a trouble
 abbrev pub trouble_line : Trouble → List ℕ
 trouble_line t = codes "agc-study: " ++ trouble_text t ++ codes "\n"
+
+-- the line of a trouble that may be told was written
+pub record IsTold (MayBe : Trouble → Type 0) (before after : Option (List ℕ)) : Type 0 where
+  pub trouble : Trouble
+  pub may : MayBe trouble
+  pub line : Appends before after (trouble_line trouble)
 
 -- How a refusal of the run on the right is told: one that names its rope or its script as that of the other
 -- run, and one that is of both runs without that.

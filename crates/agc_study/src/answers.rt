@@ -1,20 +1,18 @@
 //! What is asked for, answered: on standard output, or in a line on standard error.
-ghost use Rattle.std.specs.Prelude.{◌≡◌, ◌≢◌, ◌<◌, Ok};
+ghost use Rattle.std.specs.Prelude.{◌≡◌, ◌<◌, IfErr, Ok};
 ghost use Rattle.std.specs.Io.KnownBytes.{Keeps};
-ghost use Rattle.agc_study.specs.Ended.{IsEnded, LooksForFaults};
+ghost use Rattle.agc_study.specs.Ended.{EndsMistaken, IsEnded, LooksForFaults};
 
 use crate::check_told::check_to;
-use crate::ropes::{list_rope, misnamed_line, weave_text};
-use crate::runs_told::{compare_to, film_to, trace_to};
+use crate::films_told::film_to;
+use crate::ropes_told::{list_to, weave_to};
+use crate::runs_told::{compare_to, trace_to};
 use crate::trouble::Trouble;
 use crate::unreadable::remark_unreadable;
 use agc_args::ArgsFault;
-use agc_asked::{Asked, Listing, Weaving};
+use agc_asked::Asked;
 use agc_progress::Shown;
-use agc_session::{DONE, InputFile, Refusal, status_of};
-use agc_source::Misnamed;
-use std::alloc::Global;
-use std::fs;
+use agc_session::{DONE, Refusal, status_of};
 use std::io::Write;
 use std::rt::Files;
 
@@ -52,6 +50,9 @@ where
     ensures faulty { result ≡ 1 → LooksForFaults asked }
     ensures silent { result < 2 → Keeps (E.contents err.old) (E.contents err.new) }
     ensures nothing { result ≡ 2 → Keeps (W.contents out.old) (W.contents out.new) }
+    ensures told { IfErr asked
+        (λ fault. EndsMistaken fault result (W.contents out.old) (W.contents out.new)
+        (E.contents err.old) (E.contents err.new)) }
 {
     match asked {
         Ok(asked) => {
@@ -63,9 +64,7 @@ where
         }
         Err(ArgsFault::Help(text)) => status_of(DONE, out.write_all(text.as_bytes())),
         Err(ArgsFault::Command(text)) => status_of(TROUBLE, err.write_all(text.as_bytes())),
-        Err(ArgsFault::Memory) => {
-            status_of(TROUBLE, Trouble::Refused(Refusal::Memory).write_to(err))
-        }
+        Err(ArgsFault::Memory) => Trouble::Refused(Refusal::Memory).tell_to(err),
     }
 }
 
@@ -91,56 +90,5 @@ where
         Asked::Trace(tracing) => trace_to(rt, tracing, out, err, remarks, progress),
         Asked::Compare(comparing) => compare_to(rt, comparing, out, err, progress),
         Asked::Film(filming) => film_to(rt, filming, out, err, remarks, progress),
-    }
-}
-
-/// Lists a rope file.
-fn list_to<R, W: Write, E: Write>(rt: &R, listing: &Listing, out: &mut W, err: &mut E) -> u8
-where
-    R: Files + AllocGlobal,
-    ensures ended { IsEnded result (W.contents out.old) (W.contents out.new)
-        (E.contents err.old) (E.contents err.new) }
-    ensures faulty { result ≢ 1 }
-{
-    let mut rope = InputFile::new(fs::open(rt, listing.rope.as_str()));
-    match list_rope(rt.alloc(), listing.form, &listing.bank, &mut rope) {
-        Ok(text) => status_of(DONE, out.write_all(text.as_bytes())),
-        Err(trouble) => status_of(TROUBLE, trouble.write_to(err)),
-    }
-}
-
-/// Weaves a text file. A remark tells of its first line whose word names another order than stands behind the word.
-fn weave_to<R, W: Write, E: Write, N: Write>(
-    rt: &R,
-    weaving: &Weaving,
-    out: &mut W,
-    err: &mut E,
-    remarks: &mut N,
-) -> u8
-where
-    R: Files + AllocGlobal,
-    ensures ended { IsEnded result (W.contents out.old) (W.contents out.new)
-        (E.contents err.old) (E.contents err.new) }
-    ensures plain { result ≡ 2 → Keeps (N.contents remarks.old) (N.contents remarks.new) }
-    ensures faulty { result ≢ 1 }
-{
-    let mut text = InputFile::new(fs::open(rt, weaving.text.as_str()));
-    match weave_text(rt.alloc(), weaving.form, &mut text) {
-        Ok(woven) => {
-            remark_misnamed(rt.alloc(), woven.misnamed, remarks);
-            status_of(DONE, out.write_all(woven.bytes.as_slice()))
-        }
-        Err(trouble) => status_of(TROUBLE, trouble.write_to(err)),
-    }
-}
-
-/// Says of a line whose word names another order which it names. A remark that cannot be written changes nothing of the
-/// rope.
-fn remark_misnamed<N: Write>(alloc: Global, misnamed: Option<Misnamed>, remarks: &mut N) {
-    let Some(misnamed) = misnamed else {
-        return;
-    };
-    if let Ok(line) = misnamed_line(alloc, misnamed) {
-        let _told = remarks.write_all(line.as_bytes());
     }
 }

@@ -1,9 +1,9 @@
 //! The report of `check`, written: of a rope and a script, of live keys, of the text of a rope.
 ghost use Rattle.std.specs.Prelude.{◌≡◌, ◌⊎◌, true, false};
-ghost use Rattle.agc_study.specs.Checked.{IsCheckWritten, IsWritten};
+ghost use Rattle.agc_study.specs.Checked.{IsCheckWritten, IsUnchecked, IsWritten};
 ghost use Rattle.agc_study.specs.Ended.{IsEnded};
+ghost use Rattle.agc_study.specs.Trouble.{IsTold};
 
-use crate::answers::TROUBLE;
 use crate::checks::{check_key_file, check_listing_file, check_with, joined};
 use crate::trouble::Trouble;
 use agc_asked::Checking;
@@ -27,7 +27,7 @@ where
 {
     let more = match more_checked(rt, checking) {
         Ok(more) => more,
-        Err(trouble) => return status_of(TROUBLE, trouble.write_to(err)),
+        Err(trouble) => return trouble.tell_to(err),
     };
     let Some(run) = &checking.run else {
         return match more {
@@ -89,10 +89,13 @@ fn write_check<R: Read, S: Read, W: Write, E: Write>(
     ensures faulty { result ≡ 1 → IsCheckWritten form
         (R.remaining rope.old) (S.remaining script.old) more.now false
         (W.contents out.old) (W.contents out.new) }
+    ensures refused { result ≡ 2
+        → IsTold (IsUnchecked (R.remaining rope.old) (S.remaining script.old))
+        (E.contents err.old) (E.contents err.new) }
 {
     match check_with(alloc, form, rope, script, more) {
         Ok(report) => write_report(&report, out),
-        Err(trouble) => status_of(TROUBLE, trouble.write_to(err)),
+        Err(trouble) => trouble.tell_to(err),
     }
 }
 

@@ -1,15 +1,15 @@
-//! What is told of runs, written: a trace, a comparison, a film.
+//! What is told of runs, written: a trace, a comparison.
 ghost use Rattle.std.specs.Prelude.{◌≡◌, ◌≢◌, ◌⊎◌, true, false};
 ghost use Rattle.std.specs.Io.KnownBytes.{Keeps};
 ghost use Rattle.agc_study.specs.Compared.{IsComparisonWritten, IsToldTo};
 ghost use Rattle.agc_study.specs.Ended.{IsEnded};
+ghost use Rattle.agc_study.specs.Started.{IsPairRefused};
+ghost use Rattle.agc_study.specs.Traced.{IsTraceWritten};
+ghost use Rattle.agc_study.specs.Trouble.{IsTold};
 
-use crate::answers::TROUBLE;
 use crate::compares::{Told, compare_files};
-use crate::films::{FilmPage, film_file_pairs, film_files};
 use crate::traces::{Traced, remark_service, status_of_untraced, trace_files};
-use crate::trouble::Trouble;
-use agc_asked::{Comparing, Filming, Tracing};
+use agc_asked::{Comparing, Tracing};
 use agc_machine::{Machine, Upcoming};
 use agc_progress::Shown;
 use agc_session::{DONE, InputFile, status_of};
@@ -21,9 +21,6 @@ use std::rt::Files;
 
 /// The status of two runs that are not the same.
 const APART: u8 = 1;
-
-/// How many frames a film may have without a remark.
-const MANY_FRAMES: usize = 1_000_000;
 
 /// Traces the run of a rope file and a script file. A remark says where its range is empty, and where the
 /// service of an interrupt goes on at the stop.
@@ -44,7 +41,38 @@ where
 {
     let mut rope = InputFile::new(fs::open(rt, tracing.rope.as_str()));
     let mut script = InputFile::new(fs::open(rt, tracing.script.as_str()));
-    let traced = trace_files(rt.alloc(), tracing, &mut rope, &mut script, out, progress);
+    write_trace(
+        rt.alloc(),
+        tracing,
+        &mut rope,
+        &mut script,
+        out,
+        err,
+        remarks,
+        progress,
+    )
+}
+
+/// Traces the run of a rope and a script.
+fn write_trace<R: Read, S: Read, W: Write, E: Write, N: Write, P: Shown>(
+    alloc: Global,
+    tracing: &Tracing,
+    rope: &mut R,
+    script: &mut S,
+    out: &mut W,
+    err: &mut E,
+    remarks: &mut N,
+    progress: &mut P,
+) -> u8
+    ensures ended { IsEnded result (W.contents out.old) (W.contents out.new)
+        (E.contents err.old) (E.contents err.new) }
+    ensures plain { result ≡ 2 → Keeps (N.contents remarks.old) (N.contents remarks.new) }
+    ensures faulty { result ≢ 1 }
+    ensures traced { result ≡ 0 → IsTraceWritten tracing.now
+        (R.remaining rope.old) (S.remaining script.old)
+        (W.contents out.old) (W.contents out.new) }
+{
+    let traced = trace_files(alloc, tracing, rope, script, out, progress);
     progress.wipe();
     match traced {
         Ok(traced) => {
@@ -133,6 +161,11 @@ fn write_comparison<R: Read, S: Read, T: Read, U: Read, W: Write, E: Write, P: S
         (R.remaining rope.old) (S.remaining script.old)
         (T.remaining other_rope.old) (U.remaining other_script.old) false
         (W.contents out.old) (W.contents out.new) }
+    ensures refused { result ≡ 2 → IsTold (IsPairRefused
+        asked.now.form asked.now.until asked.now.limit
+        (R.remaining rope.old) (S.remaining script.old)
+        (T.remaining other_rope.old) (U.remaining other_script.old))
+        (E.contents err.old) (E.contents err.new) }
 {
     let compared = compare_files(
         alloc,
@@ -146,71 +179,8 @@ fn write_comparison<R: Read, S: Read, T: Read, U: Read, W: Write, E: Write, P: S
     progress.wipe();
     match compared {
         Ok(told) => write_told(&told, out),
-        Err(trouble) => status_of(TROUBLE, trouble.write_to(err)),
+        Err(trouble) => trouble.tell_to(err),
     }
-}
-
-/// Films the run of a rope file and a script file, or the runs of two of each; where the page is so long that a browser
-/// may be slow with it, a remark says so.
-pub fn film_to<R, W: Write, E: Write, N: Write, P: Shown>(
-    rt: &R,
-    asked: &Filming,
-    out: &mut W,
-    err: &mut E,
-    remarks: &mut N,
-    progress: &mut P,
-) -> u8
-where
-    R: Files + AllocGlobal,
-    ensures ended { IsEnded result (W.contents out.old) (W.contents out.new)
-        (E.contents err.old) (E.contents err.new) }
-    ensures plain { result ≡ 2 → Keeps (N.contents remarks.old) (N.contents remarks.new) }
-    ensures faulty { result ≢ 1 }
-{
-    let filmed = filmed(rt, asked, progress);
-    progress.wipe();
-    match filmed {
-        Ok(page) => {
-            remark_on_length(page.frames, remarks);
-            status_of(DONE, out.write_all(page.text.as_bytes()))
-        }
-        Err(trouble) => status_of(TROUBLE, trouble.write_to(err)),
-    }
-}
-
-/// Says of a film of many frames how a shorter one is made. A remark that cannot be written changes nothing of the film.
-fn remark_on_length<N: Write>(frames: usize, remarks: &mut N) {
-    if frames > MANY_FRAMES {
-        let _told = writeln!(
-            remarks,
-            "agc-study: the film has {frames} frames, and a browser may be slow with it; --from and --to film a part"
-        );
-    }
-}
-
-/// The page that shows these runs.
-fn filmed<R, P: Shown>(rt: &R, asked: &Filming, progress: &mut P) -> Result<FilmPage, Trouble>
-where
-    R: Files + AllocGlobal,
-{
-    let alloc = rt.alloc();
-    let mut rope = InputFile::new(fs::open(rt, asked.files.rope.as_str()));
-    let mut script = InputFile::new(fs::open(rt, asked.files.script.as_str()));
-    let Some(other) = &asked.other else {
-        return Ok(film_files(alloc, asked, &mut rope, &mut script, progress)?);
-    };
-    let mut other_rope = InputFile::new(fs::open(rt, other.rope.as_str()));
-    let mut other_script = InputFile::new(fs::open(rt, other.script.as_str()));
-    film_file_pairs(
-        alloc,
-        asked,
-        other,
-        &mut rope,
-        &mut script,
-        &mut other_rope,
-        &mut other_script,
-        progress,
-    )
 }
 
 /// Writes what is told of two runs: the status is 0 where they are the same, and 1 where they are not.

@@ -3,13 +3,12 @@ ghost use Rattle.std.specs.Prelude.{IfErr, IfOk, OnOk};
 ghost use Rattle.std.specs.Io.KnownBytes.{Appends};
 ghost use Rattle.agc_study.specs.Traced.{EndsUntraced, IsTraced, IsUntraced, service_line};
 
-use crate::answers::TROUBLE;
 use crate::runs::read_machine;
 use crate::trouble::Trouble;
 use agc_asked::Tracing;
 use agc_machine::Machine;
 use agc_progress::Progress;
-use agc_session::{Refusal, UNWRITTEN, status_of};
+use agc_session::{Refusal, UNWRITTEN};
 use agc_trace::{Service, TraceFault, trace};
 use std::alloc::Global;
 use std::io::{self, Read, Write};
@@ -79,7 +78,7 @@ pub fn status_of_untraced<E: Write>(untraced: Untraced, err: &mut E) -> u8
     ensures { EndsUntraced untraced result (E.contents err.old) (E.contents err.new) }
 {
     match untraced {
-        Untraced::Refused(refusal) => status_of(TROUBLE, Trouble::Refused(refusal).write_to(err)),
+        Untraced::Refused(refusal) => Trouble::Refused(refusal).tell_to(err),
         Untraced::Cut(TraceFault::Write) => UNWRITTEN,
         Untraced::Cut(TraceFault::Memory) => {
             let _told = Trouble::Refused(Refusal::Memory).write_to(err);

@@ -1,10 +1,11 @@
 //! What the program says where it cannot do what was asked for: one line.
-ghost use Rattle.std.specs.Prelude.{◌≡◌, OnOk};
+ghost use Rattle.std.specs.Prelude.{◌≡◌, ◌⊎◌, OnOk};
 ghost use Rattle.std.specs.Io.KnownBytes.{Appends};
 ghost use Rattle.agc_study.specs.Trouble.{other_trouble, trouble_line};
 ghost use Rattle.agc_study.specs.declared.trouble.Trouble.TheVariants as told;
 
-use agc_session::Refusal;
+use crate::answers::TROUBLE;
+use agc_session::{Refusal, status_of};
 use agc_source::SourceTrouble;
 use std::fmt;
 use std::io::{self, Write};
@@ -44,6 +45,15 @@ impl Trouble {
             (Appends (W.contents err.old) (W.contents err.new) (trouble_line self)) }
     {
         writeln!(err, "agc-study: {self}")
+    }
+
+    /// Tells this trouble, and how the program ends: with `TROUBLE`, or with 3 where the line cannot be written.
+    pub fn tell_to<W: Write>(self, err: &mut W) -> u8
+        ensures status { (result ≡ 2) ⊎ (result ≡ 3) }
+        ensures line { result ≡ 2
+            → Appends (W.contents err.old) (W.contents err.new) (trouble_line self) }
+    {
+        status_of(TROUBLE, self.write_to(err))
     }
 }
 

@@ -4,7 +4,7 @@ use agc_asked::Tracing;
 use agc_listing::rope_file;
 use agc_machine::LimitFault;
 use agc_processor::Rupt;
-use agc_session::ROPE_BYTES;
+use agc_session::{ROPE_BYTES, ReadFault};
 use agc_study::{Untraced, remark_service, status_of_untraced, trace_files};
 use agc_trace::{Selection, Service, TraceFault};
 use std::io::{self, ErrorKind, Write};
@@ -128,7 +128,7 @@ fn traces_fail(rt: HostRuntime) -> Result<(), Fail> {
     Ok(())
 }
 
-/// A script and a text may have more bytes than a rope.
+/// A script and a text may have more bytes than a rope, which is not read then.
 #[test]
 fn long_files_are_read(rt: HostRuntime) -> Result<(), Fail> {
     let alloc = rt.alloc();
@@ -136,6 +136,17 @@ fn long_files_are_read(rt: HostRuntime) -> Result<(), Fail> {
     long.push(b'\n')?;
     let (mut rope, mut script): (&[u8], &[u8]) = (&[0x70, 0x08], long.as_slice());
     let report = check_files(alloc, RopeForm::Classic, &mut rope, &mut script)
+        .ok()
+        .ok_or("a report")?;
+    assert!(rt; report.is_sound);
+    let (mut rope, mut script): (&[u8], &[u8]) = (long.as_slice(), b"");
+    let refused = check_files(alloc, RopeForm::Classic, &mut rope, &mut script);
+    assert_eq!(rt;
+        refused.err(),
+        Some(Trouble::Refused(Refusal::CannotReadRope(ReadFault::TooMany)))
+    );
+    let mut listing = long.as_slice();
+    let report = check_listing_file(alloc, &mut listing)
         .ok()
         .ok_or("a report")?;
     assert!(rt; report.is_sound);

@@ -1,0 +1,168 @@
+//! The film of a run, or of two, written.
+ghost use Rattle.std.specs.Prelude.{◌≡◌, ◌≢◌, ◌⊎◌, string_bytes};
+ghost use Rattle.std.specs.Io.KnownBytes.{Appends, Keeps};
+ghost use Rattle.agc_study.specs.Ended.{IsEnded};
+ghost use Rattle.agc_study.specs.Filmed.{IsFilmPairWritten, IsFilmWritten};
+ghost use Rattle.agc_study.specs.Started.{IsPairRefused, IsRefused};
+ghost use Rattle.agc_study.specs.Trouble.{IsTold, trouble_line};
+ghost use Rattle.agc_session.specs.declared.refusal.Refusal.{Refusal};
+ghost use Rattle.agc_study.specs.declared.trouble.Trouble.TheVariants as told;
+
+use crate::films::{FilmPage, film_file_pairs, film_files};
+use crate::trouble::Trouble;
+use agc_asked::Filming;
+use agc_film::{HEAD, RunFiles, TAIL};
+use agc_progress::Shown;
+use agc_session::{DONE, InputFile, status_of};
+use std::alloc::Global;
+use std::fs;
+use std::io::{Read, Write};
+use std::rt::Files;
+
+/// How many frames a film may have without a remark.
+const MANY_FRAMES: usize = 1_000_000;
+
+/// Films the run of a rope file and a script file, or the runs of two of each; where the page is so long that a browser
+/// may be slow with it, a remark says so.
+pub fn film_to<R, W: Write, E: Write, N: Write, P: Shown>(
+    rt: &R,
+    asked: &Filming,
+    out: &mut W,
+    err: &mut E,
+    remarks: &mut N,
+    progress: &mut P,
+) -> u8
+where
+    R: Files + AllocGlobal,
+    ensures ended { IsEnded result (W.contents out.old) (W.contents out.new)
+        (E.contents err.old) (E.contents err.new) }
+    ensures plain { result ≡ 2 → Keeps (N.contents remarks.old) (N.contents remarks.new) }
+    ensures faulty { result ≢ 1 }
+{
+    let alloc = rt.alloc();
+    let mut rope = InputFile::new(fs::open(rt, asked.files.rope.as_str()));
+    let mut script = InputFile::new(fs::open(rt, asked.files.script.as_str()));
+    let Some(other) = &asked.other else {
+        return write_film(
+            alloc,
+            asked,
+            &mut rope,
+            &mut script,
+            out,
+            err,
+            remarks,
+            progress,
+        );
+    };
+    let mut other_rope = InputFile::new(fs::open(rt, other.rope.as_str()));
+    let mut other_script = InputFile::new(fs::open(rt, other.script.as_str()));
+    write_film_pair(
+        alloc,
+        asked,
+        other,
+        &mut rope,
+        &mut script,
+        &mut other_rope,
+        &mut other_script,
+        out,
+        err,
+        remarks,
+        progress,
+    )
+}
+
+/// Films the run of a rope and a script, and writes the page.
+fn write_film<R: Read, S: Read, W: Write, E: Write, N: Write, P: Shown>(
+    alloc: Global,
+    asked: &Filming,
+    rope: &mut R,
+    script: &mut S,
+    out: &mut W,
+    err: &mut E,
+    remarks: &mut N,
+    progress: &mut P,
+) -> u8
+    ensures ended { IsEnded result (W.contents out.old) (W.contents out.new)
+        (E.contents err.old) (E.contents err.new) }
+    ensures plain { result ≡ 2 → Keeps (N.contents remarks.old) (N.contents remarks.new) }
+    ensures faulty { result ≢ 1 }
+    ensures film { result ≡ 0 → IsFilmWritten HEAD.now TAIL.now asked.now
+        (R.remaining rope.old) (S.remaining script.old)
+        (W.contents out.old) (W.contents out.new) }
+    ensures refused { result ≡ 2 → (r : Refusal) × IsRefused
+        asked.now.form asked.now.until asked.now.limit
+        (R.remaining rope.old) (S.remaining script.old) r
+        × Appends (E.contents err.old) (E.contents err.new) (trouble_line (told.Refused r)) }
+{
+    let filmed = film_files(alloc, asked, rope, script, progress);
+    progress.wipe();
+    match filmed {
+        Ok(page) => write_page(&page, out, remarks),
+        Err(refusal) => Trouble::Refused(refusal).tell_to(err),
+    }
+}
+
+/// Films the runs of two ropes and two scripts, and writes the page.
+fn write_film_pair<R: Read, S: Read, T: Read, U: Read, W: Write, E: Write, N: Write, P: Shown>(
+    alloc: Global,
+    asked: &Filming,
+    other: &RunFiles,
+    rope: &mut R,
+    script: &mut S,
+    other_rope: &mut T,
+    other_script: &mut U,
+    out: &mut W,
+    err: &mut E,
+    remarks: &mut N,
+    progress: &mut P,
+) -> u8
+    ensures ended { IsEnded result (W.contents out.old) (W.contents out.new)
+        (E.contents err.old) (E.contents err.new) }
+    ensures plain { result ≡ 2 → Keeps (N.contents remarks.old) (N.contents remarks.new) }
+    ensures faulty { result ≢ 1 }
+    ensures film { result ≡ 0 → IsFilmPairWritten HEAD.now TAIL.now asked.now other.now
+        (R.remaining rope.old) (S.remaining script.old)
+        (T.remaining other_rope.old) (U.remaining other_script.old)
+        (W.contents out.old) (W.contents out.new) }
+    ensures refused { result ≡ 2 → IsTold (IsPairRefused
+        asked.now.form asked.now.until asked.now.limit
+        (R.remaining rope.old) (S.remaining script.old)
+        (T.remaining other_rope.old) (U.remaining other_script.old))
+        (E.contents err.old) (E.contents err.new) }
+{
+    let filmed = film_file_pairs(
+        alloc,
+        asked,
+        other,
+        rope,
+        script,
+        other_rope,
+        other_script,
+        progress,
+    );
+    progress.wipe();
+    match filmed {
+        Ok(page) => write_page(&page, out, remarks),
+        Err(trouble) => trouble.tell_to(err),
+    }
+}
+
+/// Writes a page: the status is 0, or 3 where that cannot be done.
+fn write_page<W: Write, N: Write>(page: &FilmPage, out: &mut W, remarks: &mut N) -> u8
+    ensures status { (result ≡ 0) ⊎ (result ≡ 3) }
+    ensures page { result ≡ 0
+        → Appends (W.contents out.old) (W.contents out.new) (string_bytes page.now.text) }
+{
+    remark_on_length(page.frames, remarks);
+    status_of(DONE, out.write_all(page.text.as_bytes()))
+}
+
+/// Says of a film of many frames how a shorter one is made. A remark that cannot be written changes nothing of the film.
+fn remark_on_length<N: Write>(frames: usize, remarks: &mut N) {
+    if frames > MANY_FRAMES {
+        let _told = writeln!(
+            remarks,
+            "agc-study: the film has {frames} frames, and a browser may be slow with it; --from and --to film a part"
+        );
+    }
+}
