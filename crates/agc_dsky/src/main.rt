@@ -1,0 +1,258 @@
+//! `agc-dsky`: sits before the DSKY of a computer that runs a rope, on a terminal.
+#![tactic(auto)]
+
+mod pace;
+mod saving;
+mod screen;
+mod seat;
+mod session;
+#[cfg(test)]
+mod tests;
+mod trouble;
+mod typed;
+mod words;
+
+use agc_args::ArgsFault;
+use agc_picture::Ink;
+use agc_script::Script;
+use agc_session::{
+    DONE, InputFile, REFUSED, Refusal, UNWRITTEN, read_rope, read_script, status_of,
+};
+use agc_sitting::Sitting;
+use screen::{DrawFault, Screen};
+use seat::Seat;
+use session::{Ended, Session, Wish, read_typed, rest};
+use std::io::{IsTerminal, Read, Write};
+use std::process::ExitCode;
+use std::rt::{Env, Files};
+use std::time::Clock;
+use std::{env, fs, io};
+use trouble::Trouble;
+use words::{Asked, asked_of};
+
+/// The status of a mistake in the command line, or of a start beside a terminal.
+const MISUSED: u8 = 2;
+
+fn main(rt: HostRuntime) -> ExitCode {
+    let _stand_ins = stand_ins(&rt);
+    let (mut keys, mut out, mut err) = (rt.stdin(), rt.stdout(), rt.stderr());
+    let asked = asked_of(&rt);
+    let place = place_of(&rt, keys.is_terminal(), out.is_terminal());
+    ExitCode::from(run(&rt, asked, place, &mut keys, &mut out, &mut err))
+}
+
+/// Three files that can be neither read nor written, which take the numbers of closed standard
+/// streams, so that no file that is opened later does.
+fn stand_ins<R: Files>(rt: &R) -> [io::Result<R::File>; 3] {
+    [fs::open(rt, "/"), fs::open(rt, "/"), fs::open(rt, "/")]
+}
+
+/// Whether this is a terminal that can be drawn on, and in which ink: `NO_COLOR`, where it is not empty, asks for none.
+fn place_of<R: Env + AllocGlobal>(rt: &R, is_input: bool, is_output: bool) -> Result<Ink, Trouble> {
+    if !is_input {
+        return Err(Trouble::InputIsNoTerminal);
+    }
+    if !is_output {
+        return Err(Trouble::OutputIsNoTerminal);
+    }
+    match env::var(rt, "TERM") {
+        Ok(name) if name.as_str() == "dumb" => return Err(Trouble::DumbTerminal),
+        _ => {}
+    }
+    match env::var(rt, "NO_COLOR") {
+        Ok(value) if !value.is_empty() => Ok(Ink::Plain),
+        _ => Ok(Ink::Colour),
+    }
+}
+
+/// Does what the command line asks for: a session over rope and script. The text of help goes to `out`, with status
+/// 0; what is refused goes to `err` in a line, with status 1, and a mistake with status 2. A write that fails gives
+/// status 3.
+fn run<R, K: Read, W: Write, E: Write>(
+    rt: &R,
+    asked: Result<Asked, ArgsFault>,
+    place: Result<Ink, Trouble>,
+    keys: &mut K,
+    out: &mut W,
+    err: &mut E,
+) -> u8
+where
+    R: Files + Clock + AllocGlobal,
+{
+    match asked {
+        Ok(asked) => match begin(rt, &asked, place, out) {
+            Ok(session) => {
+                let (session, ended) = sit(rt, session, &asked, keys, out);
+                finish(rt, session, &asked, ended, out, err)
+            }
+            Err(trouble) => status_of(status_for(trouble), trouble.write_to(err)),
+        },
+        Err(ArgsFault::Help(text)) => status_of(DONE, out.write_all(text.as_bytes())),
+        Err(ArgsFault::Command(text)) => status_of(MISUSED, err.write_all(text.as_bytes())),
+        Err(ArgsFault::Memory) => {
+            status_of(REFUSED, Trouble::Refused(Refusal::Memory).write_to(err))
+        }
+    }
+}
+
+/// The status where no session begins.
+fn status_for(trouble: Trouble) -> u8 {
+    if trouble.is_misuse() {
+        MISUSED
+    } else {
+        REFUSED
+    }
+}
+
+/// The session at its start. The terminal is looked at first, then the rope, the script, the limit, and last the
+/// file to save to, so that none is made where there is no session.
+fn begin<R, W: Write>(
+    rt: &R,
+    asked: &Asked,
+    place: Result<Ink, Trouble>,
+    out: &mut W,
+) -> Result<Session, Trouble>
+where
+    R: Files + Clock + AllocGlobal,
+{
+    let ink = place?;
+    let seat = Seat::new(rt.alloc(), sitting_for(rt, asked)?);
+    if let Some(path) = &asked.save {
+        if saving::reserve(rt, path.as_str(), asked.force).is_err() {
+            return Err(Trouble::SaveRefused);
+        }
+    }
+    let screen = Screen::new(rt.alloc(), ink);
+    // Where the terminal takes nothing, the first drawing says so.
+    let _begun = screen::begin(out);
+    Ok(Session::new(rt, seat, screen, asked.speed))
+}
+
+/// The machine at its start, with the events of the script where there is one.
+fn sitting_for<R: Files + AllocGlobal>(rt: &R, asked: &Asked) -> Result<Sitting, Trouble> {
+    let mut rope = InputFile::new(fs::open(rt, asked.rope.as_str()));
+    let rope = read_rope(rt.alloc(), asked.form, &mut rope)?;
+    let script = match &asked.script {
+        Some(path) => {
+            let mut script = InputFile::new(fs::open(rt, path.as_str()));
+            read_script(rt.alloc(), &mut script)?
+        }
+        None => Script::empty(rt.alloc()),
+    };
+    Ok(Sitting::new(rt.alloc(), rope, script, asked.limit)?)
+}
+
+/// The session itself, to its end.
+fn sit<R, K: Read, W: Write>(
+    rt: &R,
+    mut session: Session,
+    asked: &Asked,
+    keys: &mut K,
+    out: &mut W,
+) -> (Session, Ended)
+where
+    R: Files + Clock + AllocGlobal,
+{
+    let mut buffer = [0u8; 256];
+    for _turn in 0..u64::MAX {
+        let Some(count) = read_typed(keys, &mut buffer) else {
+            return (session, Ended::Gone);
+        };
+        for byte in buffer.iter().copied().take(count) {
+            let (next, wish) = session.take(rt.alloc(), rt, byte);
+            session = next;
+            match wish {
+                Wish::None => {}
+                Wish::Save => {
+                    let remark = save_now(rt, &session.seat, asked);
+                    session.say(remark);
+                }
+                Wish::Quit => return (session, Ended::Quit),
+            }
+        }
+        session.go_on(rt);
+        match session.draw(rt.alloc(), rt, out) {
+            Ok(()) => {}
+            Err(DrawFault::Write) => return (session, Ended::Gone),
+            Err(DrawFault::Memory) => return (session, Ended::Memory),
+        }
+        rest(rt);
+    }
+    (session, Ended::Quit)
+}
+
+/// Saves the script while the session goes on, and returns what is to be said of it.
+fn save_now<R: Files + AllocGlobal>(rt: &R, seat: &Seat, asked: &Asked) -> &'static str {
+    let Some(path) = &asked.save else {
+        return "no file is named: start with --save FILE";
+    };
+    match saved(rt, seat, path.as_str()) {
+        Ok(()) => "saved",
+        Err(_) => "the script could not be saved",
+    }
+}
+
+/// Writes the script that repeats the session to a file.
+fn saved<R: Files + AllocGlobal>(rt: &R, seat: &Seat, path: &str) -> Result<(), Trouble> {
+    let Some(script) = seat.told(rt.alloc()) else {
+        return Err(Trouble::Refused(Refusal::Memory));
+    };
+    let Ok(text) = saving::text_of(rt.alloc(), &script) else {
+        return Err(Trouble::Refused(Refusal::Memory));
+    };
+    match saving::save(rt, path, text.as_str()) {
+        Ok(()) => Ok(()),
+        Err(_) => Err(Trouble::SaveFailed),
+    }
+}
+
+/// Puts the screen back, hands the script on, and tells how to repeat the session. Where the script cannot be saved it
+/// is printed, so that nothing is lost.
+fn finish<R, W: Write, E: Write>(
+    rt: &R,
+    session: Session,
+    asked: &Asked,
+    ended: Ended,
+    out: &mut W,
+    err: &mut E,
+) -> u8
+where
+    R: Files + AllocGlobal,
+{
+    // A terminal that is gone cannot be put back.
+    let _put_back = screen::end(out);
+    let seat = &session.seat;
+    let handed_on = match &asked.save {
+        Some(path) => saved(rt, seat, path.as_str()),
+        None => Ok(()),
+    };
+    let told = match (&asked.save, handed_on) {
+        (Some(path), Ok(())) => tell(asked, path.as_str(), seat, out),
+        _ => print_script(rt, seat, out).and_then(|()| tell(asked, "SCRIPT", seat, out)),
+    };
+    let status = match (told, ended) {
+        (Err(_), _) | (Ok(()), Ended::Gone) => UNWRITTEN,
+        (Ok(()), Ended::Memory) => {
+            status_of(REFUSED, Trouble::Refused(Refusal::Memory).write_to(err))
+        }
+        (Ok(()), Ended::Quit) => DONE,
+    };
+    match handed_on {
+        Ok(()) => status,
+        Err(trouble) => status_of(UNWRITTEN, trouble.write_to(err)),
+    }
+}
+
+/// Tells how the session is repeated with a script.
+fn tell<W: Write>(asked: &Asked, script: &str, seat: &Seat, out: &mut W) -> io::Result<()> {
+    saving::tell_how(out, asked.rope.as_str(), script, seat.cycle())
+}
+
+/// Prints the script that repeats the session.
+fn print_script<R: AllocGlobal, W: Write>(rt: &R, seat: &Seat, out: &mut W) -> io::Result<()> {
+    let Some(script) = seat.told(rt.alloc()) else {
+        return Err(io::Error::from(io::ErrorKind::OutOfMemory));
+    };
+    let text = saving::text_of(rt.alloc(), &script)?;
+    out.write_all(text.as_bytes())
+}

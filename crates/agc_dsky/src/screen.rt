@@ -1,0 +1,221 @@
+//! The terminal: what is drawn on it, and how large it is.
+use crate::pace::Pace;
+use crate::seat::Seat;
+use agc_dialogue::{push_next_line, push_registers_line};
+use agc_picture::{Cap, Ink, Size, View, push_picture};
+use std::alloc::{AllocError, Global};
+use std::io::Write;
+
+/// What begins a session on a terminal: a screen of its own without a cursor.
+const BEGIN: &str = "\x1b[?1049h\x1b[?25l\x1b[2J";
+
+/// What ends it: the cursor, and the screen that was there before.
+const END: &str = "\x1b[?25h\x1b[?1049l";
+
+/// Asks the terminal for its size: it tells the place of a cursor that went as far down and right as it can.
+const ASK_SIZE: &str = "\x1b[999;999H\x1b[6n";
+
+/// What ends a line: what stood behind it is erased.
+const LINE_END: &str = "\x1b[K\r\n";
+
+/// The lines of a picture with digits three lines high, and of the two lines below it.
+const LARGE_LINES: u16 = 24;
+
+/// The lines of the small picture with all that may stand below it.
+const SMALL_LINES: u16 = 14;
+
+/// The columns that are wanted.
+const COLUMNS: u16 = 58;
+
+/// The microseconds of a half of the flash.
+const FLASH_HALF: u64 = 320_000;
+
+/// What the picture is told beside the sitting.
+#[derive(Clone, Copy, Debug, PartialEq, Eq)]
+pub struct Shown<'a> {
+    /// The time of the clock in microseconds.
+    pub micros: u64,
+    pub pace: Pace,
+    /// The key that is lit.
+    pub pressed: Option<Cap>,
+    /// How many times as fast as the hardware the machine went of late, where it cannot keep its pace.
+    pub runs_at: Option<u64>,
+    /// The insides are shown.
+    pub is_inside: bool,
+    /// What is said of the last thing that was done; it may be empty.
+    pub remark: &'a str,
+}
+
+/// A terminal of a size, with what was drawn on it last.
+#[derive(Drop)]
+pub struct Screen {
+    ink: Ink,
+    lines: u16,
+    columns: u16,
+    drawn: String,
+}
+
+impl Screen {
+    /// Nothing is drawn yet; the size is taken for the usual one until the terminal tells it.
+    pub fn new(alloc: Global, ink: Ink) -> Screen {
+        Screen {
+            ink,
+            lines: 24,
+            columns: 80,
+            drawn: String::new(alloc),
+        }
+    }
+
+    /// The terminal has told its size: all is drawn anew where it is another one.
+    pub fn resize(&mut self, lines: u16, columns: u16) {
+        if self.lines == lines && self.columns == columns {
+            return;
+        }
+        self.lines = lines;
+        self.columns = columns;
+        self.drawn.clear();
+    }
+
+    /// Draws what has changed.
+    pub fn draw<W: Write>(
+        &mut self,
+        alloc: Global,
+        seat: &Seat,
+        shown: Shown<'_>,
+        out: &mut W,
+    ) -> Result<(), DrawFault> {
+        let frame = self.frame(alloc, seat, shown)?;
+        if frame.as_str() == self.drawn.as_str() {
+            return Ok(());
+        }
+        send(out, &frame)?;
+        self.drawn = frame;
+        Ok(())
+    }
+
+    /// All that is to stand on the terminal, from its first place on.
+    fn frame(&self, alloc: Global, seat: &Seat, shown: Shown<'_>) -> Result<String, AllocError> {
+        let mut frame = String::new(alloc);
+        if self.columns < COLUMNS || self.lines < SMALL_LINES {
+            push_too_small(&mut frame)?;
+            return Ok(frame);
+        }
+        let picture = self.picture(alloc, seat, shown)?;
+        frame.push_str("\x1b[H")?;
+        for line in picture.lines() {
+            frame.push_str(line)?;
+            frame.push_str(LINE_END)?;
+        }
+        push_time(&mut frame, seat, shown)?;
+        frame.push_str(LINE_END)?;
+        push_last_line(&mut frame, shown.remark)?;
+        frame.push_str("\x1b[K\x1b[J")?;
+        Ok(frame)
+    }
+
+    /// The lines of the picture, and those of the insides where they are shown.
+    fn picture(&self, alloc: Global, seat: &Seat, shown: Shown<'_>) -> Result<String, AllocError> {
+        let mut picture = String::new(alloc);
+        let view = View {
+            size: self.size(shown.is_inside),
+            ink: self.ink,
+            is_dark: (shown.micros / FLASH_HALF) % 2 == 1,
+            pressed: shown.pressed,
+        };
+        push_picture(&mut picture, view, seat.sitting())?;
+        if shown.is_inside && SMALL_LINES + 2 <= self.lines {
+            push_insides(&mut picture, seat)?;
+        }
+        Ok(picture)
+    }
+
+    /// Digits are three lines high where there is room for them.
+    fn size(&self, is_inside: bool) -> Size {
+        if is_inside || self.lines < LARGE_LINES {
+            Size::Small
+        } else {
+            Size::Large
+        }
+    }
+}
+
+/// Why nothing was drawn.
+#[derive(Clone, Copy, Debug, PartialEq, Eq)]
+pub enum DrawFault {
+    Memory,
+    /// The terminal takes nothing more: it may be gone.
+    Write,
+}
+
+impl From<AllocError> for DrawFault {
+    fn from(_error: AllocError) -> DrawFault {
+        DrawFault::Memory
+    }
+}
+
+/// Begins a session on a terminal, and asks for its size.
+pub fn begin<W: Write>(out: &mut W) -> Result<(), DrawFault> {
+    send(out, BEGIN)?;
+    send(out, ASK_SIZE)
+}
+
+/// Puts the terminal's screen and cursor back.
+pub fn end<W: Write>(out: &mut W) -> Result<(), DrawFault> {
+    send(out, END)
+}
+
+/// Asks the terminal for its size.
+pub fn ask_size<W: Write>(out: &mut W) -> Result<(), DrawFault> {
+    send(out, ASK_SIZE)
+}
+
+fn send<W: Write>(out: &mut W, text: &str) -> Result<(), DrawFault> {
+    if out.write_all(text.as_bytes()).is_err() || out.flush().is_err() {
+        return Err(DrawFault::Write);
+    }
+    Ok(())
+}
+
+fn push_too_small(frame: &mut String) -> Result<(), AllocError> {
+    write!(
+        frame,
+        "\x1b[H{COLUMNS} columns and {SMALL_LINES} lines are wanted\x1b[K\x1b[J"
+    )
+}
+
+/// Adds the registers, and what comes next.
+fn push_insides(picture: &mut String, seat: &Seat) -> Result<(), AllocError> {
+    picture.push_str(" ")?;
+    push_registers_line(picture, seat.machine().store())?;
+    picture.push_str(" ")?;
+    push_next_line(picture, seat.machine().upcoming())
+}
+
+/// Adds the line that tells the machine's time and how fast it goes.
+fn push_time(frame: &mut String, seat: &Seat, shown: Shown<'_>) -> Result<(), AllocError> {
+    let tenths = seat.cycle().saturating_mul(12) / 102_400;
+    let (seconds, tenth) = (tenths / 10, tenths % 10);
+    let speed = shown.pace.speed().name();
+    write!(frame, " TIME {seconds}.{tenth} s  SPEED {speed}")?;
+    if shown.pace.is_paused() {
+        frame.push_str("  PAUSED")?;
+    } else if let Some(times) = shown.runs_at {
+        write!(frame, "  RUNS AT {times}")?;
+    }
+    let waiting = seat.waiting();
+    if 0 < waiting {
+        write!(frame, "  KEYS WAITING {waiting}")?;
+    }
+    Ok(())
+}
+
+/// Adds the last line: what is said of the last thing that was done, or the keys.
+fn push_last_line(frame: &mut String, remark: &str) -> Result<(), AllocError> {
+    if remark.is_empty() {
+        frame.push_str(
+            " v n c k r p Enter 0-9 + -  space . backspace  < >  i inside  s save  q quit",
+        )
+    } else {
+        write!(frame, " {remark}")
+    }
+}

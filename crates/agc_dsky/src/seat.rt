@@ -1,0 +1,263 @@
+//! Who sits before the machine: the keys that he has typed, which are pressed as the machine can take them.
+ghost use Rattle.agc_script.specs.Event.{IsWhatInRange};
+
+use agc_machine::Machine;
+use agc_picture::Cap;
+use agc_script::{MOST_EVENTS, Script, What};
+use agc_sitting::{GiveFault, Sitting};
+use std::alloc::{AllocError, Global};
+
+/// The cycles between two keys at least: a tenth of a second, so that a program that is interrupted by each of
+/// them has time to take it.
+const SPACING: u64 = 8_533;
+
+/// The cycles that PRO is held: a fifth of a second.
+const PRO_HELD: u64 = 17_067;
+
+/// A key that was pressed.
+#[derive(Clone, Copy, Debug, PartialEq, Eq)]
+struct Press {
+    cap: Cap,
+    /// The cycle at which it went down.
+    cycle: u64,
+    /// The cycle at which PRO went up again.
+    released: Option<u64>,
+}
+
+/// A sitting, the keys that wait for it, and those that it was given.
+#[derive(Drop)]
+pub struct Seat {
+    sitting: Sitting,
+    /// The keys that were typed and not pressed yet, in the order in which they were typed.
+    waiting: Vec<Cap>,
+    /// The keys that were pressed, in that order.
+    pressed: Vec<Press>,
+}
+
+impl Seat {
+    /// Nothing was typed.
+    pub fn new(alloc: Global, sitting: Sitting) -> Seat {
+        Seat {
+            sitting,
+            waiting: Vec::new(alloc),
+            pressed: Vec::new(alloc),
+        }
+    }
+
+    /// A key was typed: it waits until it can be pressed.
+    pub fn type_key(&mut self, cap: Cap) -> Result<(), AllocError> {
+        match self.waiting.push(cap) {
+            Ok(()) => Ok(()),
+            Err(_) => Err(AllocError),
+        }
+    }
+
+    /// How many keys wait.
+    pub fn waiting(&self) -> usize {
+        self.waiting.len()
+    }
+
+    pub fn sitting(&self) -> &Sitting {
+        &self.sitting
+    }
+
+    pub fn machine(&self) -> &Machine {
+        self.sitting.machine()
+    }
+
+    /// The present cycle.
+    pub fn cycle(&self) -> u64 {
+        self.machine().cycle()
+    }
+
+    /// The machine goes on to a cycle, or to its stop; keys are pressed on the way, each as soon as it can be.
+    pub fn go_to(&mut self, cycle: u64) -> Result<(), GiveFault> {
+        for _key in 0..u64::MAX {
+            self.press_due()?;
+            if cycle <= self.cycle() || self.has_stopped() {
+                return Ok(());
+            }
+            let next = cycle.min(self.next_due());
+            self.sitting.go_to(next);
+        }
+        Ok(())
+    }
+
+    /// One boundary, after the keys that are due.
+    pub fn step(&mut self) -> Result<(), GiveFault> {
+        self.press_due()?;
+        self.sitting.step();
+        Ok(())
+    }
+
+    fn has_stopped(&self) -> bool {
+        self.machine().stopped().is_some()
+    }
+
+    /// The cycle at which the next key goes down or up; the last number of all where none does.
+    fn next_due(&self) -> u64 {
+        let up = self.release_due().unwrap_or(u64::MAX);
+        match self.waiting.first() {
+            Some(_) if up == u64::MAX => self.press_possible(),
+            _ => up,
+        }
+    }
+
+    /// The cycle from which on a key may go down: some time after the last one did, or after PRO went up.
+    fn press_possible(&self) -> u64 {
+        match self.pressed.last() {
+            Some(last) => last.released.unwrap_or(last.cycle).saturating_add(SPACING),
+            None => 0,
+        }
+    }
+
+    /// The cycle at which PRO goes up, where it is down.
+    fn release_due(&self) -> Option<u64> {
+        match self.pressed.last() {
+            Some(
+                Press {
+                    cap: Cap::Pro,
+                    cycle,
+                    released: None,
+                },
+            ) => Some(cycle.saturating_add(PRO_HELD)),
+            _ => None,
+        }
+    }
+
+    /// PRO goes up where that is due, and the next key goes down where it can. A machine that has stopped takes no
+    /// more keys: those that wait are dropped.
+    fn press_due(&mut self) -> Result<(), GiveFault> {
+        if self.has_stopped() {
+            self.waiting.clear();
+            return Ok(());
+        }
+        if let Some(due) = self.release_due() {
+            return if due <= self.cycle() {
+                self.release()
+            } else {
+                Ok(())
+            };
+        }
+        if self.press_possible() <= self.cycle() {
+            self.press_first()
+        } else {
+            Ok(())
+        }
+    }
+
+    /// PRO goes up.
+    #[tactic(auto, unfolding(agc_script::specs::Event::IsWhatInRange))]
+    fn release(&mut self) -> Result<(), GiveFault> {
+        self.give(What::Pro(false))?;
+        let cycle = self.cycle();
+        if let Some(last) = self.pressed.last_mut() {
+            last.released = Some(cycle);
+        }
+        Ok(())
+    }
+
+    /// The first key that waits goes down, if one does.
+    fn press_first(&mut self) -> Result<(), GiveFault> {
+        let Some(cap) = self.waiting.first().copied() else {
+            return Ok(());
+        };
+        if self.pressed.reserve(1).is_err() {
+            return Err(GiveFault::Memory);
+        }
+        self.give(cap.press())?;
+        let cycle = self.cycle();
+        let press = Press {
+            cap,
+            cycle,
+            released: None,
+        };
+        if self.pressed.push(press).is_err() {
+            return Err(GiveFault::Memory);
+        }
+        if !self.waiting.is_empty() {
+            self.waiting.remove(0);
+        }
+        Ok(())
+    }
+
+    /// Gives the machine an event, after the events of the script that are due.
+    fn give(&mut self, what: What) -> Result<(), GiveFault>
+        requires { IsWhatInRange what }
+    {
+        self.sitting.make_room()?;
+        for _event in 0..2 * MOST_EVENTS {
+            if self.machine().wants_key() || self.has_stopped() {
+                break;
+            }
+            self.sitting.step();
+        }
+        self.sitting.give(what)
+    }
+
+    /// Goes back to a cycle: the keys that were pressed at it or later are gone, and so are those that wait. A PRO that
+    /// was down then goes up as it would have. The second is false where memory ran out, and nothing has changed.
+    pub fn back(self, alloc: Global, cycle: u64) -> (Seat, bool) {
+        let Seat {
+            sitting,
+            mut waiting,
+            mut pressed,
+        } = self;
+        match sitting.go_back(alloc, cycle) {
+            Ok(sitting) => {
+                waiting.clear();
+                forget_from(&mut pressed, cycle);
+                let seat = Seat {
+                    sitting,
+                    waiting,
+                    pressed,
+                };
+                (seat, true)
+            }
+            Err(same) => {
+                let seat = Seat {
+                    sitting: same.sitting,
+                    waiting,
+                    pressed,
+                };
+                (seat, false)
+            }
+        }
+    }
+
+    /// How many keys were pressed.
+    pub fn presses(&self) -> usize {
+        self.pressed.len()
+    }
+
+    /// The key that was pressed last.
+    pub fn last_pressed(&self) -> Option<Cap> {
+        match self.pressed.last() {
+            Some(last) => Some(last.cap),
+            None => None,
+        }
+    }
+
+    /// The script that tells the sitting. `None` where memory runs out.
+    pub fn told(&self, alloc: Global) -> Option<Script> {
+        self.sitting.told(alloc)
+    }
+}
+
+/// Forgets the keys that went down at a cycle or later, and that PRO went up then.
+fn forget_from(pressed: &mut Vec<Press>, cycle: u64) {
+    for _press in 0..pressed.len() {
+        match pressed.last() {
+            Some(last) if cycle <= last.cycle => {
+                pressed.pop();
+            }
+            _ => break,
+        }
+    }
+    if let Some(last) = pressed.last_mut() {
+        match last.released {
+            Some(released) if cycle <= released => last.released = None,
+            _ => {}
+        }
+    }
+}

@@ -1,0 +1,71 @@
+//! What the program says where there is no session, or where one does not end as it should: a line.
+use agc_session::Refusal;
+use agc_sitting::BeginFault;
+use std::fmt;
+use std::io::{self, Write};
+
+/// Why no session begins, or what went wrong at its end.
+#[derive(Clone, Copy, Debug, PartialEq, Eq)]
+pub enum Trouble {
+    /// `agc` refuses this too: a rope, a script or a limit at fault, or no memory.
+    Refused(Refusal),
+    /// Keys cannot be read one by one from standard input.
+    InputIsNoTerminal,
+    /// Nothing can be drawn on standard output.
+    OutputIsNoTerminal,
+    /// The terminal knows no sequences.
+    DumbTerminal,
+    /// A file of the name after `--save` is there already, or cannot be made.
+    SaveRefused,
+    /// The script could not be written.
+    SaveFailed,
+}
+
+impl Trouble {
+    /// Writes the line of this trouble.
+    pub fn write_to<W: Write>(self, err: &mut W) -> io::Result<()> {
+        writeln!(err, "agc-dsky: {self}")
+    }
+
+    /// Whether the command line, or where the program was started, is at fault.
+    pub fn is_misuse(self) -> bool {
+        match self {
+            Trouble::InputIsNoTerminal | Trouble::OutputIsNoTerminal | Trouble::DumbTerminal => {
+                true
+            }
+            Trouble::Refused(_) | Trouble::SaveRefused | Trouble::SaveFailed => false,
+        }
+    }
+}
+
+impl From<Refusal> for Trouble {
+    fn from(refusal: Refusal) -> Trouble {
+        Trouble::Refused(refusal)
+    }
+}
+
+impl From<BeginFault> for Trouble {
+    fn from(fault: BeginFault) -> Trouble {
+        match fault {
+            BeginFault::Limit(limit) => Trouble::Refused(Refusal::Limit(limit)),
+            BeginFault::Memory => Trouble::Refused(Refusal::Memory),
+        }
+    }
+}
+
+impl fmt::Display for Trouble {
+    fn fmt<W: fmt::Write>(&self, f: &mut fmt::Formatter<W>) -> fmt::Result {
+        match *self {
+            Trouble::Refused(refusal) => write!(f, "{refusal}"),
+            Trouble::InputIsNoTerminal => f.write_str("standard input is no terminal"),
+            Trouble::OutputIsNoTerminal => f.write_str("standard output is no terminal"),
+            Trouble::DumbTerminal => f.write_str("a terminal of TERM=dumb cannot be drawn on"),
+            Trouble::SaveRefused => {
+                f.write_str(
+                    "the file after --save is there already, or cannot be made; --force writes over it",
+                )
+            }
+            Trouble::SaveFailed => f.write_str("the script could not be saved"),
+        }
+    }
+}
