@@ -1,26 +1,24 @@
 //! `agc-dsky`: sits before the DSKY of a computer that runs a rope, on a terminal.
 #![tactic(auto)]
 
-mod pace;
 mod saving;
 mod screen;
-mod seat;
 mod session;
 #[cfg(test)]
 mod tests;
 mod trouble;
-mod typed;
 mod words;
 
 use agc_args::ArgsFault;
+use agc_panel::WatchSpec;
 use agc_picture::Ink;
 use agc_script::Script;
+use agc_seat::Seat;
 use agc_session::{
     DONE, InputFile, REFUSED, Refusal, UNWRITTEN, read_rope, read_script, status_of,
 };
 use agc_sitting::Sitting;
 use screen::{DrawFault, Screen};
-use seat::Seat;
 use session::{Ended, Session, Wish, read_typed, rest};
 use std::io::{IsTerminal, Read, Write};
 use std::process::ExitCode;
@@ -104,8 +102,8 @@ fn status_for(trouble: Trouble) -> u8 {
     }
 }
 
-/// The session at its start. The terminal is looked at first, then the rope, the script, the limit, and last the
-/// file to save to, so that none is made where there is no session.
+/// The session at its start. The terminal is looked at first, then the rope, the script, the limit, the tables, and
+/// last the file to save to, so that none is made where there is no session.
 fn begin<R, W: Write>(
     rt: &R,
     asked: &Asked,
@@ -117,6 +115,7 @@ where
 {
     let ink = place?;
     let seat = Seat::new(rt.alloc(), sitting_for(rt, asked)?);
+    let watch = watch_for(asked)?;
     if let Some(path) = &asked.save {
         if saving::reserve(rt, path.as_str(), asked.force).is_err() {
             return Err(Trouble::SaveRefused);
@@ -125,7 +124,7 @@ where
     let screen = Screen::new(rt.alloc(), ink);
     // Where the terminal takes nothing, the first drawing says so.
     let _begun = screen::begin(out);
-    Ok(Session::new(rt, seat, screen, asked.speed))
+    Ok(Session::new(rt, seat, screen, asked.speed, watch))
 }
 
 /// The machine at its start, with the events of the script where there is one.
@@ -140,6 +139,20 @@ fn sitting_for<R: Files + AllocGlobal>(rt: &R, asked: &Asked) -> Result<Sitting,
         None => Script::empty(rt.alloc()),
     };
     Ok(Sitting::new(rt.alloc(), rope, script, asked.limit)?)
+}
+
+/// The tables that can be shown.
+fn watch_for(asked: &Asked) -> Result<Option<WatchSpec>, Refusal> {
+    let Some(text) = &asked.watch else {
+        return Ok(None);
+    };
+    let Some(spec) = WatchSpec::read(text.as_str()) else {
+        return Err(Refusal::BadWatchSpec);
+    };
+    match spec.fault() {
+        Some(fault) => Err(Refusal::Watch(fault)),
+        None => Ok(Some(spec)),
+    }
 }
 
 /// The session itself, to its end.
@@ -228,7 +241,7 @@ where
     };
     let told = match (&asked.save, handed_on) {
         (Some(path), Ok(())) => tell(asked, path.as_str(), seat, out),
-        _ => print_script(rt, seat, out).and_then(|()| tell(asked, "SCRIPT", seat, out)),
+        _ => print_script(rt, seat, out).and_then(|()| tell_unsaved(asked, seat, out)),
     };
     let status = match (told, ended) {
         (Err(_), _) | (Ok(()), Ended::Gone) => UNWRITTEN,
@@ -245,7 +258,14 @@ where
 
 /// Tells how the session is repeated with a script.
 fn tell<W: Write>(asked: &Asked, script: &str, seat: &Seat, out: &mut W) -> io::Result<()> {
-    saving::tell_how(out, asked.rope.as_str(), script, seat.cycle())
+    let limit = seat.limit_to_repeat();
+    saving::tell_how(out, asked.rope.as_str(), script, asked.form, limit)
+}
+
+/// Tells how the session is repeated with the lines that were printed.
+fn tell_unsaved<W: Write>(asked: &Asked, seat: &Seat, out: &mut W) -> io::Result<()> {
+    out.write_all(b"agc-dsky: with the lines above in a file SCRIPT,\n")?;
+    tell(asked, "SCRIPT", seat, out)
 }
 
 /// Prints the script that repeats the session.

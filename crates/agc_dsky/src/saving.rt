@@ -1,5 +1,6 @@
 //! The script that repeats a session, as a file or on the terminal.
 use agc_script::Script;
+use agc_store::RopeForm;
 use std::alloc::{AllocError, Global};
 use std::io::Write;
 use std::rt::Files;
@@ -31,10 +32,21 @@ pub fn save<R: Files>(rt: &R, path: &str, text: &str) -> io::Result<()> {
     file.flush()
 }
 
-/// Tells how the session is repeated and filmed.
-pub fn tell_how<W: Write>(out: &mut W, rope: &str, script: &str, cycle: u64) -> io::Result<()> {
+/// Tells how the session is repeated, up to a limit, and filmed.
+pub fn tell_how<W: Write>(
+    out: &mut W,
+    rope: &str,
+    script: &str,
+    form: RopeForm,
+    limit: u64,
+) -> io::Result<()> {
+    let form = match form {
+        RopeForm::Classic => "",
+        RopeForm::Parity => " --form parity",
+    };
+    writeln!(out, "again: ./agc {rope} {script} --limit {limit}{form}")?;
     writeln!(
         out,
-        "agc-dsky: ended at cycle {cycle}; again: ./agc {rope} {script} --limit {cycle}; as a film: ./agc-study film {rope} {script} --limit {cycle}"
+        "as a film: ./agc-study film {rope} {script} --limit {limit}{form} > film.html"
     )
 }

@@ -1,16 +1,17 @@
 //! The terminal: what is drawn on it, and how large it is.
-use crate::pace::Pace;
-use crate::seat::Seat;
 use agc_dialogue::{push_next_line, push_registers_line};
+use agc_panel::{WatchSpec, watch};
 use agc_picture::{Cap, Ink, Size, View, push_picture};
+use agc_seat::{Pace, Seat};
 use std::alloc::{AllocError, Global};
 use std::io::Write;
 
-/// What begins a session on a terminal: a screen of its own without a cursor.
-const BEGIN: &str = "\x1b[?1049h\x1b[?25l\x1b[2J";
+/// What begins a session on a terminal: a screen of its own without a cursor, on which a line that is too long ends at
+/// the edge.
+const BEGIN: &str = "\x1b[?1049h\x1b[?25l\x1b[?7l\x1b[2J";
 
-/// What ends it: the cursor, and the screen that was there before.
-const END: &str = "\x1b[?25h\x1b[?1049l";
+/// What ends it: long lines go on as before, and so do the cursor, and the screen that was there before.
+const END: &str = "\x1b[?7h\x1b[?25h\x1b[?1049l";
 
 /// Asks the terminal for its size: it tells the place of a cursor that went as far down and right as it can.
 const ASK_SIZE: &str = "\x1b[999;999H\x1b[6n";
@@ -21,8 +22,14 @@ const LINE_END: &str = "\x1b[K\r\n";
 /// The lines of a picture with digits three lines high, and of the two lines below it.
 const LARGE_LINES: u16 = 24;
 
-/// The lines of the small picture with all that may stand below it.
+/// The lines of the small picture, and of the two lines below it.
 const SMALL_LINES: u16 = 14;
+
+/// The columns from which on there is room for more words on what can be typed.
+const LONG_HINT_COLUMNS: u16 = 80;
+
+/// The lines below a picture: how fast time goes, and what can be typed.
+const BELOW: u16 = 2;
 
 /// The columns that are wanted.
 const COLUMNS: u16 = 58;
@@ -42,6 +49,8 @@ pub struct Shown<'a> {
     pub runs_at: Option<u64>,
     /// The insides are shown.
     pub is_inside: bool,
+    /// The Executive's tables that are shown.
+    pub tables: Option<WatchSpec>,
     /// What is said of the last thing that was done; it may be empty.
     pub remark: &'a str,
 }
@@ -56,12 +65,12 @@ pub struct Screen {
 }
 
 impl Screen {
-    /// Nothing is drawn yet; the size is taken for the usual one until the terminal tells it.
+    /// Nothing is drawn yet; the size is taken for the least until the terminal tells it.
     pub fn new(alloc: Global, ink: Ink) -> Screen {
         Screen {
             ink,
-            lines: 24,
-            columns: 80,
+            lines: SMALL_LINES,
+            columns: COLUMNS,
             drawn: String::new(alloc),
         }
     }
@@ -102,36 +111,58 @@ impl Screen {
         }
         let picture = self.picture(alloc, seat, shown)?;
         frame.push_str("\x1b[H")?;
-        for line in picture.lines() {
-            frame.push_str(line)?;
-            frame.push_str(LINE_END)?;
-        }
+        let room = self.lines.saturating_sub(BELOW) as usize;
+        let left = push_lines(&mut frame, &picture, room)?;
         push_time(&mut frame, seat, shown)?;
         frame.push_str(LINE_END)?;
-        push_last_line(&mut frame, shown.remark)?;
+        self.push_last_line(&mut frame, shown.remark, left)?;
         frame.push_str("\x1b[K\x1b[J")?;
         Ok(frame)
     }
 
-    /// The lines of the picture, and those of the insides where they are shown.
+    /// The lines of the picture, and after them those of the insides and of the tables where they are shown.
     fn picture(&self, alloc: Global, seat: &Seat, shown: Shown<'_>) -> Result<String, AllocError> {
         let mut picture = String::new(alloc);
         let view = View {
-            size: self.size(shown.is_inside),
+            size: self.size(shown.is_inside || shown.tables.is_some()),
             ink: self.ink,
             is_dark: (shown.micros / FLASH_HALF) % 2 == 1,
             pressed: shown.pressed,
         };
         push_picture(&mut picture, view, seat.sitting())?;
-        if shown.is_inside && SMALL_LINES + 2 <= self.lines {
+        if shown.is_inside {
             push_insides(&mut picture, seat)?;
+        }
+        if let Some(spec) = shown.tables {
+            push_tables(alloc, &mut picture, seat, spec)?;
         }
         Ok(picture)
     }
 
-    /// Digits are three lines high where there is room for them.
-    fn size(&self, is_inside: bool) -> Size {
-        if is_inside || self.lines < LARGE_LINES {
+    /// Adds the last line: what is said of the last thing that was done, or how many lines have no room, or what can be
+    /// typed.
+    fn push_last_line(
+        &self,
+        frame: &mut String,
+        remark: &str,
+        left: usize,
+    ) -> Result<(), AllocError> {
+        if !remark.is_empty() {
+            return write!(frame, " {remark}");
+        }
+        if 0 < left {
+            return write!(frame, " {left} lines more in a higher terminal");
+        }
+        frame.push_str(if self.columns < LONG_HINT_COLUMNS {
+            " v n c k r p Enter 0-9 + -  space . < >  i t s  q quit"
+        } else {
+            " v n c k r p Enter 0-9 + -  space . Backspace < >  i t inside  s save  q quit"
+        })
+    }
+
+    /// Digits are three lines high where there is room for them, and nothing more is shown.
+    fn size(&self, is_more: bool) -> Size {
+        if is_more || self.lines < LARGE_LINES {
             Size::Small
         } else {
             Size::Large
@@ -191,6 +222,28 @@ fn push_insides(picture: &mut String, seat: &Seat) -> Result<(), AllocError> {
     push_next_line(picture, seat.machine().upcoming())
 }
 
+/// Adds the Executive's tables, as `agc` prints them.
+fn push_tables(
+    alloc: Global,
+    picture: &mut String,
+    seat: &Seat,
+    spec: WatchSpec,
+) -> Result<(), AllocError> {
+    match watch(alloc, seat.machine().store(), &spec) {
+        Ok(tables) => picture.push_str(&tables),
+        Err(_) => Err(AllocError),
+    }
+}
+
+/// Adds as many lines of a picture as there is room for, and returns how many are left.
+fn push_lines(frame: &mut String, picture: &str, room: usize) -> Result<usize, AllocError> {
+    for line in picture.lines().take(room) {
+        frame.push_str(line)?;
+        frame.push_str(LINE_END)?;
+    }
+    Ok(picture.lines().count().saturating_sub(room))
+}
+
 /// Adds the line that tells the machine's time and how fast it goes.
 fn push_time(frame: &mut String, seat: &Seat, shown: Shown<'_>) -> Result<(), AllocError> {
     let tenths = seat.cycle().saturating_mul(12) / 102_400;
@@ -207,15 +260,4 @@ fn push_time(frame: &mut String, seat: &Seat, shown: Shown<'_>) -> Result<(), Al
         write!(frame, "  KEYS WAITING {waiting}")?;
     }
     Ok(())
-}
-
-/// Adds the last line: what is said of the last thing that was done, or the keys.
-fn push_last_line(frame: &mut String, remark: &str) -> Result<(), AllocError> {
-    if remark.is_empty() {
-        frame.push_str(
-            " v n c k r p Enter 0-9 + -  space . backspace  < >  i inside  s save  q quit",
-        )
-    } else {
-        write!(frame, " {remark}")
-    }
 }

@@ -1,9 +1,8 @@
 //! The session: keys are read, time goes on, and what is shown is drawn, some sixty times a second.
-use crate::pace::{Pace, Speed, micros_of};
 use crate::screen::{DrawFault, Screen, Shown, ask_size};
-use crate::seat::Seat;
-use crate::typed::{Decoder, Typed};
+use agc_panel::WatchSpec;
 use agc_picture::Cap;
+use agc_seat::{Decoder, Pace, Seat, Speed, Typed, micros_of};
 use agc_sitting::GiveFault;
 use std::alloc::Global;
 use std::io::{Read, Write};
@@ -47,6 +46,9 @@ pub struct Session {
     pub pace: Pace,
     decoder: Decoder,
     is_inside: bool,
+    /// The places of the tables that can be shown, and whether they are.
+    watch: Option<WatchSpec>,
+    are_tables: bool,
     remark: &'static str,
     runs_at: Option<u64>,
     /// The time of the clock and the cycle at which the terminal was asked for its size last.
@@ -67,7 +69,13 @@ pub enum Wish {
 
 impl Session {
     /// Time goes on at a speed.
-    pub fn new<C: Clock>(clock: &C, seat: Seat, screen: Screen, speed: Speed) -> Session {
+    pub fn new<C: Clock>(
+        clock: &C,
+        seat: Seat,
+        screen: Screen,
+        speed: Speed,
+        watch: Option<WatchSpec>,
+    ) -> Session {
         let micros = micros_of(clock);
         let cycle = seat.cycle();
         Session {
@@ -76,6 +84,8 @@ impl Session {
             pace: Pace::new(speed, micros, cycle),
             decoder: Decoder::new(),
             is_inside: false,
+            watch,
+            are_tables: false,
             remark: "",
             runs_at: None,
             asked: micros,
@@ -114,10 +124,19 @@ impl Session {
             Typed::Faster => self.pace.go_faster(),
             Typed::Slower => self.pace.go_slower(),
             Typed::Inside => self.is_inside = !self.is_inside,
+            Typed::Tables => self.show_tables(),
             Typed::Size { .. } => {}
         }
         self.begin_pace(clock);
         (self, Wish::None)
+    }
+
+    /// The Executive's tables are shown, or no longer, where their places are known.
+    fn show_tables(&mut self) {
+        match self.watch {
+            Some(_) => self.are_tables = !self.are_tables,
+            None => self.remark = "no tables are named: start with --watch SPEC",
+        }
     }
 
     /// The pace begins anew from where the machine is.
@@ -142,6 +161,8 @@ impl Session {
             pace,
             decoder,
             is_inside,
+            watch,
+            are_tables,
             asked,
             lit_until,
             ..
@@ -161,6 +182,8 @@ impl Session {
             pace,
             decoder,
             is_inside,
+            watch,
+            are_tables,
             remark: if went { "" } else { "no memory to go back" },
             runs_at: None,
             asked,
@@ -226,6 +249,7 @@ impl Session {
             pressed,
             runs_at: self.runs_at,
             is_inside: self.is_inside,
+            tables: if self.are_tables { self.watch } else { None },
             remark: self.remark,
         };
         self.screen.draw(alloc, &self.seat, shown, out)

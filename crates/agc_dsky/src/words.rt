@@ -1,9 +1,9 @@
 //! The words of the command line: what is sat before.
-use crate::pace::Speed;
 use agc_args::{
     ArgsFault, WordsFault, fault_of, form_of, form_option, limit_of, limit_option, mistaken_word,
     path_of, rope_file, script_file, words_of,
 };
+use agc_seat::Speed;
 use agc_store::RopeForm;
 use clap::{Arg, ArgAction, ArgMatches, Command};
 use std::alloc::{AllocError, Global};
@@ -25,6 +25,8 @@ pub struct Asked {
     pub save: Option<String>,
     /// A file that is there already is written over.
     pub force: bool,
+    /// Where the Executive's tables stand, which `t` shows.
+    pub watch: Option<String>,
 }
 
 /// The names of the speeds.
@@ -73,6 +75,7 @@ fn asked_in(alloc: Global, matches: &ArgMatches<'_>) -> Result<Asked, AllocError
         speed: speed_of(matches),
         save: text_of(alloc, matches, "save")?,
         force: matches.get_flag("force"),
+        watch: text_of(alloc, matches, "watch")?,
     })
 }
 
@@ -110,6 +113,7 @@ fn command<'a>(alloc: Global) -> Result<Command<'a>, AllocError> {
         .arg(form_option(alloc))?
         .arg(speed_option(alloc))?
         .arg(save_option(alloc))?
+        .arg(watch_option(alloc))?
         .arg(
             Arg::new(alloc, "force")
                 .long("force")
@@ -131,4 +135,11 @@ fn save_option<'a>(alloc: Global) -> Arg<'a> {
     Arg::new(alloc, "save").long("save").value_name("FILE").help(
         "Write the script that repeats the session to this file, at the end and where s is typed",
     )
+}
+
+fn watch_option<'a>(alloc: Global) -> Arg<'a> {
+    Arg::new(alloc, "watch")
+        .long("watch")
+        .value_name("SPEC")
+        .help("The core sets and wait lists that t shows: octal, as those of agc")
 }

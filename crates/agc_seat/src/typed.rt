@@ -16,6 +16,8 @@ pub enum Typed {
     Slower,
     /// The insides are shown, or no longer.
     Inside,
+    /// The Executive's tables are shown, or no longer.
+    Tables,
     Save,
     Quit,
     /// The terminal has told where its last place is, and so its size.
@@ -111,6 +113,7 @@ fn asked_by(byte: u8) -> Option<Typed> {
         b'>' => Some(Typed::Faster),
         b'<' => Some(Typed::Slower),
         b'i' => Some(Typed::Inside),
+        b't' => Some(Typed::Tables),
         b's' => Some(Typed::Save),
         b'q' | 0x03 | 0x04 => Some(Typed::Quit),
         _ => match Cap::typed_by(byte) {

@@ -1,7 +1,7 @@
 //! Who sits before the machine: the keys that he has typed, which are pressed as the machine can take them.
 ghost use Rattle.agc_script.specs.Event.{IsWhatInRange};
 
-use agc_machine::Machine;
+use agc_machine::{Machine, Stop};
 use agc_picture::Cap;
 use agc_script::{MOST_EVENTS, Script, What};
 use agc_sitting::{GiveFault, Sitting};
@@ -68,6 +68,15 @@ impl Seat {
     /// The present cycle.
     pub fn cycle(&self) -> u64 {
         self.machine().cycle()
+    }
+
+    /// The limit with which `agc` comes as far: an order that stops the machine is met below it.
+    pub fn limit_to_repeat(&self) -> u64 {
+        let cycle = self.cycle();
+        match self.machine().stopped() {
+            None | Some(Stop::Limit) => cycle.max(1),
+            Some(_) => cycle.saturating_add(1),
+        }
     }
 
     /// The machine goes on to a cycle, or to its stop; keys are pressed on the way, each as soon as it can be.

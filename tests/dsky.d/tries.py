@@ -1,0 +1,798 @@
+"""Sessions before agc-dsky on terminals, laid beside the plain run of agc on the script that each tells.
+
+The words are: the programs agc-dsky, agc and agc-study, the top of the repository, a folder for files. Nothing waits for
+a fixed time to be right: what is to come is waited for, for LONGEST seconds at most.
+"""
+
+import fcntl
+import os
+import pty
+import re
+import select
+import signal
+import struct
+import subprocess
+import sys
+import termios
+import time
+
+from screen import LAMPS, Screen
+
+dsky, agc, study, top, scratch = sys.argv[1:6]
+
+LONGEST = 30
+KEYS_ROPE = os.path.join(top, "examples", "keys", "rope")
+FIELDS = ("PROG", "VERB", "NOUN", "R1", "R2", "R3")
+SPACING = 8533
+PRO_HELD = 17067
+HOUR = 307_200_000
+LARGE, SMALL = (24, 80), (14, 60)
+NAMES = {"v": "VERB", "n": "NOUN", "c": "CLR", "k": "KEYREL", "r": "RSET", "\r": "ENTR", **{key: key for key in "0123456789+-"}}
+WHITE, CAUTION, UNLIT, GREEN = "30;47", "30;43", "2", "1;32"
+CAUTIONS = {"TEMP", "GIMBAL LOCK", "PROG", "TRACKER", "ALT", "VEL"}
+
+passed = 0
+failed = 0
+
+
+def judge(name, wanted, came):
+    """A check, which is told where it is not as it should be."""
+    global passed, failed
+    if wanted == came:
+        passed += 1
+    else:
+        failed += 1
+        print(f"FAIL: {name}: wanted {wanted!r:.400}, came {came!r:.1600}")
+
+
+class Late(Exception):
+    """What was waited for has not come."""
+
+
+class Terminal:
+    """agc-dsky on a terminal of this size, which answers what it is asked. The slave side stays open here."""
+
+    def __init__(self, words, size=LARGE, **names):
+        self.screen, self.answers = Screen(*size), True
+        self.master, self.slave = pty.openpty()
+        self.sized(*size)
+        self.before = termios.tcgetattr(self.slave)
+        self.process = started(words, self.slave, self.slave, self.slave, names)
+
+    def sized(self, lines, columns):
+        fcntl.ioctl(self.slave, termios.TIOCSWINSZ, struct.pack("HHHH", lines, columns, 0, 0))
+
+    def resize(self, lines, columns):
+        self.sized(lines, columns)
+        self.screen.sized(lines, columns)
+
+    def type(self, text):
+        os.write(self.master, text if isinstance(text, bytes) else text.encode())
+
+    def take(self, seconds):
+        """Takes what is written within so many seconds; false where that is nothing."""
+        if not select.select([self.master], [], [], seconds)[0]:
+            return False
+        try:
+            data = os.read(self.master, 1 << 16)
+        except OSError:
+            return False
+        self.screen.feed(data)
+        if self.screen.replies and self.answers:
+            os.write(self.master, self.screen.replies)
+            self.screen.replies = b""
+        return bool(data)
+
+    def until(self, what, is_so):
+        """Waits until something is so after a drawing, or now."""
+        came = []
+
+        def look():
+            if is_so(self.screen):
+                came.append(True)
+
+        self.screen.at_frame = look
+        end = time.monotonic() + LONGEST
+        look()
+        while not came and time.monotonic() < end:
+            self.take(0.05)
+            look()
+        self.screen.at_frame = None
+        if not came:
+            shown = self.screen.text() if "?1049" in self.screen.modes else self.screen.plain[-500:]
+            raise Late(f"{what}:\n{shown}")
+
+    def begun(self):
+        """Waits for the first picture of the right size: a small one where the terminal has not told its size."""
+        small = self.screen.lines < LARGE[0] or not self.answers
+        self.until("no picture", lambda screen: screen.cycle() is not None and small == ("R1 " in screen.text()))
+        self.screen.overruns = 0
+
+    def pause(self):
+        """Stops the time, and returns the cycle that is shown."""
+        self.type(" ")
+        self.until("no pause", is_paused)
+        return self.screen.cycle()
+
+    def on_to(self, cycle):
+        """Waits until a cycle is shown that is not before this one."""
+        self.until(f"not on to {cycle}", lambda screen: (screen.cycle() or 0) >= cycle)
+
+    def saved(self, name):
+        """Types s, and returns the text of the file."""
+        self.type("<" if self.screen.number("SPEED") == 1 else "<>")
+        self.until("no remark is left", lambda screen: last_line(screen) != " saved")
+        self.type("s")
+        self.until("not saved", lambda screen: last_line(screen) == " saved")
+        return read(name)
+
+    def status(self):
+        """Waits for the end of the program; its status."""
+        end = time.monotonic() + LONGEST
+        while self.process.poll() is None:
+            if time.monotonic() > end:
+                raise Late("no end:\n" + self.screen.text())
+            self.take(0.02)
+        end = time.monotonic() + 5
+        while self.take(0.3) and time.monotonic() < end:
+            pass
+        return self.process.returncode
+
+    def quit(self, by="q"):
+        """Types what ends the session, and returns the status and what stands on the terminal then."""
+        self.type(by)
+        status = self.status()
+        return status, self.screen.plain.replace("\r\n", "\n")
+
+    def is_put_back(self):
+        """Whether modes, cursor and screen are those of before."""
+        return termios.tcgetattr(self.slave) == self.before and self.screen.modes == {"?7", "?25"} and self.screen.colour == ""
+
+    def close(self):
+        if self.process.poll() is None:
+            for pid in (*children(self.process.pid), self.process.pid):
+                os.kill(pid, signal.SIGKILL)
+            self.process.wait()
+        for end in (self.master, self.slave):
+            try:
+                os.close(end)
+            except OSError:
+                pass
+
+
+def started(words, keys, out, err, names):
+    """agc-dsky with these streams, the terminal among them as its controlling one."""
+
+    def own_terminal():
+        os.setsid()
+        for stream in (0, 1):
+            if os.isatty(stream):
+                fcntl.ioctl(stream, termios.TIOCSCTTY, 0)
+                return
+
+    environment = {name: value for name, value in os.environ.items() if name != "NO_COLOR"}
+    environment.update({"TERM": "xterm", **names})
+    return subprocess.Popen([dsky, *words], stdin=keys, stdout=out, stderr=err, env=environment, preexec_fn=own_terminal)
+
+
+def children(pid):
+    try:
+        return [int(word) for word in read(f"/proc/{pid}/task/{pid}/children").split()]
+    except OSError:
+        return []
+
+
+def program_of(terminal):
+    """The process of the program itself, below its launcher."""
+    end = time.monotonic() + LONGEST
+    while time.monotonic() < end:
+        below = children(terminal.process.pid)
+        if below:
+            return below[0]
+        time.sleep(0.01)
+    raise Late("no program below the launcher")
+
+
+def read(name):
+    with open(name, encoding="utf-8") as file:
+        return file.read()
+
+
+def written(name, text):
+    path = os.path.join(scratch, name)
+    with open(path, "w", encoding="utf-8") as file:
+        file.write(text)
+    return path
+
+
+def is_paused(screen):
+    return "  PAUSED" in screen.text()
+
+
+def is_idle(screen):
+    return "KEYS WAITING" not in screen.text()
+
+
+def speed_of(screen):
+    found = re.search(r"SPEED (\w+)", screen.text())
+    return found and found[1]
+
+
+def last_line(screen):
+    return next((line for line in reversed(screen.text().split("\n")) if line), "")
+
+
+def told(text):
+    """The script on the terminal, the limit with which the session is repeated, and all behind the script."""
+    found = re.search(r"(?m)^(?:agc-dsky: [^\n]*\s)?again: \./agc [^\n]*? --limit (\d+)", text)
+    if not found:
+        raise Late(f"nothing tells how to repeat it: {text[-500:]!r}")
+    return text[: found.start()], int(found[1]), text[found.start() :]
+
+
+def keys_of(script):
+    return [line.split()[2] for line in script.splitlines() if " key " in line]
+
+
+def cycles_of(script):
+    return [int(line.split()[0]) for line in script.splitlines()]
+
+
+def gaps_of(script):
+    cycles = cycles_of(script)
+    return [after - before for before, after in zip(cycles, cycles[1:])]
+
+
+def panel_of(rope, script, cycle):
+    """The eight lines that agc prints for a run up to a cycle, by their names."""
+    name = written("plain", script)
+    run = subprocess.run([agc, rope, name, "--limit", str(cycle)], capture_output=True, text=True)
+    lines = run.stdout.splitlines()[:8]
+    return dict(line.split(" ", 1) for line in lines) if run.returncode == 0 else {"status": run.returncode, "said": run.stderr}
+
+
+def seen_on(screen):
+    """Digits and lamps on the screen as agc prints them."""
+    names = screen.lamps()
+    lamps = ", ".join(name for name in LAMPS if name in names) or "none"
+    return {**(screen.fields() or {}), "LAMPS": lamps if names <= set(LAMPS) else sorted(names)}
+
+
+def shows(name, terminal, panel):
+    """The screen of a session whose time has stopped shows a panel: with the flash on, verb and noun come and go."""
+    panel = dict(panel)
+    flash = panel.pop("FLASH", None)
+    dark = {**panel, "VERB": "__", "NOUN": "__"}
+    wanted = [panel, dark] if flash == "on" and dark != panel else [panel]
+    seen = []
+
+    def note(screen):
+        now = seen_on(screen)
+        if now not in seen:
+            seen.append(now)
+        return all(each in seen for each in wanted)
+
+    try:
+        terminal.until("", note)
+    except Late:
+        pass
+    if flash == "off":
+        # A flash would come within this time.
+        end = time.monotonic() + 1
+        terminal.screen.at_frame = lambda: note(terminal.screen)
+        while time.monotonic() < end:
+            terminal.take(0.05)
+        terminal.screen.at_frame = None
+    judge(name, sorted(map(str, wanted)), sorted(map(str, seen)))
+    judge(f"{name}: sequences", [], terminal.screen.faults)
+    judge(f"{name}: lines that have no room", 0, terminal.screen.overruns)
+
+
+def a_rope(name, relay_words, lamps, by_key):
+    """A rope that sends relay words and lights lamps at its start, and sends a relay word more for each key."""
+    places = [0o5200 + place for place in range(len(relay_words))]
+    code = [(0o30000 + place, 0o00006, 0o01010) for place in places] + [(0o35177, 0o00006, 0o01011)]
+    orders = [order for three in code for order in three]
+    words = {0o5000 + place: order for place, order in enumerate(orders)}
+    end = 0o5000 + len(orders)
+    words[end] = 0o10000 + end
+    words.update({0o4004 + 4 * vector: 0o50017 for vector in range(10)})
+    words.update({0o4000: 0o15000, 0o4024: 0o15100, 0o5177: lamps})
+    words.update(zip(range(0o5100, 0o5106), (0o50102, 0o35140, 0o00006, 0o01010, 0o24102, 0o50017)))
+    words.update(zip(range(0o5140, 0o5177), by_key))
+    words.update(zip(places, relay_words))
+    source = written(f"{name}.words", "".join(f"{place:04o} {word:05o}\n" for place, word in sorted(words.items())))
+    made = subprocess.run([study, "weave", source], capture_output=True)
+    judge(f"the rope {name}", (0, b""), (made.returncode, made.stderr))
+    path = os.path.join(scratch, f"{name}.rope")
+    with open(path, "wb") as file:
+        file.write(made.stdout)
+    return path
+
+
+# The relays' codes of digits; any other one that is not 0 shows no digit.
+CODES = {"0": 0o25, "1": 0o03, "2": 0o31, "3": 0o33, "4": 0o17, "5": 0o36, "6": 0o34, "7": 0o23, "8": 0o35, "9": 0o37, "_": 0, "?": 0o01}
+
+
+def relay(row, sign, digits):
+    return row << 11 | sign << 10 | CODES[digits[0]] << 5 | CODES[digits[1]]
+
+
+def relays(plus, minus, *registers):
+    """The relay words of three registers, with the signs of those whose numbers are given."""
+    one, two, three = registers
+    pairs = ["_" + one[0], one[1:3], one[3:], two[:2], two[2:4], two[4] + three[0], three[1:3], three[3:]]
+    rows = {7: (1, plus), 6: (1, minus), 5: (2, plus), 4: (2, minus), 2: (3, plus), 1: (3, minus)}
+    signs = [row in rows and rows[row][0] in rows[row][1] for row in range(8, 0, -1)]
+    return [relay(row, sign, pair) for row, sign, pair in zip(range(8, 0, -1), signs, pairs)]
+
+
+BY_KEY = [relay(10, 0, "16"), relay(9, 0, "_8"), relay(9, 0, "68"), relay(11, 0, "37"), relay(7, 0, "9?"), relay(12, 0, "__")]
+
+
+def faces():
+    """Ropes that show each digit and sign and light each lamp, some by the lamps' row and some by channel 11."""
+    row_12 = 12 << 11
+    first = [relay(11, 0, "01"), relay(10, 0, "23"), relay(9, 0, "45"), *relays((1,), (2,), "67890", "12345", "?8_79")]
+    second = [relay(11, 0, "98"), relay(10, 0, "76"), relay(9, 0, "54"), *relays((3,), (1,), "3_210", "_____", "24680")]
+    keys = BY_KEY + [row_12 | 0o674]
+    return [
+        ("all lamps", a_rope("all", [*first, row_12 | 0o674], 0o137, keys), "v16n6"),
+        ("the flash", a_rope("flash", [*first, row_12 | 0o054], 0o042, keys), "v16"),
+        ("other digits", a_rope("other", [*second, row_12 | 0o600], 0o121, keys), "n"),
+        ("no lamps", a_rope("none", second, 0o040, []), "p"),
+        ("each key", a_rope("each", first, 0o014, keys), "v16n68\r"),
+    ]
+
+
+def try_face(name, rope, typed, size):
+    """Keys typed before a rope; then the screen, the saved script and the printed lines lie beside agc."""
+    save = os.path.join(scratch, "face.script")
+    terminal = Terminal([rope, "--save", save, "--force"], size)
+    try:
+        terminal.begun()
+        terminal.on_to(1000)
+        terminal.type(typed)
+        terminal.until("keys wait for ever", lambda screen: is_idle(screen) and screen.cycle() > SPACING * len(typed))
+        cycle = terminal.pause()
+        script = terminal.saved(save)
+        judge(f"{name}: keys", [NAMES[key] for key in typed if key in NAMES], keys_of(script))
+        judge(f"{name}: the picture's size", size == LARGE, terminal.screen.is_large())
+        shows(name, terminal, panel_of(rope, script, cycle))
+        for lamp in LAMPS:
+            colour = UNLIT if lamp not in terminal.screen.lamps() else CAUTION if lamp in CAUTIONS else WHITE
+            judge(f"{name}: the colour of {lamp}", {colour}, terminal.screen.lamp_colours(lamp))
+        y, x = (8, 34) if size == LARGE else (4, 33)
+        judge(f"{name}: the colour of digits", {GREEN}, terminal.screen.colours_at(y, x, 5))
+        status, text = terminal.quit()
+        judge(f"{name}: the end", (0, True), (status, terminal.is_put_back()))
+        wanted = f"again: ./agc {rope} {save} --limit {cycle}\n"
+        wanted += f"as a film: ./agc-study film {rope} {save} --limit {cycle} > film.html\n"
+        judge(f"{name}: what is printed", wanted, text)
+        judge(f"{name}: the file at the end", script, read(save))
+    finally:
+        terminal.close()
+
+
+def try_keys(size):
+    """VERB 3 5 ENTR before the rope that echoes keys, and the insides; the script is printed at the end."""
+    name = f"VERB 35 ENTR at {size[0]} lines"
+    terminal = Terminal([KEYS_ROPE], size)
+    try:
+        terminal.begun()
+        for key, brackets in (("v", "[VERB]"), ("3", "[3]"), ("5", "[5]"), ("\r", "[ENTR]")):
+            terminal.type(key)
+            terminal.until(f"{brackets} is never lit", lambda screen: brackets in screen.text())
+        terminal.until("NOUN 5_", lambda screen: (screen.fields() or {}).get("NOUN") == "5_")
+        cycle = terminal.pause()
+        shown = seen_on(terminal.screen)
+        judge(f"{name}: the last line", True, terminal.screen.row(size[0] - 1).startswith(" v n c k r p"))
+        terminal.type("i")
+        terminal.until("no insides", lambda screen: re.search(r"(?m)^ next ", screen.text()) or size == SMALL)
+        insides = [line[1:] for line in terminal.screen.text().split("\n") if re.match(" (A [0-7]{6} |next )", line)]
+        judge(f"{name}: the insides leave the digits", shown, seen_on(terminal.screen))
+        judge(f"{name}: sequences", [], terminal.screen.faults)
+        judge(f"{name}: lines that have no room", 0, terminal.screen.overruns)
+        status, text = terminal.quit()
+        script, ended, _ = told(text)
+        judge(f"{name}: the end", (0, cycle, True), (status, ended, terminal.is_put_back()))
+        judge(f"{name}: the script", ["VERB", "3", "5", "ENTR"], keys_of(script))
+        judge(f"{name}: how close", True, min(gaps_of(script)) >= SPACING)
+        panel = panel_of(KEYS_ROPE, script, cycle)
+        judge(f"{name}: FLASH", "off", panel.pop("FLASH", None))
+        judge(f"{name}: the panel", panel, shown)
+        if size == LARGE:
+            lines = trace_of(KEYS_ROPE, script, cycle + 2)
+            wanted = [next(line for line in lines if line.startswith(f"{at} ")) for at in (cycle - 1, cycle)]
+            wanted = [wanted[0].split(" | ")[1].rstrip(), "next " + wanted[1].split(" | ")[0].split(" ", 1)[1]]
+            judge(f"{name}: the insides", wanted, [re.sub(r" BB [0-7]+$", "", line) for line in insides])
+        film = subprocess.run(
+            [study, "film", KEYS_ROPE, written("filmed", script), "--limit", str(cycle)], capture_output=True
+        )
+        judge(f"{name}: a film of it", (0, True), (film.returncode, film.stdout.rstrip().endswith(b"</html>")))
+    finally:
+        terminal.close()
+
+
+def trace_of(rope, script, limit):
+    words = [study, "trace", rope, written("traced", script), "--limit", str(limit), "--from", str(limit - 8)]
+    return subprocess.run(words, capture_output=True, text=True).stdout.splitlines()
+
+
+def try_saving():
+    """No file is written over unasked, none is made in no folder, and a full disk loses nothing."""
+    save = written("old", "mine\n")
+    for name, words, file in (("a file that is there", [save], save), ("no folder", [os.path.join(scratch, "none", "x")], None)):
+        terminal = Terminal([KEYS_ROPE, "--save", *words])
+        try:
+            status = terminal.status()
+            judge(f"{name}: the status", (1, True), (status, terminal.is_put_back()))
+            judge(f"{name}: a line", True, terminal.screen.plain.startswith("agc-dsky: the file after --save is there already"))
+        finally:
+            terminal.close()
+        judge(f"{name}: nothing is changed", "mine\n", read(save))
+    fresh = os.path.join(scratch, "fresh")
+    for name, words, path in (("--force", [save, "--force"], save), ("a new file", [fresh], fresh)):
+        terminal = Terminal([KEYS_ROPE, "--save", *words])
+        try:
+            terminal.begun()
+            terminal.type("47")
+            terminal.until("NOUN 47", lambda screen: screen.fields()["NOUN"] == "47")
+            script = terminal.saved(path)
+            judge(f"{name}: by s", ["4", "7"], keys_of(script))
+            terminal.type("1")
+            terminal.until("NOUN 71", lambda screen: screen.fields()["NOUN"] == "71")
+            status, text = terminal.quit()
+            judge(f"{name}: at the end", (0, "", ["4", "7", "1"]), (status, told(text)[0], keys_of(read(path))))
+            judge(f"{name}: the same begin", script, read(path)[: len(script)])
+        finally:
+            terminal.close()
+    terminal = Terminal([KEYS_ROPE, "--save", "/dev/full", "--force"])
+    try:
+        terminal.begun()
+        terminal.type("4")
+        terminal.until("NOUN _4", lambda screen: screen.fields()["NOUN"] == "_4")
+        terminal.type("s")
+        terminal.until("no remark", lambda screen: last_line(screen) == " the script could not be saved")
+        status, text = terminal.quit()
+        script, _, rest = told(text)
+        judge("a full disk", (3, ["4"], True), (status, keys_of(script), terminal.is_put_back()))
+        judge("a full disk: a line", "agc-dsky: the script could not be saved", rest.splitlines()[-1])
+    finally:
+        terminal.close()
+    terminal = Terminal([KEYS_ROPE])
+    try:
+        terminal.begun()
+        terminal.type("s")
+        terminal.until("no remark", lambda screen: last_line(screen) == " no file is named: start with --save FILE")
+        judge("s without a file", 0, terminal.quit()[0])
+    finally:
+        terminal.close()
+
+
+def try_leaving():
+    """However the program ends, the terminal is put back."""
+    for name, byte in (("q", b"q"), ("control-C", b"\x03"), ("control-D", b"\x04")):
+        terminal = Terminal([KEYS_ROPE])
+        try:
+            terminal.begun()
+            judge(f"{name}: the screen while it runs", {"?1049"}, terminal.screen.modes)
+            judge(f"{name}: modes while it runs", False, termios.tcgetattr(terminal.slave) == terminal.before)
+            judge(f"{name}: status", 0, terminal.quit(byte)[0])
+            judge(f"{name}: put back", True, terminal.is_put_back())
+        finally:
+            terminal.close()
+    for name, end, wanted in (("SIGTERM", signal.SIGTERM, 143), ("SIGKILL", signal.SIGKILL, 137)):
+        terminal = Terminal([KEYS_ROPE])
+        try:
+            terminal.begun()
+            program = program_of(terminal)
+            os.kill(terminal.process.pid if name == "SIGTERM" else program, end)
+            judge(f"{name}: status", wanted, terminal.status())
+            judge(f"{name}: put back", True, terminal.is_put_back())
+            judge(f"{name}: the program is gone", False, os.path.exists(f"/proc/{program}"))
+        finally:
+            terminal.close()
+    save = os.path.join(scratch, "hung")
+    terminal = Terminal([KEYS_ROPE, "--save", save])
+    try:
+        terminal.begun()
+        terminal.type("36")
+        terminal.until("NOUN 36", lambda screen: screen.fields()["NOUN"] == "36")
+        program = program_of(terminal)
+        os.close(terminal.master)
+        judge("hangup: status", 3, terminal.process.wait(LONGEST))
+        judge("hangup: the program is gone", False, os.path.exists(f"/proc/{program}"))
+        script = read(save)
+        judge("hangup: the script", ["3", "6"], keys_of(script))
+        last = max([0, *cycles_of(script)])
+        judge("hangup: its run", "36", panel_of(KEYS_ROPE, script, last + 100).get("NOUN"))
+    finally:
+        terminal.close()
+
+
+def try_ink():
+    terminal = Terminal([KEYS_ROPE], NO_COLOR="1")
+    try:
+        terminal.begun()
+        terminal.type("4")
+        terminal.until("NOUN _4", lambda screen: screen.fields()["NOUN"] == "_4")
+        judge("NO_COLOR", (0, set(), []), (terminal.quit()[0], terminal.screen.colours, terminal.screen.faults))
+    finally:
+        terminal.close()
+    for value in ({}, {"NO_COLOR": ""}):
+        terminal = Terminal([KEYS_ROPE], **value)
+        try:
+            terminal.begun()
+            judge(f"colour {value}", {GREEN, UNLIT, "0"}, terminal.screen.colours)
+            terminal.quit()
+        finally:
+            terminal.close()
+
+
+def try_no_terminal():
+    """Beside a terminal, or on one that knows no sequences, nothing begins."""
+    terminal = Terminal([KEYS_ROPE], TERM="dumb")
+    try:
+        judge("TERM=dumb", 2, terminal.status())
+        line = "agc-dsky: a terminal of TERM=dumb cannot be drawn on\r\n"
+        judge("TERM=dumb: a line", (line, True), (terminal.screen.plain, terminal.is_put_back()))
+    finally:
+        terminal.close()
+    save = os.path.join(scratch, "beside")
+    words = [KEYS_ROPE, "--save", save]
+    master, slave = pty.openpty()
+    nothing, pipe = subprocess.DEVNULL, subprocess.PIPE
+    for name, keys, out, line in (
+        ("no input", nothing, slave, b"agc-dsky: standard input is no terminal\n"),
+        ("no output", slave, pipe, b"agc-dsky: standard output is no terminal\n"),
+        ("neither", nothing, pipe, b"agc-dsky: standard input is no terminal\n"),
+    ):
+        process = started(words, keys, out, pipe, {})
+        said, error = process.communicate(timeout=LONGEST)
+        judge(name, (2, said or b"", line, False), (process.returncode, b"" if out == pipe else said or b"", error, os.path.exists(save)))
+    os.close(slave)
+    os.close(master)
+
+
+def try_resizing():
+    terminal = Terminal([KEYS_ROPE])
+    try:
+        terminal.begun()
+        terminal.type("4")
+        terminal.until("NOUN _4", lambda screen: screen.is_large() and screen.fields()["NOUN"] == "_4")
+        for size, has_come in (
+            (SMALL, lambda screen: screen.is_small() and screen.fields()["NOUN"] == "_4"),
+            (LARGE, lambda screen: screen.is_large() and screen.fields()["NOUN"] == "_4"),
+            ((10, 40), lambda screen: screen.text().rstrip() == "58 columns and 14 lines are wanted"),
+            (SMALL, lambda screen: screen.is_small() and screen.fields()["NOUN"] == "_4"),
+            ((13, 80), lambda screen: screen.text().rstrip() == "58 columns and 14 lines are wanted"),
+            ((14, 58), lambda screen: screen.is_small() and screen.fields()["NOUN"] == "_4"),
+            ((23, 80), lambda screen: screen.is_small() and screen.fields()["NOUN"] == "_4"),
+            ((50, 200), lambda screen: screen.is_large() and screen.fields()["NOUN"] == "_4"),
+        ):
+            terminal.resize(*size)
+            try:
+                terminal.until("", has_come)
+                judge(f"resized to {size}", True, True)
+            except Late as late:
+                judge(f"resized to {size}", "its picture", str(late))
+        judge("resized: the end", (0, []), (terminal.quit()[0], terminal.screen.faults))
+    finally:
+        terminal.close()
+
+
+def try_script():
+    """The events of a script happen beside the keys, an arrow key is none, and a terminal may be silent about its size."""
+    given = os.path.join(top, "examples", "keys", "script")
+    terminal = Terminal([KEYS_ROPE, given, "--speed", "10"])
+    terminal.answers = False
+    try:
+        terminal.begun()
+        terminal.until("NOUN 42", lambda screen: screen.fields()["NOUN"] == "42")
+        terminal.type(b"\x1b[A\x1b[1;5C\x1bOP\x1a7")
+        terminal.until("NOUN 27", lambda screen: screen.fields()["NOUN"] == "27")
+        cycle = terminal.pause()
+        shown = seen_on(terminal.screen)
+        status, text = terminal.quit()
+        script, ended, _ = told(text)
+        judge("a script and keys", (0, cycle, ["10 key 4", "200 key 2"]), (status, ended, script.splitlines()[:2]))
+        judge("a script and keys: all", ["4", "2", "7"], keys_of(script))
+        panel = panel_of(KEYS_ROPE, script, cycle)
+        judge("a script and keys: the panel", {**shown, "FLASH": "off"}, panel)
+    finally:
+        terminal.close()
+
+
+def try_refusals():
+    """What is refused makes no file."""
+    empty, save = written("empty", ""), os.path.join(scratch, "unmade")
+    for name, words, status, line in (
+        ("an empty rope", [empty], 1, "agc-dsky: rope: Empty\r\n"),
+        ("a limit of 0", [KEYS_ROPE, "--limit", "0"], None, ""),
+        ("an unknown speed", [KEYS_ROPE, "--speed", "2"], 2, "error: "),
+        ("no rope", [], 2, "error: "),
+    ):
+        terminal = Terminal([*words, "--save", save])
+        try:
+            ended = terminal.status()
+            judge(name, (True, True), (ended == status or status is None and ended in (1, 2), terminal.screen.plain.startswith(line)))
+            judge(f"{name}: nothing is drawn or made", (True, False), (terminal.is_put_back(), os.path.exists(save)))
+        finally:
+            terminal.close()
+
+
+def try_many_keys():
+    terminal = Terminal([KEYS_ROPE, "--speed", "1000"])
+    try:
+        terminal.begun()
+        keys = ("v1n2c3k4r5+6-7\r890" * 60)[:1000]
+        waiting = []
+        terminal.type(keys)
+        terminal.until("no KEYS WAITING", lambda screen: (screen.number("KEYS WAITING") or 0) > 100)
+        terminal.until("keys wait for ever", is_idle)
+        cycle = terminal.screen.cycle()
+        terminal.on_to(cycle + 1)
+        status, text = terminal.quit()
+        script, _, _ = told(text)
+        judge("1000 keys", (0, [NAMES[key] for key in keys]), (status, keys_of(script)))
+        judge("1000 keys: how close", (999, True), (len(gaps_of(script)), min(gaps_of(script)) >= SPACING))
+    finally:
+        terminal.close()
+
+
+def try_going_back():
+    save = os.path.join(scratch, "back")
+    terminal = Terminal([KEYS_ROPE, "--save", save])
+    try:
+        terminal.begun()
+        terminal.type("3")
+        terminal.until("NOUN _3", lambda screen: screen.fields()["NOUN"] == "_3")
+        terminal.type(" ")
+        terminal.until("no pause", is_paused)
+        first = cycles_of(terminal.saved(save))[0]
+        terminal.type(" ")
+        terminal.on_to(first + 4 * SPACING)
+        terminal.type("8")
+        terminal.until("NOUN 38", lambda screen: screen.fields()["NOUN"] == "38")
+        cycle = terminal.pause()
+        script = terminal.saved(save)
+        judge("two keys", ["3", "8"], keys_of(script))
+        second = cycles_of(script)[1]
+        while cycle > second:
+            terminal.type(b"\x7f")
+            terminal.until("not back", lambda screen: screen.cycle() == max(0, cycle - SPACING))
+            cycle = terminal.screen.cycle()
+        judge("back before the second key", "_3", terminal.screen.fields()["NOUN"])
+        judge("the second key is gone", ["3"], keys_of(terminal.saved(save)))
+        while cycle > 0:
+            terminal.type(b"\x08")
+            terminal.until("not back", lambda screen: screen.cycle() == max(0, cycle - SPACING))
+            cycle = terminal.screen.cycle()
+        terminal.type(b"\x7f\x7f")
+        judge("back to the start", ("__", ""), (terminal.screen.fields()["NOUN"], terminal.saved(save)))
+        judge("no further back", 0, terminal.screen.cycle())
+
+        # PRO, on from the start
+        terminal.type("p")
+        terminal.until("PRO is not lit", lambda screen: "[PRO]" in screen.text())
+        terminal.type(" ")
+        terminal.on_to(PRO_HELD + 100)
+        cycle = terminal.pause()
+        script = terminal.saved(save)
+        judge("PRO", ["pro down", "pro up"], [line.split(" ", 1)[1] for line in script.splitlines()])
+        judge("PRO is held", True, gaps_of(script)[0] >= PRO_HELD)
+        while cycle >= PRO_HELD:
+            terminal.type(b"\x7f")
+            terminal.until("not back", lambda screen: screen.cycle() == max(0, cycle - SPACING))
+            cycle = terminal.screen.cycle()
+        judge("PRO is down", "0 pro down\n", terminal.saved(save))
+        terminal.type(" ")
+        terminal.on_to(PRO_HELD + 100)
+        terminal.pause()
+        judge("PRO goes up again", script, terminal.saved(save))
+        judge("going back: the end", (0, []), (terminal.quit()[0], terminal.screen.faults))
+    finally:
+        terminal.close()
+
+
+def try_start():
+    """A session that ends where it began is repeated with a limit that agc takes."""
+    terminal = Terminal([KEYS_ROPE])
+    try:
+        terminal.begun()
+        cycle = terminal.pause()
+        while cycle > 0:
+            terminal.type(b"\x7f")
+            terminal.until("not back", lambda screen: screen.cycle() == max(0, cycle - SPACING))
+            cycle = terminal.screen.cycle()
+        status, text = terminal.quit()
+        judge("an end at the start", (0, "", 1), (status, *told(text)[:2]))
+    finally:
+        terminal.close()
+
+
+def try_speeds():
+    terminal = Terminal([KEYS_ROPE])
+    try:
+        terminal.begun()
+        for key, speed in [(">", "10"), (">", "100"), (">", "1000"), (">", "max"), (">", "max"), ("<", "1000"), ("<", "100"),
+                           ("<", "10"), ("<", "1"), ("<", "1")]:
+            terminal.type(key)
+            terminal.until(f"{key} does not lead to {speed}", lambda screen: speed_of(screen) == speed)
+            judge(f"{key} leads to {speed}", speed, speed_of(terminal.screen))
+        terminal.type(".")
+        terminal.until("no pause", is_paused)
+        for _ in range(3):
+            cycle = terminal.screen.cycle()
+            terminal.type(".")
+            terminal.until("no step", lambda screen: screen.cycle() == cycle + 1)
+        judge("three steps", 0, terminal.quit()[0])
+    finally:
+        terminal.close()
+    terminal = Terminal([KEYS_ROPE, "--speed", "1000"])
+    try:
+        begun = time.monotonic()
+        terminal.begun()
+        terminal.on_to(HOUR)
+        took = time.monotonic() - begun
+        judge("an hour at 1000", True, 3.5 < took < LONGEST)
+        print(f"dsky: an hour of machine time took {took:.1f} seconds")
+        terminal.quit()
+    finally:
+        terminal.close()
+    terminal = Terminal([KEYS_ROPE, "--limit", "100000"])
+    try:
+        terminal.begun()
+        terminal.type("4")
+        terminal.until("NOUN _4", lambda screen: screen.fields()["NOUN"] == "_4")
+        terminal.until("no stop", lambda screen: " CYCLE 100000 STOP Limit\n" in screen.text())
+        terminal.type("5>")
+        terminal.until("no speed", lambda screen: speed_of(screen) == "10" and is_idle(screen))
+        status, text = terminal.quit()
+        judge("no key after the stop", (0, ["4"], 100000), (status, keys_of(told(text)[0]), told(text)[1]))
+    finally:
+        terminal.close()
+
+
+def try_idleness():
+    """At the speed of the hardware the program takes little of a processor."""
+    terminal = Terminal([KEYS_ROPE])
+    try:
+        terminal.begun()
+        program = program_of(terminal)
+
+        def used():
+            words = read(f"/proc/{program}/stat").rsplit(")", 1)[1].split()
+            return (int(words[11]) + int(words[12])) / os.sysconf("SC_CLK_TCK"), time.monotonic()
+
+        first, begun = used()
+        while time.monotonic() < begun + 3:
+            terminal.take(0.05)
+        last, ended = used()
+        part = (last - first) / (ended - begun)
+        print(f"dsky: at the speed of the hardware it takes {100 * part:.1f} in 100 of a processor")
+        judge("a tenth of a processor at most", True, part < 0.1)
+        terminal.quit()
+    finally:
+        terminal.close()
+
+
+def attempt(name, what, *words):
+    try:
+        what(*words)
+    except (Late, OSError, KeyError, TypeError, IndexError, ValueError, StopIteration, subprocess.SubprocessError) as error:
+        judge(name, "an answer", f"{type(error).__name__} {error}")
+
+
+for each in (LARGE, SMALL):
+    attempt(f"keys at {each}", try_keys, each)
+    for face, made, keys in faces():
+        attempt(f"{face} at {each}", try_face, f"{face} at {each[0]} lines", made, keys, each)
+for each in (
+    try_saving, try_leaving, try_ink, try_no_terminal, try_resizing, try_script, try_refusals, try_many_keys, try_going_back,
+    try_start, try_speeds, try_idleness,
+):
+    attempt(each.__name__, each)
+print(f"{passed} passed, {failed} failed")
+sys.exit(failed > 0)
