@@ -1,4 +1,4 @@
-//! The session: keys are read, time goes on, and what is shown is drawn, some sixty times a second.
+//! The session: keys are read, time goes on, and what is shown is drawn, a hundred times a second at most.
 use crate::screen::{DrawFault, Screen, Shown, ask_size};
 use agc_panel::WatchSpec;
 use agc_picture::Cap;

@@ -155,22 +155,35 @@ impl Seat {
         }
     }
 
-    /// PRO goes up.
+    /// PRO goes up. Where that cannot be told any more it counts as up, so that the machine is not held up by it.
     #[tactic(auto, unfolding(agc_script::specs::Event::IsWhatInRange))]
     fn release(&mut self) -> Result<(), GiveFault> {
-        self.give(What::Pro(false))?;
+        let given = self.give(What::Pro(false));
         let cycle = self.cycle();
         if let Some(last) = self.pressed.last_mut() {
             last.released = Some(cycle);
         }
-        Ok(())
+        given
     }
 
-    /// The first key that waits goes down, if one does.
+    /// The first key that waits goes down, if one does. Where it cannot, those that wait are dropped.
     fn press_first(&mut self) -> Result<(), GiveFault> {
         let Some(cap) = self.waiting.first().copied() else {
             return Ok(());
         };
+        let pressed = self.press(cap);
+        match pressed {
+            Ok(()) if !self.waiting.is_empty() => {
+                self.waiting.remove(0);
+            }
+            Ok(()) => {}
+            Err(_) => self.waiting.clear(),
+        }
+        pressed
+    }
+
+    /// A key goes down, and that is kept.
+    fn press(&mut self, cap: Cap) -> Result<(), GiveFault> {
         if self.pressed.reserve(1).is_err() {
             return Err(GiveFault::Memory);
         }
@@ -181,13 +194,10 @@ impl Seat {
             cycle,
             released: None,
         };
-        if self.pressed.push(press).is_err() {
-            return Err(GiveFault::Memory);
+        match self.pressed.push(press) {
+            Ok(()) => Ok(()),
+            Err(_) => Err(GiveFault::Memory),
         }
-        if !self.waiting.is_empty() {
-            self.waiting.remove(0);
-        }
-        Ok(())
     }
 
     /// Gives the machine an event, after the events of the script that are due.

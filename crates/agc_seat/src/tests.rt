@@ -3,7 +3,7 @@ use crate::{Decoder, Pace, Seat, Speed, Typed};
 use agc_listing::{IDLE, rope_file};
 use agc_picture::Cap;
 use agc_script::{Key, Script};
-use agc_sitting::Sitting;
+use agc_sitting::{GiveFault, Sitting};
 use agc_store::Rope;
 use std::process::Abort;
 use std::test::Fail;
@@ -46,11 +46,11 @@ fn time_goes_by_the_clock(rt: HostRuntime) {
     assert_eq!(rt; pace.due(6_000_000), 100);
 }
 
-/// A seat before a program that jumps on the spot, a cycle a turn.
-fn seat(rt: &(impl AllocGlobal + Abort)) -> Result<Seat, Fail> {
+/// A seat before a program that jumps on the spot, a cycle a turn, with a script.
+fn seat(rt: &(impl AllocGlobal + Abort), script: &str) -> Result<Seat, Fail> {
     let bytes = rope_file(rt.alloc(), IDLE)?;
     let rope = Rope::read(rt.alloc(), bytes.as_slice())?;
-    let script = Script::empty(rt.alloc());
+    let script = Script::parse(rt.alloc(), script.as_bytes())?;
     let sitting = Sitting::new(rt.alloc(), rope, script, 1_000_000);
     let sitting = sitting.ok().expect(rt, "the limit is in range");
     Ok(Seat::new(rt.alloc(), sitting))
@@ -68,7 +68,7 @@ fn told(rt: &(impl AllocGlobal + Abort), seat: &Seat) -> String {
 /// held, it goes up again at its time.
 #[test]
 fn keys_wait_their_turn(rt: HostRuntime) -> Result<(), Fail> {
-    let mut seat = seat(&rt)?;
+    let mut seat = seat(&rt, "")?;
     seat.type_key(Cap::Pro).ok().expect(&rt, "memory");
     seat.type_key(Cap::Pro).ok().expect(&rt, "memory");
     assert_eq!(rt; seat.go_to(60_000), Ok(()));
@@ -83,5 +83,17 @@ fn keys_wait_their_turn(rt: HostRuntime) -> Result<(), Fail> {
     );
     assert_eq!(rt; seat.go_to(60_000), Ok(()));
     assert_eq!(rt; told(&rt, &seat).as_str(), whole);
+    Ok(())
+}
+
+/// A script has 65,536 events at most. A key more is dropped, and the machine goes on without it.
+#[test]
+fn a_full_script_takes_no_key(rt: HostRuntime) -> Result<(), Fail> {
+    let mut seat = seat(&rt, "every 1 900000 965535 raise 9\n")?;
+    seat.type_key(Cap::Pro).ok().expect(&rt, "memory");
+    assert_eq!(rt; seat.go_to(500), Err(GiveFault::TooMany));
+    assert_eq!(rt; seat.waiting(), 0);
+    assert_eq!(rt; seat.go_to(500), Ok(()));
+    assert_eq!(rt; seat.cycle(), 500);
     Ok(())
 }
