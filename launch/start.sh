@@ -5,5 +5,5 @@
 program=$top/crates/$crate/out/$crate
 # shellcheck source=launch/fit.sh
 . "$top/launch/fit.sh"
-is_fit || "$top/launch/build" "$name" "$crate" --help || exit
+is_fit || "$top/launch/build" "$name" "$crate" || exit
 exec -a "$name" "$program" "$@"
