@@ -27,7 +27,7 @@ REFUSALS = {
 
 
 def session(kind, number):
-    """The status of a session in which a key is typed, the insides are looked at and q is typed, what stood on the
+    """The status of a session in which a key is typed, the insides are looked at, time stops and q is typed, what stood on the
     terminal, what was said on standard error, whether anything was refused, and whether the modes are as before."""
     master, slave = pty.openpty()
     tty.setraw(slave)
@@ -42,7 +42,7 @@ def session(kind, number):
                                env={**environment, **settings}, pass_fds=(mark,))
     os.close(mark)
     os.close(err)
-    screen, typed, end = b"", [(b"CYCLE", b"v"), (b"[VERB]", b"i"), (b"next ", b"q")], time.monotonic() + LONGEST
+    screen, typed, end = b"", [(b"CYCLE", b"v"), (b"[VERB]", b"i"), (b"next ", b" "), (b"PAUSED", b"q")], time.monotonic() + LONGEST
     asked = time.monotonic()
     while process.poll() is None and time.monotonic() < end:
         if select.select([master], [], [], 0.01)[0]:

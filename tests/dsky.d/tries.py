@@ -696,6 +696,112 @@ def try_going_back():
         terminal.close()
 
 
+# Waits for its cell 100 to be more than 0, and then divides by cell 101, which is 0: the machine stops.
+DIVIDES = "4000 30100\n4001 00006\n4002 14000\n4003 00006\n4004 10101\n"
+DIVIDES += "".join(f"{0o4010 + 4 * vector:o} 50017\n" for vector in range(9))
+
+
+def boundaries_on(screen):
+    """The lines of boundaries on the screen, and what it says that comes next."""
+    lines = screen.text().split("\n")
+    return [line[1:] for line in lines if re.match(r" \d+ .* \| A [0-7]{6} ", line)], [line[6:] for line in lines if line.startswith(" next ")]
+
+
+def boundaries_by(rope, script, cycle, limit):
+    """The boundaries that agc-study traces up to a cycle, an event at it among them, and what comes next."""
+    words = [study, "trace", rope, written("stepped", script), "--limit", str(limit), "--from", str(max(0, cycle - 100))]
+    lines = subprocess.run(words, capture_output=True, text=True).stdout.splitlines()
+    taken = 0
+    while taken < len(lines) and (int(lines[taken].split()[0]) < cycle or lines[taken].startswith(f"{cycle} - event ")):
+        taken += 1
+    coming = [re.split(r" [|>] ", line)[0].split(" ", 1)[1] for line in lines[taken : taken + 1]]
+    return lines[:taken], coming
+
+
+def shows_boundaries(name, terminal, rope, save, most=12):
+    """The screen of a session whose time has stopped shows the last boundaries of the run, so many, and what comes next."""
+    script, cycle = terminal.saved(save), terminal.screen.cycle()
+    lines, coming = boundaries_by(rope, script, cycle, cycle + 100)
+    judge(name, ([line[: terminal.screen.columns - 2].rstrip() for line in lines[-most:]], coming), boundaries_on(terminal.screen))
+    judge(f"{name}: sequences", [], terminal.screen.faults)
+
+
+def try_boundaries():
+    """The last boundaries before the time stopped, as a trace has them, wherever it stops."""
+    save = os.path.join(scratch, "boundaries")
+    terminal = Terminal([KEYS_ROPE, "--save", save, "--watch", "1,0,1,0,100,0,110"], (40, 132))
+    try:
+        terminal.begun()
+        terminal.type("i")
+        terminal.until("no insides", lambda screen: boundaries_on(screen)[1])
+        terminal.type("47")
+        terminal.until("NOUN 47", lambda screen: screen.fields()["NOUN"] == "47")
+        judge("no boundaries while time goes", [], boundaries_on(terminal.screen)[0])
+        terminal.pause()
+        shows_boundaries("where time stops", terminal, KEYS_ROPE, save)
+        for step in range(5):
+            cycle = terminal.screen.cycle()
+            terminal.type(".")
+            terminal.until("no step", lambda screen: screen.cycle() > cycle)
+            shows_boundaries(f"step {step}", terminal, KEYS_ROPE, save)
+        terminal.type(" ")
+        terminal.until("no going on", lambda screen: not is_paused(screen) and screen.cycle() > cycle + SPACING)
+        terminal.pause()
+        terminal.type("1")
+        terminal.until("no key", lambda screen: any(" - event key 1 " in line for line in boundaries_on(screen)[0]))
+        shows_boundaries("where a key goes down", terminal, KEYS_ROPE, save)
+        for step in range(14):
+            cycle = terminal.screen.cycle()
+            terminal.type(".")
+            terminal.until("no step", lambda screen: screen.cycle() > cycle)
+            shows_boundaries(f"after the key, step {step}", terminal, KEYS_ROPE, save)
+        cycle = terminal.screen.cycle()
+        terminal.type(b"\x7f")
+        terminal.until("not back", lambda screen: screen.cycle() < cycle)
+        shows_boundaries("back", terminal, KEYS_ROPE, save)
+        for size, most in (((24, 80), 8), ((17, 58), 1), ((28, 132), 12)):
+            terminal.resize(*size)
+            terminal.until(f"no picture of {size}", lambda screen: len(boundaries_on(screen)[0]) == most)
+            shows_boundaries(f"at {size}", terminal, KEYS_ROPE, save, most)
+        terminal.type("t")
+        terminal.until("no tables", lambda screen: "LST2" in screen.text())
+        shows_boundaries("beside tables", terminal, KEYS_ROPE, save, 1)
+        terminal.type("t ")
+        terminal.until("no going on", lambda screen: not is_paused(screen))
+        judge("none where time goes on", [], boundaries_on(terminal.screen)[0])
+        judge("boundaries: the end", 0, terminal.quit()[0])
+    finally:
+        terminal.close()
+    made = subprocess.run([study, "weave", written("divides.words", DIVIDES)], capture_output=True)
+    rope = os.path.join(scratch, "divides.rope")
+    with open(rope, "wb") as file:
+        file.write(made.stdout)
+    script = "200000 poke 0 100 1\n"
+    for name, rope, words, keys, ended in (
+        ("at a limit", KEYS_ROPE, [written("no-events", ""), "--limit", "200000"], "i", "Limit"),
+        ("at a division", rope, [written("poked", script), "--limit", "1000000"], "i", "DivisionUndefined"),
+        ("at a division that is past", rope, [written("poked", script), "--limit", "1000000"], "", "DivisionUndefined"),
+    ):
+        terminal = Terminal([rope, *words, "--save", save, "--force"], (40, 132))
+        try:
+            terminal.begun()
+            terminal.type("p" + keys)
+            terminal.until("no stop", lambda screen: f" STOP {ended}\n" in screen.text())
+            if not keys:
+                terminal.type("i")
+            terminal.until("no boundaries", lambda screen: boundaries_on(screen)[0])
+            told = terminal.saved(save)
+            lines, _ = boundaries_by(rope, told, terminal.screen.cycle() + 1, int(words[2]))
+            judge(f"{name}: a stop", f" - stop {ended} |", lines[-1][lines[-1].index(" -") : lines[-1].index("|") + 1])
+            # An order that stops the machine is a boundary by itself, and the stop stands before it for ever.
+            taken = lines if ended == "Limit" else lines[:-1]
+            judge(name, (taken[-12:], [f"- stop {ended}"]), boundaries_on(terminal.screen))
+            judge(f"{name}: PRO", ["down", "up"], [line.split()[2] for line in told.splitlines() if " pro " in line])
+            judge(f"{name}: the end", (0, told), (terminal.quit()[0], read(save)))
+        finally:
+            terminal.close()
+
+
 def try_start():
     """A session that ends where it began is repeated with a limit that agc takes."""
     terminal = Terminal([KEYS_ROPE])
@@ -791,7 +897,7 @@ for each in (LARGE, SMALL):
         attempt(f"{face} at {each}", try_face, f"{face} at {each[0]} lines", made, keys, each)
 for each in (
     try_saving, try_leaving, try_ink, try_no_terminal, try_resizing, try_script, try_refusals, try_many_keys, try_going_back,
-    try_start, try_speeds, try_idleness,
+    try_boundaries, try_start, try_speeds, try_idleness,
 ):
     attempt(each.__name__, each)
 print(f"{passed} passed, {failed} failed")

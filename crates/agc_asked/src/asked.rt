@@ -1,5 +1,6 @@
 //! What the program is asked for.
 use agc_film::{Part, RunFiles};
+use agc_shown::By;
 use agc_store::RopeForm;
 use agc_trace::Selection;
 
@@ -18,13 +19,18 @@ impl Asked {
     /// The files to be read, in the order in which they are.
     pub fn paths(&self) -> [Option<&str>; 4] {
         match self {
-            Asked::List(asked) => [Some(asked.rope.as_str()), None, None, None],
+            Asked::List(asked) => [
+                asked.names.as_deref(),
+                Some(asked.rope.as_str()),
+                None,
+                None,
+            ],
             Asked::Weave(asked) => [Some(asked.text.as_str()), None, None, None],
             Asked::Check(asked) => asked.paths(),
             Asked::Trace(asked) => [
+                asked.names.as_deref(),
                 Some(asked.rope.as_str()),
                 Some(asked.script.as_str()),
-                None,
                 None,
             ],
             Asked::Compare(asked) => asked.paths(),
@@ -40,6 +46,8 @@ pub struct Listing {
     pub form: RopeForm,
     /// The text of `--bank`.
     pub bank: Option<String>,
+    /// The text file of names.
+    pub names: Option<String>,
 }
 
 /// A text file to weave.
@@ -47,6 +55,8 @@ pub struct Listing {
 pub struct Weaving {
     pub text: String,
     pub form: RopeForm,
+    /// The file to which the text's names are written.
+    pub names: Option<String>,
 }
 
 /// The files to check, of which there is one at least.
@@ -93,6 +103,8 @@ pub struct Tracing {
     /// The text of `--until`.
     pub until: Option<String>,
     pub selection: Selection,
+    /// The text file of names.
+    pub names: Option<String>,
 }
 
 /// Two runs to compare.
@@ -106,6 +118,16 @@ pub struct Comparing {
     pub limit: u64,
     /// The text of `--until`.
     pub until: Option<String>,
+    /// How they are compared by what shows; with `None` they are compared boundary by boundary.
+    pub shown: Option<ByShown>,
+}
+
+/// How two runs are compared by what shows.
+#[derive(Clone, Copy, Debug, PartialEq, Eq)]
+pub struct ByShown {
+    pub what: By,
+    /// One line tells it.
+    pub is_brief: bool,
 }
 
 impl Comparing {

@@ -24,7 +24,8 @@ fn list_command<'a>(alloc: Global) -> Result<Command<'a>, AllocError> {
         .about("Prints each word of a rope that is not +0, as an order.")
         .arg(rope_file(alloc))?
         .arg(form_option(alloc))?
-        .arg(bank_option(alloc))
+        .arg(bank_option(alloc))?
+        .arg(names_option(alloc))
 }
 
 fn weave_command<'a>(alloc: Global) -> Result<Command<'a>, AllocError> {
@@ -33,7 +34,8 @@ fn weave_command<'a>(alloc: Global) -> Result<Command<'a>, AllocError> {
             "Writes the rope file of a text: places with words, or names, orders and directives, a line each.",
         )
         .arg(text_file(alloc))?
-        .arg(form_option(alloc))
+        .arg(form_option(alloc))?
+        .arg(names_file(alloc))
 }
 
 fn check_command<'a>(alloc: Global) -> Result<Command<'a>, AllocError> {
@@ -64,7 +66,8 @@ fn trace_command<'a>(alloc: Global) -> Result<Command<'a>, AllocError> {
         .arg(at_option(alloc))?
         .arg(order_option(alloc))?
         .arg(channel_option(alloc))?
-        .arg(last_option(alloc))
+        .arg(last_option(alloc))?
+        .arg(names_option(alloc))
 }
 
 fn compare_command<'a>(alloc: Global) -> Result<Command<'a>, AllocError> {
@@ -76,7 +79,9 @@ fn compare_command<'a>(alloc: Global) -> Result<Command<'a>, AllocError> {
         .arg(other_script(alloc).required(true))?
         .arg(limit_option(alloc))?
         .arg(form_option(alloc))?
-        .arg(until_option(alloc))
+        .arg(until_option(alloc))?
+        .arg(by_option(alloc))?
+        .arg(brief_option(alloc)?)
 }
 
 fn film_command<'a>(alloc: Global) -> Result<Command<'a>, AllocError> {
@@ -93,6 +98,20 @@ fn film_command<'a>(alloc: Global) -> Result<Command<'a>, AllocError> {
         .arg(until_option(alloc))?
         .arg(cycle_option(alloc, "from", "The first cycle that is filmed"))?
         .arg(cycle_option(alloc, "to", "The last cycle that is filmed"))
+}
+
+fn by_option<'a>(alloc: Global) -> Arg<'a> {
+    Arg::new(alloc, "by").long("by").value_name("WHAT").help(
+        "Compare what shows, with the cycles left out: writes, channel CCC (octal, 0 to 777), or panels",
+    )
+}
+
+fn brief_option<'a>(alloc: Global) -> Result<Arg<'a>, AllocError> {
+    Arg::new(alloc, "brief")
+        .long("brief")
+        .action(ArgAction::SetTrue)
+        .help("Tell it in one line: same, or the cycle and the number of the first that differs")
+        .requires_arg("by")
 }
 
 fn other_rope<'a>(alloc: Global) -> Arg<'a> {
@@ -182,6 +201,22 @@ fn last_option<'a>(alloc: Global) -> Arg<'a> {
         .value_name("N")
         .value_parser(value_parser!(u64))
         .help("Print the last N of these lines alone, where the run has come to its end")
+}
+
+fn names_option<'a>(alloc: Global) -> Arg<'a> {
+    Arg::new(alloc, "names")
+        .long("names")
+        .value_name("FILE")
+        .help(
+            "Print the names of places too, which this file gives: a place and its name, a line each",
+        )
+}
+
+fn names_file<'a>(alloc: Global) -> Arg<'a> {
+    Arg::new(alloc, "names")
+        .long("names")
+        .value_name("OUT")
+        .help("Write the names of the text to this file: a place and its name, a line each")
 }
 
 fn rope_file<'a>(alloc: Global) -> Arg<'a> {

@@ -4,7 +4,10 @@
 mod asked;
 mod command_line;
 mod questions;
+mod shown;
 mod words;
 
-pub use asked::{Asked, CheckedRun, Checking, Comparing, Filming, Listing, Tracing, Weaving};
+pub use asked::{
+    Asked, ByShown, CheckedRun, Checking, Comparing, Filming, Listing, Tracing, Weaving,
+};
 pub use words::{NAME, asked_by, asked_of};

@@ -69,7 +69,7 @@ fn push<T: Drop>(several: &mut Vec<T>, value: T) -> Result<(), AllocError> {
 }
 
 /// The value of an option that is refused for this.
-fn refused(alloc: Global, text: &str, option: &str, why: &str) -> ArgsFault {
+pub(crate) fn refused(alloc: Global, text: &str, option: &str, why: &str) -> ArgsFault {
     match told(alloc, text, option, why) {
         Ok(text) => ArgsFault::Command(text),
         Err(AllocError) => ArgsFault::Memory,

@@ -2,6 +2,7 @@
 use crate::asked::{Asked, CheckedRun, Checking, Comparing, Filming, Listing, Tracing, Weaving};
 use crate::command_line::command;
 use crate::questions::{channels_of, orders_of, places_of};
+use crate::shown::{shown_of, with_channels_joined};
 use agc_args::{ArgsFault, WordsFault, fault_of, words_of};
 use agc_film::{Part, RunFiles};
 use agc_store::RopeForm;
@@ -37,8 +38,10 @@ fn not_text(alloc: Global, number: usize) -> ArgsFault {
 
 /// What the words of a command line ask for, the program's own name first.
 pub fn asked_by<'a>(alloc: Global, words: &'a [&'a str]) -> Result<Asked, ArgsFault> {
+    let joined = with_channels_joined(alloc, words)?;
+    let words: Vec<&str> = joined.iter().map(|word| word.as_str()).collect(alloc)?;
     let command = command(alloc)?;
-    match command.try_get_matches_from(words) {
+    match command.try_get_matches_from(words.as_slice()) {
         Ok(matches) => asked_in(alloc, &matches),
         Err(error) => Err(fault_of(alloc, &error)),
     }
@@ -83,6 +86,7 @@ fn listing_of(alloc: Global, given: &ArgMatches<'_>) -> Result<Listing, AllocErr
         rope: path_of(alloc, given, "rope")?,
         form: form_of(given),
         bank: text_of(alloc, given, "bank")?,
+        names: text_of(alloc, given, "names")?,
     })
 }
 
@@ -90,6 +94,7 @@ fn weaving_of(alloc: Global, given: &ArgMatches<'_>) -> Result<Weaving, AllocErr
     Ok(Weaving {
         text: path_of(alloc, given, "text")?,
         form: form_of(given),
+        names: text_of(alloc, given, "names")?,
     })
 }
 
@@ -142,10 +147,11 @@ fn tracing_of(alloc: Global, given: &ArgMatches<'_>) -> Result<Tracing, ArgsFaul
             channels: channels_of(alloc, given)?,
             last: given.get_one::<u64>("last"),
         },
+        names: text_of(alloc, given, "names")?,
     })
 }
 
-fn comparing_of(alloc: Global, given: &ArgMatches<'_>) -> Result<Comparing, AllocError> {
+fn comparing_of(alloc: Global, given: &ArgMatches<'_>) -> Result<Comparing, ArgsFault> {
     Ok(Comparing {
         rope: path_of(alloc, given, "rope")?,
         script: path_of(alloc, given, "script")?,
@@ -154,6 +160,7 @@ fn comparing_of(alloc: Global, given: &ArgMatches<'_>) -> Result<Comparing, Allo
         form: form_of(given),
         limit: number_of(given, "limit", 0),
         until: text_of(alloc, given, "until")?,
+        shown: shown_of(alloc, given)?,
     })
 }
 

@@ -2,10 +2,10 @@
 use crate::call::Call;
 use crate::report::{Attempt, answered, begin, keeps, no_input, refused, wrong};
 use agc_args::{ArgsFault, parse_args};
-use agc_listing::{DIVISION, rope_file};
 use agc_pipe::Open;
 use agc_session::{DONE, Options, REFUSED, session};
 use agc_store::RopeForm;
+use agc_test_ropes::{DIVISION, rope_file};
 use std::alloc::Global;
 use std::io::{self, ErrorKind, Write};
 use std::sync::Wait;

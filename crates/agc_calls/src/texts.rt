@@ -1,10 +1,11 @@
 //! The calls that make a text: the panel's and the watcher's.
 use crate::call::Call;
 use crate::report::{Attempt, answered, begin, no_input, refused, wrong};
-use agc_listing::{IDLE, rope_file};
+use agc_executive::{WatchFault, WatchSpec, watch};
 use agc_machine::ChannelWrite;
-use agc_panel::{Panel, WatchFault, WatchSpec, watch};
+use agc_panel::Panel;
 use agc_store::{Rope, Store};
+use agc_test_ropes::{IDLE, rope_file};
 use agc_word::Narrow;
 use std::alloc::Global;
 use std::io::{self, Write};

@@ -1,11 +1,11 @@
 -- What is told of the text of a rope: that it has no fault, or the first fault of its first faulty line.
 use Rattle.std.specs.Prelude.{◌≡◌, ℕ, List, ◌++◌, codes, Result, Ok, Err}
 use Rattle.std.specs.Fmt.{decimal}
-use Rattle.agc_rope_text.specs.Weave.{said_in}
-use Rattle.agc_rope_text.specs.declared.fault.LineFault.{LineFault}
-use Rattle.agc_rope_text.specs.declared.fault.LineFault.TheVariants as line
-use Rattle.agc_rope_text.specs.declared.fault.WeaveFault.{WeaveFault}
-use Rattle.agc_rope_text.specs.declared.fault.WeaveFault.TheVariants as weave
+use Rattle.agc_rope_listing.specs.Weave.{said_in}
+use Rattle.agc_rope_listing.specs.declared.fault.LineFault.{LineFault}
+use Rattle.agc_rope_listing.specs.declared.fault.LineFault.TheVariants as line
+use Rattle.agc_rope_listing.specs.declared.fault.WeaveFault.{WeaveFault}
+use Rattle.agc_rope_listing.specs.declared.fault.WeaveFault.TheVariants as weave
 
 abbrev pub line_fault_name : LineFault → List ℕ
 line_fault_name line.NotText = codes "NotText"

@@ -9,9 +9,9 @@ use Rattle.agc_store.specs.RopeFile.{file_word, rope_fault_of, rope_words}
 use Rattle.agc_store.specs.declared.rope_file.RopeForm.{RopeForm}
 use Rattle.agc_store.specs.declared.rope_file.RopeFault.{RopeFault}
 use Rattle.agc_store.specs.declared.rope_file.RopeFault.TheVariants as rope
-use Rattle.agc_rope_text.specs.List.{listed_address}
-use Rattle.agc_rope_text.specs.Place.{place_text}
-use Rattle.agc_rope_text.specs.declared.place.Place.TheVariants as place
+use Rattle.agc_rope_listing.specs.List.{listed_address}
+use Rattle.agc_rope_listing.specs.Place.{place_text}
+use Rattle.agc_rope_listing.specs.declared.place.Place.TheVariants as place
 use Rattle.agc_session.specs.Refusal.{refusal_text}
 use Rattle.agc_session.specs.declared.refusal.Refusal.TheVariants as refusal
 use Rattle.agc_check.specs.Holdings.{rope_holdings}

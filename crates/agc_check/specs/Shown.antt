@@ -2,7 +2,7 @@
 use Rattle.std.specs.Prelude.{ℕ, nat_lt, List, [], ◌∷◌, ◌++◌, length, take, codes, if◌then◌else◌}
 use Rattle.std.specs.List.{flat_map}
 use Rattle.agc_word.specs.Octal.{octal_digits}
-use Rattle.agc_rope_text.specs.Line.{is_no_text}
+use Rattle.agc_rope_listing.specs.Line.{is_no_text}
 
 -- a byte that prints, or a tab, as it is, and each other one by its three octal digits
 unfoldable pub shown_byte : ℕ → List ℕ

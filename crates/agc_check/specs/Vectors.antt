@@ -2,8 +2,8 @@
 use Rattle.std.specs.Prelude.{ℕ, zero, suc, ◌+◌, ◌*◌, Bool, not, List, [], ◌++◌, codes, if◌then◌else◌}
 use Rattle.std.specs.List.{list_any, range_with_len}
 use Rattle.agc_word.specs.Number.{Number}
-use Rattle.agc_rope_text.specs.Place.{place_text}
-use Rattle.agc_rope_text.specs.declared.place.Place.TheVariants as place
+use Rattle.agc_rope_listing.specs.Place.{place_text}
+use Rattle.agc_rope_listing.specs.declared.place.Place.TheVariants as place
 use Rattle.agc_check.specs.Holdings.{is_woven_at}
 
 -- where the services of the ten interrupts begin: 4004, 4010 and so on to 4050 octal

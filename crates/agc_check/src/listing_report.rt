@@ -1,12 +1,12 @@
 //! What is wrong with the text of a rope, for a person.
 ghost use Rattle.std.specs.Prelude.{◌≡◌, ◌++◌, IfOk, OnOk, is_ok, string_bytes};
-ghost use Rattle.agc_rope_text.specs.Weave.{said_in};
+ghost use Rattle.agc_rope_listing.specs.Weave.{said_in};
 ghost use Rattle.agc_check.specs.ListingReport.{IsListingReport, line_fault_name, listing_fault_text};
 
 use crate::remarks::{push_quoted, words_of};
 use crate::reports::Report;
 use crate::shown::push_line;
-use agc_rope_text::{LineFault, WeaveFault, weave};
+use agc_rope_listing::{LineFault, WeaveFault, weave};
 use agc_store::RopeForm;
 use std::alloc::{AllocError, Global};
 

@@ -23,12 +23,11 @@ pub(crate) fn remark(
 {
     let mut text = String::new(alloc);
     text.push_str("    ")?;
-    if fault.kind == FaultKind::LineTooLong {
+    let words = match fault.kind {
         // Such a line may have any length: it is not cut into words.
-        push_too_long(&mut text, line.len())?;
-        return Ok(text);
-    }
-    let words = words_of(alloc, line)?;
+        FaultKind::LineTooLong => Vec::new(alloc),
+        _ => words_of(alloc, line)?,
+    };
     let words = words.as_slice();
     match fault.kind {
         FaultKind::LineTooLong => push_too_long(&mut text, line.len())?,

@@ -1,13 +1,13 @@
 //! What is told of a rope file.
 ghost use Rattle.std.specs.Prelude.{◌≡◌, ◌<◌, ◌*◌, ◌+◌, ◌++◌, get_or, is_none, IfOk, OnOk, string_bytes};
 ghost use Rattle.agc_store.specs.RopeFile.{file_word, rope_fault_of};
-ghost use Rattle.agc_rope_text.specs.List.{listed_address};
+ghost use Rattle.agc_rope_listing.specs.List.{listed_address};
 ghost use Rattle.agc_check.specs.RopeReport.{IsPlaced, bad_word_text, parity_why, rope_fault_text};
 ghost use Rattle.agc_check.specs.RopeReport.{rope_holdings_text, rope_report, rope_why, sound_rope_text, word_with_parity};
 
 use crate::holdings::{RopeHoldings, holdings_in};
 use crate::vectors::push_vectors;
-use agc_rope_text::{Place, push_place};
+use agc_rope_listing::{Place, push_place};
 use agc_session::Refusal;
 use agc_store::{Rope, RopeFault, RopeForm, Store};
 use agc_word::Narrow;
@@ -161,7 +161,7 @@ fn byte_at(file: &[u8], place: usize) -> u8
 }
 
 /// The address under which listings name a place of the rope.
-#[tactic(auto, unfolding(agc_rope_text::specs::List::listed_address))]
+#[tactic(auto, unfolding(agc_rope_listing::specs::List::listed_address))]
 fn listed_address(place: usize) -> u16
     requires { place < 36864 }
     ensures address { result ≡ listed_address place }

@@ -1,7 +1,7 @@
 //! Bytes of a file in print.
 ghost use Rattle.std.specs.Prelude.{◌≡◌, ◌++◌, codes, OnOk, string_bytes};
 ghost use Rattle.agc_word.specs.Octal.{octal_digits};
-ghost use Rattle.agc_rope_text.specs.Line.{is_no_text};
+ghost use Rattle.agc_rope_listing.specs.Line.{is_no_text};
 ghost use Rattle.agc_check.specs.Shown.{printable, shown_byte, shown_line};
 
 use std::alloc::AllocError;

@@ -4,7 +4,7 @@ ghost use Rattle.agc_check.specs.Vectors.{empty_vectors_text, has_empty_vector, 
 ghost use Rattle.agc_check.specs.Vectors.{vector_of, vector_text, vectors_remark, vectors_text};
 
 use crate::holdings::is_woven_at;
-use agc_rope_text::{Place, push_place};
+use agc_rope_listing::{Place, push_place};
 use agc_store::Store;
 use std::alloc::AllocError;
 

@@ -1,6 +1,5 @@
 -- Boundaries that two runs have in common, one after another.
-use Rattle.std.proofs.Common.{◌≡◌, ◌≢◌, ℕ, ◌+◌, ◌-◌, ◌≤◌, List, [], ◌∷◌, ◌++◌, length, drop, Option, Some, None, Bool, true, false, refl, ap, sym, ◌∙◌, subst, arith, append_assoc, append-nil, length-append, length-drop}
-use Rattle.std.proofs.lemmas.List.{drop-append-le, drop-drop}
+use Rattle.std.proofs.Common.{◌≡◌, ◌≢◌, ◌+◌, List, [], ◌∷◌, ◌++◌, length, Option, Some, None, Bool, true, false, refl, ap, sym, ◌∙◌, subst, append_assoc, append-nil, length-append}
 use Rattle.std.specs.Prelude.{if◌then◌else◌}
 use Rattle.std.proofs.lemmas.Grind.{flat_map-append}
 use Rattle.std.proofs.lemmas.List.Elements.{All-append, All-cons, All-nil}
@@ -21,6 +20,7 @@ use Rattle.agc_compare.specs.Common.{ComesApart, HasEnded, HasParted, HasPassed,
 use Rattle.agc_compare.specs.declared.common.Common.{Common}
 use Rattle.agc_panel.specs.Face.{panel_of}
 use Rattle.agc_trace.specs.Entry.{FitsLine}
+use Rattle.agc_compare.proofs.Kept.{keep_one}
 
 -- a run is the write that its first boundary shows, and the run from there
 run_by : (s : State) (r : State × Stepped) → r ≡ boundary None s → Falls s r → run_of s ≡ run_after (one_write (write_shown r.1)) (run_of r.0)
@@ -110,18 +110,6 @@ pub record TellsMore (c d : Common) (last more : Buffer Entry) (entry : Entry) :
   pub panel : (taken : List ChannelWrite) → c.panel ≡ panel_of taken → d.panel ≡ panel_of (taken ++ one_write entry.write)
   pub fits : FitsLine entry
   pub last_ones : more ≡ buffer (keep_last last.capacity (last.items ++ entry ∷ [])) last.capacity
-
-drop_seam : {A : Type 0} (n k : ℕ) (xs : List A) (x : A) → n ≤ length xs → drop k (drop n xs ++ x ∷ []) ≡ drop (n + k) (xs ++ x ∷ [])
-drop_seam n k xs x h = ap (drop k) (sym (drop-append-le n xs (x ∷ []) h)) ∙ drop-drop k n (xs ++ x ∷ [])
-
--- the last five stay the last five
-keep_one : {A : Type 0} (xs : List A) (x : A) → keep_last 5 (keep_last 5 xs ++ x ∷ []) ≡ keep_last 5 (xs ++ x ∷ [])
-keep_one xs x =
-    let a = length-append (drop (length xs - 5) xs) (x ∷ []) in
-    let b = length-drop (length xs - 5) xs in
-    let c = length-append xs (x ∷ []) in
-    drop_seam (length xs - 5) (length (drop (length xs - 5) xs ++ x ∷ []) - 5) xs x (omega arith)
-    ∙ ap (λ n. drop n (xs ++ x ∷ [])) (omega (arith, a, b, c))
 
 tells_more : (entries : List Entry) (c d : Common) (last more : Buffer Entry) (entry : Entry) → TellsMore c d last more entry →
     TellsEntries entries c last → TellsEntries (entries ++ entry ∷ []) d more

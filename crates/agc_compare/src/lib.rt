@@ -13,6 +13,8 @@ mod same;
 
 pub use cells::CellPair;
 pub use comparison::{Comparison, Parting};
+pub use count::one_more;
 pub use follower::{End, WriteParting};
+pub use next::next_write;
 pub use report::push_comparison;
 pub use runs::compare;

@@ -2,7 +2,7 @@
 ghost use Rattle.std.specs.Prelude.{◌≡◌, ◌<◌, ◌++◌, All, OnOk, flat_map, string_bytes};
 ghost use Rattle.std.specs.List.{zip};
 ghost use Rattle.std.specs.Str.Lines.{lines};
-ghost use Rattle.agc_rope_text.specs.Place.{IsInPrint};
+ghost use Rattle.agc_rope_listing.specs.Place.{IsInPrint};
 ghost use Rattle.agc_trace.specs.Entry.{FitsLine, FitsWrite};
 ghost use Rattle.agc_compare.specs.Compare.{FitsLines, FitsWriteParting, IsCell};
 ghost use Rattle.agc_compare.specs.Report.{
@@ -31,7 +31,7 @@ use crate::comparison::{Comparison, Parting};
 use crate::follower::{End, WriteParting};
 use agc_machine::ChannelWrite;
 use agc_panel::Panel;
-use agc_rope_text::{Place, push_place};
+use agc_rope_listing::{Place, push_place};
 use agc_store::place::{A, Q};
 use agc_trace::{Entry, push_line};
 use agc_word::Wide;

@@ -1,6 +1,6 @@
 //! The program on its command lines: help, mistakes, and files that are not there.
 use crate::run;
-use crate::words::asked_by;
+use agc_front::asked_by;
 use std::process::Abort;
 use std::rt::Files;
 

@@ -1,6 +1,5 @@
 //! What the program says where there is no session, or no end of one: a line.
 use agc_session::Refusal;
-use agc_sitting::BeginFault;
 use std::fmt;
 use std::io::{self, Write};
 
@@ -17,21 +16,6 @@ impl Trouble {
     /// Writes the line of this trouble.
     pub fn write_to<W: Write>(self, err: &mut W) -> io::Result<()> {
         writeln!(err, "agc-console: {self}")
-    }
-}
-
-impl From<Refusal> for Trouble {
-    fn from(refusal: Refusal) -> Trouble {
-        Trouble::Refused(refusal)
-    }
-}
-
-impl From<BeginFault> for Trouble {
-    fn from(fault: BeginFault) -> Trouble {
-        match fault {
-            BeginFault::Limit(limit) => Trouble::Refused(Refusal::Limit(limit)),
-            BeginFault::Memory => Trouble::Refused(Refusal::Memory),
-        }
     }
 }
 

@@ -1,101 +1,176 @@
--- What is said of a request, and the end of its answer.
-use Rattle.std.specs.Prelude.{◌≡◌, ℕ, List, [], ◌++◌, Option, None, Some, Result, Ok, Err, OnOk, codes}
-use Rattle.std.specs.Io.KnownBytes.{Appends, Keeps, append_known}
-use Rattle.std.proofs.Common.{refl, sym, subst, ◌∙◌, ap, append-nil, inl, inr}
-use Rattle.std.proofs.KnownBytes.{Appends-kept, Keeps-refl, append_known-grown}
+-- How the parts of an answer make up the whole.
+use Rattle.std.specs.Prelude.{◌≡◌, ◌≢◌, ◌⊎◌, ℕ, ◌+◌, ◌==◌, Bool, true, false, List, [], ◌++◌, length, Option, None, Some, Result, Ok, Err, OnOk, IsErrOf, codes, flat_map, if◌then◌else◌}
+use Rattle.std.specs.Io.KnownBytes.{Appends, append_known}
+use Rattle.std.proofs.Common.{refl, ap, sym, subst, ◌∙◌}
+use Rattle.std.proofs.KnownBytes.{Appends-trans}
+use Rattle.std.proofs.lemmas.Bool.{eq-eqb, eqb-true}
 use Rattle.agc_request.specs.Fault.{fault_text}
 use Rattle.agc_request.specs.declared.command.Command.{Command}
 use Rattle.agc_request.specs.declared.command.Command.TheVariants as command
+use Rattle.agc_request.specs.declared.command.Target.{Target}
 use Rattle.agc_request.specs.declared.fault.CommandFault.{CommandFault}
-use Rattle.agc_machine.specs.Boundary.{WantsKey}
+use Rattle.agc_script.specs.Event.{most_events}
 use Rattle.agc_script.specs.declared.event.What.{What}
-use Rattle.agc_sitting.specs.Sitting.{SittingState, given_now}
+use Rattle.agc_sitting.specs.Sitting.{given_now}
 use Rattle.agc_sitting.specs.declared.fault.GiveFault.{GiveFault}
+use Rattle.agc_sitting.specs.declared.fault.GiveFault.TheVariants as fault
+use Rattle.agc_trace.specs.Line.{line_of}
+use Rattle.agc_trace.specs.Trace.{trace_within}
 use Rattle.agc_dialogue.specs.Answer.{error_line}
-use Rattle.agc_dialogue.specs.Answered.{Does, IsAnswered, IsGiven, IsRefused, IsSaid, RunsOut, SaysOf, last_line, refusal_text}
-use Rattle.agc_dialogue.specs.Talk.{HasTakenEvents}
+use Rattle.agc_dialogue.specs.Answered.{Answer, GoesNotBack, Grows, IsLeft, Request, RunsOut, Tells, answer_to, answered, cycles_on, done, ended, given_answer, last_line, refusal_text, refused_by, told_until, told_way}
+use Rattle.agc_dialogue.specs.Shown.{shown_text}
+use Rattle.agc_dialogue.specs.Talk.{GoesOn, after_boundaries, after_due, gone_back, takes_event}
+use Rattle.agc_dialogue.specs.Way.{sought_in, way_to}
+use Rattle.agc_dialogue.specs.declared.sought.Sought.TheVariants as sought
 use Rattle.agc_dialogue.specs.declared.conversation.ConverseFault.{ConverseFault}
 use Rattle.agc_dialogue.specs.declared.talk.Talk.{Talk}
+use Rattle.agc_dialogue.proofs.Going.{stays_put}
+use Rattle.agc_dialogue.proofs.Telling.{grown}
 
-abbrev Request : Type 0
-Request = Result (Option Command) CommandFault
+-- an answer with its end
+pub tells_end : (a : Answer) (t : Talk) (begun o : Option (List ℕ)) (old new : List ℕ) → Tells a t begun (append_known o old) → new ≡ old ++ last_line t
+    → Tells (ended a) t begun (append_known o new)
+tells_end a t begun o old new h e =
+    let line : Appends (append_known o old) (append_known o new) (last_line a.0) =
+    subst (λ (u : Talk). Appends (append_known o old) (append_known o new) (last_line u)) h.0 (grown o old new (last_line t) e) in
+    (h.0, Appends-trans begun (append_known o old) (append_known o new) a.1 (last_line a.0) h.1 line)
 
--- a line is added to the text that waits
-pub grown : (o : Option (List ℕ)) (old new line : List ℕ) → new ≡ old ++ line → Appends (append_known o old) (append_known o new) line
-grown o old new line e = append_known-grown (append_known o old) o old new line (Keeps-refl (append_known o old)) e
+pub answered_other : (c : Command) (s : Talk) → ((what : What) → c ≡ command.Give what → ⊥) → answered c s ≡ ended (done c s)
+unfolding answered
+answered_other (command.Give what) s h = absurd (h what refl)
+answered_other c s h = refl
 
-pub when_ok : {P Q : Type 0} (r : Result (Unit {0}) ConverseFault) → OnOk r P → (P → Q) → OnOk r Q
-when_ok (Ok u) h f = f h
-when_ok (Err fault) h f = tt
+pub answered_event : (c : Command) (what : What) (s : Talk) → c ≡ command.Give what → answered c s ≡ given_answer what s
+unfolding answered
+answered_event c what s e = ap (λ (x : Command). answered x s) e
 
-pub event_said : (c : Command) (what : What) (s t : Talk) (o : Option (List ℕ)) (old new : List ℕ) → c ≡ command.Give what
-    → (said : List ℕ) × IsGiven what s t said × (new ≡ old ++ said) → IsSaid (SaysOf c) s t (append_known o old) (append_known o new)
-unfolding SaysOf
-event_said c what s t o old new e h =
-    subst (λ (d : Command). IsSaid (SaysOf d) s t (append_known o old) (append_known o new)) (sym e)
-    (record { way = append_known o old; last = h.0; says = (refl, h.1); ends = grown o old new h.0 h.2 })
+pub answer_of_command : (request : Request) (said : Option Command) (c : Command) (s : Talk) → request ≡ Ok said → said ≡ Some c → answer_to request s ≡ answered c s
+unfolding answer_to
+answer_of_command request said c s e f = ap (λ (x : Request). answer_to x s) (e ∙ ap Ok f)
 
-says_other : (c : Command) (s t : Talk) (old way : Option (List ℕ)) (last : List ℕ) → ((what : What) → c ≡ command.Give what → ⊥) → Does c s t old way
-    → last ≡ last_line t → SaysOf c s t old way last
-unfolding SaysOf
-says_other (command.Give what) s t old way last h d e = absurd (h what refl)
-says_other c s t old way last h d e = (d, e)
+pub answer_of_nothing : (request : Request) (said : Option Command) (s : Talk) → request ≡ Ok said → said ≡ None → answer_to request s ≡ (s, last_line s)
+unfolding answer_to
+answer_of_nothing request said s e f = ap (λ (x : Request). answer_to x s) (e ∙ ap Ok f)
 
-pub other_said : (c : Command) (s t : Talk) (begun o : Option (List ℕ)) (old new : List ℕ) → ((what : What) → c ≡ command.Give what → ⊥)
-    → Does c s t begun (append_known o old) → new ≡ old ++ last_line t → IsSaid (SaysOf c) s t begun (append_known o new)
-other_said c s t begun o old new h d e =
-    record {
-      way = append_known o old;
-      last = last_line t;
-      says = says_other c s t begun (append_known o old) (last_line t) h d refl;
-      ends = grown o old new (last_line t) e;
-    }
+pub answer_of_fault : (request : Request) (why : CommandFault) (s : Talk) → request ≡ Err why → answer_to request s ≡ (s, error_line (fault_text why))
+unfolding answer_to
+answer_of_fault request why s e = ap (λ (x : Request). answer_to x s) e
 
-pub command_said : (request : Request) (said : Option Command) (command : Command) (s t : Talk) (old new : Option (List ℕ)) → request ≡ Ok said → said ≡ Some command
-    → IsSaid (SaysOf command) s t old new → IsAnswered request s t old new
-command_said request said command s t old new e f h =
-    subst (λ (q : Request). IsAnswered q s t old new) (sym (e ∙ ap Ok f)) h
+pub tells_same : (a b : Answer) (t : Talk) (old new : Option (List ℕ)) → a ≡ b → Tells b t old new → Tells a t old new
+tells_same a b t old new e h = rw e h
 
-pub end_said : (request : Request) (said : Option Command) (s : Talk) (o : Option (List ℕ)) (old new : List ℕ) → request ≡ Ok said → said ≡ None → new ≡ old ++ last_line s
-    → IsAnswered request s s (append_known o old) (append_known o new)
-end_said request said s o old new e f h =
-    subst (λ (q : Request). IsAnswered q s s (append_known o old) (append_known o new)) (sym (e ∙ ap Ok f))
-    (record { way = append_known o old; last = last_line s; says = (refl, refl, refl); ends = grown o old new (last_line s) h })
+-- an event that was given, or refused
+not_equal : (m n : ℕ) (b : Bool) → (m == n) ≡ b → (m ≡ n → ⊥) → b ≡ false
+not_equal m n true e h = absurd (h (eqb-true m n e))
+not_equal m n false e h = refl
 
-pub fault_said : (request : Request) (fault : CommandFault) (s : Talk) (o : Option (List ℕ)) (old new : List ℕ) → request ≡ Err fault
-    → new ≡ old ++ error_line (fault_text fault) → IsAnswered request s s (append_known o old) (append_known o new)
-fault_said request fault s o old new e h =
-    let line = error_line (fault_text fault) in
-    subst (λ (q : Request). IsAnswered q s s (append_known o old) (append_known o new)) (sym e)
-    (record { way = append_known o old; last = line; says = (refl, refl, refl); ends = grown o old new line h })
+given_by : (full takes : Bool) (x y z : Answer) → full ≡ false → takes ≡ true → (if full then x else (if takes then y else z)) ≡ y
+given_by full takes x y z e f = rw (e, f) refl
 
--- the text that waited is written
-unchanged : (a : Option (List ℕ)) → append_known a [] ≡ a
-unchanged None = refl
-unchanged (Some xs) = ap Some (append-nil xs)
+refused_so : (full takes : Bool) (x y z : Answer) → full ≡ false → takes ≡ false → (if full then x else (if takes then y else z)) ≡ z
+refused_so full takes x y z e f = rw (e, f) refl
 
-written_now : (b c : Option (List ℕ)) (text : List ℕ) → Appends b c text → Keeps (append_known b text) c
-written_now None c text h = tt
-written_now (Some xs) None text h = absurd h
-written_now (Some xs) (Some ys) text h = h
+full_by : (full : Bool) (x y : Answer) → full ≡ true → (if full then x else y) ≡ x
+full_by full x y e = rw e refl
 
-pub answer_written : (request : Request) (s t : Talk) (a b c : Option (List ℕ)) (none text shown : List ℕ) → none ≡ [] → shown ≡ text
-    → IsAnswered request s t (append_known a none) (append_known b text) → Appends b c shown → IsAnswered request s t a c
-answer_written request s t a b c none text shown e f h w =
-    let same : append_known a none ≡ a = rw e (unchanged a) in
-    let whole : Keeps (append_known b text) c = written_now b c text (rw f at w) in
-    subst (λ (old : Option (List ℕ)). IsAnswered request s t old c) same
-    (record { way = h.way; last = h.last; says = h.says; ends = Appends-kept h.way (append_known b text) c h.last h.ends whole })
+abbrev events : Talk → ℕ
+events s = length s.sitting.script + length s.sitting.given
 
-pub ran_out : (b c : Option (List ℕ)) → Appends b c (codes "error: memory\n") → RunsOut c
-ran_out b c h = record { way = b; ends = h }
+pub given_there : (what : What) (s : Talk) → events s ≢ most_events → takes_event (after_due s.sitting).now ≡ true
+    → given_answer what s ≡ ended (record { sitting = given_now what (after_due s.sitting); writes = s.writes }, [])
+unfolding given_answer
+given_there what s h e = given_by (events s == most_events) (takes_event (after_due s.sitting).now) _ _ _ (not_equal (events s) most_events _ refl h) e
 
--- an event that was given, or refused, and the line that says so
-pub given_is_said : (what : What) (s t : Talk) (old new : List ℕ)
-    → (due : SittingState) × HasTakenEvents s.sitting due × WantsKey due.now × (t.sitting ≡ given_now what due) → new ≡ old ++ last_line t
-    → (said : List ℕ) × IsGiven what s t said × (new ≡ old ++ said)
-given_is_said what s t old new h e = (last_line t, inl (h.0, h.1, h.2, h.3, refl), e)
+pub refused_there : (what : What) (s : Talk) → events s ≢ most_events → takes_event (after_due s.sitting).now ≡ false
+    → given_answer what s ≡ refused_by fault.Unwanted (record { sitting = after_due s.sitting; writes = s.writes })
+unfolding given_answer
+refused_there what s h e = refused_so (events s == most_events) (takes_event (after_due s.sitting).now) _ _ _ (not_equal (events s) most_events _ refl h) e
 
-pub refusal_is_said : (what : What) (why : GiveFault) (s t : Talk) (old new : List ℕ) → IsRefused why s t → new ≡ old ++ error_line (refusal_text why)
-    → (said : List ℕ) × IsGiven what s t said × (new ≡ old ++ said)
-refusal_is_said what why s t old new h e = (error_line (refusal_text why), inr (why, h, refl), e)
+pub full_there : (what : What) (s : Talk) → events s ≡ most_events → given_answer what s ≡ refused_by fault.TooMany s
+unfolding given_answer
+full_there what s h = full_by (events s == most_events) _ _ (eq-eqb (events s) most_events h)
+
+-- memory ran out
+pub ran_out : (request : Request) (s t : Talk) (a b c : Option (List ℕ)) → IsLeft request s t → Grows a b → Appends b c (codes "error: memory\n")
+    → RunsOut request s t a c
+ran_out request s t a b c left h k =
+    record { left = left; said = h.0; ends = Appends-trans a b c h.0 (codes "error: memory\n") h.1 k }
+
+-- what each command has done
+pub done_go : (c : Command) (cycles end : ℕ) (s : Talk) → c ≡ command.Go cycles → end ≡ cycles_on cycles s
+    → done c s ≡ told_way (way_to sought.Nothing end s.sitting.now) s
+unfolding done
+done_go c cycles end s e f = rw f (ap (λ (x : Command). done x s) e)
+
+pub done_to : (c : Command) (cycle : ℕ) (s : Talk) → c ≡ command.GoTo cycle → done c s ≡ told_way (way_to sought.Nothing cycle s.sitting.now) s
+unfolding done
+done_to c cycle s e = ap (λ (x : Command). done x s) e
+
+pub done_step : (c : Command) (boundaries : ℕ) (s : Talk) → c ≡ command.Step boundaries
+    → done c s ≡ (after_boundaries boundaries s, flat_map line_of (trace_within boundaries s.sitting.now))
+unfolding done
+done_step c boundaries s e = ap (λ (x : Command). done x s) e
+
+pub done_until : (c : Command) (what : Target) (within : ℕ) (s : Talk) → c ≡ command.Until what within
+    → done c s ≡ told_until (way_to (sought_in s.sitting.now what) (cycles_on within s) s.sitting.now) s
+unfolding done
+done_until c what within s e = ap (λ (x : Command). done x s) e
+
+pub done_shown : (c : Command) (s : Talk) → GoesNotBack c → ((cycles : ℕ) → c ≡ command.Go cycles → ⊥) → ((cycle : ℕ) → c ≡ command.GoTo cycle → ⊥)
+    → ((boundaries : ℕ) → c ≡ command.Step boundaries → ⊥) → ((what : Target) (within : ℕ) → c ≡ command.Until what within → ⊥)
+    → done c s ≡ (s, shown_text c s.sitting s.writes)
+unfolding done
+done_shown (command.Go cycles) s h a b d e = absurd (a cycles refl)
+done_shown (command.GoTo cycle) s h a b d e = absurd (b cycle refl)
+done_shown (command.Step boundaries) s h a b d e = absurd (d boundaries refl)
+done_shown (command.Until what within) s h a b d e = absurd (e what within refl)
+done_shown (command.Back cycle) s h a b d e = absurd h
+done_shown c s h a b d e = refl
+
+pub answered_back : (cycle : ℕ) (s : Talk) → answer_to (Ok (Some (command.Back cycle))) s ≡ ended (gone_back cycle s, [])
+unfolding answer_to answered done
+answered_back cycle s = refl
+
+pub when_both : {P Q R : Type 0} (r : Result (Unit {0}) ConverseFault) → OnOk r P → OnOk r Q → (P → Q → R) → OnOk r R
+when_both (Ok u) h k f = f h k
+when_both (Err why) h k f = tt
+
+pub left_same : (a b : Answer) (t : Talk) (P : Type 0) → a ≡ b → ((t ≡ b.0) ⊎ P) → (t ≡ a.0) ⊎ P
+left_same a b t P e h = rw e h
+
+-- a part of an answer that waits
+pub tells_waiting : (a : Answer) (t : Talk) (o : Option (List ℕ)) (old new : List ℕ) → t ≡ a.0 → new ≡ old ++ a.1 → Tells a t (append_known o old) (append_known o new)
+tells_waiting a t o old new e h = (e, grown o old new a.1 h)
+
+-- a refusal, by why the event was not taken
+pub refused_is : (what : What) (s t : Talk) (r : Result (Unit {0}) GiveFault) (why : GiveFault) → r ≡ Err why → (why ≡ fault.Memory → ⊥)
+    → (IsErrOf r fault.Unwanted → (t ≡ record s { sitting = after_due s.sitting }) × (takes_event (after_due s.sitting).now ≡ false) × (events s ≢ most_events))
+    → (IsErrOf r fault.TooMany → (t ≡ s) × (events s ≡ most_events))
+    → (t ≡ (given_answer what s).0) × (error_line (refusal_text why) ≡ (given_answer what s).1)
+refused_is what s t r fault.Memory e never u m = absurd (never refl)
+refused_is what s t r fault.Unwanted e never u m =
+    let so = u e in
+    let is = refused_there what s so.2 so.1 in
+    (so.0 ∙ ap (λ (a : Answer). a.0) (sym is), ap (λ (a : Answer). a.1) (sym is))
+refused_is what s t r fault.TooMany e never u m =
+    let so = m e in
+    let is = full_there what s so.1 in
+    (so.0 ∙ ap (λ (a : Answer). a.0) (sym is), ap (λ (a : Answer). a.1) (sym is))
+
+pub given_is : (what : What) (s t : Talk) → t ≡ record s { sitting = given_now what (after_due s.sitting) } → takes_event (after_due s.sitting).now ≡ true
+    → events s ≢ most_events → (t ≡ (given_answer what s).0) × (last_line t ≡ (given_answer what s).1)
+given_is what s t e takes room =
+    let is = given_there what s room takes in
+    (e ∙ ap (λ (a : Answer). a.0) (sym is), ap last_line e ∙ ap (λ (a : Answer). a.1) (sym is))
+
+pub line_is : (old new line other : List ℕ) → new ≡ old ++ line → line ≡ other → new ≡ old ++ other
+line_is old new line other h e = h ∙ ap (λ (x : List ℕ). old ++ x) e
+
+-- the line with which `back` is answered
+pub end_written : (a b : Option (List ℕ)) (none text shown : List ℕ) (t u : Talk) → none ≡ [] → text ≡ none ++ last_line t → shown ≡ text → t ≡ u → Appends a b shown
+    → Appends a b ([] ++ last_line u)
+end_written a b none text shown t u n e s same h =
+    subst (Appends a b) (s ∙ e ∙ ap (λ (x : List ℕ). x ++ last_line t) n ∙ ap last_line same) h
+
+pub same_goes : (s t : Talk) → t ≡ s → GoesOn s.sitting t.sitting
+same_goes s t e = subst (λ (x : Talk). GoesOn s.sitting x.sitting) (sym e) (stays_put s.sitting)

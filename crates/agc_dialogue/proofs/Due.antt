@@ -1,8 +1,9 @@
--- Events of the script that are due, one after another.
-use Rattle.std.specs.Prelude.{◌≡◌, ℕ, zero, suc, Option, None, Some, true, Result, Ok, Err, OnErr, IsErrOf, length, ◌+◌}
-use Rattle.std.proofs.Common.{refl, ap, sym, subst, ◌∙◌}
-use Rattle.agc_machine.specs.Boundary.{WantsKey, boundary, carried_out, unless_stopped, upcoming_of}
-use Rattle.agc_machine.specs.Laws.{after}
+-- Events of the script that are due, one after another, and whether a machine takes an event then.
+use Rattle.std.specs.Prelude.{◌≡◌, ℕ, zero, suc, ◌<◌, nat_lt, Bool, true, false, ◌&&◌, List, [], ◌∷◌, is_none, Option, None, Some, if◌then◌else◌}
+use Rattle.std.proofs.Common.{refl, ap, sym, subst, ◌∙◌, arith, inl, inr}
+use Rattle.std.proofs.lemmas.Bool.Decides.{leb_tells, nat_tests}
+use Rattle.agc_machine.specs.Boundary.{IsBefore, WantsKey, boundary, carried_out, due_event, unless_stopped, upcoming_of}
+use Rattle.agc_machine.specs.Replay.{writes_in}
 use Rattle.agc_machine.specs.State.{State}
 use Rattle.agc_machine.specs.declared.answer.Stepped.{Stepped}
 use Rattle.agc_machine.specs.declared.answer.Stepped.TheVariants as stepped
@@ -10,79 +11,122 @@ use Rattle.agc_machine.specs.declared.answer.Stop.{Stop}
 use Rattle.agc_machine.specs.declared.upcoming.Upcoming.{Upcoming}
 use Rattle.agc_machine.specs.declared.upcoming.Upcoming.TheVariants as upcoming
 use Rattle.agc_machine.proofs.Cases.{upcoming_comes}
-use Rattle.agc_sitting.specs.Sitting.{HasGone, SittingState, shown_after}
-use Rattle.agc_script.specs.Event.{most_events}
-use Rattle.agc_sitting.specs.declared.fault.GiveFault.{GiveFault}
-use Rattle.agc_sitting.specs.declared.fault.GiveFault.TheVariants as fault
-use Rattle.agc_dialogue.specs.Answered.{IsRefused}
+use Rattle.agc_script.specs.declared.event.Event.{Event}
+use Rattle.agc_script.specs.declared.event.What.{What}
+use Rattle.agc_sitting.specs.Sitting.{SittingState}
+use Rattle.agc_dialogue.specs.Talk.{due_within, gone_on, is_event, takes_event}
 use Rattle.agc_dialogue.specs.declared.talk.Talk.{Talk}
-use Rattle.agc_dialogue.specs.Talk.{AreEvents, HasTakenEvents, IsEvent}
 
 -- an event writes nothing
-quiet_by : (u : Upcoming) (s : State) → IsEvent u → (carried_out u s).1 ≡ stepped.Quiet
+quiet_by : (u : Upcoming) (s : State) → is_event u ≡ true → (carried_out u s).1 ≡ stepped.Quiet
 quiet_by (upcoming.Event what) s h = refl
-quiet_by (upcoming.Stop why) s h = absurd h
-quiet_by (upcoming.Timer t) s h = absurd h
-quiet_by (upcoming.Interrupt r) s h = absurd h
-quiet_by (upcoming.Order order) s h = absurd h
+quiet_by (upcoming.Stop why) s h = cc
+quiet_by (upcoming.Timer t) s h = cc
+quiet_by (upcoming.Interrupt r) s h = cc
+quiet_by (upcoming.Order order) s h = cc
 
-quiet_unless : (stopped : Option Stop) (s : State) → s.stopped ≡ stopped → IsEvent (upcoming_of s) → (unless_stopped stopped s).1 ≡ stepped.Quiet
-quiet_unless (Some why) s e h = absurd (subst IsEvent ((upcoming_comes s).stays why e) h)
+quiet_unless : (stopped : Option Stop) (s : State) → s.stopped ≡ stopped → is_event (upcoming_of s) ≡ true → (unless_stopped stopped s).1 ≡ stepped.Quiet
+quiet_unless (Some why) s e h =
+    let none : is_event (upcoming_of s) ≡ false = ap is_event ((upcoming_comes s).stays why e) in cc
 quiet_unless None s e h = quiet_by (upcoming_of s) (record s { begun = true }) h
 
-quiet : (s : State) → IsEvent (upcoming_of s) → (boundary None s).1 ≡ stepped.Quiet
+quiet : (s : State) → is_event (upcoming_of s) ≡ true → (boundary None s).1 ≡ stepped.Quiet
 unfolding boundary
 quiet s h = quiet_unless s.stopped s refl h
 
-more : (n : ℕ) (s t u : State) → AreEvents n s → after n s ≡ t → IsEvent (upcoming_of t) → (boundary None t).0 ≡ u
-    → AreEvents (suc n) s × (after (suc n) s ≡ u)
-unfolding AreEvents after
-more zero s t u b e i f =
-    ((subst (λ (x : State). IsEvent (upcoming_of x)) (sym e) i, tt), ap (λ (x : State). (boundary None x).0) e ∙ f)
-more (suc n) s t u b e i f = let rest = more n (boundary None s).0 t u b.1 e i f in ((b.0, rest.0), rest.1)
+if_event : (b : Bool) (x y : SittingState) → b ≡ true → (if b then x else y) ≡ x
+if_event true x y e = refl
+if_event false x y e = cc
 
-pub none_taken_yet : (s : SittingState) → HasTakenEvents s s
-unfolding AreEvents after
-none_taken_yet s =
-    record { boundaries = 0; events = tt; now = refl; first = refl; kept = refl; script = refl; given = refl; panel = refl }
+if_no_event : (b : Bool) (x y : SittingState) → b ≡ false → (if b then x else y) ≡ y
+if_no_event true x y e = cc
+if_no_event false x y e = refl
 
-pub one_taken : (s t u : SittingState) (answer : Stepped) (next : Upcoming) → HasTakenEvents s t → next ≡ upcoming_of t.now → IsEvent next
-    → HasGone t (boundary None t.now) answer u → HasTakenEvents s u
-one_taken s t u answer next h e i g =
-    let due : IsEvent (upcoming_of t.now) = subst IsEvent e i in
-    let on = more h.boundaries s.now t.now u.now h.events h.now due (sym (ap (λ (r : State × Stepped). r.0) g.now)) in
-    let shown : answer ≡ stepped.Quiet = ap (λ (r : State × Stepped). r.1) g.now ∙ quiet t.now due in
-    record {
-      boundaries = suc h.boundaries;
-      events = on.0;
-      now = on.1;
-      first = g.first ∙ h.first;
-      kept = g.kept ∙ h.kept;
-      script = g.script ∙ h.script;
-      given = g.given ∙ h.given;
-      panel = g.panel ∙ ap (λ (a : Stepped). shown_after a t.panel) shown ∙ h.panel;
-    }
+due_on : (m n : ℕ) (s t : SittingState) → m ≡ suc n → is_event (upcoming_of s.now) ≡ true → t ≡ record s { now = (boundary None s.now).0 }
+    → due_within m s ≡ due_within n t
+unfolding due_within
+due_on m n s t c h e =
+    ap (λ (x : ℕ). due_within x s) c ∙ if_event (is_event (upcoming_of s.now)) _ s h ∙ ap (due_within n) (sym e)
 
--- where an event is refused nothing has happened but those that were due
-pub refused_at_once : (r : Result (Unit {0}) GiveFault) (s t : SittingState) → t ≡ s → OnErr r (HasTakenEvents s t)
-refused_at_once (Ok u) s t e = tt
-refused_at_once (Err fault) s t e = subst (HasTakenEvents s) (sym e) (none_taken_yet s)
+pub due_ends : (m : ℕ) (s : SittingState) → is_event (upcoming_of s.now) ≡ false → due_within m s ≡ s
+unfolding due_within
+due_ends zero s h = refl
+due_ends (suc m) s h = if_no_event (is_event (upcoming_of s.now)) _ s h
 
-why_by : (why : GiveFault) (s t : Talk) → HasTakenEvents s.sitting t.sitting → (why ≡ fault.Unwanted → WantsKey t.sitting.now → ⊥)
-    → (why ≡ fault.TooMany → (length s.sitting.script + length s.sitting.given ≡ most_events) × (t.sitting ≡ s.sitting)) → IsRefused why s t
-unfolding IsRefused
-why_by fault.Unwanted s t h u m = (h, u refl)
-why_by fault.TooMany s t h u m = m refl
-why_by fault.Memory s t h u m = h
+pub due_none : (m : ℕ) (s : SittingState) → m ≡ zero → due_within m s ≡ s
+unfolding due_within
+due_none m s e = ap (λ (x : ℕ). due_within x s) e
 
--- why an event was refused, by the result of giving it
-pub why_refused : (r : Result (Unit {0}) GiveFault) (why : GiveFault) (s t : Talk) → r ≡ Err why → OnErr r (HasTakenEvents s.sitting t.sitting)
-    → (IsErrOf r fault.Unwanted → WantsKey t.sitting.now → ⊥)
-    → (IsErrOf r fault.TooMany → (length s.sitting.script + length s.sitting.given ≡ most_events) × (t.sitting ≡ s.sitting)) → IsRefused why s t
-why_refused r why s t e h u m =
-    why_by why s t (rw e at h) (λ f. u (e ∙ ap (λ (w : GiveFault). Err w) f)) (λ f. m (e ∙ ap (λ (w : GiveFault). Err w) f))
+-- one more has happened
+gone_quietly : (s u : Talk) (answer : Stepped) → answer ≡ stepped.Quiet → u ≡ gone_on u.sitting.now (writes_in (answer ∷ [])) s
+    → u ≡ record { sitting = record s.sitting { now = u.sitting.now }; writes = s.writes }
+unfolding gone_on writes_in
+gone_quietly s u answer q e = e ∙ ap (λ (a : Stepped). gone_on u.sitting.now (writes_in (a ∷ [])) s) q
 
--- where none was due none has happened, so that none is due
-pub not_none : (s t u : SittingState) → ((IsEvent (upcoming_of s.now) → ⊥) → t ≡ s) → IsEvent (upcoming_of t.now)
-    → (IsEvent (upcoming_of s.now) → ⊥) → u ≡ s
-not_none s t u h due none = absurd (none (subst (λ (x : SittingState). IsEvent (upcoming_of x.now)) (h none) due))
+pub due_more : (m n : ℕ) (i s u : Talk) (answer : Stepped) (next : Upcoming) (whole : Talk) → m ≡ suc n → next ≡ upcoming_of s.sitting.now → is_event next ≡ true
+    → (u.sitting.now, answer) ≡ boundary None s.sitting.now → u ≡ gone_on u.sitting.now (writes_in (answer ∷ [])) s
+    → record { sitting = due_within m s.sitting; writes = s.writes } ≡ whole → record { sitting = due_within n u.sitting; writes = u.writes } ≡ whole
+due_more m n i s u answer next whole c t h b e w =
+    let due : is_event (upcoming_of s.sitting.now) ≡ true = subst (λ (x : Upcoming). is_event x ≡ true) t h in
+    let shown : answer ≡ stepped.Quiet = ap (λ (r : State × Stepped). r.1) b ∙ quiet s.sitting.now due in
+    let gone = gone_quietly s u answer shown e in
+    let there : u.sitting ≡ record s.sitting { now = (boundary None s.sitting.now).0 } =
+    ap (λ (x : Talk). x.sitting) gone ∙ ap (λ (r : State × Stepped). record s.sitting { now = r.0 }) b in
+    let same : u.writes ≡ s.writes = ap (λ (x : Talk). x.writes) gone in
+    let rest : due_within m s.sitting ≡ due_within n u.sitting = due_on m n s.sitting u.sitting c due there in
+    rw (same, sym rest) w
+
+pub not_event : (u : Upcoming) → ((what : What) → u ≡ upcoming.Event what → ⊥) → is_event u ≡ false
+not_event (upcoming.Event what) h = absurd (h what refl)
+not_event (upcoming.Stop why) h = refl
+not_event (upcoming.Timer t) h = refl
+not_event (upcoming.Interrupt r) h = refl
+not_event (upcoming.Order order) h = refl
+
+-- a machine takes an event where it wants one
+none_due : (cycle : ℕ) (events : List Event) → is_none (due_event cycle events) ≡ true → IsBefore cycle events
+none_due cycle [] h = tt
+none_due cycle (event ∷ events) h =
+    elim (leb_tells event.cycle cycle) as (λ _. cycle < event.cycle) [
+      | inl w ↦ let never : false ≡ true = rw w.0 at h in cc
+      | inr w ↦ omega (arith, w.1)
+    ]
+
+no_event_due : (cycle : ℕ) (events : List Event) → IsBefore cycle events → is_none (due_event cycle events) ≡ true
+no_event_due cycle [] h = refl
+no_event_due cycle (event ∷ events) h =
+    elim (leb_tells event.cycle cycle) as (λ _. is_none (due_event cycle (event ∷ events)) ≡ true) [
+      | inl w ↦ absurd (omega (arith, w.1, h))
+      | inr w ↦ rw w.0 refl
+    ]
+
+all_hold : (stopped : Option Stop) (b c : Bool) → (is_none stopped && b && c) ≡ true → (stopped ≡ None) × (b ≡ true) × (c ≡ true)
+all_hold None true true h = (refl, refl, refl)
+all_hold None true false h = cc
+all_hold None false c h = cc
+all_hold (Some why) b c h = cc
+
+hold_all : (stopped : Option Stop) (b c : Bool) → stopped ≡ None → b ≡ true → c ≡ true → (is_none stopped && b && c) ≡ true
+hold_all stopped b c e f g = rw (e, f, g) refl
+
+less_of : (m n : ℕ) → nat_lt m n ≡ true → m < n
+less_of m n h = grind (arith, nat_tests)
+
+is_less_of : (m n : ℕ) → m < n → nat_lt m n ≡ true
+is_less_of m n h = grind (arith, nat_tests)
+
+pub wants_if_taken : (s : State) → takes_event s ≡ true → WantsKey s
+wants_if_taken s h =
+    let all = all_hold s.stopped (nat_lt s.cycle s.limit) (is_none (due_event s.cycle s.events)) h in
+    record { runs = all.0; below = less_of s.cycle s.limit all.1; none_due = none_due s.cycle s.events all.2 }
+
+pub taken_if_wants : (s : State) → WantsKey s → takes_event s ≡ true
+taken_if_wants s w =
+    hold_all s.stopped (nat_lt s.cycle s.limit) (is_none (due_event s.cycle s.events)) w.runs (is_less_of s.cycle s.limit w.below) (no_event_due s.cycle s.events w.none_due)
+
+not_true : (b : Bool) → (b ≡ true → ⊥) → b ≡ false
+not_true true h = absurd (h refl)
+not_true false h = refl
+
+pub not_taken : (s : State) → (WantsKey s → ⊥) → takes_event s ≡ false
+not_taken s h = not_true (takes_event s) (λ e. h (wants_if_taken s e))

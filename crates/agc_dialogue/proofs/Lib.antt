@@ -2,8 +2,8 @@ pub mod Answering
 pub mod Cells
 pub mod Due
 pub mod Going
+pub mod Input
+pub mod Sessions
 pub mod Stepping
 pub mod Telling
-pub mod Waiting
-pub mod Coming
-pub mod Changing
+pub mod Ways

@@ -1,22 +1,27 @@
 -- The trace lines of so many boundaries, one after another.
-use Rattle.std.specs.Prelude.{◌≡◌, ℕ, zero, suc, List, [], ◌∷◌, ◌++◌, Option, None, Some, IsSome, true, false, flat_map}
+use Rattle.std.specs.Prelude.{◌≡◌, ℕ, zero, suc, List, [], ◌∷◌, ◌++◌, Option, None, Some, IsSome, replicate, true, false, flat_map}
 use Rattle.std.specs.Io.KnownBytes.{Appends}
 use Rattle.std.proofs.Common.{refl, ap, sym, subst, ◌∙◌, append_assoc, append-nil}
 use Rattle.std.proofs.KnownBytes.{Appends-trans}
 use Rattle.agc_machine.specs.Boundary.{boundary, carried_out, unless_stopped, upcoming_of}
-use Rattle.agc_machine.specs.Laws.{after}
+use Rattle.agc_machine.specs.Replay.{chain, writes_in}
 use Rattle.agc_machine.specs.State.{State}
+use Rattle.agc_machine.specs.declared.answer.ChannelWrite.{ChannelWrite}
 use Rattle.agc_machine.specs.declared.answer.Stepped.{Stepped}
+use Rattle.agc_machine.specs.declared.answer.Stepped.TheVariants as stepped
 use Rattle.agc_machine.specs.declared.answer.Stop.{Stop}
 use Rattle.agc_machine.specs.declared.upcoming.Upcoming.{Upcoming}
 use Rattle.agc_machine.specs.declared.upcoming.Upcoming.TheVariants as upcoming
-use Rattle.agc_machine.proofs.Chain.{stopped_for_ever}
+use Rattle.agc_machine.proofs.Chain.{stopped_stays}
 use Rattle.agc_trace.specs.Entry.{entry_of}
 use Rattle.agc_trace.specs.Line.{line_of}
 use Rattle.agc_trace.specs.Trace.{is_stop, trace_within}
 use Rattle.agc_trace.specs.declared.entry.Entry.{Entry}
 use Rattle.agc_trace.proofs.Lines.{IsWritten, nothing_written}
 use Rattle.agc_trace.proofs.Steps.{rest_ends, rest_goes_on, told_by}
+use Rattle.agc_dialogue.specs.Talk.{after_boundaries, after_chain, gone_on}
+use Rattle.agc_dialogue.specs.declared.talk.Talk.{Talk}
+use Rattle.agc_dialogue.proofs.Going.{gone_nowhere, gone_then}
 
 abbrev pub lines : ℕ → State → List ℕ
 lines n s = flat_map line_of (trace_within n s)
@@ -46,14 +51,14 @@ lines_go_on n s entry e stop =
     ∙ ap (λ (x : Entry). line_of x ++ lines n (boundary None s).0) (sym e)
 
 -- one more line is said, and what is left is that of the boundaries after it
-pub one_said : (m n : ℕ) (s t : State) (answer : Stepped) (entry : Entry) (start now new : Option (List ℕ)) (whole : List ℕ) → m ≡ suc n → entry ≡ entry_of s
-    → (t, answer) ≡ boundary None s → is_stop entry.happening ≡ false → IsWritten start now (lines m s) whole → Appends now new (line_of entry)
+pub one_said : (m n : ℕ) (s t : State) (entry : Entry) (start now new : Option (List ℕ)) (whole : List ℕ) → m ≡ suc n → entry ≡ entry_of s
+    → t ≡ (boundary None s).0 → is_stop entry.happening ≡ false → IsWritten start now (lines m s) whole → Appends now new (line_of entry)
     → IsWritten start new (lines n t) whole
-one_said m n s t answer entry start now new whole count e f stop h k =
+one_said m n s t entry start now new whole count e f stop h k =
     let line = line_of entry in
     let next : lines m s ≡ line ++ lines n t =
     ap (λ (boundaries : ℕ). lines boundaries s) count ∙ lines_go_on n s entry e stop
-    ∙ ap (λ (r : State × Stepped). line_of entry ++ lines n r.0) (sym f) in
+    ∙ ap (λ (x : State). line_of entry ++ lines n x) (sym f) in
     (h.0 ++ line, Appends-trans start now new h.0 line h.1 k, append_assoc h.0 line (lines n t) ∙ ap (λ (xs : List ℕ). h.0 ++ xs) (sym next) ∙ h.2)
 
 -- the line of the stop is said
@@ -64,7 +69,7 @@ stop_said m n s entry start now new whole count e stop h k =
     subst (Appends start new) (ap (λ (xs : List ℕ). h.0 ++ xs) (sym last) ∙ h.2)
     (Appends-trans start now new h.0 (line_of entry) h.1 k)
 
--- the state to which so many boundaries come: a stop is the last of them
+-- where so many boundaries lead: a stop is the last of them
 stops_then : (u : Upcoming) (s : State) → is_stop u ≡ true → IsSome (carried_out u s).0.stopped
 stops_then (upcoming.Stop why) s e = refl
 stops_then (upcoming.Event what) s e = cc
@@ -80,22 +85,56 @@ ends : (s : State) → is_stop (upcoming_of s) ≡ true → IsSome (boundary Non
 unfolding boundary
 ends s f = unless_ends s.stopped s refl f
 
-stays_by : (stopped : Option Stop) (n : ℕ) (s : State) → s.stopped ≡ stopped → IsSome stopped → after n s ≡ s
-stays_by (Some why) n s e h = stopped_for_ever n s why e
-stays_by None n s e h = cc
+written_first : (answer : Stepped) (answers : List Stepped) → writes_in (answer ∷ answers) ≡ writes_in (answer ∷ []) ++ writes_in answers
+unfolding writes_in
+written_first stepped.Quiet answers = refl
+written_first (stepped.Wrote write) answers = refl
+written_first (stepped.Stopped why) answers = refl
 
-pub one_after : (m n : ℕ) (s t last : State) (answer : Stepped) → m ≡ suc n → (t, answer) ≡ boundary None s → after m s ≡ last → after n t ≡ last
-unfolding after
-one_after m n s t last answer count e h =
-    ap (λ (r : State × Stepped). after n r.0) e ∙ ap (λ (boundaries : ℕ). after boundaries s) (sym count) ∙ h
+first_then : (n : ℕ) (s : Talk)
+    → after_boundaries (suc n) s
+    ≡ gone_on (chain (replicate n None) (boundary None s.sitting.now).0).last
+    (writes_in ((boundary None s.sitting.now).1 ∷ (chain (replicate n None) (boundary None s.sitting.now).0).answers)) s
+unfolding chain
+first_then n s = refl
 
-pub last_after : (m n : ℕ) (s t last : State) (answer : Stepped) (entry : Entry) → m ≡ suc n → entry ≡ entry_of s → (t, answer) ≡ boundary None s
-    → is_stop entry.happening ≡ true → after m s ≡ last → last ≡ t
-last_after m n s t last answer entry count e f stop h =
-    let stopped : IsSome t.stopped =
-    subst (λ (r : State × Stepped). IsSome r.0.stopped) (sym f) (ends s (told_by true s entry e stop)) in
-    sym (one_after m n s t last answer count f h) ∙ stays_by t.stopped n t refl stopped
+pub boundaries_on : (m n : ℕ) (s t : Talk) → m ≡ suc n → t.sitting.now ≡ (boundary None s.sitting.now).0
+    → t ≡ gone_on t.sitting.now (writes_in ((boundary None s.sitting.now).1 ∷ [])) s → after_boundaries m s ≡ after_boundaries n t
+boundaries_on m n s t c e f =
+    let next = boundary None s.sitting.now in
+    let rest = chain (replicate n None) next.0 in
+    ap (λ (x : ℕ). after_boundaries x s) c ∙ first_then n s
+    ∙ ap (λ (writes : List ChannelWrite). gone_on rest.last writes s) (written_first next.1 rest.answers)
+    ∙ sym (gone_then rest.last t.sitting.now (writes_in (next.1 ∷ [])) (writes_in rest.answers) s)
+    ∙ ap (λ (x : Talk). gone_on rest.last (writes_in rest.answers) x) (sym f)
+    ∙ ap (λ (x : State). after_chain (chain (replicate n None) x) t) (sym e)
 
-pub none_after : (n : ℕ) (s last : State) → n ≡ zero → after n s ≡ last → last ≡ s
-unfolding after
-none_after n s last e h = sym h ∙ ap (λ (boundaries : ℕ). after boundaries s) e
+pub no_boundaries : (n : ℕ) (t : Talk) → n ≡ zero → after_boundaries n t ≡ t
+unfolding chain writes_in
+no_boundaries n t e = ap (λ (x : ℕ). after_boundaries x t) e ∙ gone_nowhere t
+
+stopped_chain : (n : ℕ) (s : State) (why : Stop) → s.stopped ≡ Some why
+    → ((chain (replicate n None) s).last ≡ s) × (writes_in (chain (replicate n None) s).answers ≡ [])
+unfolding chain writes_in
+stopped_chain zero s why e = (refl, refl)
+stopped_chain (suc n) s why e =
+    let rest = stopped_chain n s why e in
+    let stays = stopped_stays s why e in (
+      ap (λ (r : State × Stepped). (chain (replicate n None) r.0).last) stays ∙ rest.0,
+      ap (λ (r : State × Stepped). writes_in (r.1 ∷ (chain (replicate n None) r.0).answers)) stays ∙ rest.1,
+    )
+
+stays_by : (stopped : Option Stop) (n : ℕ) (t : Talk) → t.sitting.now.stopped ≡ stopped → IsSome stopped → after_boundaries n t ≡ t
+stays_by (Some why) n t e h =
+    let stays = stopped_chain n t.sitting.now why e in
+    ap (λ (x : State). gone_on x (writes_in (chain (replicate n None) t.sitting.now).answers) t) stays.0
+    ∙ ap (λ (writes : List ChannelWrite). gone_on t.sitting.now writes t) stays.1 ∙ gone_nowhere t
+stays_by None n t e h = cc
+
+-- after the stop nothing more happens
+pub none_after_stop : (n : ℕ) (s t : Talk) (entry : Entry) → entry ≡ entry_of s.sitting.now → t.sitting.now ≡ (boundary None s.sitting.now).0
+    → is_stop entry.happening ≡ true → after_boundaries n t ≡ t
+none_after_stop n s t entry e f stop =
+    let stopped : IsSome t.sitting.now.stopped =
+    subst (λ (x : State). IsSome x.stopped) (sym f) (ends s.sitting.now (told_by true s.sitting.now entry e stop)) in
+    stays_by t.sitting.now.stopped n t refl stopped

@@ -1,20 +1,17 @@
--- What is told as a machine goes on.
-use Rattle.std.specs.Prelude.{◌≡◌, ℕ, List, [], ◌++◌, Option, None, flat_map}
+-- What is known of an output grows as an answer is written.
+use Rattle.std.specs.Prelude.{◌≡◌, ℕ, List, [], ◌∷◌, ◌++◌, Option, None, Some, Result, Ok, Err, OnOk, OnErr, IsErrOf}
 use Rattle.std.specs.Io.KnownBytes.{Appends, Keeps, append_known}
-use Rattle.std.proofs.Common.{refl, sym, subst, append-nil}
+use Rattle.std.proofs.Common.{refl, ap, sym, subst, append-nil}
 use Rattle.std.proofs.KnownBytes.{Appends-kept, Appends-nil, Appends-trans, Keeps-refl, append_known-grown}
-use Rattle.std.proofs.lemmas.List.Concat.{flat_map-append}
-use Rattle.agc_machine.specs.Boundary.{boundary}
-use Rattle.agc_machine.specs.Live.{IsLive}
 use Rattle.agc_machine.specs.Replay.{writes_in}
-use Rattle.agc_machine.specs.Run.{next_before}
-use Rattle.agc_machine.specs.State.{State}
+use Rattle.agc_machine.specs.declared.answer.ChannelWrite.{ChannelWrite}
 use Rattle.agc_machine.specs.declared.answer.Stepped.{Stepped}
 use Rattle.agc_machine.specs.declared.answer.Stepped.TheVariants as stepped
-use Rattle.agc_machine.proofs.Live.{live_starts, live_stretch, written}
-use Rattle.agc_machine.proofs.LiveTime.{live_steps}
 use Rattle.agc_dialogue.specs.Answer.{write_line}
-use Rattle.agc_dialogue.specs.Told.{TellsWrites, told}
+use Rattle.agc_dialogue.specs.Answered.{Grows}
+use Rattle.agc_dialogue.specs.Way.{writes_text}
+use Rattle.agc_dialogue.specs.declared.conversation.ConverseFault.{ConverseFault}
+use Rattle.agc_dialogue.specs.declared.conversation.ConverseFault.TheVariants as fault
 
 -- what is added waits, and then a part is written
 pub pushed : (o p : Option (List ℕ)) (old mid new line : List ℕ) → mid ≡ old ++ line → Keeps (append_known o mid) (append_known p new)
@@ -23,44 +20,60 @@ pushed o p old mid new line e kept =
     Appends-kept (append_known o old) (append_known o mid) (append_known p new) line
     (append_known-grown (append_known o old) o old mid line (Keeps-refl (append_known o old)) e) kept
 
-told_is : (answer : Stepped) → told answer ≡ flat_map write_line (written answer)
+-- a line is added to the text that waits
+pub grown : (o : Option (List ℕ)) (old new line : List ℕ) → new ≡ old ++ line → Appends (append_known o old) (append_known o new) line
+grown o old new line e = append_known-grown (append_known o old) o old new line (Keeps-refl (append_known o old)) e
+
+pub stays_known : (a : Option (List ℕ)) → Grows a a
+stays_known a = ([], Appends-nil a)
+
+pub grows_then : (a b c : Option (List ℕ)) → Grows a b → Grows b c → Grows a c
+grows_then a b c h k = (h.0 ++ k.0, Appends-trans a b c h.0 k.0 h.1 k.1)
+
+-- a write that went well has made it grow
+pub grows_if_written : (r : Result (Unit {0}) ConverseFault) (a b : Option (List ℕ)) (text : List ℕ) → OnOk r (Appends a b text)
+    → ((why : ConverseFault) → r ≡ Err why → why ≡ fault.Write) → (IsErrOf r fault.Write → ⊥) → Grows a b
+grows_if_written (Ok u) a b text h f never = (text, h)
+grows_if_written (Err why) a b text h f never = absurd (never (ap Err (f why refl)))
+
+-- the text that waited is written
+unchanged : (a : Option (List ℕ)) → append_known a [] ≡ a
+unchanged None = refl
+unchanged (Some xs) = ap Some (append-nil xs)
+
+written_now : (b c : Option (List ℕ)) (text : List ℕ) → Appends b c text → Keeps (append_known b text) c
+written_now None c text h = tt
+written_now (Some xs) None text h = absurd h
+written_now (Some xs) (Some ys) text h = h
+
+pub all_written : (a b c : Option (List ℕ)) (none text shown said : List ℕ) → none ≡ [] → shown ≡ text
+    → Appends (append_known a none) (append_known b text) said → Appends b c shown → Appends a c said
+all_written a b c none text shown said e f h w =
+    let same : append_known a none ≡ a = rw e (unchanged a) in
+    let whole : Keeps (append_known b text) c = written_now b c text (rw f at w) in
+    subst (λ (old : Option (List ℕ)). Appends old c said) same (Appends-kept (append_known a none) (append_known b text) c said h whole)
+
+-- what a boundary has shown, as lines
+pub one_written : (answer : Stepped) (write : ChannelWrite) → answer ≡ stepped.Wrote write → writes_text (writes_in (answer ∷ [])) ≡ write_line write
 unfolding writes_in
-told_is stepped.Quiet = refl
-told_is (stepped.Wrote write) = sym (append-nil (write_line write))
-told_is (stepped.Stopped why) = refl
+one_written answer write e = rw e (append-nil (write_line write))
 
-pub nothing_told : (s : State) (known : Option (List ℕ)) → TellsWrites s s known known
-nothing_told s known = record { writes = []; way = live_starts s; said = Appends-nil known }
+pub none_written : (answer : Stepped) → ((write : ChannelWrite) → answer ≡ stepped.Wrote write → ⊥) → writes_text (writes_in (answer ∷ [])) ≡ []
+unfolding writes_in
+none_written stepped.Quiet h = refl
+none_written (stepped.Wrote write) h = absurd (h write refl)
+none_written (stepped.Stopped why) h = refl
 
-pub no_writes_told : (s : State) (known : Option (List ℕ)) → (nothing_told s known).writes ≡ []
-unfolding nothing_told
-no_writes_told s known = refl
+pub nothing_more : (a : Option (List ℕ)) (line : List ℕ) → line ≡ [] → Appends a a line
+nothing_more a line e = subst (Appends a a) (sym e) (Appends-nil a)
 
-tells_more : (s now later : State) (old mid new : Option (List ℕ)) (answer : Stepped) (h : TellsWrites s now old mid)
-    → IsLive s [] (h.writes ++ written answer) later → Appends mid new (told answer) → TellsWrites s later old new
-tells_more s now later old mid new answer h way said =
-    let line : Appends mid new (flat_map write_line (written answer)) = subst (Appends mid new) (told_is answer) said in
-    record {
-      writes = h.writes ++ written answer;
-      way = way;
-      said =
-          subst (Appends old new) (sym (flat_map-append write_line h.writes (written answer)))
-          (Appends-trans old mid new (flat_map write_line h.writes) (flat_map write_line (written answer)) h.said line);
-    }
+pub same_line : (a b : Option (List ℕ)) (line other : List ℕ) → line ≡ other → Appends a b other → Appends a b line
+same_line a b line other e h = rw e h
 
-pub tells_before : (cycle : ℕ) (s now later : State) (old mid new : Option (List ℕ)) (answer : Stepped) → TellsWrites s now old mid
-    → (later, answer) ≡ next_before cycle now → Appends mid new (told answer) → TellsWrites s later old new
-tells_before cycle s now later old mid new answer h e said =
-    tells_more s now later old mid new answer h (live_stretch s now later [] h.writes cycle answer h.way e) said
+pub on_err : {T E P : Type 0} (r : Result T E) → P → OnErr r P
+on_err (Ok x) h = tt
+on_err (Err why) h = h
 
-pub tells_step : (s now later : State) (old mid new : Option (List ℕ)) (answer : Stepped) → TellsWrites s now old mid
-    → (later, answer) ≡ boundary None now → Appends mid new (told answer) → TellsWrites s later old new
-tells_step s now later old mid new answer h e said =
-    tells_more s now later old mid new answer h (live_steps s now later [] h.writes answer h.way e) said
-
--- the writes that are told then
-pub writes_before : (cycle : ℕ) (s now later : State) (old mid new : Option (List ℕ)) (answer : Stepped) (h : TellsWrites s now old mid)
-    (e : (later, answer) ≡ next_before cycle now) (said : Appends mid new (told answer))
-    → (tells_before cycle s now later old mid new answer h e said).writes ≡ h.writes ++ written answer
-unfolding tells_before tells_more
-writes_before cycle s now later old mid new answer h e said = refl
+pub when_ok : {E P Q : Type 0} (r : Result (Unit {0}) E) → OnOk r P → (P → Q) → OnOk r Q
+when_ok (Ok u) h f = f h
+when_ok (Err why) h f = tt

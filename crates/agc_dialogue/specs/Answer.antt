@@ -6,9 +6,9 @@ use Rattle.agc_machine.specs.Answer.{stop_name}
 use Rattle.agc_machine.specs.declared.answer.ChannelWrite.{ChannelWrite}
 use Rattle.agc_machine.specs.declared.answer.Stop.{Stop}
 use Rattle.agc_machine.specs.declared.upcoming.Upcoming.{Upcoming}
-use Rattle.agc_rope_text.specs.Place.{place_text}
-use Rattle.agc_rope_text.specs.declared.place.Place.{Place}
-use Rattle.agc_rope_text.specs.declared.place.Place.TheVariants as place
+use Rattle.agc_rope_listing.specs.Place.{place_text}
+use Rattle.agc_rope_listing.specs.declared.place.Place.{Place}
+use Rattle.agc_rope_listing.specs.declared.place.Place.TheVariants as place
 use Rattle.agc_source_words.specs.Location.{cell_address}
 use Rattle.agc_store.specs.Cells.{cell_of}
 use Rattle.agc_store.specs.Memory.{Memory}

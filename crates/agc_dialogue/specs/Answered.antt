@@ -1,44 +1,58 @@
--- How a request is answered, and what a conversation comes to by it.
-use Rattle.std.specs.Prelude.{length, ◌≡◌, ◌⊎◌, ℕ, ◌+◌, ◌-◌, ◌^◌, min, List, Option, None, Some, Result, Ok, Err, codes, flat_map}
+-- How each request is answered: what a conversation comes to by it, and what is said.
+use Rattle.std.specs.Prelude.{◌≡◌, ◌⊎◌, ℕ, ◌+◌, ◌-◌, ◌^◌, ◌==◌, min, length, List, [], ◌++◌, Option, None, Some, Result, Ok, Err, if◌then◌else◌, codes, flat_map}
 use Rattle.std.specs.Io.KnownBytes.{Appends}
-use Rattle.agc_machine.specs.Boundary.{WantsKey}
-use Rattle.agc_machine.specs.Laws.{after}
 use Rattle.agc_request.specs.Fault.{fault_text}
 use Rattle.agc_request.specs.declared.command.Command.{Command}
 use Rattle.agc_request.specs.declared.command.Command.TheVariants as command
 use Rattle.agc_request.specs.declared.fault.CommandFault.{CommandFault}
 use Rattle.agc_script.specs.Event.{most_events}
 use Rattle.agc_script.specs.declared.event.What.{What}
-use Rattle.agc_sitting.specs.Sitting.{HasReached, SittingState, given_now}
+use Rattle.agc_sitting.specs.Sitting.{given_now}
 use Rattle.agc_sitting.specs.declared.fault.GiveFault.{GiveFault}
 use Rattle.agc_sitting.specs.declared.fault.GiveFault.TheVariants as fault
 use Rattle.agc_trace.specs.Line.{line_of}
 use Rattle.agc_trace.specs.Trace.{trace_within}
-use Rattle.agc_dialogue.specs.Answer.{end_line, error_line}
+use Rattle.agc_dialogue.specs.Answer.{came_line, end_line, error_line}
 use Rattle.agc_dialogue.specs.Shown.{shown_text}
-use Rattle.agc_dialogue.specs.Talk.{HasTakenEvents}
-use Rattle.agc_dialogue.specs.Told.{TellsUntil, TellsWrites}
+use Rattle.agc_dialogue.specs.Talk.{GoesOn, after_boundaries, after_due, after_way, gone_back, takes_event}
+use Rattle.agc_dialogue.specs.Way.{Way, sought_in, way_to, writes_text}
+use Rattle.agc_dialogue.specs.declared.sought.Sought.TheVariants as sought
 use Rattle.agc_dialogue.specs.declared.talk.Talk.{Talk}
+
+-- what a line asks for, or its fault
+abbrev pub Request : Type 0
+Request = Result (Option Command) CommandFault
+
+-- where an answer leaves the conversation, and its lines
+abbrev pub Answer : Type 0
+Answer = Talk × List ℕ
 
 -- the line with which an answer ends
 abbrev pub last_line : Talk → List ℕ
 last_line t = end_line t.sitting.now.stopped t.sitting.now.cycle
 
--- a machine has gone on to a cycle, and its writes are told
-abbrev pub GoesTo : ℕ → Talk → Talk → Option (List ℕ) → Option (List ℕ) → Type 0
-GoesTo cycle s t old new =
-    HasReached cycle s.sitting.now t.sitting.now × TellsWrites s.sitting.now t.sitting.now old new
+-- so many cycles on, in numbers of 64 bits
+abbrev pub cycles_on : ℕ → Talk → ℕ
+cycles_on cycles t = min (t.sitting.now.cycle + cycles) (2 ^ 64 - 1)
 
--- What is done by a command that gives no event, and what is said of it before the end of the answer. Of `back` and
--- `quit` nothing is done here: a conversation does that.
-unfoldable pub Does : Command → Talk → Talk → Option (List ℕ) → Option (List ℕ) → Type 0
-Does (command.Go cycles) s t old new = GoesTo (min (s.sitting.now.cycle + cycles) (2 ^ 64 - 1)) s t old new
-Does (command.GoTo cycle) s t old new = GoesTo cycle s t old new
-Does (command.Step boundaries) s t old new =
-    (after boundaries s.sitting.now ≡ t.sitting.now) × Appends old new (flat_map line_of (trace_within boundaries s.sitting.now))
-Does (command.Until what within) s t old new =
-    TellsUntil what (min (s.sitting.now.cycle + within) (2 ^ 64 - 1)) s.sitting.now t.sitting.now old new
-Does shown s t old new = (t ≡ s) × Appends old new (shown_text shown s.sitting s.writes)
+-- a way with the lines of its writes, and perhaps whether what was sought has come
+abbrev pub told_way : Way → Talk → Answer
+told_way way t = (after_way way t, writes_text way.writes)
+
+abbrev pub told_until : Way → Talk → Answer
+told_until way t = (after_way way t, writes_text way.writes ++ came_line way.came)
+
+-- What a command does, and what it says before the line with which its answer ends: one case each. Those
+-- that have no case show something, and nothing changes.
+unfoldable pub done : Command → Talk → Answer
+done (command.Go cycles) t = told_way (way_to sought.Nothing (cycles_on cycles t) t.sitting.now) t
+done (command.GoTo cycle) t = told_way (way_to sought.Nothing cycle t.sitting.now) t
+done (command.Step boundaries) t =
+    (after_boundaries boundaries t, flat_map line_of (trace_within boundaries t.sitting.now))
+done (command.Until what within) t =
+    told_until (way_to (sought_in t.sitting.now what) (cycles_on within t) t.sitting.now) t
+done (command.Back cycle) t = (gone_back cycle t, [])
+done shown t = (t, shown_text shown t.sitting t.writes)
 
 -- why an event was not taken
 unfoldable pub refusal_text : GiveFault → List ℕ
@@ -46,46 +60,61 @@ refusal_text fault.Unwanted = codes "Stopped: the machine takes no event any mor
 refusal_text fault.TooMany = codes "TooMany: a script has at most 65536 events"
 refusal_text fault.Memory = codes "memory"
 
--- why an event was refused: the machine takes none any more, after the script's events that were due; the script has
--- as many as there may be; or memory ran out
-unfoldable pub IsRefused : GiveFault → Talk → Talk → Type 0
-IsRefused fault.Unwanted s t = HasTakenEvents s.sitting t.sitting × (WantsKey t.sitting.now → ⊥)
-IsRefused fault.TooMany s t =
-    (length s.sitting.script + length s.sitting.given ≡ most_events) × (t.sitting ≡ s.sitting)
-IsRefused fault.Memory s t = HasTakenEvents s.sitting t.sitting
+abbrev pub refused_by : GiveFault → Talk → Answer
+refused_by why t = (t, error_line (refusal_text why))
 
--- An event was given where the script's events that were due have happened, and the answer is its end; or it was
--- refused, and the answer says why.
-abbrev pub IsGiven : What → Talk → Talk → List ℕ → Type 0
-IsGiven what s t said =
-    ((due : SittingState) × HasTakenEvents s.sitting due × WantsKey due.now × (t.sitting ≡ given_now what due)
-    × (said ≡ last_line t))
-    ⊎ ((fault : GiveFault) × IsRefused fault s t × (said ≡ error_line (refusal_text fault)))
+-- an answer of which the end is left to say
+abbrev pub ended : Answer → Answer
+ended answer = (answer.0, answer.1 ++ last_line answer.0)
 
--- What was said of a command before its last line, and this line.
-unfoldable pub SaysOf : Command → Talk → Talk → Option (List ℕ) → Option (List ℕ) → List ℕ → Type 0
-SaysOf (command.Give what) s t old way last = (way ≡ old) × IsGiven what s t last
-SaysOf other s t old way last = Does other s t old way × (last ≡ last_line t)
+-- An event is refused where the script is full. Else it is given after the events of the script that are
+-- due, where the machine takes one then.
+unfoldable pub given_answer : What → Talk → Answer
+given_answer what t =
+    let due : Talk = record { sitting = after_due t.sitting; writes = t.writes } in
+    if length t.sitting.script + length t.sitting.given == most_events then refused_by fault.TooMany t
+    else if takes_event due.sitting.now
+    then ended (record { sitting = given_now what due.sitting; writes = due.writes }, [])
+    else refused_by fault.Unwanted due
 
--- what was said of a request before its last line, and this line
-abbrev pub Says : Result (Option Command) CommandFault → Talk → Talk → Option (List ℕ) → Option (List ℕ) → List ℕ → Type 0
-Says (Ok (Some command)) s t old way last = SaysOf command s t old way last
-Says (Ok None) s t old way last = (t ≡ s) × (way ≡ old) × (last ≡ last_line s)
-Says (Err fault) s t old way last = (t ≡ s) × (way ≡ old) × (last ≡ error_line (fault_text fault))
+-- the answer to a command
+unfoldable pub answered : Command → Talk → Answer
+answered (command.Give what) t = given_answer what t
+answered other t = ended (done other t)
 
--- something is said in lines, the last of which ends the answer
-pub record IsSaid (Lines : Talk → Talk → Option (List ℕ) → Option (List ℕ) → List ℕ → Type 0)
-    (s t : Talk) (old new : Option (List ℕ)) : Type 0 where
-  pub way : Option (List ℕ)
-  pub last : List ℕ
-  pub says : Lines s t old way last
-  pub ends : Appends way new last
+-- the answer to a request: a line that asks for nothing is answered by the end, and a fault by what it is
+unfoldable pub answer_to : Request → Talk → Answer
+answer_to (Ok (Some command)) t = answered command t
+answer_to (Ok None) t = ended (t, [])
+answer_to (Err why) t = (t, error_line (fault_text why))
 
--- a request was answered
-abbrev pub IsAnswered : Result (Option Command) CommandFault → Talk → Talk → Option (List ℕ) → Option (List ℕ) → Type 0
-IsAnswered request = IsSaid (Says request)
+-- an answer was given: what is known of an output has grown by its lines
+abbrev pub Tells : Answer → Talk → Option (List ℕ) → Option (List ℕ) → Type 0
+Tells answer t old new = (t ≡ answer.0) × Appends old new answer.1
 
--- memory ran out, and the answer ends with that
-pub record RunsOut (new : Option (List ℕ)) : Type 0 where
-  pub way : Option (List ℕ)
-  pub ends : Appends way new (codes "error: memory\n")
+-- what is known of an output has grown
+abbrev pub Grows : Option (List ℕ) → Option (List ℕ) → Type 0
+Grows old new = (said : List ℕ) × Appends old new said
+
+-- what was asked for is done, or else some boundaries at most were taken, and nothing was given
+abbrev pub IsLeft : Request → Talk → Talk → Type 0
+IsLeft request s t = (t ≡ (answer_to request s).0) ⊎ GoesOn s.sitting t.sitting
+
+-- Memory ran out in an answer, which ends with that.
+pub record RunsOut (request : Request) (s t : Talk) (old new : Option (List ℕ)) : Type 0 where
+  pub left : IsLeft request s t
+  pub said : List ℕ
+  pub ends : Appends old new (said ++ codes "error: memory\n")
+
+-- a request is answered, or memory ran out
+abbrev pub IsAnswered : Request → Talk → Talk → Option (List ℕ) → Option (List ℕ) → Type 0
+IsAnswered request s t old new = Tells (answer_to request s) t old new ⊎ RunsOut request s t old new
+
+-- `back` is done by the conversation itself, and by nothing that it calls for a command
+abbrev pub GoesNotBack : Command → Type 0
+GoesNotBack (command.Back cycle) = ⊥
+GoesNotBack command = Unit {0}
+
+abbrev pub IsOfNow : Request → Type 0
+IsOfNow (Ok (Some command)) = GoesNotBack command
+IsOfNow request = Unit {0}

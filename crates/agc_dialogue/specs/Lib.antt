@@ -1,6 +1,7 @@
 pub mod Answer
 pub mod Talk
-pub mod Until
-pub mod Told
+pub mod Way
 pub mod Shown
 pub mod Answered
+pub mod Session
+pub mod Input

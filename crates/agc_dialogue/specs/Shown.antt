@@ -3,7 +3,7 @@ use Rattle.std.specs.Prelude.{ℕ, List, [], flat_map}
 use Rattle.std.specs.List.{range_with_len}
 use Rattle.agc_machine.specs.Boundary.{upcoming_of}
 use Rattle.agc_panel.specs.Text.{panel_text}
-use Rattle.agc_panel.specs.Watcher.{watch_text}
+use Rattle.agc_executive.specs.Watcher.{watch_text}
 use Rattle.agc_processor.specs.Channel.{channel_word}
 use Rattle.agc_script.specs.Written.{script_text}
 use Rattle.agc_sitting.specs.Sitting.{SittingState, told}

@@ -15,12 +15,12 @@ ghost use Rattle.agc_dialogue.specs.Answer.{
 };
 ghost use Rattle.agc_request.specs.Fault.{fault_text};
 ghost use Rattle.agc_machine.specs.Boundary.{HasPlace};
-ghost use Rattle.agc_rope_text.specs.Place.{IsInPrint};
+ghost use Rattle.agc_rope_listing.specs.Place.{IsInPrint};
 ghost use Rattle.agc_word.specs.Channels.{last_io_channel};
 
 use agc_machine::{ChannelWrite, Stop, Upcoming};
 use agc_request::CommandFault;
-use agc_rope_text::{Place, push_place};
+use agc_rope_listing::{Place, push_place};
 use agc_source_words::cell_address;
 use agc_store::Store;
 use agc_store::place::{BB, ERASABLE_BANK_SIZE, ERASABLE_WINDOW};

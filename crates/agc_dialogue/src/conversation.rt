@@ -1,16 +1,27 @@
 //! The conversation: lines are read as they come, and each is answered before the next is read.
 //!
-//! Each answer is the one that its request has in the state that the answer before has left, or it ends with
-//! `error: memory`: that is a clause of what is called for a line. No clause says, and tests alone show, which lines
-//! the input has, that each is answered before the next is read, that `back` answers with its end, that `quit` and the
-//! end of the input end it, that `until` ends where what it waits for comes, and that the writes are counted right.
-//! A part of a long answer is written before the rest is known: where memory runs out then, the machine has gone on.
-//! An event that is refused as the machine takes none any more comes after the events of the script that were due,
-//! and those have happened.
-ghost use Rattle.std.specs.Prelude.{◌≡◌, ◌⊎◌, ℕ, ◌++◌, List, IfOk, IfSome, OnOk, string_bytes};
-ghost use Rattle.std.specs.Io.KnownBytes.{append_known};
+//! What is written is the text of the session, where memory does not run out: that is the clause of [`converse`]. A
+//! part of a long answer is written before the rest is known: where memory runs out then, the machine has gone on. An
+//! event that is refused as the machine takes none any more comes after the events of the script that were due, and
+//! those have happened. That an answer is written before the next line is read, no clause says, and tests alone show.
+ghost use Rattle.std.specs.Prelude.{◌≡◌, ◌⊎◌, ◌++◌, Some, Ok, codes, IfErr, IfOk, IfSome, IsErrOf, MatchOption, OnOk, string_bytes};
+ghost use Rattle.std.specs.Io.KnownBytes.{Appends, Keeps, append_known};
 ghost use Rattle.agc_dialogue.specs.Answer.{end_line, error_line};
-ghost use Rattle.agc_dialogue.specs.Answered.{Does, IsAnswered, IsGiven, IsSaid, RunsOut, SaysOf};
+ghost use Rattle.agc_dialogue.specs.Answered.{
+  GoesNotBack,
+  Grows,
+  IsAnswered,
+  IsLeft,
+  IsOfNow,
+  Tells,
+  answer_to,
+  answered,
+  done,
+  given_answer,
+  refusal_text,
+};
+ghost use Rattle.agc_dialogue.specs.Session.{AreAnswered, RanOut, requests_in, session_text};
+ghost use Rattle.agc_dialogue.specs.Talk.{GoesOn, at_start};
 ghost use Rattle.agc_script.specs.Event.{IsWhatInRange};
 ghost use Rattle.agc_request.specs.Fault.{fault_text};
 ghost use Rattle.agc_request.specs.Command.{IsCommandInRange};
@@ -18,13 +29,14 @@ ghost use Rattle.agc_dialogue.specs.declared.conversation.ConverseFault.TheVaria
 
 use crate::answer::{push_end_line, push_error_line, push_fault_line};
 use crate::doing::{give, go_to, refusal, step, until};
-use crate::lines::next_line;
+use crate::lines::{Request, next_request};
 use crate::outlet::write_text;
 use crate::showing::push_shown;
+use crate::sought::Sought;
 use crate::talk::Talk;
-use agc_request::{Command, CommandFault, read_request};
+use agc_request::{Command, CommandFault};
 use agc_script::What;
-use agc_sitting::Sitting;
+use agc_sitting::{GiveFault, Sitting};
 use std::alloc::{AllocError, Global};
 use std::io::{BufReader, Read, Write};
 use thiserror::Error;
@@ -60,61 +72,116 @@ pub fn converse<R: Read, W: Write>(
     sitting: Sitting,
     input: &mut R,
     output: &mut W,
-) -> Result<(), ConverseFault> {
+) -> Result<(), ConverseFault>
+    ensures session { OnOk result (IfSome (R.remaining input.old) (λ bytes. AreAnswered (requests_in bytes)
+        (at_start sitting) (W.contents output.old) (W.contents output.new))) }
+    ensures text { OnOk result (IfSome (R.remaining input.old) (λ bytes.
+        Appends (W.contents output.old) (W.contents output.new) (session_text (requests_in bytes) (at_start sitting))
+        ⊎ RanOut (requests_in bytes) (at_start sitting) (W.contents output.old) (W.contents output.new))) }
+{
     let Ok(mut reader) = BufReader::new(alloc, input) else {
         return Err(ConverseFault::Memory);
     };
     let mut talk = Talk::new(sitting);
     for _line in 0..u64::MAX {
-        let Some(line) = next_line(alloc, &mut reader)? else {
-            return Ok(());
-        };
-        match read_request(&line) {
-            Ok(Some(Command::Quit)) => return Ok(()),
-            Ok(Some(Command::Back(cycle))) => talk = go_back(alloc, talk, cycle, output)?,
-            request => answer(alloc, &mut talk, request, output)?,
-        }
-        if output.flush().is_err() {
-            return Err(ConverseFault::Write);
+        match next_request(alloc, &mut reader)? {
+            Some(request) => {
+                talk = answer(alloc, talk, request, output)?;
+                flush(output)?;
+            }
+            None => return Ok(()),
         }
     }
-    Ok(())
+    Err(ConverseFault::Read)
 }
 
-/// Answers a line that is neither `quit` nor `back`. Where memory runs out the answer ends with that.
+/// Has what was written go out.
+fn flush<W: Write>(output: &mut W) -> Result<(), ConverseFault>
+    ensures { OnOk result (Keeps (W.contents output.old) (W.contents output.new)) }
+{
+    match output.flush() {
+        Ok(()) => Ok(()),
+        Err(_) => Err(ConverseFault::Write),
+    }
+}
+
+/// Answers a request. Where memory runs out the answer ends with that.
 fn answer<W: Write>(
     alloc: Global,
+    mut talk: Talk,
+    request: Request,
+    output: &mut W,
+) -> Result<Talk, ConverseFault>
+    requires { IfOk request (λ said. IfSome said IsCommandInRange) }
+    ensures { IfOk result (λ left. IsAnswered request talk left (W.contents output.old) (W.contents output.new)) }
+{
+    match goes_back_to(&request) {
+        Some(cycle) => go_back(alloc, talk, cycle, output),
+        None => {
+            answer_now(alloc, &mut talk, request, output)?;
+            Ok(talk)
+        }
+    }
+}
+
+/// The cycle to which a request goes back, if it does.
+fn goes_back_to(request: &Request) -> Option<u64>
+    ensures { MatchOption result (IsOfNow request.now)
+        (λ cycle. request.now ≡ Ok (Some (Command.Back cycle))) }
+{
+    match request {
+        Ok(Some(Command::Back(cycle))) => Some(*cycle),
+        _ => None,
+    }
+}
+
+/// Answers a request that does not go back.
+fn answer_now<W: Write>(
+    alloc: Global,
     talk: &mut Talk,
-    request: Result<Option<Command>, CommandFault>,
+    request: Request,
     output: &mut W,
 ) -> Result<(), ConverseFault>
-    requires { IfOk request (λ said. IfSome said IsCommandInRange) }
-    ensures { OnOk result (IsAnswered request talk.old talk.new (W.contents output.old) (W.contents output.new)
-        ⊎ RunsOut (W.contents output.new)) }
+    requires range { IfOk request (λ said. IfSome said IsCommandInRange) }
+    requires now { IsOfNow request }
+    ensures { OnOk result (IsAnswered request talk.old talk.new (W.contents output.old) (W.contents output.new)) }
 {
     let Ok(mut text) = String::with_capacity(alloc, LONGEST_END) else {
         return write_text(output, OUT_OF_MEMORY);
     };
     match say(alloc, talk, request, &mut text, output) {
         Ok(()) => write_text(output, &text),
-        Err(ConverseFault::Memory) => write_text(output, OUT_OF_MEMORY),
-        Err(fault) => Err(fault),
+        Err(fault) => end_short(fault, output),
     }
 }
 
-/// Does what a line asks for, and adds what is left of its answer.
-#[tactic(auto, unfolding(agc_request::specs::Command::IsCommandInRange, crate::specs::Answered::Says))]
+/// Ends an answer in which something failed: where that was want of memory, by saying so.
+fn end_short<W: Write>(fault: ConverseFault, output: &mut W) -> Result<(), ConverseFault>
+    ensures { OnOk result ((fault ≡ ConverseFault.Memory)
+        × Appends (W.contents output.old) (W.contents output.new) (codes "error: memory\n")) }
+{
+    match fault {
+        ConverseFault::Memory => write_text(output, OUT_OF_MEMORY),
+        other => Err(other),
+    }
+}
+
+/// Does what a request asks for, and adds what is left of its answer.
+#[tactic(auto, unfolding(crate::specs::Answered::answer_to))]
 fn say<W: Write>(
     alloc: Global,
     talk: &mut Talk,
-    request: Result<Option<Command>, CommandFault>,
+    request: Request,
     text: &mut String,
     output: &mut W,
 ) -> Result<(), ConverseFault>
-    requires { IfOk request (λ said. IfSome said IsCommandInRange) }
-    ensures { OnOk result (IsAnswered request talk.old talk.new
+    requires range { IfOk request (λ said. IfSome said IsCommandInRange) }
+    requires now { IsOfNow request }
+    ensures said { OnOk result (Tells (answer_to request talk.old) talk.new
         (append_known (W.contents output.old) (string_bytes text.old))
         (append_known (W.contents output.new) (string_bytes text.new))) }
+    ensures left { IsLeft request talk.old talk.new }
+    ensures grows { (IsErrOf result ConverseFault.Write → ⊥) → Grows (W.contents output.old) (W.contents output.new) }
 {
     match request {
         Ok(Some(command)) => say_command(alloc, talk, command, text, output),
@@ -124,7 +191,7 @@ fn say<W: Write>(
 }
 
 /// Does what a command asks for, and adds what is left of its answer.
-#[tactic(auto, unfolding(agc_request::specs::Command::IsCommandInRange, crate::specs::Answered::SaysOf))]
+#[tactic(auto, unfolding(agc_request::specs::Command::IsCommandInRange, crate::specs::Answered::answered))]
 fn say_command<W: Write>(
     alloc: Global,
     talk: &mut Talk,
@@ -132,10 +199,13 @@ fn say_command<W: Write>(
     text: &mut String,
     output: &mut W,
 ) -> Result<(), ConverseFault>
-    requires { IsCommandInRange command }
-    ensures { OnOk result (IsSaid (SaysOf command) talk.old talk.new
+    requires range { IsCommandInRange command }
+    requires now { GoesNotBack command }
+    ensures said { OnOk result (Tells (answered command talk.old) talk.new
         (append_known (W.contents output.old) (string_bytes text.old))
         (append_known (W.contents output.new) (string_bytes text.new))) }
+    ensures left { (talk.new ≡ (answered command talk.old).0) ⊎ GoesOn talk.old.sitting talk.new.sitting }
+    ensures grows { (IsErrOf result ConverseFault.Write → ⊥) → Grows (W.contents output.old) (W.contents output.new) }
 {
     match command {
         Command::Give(what) => push_given(talk, what, text),
@@ -147,14 +217,27 @@ fn say_command<W: Write>(
 }
 
 /// Gives the machine an event, and adds the answer.
+#[tactic(auto, unfolding(crate::specs::Answered::given_answer))]
 fn push_given(talk: &mut Talk, what: What, text: &mut String) -> Result<(), ConverseFault>
     requires { IsWhatInRange what }
-    ensures { OnOk result ((said : List ℕ) × IsGiven what talk.old talk.new said
-        × (string_bytes text.new ≡ string_bytes text.old ++ said)) }
+    ensures gone { OnOk result (talk.new ≡ (given_answer what talk.old).0) }
+    ensures said { OnOk result (string_bytes text.new ≡ string_bytes text.old ++ (given_answer what talk.old).1) }
+    ensures left { (talk.new ≡ (given_answer what talk.old).0) ⊎ GoesOn talk.old.sitting talk.new.sitting }
 {
     match give(talk, what) {
         Ok(()) => push_end(talk, text),
-        Err(fault) => {
+        Err(fault) => push_refused(fault, text),
+    }
+}
+
+/// Adds why an event was not taken, unless memory ran out.
+fn push_refused(fault: GiveFault, text: &mut String) -> Result<(), ConverseFault>
+    ensures { OnOk result ((fault ≡ GiveFault.Memory → ⊥)
+        × (string_bytes text.new ≡ string_bytes text.old ++ error_line (refusal_text fault))) }
+{
+    match fault {
+        GiveFault::Memory => Err(ConverseFault::Memory),
+        GiveFault::Unwanted | GiveFault::TooMany => {
             push_error_line(text, refusal(fault))?;
             Ok(())
         }
@@ -170,8 +253,8 @@ fn push_refusal(fault: CommandFault, text: &mut String) -> Result<(), ConverseFa
     Ok(())
 }
 
-/// Does what a command asks for that gives no event, and adds what there is to say of it.
-#[tactic(auto, unfolding(agc_request::specs::Command::IsCommandInRange, crate::specs::Answered::Does))]
+/// Does what a command asks for that gives no event and does not go back, and adds what there is to say of it.
+#[tactic(auto, unfolding(agc_request::specs::Command::IsCommandInRange, crate::specs::Answered::done))]
 fn carry_out<W: Write>(
     alloc: Global,
     talk: &mut Talk,
@@ -179,17 +262,24 @@ fn carry_out<W: Write>(
     text: &mut String,
     output: &mut W,
 ) -> Result<(), ConverseFault>
-    requires { IsCommandInRange command }
-    ensures { OnOk result (Does command talk.old talk.new
+    requires range { IsCommandInRange command }
+    requires now { GoesNotBack command }
+    ensures told { OnOk result (Tells (done command talk.old) talk.new
         (append_known (W.contents output.old) (string_bytes text.old))
         (append_known (W.contents output.new) (string_bytes text.new))) }
+    ensures on { GoesOn talk.old.sitting talk.new.sitting }
+    ensures grows { (IsErrOf result ConverseFault.Write → ⊥) → Grows (W.contents output.old) (W.contents output.new) }
 {
     match command {
         Command::Go(cycles) => {
             let cycle = talk.cycle().saturating_add(cycles);
-            go_to(talk, cycle, text, output)
+            go_to(talk, &Sought::Nothing, cycle, text, output)?;
+            Ok(())
         }
-        Command::GoTo(cycle) => go_to(talk, cycle, text, output),
+        Command::GoTo(cycle) => {
+            go_to(talk, &Sought::Nothing, cycle, text, output)?;
+            Ok(())
+        }
         Command::Step(boundaries) => step(talk, boundaries, text, output),
         Command::Until { what, within } => until(talk, what, within, text, output),
         shown => {
@@ -208,13 +298,16 @@ fn push_end(talk: &Talk, text: &mut String) -> Result<(), ConverseFault>
     Ok(())
 }
 
-/// Goes back to the state before a cycle, and answers that. Where memory runs out nothing changes.
+/// Goes back to the state before a cycle, and answers that. Where memory runs out before it has, nothing changes.
 fn go_back<W: Write>(
     alloc: Global,
     talk: Talk,
     cycle: u64,
     output: &mut W,
-) -> Result<Talk, ConverseFault> {
+) -> Result<Talk, ConverseFault>
+    ensures { IfOk result (λ left. IsAnswered (Ok (Some (Command.Back cycle))) talk left
+        (W.contents output.old) (W.contents output.new)) }
+{
     let Ok(mut text) = String::with_capacity(alloc, LONGEST_END) else {
         write_text(output, OUT_OF_MEMORY)?;
         return Ok(talk);

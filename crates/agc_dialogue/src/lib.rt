@@ -7,6 +7,7 @@ mod doing;
 mod lines;
 mod outlet;
 mod showing;
+mod sought;
 mod talk;
 #[cfg(test)]
 mod tests;

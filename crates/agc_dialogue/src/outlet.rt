@@ -1,6 +1,7 @@
 //! Where answers are written.
-ghost use Rattle.std.specs.Prelude.{OnOk, string_bytes};
+ghost use Rattle.std.specs.Prelude.{◌≡◌, IsErrOf, IfErr, OnOk, string_bytes};
 ghost use Rattle.std.specs.Io.KnownBytes.{Appends, Keeps, append_known};
+ghost use Rattle.agc_dialogue.specs.Answered.{Grows};
 
 use crate::conversation::ConverseFault;
 use std::io::Write;
@@ -10,7 +11,8 @@ const PART: usize = 4096;
 
 /// Writes a text.
 pub(crate) fn write_text<W: Write>(output: &mut W, text: &str) -> Result<(), ConverseFault>
-    ensures { OnOk result (Appends (W.contents output.old) (W.contents output.new) text.now) }
+    ensures ok { OnOk result (Appends (W.contents output.old) (W.contents output.new) text.now) }
+    ensures fault { IfErr result (λ fault. fault ≡ ConverseFault.Write) }
 {
     match output.write_all(text.as_bytes()) {
         Ok(()) => Ok(()),
@@ -21,8 +23,9 @@ pub(crate) fn write_text<W: Write>(output: &mut W, text: &str) -> Result<(), Con
 /// Writes the text of a long answer as far as it has come, so that memory does not grow with it. What is
 /// written, with what waits after it, stays the same.
 pub(crate) fn write_part<W: Write>(text: &mut String, output: &mut W) -> Result<(), ConverseFault>
-    ensures { OnOk result (Keeps (append_known (W.contents output.old) (string_bytes text.old))
+    ensures same { OnOk result (Keeps (append_known (W.contents output.old) (string_bytes text.old))
         (append_known (W.contents output.new) (string_bytes text.new))) }
+    ensures grows { (IsErrOf result ConverseFault.Write → ⊥) → Grows (W.contents output.old) (W.contents output.new) }
 {
     if text.len() < PART {
         return Ok(());

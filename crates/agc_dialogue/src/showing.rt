@@ -1,7 +1,7 @@
 //! The commands that only show.
 ghost use Rattle.std.specs.Prelude.{◌≡◌, ◌++◌, OnOk, string_bytes};
 ghost use Rattle.agc_panel.specs.Text.{panel_text};
-ghost use Rattle.agc_panel.specs.Watcher.{watch_text};
+ghost use Rattle.agc_executive.specs.Watcher.{watch_text};
 ghost use Rattle.agc_script.specs.Written.{script_text};
 ghost use Rattle.agc_sitting.specs.Sitting.{told};
 ghost use Rattle.agc_request.specs.Command.{IsCommandInRange};
@@ -11,7 +11,7 @@ use crate::answer::{
     push_cell_lines, push_channel_line, push_next_line, push_registers_line, push_writes_line,
 };
 use crate::talk::Talk;
-use agc_panel::{WatchSpec, watch};
+use agc_executive::{WatchSpec, watch};
 use agc_request::{Command, push_help};
 use std::alloc::{AllocError, Global};
 

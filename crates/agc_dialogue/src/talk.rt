@@ -1,10 +1,20 @@
 //! A sitting, with the number of channel writes that it has shown.
-ghost use Rattle.std.specs.Prelude.{◌≡◌, ◌↔◌, [], None, IfOk, IfErr, IsTrue};
+ghost use Rattle.std.specs.Prelude.{◌≡◌, [], ◌∷◌, IfOk, IfErr};
 ghost use Rattle.agc_machine.specs.Boundary.{boundary};
 ghost use Rattle.agc_machine.specs.Laws.{HasChannel};
+ghost use Rattle.agc_machine.specs.Replay.{writes_in};
 ghost use Rattle.agc_machine.specs.Run.{next_before};
-ghost use Rattle.agc_sitting.specs.Sitting.{HasGone, HasReached, start_with, told_before};
-ghost use Rattle.agc_dialogue.specs.Talk.{Advances, IsUnderWay};
+ghost use Rattle.agc_dialogue.specs.Talk.{
+  Advances,
+  GoesOn,
+  after_way,
+  at_start,
+  counted,
+  gone_back,
+  gone_on,
+};
+ghost use Rattle.agc_dialogue.specs.Way.{is_under_way, way_to};
+ghost use Rattle.agc_dialogue.specs.declared.sought.Sought.TheVariants.{Nothing};
 
 use agc_machine::{Machine, Stepped, Stop};
 use agc_sitting::Sitting;
@@ -20,7 +30,7 @@ pub(crate) struct Talk {
 impl Talk {
     /// A sitting at the start of time.
     pub(crate) fn new(sitting: Sitting) -> Talk
-        ensures sitting { result.sitting ≡ sitting }
+        ensures { result ≡ at_start sitting }
     {
         Talk { sitting, writes: 0 }
     }
@@ -48,18 +58,18 @@ impl Talk {
 
     /// The machine has not come to a cycle, and has not stopped.
     pub(crate) fn is_before(&self, cycle: u64) -> bool
-        ensures { IsTrue result ↔ IsUnderWay cycle self.now.sitting.now }
+        ensures { result ≡ is_under_way cycle self.now.sitting.now }
     {
         self.cycle() < cycle && self.stopped().is_none()
     }
 
     /// One boundary.
     pub(crate) fn step(&mut self) -> Stepped
-        ensures gone { HasGone self.old.sitting (boundary None self.old.sitting.now) result self.new.sitting }
+        ensures boundary { (self.new.sitting.now, result) ≡ boundary None self.old.sitting.now }
+        ensures shown { self.new ≡ gone_on self.new.sitting.now (writes_in (result ∷ [])) self.old }
+        ensures on { GoesOn self.old.sitting self.new.sitting }
         ensures advances { Advances self.old.sitting.now self.new.sitting.now }
         ensures channel { HasChannel result }
-        ensures script { self.new.sitting.script ≡ self.old.sitting.script }
-        ensures given { self.new.sitting.given ≡ self.old.sitting.given }
     {
         let stepped = self.sitting.step();
         self.note(stepped)
@@ -67,11 +77,11 @@ impl Talk {
 
     /// Goes on as the sitting does.
     pub(crate) fn go_on(&mut self, cycle: u64) -> Stepped
-        ensures gone { HasGone self.old.sitting (next_before cycle self.old.sitting.now) result self.new.sitting }
+        ensures before { (self.new.sitting.now, result) ≡ next_before cycle self.old.sitting.now }
+        ensures shown { self.new ≡ gone_on self.new.sitting.now (writes_in (result ∷ [])) self.old }
+        ensures on { GoesOn self.old.sitting self.new.sitting }
         ensures advances { Advances self.old.sitting.now self.new.sitting.now }
         ensures channel { HasChannel result }
-        ensures script { self.new.sitting.script ≡ self.old.sitting.script }
-        ensures given { self.new.sitting.given ≡ self.old.sitting.given }
     {
         let stepped = self.sitting.go_on(cycle);
         self.note(stepped)
@@ -81,6 +91,7 @@ impl Talk {
     fn note(&mut self, stepped: Stepped) -> Stepped
         ensures same { result ≡ stepped }
         ensures sitting { self.new.sitting ≡ self.old.sitting }
+        ensures counted { self.new.writes ≡ counted stepped self.old.writes }
     {
         if let Stepped::Wrote(_) = stepped {
             self.writes = self.writes.saturating_add(1);
@@ -90,9 +101,7 @@ impl Talk {
 
     /// Goes on to a cycle, and tells nothing.
     fn go_silently(&mut self, cycle: u64)
-        ensures reached { HasReached cycle self.old.sitting.now self.new.sitting.now }
-        ensures script { self.new.sitting.script ≡ self.old.sitting.script }
-        ensures given { self.new.sitting.given ≡ self.old.sitting.given }
+        ensures { self.new ≡ after_way (way_to Nothing cycle self.old.sitting.now) self.old }
     {
         while self.is_before(cycle) {
             self.go_on(cycle);
@@ -101,10 +110,7 @@ impl Talk {
 
     /// Goes back to the state before a cycle. Where memory runs out it comes back as it was.
     pub(crate) fn back(self, alloc: Global, cycle: u64) -> Result<Talk, Talk>
-        ensures script { IfOk result (λ talk. talk.sitting.script ≡ told_before cycle self.sitting) }
-        ensures given { IfOk result (λ talk. talk.sitting.given ≡ []) }
-        ensures reached { IfOk result (λ talk. HasReached cycle
-            (start_with (told_before cycle self.sitting) self.sitting.now) talk.sitting.now) }
+        ensures ok { IfOk result (λ talk. talk ≡ gone_back cycle self) }
         ensures err { IfErr result (λ talk. talk ≡ self) }
     {
         let Talk { sitting, writes } = self;

@@ -9,27 +9,21 @@ mod tests;
 mod trouble;
 mod words;
 
-use agc_args::ArgsFault;
-use agc_panel::WatchSpec;
+use agc_args::{ArgsFault, MISUSED, end_mistaken, stand_ins};
+use agc_executive::WatchSpec;
+use agc_front::{asked_of, sitting_for};
 use agc_picture::Ink;
-use agc_script::Script;
 use agc_seat::Seat;
-use agc_session::{
-    DONE, InputFile, REFUSED, Refusal, UNWRITTEN, read_rope, read_script, status_of,
-};
-use agc_sitting::Sitting;
+use agc_session::{DONE, REFUSED, Refusal, UNWRITTEN, status_of};
 use screen::{DrawFault, Screen};
 use session::{Ended, Session, Wish, read_typed, rest};
 use std::io::{IsTerminal, Read, Write};
 use std::process::ExitCode;
 use std::rt::{Env, Files};
 use std::time::Clock;
-use std::{env, fs, io};
+use std::{env, io};
 use trouble::Trouble;
-use words::{Asked, asked_of};
-
-/// The status of a mistake in the command line, or of a start beside a terminal.
-const MISUSED: u8 = 2;
+use words::Dsky;
 
 fn main(rt: HostRuntime) -> ExitCode {
     let _stand_ins = stand_ins(&rt);
@@ -37,12 +31,6 @@ fn main(rt: HostRuntime) -> ExitCode {
     let asked = asked_of(&rt);
     let place = place_of(&rt, keys.is_terminal(), out.is_terminal());
     ExitCode::from(run(&rt, asked, place, &mut keys, &mut out, &mut err))
-}
-
-/// Three files that can be neither read nor written, which take the numbers of closed standard
-/// streams, so that no file that is opened later does.
-fn stand_ins<R: Files>(rt: &R) -> [io::Result<R::File>; 3] {
-    [fs::open(rt, "/"), fs::open(rt, "/"), fs::open(rt, "/")]
 }
 
 /// Whether this is a terminal that can be drawn on, and in which ink: `NO_COLOR`, where it is not empty, asks for none.
@@ -68,7 +56,7 @@ fn place_of<R: Env + AllocGlobal>(rt: &R, is_input: bool, is_output: bool) -> Re
 /// status 3.
 fn run<R, K: Read, W: Write, E: Write>(
     rt: &R,
-    asked: Result<Asked, ArgsFault>,
+    asked: Result<Dsky, ArgsFault>,
     place: Result<Ink, Trouble>,
     keys: &mut K,
     out: &mut W,
@@ -85,11 +73,7 @@ where
             }
             Err(trouble) => status_of(status_for(trouble), trouble.write_to(err)),
         },
-        Err(ArgsFault::Help(text)) => status_of(DONE, out.write_all(text.as_bytes())),
-        Err(ArgsFault::Command(text)) => status_of(MISUSED, err.write_all(text.as_bytes())),
-        Err(ArgsFault::Memory) => {
-            status_of(REFUSED, Trouble::Refused(Refusal::Memory).write_to(err))
-        }
+        Err(fault) => end_mistaken("agc-dsky", fault, REFUSED, out, err),
     }
 }
 
@@ -106,7 +90,7 @@ fn status_for(trouble: Trouble) -> u8 {
 /// last the file to save to, so that none is made where there is no session.
 fn begin<R, W: Write>(
     rt: &R,
-    asked: &Asked,
+    asked: &Dsky,
     place: Result<Ink, Trouble>,
     out: &mut W,
 ) -> Result<Session, Trouble>
@@ -114,7 +98,7 @@ where
     R: Files + Clock + AllocGlobal,
 {
     let ink = place?;
-    let seat = Seat::new(rt.alloc(), sitting_for(rt, asked)?);
+    let seat = seat_for(rt, asked)?;
     let watch = watch_for(asked)?;
     if let Some(path) = &asked.save {
         if saving::reserve(rt, path.as_str(), asked.force).is_err() {
@@ -127,22 +111,17 @@ where
     Ok(Session::new(rt, seat, screen, asked.speed, watch))
 }
 
-/// The machine at its start, with the events of the script where there is one.
-fn sitting_for<R: Files + AllocGlobal>(rt: &R, asked: &Asked) -> Result<Sitting, Trouble> {
-    let mut rope = InputFile::new(fs::open(rt, asked.rope.as_str()));
-    let rope = read_rope(rt.alloc(), asked.form, &mut rope)?;
-    let script = match &asked.script {
-        Some(path) => {
-            let mut script = InputFile::new(fs::open(rt, path.as_str()));
-            read_script(rt.alloc(), &mut script)?
-        }
-        None => Script::empty(rt.alloc()),
-    };
-    Ok(Sitting::new(rt.alloc(), rope, script, asked.limit)?)
+/// A seat before the machine at its start.
+fn seat_for<R: Files + AllocGlobal>(rt: &R, asked: &Dsky) -> Result<Seat, Trouble> {
+    let sitting = sitting_for(rt, &asked.start)?;
+    match Seat::new(rt.alloc(), sitting) {
+        Ok(seat) => Ok(seat),
+        Err(_) => Err(Trouble::Refused(Refusal::Memory)),
+    }
 }
 
 /// The tables that can be shown.
-fn watch_for(asked: &Asked) -> Result<Option<WatchSpec>, Refusal> {
+fn watch_for(asked: &Dsky) -> Result<Option<WatchSpec>, Refusal> {
     let Some(text) = &asked.watch else {
         return Ok(None);
     };
@@ -159,7 +138,7 @@ fn watch_for(asked: &Asked) -> Result<Option<WatchSpec>, Refusal> {
 fn sit<R, K: Read, W: Write>(
     rt: &R,
     mut session: Session,
-    asked: &Asked,
+    asked: &Dsky,
     keys: &mut K,
     out: &mut W,
 ) -> (Session, Ended)
@@ -184,6 +163,7 @@ where
             }
         }
         session.go_on(rt);
+        session = session.look_inside(rt.alloc());
         match session.draw(rt.alloc(), rt, out) {
             Ok(()) => {}
             Err(DrawFault::Write) => return (session, Ended::Gone),
@@ -195,7 +175,7 @@ where
 }
 
 /// Saves the script while the session goes on, and returns what is to be said of it.
-fn save_now<R: Files + AllocGlobal>(rt: &R, seat: &Seat, asked: &Asked) -> &'static str {
+fn save_now<R: Files + AllocGlobal>(rt: &R, seat: &Seat, asked: &Dsky) -> &'static str {
     let Some(path) = &asked.save else {
         return "no file is named: start with --save FILE";
     };
@@ -224,7 +204,7 @@ fn saved<R: Files + AllocGlobal>(rt: &R, seat: &Seat, path: &str) -> Result<(), 
 fn finish<R, W: Write, E: Write>(
     rt: &R,
     session: Session,
-    asked: &Asked,
+    asked: &Dsky,
     ended: Ended,
     out: &mut W,
     err: &mut E,
@@ -257,13 +237,19 @@ where
 }
 
 /// Tells how the session is repeated with a script.
-fn tell<W: Write>(asked: &Asked, script: &str, seat: &Seat, out: &mut W) -> io::Result<()> {
+fn tell<W: Write>(asked: &Dsky, script: &str, seat: &Seat, out: &mut W) -> io::Result<()> {
     let limit = seat.limit_to_repeat();
-    saving::tell_how(out, asked.rope.as_str(), script, asked.form, limit)
+    saving::tell_how(
+        out,
+        asked.start.rope.as_str(),
+        script,
+        asked.start.form,
+        limit,
+    )
 }
 
 /// Tells how the session is repeated with the lines that were printed.
-fn tell_unsaved<W: Write>(asked: &Asked, seat: &Seat, out: &mut W) -> io::Result<()> {
+fn tell_unsaved<W: Write>(asked: &Dsky, seat: &Seat, out: &mut W) -> io::Result<()> {
     out.write_all(b"agc-dsky: with the lines above in a file SCRIPT,\n")?;
     tell(asked, "SCRIPT", seat, out)
 }

@@ -1,8 +1,7 @@
 //! The terminal: what is drawn on it, and how large it is.
-use agc_dialogue::{push_next_line, push_registers_line};
-use agc_panel::{WatchSpec, watch};
+use agc_executive::WatchSpec;
 use agc_picture::{Cap, Ink, Size, View, push_picture};
-use agc_seat::{Pace, Seat};
+use agc_seat::{Pace, Seat, push_insides, push_tables};
 use std::alloc::{AllocError, Global};
 use std::io::Write;
 
@@ -31,6 +30,9 @@ const LONG_HINT_COLUMNS: u16 = 80;
 /// The lines below a picture: how fast time goes, and what can be typed.
 const BELOW: u16 = 2;
 
+/// The lines of the small picture with the registers and what comes next, and of the two lines below it.
+const INSIDE_LINES: u16 = 16;
+
 /// The columns that are wanted.
 const COLUMNS: u16 = 58;
 
@@ -47,7 +49,7 @@ pub struct Shown<'a> {
     pub pressed: Option<Cap>,
     /// How many times as fast as the hardware the machine went of late, where it cannot keep its pace.
     pub runs_at: Option<u64>,
-    /// The insides are shown.
+    /// The insides are shown, with the last boundaries where the time has stopped.
     pub is_inside: bool,
     /// The Executive's tables that are shown.
     pub tables: Option<WatchSpec>,
@@ -130,13 +132,38 @@ impl Screen {
             pressed: shown.pressed,
         };
         push_picture(&mut picture, view, seat.sitting())?;
-        if shown.is_inside {
-            push_insides(&mut picture, seat)?;
-        }
+        let mut tables = String::new(alloc);
         if let Some(spec) = shown.tables {
-            push_tables(alloc, &mut picture, seat, spec)?;
+            push_tables(alloc, &mut tables, seat.sitting(), spec)?;
         }
+        let mut insides = String::new(alloc);
+        if shown.is_inside {
+            let most = self.boundaries(seat, shown, tables.lines().count());
+            push_insides(alloc, &mut insides, seat.recent(), most, seat.sitting())?;
+        }
+        self.push_cut(&mut picture, &insides)?;
+        self.push_cut(&mut picture, &tables)?;
         Ok(picture)
+    }
+
+    /// Adds lines, each cut off before the last column, in which the end of the line erases what stands.
+    fn push_cut(&self, picture: &mut String, text: &str) -> Result<(), AllocError> {
+        for line in text.lines() {
+            for letter in line.chars().take(self.columns.saturating_sub(1) as usize) {
+                picture.push(letter)?;
+            }
+            picture.push_str("\n")?;
+        }
+        Ok(())
+    }
+
+    /// How many of the last boundaries have room beside so many lines of tables, where the time has stopped.
+    fn boundaries(&self, seat: &Seat, shown: Shown<'_>, tables: usize) -> usize {
+        if shown.pace.is_paused() || seat.has_stopped() {
+            (self.lines.saturating_sub(INSIDE_LINES) as usize).saturating_sub(tables)
+        } else {
+            0
+        }
     }
 
     /// Adds the last line: what is said of the last thing that was done, or how many lines have no room, or what can be
@@ -212,27 +239,6 @@ fn push_too_small(frame: &mut String) -> Result<(), AllocError> {
         frame,
         "\x1b[H{COLUMNS} columns and {SMALL_LINES} lines are wanted\x1b[K\x1b[J"
     )
-}
-
-/// Adds the registers, and what comes next.
-fn push_insides(picture: &mut String, seat: &Seat) -> Result<(), AllocError> {
-    picture.push_str(" ")?;
-    push_registers_line(picture, seat.machine().store())?;
-    picture.push_str(" ")?;
-    push_next_line(picture, seat.machine().upcoming())
-}
-
-/// Adds the Executive's tables, as `agc` prints them.
-fn push_tables(
-    alloc: Global,
-    picture: &mut String,
-    seat: &Seat,
-    spec: WatchSpec,
-) -> Result<(), AllocError> {
-    match watch(alloc, seat.machine().store(), &spec) {
-        Ok(tables) => picture.push_str(&tables),
-        Err(_) => Err(AllocError),
-    }
 }
 
 /// Adds as many lines of a picture as there is room for, and returns how many are left.

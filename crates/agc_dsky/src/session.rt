@@ -1,6 +1,6 @@
 //! The session: keys are read, time goes on, and what is shown is drawn, a hundred times a second at most.
 use crate::screen::{DrawFault, Screen, Shown, ask_size};
-use agc_panel::WatchSpec;
+use agc_executive::WatchSpec;
 use agc_picture::Cap;
 use agc_seat::{Decoder, Pace, Seat, Speed, Typed, micros_of};
 use agc_sitting::GiveFault;
@@ -119,7 +119,7 @@ impl Session {
                     self.remark = "no memory for this key";
                 }
             }
-            Typed::Pause => self.pace.pause_or_go_on(),
+            Typed::Pause => self.pause_or_go_on(),
             Typed::Step => self.step(),
             Typed::Faster => self.pace.go_faster(),
             Typed::Slower => self.pace.go_slower(),
@@ -144,13 +144,32 @@ impl Session {
         self.pace.begin_at(micros_of(clock), self.seat.cycle());
     }
 
+    /// Time stops where it goes on, and goes on where it has stopped. The last boundaries before it stops are taken one
+    /// by one, so that they are known.
+    fn pause_or_go_on(&mut self) {
+        self.pace.pause_or_go_on();
+        if self.pace.is_paused() {
+            let slowed = self.seat.slow_down();
+            self.note(slowed);
+        }
+    }
+
     /// One boundary, where the time has stopped; it stops where it goes on.
     fn step(&mut self) {
         if !self.pace.is_paused() {
-            self.pace.pause_or_go_on();
+            return self.pause_or_go_on();
         }
         let stepped = self.seat.step();
         self.note(stepped);
+    }
+
+    /// Where the insides are shown and the machine has stopped by itself, its last boundaries are looked for.
+    pub fn look_inside(self, alloc: Global) -> Session {
+        if !self.is_inside {
+            return self;
+        }
+        let seat = self.seat.recall(alloc);
+        Session { seat, ..self }
     }
 
     /// Back by a second, or by a tenth where the time has stopped.

@@ -1,7 +1,7 @@
 //! The program on its command lines: help, mistakes, and refusals.
 use crate::run;
 use crate::trouble::Trouble;
-use crate::words::asked_by;
+use agc_front::asked_by;
 use agc_picture::Ink;
 use std::process::Abort;
 use std::rt::Files;

@@ -1,6 +1,5 @@
 //! What the program says where there is no session, or where one does not end as it should: a line.
 use agc_session::Refusal;
-use agc_sitting::BeginFault;
 use std::fmt;
 use std::io::{self, Write};
 
@@ -41,15 +40,6 @@ impl Trouble {
 impl From<Refusal> for Trouble {
     fn from(refusal: Refusal) -> Trouble {
         Trouble::Refused(refusal)
-    }
-}
-
-impl From<BeginFault> for Trouble {
-    fn from(fault: BeginFault) -> Trouble {
-        match fault {
-            BeginFault::Limit(limit) => Trouble::Refused(Refusal::Limit(limit)),
-            BeginFault::Memory => Trouble::Refused(Refusal::Memory),
-        }
     }
 }
 

@@ -3,7 +3,7 @@ use Rattle.std.proofs.Common.{◌≡◌, ℕ, ◌+◌, Bool, true, false, List, 
 use Rattle.std.specs.Prelude.{map, not, ◌||◌, if◌then◌else◌}
 use Rattle.std.specs.List.{concat, enumerate_from, flat_map}
 use Rattle.std.specs.Str.{bytes_eq}
-use Rattle.agc_panel.specs.TablesText.{numbered}
+use Rattle.agc_executive.specs.TablesText.{numbered}
 use Rattle.agc_panel.specs.Text.{panel_lines}
 use Rattle.agc_film.specs.Packed.{blank_lines, is_keyframe, lines_written, packed, packed_from}
 use Rattle.agc_film.specs.Page.{after_frame, frame_text, placed_frame}

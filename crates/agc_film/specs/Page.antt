@@ -4,7 +4,7 @@ use Rattle.std.specs.Prelude.{ℕ, ◌%◌, ◌==◌, List, [], ◌++◌, codes,
 use Rattle.std.specs.Fmt.{decimal}
 use Rattle.std.specs.List.{concat}
 use Rattle.agc_machine.specs.declared.answer.Stop.{Stop}
-use Rattle.agc_panel.specs.TablesText.{numbered}
+use Rattle.agc_executive.specs.TablesText.{numbered}
 use Rattle.agc_machine.specs.Answer.{stop_name}
 use Rattle.agc_film.specs.Parting.{first_difference}
 use Rattle.agc_film.specs.Packed.{Packed, packed}

@@ -2,7 +2,7 @@
 ghost use Rattle.std.specs.Prelude.{◌≡◌, ◌++◌, ◌||◌, [], OnOk, not, map, string_bytes, if◌then◌else◌};
 ghost use Rattle.std.specs.List.{concat};
 ghost use Rattle.std.specs.Str.{bytes_eq};
-ghost use Rattle.agc_panel.specs.TablesText.{numbered};
+ghost use Rattle.agc_executive.specs.TablesText.{numbered};
 ghost use Rattle.agc_film.specs.Packed.{is_keyframe, lines_written, packed};
 ghost use Rattle.agc_film.specs.Page.{after_frame, border_text, frame_text, placed_frame};
 

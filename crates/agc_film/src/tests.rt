@@ -3,11 +3,11 @@ use crate::press::presses;
 use crate::{
     Button, Part, Press, Reel, RunFiles, film, first_difference, push_film, push_film_pair,
 };
-use agc_listing::rope_file;
 use agc_machine::{Machine, Stop};
 use agc_progress::{Progress, Untold};
 use agc_script::{Key, Script};
 use agc_store::Rope;
+use agc_test_ropes::rope_file;
 use std::process::Abort;
 use std::test::Fail;
 

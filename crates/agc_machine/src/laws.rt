@@ -49,8 +49,8 @@ pub fn a_stop_is_final()
     ensures next { (s : State) (why : Stop) → s.stopped ≡ Some why → next_of s ≡ (s, next.Stopped why) }
 {}
 
-/// A boundary with a live event, as a key is one, is the one without it of the same state with the
-/// event, at the present cycle, before the events left.
+/// A live event, as a key is one, is an event of the present cycle put before the events left: the
+/// boundary that meets it is the plain one from there.
 #[tactic(auto, unfolding(crate::specs::Boundary::boundary))]
 pub fn live_keys_are_events()
     ensures { (what : What) (s : State) → boundary (Some what) s ≡ boundary None (fed (Some what) s) }

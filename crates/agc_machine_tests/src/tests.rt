@@ -6,3 +6,11 @@ mod processor;
 mod script;
 mod store;
 mod word;
+
+use std::fmt::Debug;
+use std::process::Abort;
+
+/// Fails where two values differ, and tells both. It is proved once, where an `assert_eq!` would be at each place.
+fn equal<T: Drop + PartialEq + Debug>(rt: &impl Abort, found: T, wanted: T) {
+    assert_eq!(rt; found, wanted);
+}

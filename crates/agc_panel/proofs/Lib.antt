@@ -1,7 +1,4 @@
 pub mod Taken
-pub mod Numbers
-pub mod Entries
-pub mod Lines
 pub mod LampLemmas
 pub mod LawLemmas
 pub mod TextLemmas

@@ -4,9 +4,4 @@ pub mod Field
 pub mod Lamp
 pub mod Face
 pub mod Text
-pub mod WatchSpec
-pub mod CoreSet
-pub mod Tables
-pub mod TablesText
-pub mod Watcher
 pub mod Laws

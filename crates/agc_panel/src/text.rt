@@ -1,5 +1,5 @@
 //! The panel in print: eight lines.
-ghost use Rattle.std.specs.Prelude.{◌≡◌, ◌++◌, IfOk, OnOk, Some, map, string_bytes};
+ghost use Rattle.std.specs.Prelude.{◌≡◌, ◌++◌, ◌∷◌, [], IfOk, OnOk, Some, codes, map, string_bytes};
 ghost use Rattle.agc_panel.specs.Text.{lit_lamps, sign_of, sign_glyph, pair_line, digits_text};
 ghost use Rattle.agc_panel.specs.Text.{register_line, flash_line, lamps_line, panel_lines, panel_text};
 
@@ -132,15 +132,37 @@ pub(crate) fn lines_of(alloc: Global, face: &Face) -> Result<Vec<String>, AllocE
     ensures { IfOk result (λ lines. map string_bytes lines.items ≡ panel_lines face.now) }
 {
     let mut lines = Vec::new(alloc);
-    lines.push(pair_line(alloc, "PROG", face.program)?)?;
-    lines.push(pair_line(alloc, "VERB", face.verb)?)?;
-    lines.push(pair_line(alloc, "NOUN", face.noun)?)?;
-    lines.push(register_line(alloc, "R1", &face.r1)?)?;
-    lines.push(register_line(alloc, "R2", &face.r2)?)?;
-    lines.push(register_line(alloc, "R3", &face.r3)?)?;
+    push_pair_lines(&mut lines, alloc, face)?;
+    push_register_lines(&mut lines, alloc, face)?;
     lines.push(flash_line(alloc, face.flash)?)?;
     lines.push(lamps_line(alloc, &face.lamps)?)?;
     Ok(lines)
+}
+
+fn push_pair_lines(lines: &mut Vec<String>, alloc: Global, face: &Face) -> Result<(), AllocError>
+    ensures { OnOk result (map string_bytes lines.new.items ≡ map string_bytes lines.old.items
+        ++ pair_line (codes "PROG") face.now.program ∷ pair_line (codes "VERB") face.now.verb
+        ∷ pair_line (codes "NOUN") face.now.noun ∷ []) }
+{
+    lines.push(pair_line(alloc, "PROG", face.program)?)?;
+    lines.push(pair_line(alloc, "VERB", face.verb)?)?;
+    lines.push(pair_line(alloc, "NOUN", face.noun)?)?;
+    Ok(())
+}
+
+fn push_register_lines(
+    lines: &mut Vec<String>,
+    alloc: Global,
+    face: &Face,
+) -> Result<(), AllocError>
+    ensures { OnOk result (map string_bytes lines.new.items ≡ map string_bytes lines.old.items
+        ++ register_line (codes "R1") face.now.r1 ∷ register_line (codes "R2") face.now.r2
+        ∷ register_line (codes "R3") face.now.r3 ∷ []) }
+{
+    lines.push(register_line(alloc, "R1", &face.r1)?)?;
+    lines.push(register_line(alloc, "R2", &face.r2)?)?;
+    lines.push(register_line(alloc, "R3", &face.r3)?)?;
+    Ok(())
 }
 
 fn pair_line(alloc: Global, name: &str, pair: Pair) -> Result<String, AllocError>

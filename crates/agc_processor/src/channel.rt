@@ -134,7 +134,7 @@ impl Processor {
     }
 
     #[tactic(auto, unfolding(crate::specs::Channel::read_order))]
-    pub(crate) fn read_channel(&mut self, cycle: u64, h: u16)
+    pub(crate) fn read(&mut self, cycle: u64, h: u16)
         requires channel { h < 0o1000 }
         requires cycle { cycle < 2 ^ 41 }
         ensures { self.new ≡ read_order cycle h self.old }
@@ -144,7 +144,7 @@ impl Processor {
     }
 
     #[tactic(auto, unfolding(crate::specs::Channel::write_order))]
-    pub(crate) fn write_a(&mut self, cycle: u64, h: u16)
+    pub(crate) fn write(&mut self, cycle: u64, h: u16)
         requires channel { h < 0o1000 }
         requires cycle { cycle < 2 ^ 41 }
         ensures { self.new ≡ write_order cycle h self.old }

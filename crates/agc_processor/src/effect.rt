@@ -207,12 +207,12 @@ impl Processor {
     {
         match order {
             Extracode::Read => {
-                self.read_channel(cycle, self.channel_number());
+                self.read(cycle, self.channel_number());
                 self.end(2)
             }
             Extracode::Write => {
                 let h = self.channel_number();
-                self.write_a(cycle, h);
+                self.write(cycle, h);
                 self.end_write(h)
             }
             Extracode::Rand => {

@@ -9,7 +9,7 @@ use Rattle.std.proofs.lemmas.List.Sums.{AllPass-from_list_all}
 use Rattle.std.proofs.lemmas.Str.{IsUtf8-from_ascii}
 use Rattle.std.proofs.lemmas.Str.Ascii.{IsAscii-from_all}
 use Rattle.agc_word.specs.Numeral.{number_of, octal_number, is_digit}
-use Rattle.agc_panel.specs.WatchSpec.{is_separator, numbers_in, numbers_in_pieces, spec_from, spec_of, with_number}
+use Rattle.agc_executive.specs.WatchSpec.{is_separator, numbers_in, numbers_in_pieces, spec_from, spec_of, with_number}
 
 abbrev is_low : ℕ → Bool
 is_low b = nat_lt b 128

@@ -3,7 +3,7 @@ use Rattle.std.specs.Prelude.{◌≡◌, ℕ, ◌+◌, ◌≤◌, ◌<◌, nat_l
 use Rattle.std.specs.Prelude.{Option, Some, None, Result, Ok, Err, if◌then◌else◌}
 use Rattle.std.specs.List.{list_any}
 use Rattle.std.specs.Str.{bytes_eq}
-use Rattle.agc_panel.specs.WatchSpec.{watch_fault_of}
+use Rattle.agc_executive.specs.WatchSpec.{watch_fault_of}
 use Rattle.agc_script.specs.Command.{command_of}
 use Rattle.agc_script.specs.Event.{IsWhatInRange, last_cycle}
 use Rattle.agc_script.specs.Grammar.{command_named}

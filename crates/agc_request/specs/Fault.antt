@@ -1,7 +1,7 @@
 -- What is told of a line that is no command: the fault by its name, and what would be right.
 use Rattle.std.specs.Prelude.{ℕ, List, ◌++◌, codes}
-use Rattle.agc_panel.specs.declared.watch_spec.WatchFault.{WatchFault}
-use Rattle.agc_panel.specs.declared.watch_spec.WatchFault.TheVariants as watch
+use Rattle.agc_executive.specs.declared.watch_spec.WatchFault.{WatchFault}
+use Rattle.agc_executive.specs.declared.watch_spec.WatchFault.TheVariants as watch
 use Rattle.agc_script.specs.declared.fault.FaultKind.{FaultKind}
 use Rattle.agc_script.specs.declared.fault.FaultKind.TheVariants as kind
 use Rattle.agc_request.specs.Name.{usage_text}

@@ -1,9 +1,9 @@
 -- The numbers of commands: cycles, boundaries, channels and tables.
 use Rattle.std.specs.Prelude.{ℕ, nat_le, List, Option, Some, None, Result, Ok, Err, if◌then◌else◌}
 use Rattle.std.specs.Option.{ok_or}
-use Rattle.agc_panel.specs.WatchSpec.{spec_of, watch_fault_of}
-use Rattle.agc_panel.specs.declared.watch_spec.WatchFault.{WatchFault}
-use Rattle.agc_panel.specs.declared.watch_spec.WatchSpec.{WatchSpec}
+use Rattle.agc_executive.specs.WatchSpec.{spec_of, watch_fault_of}
+use Rattle.agc_executive.specs.declared.watch_spec.WatchFault.{WatchFault}
+use Rattle.agc_executive.specs.declared.watch_spec.WatchSpec.{WatchSpec}
 use Rattle.agc_script.specs.Line.{cycle_of}
 use Rattle.agc_word.specs.Channels.{last_io_channel}
 use Rattle.agc_word.specs.Numeral.{octal_number}

@@ -1,5 +1,5 @@
 //! The commands of the console, as values.
-use agc_panel::WatchSpec;
+use agc_executive::WatchSpec;
 use agc_script::What;
 use agc_source_words::Location;
 

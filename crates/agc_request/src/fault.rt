@@ -3,7 +3,7 @@ ghost use Rattle.std.specs.Prelude.{◌≡◌};
 ghost use Rattle.agc_request.specs.Fault.{event_advice, watch_advice};
 
 use crate::name::CommandName;
-use agc_panel::WatchFault;
+use agc_executive::WatchFault;
 use agc_script::FaultKind;
 use std::error::Error;
 use std::fmt;

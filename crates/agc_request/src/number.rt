@@ -1,12 +1,12 @@
 //! The numbers of commands: cycles, boundaries, channels and tables.
 ghost use Rattle.std.specs.Prelude.{◌≡◌, ◌≤◌, None, IfOk};
-ghost use Rattle.agc_panel.specs.WatchSpec.{watch_fault_of};
+ghost use Rattle.agc_executive.specs.WatchSpec.{watch_fault_of};
 ghost use Rattle.agc_script.specs.Event.{last_cycle};
 ghost use Rattle.agc_word.specs.Channels.{last_io_channel};
 ghost use Rattle.agc_request.specs.Number.{channel_in, cycles_in, sound_spec, spec_in};
 
 use crate::fault::CommandFault;
-use agc_panel::WatchSpec;
+use agc_executive::WatchSpec;
 use agc_script::{MOST_DIGITS, read_cycle};
 use agc_word::{LAST_IO_CHANNEL, read_octal};
 

@@ -2,28 +2,25 @@
 //! shows at the end.
 #![tactic(auto)]
 
-ghost use Rattle.std.specs.Prelude.{◌≡◌, ◌⊎◌, IfOk, IfErr};
+ghost use Rattle.std.specs.Prelude.{◌≡◌, ◌⊎◌, IfOk, IfErr, codes};
 ghost use Rattle.std.specs.Io.KnownBytes.{Appends, Keeps};
 ghost use Rattle.agc_session.specs.Refusal.{refusal_line};
 ghost use Rattle.agc_session.specs.declared.refusal.Refusal.{Refusal};
-ghost use Rattle.agc_run.specs.Ending.{EndsMistaken};
+ghost use Rattle.agc_args.specs.Ending.{EndsMistaken};
 
 #[cfg(test)]
 mod tests;
 
-use agc_args::{ArgsFault, options};
+use agc_args::{ArgsFault, end_mistaken, options, stand_ins};
 use agc_gate::{Gate, Telling};
 use agc_progress::Ticker;
-use agc_session::{DONE, InputFile, Options, REFUSED, Refusal, session, status_of};
+use agc_session::{InputFile, Options, REFUSED, session};
+use std::fs;
 use std::io::{IsTerminal, Read, Write};
 use std::process::ExitCode;
 use std::rt::Files;
 use std::sync::Wait;
 use std::thread::Threads;
-use std::{fs, io};
-
-/// The status of a mistake in the command line.
-const MISUSED: u8 = 2;
 
 fn main(rt: HostRuntime) -> ExitCode {
     let _stand_ins = stand_ins(&rt);
@@ -40,12 +37,6 @@ fn limit_of(asked: &Result<Options, ArgsFault>) -> u64 {
         Ok(options) => options.limit,
         Err(_) => 0,
     }
-}
-
-/// Three files that can be neither read nor written. A file that is opened takes the number of a
-/// closed standard stream; without these the rope would be read in the place of the keys.
-fn stand_ins<R: Files>(rt: &R) -> [io::Result<R::File>; 3] {
-    [fs::open(rt, "/"), fs::open(rt, "/"), fs::open(rt, "/")]
 }
 
 /// Does what the command line asks for: a session over the two files, with the keys of `keys` where
@@ -71,7 +62,7 @@ where
     ensures nothing { IfOk asked
         (λ _. result ≡ 1 → Keeps (W.contents out.old) (W.contents out.new)) }
     ensures told { IfErr asked
-        (λ fault. EndsMistaken fault result (W.contents out.old) (W.contents out.new)
+        (λ fault. EndsMistaken (codes "agc") 1 fault result (W.contents out.old) (W.contents out.new)
         (E.contents err.old) (E.contents err.new)) }
 {
     match asked {
@@ -90,8 +81,6 @@ where
                 err,
             )
         }
-        Err(ArgsFault::Help(text)) => status_of(DONE, out.write_all(text.as_bytes())),
-        Err(ArgsFault::Command(text)) => status_of(MISUSED, err.write_all(text.as_bytes())),
-        Err(ArgsFault::Memory) => status_of(REFUSED, Refusal::Memory.write_to(err)),
+        Err(fault) => end_mistaken("agc", fault, REFUSED, out, err),
     }
 }

@@ -1,6 +1,7 @@
 //! Who sits before the machine: the keys that he has typed, which are pressed as the machine can take them.
 ghost use Rattle.agc_script.specs.Event.{IsWhatInRange};
 
+use crate::recent::{KEPT, Recent};
 use agc_machine::{Machine, Stop};
 use agc_picture::Cap;
 use agc_script::{MOST_EVENTS, Script, What};
@@ -13,6 +14,9 @@ const SPACING: u64 = 8_533;
 
 /// The cycles that PRO is held: a fifth of a second.
 const PRO_HELD: u64 = 17_067;
+
+/// The cycles that the last boundaries take at most, as many as are kept: no boundary takes more than six.
+const RECENT_CYCLES: u64 = 72;
 
 /// A key that was pressed.
 #[derive(Clone, Copy, Debug, PartialEq, Eq)]
@@ -28,6 +32,8 @@ struct Press {
 #[derive(Drop)]
 pub struct Seat {
     sitting: Sitting,
+    /// The last boundaries by which the sitting has come to where it is; none where they are not known.
+    recent: Recent,
     /// The keys that were typed and not pressed yet, in the order in which they were typed.
     waiting: Vec<Cap>,
     /// The keys that were pressed, in that order.
@@ -36,12 +42,14 @@ pub struct Seat {
 
 impl Seat {
     /// Nothing was typed.
-    pub fn new(alloc: Global, sitting: Sitting) -> Seat {
-        Seat {
+    pub fn new(alloc: Global, sitting: Sitting) -> Result<Seat, AllocError> {
+        let recent = Recent::new(alloc)?;
+        Ok(Seat {
             sitting,
+            recent,
             waiting: Vec::new(alloc),
             pressed: Vec::new(alloc),
-        }
+        })
     }
 
     /// A key was typed: it waits until it can be pressed.
@@ -59,6 +67,11 @@ impl Seat {
 
     pub fn sitting(&self) -> &Sitting {
         &self.sitting
+    }
+
+    /// The last boundaries by which the sitting has come to where it is, where they are known.
+    pub fn recent(&self) -> &Recent {
+        &self.recent
     }
 
     pub fn machine(&self) -> &Machine {
@@ -87,7 +100,7 @@ impl Seat {
                 return Ok(());
             }
             let next = cycle.min(self.next_due());
-            self.sitting.go_to(next);
+            self.run_to(next);
         }
         Ok(())
     }
@@ -95,11 +108,44 @@ impl Seat {
     /// One boundary, after the keys that are due.
     pub fn step(&mut self) -> Result<(), GiveFault> {
         self.press_due()?;
-        self.sitting.step();
+        self.take_boundary();
         Ok(())
     }
 
-    fn has_stopped(&self) -> bool {
+    /// So many boundaries, one by one, that the last ones are known.
+    pub fn slow_down(&mut self) -> Result<(), GiveFault> {
+        for _boundary in 0..KEPT {
+            self.step()?;
+        }
+        Ok(())
+    }
+
+    /// The machine goes on to a cycle, or to its stop, as fast as it can: no boundary of the way is known.
+    fn run_to(&mut self, cycle: u64) {
+        self.recent.forget();
+        self.sitting.go_to(cycle);
+    }
+
+    /// One boundary, or none where the machine has stopped.
+    fn take_boundary(&mut self) {
+        if !self.has_stopped() {
+            self.recent.step(&mut self.sitting);
+        }
+    }
+
+    /// The machine goes on to a cycle, or to its stop, the last boundaries one by one, so that they are known.
+    fn come_to(&mut self, cycle: u64) {
+        self.run_to(cycle.saturating_sub(RECENT_CYCLES));
+        for _boundary in 0..u64::MAX {
+            if cycle <= self.cycle() || self.has_stopped() {
+                return;
+            }
+            self.take_boundary();
+        }
+    }
+
+    /// The machine takes no boundary more.
+    pub fn has_stopped(&self) -> bool {
         self.machine().stopped().is_some()
     }
 
@@ -209,39 +255,57 @@ impl Seat {
             if self.machine().wants_key() || self.has_stopped() {
                 break;
             }
-            self.sitting.step();
+            self.take_boundary();
         }
-        self.sitting.give(what)
+        self.recent.give(&mut self.sitting, what)
     }
 
     /// Goes back to a cycle: the keys that were pressed at it or later are gone, and so are those that wait. A PRO that
     /// was down then goes up as it would have. The second is false where memory ran out, and nothing has changed.
     pub fn back(self, alloc: Global, cycle: u64) -> (Seat, bool) {
+        let (mut seat, is_new) = self.begin_anew(alloc, cycle);
+        if is_new {
+            seat.waiting.clear();
+            forget_from(&mut seat.pressed, cycle);
+            seat.come_to(cycle);
+        }
+        (seat, is_new)
+    }
+
+    /// Where the machine has stopped, and the last boundaries are not known, it runs anew to its stop, so that they
+    /// are. Where memory runs out nothing has changed.
+    pub fn recall(self, alloc: Global) -> Seat {
+        let stop = self.cycle();
+        if !self.has_stopped() || !self.recent.is_empty() {
+            return self;
+        }
+        let (mut seat, is_new) = self.begin_anew(alloc, u64::MAX);
+        if is_new {
+            seat.come_to(stop.saturating_add(1));
+        }
+        seat
+    }
+
+    /// The sitting begins anew with what was told before a cycle. The second is false where memory ran out, and nothing
+    /// has changed.
+    fn begin_anew(self, alloc: Global, cycle: u64) -> (Seat, bool) {
         let Seat {
             sitting,
-            mut waiting,
-            mut pressed,
+            recent,
+            waiting,
+            pressed,
         } = self;
-        match sitting.go_back(alloc, cycle) {
-            Ok(sitting) => {
-                waiting.clear();
-                forget_from(&mut pressed, cycle);
-                let seat = Seat {
-                    sitting,
-                    waiting,
-                    pressed,
-                };
-                (seat, true)
-            }
-            Err(same) => {
-                let seat = Seat {
-                    sitting: same.sitting,
-                    waiting,
-                    pressed,
-                };
-                (seat, false)
-            }
-        }
+        let (sitting, is_new) = match sitting.begin_anew(alloc, cycle) {
+            Ok(sitting) => (sitting, true),
+            Err(same) => (same.sitting, false),
+        };
+        let seat = Seat {
+            sitting,
+            recent,
+            waiting,
+            pressed,
+        };
+        (seat, is_new)
     }
 
     /// How many keys were pressed.

@@ -1,10 +1,10 @@
 //! What bytes type, how time goes, and when keys are pressed.
-use crate::{Decoder, Pace, Seat, Speed, Typed};
-use agc_listing::{IDLE, rope_file};
+use crate::{Decoder, Pace, Seat, Speed, Typed, push_insides};
 use agc_picture::Cap;
 use agc_script::{Key, Script};
 use agc_sitting::{GiveFault, Sitting};
 use agc_store::Rope;
+use agc_test_ropes::{IDLE, rope_file};
 use std::process::Abort;
 use std::test::Fail;
 
@@ -53,7 +53,7 @@ fn seat(rt: &(impl AllocGlobal + Abort), script: &str) -> Result<Seat, Fail> {
     let script = Script::parse(rt.alloc(), script.as_bytes())?;
     let sitting = Sitting::new(rt.alloc(), rope, script, 1_000_000);
     let sitting = sitting.ok().expect(rt, "the limit is in range");
-    Ok(Seat::new(rt.alloc(), sitting))
+    Ok(Seat::new(rt.alloc(), sitting)?)
 }
 
 /// The script that a seat tells, as text.
@@ -95,5 +95,104 @@ fn a_full_script_takes_no_key(rt: HostRuntime) -> Result<(), Fail> {
     assert_eq!(rt; seat.waiting(), 0);
     assert_eq!(rt; seat.go_to(500), Ok(()));
     assert_eq!(rt; seat.cycle(), 500);
+    Ok(())
+}
+
+/// What is seen inside of a seat's machine, with the last of its boundaries, so many at most.
+fn insides(rt: &(impl AllocGlobal + Abort), seat: &Seat, most: usize) -> String {
+    let mut text = String::new(rt.alloc());
+    push_insides(rt.alloc(), &mut text, seat.recent(), most, seat.sitting())
+        .ok()
+        .expect(rt, "memory");
+    text
+}
+
+/// The insides are these.
+fn shows(rt: &(impl AllocGlobal + Abort), seat: &Seat, most: usize, wanted: &str) {
+    assert_eq!(rt; insides(rt, seat, most).as_str(), wanted);
+}
+
+/// Twelve boundaries are kept, and the two lines of the state come after them.
+fn shows_twelve(rt: &(impl AllocGlobal + Abort), seat: &Seat) {
+    assert_eq!(rt; insides(rt, seat, 20).lines().count(), 14);
+}
+
+/// The last boundaries are known where each is taken by itself, and not where the machine goes on as fast as it can.
+#[test]
+fn last_boundaries(rt: HostRuntime) -> Result<(), Fail> {
+    let mut seat = seat(&rt, "")?;
+    assert_eq!(rt; seat.go_to(100), Ok(()));
+    shows(
+        &rt,
+        &seat,
+        12,
+        " A 000000 L 00000 Q 000000 Z 4001 EB 0 FB 00 BB 00000\n next 4000 14000 TCF 4000\n",
+    );
+    assert_eq!(rt; seat.slow_down(), Ok(()));
+    shows_twelve(&rt, &seat);
+    shows(
+        &rt,
+        &seat,
+        1,
+        " 111 4000 14000 TCF 4000 | A 000000 L 00000 Q 000000 Z 4001 EB 0 FB 00
+ A 000000 L 00000 Q 000000 Z 4001 EB 0 FB 00 BB 00000\n next 4000 14000 TCF 4000\n",
+    );
+    Ok(())
+}
+
+/// A key that goes down is told among the boundaries.
+#[test]
+fn last_boundaries_with_a_key(rt: HostRuntime) -> Result<(), Fail> {
+    let mut seat = seat(&rt, "")?;
+    seat.type_key(Cap::Pro).ok().expect(&rt, "memory");
+    assert_eq!(rt; seat.step(), Ok(()));
+    shows(
+        &rt,
+        &seat,
+        12,
+        " 0 - event pro down | A 000000 L 00000 Q 000000 Z 4001 EB 0 FB 00
+ 0 4000 14000 TCF 4000 | A 000000 L 00000 Q 000000 Z 4001 EB 0 FB 00
+ A 000000 L 00000 Q 000000 Z 4001 EB 0 FB 00 BB 00000\n next 4000 14000 TCF 4000\n",
+    );
+    Ok(())
+}
+
+/// Where the machine goes back the boundaries before are known.
+#[test]
+fn last_boundaries_where_time_goes_back(rt: HostRuntime) -> Result<(), Fail> {
+    let mut seat = seat(&rt, "")?;
+    assert_eq!(rt; seat.go_to(100), Ok(()));
+    let (seat, _) = seat.back(rt.alloc(), 50);
+    shows_twelve(&rt, &seat);
+    let (seat, _) = seat.back(rt.alloc(), 1);
+    shows(
+        &rt,
+        &seat,
+        12,
+        " 0 4000 14000 TCF 4000 | A 000000 L 00000 Q 000000 Z 4001 EB 0 FB 00
+ A 000000 L 00000 Q 000000 Z 4001 EB 0 FB 00 BB 00000\n next 4000 14000 TCF 4000\n",
+    );
+    Ok(())
+}
+
+/// Where the machine has stopped by itself its last boundaries are known once it has run anew, and nothing that was
+/// typed is lost.
+#[test]
+fn last_boundaries_of_all(rt: HostRuntime) -> Result<(), Fail> {
+    let mut seat = seat(&rt, "")?;
+    seat.type_key(Cap::Pro).ok().expect(&rt, "memory");
+    assert_eq!(rt; seat.go_to(2_000_000), Ok(()));
+    let script = told(&rt, &seat);
+    let seat = seat.recall(rt.alloc());
+    shows(
+        &rt,
+        &seat,
+        2,
+        " 999999 4000 14000 TCF 4000 | A 000000 L 00000 Q 000000 Z 4001 EB 0 FB 00
+ 1000000 - stop Limit | A 000000 L 00000 Q 000000 Z 4001 EB 0 FB 00
+ A 000000 L 00000 Q 000000 Z 4001 EB 0 FB 00 BB 00000\n next - stop Limit\n",
+    );
+    shows_twelve(&rt, &seat);
+    assert_eq!(rt; told(&rt, &seat).as_str(), script.as_str());
     Ok(())
 }

@@ -22,7 +22,7 @@ use Rattle.agc_session.specs.declared.options.Options.{Options}
 use Rattle.agc_session.specs.declared.refusal.Refusal.{Refusal}
 use Rattle.agc_session.specs.declared.report.Report.{Report}
 use Rattle.agc_session.specs.declared.refusal.Refusal.TheVariants as refusal
-use Rattle.agc_panel.specs.declared.watch_spec.WatchFault.TheVariants as watch
+use Rattle.agc_executive.specs.declared.watch_spec.WatchFault.TheVariants as watch
 use Rattle.agc_session.proofs.Refused.{at_last, at_memory, at_tables, keys_are_read}
 
 -- the machine that was made of both files and the options, and what comes of its run

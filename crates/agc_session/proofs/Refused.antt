@@ -1,8 +1,8 @@
 -- Each place at which a session refuses tells what may be told there.
 use Rattle.std.proofs.Common.{◌≡◌, ◌⊎◌, ℕ, List, ◌∷◌, ◌++◌, true, refl, inl, inr}
 use Rattle.std.specs.Prelude.{Option, None, Some, IfSome, Result}
-use Rattle.agc_panel.specs.WatchSpec.{spec_of}
-use Rattle.agc_panel.specs.declared.watch_spec.WatchFault.TheVariants as watch
+use Rattle.agc_executive.specs.WatchSpec.{spec_of}
+use Rattle.agc_executive.specs.declared.watch_spec.WatchFault.TheVariants as watch
 use Rattle.agc_session.proofs.Told.{comes_later, none_first, none_later, told_first, told_later, told_found}
 use Rattle.agc_session.specs.Entry.{ComesOf, session_steps}
 use Rattle.agc_session.specs.Files.{Files, files_of, keys_read, rope_steps, script_steps, keys_steps_where}

@@ -1,11 +1,13 @@
 -- How the options of a session are refused, before its run.
 use Rattle.std.specs.Prelude.{ℕ, ◌==◌, ◌||◌, ◌&&◌, nat_lt, if◌then◌else◌, Bool, List, [], ◌∷◌}
 use Rattle.std.specs.Prelude.{Option, Some, None, option_map, option_and_then}
+use Rattle.std.specs.declared.alloc.Global.{Global}
+use Rattle.std.specs.declared.string.String.{String}
 use Rattle.agc_machine.specs.StopAddress.{stop_address_of}
 use Rattle.agc_machine.specs.declared.machine.LimitFault.TheVariants as limit
-use Rattle.agc_panel.specs.WatchSpec.{spec_of, watch_fault_of}
-use Rattle.agc_panel.specs.declared.watch_spec.WatchSpec.{WatchSpec}
-use Rattle.agc_panel.specs.declared.watch_spec.WatchFault.TheVariants as watch
+use Rattle.agc_executive.specs.WatchSpec.{spec_of, watch_fault_of}
+use Rattle.agc_executive.specs.declared.watch_spec.WatchSpec.{WatchSpec}
+use Rattle.agc_executive.specs.declared.watch_spec.WatchFault.TheVariants as watch
 use Rattle.agc_session.specs.Options.{said_by, says_nothing}
 use Rattle.agc_session.specs.Steps.{Step, asks, looks, refused_if}
 use Rattle.agc_session.specs.declared.options.Options.{Options}
@@ -22,16 +24,20 @@ limit_refusal cycles =
 unfoldable pub watch_spec_refusal : Options → Option Refusal
 watch_spec_refusal options = refused_if (says_nothing spec_of options.watch) refusal.BadWatchSpec
 
-unfoldable pub until_spec_refusal : Options → Option Refusal
-until_spec_refusal options =
-    refused_if (says_nothing stop_address_of options.until) refusal.BadUntilSpec
+-- the text of a stop address says one, where it is given
+unfoldable pub until_refusal : Option (String Global) → Option Refusal
+until_refusal until = refused_if (says_nothing stop_address_of until) refusal.BadUntilSpec
 
 unfoldable pub machine_steps : Options → List Step
 machine_steps options =
     looks (limit_refusal options.limit)
     ∷ looks (watch_spec_refusal options)
-    ∷ looks (until_spec_refusal options)
+    ∷ looks (until_refusal options.until)
     ∷ []
+
+-- the steps to a machine where no tables are watched
+unfoldable pub start_steps : Option (String Global) → ℕ → List Step
+start_steps until limit = looks (limit_refusal limit) ∷ looks (until_refusal until) ∷ []
 
 -- a ring has 1 to 65,536 slots
 unfoldable pub slots_refusal : ℕ → Option Refusal

@@ -1,6 +1,6 @@
 -- The text of a report.
 use Rattle.std.specs.Prelude.{ℕ, List, [], ◌++◌, Option, Some, None}
-use Rattle.agc_panel.specs.TablesText.{tables_text}
+use Rattle.agc_executive.specs.TablesText.{tables_text}
 use Rattle.agc_panel.specs.Text.{panel_text}
 use Rattle.agc_session.specs.Text.{stop_line, log_text, live_text}
 use Rattle.agc_session.specs.declared.report.Report.{Report}

@@ -7,8 +7,8 @@ use Rattle.agc_script.specs.declared.fault.FaultKind.{FaultKind}
 use Rattle.agc_script.specs.declared.fault.FaultKind.TheVariants as kind
 use Rattle.agc_machine.specs.declared.machine.LimitFault.{LimitFault}
 use Rattle.agc_machine.specs.declared.machine.LimitFault.TheVariants as limit
-use Rattle.agc_panel.specs.declared.watch_spec.WatchFault.{WatchFault}
-use Rattle.agc_panel.specs.declared.watch_spec.WatchFault.TheVariants as watch
+use Rattle.agc_executive.specs.declared.watch_spec.WatchFault.{WatchFault}
+use Rattle.agc_executive.specs.declared.watch_spec.WatchFault.TheVariants as watch
 use Rattle.agc_pipe.specs.declared.shown.ShowFault.{ShowFault}
 use Rattle.agc_pipe.specs.declared.shown.ShowFault.TheVariants as show
 use Rattle.agc_session.specs.declared.refusal.Refusal.{Refusal}

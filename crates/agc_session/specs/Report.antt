@@ -8,9 +8,9 @@ use Rattle.agc_machine.specs.State.{State}
 use Rattle.agc_machine.specs.Taken.{IsTakenTape, replayed}
 use Rattle.agc_machine.specs.declared.answer.ChannelWrite.{ChannelWrite}
 use Rattle.agc_panel.specs.Face.{panel_of}
-use Rattle.agc_panel.specs.Tables.{WatchedTables, tables_of}
-use Rattle.agc_panel.specs.WatchSpec.{spec_of}
-use Rattle.agc_panel.specs.declared.watch_spec.WatchSpec.{WatchSpec}
+use Rattle.agc_executive.specs.Tables.{WatchedTables, tables_of}
+use Rattle.agc_executive.specs.WatchSpec.{spec_of}
+use Rattle.agc_executive.specs.declared.watch_spec.WatchSpec.{WatchSpec}
 use Rattle.agc_pipe.specs.Keys.{key_in}
 use Rattle.agc_session.specs.Options.{said_by}
 use Rattle.agc_session.specs.declared.options.Options.{Options}

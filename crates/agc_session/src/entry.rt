@@ -2,7 +2,7 @@
 ghost use Rattle.std.specs.Prelude.{◌≡◌, ◌⊎◌, ◌++◌, false, true, OnOk, IfSome, is_ok};
 ghost use Rattle.std.specs.Prelude.{if◌then◌else◌};
 ghost use Rattle.std.specs.Io.KnownBytes.{Keeps, Appends, IsAtEnd};
-ghost use Rattle.agc_panel.specs.WatchSpec.{spec_of};
+ghost use Rattle.agc_executive.specs.WatchSpec.{spec_of};
 ghost use Rattle.agc_session.specs.Entry.{ComesOf, IsAccepted, IsAnswered, IsKeysReport, IsPrinted};
 ghost use Rattle.agc_session.specs.Entry.{IsReported, IsRunReport, session_steps};
 ghost use Rattle.agc_session.specs.Files.{given_files, keys_steps};

@@ -17,4 +17,5 @@ pub use entry::{DONE, REFUSED, UNWRITTEN, session, status_of};
 pub use files::{read_rope, read_script};
 pub use input::{InputFile, KEY_BYTES, ROPE_BYTES, ReadFault, SCRIPT_BYTES, Unread, read_limited};
 pub use options::Options;
+pub use prepare::start_machine;
 pub use refusal::Refusal;

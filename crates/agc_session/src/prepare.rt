@@ -1,9 +1,11 @@
 //! Before the run: the options are looked at, one after another, and the machine is made.
 ghost use Rattle.std.specs.Prelude.{◌≡◌, ◌⊎◌, false, true, IfOk, OnOk, MatchResult, None, Some};
 ghost use Rattle.agc_machine.specs.State.{start_state};
-ghost use Rattle.agc_panel.specs.WatchSpec.{spec_of};
+ghost use Rattle.agc_executive.specs.WatchSpec.{spec_of};
 ghost use Rattle.agc_session.specs.Options.{said_by};
-ghost use Rattle.agc_session.specs.Prepare.{limit_refusal, watch_spec_refusal, until_spec_refusal};
+ghost use Rattle.agc_session.specs.Prepare.{limit_refusal, watch_spec_refusal, until_refusal};
+ghost use Rattle.agc_session.specs.Prepare.{start_steps};
+ghost use Rattle.agc_session.specs.Entry.{ComesOf};
 ghost use Rattle.agc_session.specs.Prepare.{machine_steps, slots_refusal, spacing_refusal};
 ghost use Rattle.agc_session.specs.Prepare.{tables_refusal, run_steps};
 ghost use Rattle.agc_session.specs.Steps.{IsTold, refusal_in};
@@ -12,8 +14,8 @@ ghost use Rattle.agc_session.specs.declared.refusal.Refusal.TheVariants as refus
 
 use crate::options::Options;
 use crate::refusal::Refusal;
+use agc_executive::{CheckedSpec, WatchSpec};
 use agc_machine::{Machine, StopAddress};
-use agc_panel::{CheckedSpec, WatchSpec};
 use agc_pipe::{Slots, Spacing, try_thread};
 use agc_script::Script;
 use agc_store::Rope;
@@ -39,11 +41,27 @@ pub fn prepare(options: &Options, rope: Rope, script: Script) -> Result<Prepared
 {
     let machine = limited_machine(rope, script, options.limit)?;
     let watch = watch_spec(options)?;
-    let until = stop_address(options)?;
+    let until = stop_address(&options.until)?;
     Ok(Prepared {
         machine: with_until(machine, until),
         watch,
     })
+}
+
+/// Makes the machine of a run that only its limit and its stop address say more of: the limit is looked at first.
+#[tactic(auto, unfolding(crate::specs::Prepare::start_steps, agc_machine::specs::State::start_state))]
+pub fn start_machine(
+    rope: Rope,
+    script: Script,
+    limit: u64,
+    until: &Option<String>,
+) -> Result<Machine, Refusal>
+    ensures { ComesOf (start_steps until.now limit) (λ machine. machine
+        ≡ start_state rope script limit (said_by stop_address_of until.now)) result }
+{
+    let machine = limited_machine(rope, script, limit)?;
+    let until = stop_address(until)?;
+    Ok(with_until(machine, until))
 }
 
 #[tactic(auto, unfolding(crate::specs::Prepare::limit_refusal))]
@@ -73,13 +91,13 @@ fn watch_spec(options: &Options) -> Result<Option<WatchSpec>, Refusal>
     }
 }
 
-#[tactic(auto, unfolding(crate::specs::Prepare::until_spec_refusal))]
-fn stop_address(options: &Options) -> Result<Option<StopAddress>, Refusal>
-    ensures checked { MatchResult result (λ _. until_spec_refusal options.now ≡ None)
-        (λ refusal. until_spec_refusal options.now ≡ Some refusal) }
-    ensures said { IfOk result (λ at. at ≡ said_by stop_address_of options.now.until) }
+#[tactic(auto, unfolding(crate::specs::Prepare::until_refusal))]
+fn stop_address(until: &Option<String>) -> Result<Option<StopAddress>, Refusal>
+    ensures checked { MatchResult result (λ _. until_refusal until.now ≡ None)
+        (λ refusal. until_refusal until.now ≡ Some refusal) }
+    ensures said { IfOk result (λ at. at ≡ said_by stop_address_of until.now) }
 {
-    let Some(text) = &options.until else {
+    let Some(text) = until else {
         return Ok(None);
     };
     match StopAddress::read(text.as_str()) {

@@ -1,7 +1,7 @@
 //! A report in words: the panel, the stop, the log, the live keys and the watched tables.
 ghost use Rattle.std.specs.Prelude.{◌≡◌, ◌⊎◌, ◌++◌, IfOk, IfErr, OnOk, string_bytes};
-ghost use Rattle.agc_panel.specs.TablesText.{tables_text};
-ghost use Rattle.agc_panel.specs.declared.watch_spec.WatchFault.TheVariants as fault;
+ghost use Rattle.agc_executive.specs.TablesText.{tables_text};
+ghost use Rattle.agc_executive.specs.declared.watch_spec.WatchFault.TheVariants as fault;
 ghost use Rattle.agc_session.specs.Print.{part_text, report_text};
 ghost use Rattle.agc_session.specs.Text.{live_text, log_text};
 ghost use Rattle.agc_session.specs.declared.refusal.Refusal.TheVariants as refusal;
@@ -9,7 +9,7 @@ ghost use Rattle.agc_session.specs.declared.refusal.Refusal.TheVariants as refus
 use crate::refusal::Refusal;
 use crate::report::{LiveKeys, Log, Report};
 use crate::text::{push_live, push_log, push_stop_line};
-use agc_panel::{Tables, WatchFault};
+use agc_executive::{Tables, WatchFault};
 use std::alloc::{AllocError, Global};
 
 /// The text of a report. Out of memory for the tables' text is told as the watcher's fault.

@@ -6,8 +6,8 @@ ghost use Rattle.agc_session.specs.Refusal.{rope_fault_name, script_fault_name, 
 ghost use Rattle.agc_session.specs.Refusal.{watch_fault_name, refusal_line};
 
 use crate::input::ReadFault;
+use agc_executive::WatchFault;
 use agc_machine::LimitFault;
-use agc_panel::WatchFault;
 use agc_pipe::ShowFault;
 use agc_script::{FaultKind, ScriptFault};
 use agc_store::RopeFault;

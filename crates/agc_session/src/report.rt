@@ -1,6 +1,7 @@
 //! What a session reports of a run, as one value. A printer puts it into words.
+use agc_executive::Tables;
 use agc_machine::{ChannelWrite, Stop};
-use agc_panel::{Panel, Tables};
+use agc_panel::Panel;
 use agc_script::Tape;
 use std::marker::Model;
 

@@ -1,7 +1,7 @@
 //! The run itself: the machine is run to its stop, and what it leaves is reported.
 ghost use Rattle.std.specs.Prelude.{◌≡◌, ◌⊎◌, ◌<◌, ◌^◌, All, false, true, IfOk, IfErr, None, Some};
 ghost use Rattle.agc_machine.specs.Run.{Run, run_of};
-ghost use Rattle.agc_panel.specs.WatchSpec.{spec_of};
+ghost use Rattle.agc_executive.specs.WatchSpec.{spec_of};
 ghost use Rattle.agc_pipe.specs.Shown.{ShowsRun};
 ghost use Rattle.agc_session.specs.Options.{said_by};
 ghost use Rattle.agc_session.specs.Report.{IsLiveReport, IsReport, log_asked, tables_asked};
@@ -11,8 +11,8 @@ use crate::options::Options;
 use crate::prepare::RunOptions;
 use crate::refusal::Refusal;
 use crate::report::{LiveKeys, Log, Report};
+use agc_executive::{CheckedSpec, Tables};
 use agc_machine::{ChannelWrite, Machine};
-use agc_panel::{CheckedSpec, Tables};
 use agc_pipe::{Gate, Live, Shown, Spacing, show_live_run, show_run};
 use agc_script::Key;
 use agc_store::Store;
@@ -35,7 +35,7 @@ pub fn report_run<H: Threads + Wait + Sync, G: Gate + Sync>(
     ensures refused { IfErr result (λ r. (r ≡ Refusal.Thread) ⊎ (r ≡ Refusal.Memory)) }
 {
     let shown = show_run(rt, alloc, machine, run.slots, gate)?;
-    Ok(put_together(options, shown, None, &run.watch))
+    Ok(report_shown(options, shown, None, &run.watch))
 }
 
 /// Runs a machine that is at its start with live keys.
@@ -60,11 +60,11 @@ pub fn report_live_run<H: Threads + Wait + Sync, G: Gate + Sync>(
     )?;
     let left = rest.len();
     let keys = LiveKeys { tape, left };
-    Ok(put_together(options, shown, Some(keys), &run.watch))
+    Ok(report_shown(options, shown, Some(keys), &run.watch))
 }
 
 /// Puts together what the options ask for of what a run left.
-fn put_together(
+fn report_shown(
     options: &Options,
     shown: Shown,
     keys: Option<LiveKeys>,

@@ -3,13 +3,14 @@ use Rattle.std.specs.Prelude.{◌≡◌, ◌⊎◌, ℕ, zero, suc, ◌≤◌, L
 use Rattle.std.proofs.Common.{refl, ap, sym, subst, ◌∙◌, arith, inl, inr}
 use Rattle.std.proofs.lemmas.Bool.Decides.{leb_tells}
 use Rattle.agc_word.specs.Number.{Number}
+use Rattle.agc_script.specs.Merge.{joined}
 use Rattle.agc_script.specs.declared.event.Event.{Event}
 use Rattle.agc_machine.specs.Boundary.{boundary}
 use Rattle.agc_machine.specs.Laws.{IsSameRun, after}
 use Rattle.agc_machine.specs.Replay.{Chain, chain, writes_in}
 use Rattle.agc_machine.specs.State.{State, start_state}
 use Rattle.agc_panel.specs.Face.{panel_of}
-use Rattle.agc_sitting.specs.Sitting.{ComesTo, IsReplay, SittingState, plain_run, start_with}
+use Rattle.agc_sitting.specs.Sitting.{ComesTo, IsGivenAgain, IsReplay, SittingState, plain_run, start_with, told}
 
 after_is_last : (n : ℕ) (s : State) → after n s ≡ (chain (replicate n None) s).last
 unfolding after chain
@@ -58,3 +59,27 @@ pub one_panel : (script : List Event) (s t : SittingState) (h : IsReplay script 
     → h.boundaries ≡ k.boundaries → s.panel ≡ t.panel
 one_panel script s t h k e same =
     sym h.panel ∙ ap (λ (c : Chain). panel_of (writes_in c.answers)) (same_chains script s t h.boundaries k.boundaries e same) ∙ k.panel
+
+-- what was dropped is given again
+pub same_script : (cycle : ℕ) (s t : SittingState) → IsGivenAgain cycle s t → told t ≡ told s
+same_script cycle s t h = ap (joined t.script) h.given ∙ h.again
+
+state_by : (script other : List Event) (s t : SittingState) → other ≡ script → IsSameRun s.now t.now → (h : IsReplay script s) (k : IsReplay other t)
+    → h.boundaries ≡ k.boundaries → t.now ≡ s.now
+state_by script other s t e run h =
+    subst (λ (x : List Event). (k : IsReplay x t) → h.boundaries ≡ k.boundaries → t.now ≡ s.now) (sym e)
+    (λ k same. sym (one_state script s t h k run same))
+
+panel_by : (script other : List Event) (s t : SittingState) → other ≡ script → IsSameRun s.now t.now → (h : IsReplay script s) (k : IsReplay other t)
+    → h.boundaries ≡ k.boundaries → t.panel ≡ s.panel
+panel_by script other s t e run h =
+    subst (λ (x : List Event). (k : IsReplay x t) → h.boundaries ≡ k.boundaries → t.panel ≡ s.panel) (sym e)
+    (λ k same. sym (one_panel script s t h k run same))
+
+pub same_state : (cycle : ℕ) (s t : SittingState) → IsGivenAgain cycle s t → (h : IsReplay (told s) s) (k : IsReplay (told t) t)
+    → h.boundaries ≡ k.boundaries → t.now ≡ s.now
+same_state cycle s t a h k same = state_by (told s) (told t) s t (same_script cycle s t a) a.run h k same
+
+pub same_panel : (cycle : ℕ) (s t : SittingState) → IsGivenAgain cycle s t → (h : IsReplay (told s) s) (k : IsReplay (told t) t)
+    → h.boundaries ≡ k.boundaries → t.panel ≡ s.panel
+same_panel cycle s t a h k same = panel_by (told s) (told t) s t (same_script cycle s t a) a.run h k same

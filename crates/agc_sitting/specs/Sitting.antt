@@ -7,7 +7,7 @@ use Rattle.agc_script.specs.Script.{before}
 use Rattle.agc_script.specs.declared.event.Event.{Event}
 use Rattle.agc_script.specs.declared.event.What.{What}
 use Rattle.agc_machine.specs.Boundary.{boundary}
-use Rattle.agc_machine.specs.Laws.{after}
+use Rattle.agc_machine.specs.Laws.{IsSameRun, after}
 use Rattle.agc_machine.specs.Live.{IsLive}
 use Rattle.agc_machine.specs.Replay.{Chain, chain, writes_in}
 use Rattle.agc_machine.specs.State.{State, live_event, start_state}
@@ -69,6 +69,13 @@ pub record IsReplay (script : List Event) (s : SittingState) : Type 0 where
   pub boundaries : ℕ
   pub state : (plain_run boundaries script s).last ≡ s.now
   pub panel : panel_of (writes_in (plain_run boundaries script s).answers) ≡ s.panel
+
+-- A sitting that was begun anew with what another had told before a cycle, and was given again what that has
+-- dropped, each event at its cycle. That both tell one script is promised where time begins anew.
+pub record IsGivenAgain (cycle : ℕ) (s t : SittingState) : Type 0 where
+  pub again : joined t.script (dropped cycle s) ≡ told s
+  pub given : t.given ≡ dropped cycle s
+  pub run : IsSameRun s.now t.now
 
 -- a run goes on from a state to another by boundaries at which nothing is given
 abbrev pub ComesTo : State → State → Type 0

@@ -6,6 +6,7 @@ ghost use Rattle.agc_script.specs.Said.{said_at};
 ghost use Rattle.agc_script.specs.Merge.{joined};
 ghost use Rattle.agc_script.specs.Script.{IsInOrder, IsNotBefore};
 ghost use Rattle.agc_machine.specs.Boundary.{boundary, WantsKey};
+ghost use Rattle.agc_machine.specs.Laws.{HasChannel};
 ghost use Rattle.agc_machine.specs.Run.{next_before};
 ghost use Rattle.agc_machine.specs.State.{start_state};
 ghost use Rattle.agc_machine.specs.Replay.{writes_in};
@@ -67,9 +68,12 @@ impl Sitting {
         ensures given { IfOk result (λ sitting. sitting.given ≡ []) }
         ensures now { IfOk result (λ sitting. sitting.now ≡ start_state rope script limit None) }
         ensures panel { IfOk result (λ sitting. sitting.panel ≡ panel_of []) }
-        ensures zero { IfErr result (λ fault. fault ≡ BeginFault.Limit LimitFault.Zero → limit ≡ 0) }
-        ensures too_large { IfErr result (λ fault. fault ≡ BeginFault.Limit LimitFault.TooLarge → 1000000000000 < limit) }
-        ensures in_range { IsOk result → (0 < limit) × (limit ≤ 1000000000000) }
+        ensures zero { IsErrOf result (BeginFault.Limit LimitFault.Zero)
+            ↔ (limit ≡ 0) × (IsErrOf result BeginFault.Memory → ⊥) }
+        ensures too_large { IsErrOf result (BeginFault.Limit LimitFault.TooLarge)
+            ↔ (1000000000000 < limit) × (IsErrOf result BeginFault.Memory → ⊥) }
+        ensures in_range { IsOk result
+            ↔ (0 < limit) × (limit ≤ 1000000000000) × (IsErrOf result BeginFault.Memory → ⊥) }
     {
         let known = copied(alloc, &script).ok_or(BeginFault::Memory)?;
         let events = copied(alloc, &script).ok_or(BeginFault::Memory)?;
@@ -88,7 +92,8 @@ impl Sitting {
 
     /// One boundary: one event, timer step, interrupt or order, or the stop.
     pub fn step(&mut self) -> Stepped
-        ensures { HasGone self.old (boundary None self.old.now) result self.new }
+        ensures gone { HasGone self.old (boundary None self.old.now) result self.new }
+        ensures channel { HasChannel result }
     {
         let stepped = self.machine.step(None);
         show(&mut self.panel, stepped)
@@ -97,7 +102,8 @@ impl Sitting {
     /// Goes on to the next channel write, or to the stop, but no further than to the first boundary
     /// that ends at a cycle or later, of which it returns `Quiet`. At least one boundary is taken.
     pub fn go_on(&mut self, cycle: u64) -> Stepped
-        ensures { HasGone self.old (next_before cycle self.old.now) result self.new }
+        ensures gone { HasGone self.old (next_before cycle self.old.now) result self.new }
+        ensures channel { HasChannel result }
     {
         let stepped = self.machine.next_write_before(cycle);
         show(&mut self.panel, stepped)

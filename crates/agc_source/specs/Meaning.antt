@@ -6,8 +6,8 @@ use Rattle.agc_word.specs.Numeral.{octal_number}
 use Rattle.agc_order.specs.Row.{basic_row, extracode_row}
 use Rattle.agc_order.specs.declared.order.Basic.{Basic}
 use Rattle.agc_order.specs.declared.order.Extracode.{Extracode}
-use Rattle.agc_rope_text.specs.List.{listed_address}
-use Rattle.agc_rope_text.specs.declared.order.Operand.{Operand}
+use Rattle.agc_rope_listing.specs.List.{listed_address}
+use Rattle.agc_rope_listing.specs.declared.order.Operand.{Operand}
 use Rattle.agc_source_words.specs.Location.{bank_register, cell_address, complete_address}
 use Rattle.agc_source_words.specs.Mnemonic.{basic_named, directive_named, extracode_named}
 use Rattle.agc_source_words.specs.Name.{Naming}

@@ -8,9 +8,9 @@ use Rattle.agc_order.specs.Row.{basic_row, extracode_row}
 use Rattle.agc_order.specs.declared.order.Basic.{Basic}
 use Rattle.agc_order.specs.declared.order.Extracode.{Extracode}
 use Rattle.agc_script.specs.Text.{lines_of, words_of}
-use Rattle.agc_rope_text.specs.Line.{line_named}
-use Rattle.agc_rope_text.specs.declared.fault.LineFault.{LineFault}
-use Rattle.agc_rope_text.specs.declared.line.Named.{Named}
+use Rattle.agc_rope_listing.specs.Line.{line_named}
+use Rattle.agc_rope_listing.specs.declared.fault.LineFault.{LineFault}
+use Rattle.agc_rope_listing.specs.declared.line.Named.{Named}
 use Rattle.agc_source_words.specs.Mnemonic.{basic_named, extracode_named}
 use Rattle.agc_source.specs.declared.misnamed.Misnamed.{Misnamed}
 use Rattle.agc_source.specs.declared.misnamed.Written.{Written}

@@ -4,9 +4,9 @@ use Rattle.std.specs.Prelude.{Option, Some, None, Result, Ok, Err, if◌then◌e
 use Rattle.agc_word.specs.Numeral.{octal_number}
 use Rattle.agc_order.specs.declared.row.Takes.{Takes}
 use Rattle.agc_order.specs.declared.row.Takes.TheVariants as takes
-use Rattle.agc_rope_text.specs.List.{listed_address}
-use Rattle.agc_rope_text.specs.declared.order.Operand.{Operand}
-use Rattle.agc_rope_text.specs.declared.order.Operand.TheVariants as operand
+use Rattle.agc_rope_listing.specs.List.{listed_address}
+use Rattle.agc_rope_listing.specs.declared.order.Operand.{Operand}
+use Rattle.agc_rope_listing.specs.declared.order.Operand.TheVariants as operand
 use Rattle.agc_source_words.specs.Location.{cell_address, sees}
 use Rattle.agc_source_words.specs.Name.{Naming}
 use Rattle.agc_source_words.specs.Number.{offset_named}

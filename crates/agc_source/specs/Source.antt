@@ -5,14 +5,14 @@ use Rattle.std.specs.List.{list_all, list_any}
 use Rattle.agc_word.specs.Number.{Number}
 use Rattle.agc_store.specs.declared.rope_file.RopeForm.{RopeForm}
 use Rattle.agc_script.specs.Text.{lines_of}
-use Rattle.agc_rope_text.specs.Line.{is_no_text, line_named}
-use Rattle.agc_rope_text.specs.Order.{leads_extracode}
-use Rattle.agc_rope_text.specs.Weave.{said_in, said_with, unless_named, woven_file}
-use Rattle.agc_rope_text.specs.declared.fault.LineFault.{LineFault}
-use Rattle.agc_rope_text.specs.declared.fault.LineFault.TheVariants as line_fault
-use Rattle.agc_rope_text.specs.declared.fault.WeaveFault.{WeaveFault}
-use Rattle.agc_rope_text.specs.declared.fault.WeaveFault.TheVariants as weave
-use Rattle.agc_rope_text.specs.declared.line.Named.{Named}
+use Rattle.agc_rope_listing.specs.Line.{is_no_text, line_named}
+use Rattle.agc_rope_listing.specs.Order.{leads_extracode}
+use Rattle.agc_rope_listing.specs.Weave.{said_in, said_with, unless_named, woven_file}
+use Rattle.agc_rope_listing.specs.declared.fault.LineFault.{LineFault}
+use Rattle.agc_rope_listing.specs.declared.fault.LineFault.TheVariants as line_fault
+use Rattle.agc_rope_listing.specs.declared.fault.WeaveFault.{WeaveFault}
+use Rattle.agc_rope_listing.specs.declared.fault.WeaveFault.TheVariants as weave
+use Rattle.agc_rope_listing.specs.declared.line.Named.{Named}
 use Rattle.agc_source.specs.Cursor.{after_words, first_cursor, location_at, room_at}
 use Rattle.agc_source.specs.Meaning.{pair_meaning, word_meaning}
 use Rattle.agc_source_words.specs.Name.{Naming, own_names, with_name}

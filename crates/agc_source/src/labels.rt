@@ -13,12 +13,12 @@ ghost use Rattle.agc_source.specs.Source.{
   shape_labelled,
 };
 ghost use Rattle.agc_source_words.specs.Text.{body_of, label_of, said_by};
-ghost use Rattle.agc_rope_text.specs.Line.{line_named};
+ghost use Rattle.agc_rope_listing.specs.Line.{line_named};
 ghost use Rattle.agc_source_words.specs.declared.fault.SourceTrouble.TheVariants.{Memory};
 
 use crate::cursor::Cursor;
 use crate::shape::{Shape, cursor_after, shape_of};
-use agc_rope_text::{LineFault, read_line};
+use agc_rope_listing::{LineFault, read_line};
 use agc_script::next_line;
 use agc_source_words::{
     Location, Names, SourceFault, SourceTrouble, cut_label, has_other_byte, is_listed, is_name,
@@ -56,7 +56,7 @@ pub(crate) fn read_names(alloc: Global, text: &[u8]) -> Result<Names<'_>, Source
 }
 
 /// Adds the name of a line, where it stands for something.
-fn note_label<'a>(
+pub(crate) fn note_label<'a>(
     names: &mut Names<'a>,
     line: &'a [u8],
     place: Option<Location>,
@@ -72,7 +72,11 @@ fn note_label<'a>(
 
 /// Where the name of a line stands, if it has one, and where the next line stands.
 #[tactic(auto, unfolding(crate::specs::Source::line_labelled))]
-fn line_labelled(names: &Names, cursor: Cursor, line: &[u8]) -> Result<Labelled, SourceFault>
+pub(crate) fn line_labelled(
+    names: &Names,
+    cursor: Cursor,
+    line: &[u8],
+) -> Result<Labelled, SourceFault>
     requires { IsAt cursor.at }
     ensures labelled { result ≡ line_labelled (naming_of names.now) cursor line.now }
     ensures range { IfOk result (λ next. IsAt next.cursor.at) }

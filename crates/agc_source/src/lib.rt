@@ -9,7 +9,9 @@ mod operand;
 mod shape;
 mod source;
 mod steps;
+mod told_names;
 
 pub use agc_source_words::{Location, SourceFault, SourceTrouble, basic_word, extracode_word};
 pub use misnamed::{Misnamed, Written, first_misnamed};
 pub use source::weave_source;
+pub use told_names::name_lines;

@@ -21,7 +21,7 @@ ghost use Rattle.agc_word.specs.Numeral.{octal_number};
 
 use crate::operand::{Value, operand_for, value_of};
 use agc_order::{Basic, Extracode};
-use agc_rope_text::listed_address;
+use agc_rope_listing::listed_address;
 use agc_source_words::{
     Directive, Location, Names, SourceFault, bank_word, basic_named, basic_word, cell_address,
     complete_address, decimal_word, extracode_named, extracode_word, next_said, octal_word,
@@ -186,8 +186,8 @@ fn pair_of_number(word: &[u8]) -> Result<Pair, SourceFault>
 {
     match signed_number(9, word) {
         Some(number) if number.magnitude < 1 << 28 => Ok(Pair {
-            upper: Narrow::signed(number.minus, (number.magnitude / 16384) as u16),
-            lower: Narrow::signed(number.minus, (number.magnitude % 16384) as u16),
+            upper: Narrow::signed(number.minus, (number.magnitude / 0o40000) as u16),
+            lower: Narrow::signed(number.minus, (number.magnitude % 0o40000) as u16),
         }),
         _ => Err(SourceFault::BadNumber),
     }

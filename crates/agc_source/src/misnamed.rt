@@ -14,7 +14,7 @@ ghost use Rattle.agc_source.specs.Misnamed.{
 };
 
 use agc_order::{Basic, Extracode};
-use agc_rope_text::read_line;
+use agc_rope_listing::read_line;
 use agc_script::{next_line, next_word};
 use agc_source_words::{basic_named, extracode_named};
 use agc_word::Narrow;

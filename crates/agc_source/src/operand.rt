@@ -16,7 +16,7 @@ ghost use Rattle.agc_source_words.specs.Number.{offset_named};
 ghost use Rattle.agc_source_words.specs.Text.{said_by};
 
 use agc_order::Takes;
-use agc_rope_text::{Operand, listed_address};
+use agc_rope_listing::{Operand, listed_address};
 use agc_source_words::{
     Location, Names, Signed, SourceFault, cell_address, is_name, next_said, offset_named, sees,
 };

@@ -1,19 +1,19 @@
 //! From a source to a rope file.
 ghost use Rattle.std.specs.Prelude.{◌≡◌, ◌≢◌, true, Ok, Err, IfOk, IfErr};
-ghost use Rattle.agc_rope_text.specs.Weave.{IsWovenOf};
+ghost use Rattle.agc_rope_listing.specs.Weave.{IsWovenOf};
 ghost use Rattle.agc_source.specs.Source.{IsSourceWoven, is_listing, source_in};
 ghost use Rattle.agc_source_words.specs.declared.fault.SourceTrouble.TheVariants.{Memory};
 
 use crate::labels::read_names;
 use crate::steps::read_words;
-use agc_rope_text::{WeaveFault, file_of, weave};
+use agc_rope_listing::{WeaveFault, file_of, weave};
 use agc_script::next_line;
 use agc_source_words::{SourceFault, SourceTrouble, is_listed};
 use agc_store::RopeForm;
 use std::alloc::Global;
 
 /// The rope file of a form that a source weaves to, as long as its words need, and one word at least. A text
-/// whose lines all begin with places weaves as `weave` of agc_rope_text has it. Of any other text the names
+/// whose lines all begin with places weaves as `weave` of agc_rope_listing has it. Of any other text the names
 /// come first, and then the words: the fault is that of the first faulty line on the first way through the
 /// text on which there is one, or `Memory`.
 #[tactic(auto, unfolding(crate::specs::Source::source_in))]

@@ -20,13 +20,13 @@ ghost use Rattle.agc_source.specs.Source.{
 ghost use Rattle.agc_source.specs.Shape.{cursor_after};
 ghost use Rattle.agc_source.specs.Cursor.{room_at};
 ghost use Rattle.agc_source_words.specs.Text.{body_of, said_by};
-ghost use Rattle.agc_rope_text.specs.Line.{line_named};
+ghost use Rattle.agc_rope_listing.specs.Line.{line_named};
 ghost use Rattle.agc_source_words.specs.declared.fault.SourceTrouble.TheVariants.{Memory};
 
 use crate::cursor::Cursor;
 use crate::meaning::{pair_meaning, word_meaning};
 use crate::shape::{Shape, cursor_after, shape_of};
-use agc_rope_text::{Loom, Named, leads_extracode, read_line};
+use agc_rope_listing::{Loom, Named, leads_extracode, read_line};
 use agc_script::next_line;
 use agc_source_words::{Names, SourceFault, SourceTrouble, cut_label, is_listed};
 use std::alloc::Global;

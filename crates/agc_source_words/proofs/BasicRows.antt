@@ -6,9 +6,9 @@ use Rattle.agc_order.specs.Order.{basic_of, basic_orders}
 use Rattle.agc_order.specs.Row.{basic_row}
 use Rattle.agc_order.specs.declared.order.Basic.{Basic}
 use Rattle.agc_order.specs.declared.order.Basic.TheVariants as basic
-use Rattle.agc_rope_text.specs.Order.{operand_in}
-use Rattle.agc_rope_text.specs.declared.order.Operand.{Operand}
-use Rattle.agc_rope_text.specs.declared.order.Operand.TheVariants as operand
+use Rattle.agc_rope_listing.specs.Order.{operand_in}
+use Rattle.agc_rope_listing.specs.declared.order.Operand.{Operand}
+use Rattle.agc_rope_listing.specs.declared.order.Operand.TheVariants as operand
 use Rattle.agc_source_words.specs.Row.{basic_word}
 use Rattle.agc_source_words.specs.declared.fault.SourceFault.{SourceFault}
 

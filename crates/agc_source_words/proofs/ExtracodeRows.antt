@@ -6,8 +6,8 @@ use Rattle.agc_order.specs.Order.{extracode_of, extracodes}
 use Rattle.agc_order.specs.Row.{extracode_row}
 use Rattle.agc_order.specs.declared.order.Extracode.{Extracode}
 use Rattle.agc_order.specs.declared.order.Extracode.TheVariants as extra
-use Rattle.agc_rope_text.specs.Order.{operand_in}
-use Rattle.agc_rope_text.specs.declared.order.Operand.{Operand}
+use Rattle.agc_rope_listing.specs.Order.{operand_in}
+use Rattle.agc_rope_listing.specs.declared.order.Operand.{Operand}
 use Rattle.agc_source_words.specs.Row.{extracode_word}
 use Rattle.agc_source_words.specs.declared.fault.SourceFault.{SourceFault}
 

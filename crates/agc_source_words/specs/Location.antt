@@ -4,7 +4,7 @@ use Rattle.std.specs.Prelude.{take, drop, position, Option, Some, None, if◌the
 use Rattle.agc_word.specs.Numeral.{octal_number}
 use Rattle.agc_store.specs.Places.{erasable_bank_size, erasable_window, fixed_bank_size}
 use Rattle.agc_store.specs.Places.{fixed_fixed, fixed_window}
-use Rattle.agc_rope_text.specs.Line.{is_comma, place_named}
+use Rattle.agc_rope_listing.specs.Line.{is_comma, place_named}
 use Rattle.agc_source_words.specs.declared.location.Location.{Location}
 use Rattle.agc_source_words.specs.declared.location.Location.TheVariants as location
 

@@ -35,11 +35,11 @@ offset_named text = if begins_with_sign text then signed_number 5 text else None
 
 -- a word of a sign and a magnitude, where it has so many digits
 abbrev pub narrow_of : Signed → Number
-narrow_of n = record { minus = n.minus; magnitude = n.magnitude % 16384 }
+narrow_of n = record { minus = n.minus; magnitude = n.magnitude % 0o40000 }
 
 abbrev pub word_within : Option Signed → Option Number
 word_within None = None
-word_within (Some n) = if nat_lt n.magnitude 16384 then Some (narrow_of n) else None
+word_within (Some n) = if nat_lt n.magnitude 0o40000 then Some (narrow_of n) else None
 
 -- the word that a decimal number writes, at most 16383 of either sign; there are two zeros
 unfoldable pub decimal_word : List ℕ → Option Number

@@ -8,8 +8,8 @@ use Rattle.agc_order.specs.declared.order.Basic.TheVariants as basic
 use Rattle.agc_order.specs.declared.order.Extracode.{Extracode}
 use Rattle.agc_order.specs.declared.row.Takes.{Takes}
 use Rattle.agc_order.specs.declared.row.Takes.TheVariants as takes
-use Rattle.agc_rope_text.specs.declared.order.Operand.{Operand}
-use Rattle.agc_rope_text.specs.declared.order.Operand.TheVariants as operand
+use Rattle.agc_rope_listing.specs.declared.order.Operand.{Operand}
+use Rattle.agc_rope_listing.specs.declared.order.Operand.TheVariants as operand
 use Rattle.agc_source_words.specs.declared.fault.SourceFault.{SourceFault}
 use Rattle.agc_source_words.specs.declared.fault.SourceFault.TheVariants as fault
 

@@ -4,7 +4,7 @@ use Rattle.std.specs.Prelude.{Option, Some, None, if◌then◌else◌}
 use Rattle.std.specs.List.{list_all, list_any}
 use Rattle.agc_word.specs.Numeral.{is_digit}
 use Rattle.agc_script.specs.Text.{is_blank, words_of}
-use Rattle.agc_rope_text.specs.Line.{is_comma, is_hash}
+use Rattle.agc_rope_listing.specs.Line.{is_comma, is_hash}
 
 -- the words before the first one that begins with `#`
 abbrev pub before_comment : List (List ℕ) → List (List ℕ)

@@ -1,8 +1,8 @@
 -- What is told of a faulty source.
 use Rattle.std.specs.Prelude.{ℕ, List, ◌++◌, codes}
 use Rattle.std.specs.Fmt.{decimal}
-use Rattle.agc_rope_text.specs.declared.fault.LineFault.{LineFault}
-use Rattle.agc_rope_text.specs.declared.fault.LineFault.TheVariants as line
+use Rattle.agc_rope_listing.specs.declared.fault.LineFault.{LineFault}
+use Rattle.agc_rope_listing.specs.declared.fault.LineFault.TheVariants as line
 use Rattle.agc_source_words.specs.declared.fault.SourceFault.{SourceFault}
 use Rattle.agc_source_words.specs.declared.fault.SourceFault.TheVariants as fault
 use Rattle.agc_source_words.specs.declared.fault.SourceTrouble.{SourceTrouble}

@@ -2,7 +2,7 @@
 ghost use Rattle.std.specs.Prelude.{◌≡◌};
 ghost use Rattle.agc_source_words.specs.Told.{fault_text, listed_name};
 
-use agc_rope_text::LineFault;
+use agc_rope_listing::LineFault;
 use std::alloc::AllocError;
 use std::error::Error;
 use std::fmt;

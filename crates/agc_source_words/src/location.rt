@@ -1,6 +1,6 @@
 //! Where a name and an order in hand stand, and the addresses of places and cells.
 ghost use Rattle.std.specs.Prelude.{◌≡◌, ◌*◌, ◌<◌, ◌≤◌, IfSome, length, position};
-ghost use Rattle.agc_rope_text.specs.Line.{is_comma};
+ghost use Rattle.agc_rope_listing.specs.Line.{is_comma};
 ghost use Rattle.agc_source_words.specs.Location.{
   IsWithin,
   bank_register,
@@ -16,7 +16,7 @@ ghost use Rattle.agc_source_words.specs.Location.{
 };
 ghost use Rattle.agc_word.specs.Numeral.{octal_number};
 
-use agc_rope_text::read_place;
+use agc_rope_listing::read_place;
 use agc_store::Addr;
 use agc_word::read_octal;
 

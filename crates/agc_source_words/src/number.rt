@@ -58,7 +58,7 @@ pub fn decimal_word(text: &[u8]) -> Option<Narrow>
     ensures { result ≡ decimal_word text.now }
 {
     let number = signed_number(5, text)?;
-    if number.magnitude < 16384 {
+    if number.magnitude < 0o40000 {
         Some(Narrow::signed(number.minus, number.magnitude as u16))
     } else {
         None

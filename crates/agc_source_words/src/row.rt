@@ -3,7 +3,7 @@ ghost use Rattle.std.specs.Prelude.{◌≡◌, ◌++◌, false, true, ◌<◌, �
 ghost use Rattle.agc_word.specs.Number.{number_from_pattern, pattern_of};
 ghost use Rattle.agc_order.specs.Order.{basic_of, extracode_of};
 ghost use Rattle.agc_order.specs.Row.{basic_row, extracode_row};
-ghost use Rattle.agc_rope_text.specs.Order.{operand_in, operand_text, order_text};
+ghost use Rattle.agc_rope_listing.specs.Order.{operand_in, operand_text, order_text};
 ghost use Rattle.agc_source_words.specs.Row.{
   as_word,
   basic_word,
@@ -15,7 +15,7 @@ ghost use Rattle.agc_source_words.specs.Row.{
 
 use crate::fault::SourceFault;
 use agc_order::{Basic, Extracode, Row, Takes};
-use agc_rope_text::Operand;
+use agc_rope_listing::Operand;
 use agc_word::Narrow;
 
 /// The word of a basic order with an operand as `list` shows it: of DAS and DXCH the address of the upper

@@ -2,7 +2,7 @@
 ghost use Rattle.std.specs.Prelude.{◌≡◌, [], ◌∷◌, MatchOption, option_map};
 ghost use Rattle.std.specs.List.{list_any};
 ghost use Rattle.agc_word.specs.Numeral.{is_digit};
-ghost use Rattle.agc_rope_text.specs.Line.{is_comma, is_no_text};
+ghost use Rattle.agc_rope_listing.specs.Line.{is_comma, is_no_text};
 ghost use Rattle.agc_source_words.specs.Text.{
   are_listed,
   body_of,

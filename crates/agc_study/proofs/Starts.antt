@@ -15,10 +15,11 @@ use Rattle.agc_session.proofs.Told.{none_in_both, told_first, told_later}
 use Rattle.agc_session.specs.Entry.{ComesOf}
 use Rattle.agc_session.specs.Files.{events_in, rope_steps, script_steps}
 use Rattle.agc_session.specs.Options.{said_by}
+use Rattle.agc_session.specs.Prepare.{start_steps}
 use Rattle.agc_session.specs.Steps.{IsTold, refusal_in}
 use Rattle.agc_session.specs.declared.refusal.Refusal.{Refusal}
 use Rattle.agc_session.specs.declared.refusal.Refusal.TheVariants as refusal
-use Rattle.agc_study.specs.Started.{IsAccepted, IsRefused, IsStarted, start_steps, starting_steps}
+use Rattle.agc_study.specs.Started.{IsAccepted, IsRefused, IsStarted, starting_steps}
 
 module _ (form : RopeForm) (until : Option (String Global)) (limit : ℕ) where
   pub rope_refused : (rope script : Option (List ℕ)) (r : Refusal) → IfSome rope (λ file. IsTold (rope_steps form file) r)

@@ -7,13 +7,17 @@ use Rattle.std.specs.Io.KnownBytes.{Consumes, IsAtEnd}
 use Rattle.agc_word.specs.Number.{Number}
 use Rattle.agc_store.specs.RopeFile.{rope_fault_of, rope_words}
 use Rattle.agc_store.specs.declared.rope_file.RopeForm.{RopeForm}
-use Rattle.agc_rope_text.specs.List.{rope_text}
+use Rattle.agc_rope_listing.specs.List.{rope_text}
 use Rattle.agc_source.specs.Source.{source_in}
 use Rattle.agc_source_words.specs.declared.fault.SourceTrouble.{SourceTrouble}
 use Rattle.agc_source_words.specs.declared.fault.SourceTrouble.TheVariants as source
 use Rattle.agc_session.proofs.Whole.{all_read, of_all}
 use Rattle.agc_session.specs.Options.{said_by}
 use Rattle.agc_study.specs.Listed.{IsFaulty, IsListing, IsWeaveRefused, bank_named}
+use Rattle.agc_names.specs.Names.{names_in}
+use Rattle.agc_names.specs.declared.fault.NameTrouble.{NameTrouble}
+use Rattle.agc_names.specs.declared.fault.NameTrouble.TheVariants as names
+use Rattle.agc_study.specs.Named.{AreFaulty, AreNamesRefused}
 use Rattle.agc_study.specs.declared.trouble.Trouble.{Trouble}
 use Rattle.agc_study.specs.declared.trouble.Trouble.TheVariants as trouble
 use Rattle.agc_check.specs.declared.reports.Report.{Report}
@@ -32,6 +36,13 @@ pub weave_refused : (before after : Option (List ℕ)) (text : List ℕ) (t : Tr
 weave_refused before after text t c end few (source.Memory, is, named) = rw is tt
 weave_refused before after text t c end few (source.Line n why, is, named) =
     rw is (of_all before after text (λ all. IsFaulty all (source.Line n why)) c end (record { short = few; fault = named (λ h. cc) }))
+
+-- a text of names that was read and is refused
+pub names_refused : (before after : Option (List ℕ)) (text : List ℕ) (t : Trouble) → Consumes before after text → IsAtEnd after → length text ≤ 16777216
+    → (why : NameTrouble) × (t ≡ trouble.Names why) × (why ≢ names.Memory → names_in text ≡ Err why) → AreNamesRefused before t
+names_refused before after text t c end few (names.Memory, is, named) = rw is tt
+names_refused before after text t c end few (names.Line n why, is, named) =
+    rw is (of_all before after text (λ all. AreFaulty all (names.Line n why)) c end (record { short = few; fault = named (λ h. cc) }))
 
 -- a report on the bytes of two files
 pub checked : (form : RopeForm) (rope rope_left script script_left : Option (List ℕ)) (rope_read script_read : List ℕ) (report : Report)

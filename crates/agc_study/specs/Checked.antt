@@ -5,7 +5,7 @@ use Rattle.std.specs.Io.KnownBytes.{Appends}
 use Rattle.agc_store.specs.RopeFile.{rope_fault_of}
 use Rattle.agc_store.specs.declared.rope_file.RopeForm.{RopeForm}
 use Rattle.agc_script.specs.Parse.{script_of}
-use Rattle.agc_rope_text.specs.Weave.{said_in}
+use Rattle.agc_rope_listing.specs.Weave.{said_in}
 use Rattle.agc_check.specs.KeyReport.{IsKeyReport, are_keys}
 use Rattle.agc_check.specs.ListingReport.{IsListingReport}
 use Rattle.agc_check.specs.Report.{IsFileReport}

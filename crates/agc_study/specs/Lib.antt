@@ -1,4 +1,5 @@
 pub mod Trouble
+pub mod Named
 pub mod Listed
 pub mod Checked
 pub mod Started

@@ -10,13 +10,15 @@ use Rattle.agc_word.specs.Numeral.{octal_number}
 use Rattle.agc_word.specs.Octal.{octal_digits}
 use Rattle.agc_store.specs.RopeFile.{rope_fault_of, rope_words}
 use Rattle.agc_store.specs.declared.rope_file.RopeForm.{RopeForm}
-use Rattle.agc_rope_text.specs.List.{rope_text}
-use Rattle.agc_rope_text.specs.Order.{order_text}
+use Rattle.agc_rope_listing.specs.List.{rope_text}
+use Rattle.agc_rope_listing.specs.Order.{order_text}
 use Rattle.agc_source.specs.Misnamed.{is_extracode, misnamed_in, mnemonic_of}
 use Rattle.agc_source.specs.Source.{IsSourceWoven, source_in}
 use Rattle.agc_source.specs.declared.misnamed.Misnamed.{Misnamed}
 use Rattle.agc_source_words.specs.declared.fault.SourceTrouble.{SourceTrouble}
 use Rattle.agc_source_words.specs.declared.fault.SourceTrouble.TheVariants as source
+use Rattle.agc_names.specs.Listing.{text_with_names}
+use Rattle.agc_names.specs.Names.{Named}
 use Rattle.agc_session.specs.Files.{rope_steps}
 use Rattle.agc_session.specs.Options.{said_by, says_nothing}
 use Rattle.agc_session.specs.Steps.{IsTold}
@@ -39,12 +41,17 @@ pub record IsListing (form : RopeForm) (bank : Option (String Global)) (file tex
   pub rope : rope_fault_of form file ≡ None
   pub listed : text ≡ rope_text (said_by bank_named bank) (rope_words form file)
 
+-- the text of a rope with names, where there are any
+abbrev pub shown_with : Option (List Named) → List ℕ → List ℕ
+shown_with (Some names) text = text_with_names names text
+shown_with None text = text
+
 -- the text of a rope was written, as far as the rope's reader tells its bytes
 pub record IsListWritten (form : RopeForm) (bank : Option (String Global))
-    (rope before after : Option (List ℕ)) : Type 0 where
+    (names : Option (List Named)) (rope before after : Option (List ℕ)) : Type 0 where
   pub text : List ℕ
   pub listed : IfSome rope (λ file. IsListing form bank file text)
-  pub written : Appends before after text
+  pub written : Appends before after (shown_with names text)
 
 -- How `list` refuses a file that a reader may tell: a text of `--bank` that names no bank is told, and
 -- else what `agc` tells of the rope, which has asked for memory too.
@@ -59,6 +66,7 @@ pub record IsWoven (form : RopeForm) (text : List ℕ) (woven : Woven) : Type 0 
   pub short : length text ≤ 16777216
   pub file : IsSourceWoven form text woven.bytes.items
   pub first : woven.misnamed ≡ misnamed_in text
+  pub kept : woven.text.items ≡ text
 
 -- the file of a text was written, as far as the text's reader tells its bytes
 pub record IsWeaveWritten (form : RopeForm) (known before after : Option (List ℕ)) : Type 0 where

@@ -8,21 +8,13 @@ use Rattle.agc_script.specs.Parse.{script_of}
 use Rattle.agc_machine.specs.State.{State, start_state}
 use Rattle.agc_machine.specs.StopAddress.{stop_address_of}
 use Rattle.agc_session.specs.Files.{events_in, rope_steps, script_steps}
-use Rattle.agc_session.specs.Options.{said_by, says_nothing}
-use Rattle.agc_session.specs.Prepare.{limit_refusal}
-use Rattle.agc_session.specs.Steps.{Step, IsTold, looks, refusal_in, refused_if}
+use Rattle.agc_session.specs.Options.{said_by}
+use Rattle.agc_session.specs.Prepare.{start_steps}
+use Rattle.agc_session.specs.Steps.{Step, IsTold, refusal_in}
 use Rattle.agc_session.specs.declared.refusal.Refusal.{Refusal}
-use Rattle.agc_session.specs.declared.refusal.Refusal.TheVariants as refusal
 use Rattle.agc_study.specs.Trouble.{other_trouble}
 use Rattle.agc_study.specs.declared.trouble.Trouble.{Trouble}
 use Rattle.agc_study.specs.declared.trouble.Trouble.TheVariants as trouble
-
--- the text of `--until` says an address, where it is given
-unfoldable pub until_refusal : Option (String Global) → Option Refusal
-until_refusal until = refused_if (says_nothing stop_address_of until) refusal.BadUntilSpec
-
-unfoldable pub start_steps : Option (String Global) → ℕ → List Step
-start_steps until limit = looks (until_refusal until) ∷ looks (limit_refusal limit) ∷ []
 
 -- the steps from two files to a machine, at which it may be refused
 unfoldable pub starting_steps : RopeForm → Option (String Global) → ℕ → List ℕ → List ℕ → List Step

@@ -5,6 +5,7 @@ use Rattle.std.specs.Io.KnownBytes.{Appends, Keeps}
 use Rattle.agc_processor.specs.Interrupt.{rupt_name}
 use Rattle.agc_machine.specs.State.{State}
 use Rattle.agc_asked.specs.declared.asked.Tracing.{Tracing}
+use Rattle.agc_names.specs.Names.{Named}
 use Rattle.agc_trace.specs.Cut.{IsCut}
 use Rattle.agc_trace.specs.Selection.{selected_lines}
 use Rattle.agc_trace.specs.Service.{service_left}
@@ -18,34 +19,34 @@ use Rattle.agc_study.specs.declared.traces.Untraced.{Untraced}
 use Rattle.agc_study.specs.declared.traces.Untraced.TheVariants as untraced
 use Rattle.agc_study.specs.declared.trouble.Trouble.TheVariants as trouble
 
--- the lines of the run of two files were written, and this service goes on at its stop
-pub record IsTraced (asked : Tracing) (rope script before after : Option (List ℕ))
-    (service : Option Service) : Type 0 where
+-- the lines of the run of two files were written, with these names, and this service goes on at its stop
+pub record IsTraced (asked : Tracing) (names : Option (List Named))
+    (rope script before after : Option (List ℕ)) (service : Option Service) : Type 0 where
   pub machine : State
   pub start : IsStarted asked.form asked.until asked.limit rope script machine
-  pub lines : Appends before after (selected_lines asked.selection (trace_of machine))
+  pub lines : Appends before after (selected_lines names asked.selection (trace_of machine))
   pub left : service ≡ service_left asked.selection (trace_of machine)
 
 -- the same, and of the service that goes on nothing is told
-pub record IsTraceWritten (asked : Tracing) (rope script before after : Option (List ℕ))
-    : Type 0 where
+pub record IsTraceWritten (asked : Tracing) (names : Option (List Named))
+    (rope script before after : Option (List ℕ)) : Type 0 where
   pub service : Option Service
-  pub traced : IsTraced asked rope script before after service
+  pub traced : IsTraced asked names rope script before after service
 
 -- the lines of the run of two files were cut off
-pub record IsCutOff (asked : Tracing) (rope script before after : Option (List ℕ))
-    (why : TraceFault) : Type 0 where
+pub record IsCutOff (asked : Tracing) (names : Option (List Named))
+    (rope script before after : Option (List ℕ)) (why : TraceFault) : Type 0 where
   pub machine : State
   pub start : IsStarted asked.form asked.until asked.limit rope script machine
-  pub cut : IsCut why before after (selected_lines asked.selection (trace_of machine))
+  pub cut : IsCut why before after (selected_lines names asked.selection (trace_of machine))
 
 -- why no whole trace was written: a refusal, before anything was, or the lines were cut off
-abbrev pub IsUntraced : Tracing → Option (List ℕ) → Option (List ℕ) → Option (List ℕ)
-    → Option (List ℕ) → Untraced → Type 0
-IsUntraced asked rope script before after (untraced.Refused r) =
+abbrev pub IsUntraced : Tracing → Option (List Named) → Option (List ℕ) → Option (List ℕ)
+    → Option (List ℕ) → Option (List ℕ) → Untraced → Type 0
+IsUntraced asked names rope script before after (untraced.Refused r) =
     IsRefused asked.form asked.until asked.limit rope script r × Keeps before after
-IsUntraced asked rope script before after (untraced.Cut why) =
-    IsCutOff asked rope script before after why
+IsUntraced asked names rope script before after (untraced.Cut why) =
+    IsCutOff asked names rope script before after why
 
 -- How the program ends then: with 2 and the line of a refusal, or with 3 where that line or the trace
 -- cannot be written, or memory ran out.

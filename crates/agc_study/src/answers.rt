@@ -1,18 +1,17 @@
 //! What is asked for, answered: on standard output, or in a line on standard error.
-ghost use Rattle.std.specs.Prelude.{◌≡◌, ◌<◌, IfErr, Ok};
+ghost use Rattle.std.specs.Prelude.{◌≡◌, ◌<◌, IfErr, Ok, codes};
 ghost use Rattle.std.specs.Io.KnownBytes.{Keeps};
-ghost use Rattle.agc_study.specs.Ended.{EndsMistaken, IsEnded, LooksForFaults};
+ghost use Rattle.agc_args.specs.Ending.{EndsMistaken};
+ghost use Rattle.agc_study.specs.Ended.{IsEnded, LooksForFaults};
 
 use crate::check_told::check_to;
 use crate::films_told::film_to;
 use crate::ropes_told::{list_to, weave_to};
 use crate::runs_told::{compare_to, trace_to};
-use crate::trouble::Trouble;
 use crate::unreadable::remark_unreadable;
-use agc_args::ArgsFault;
-use agc_asked::Asked;
+use agc_args::{ArgsFault, end_mistaken};
+use agc_asked::{Asked, NAME};
 use agc_progress::Shown;
-use agc_session::{DONE, Refusal, status_of};
 use std::io::Write;
 use std::rt::Files;
 
@@ -51,7 +50,7 @@ where
     ensures silent { result < 2 → Keeps (E.contents err.old) (E.contents err.new) }
     ensures nothing { result ≡ 2 → Keeps (W.contents out.old) (W.contents out.new) }
     ensures told { IfErr asked
-        (λ fault. EndsMistaken fault result (W.contents out.old) (W.contents out.new)
+        (λ fault. EndsMistaken (codes "agc-study") 2 fault result (W.contents out.old) (W.contents out.new)
         (E.contents err.old) (E.contents err.new)) }
 {
     match asked {
@@ -62,9 +61,7 @@ where
             }
             status
         }
-        Err(ArgsFault::Help(text)) => status_of(DONE, out.write_all(text.as_bytes())),
-        Err(ArgsFault::Command(text)) => status_of(TROUBLE, err.write_all(text.as_bytes())),
-        Err(ArgsFault::Memory) => Trouble::Refused(Refusal::Memory).tell_to(err),
+        Err(fault) => end_mistaken(NAME, fault, TROUBLE, out, err),
     }
 }
 

@@ -53,22 +53,37 @@ fn more_checked<R>(rt: &R, checking: &Checking) -> Result<Option<Report>, Troubl
 where
     R: Files + AllocGlobal,
 {
-    let keys = match &checking.keys {
-        Some(path) => {
-            let mut file = InputFile::new(fs::open(rt, path.as_str()));
-            Some(check_key_file(rt.alloc(), &mut file)?)
-        }
-        None => None,
-    };
-    let Some(path) = &checking.listing else {
-        return Ok(keys);
+    let keys = keys_checked(rt, &checking.keys)?;
+    let listing = listing_checked(rt, &checking.listing)?;
+    match (keys, listing) {
+        (Some(keys), Some(listing)) => Ok(Some(joined(keys, &listing)?)),
+        (keys, None) => Ok(keys),
+        (None, listing) => Ok(listing),
+    }
+}
+
+/// What is told of the text of live keys, where it is given.
+fn keys_checked<R>(rt: &R, path: &Option<String>) -> Result<Option<Report>, Trouble>
+where
+    R: Files + AllocGlobal,
+{
+    let Some(path) = path else {
+        return Ok(None);
     };
     let mut file = InputFile::new(fs::open(rt, path.as_str()));
-    let listing = check_listing_file(rt.alloc(), &mut file)?;
-    match keys {
-        Some(keys) => Ok(Some(joined(keys, &listing)?)),
-        None => Ok(Some(listing)),
-    }
+    Ok(Some(check_key_file(rt.alloc(), &mut file)?))
+}
+
+/// What is told of the text of a rope, where it is given.
+fn listing_checked<R>(rt: &R, path: &Option<String>) -> Result<Option<Report>, Trouble>
+where
+    R: Files + AllocGlobal,
+{
+    let Some(path) = path else {
+        return Ok(None);
+    };
+    let mut file = InputFile::new(fs::open(rt, path.as_str()));
+    Ok(Some(check_listing_file(rt.alloc(), &mut file)?))
 }
 
 /// Checks a rope and a script, and writes what is told of them, and then what is told of other files.

@@ -21,7 +21,7 @@ pub struct FilmPage {
 }
 
 /// Reads a rope and a script, and makes the page that shows their run. The refusal is the first that applies
-/// of the rope, the script, the text of `--until` and the limit, or want of memory.
+/// of the rope, the script, the limit and the text of `--until`, or want of memory.
 pub fn film_files<R: Read, S: Read, P: Progress>(
     alloc: Global,
     asked: &Filming,

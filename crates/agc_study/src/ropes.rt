@@ -11,7 +11,7 @@ ghost use Rattle.agc_source_words.specs.declared.fault.SourceTrouble.TheVariants
 ghost use Rattle.agc_study.specs.declared.trouble.Trouble.TheVariants as told;
 
 use crate::trouble::Trouble;
-use agc_rope_text::{list, push_order};
+use agc_rope_listing::{list, push_order};
 use agc_session::{Refusal, SCRIPT_BYTES, Unread, read_limited, read_rope};
 use agc_source::{Misnamed, SourceTrouble, first_misnamed, weave_source};
 use agc_store::{RopeForm, Store};
@@ -68,6 +68,7 @@ fn bank_named(text: &[u8]) -> Option<u8>
 /// A text that was woven.
 #[derive(Drop)]
 pub struct Woven {
+    pub text: Vec<u8>,
     /// The rope file.
     pub bytes: Vec<u8>,
     /// The first line of a listing in it whose word names another order than stands behind the word.
@@ -86,22 +87,25 @@ pub fn weave_text<R: Read>(alloc: Global, form: RopeForm, reader: &mut R) -> Res
         Err(Unread::CannotRead(_)) => return Err(Trouble::CannotReadText),
         Err(Unread::Memory) => return Err(Trouble::Text(SourceTrouble::Memory)),
     };
-    woven_of(alloc, form, text.as_slice())
+    woven_of(alloc, form, text)
 }
 
-fn woven_of(alloc: Global, form: RopeForm, text: &[u8]) -> Result<Woven, Trouble>
-    ensures woven { IfOk result (λ woven. IsSourceWoven form text.now woven.bytes.items
-        × (woven.misnamed ≡ misnamed_in text.now)) }
+fn woven_of(alloc: Global, form: RopeForm, text: Vec<u8>) -> Result<Woven, Trouble>
+    ensures woven { IfOk result (λ woven. IsSourceWoven form text.items woven.bytes.items
+        × (woven.misnamed ≡ misnamed_in text.items) × (woven.text.items ≡ text.items)) }
     ensures refused { IfErr result (λ t. (fault : SourceTrouble) × (t ≡ told.Text fault)
-        × (fault ≢ source_trouble.Memory → source_in text.now ≡ Err fault)) }
+        × (fault ≢ source_trouble.Memory → source_in text.items ≡ Err fault)) }
 {
-    match weave_source(alloc, form, text) {
-        Ok(bytes) => Ok(Woven {
-            bytes,
-            misnamed: first_misnamed(text),
-        }),
-        Err(fault) => Err(Trouble::Text(fault)),
-    }
+    let bytes = match weave_source(alloc, form, text.as_slice()) {
+        Ok(bytes) => bytes,
+        Err(fault) => return Err(Trouble::Text(fault)),
+    };
+    let misnamed = first_misnamed(text.as_slice());
+    Ok(Woven {
+        text,
+        bytes,
+        misnamed,
+    })
 }
 
 /// The remark on such a line: the order that its word names, and the mnemonic that stands behind it. Fails where

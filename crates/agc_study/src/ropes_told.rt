@@ -1,21 +1,26 @@
 //! Ropes and texts, written: the text of a rope, and the rope of a text.
 ghost use Rattle.std.specs.Prelude.{◌≡◌, ◌≢◌};
-ghost use Rattle.std.specs.Io.KnownBytes.{Keeps};
+ghost use Rattle.std.specs.Io.KnownBytes.{Appends, Keeps};
+ghost use Rattle.agc_session.specs.declared.refusal.Refusal.TheVariants as refusal;
 ghost use Rattle.agc_study.specs.Ended.{IsEnded};
-ghost use Rattle.agc_study.specs.Listed.{IsListRefused, IsListWritten, IsWeaveRefused, IsWeaveWritten};
-ghost use Rattle.agc_study.specs.Trouble.{IsTold};
+ghost use Rattle.agc_study.specs.Listed.{IsListRefused, IsListWritten, IsWeaveRefused, IsWeaveWritten, shown_with};
+ghost use Rattle.agc_study.specs.Trouble.{IsTold, trouble_line};
+ghost use Rattle.agc_study.specs.declared.trouble.Trouble.TheVariants as told;
 
+use crate::names::names_at;
 use crate::ropes::{list_rope, misnamed_line, weave_text};
+use crate::trouble::Trouble;
 use agc_asked::{Listing, Weaving};
-use agc_session::{DONE, InputFile, status_of};
-use agc_source::Misnamed;
+use agc_names::{NameTable, text_with_names};
+use agc_session::{DONE, InputFile, Refusal, UNWRITTEN, status_of};
+use agc_source::{Misnamed, name_lines};
 use agc_store::RopeForm;
 use std::alloc::Global;
 use std::fs;
-use std::io::{Read, Write};
+use std::io::{self, Read, Write};
 use std::rt::Files;
 
-/// Lists a rope file.
+/// Lists a rope file, with the names of the file that is given.
 pub fn list_to<R, W: Write, E: Write>(rt: &R, listing: &Listing, out: &mut W, err: &mut E) -> u8
 where
     R: Files + AllocGlobal,
@@ -23,15 +28,28 @@ where
         (E.contents err.old) (E.contents err.new) }
     ensures faulty { result ≢ 1 }
 {
+    let names = match names_at(rt, &listing.names) {
+        Ok(names) => names,
+        Err(trouble) => return trouble.tell_to(err),
+    };
     let mut rope = InputFile::new(fs::open(rt, listing.rope.as_str()));
-    write_list(rt.alloc(), listing.form, &listing.bank, &mut rope, out, err)
+    write_list(
+        rt.alloc(),
+        listing.form,
+        &listing.bank,
+        &names,
+        &mut rope,
+        out,
+        err,
+    )
 }
 
-/// Lists a rope, and writes its text.
+/// Lists a rope, and writes its text with the names that are given.
 fn write_list<R: Read, W: Write, E: Write>(
     alloc: Global,
     form: RopeForm,
     bank: &Option<String>,
+    names: &Option<NameTable>,
     rope: &mut R,
     out: &mut W,
     err: &mut E,
@@ -39,18 +57,43 @@ fn write_list<R: Read, W: Write, E: Write>(
     ensures ended { IsEnded result (W.contents out.old) (W.contents out.new)
         (E.contents err.old) (E.contents err.new) }
     ensures faulty { result ≢ 1 }
-    ensures listed { result ≡ 0 → IsListWritten form bank.now (R.remaining rope.old)
+    ensures listed { result ≡ 0 → IsListWritten form bank.now names.now (R.remaining rope.old)
         (W.contents out.old) (W.contents out.new) }
     ensures refused { result ≡ 2 → IsTold (IsListRefused form bank.now (R.remaining rope.old))
         (E.contents err.old) (E.contents err.new) }
 {
     match list_rope(alloc, form, bank, rope) {
-        Ok(text) => status_of(DONE, out.write_all(text.as_bytes())),
+        Ok(text) => write_text(alloc, names, text.as_str(), out, err),
         Err(trouble) => trouble.tell_to(err),
     }
 }
 
-/// Weaves a text file. A remark tells of its first line whose word names another order than stands behind the word.
+/// Writes the text of a rope with the names that are given. Nothing is written where memory runs out.
+fn write_text<W: Write, E: Write>(
+    alloc: Global,
+    names: &Option<NameTable>,
+    text: &str,
+    out: &mut W,
+    err: &mut E,
+) -> u8
+    ensures ended { IsEnded result (W.contents out.old) (W.contents out.new)
+        (E.contents err.old) (E.contents err.new) }
+    ensures faulty { result ≢ 1 }
+    ensures written { result ≡ 0
+        → Appends (W.contents out.old) (W.contents out.new) (shown_with names.now text.now) }
+    ensures refused { result ≡ 2 → Appends (E.contents err.old) (E.contents err.new)
+        (trouble_line (told.Refused refusal.Memory)) }
+{
+    let Some(names) = names else {
+        return status_of(DONE, out.write_all(text.as_bytes()));
+    };
+    match text_with_names(alloc, names, text.as_bytes()) {
+        Ok(named) => status_of(DONE, out.write_all(named.as_slice())),
+        Err(_) => Trouble::Refused(Refusal::Memory).tell_to(err),
+    }
+}
+
+/// Weaves a text file, and writes its names to the file that is given. A remark tells of its first line whose word names another order than stands behind the word.
 pub fn weave_to<R, W: Write, E: Write, N: Write>(
     rt: &R,
     weaving: &Weaving,
@@ -66,7 +109,62 @@ where
     ensures faulty { result ≢ 1 }
 {
     let mut text = InputFile::new(fs::open(rt, weaving.text.as_str()));
-    write_weave(rt.alloc(), weaving.form, &mut text, out, err, remarks)
+    match &weaving.names {
+        Some(path) => write_weave_and_names(
+            rt,
+            weaving.form,
+            path.as_str(),
+            &mut text,
+            out,
+            err,
+            remarks,
+        ),
+        None => write_weave(rt.alloc(), weaving.form, &mut text, out, err, remarks),
+    }
+}
+
+/// Weaves a text, and writes its names to a file and then the file of its rope. Where the names cannot be written, a
+/// remark says why, and the rope is not.
+fn write_weave_and_names<R, T: Read, W: Write, E: Write, N: Write>(
+    rt: &R,
+    form: RopeForm,
+    path: &str,
+    text: &mut T,
+    out: &mut W,
+    err: &mut E,
+    remarks: &mut N,
+) -> u8
+where
+    R: Files + AllocGlobal,
+    ensures ended { IsEnded result (W.contents out.old) (W.contents out.new)
+        (E.contents err.old) (E.contents err.new) }
+    ensures plain { result ≡ 2 → Keeps (N.contents remarks.old) (N.contents remarks.new) }
+    ensures faulty { result ≢ 1 }
+    ensures woven { result ≡ 0 → IsWeaveWritten form (T.remaining text.old)
+        (W.contents out.old) (W.contents out.new) }
+    ensures refused { result ≡ 2 → IsTold (IsWeaveRefused (T.remaining text.old))
+        (E.contents err.old) (E.contents err.new) }
+{
+    match weave_text(rt.alloc(), form, text) {
+        Ok(woven) => {
+            if let Err(reason) = write_names(rt, path, woven.text.as_slice()) {
+                let _told = writeln!(remarks, "agc-study: {path}: {reason}");
+                return UNWRITTEN;
+            }
+            remark_misnamed(rt.alloc(), woven.misnamed, remarks);
+            status_of(DONE, out.write_all(woven.bytes.as_slice()))
+        }
+        Err(trouble) => trouble.tell_to(err),
+    }
+}
+
+/// Writes the names of a text to the file at a path.
+fn write_names<R>(rt: &R, path: &str, text: &[u8]) -> io::Result<()>
+where
+    R: Files + AllocGlobal,
+{
+    let lines = name_lines(rt.alloc(), text)?;
+    fs::write(rt, path, lines.as_slice())
 }
 
 /// Weaves a text, and writes the file of its rope.

@@ -8,9 +8,11 @@ ghost use Rattle.agc_study.specs.Traced.{IsTraceWritten};
 ghost use Rattle.agc_study.specs.Trouble.{IsTold};
 
 use crate::compares::{Told, compare_files};
+use crate::names::names_at;
 use crate::traces::{Traced, remark_service, status_of_untraced, trace_files};
 use agc_asked::{Comparing, Tracing};
 use agc_machine::{Machine, Upcoming};
+use agc_names::NameTable;
 use agc_progress::Shown;
 use agc_session::{DONE, InputFile, status_of};
 use agc_trace::Selection;
@@ -39,11 +41,16 @@ where
     ensures plain { result ≡ 2 → Keeps (N.contents remarks.old) (N.contents remarks.new) }
     ensures faulty { result ≢ 1 }
 {
+    let names = match names_at(rt, &tracing.names) {
+        Ok(names) => names,
+        Err(trouble) => return trouble.tell_to(err),
+    };
     let mut rope = InputFile::new(fs::open(rt, tracing.rope.as_str()));
     let mut script = InputFile::new(fs::open(rt, tracing.script.as_str()));
     write_trace(
         rt.alloc(),
         tracing,
+        &names,
         &mut rope,
         &mut script,
         out,
@@ -53,10 +60,11 @@ where
     )
 }
 
-/// Traces the run of a rope and a script.
+/// Traces the run of a rope and a script, with these names.
 fn write_trace<R: Read, S: Read, W: Write, E: Write, N: Write, P: Shown>(
     alloc: Global,
     tracing: &Tracing,
+    names: &Option<NameTable>,
     rope: &mut R,
     script: &mut S,
     out: &mut W,
@@ -68,11 +76,11 @@ fn write_trace<R: Read, S: Read, W: Write, E: Write, N: Write, P: Shown>(
         (E.contents err.old) (E.contents err.new) }
     ensures plain { result ≡ 2 → Keeps (N.contents remarks.old) (N.contents remarks.new) }
     ensures faulty { result ≢ 1 }
-    ensures traced { result ≡ 0 → IsTraceWritten tracing.now
+    ensures traced { result ≡ 0 → IsTraceWritten tracing.now names.now
         (R.remaining rope.old) (S.remaining script.old)
         (W.contents out.old) (W.contents out.new) }
 {
-    let traced = trace_files(alloc, tracing, rope, script, out, progress);
+    let traced = trace_files(alloc, tracing, names, rope, script, out, progress);
     progress.wipe();
     match traced {
         Ok(traced) => {

@@ -7,6 +7,7 @@ use crate::runs::read_machine;
 use crate::trouble::Trouble;
 use agc_asked::Tracing;
 use agc_machine::Machine;
+use agc_names::NameTable;
 use agc_progress::Progress;
 use agc_session::{Refusal, UNWRITTEN};
 use agc_trace::{Service, TraceFault, trace};
@@ -31,20 +32,22 @@ pub enum Untraced {
     Cut(TraceFault),
 }
 
-/// Reads a rope and a script, and writes the lines of their run. The refusal is the first that applies
-/// of the rope, the script, the text of `--until` and the limit, or want of memory, and nothing is written then.
+/// Reads a rope and a script, and writes the lines of their run, with the names that are given. The refusal is the first
+/// that applies of the rope, the script, the limit and the text of `--until`, or want of memory, and nothing is written
+/// then.
 pub fn trace_files<R: Read, S: Read, W: Write, P: Progress>(
     alloc: Global,
     asked: &Tracing,
+    names: &Option<NameTable>,
     rope: &mut R,
     script: &mut S,
     out: &mut W,
     progress: &mut P,
 ) -> Result<Traced, Untraced>
-    ensures traced { IfOk result (λ traced. IsTraced asked.now
+    ensures traced { IfOk result (λ traced. IsTraced asked.now names.now
         (R.remaining rope.old) (S.remaining script.old)
         (W.contents out.old) (W.contents out.new) traced.service) }
-    ensures untraced { IfErr result (IsUntraced asked.now
+    ensures untraced { IfErr result (IsUntraced asked.now names.now
         (R.remaining rope.old) (S.remaining script.old)
         (W.contents out.old) (W.contents out.new)) }
 {
@@ -53,7 +56,7 @@ pub fn trace_files<R: Read, S: Read, W: Write, P: Progress>(
         Ok(machine) => machine,
         Err(refusal) => return Err(Untraced::Refused(refusal)),
     };
-    match trace(alloc, &mut machine, &asked.selection, out, progress) {
+    match trace(alloc, &mut machine, &asked.selection, names, out, progress) {
         Ok(service) => Ok(Traced { machine, service }),
         Err(fault) => Err(Untraced::Cut(fault)),
     }

@@ -5,6 +5,7 @@ ghost use Rattle.agc_study.specs.Trouble.{other_trouble, trouble_line};
 ghost use Rattle.agc_study.specs.declared.trouble.Trouble.TheVariants as told;
 
 use crate::answers::TROUBLE;
+use agc_names::NameTrouble;
 use agc_session::{Refusal, status_of};
 use agc_source::SourceTrouble;
 use std::fmt;
@@ -23,6 +24,10 @@ pub enum Trouble {
     Text(SourceTrouble),
     /// The text of `--bank` is no bank.
     BadBankSpec,
+    /// The file of names cannot be opened or read, or has more than 16,777,216 bytes.
+    CannotReadNames,
+    /// The text is none of names.
+    Names(NameTrouble),
 }
 
 impl Trouble {
@@ -81,6 +86,11 @@ impl fmt::Display for Trouble {
             }
             Trouble::Text(SourceTrouble::Memory) => f.write_str("memory"),
             Trouble::BadBankSpec => f.write_str("bank: BadSpec"),
+            Trouble::CannotReadNames => f.write_str("cannot read names"),
+            Trouble::Names(NameTrouble::Line(line, fault)) => {
+                write!(f, "names: {fault} at line {line}")
+            }
+            Trouble::Names(NameTrouble::Memory) => f.write_str("memory"),
         }
     }
 }

@@ -3,12 +3,11 @@
 //! does, boundary by boundary, `compare` tells where two runs part, and `film` shows the display over their time.
 #![tactic(auto)]
 
+use agc_args::stand_ins;
 use agc_asked::{NAME, asked_of};
 use agc_progress::Ticker;
 use agc_study::{answer, last_cycle};
 use std::process::ExitCode;
-use std::rt::Files;
-use std::{fs, io};
 
 fn main(rt: HostRuntime) -> ExitCode {
     let _stand_ins = stand_ins(&rt);
@@ -16,10 +15,4 @@ fn main(rt: HostRuntime) -> ExitCode {
     let asked = asked_of(&rt);
     let mut ticker = Ticker::new(&rt, rt.stderr(), NAME, last_cycle(&asked));
     ExitCode::from(answer(&rt, asked, &mut out, &mut err, &mut remarks, &mut ticker))
-}
-
-/// Three files that can be neither read nor written, which take the numbers of closed standard
-/// streams, so that no file that is opened later does.
-fn stand_ins<R: Files>(rt: &R) -> [io::Result<R::File>; 3] {
-    [fs::open(rt, "/"), fs::open(rt, "/"), fs::open(rt, "/")]
 }

@@ -2,8 +2,9 @@
 mod check;
 mod compare;
 mod misnamed;
+mod names;
 mod progress;
-mod rope_text;
+mod rope_listing;
 mod source;
 mod study;
 mod trace;

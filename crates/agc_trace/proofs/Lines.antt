@@ -6,7 +6,8 @@ use Rattle.std.specs.Io.KnownBytes.{Appends}
 use Rattle.agc_machine.specs.Boundary.{boundary, upcoming_of}
 use Rattle.agc_machine.specs.State.{State}
 use Rattle.agc_trace.specs.Entry.{entry_of}
-use Rattle.agc_trace.specs.Line.{line_of}
+use Rattle.agc_names.specs.Names.{Named}
+use Rattle.agc_trace.specs.NamedLine.{line_with}
 use Rattle.agc_trace.specs.Selection.{is_selected, kept, last_of, lines_of, selected, selected_lines}
 use Rattle.agc_trace.specs.Trace.{is_stop, trace_of}
 use Rattle.agc_trace.specs.declared.entry.Entry.{Entry}
@@ -22,17 +23,17 @@ no_entry_by true entry rest e = cc
 no_entry_by false entry rest e = refl
 
 -- the lines of two lists, one after the other
-pub lines_of-append : (xs ys : List Entry) → lines_of (xs ++ ys) ≡ lines_of xs ++ lines_of ys
+pub lines_of-append : (names : Option (List Named)) (xs ys : List Entry) → lines_of names (xs ++ ys) ≡ lines_of names xs ++ lines_of names ys
 unfolding lines_of
-lines_of-append xs ys = flat_map-append line_of xs ys
+lines_of-append names xs ys = flat_map-append (line_with names) xs ys
 
-pub lines_of-none : lines_of [] ≡ []
+pub lines_of-none : (names : Option (List Named)) → lines_of names [] ≡ []
 unfolding lines_of
-lines_of-none = refl
+lines_of-none names = refl
 
-pub lines_of-cons : (entry : Entry) (entries : List Entry) → lines_of (entry ∷ entries) ≡ line_of entry ++ lines_of entries
+pub lines_of-cons : (names : Option (List Named)) (entry : Entry) (entries : List Entry) → lines_of names (entry ∷ entries) ≡ line_with names entry ++ lines_of names entries
 unfolding lines_of
-lines_of-cons entry entries = refl
+lines_of-cons names entry entries = refl
 
 module _ (w : Selection) where
   split_entry : (entry : Entry) (entries : List Entry) → selected w (entry ∷ entries) ≡ selected w (entry ∷ []) ++ selected w entries
@@ -69,16 +70,16 @@ module _ (w : Selection) where
   entries_of_stop s entry e stop = entries_at_stop s (told_by true s entry e stop) ∙ ap (λ (x : Entry). selected w (x ∷ [])) (sym e)
 
   -- where no number of last lines is said, every selected entry has its line
-  pub all_lines : (xs ys : List Entry) → w.last ≡ None → selected w xs ≡ selected w ys → lines_of (selected w xs) ≡ selected_lines w ys
+  pub all_lines : (names : Option (List Named)) (xs ys : List Entry) → w.last ≡ None → selected w xs ≡ selected w ys → lines_of names (selected w xs) ≡ selected_lines names w ys
   unfolding selected_lines
-  all_lines xs ys e f =
-      ap (λ (zs : List Entry). lines_of zs) (f ∙ ap (λ (o : Option ℕ). kept o (selected w ys)) (sym e))
+  all_lines names xs ys e f =
+      ap (λ (zs : List Entry). lines_of names zs) (f ∙ ap (λ (o : Option ℕ). kept o (selected w ys)) (sym e))
 
-  pub last_lines : (most : ℕ) (xs ys : List Entry) → w.last ≡ Some most → selected w xs ≡ selected w ys →
-      lines_of (last_of most (selected w xs)) ≡ selected_lines w ys
+  pub last_lines : (names : Option (List Named)) (most : ℕ) (xs ys : List Entry) → w.last ≡ Some most → selected w xs ≡ selected w ys →
+      lines_of names (last_of most (selected w xs)) ≡ selected_lines names w ys
   unfolding selected_lines
-  last_lines most xs ys e f =
-      ap (λ (zs : List Entry). lines_of zs) (ap (λ (zs : List Entry). last_of most zs) f ∙ ap (λ (o : Option ℕ). kept o (selected w ys)) (sym e))
+  last_lines names most xs ys e f =
+      ap (λ (zs : List Entry). lines_of names zs) (ap (λ (zs : List Entry). last_of most zs) f ∙ ap (λ (o : Option ℕ). kept o (selected w ys)) (sym e))
 
 -- what a writer took since a start, and what is left of the whole
 abbrev pub IsWritten : Option (List ℕ) → Option (List ℕ) → List ℕ → List ℕ → Type 0
@@ -109,21 +110,21 @@ written_more start now new line left whole h k =
     (h.0 ++ line, appends_more start now new h.0 line h.1 k, append_assoc h.0 line left ∙ h.2)
 
 -- one more line is written, and what is left is that of the next boundary's trace
-pub line_written : (w : Selection) (start now new : Option (List ℕ)) (s t : State) (entry : Entry) (whole : List ℕ) →
+pub line_written : (names : Option (List Named)) (w : Selection) (start now new : Option (List ℕ)) (s t : State) (entry : Entry) (whole : List ℕ) →
     entry ≡ entry_of s → t ≡ (boundary None s).0 → is_stop entry.happening ≡ false →
-    IsWritten start now (lines_of (selected w (trace_of s))) whole → Appends now new (lines_of (selected w (entry ∷ []))) →
-    IsWritten start new (lines_of (selected w (trace_of t))) whole
-line_written w start now new s t entry whole e f stop h k =
-    let next = ap (λ (xs : List Entry). lines_of xs) (entries_after w s t entry e f stop) ∙ lines_of-append (selected w (entry ∷ [])) (selected w (trace_of t)) in
-    written_more start now new (lines_of (selected w (entry ∷ []))) (lines_of (selected w (trace_of t))) whole
+    IsWritten start now (lines_of names (selected w (trace_of s))) whole → Appends now new (lines_of names (selected w (entry ∷ []))) →
+    IsWritten start new (lines_of names (selected w (trace_of t))) whole
+line_written names w start now new s t entry whole e f stop h k =
+    let next = ap (λ (xs : List Entry). lines_of names xs) (entries_after w s t entry e f stop) ∙ lines_of-append names (selected w (entry ∷ [])) (selected w (trace_of t)) in
+    written_more start now new (lines_of names (selected w (entry ∷ []))) (lines_of names (selected w (trace_of t))) whole
     (subst (λ (xs : List ℕ). IsWritten start now xs whole) next h) k
 
 -- the last line is written
-pub all_written : (w : Selection) (start now new : Option (List ℕ)) (s : State) (entry : Entry) (whole : List ℕ) →
+pub all_written : (names : Option (List Named)) (w : Selection) (start now new : Option (List ℕ)) (s : State) (entry : Entry) (whole : List ℕ) →
     entry ≡ entry_of s → is_stop entry.happening ≡ true →
-    IsWritten start now (lines_of (selected w (trace_of s))) whole → Appends now new (lines_of (selected w (entry ∷ []))) →
+    IsWritten start now (lines_of names (selected w (trace_of s))) whole → Appends now new (lines_of names (selected w (entry ∷ []))) →
     Appends start new whole
-all_written w start now new s entry whole e stop h k =
-    let line = lines_of (selected w (entry ∷ [])) in
-    let last : lines_of (selected w (trace_of s)) ≡ line = ap (λ (xs : List Entry). lines_of xs) (entries_of_stop w s entry e stop) in
+all_written names w start now new s entry whole e stop h k =
+    let line = lines_of names (selected w (entry ∷ [])) in
+    let last : lines_of names (selected w (trace_of s)) ≡ line = ap (λ (xs : List Entry). lines_of names xs) (entries_of_stop w s entry e stop) in
     subst (λ (xs : List ℕ). Appends start new xs) (ap (λ (xs : List ℕ). h.0 ++ xs) (sym last) ∙ h.2) (appends_more start now new h.0 line h.1 k)

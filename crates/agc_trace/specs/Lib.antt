@@ -1,5 +1,6 @@
 pub mod Entry
 pub mod Line
+pub mod NamedLine
 pub mod Trace
 pub mod Places
 pub mod Selection

@@ -12,10 +12,10 @@ use Rattle.agc_machine.specs.Answer.{stop_name}
 use Rattle.agc_machine.specs.declared.answer.ChannelWrite.{ChannelWrite}
 use Rattle.agc_machine.specs.declared.upcoming.Upcoming.{Upcoming}
 use Rattle.agc_machine.specs.declared.upcoming.Upcoming.TheVariants as upcoming
-use Rattle.agc_rope_text.specs.Order.{order_text}
-use Rattle.agc_rope_text.specs.Place.{place_text}
-use Rattle.agc_rope_text.specs.declared.place.Place.{Place}
-use Rattle.agc_rope_text.specs.declared.place.Place.TheVariants as place
+use Rattle.agc_rope_listing.specs.Order.{order_text}
+use Rattle.agc_rope_listing.specs.Place.{place_text}
+use Rattle.agc_rope_listing.specs.declared.place.Place.{Place}
+use Rattle.agc_rope_listing.specs.declared.place.Place.TheVariants as place
 use Rattle.agc_trace.specs.declared.entry.Entry.{Entry}
 use Rattle.agc_trace.specs.declared.entry.Registers.{Registers}
 

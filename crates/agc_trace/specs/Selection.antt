@@ -16,7 +16,8 @@ use Rattle.agc_source_words.specs.Location.{location_at}
 use Rattle.agc_machine.specs.declared.upcoming.InHand.{InHand}
 use Rattle.agc_machine.specs.declared.upcoming.Upcoming.{Upcoming}
 use Rattle.agc_machine.specs.declared.upcoming.Upcoming.TheVariants as upcoming
-use Rattle.agc_trace.specs.Line.{line_of}
+use Rattle.agc_names.specs.Names.{Named}
+use Rattle.agc_trace.specs.NamedLine.{line_with}
 use Rattle.agc_trace.specs.Places.{has_place}
 use Rattle.agc_trace.specs.Trace.{is_stop}
 use Rattle.agc_trace.specs.declared.entry.Entry.{Entry}
@@ -143,9 +144,10 @@ abbrev pub kept : Option ℕ → List Entry → List Entry
 kept None entries = entries
 kept (Some most) entries = last_of most entries
 
-unfoldable pub lines_of : List Entry → List ℕ
-lines_of entries = flat_map line_of entries
+-- the lines of entries, with names where there are any
+unfoldable pub lines_of : Option (List Named) → List Entry → List ℕ
+lines_of names entries = flat_map (line_with names) entries
 
 -- the lines of the entries that are selected, or of the last so many of them
-unfoldable pub selected_lines : Selection → List Entry → List ℕ
-selected_lines s entries = lines_of (kept s.last (selected s entries))
+unfoldable pub selected_lines : Option (List Named) → Selection → List Entry → List ℕ
+selected_lines names s entries = lines_of names (kept s.last (selected s entries))

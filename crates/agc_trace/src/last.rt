@@ -12,6 +12,7 @@ use crate::selection::Selection;
 use crate::service::{Service, service_after};
 use crate::tracing::{TraceFault, write_line};
 use agc_machine::Machine;
+use agc_names::NameTable;
 use agc_progress::{Progress, tell_at};
 use std::alloc::Global;
 use std::collections::VecDeque;
@@ -23,19 +24,20 @@ pub(crate) fn write_last<W: Write, P: Progress>(
     alloc: Global,
     machine: &mut Machine,
     selection: &Selection,
+    names: &Option<NameTable>,
     most: u64,
     out: &mut W,
     progress: &mut P,
 ) -> Result<Option<Service>, TraceFault>
     ensures lines { OnOk result (Appends (W.contents out.old) (W.contents out.new)
-        (lines_of (last_of most (selected selection.now (trace_of machine.old))))) }
+        (lines_of names.now (last_of most (selected selection.now (trace_of machine.old))))) }
     ensures service { IfOk result (λ left. left ≡ service_left selection.now (trace_of machine.old)) }
     ensures cut { IfErr result (λ why. IsCut why (W.contents out.old) (W.contents out.new)
-        (lines_of (last_of most (selected selection.now (trace_of machine.old))))) }
+        (lines_of names.now (last_of most (selected selection.now (trace_of machine.old))))) }
 {
     let mut last = VecDeque::new(alloc);
     let service = keep_last(machine, selection, most, &mut last, progress)?;
-    write_kept(alloc, &mut last, out)?;
+    write_kept(alloc, names, &mut last, out)?;
     Ok(service)
 }
 
@@ -106,17 +108,18 @@ fn push_last<T: Drop>(last: &mut VecDeque<T>, most: u64, value: T) -> Result<(),
 /// Writes the lines of the entries that are kept.
 fn write_kept<W: Write>(
     alloc: Global,
+    names: &Option<NameTable>,
     last: &mut VecDeque<Entry>,
     out: &mut W,
 ) -> Result<(), TraceFault>
     requires { All FitsLine last.old.items }
     ensures lines { OnOk result
-        (Appends (W.contents out.old) (W.contents out.new) (lines_of last.old.items)) }
+        (Appends (W.contents out.old) (W.contents out.new) (lines_of names.now last.old.items)) }
     ensures cut { IfErr result (λ why. IsCut why (W.contents out.old) (W.contents out.new)
-        (lines_of last.old.items)) }
+        (lines_of names.now last.old.items)) }
 {
     while let Some(entry) = last.pop_front() {
-        write_line(alloc, &entry, out)?;
+        write_line(alloc, names, &entry, out)?;
     }
     Ok(())
 }

@@ -5,6 +5,7 @@ mod entry;
 mod last;
 pub mod laws;
 mod line;
+mod named_line;
 mod places;
 mod selection;
 mod service;
@@ -12,6 +13,7 @@ mod tracing;
 
 pub use entry::{Entry, Registers, next_entry, registers_in};
 pub use line::{push_happening, push_line, push_registers};
+pub use named_line::push_line_with;
 pub use places::{Places, PlacesFault};
 pub use selection::{Only, Selection};
 pub use service::Service;

@@ -2,7 +2,7 @@
 ghost use Rattle.std.specs.Prelude.{◌≡◌, ◌++◌, ◌<◌, OnOk, codes, string_bytes};
 ghost use Rattle.agc_store.specs.Places.{fixed_window};
 ghost use Rattle.agc_machine.specs.Boundary.{HasPlace};
-ghost use Rattle.agc_rope_text.specs.Place.{IsInPrint};
+ghost use Rattle.agc_rope_listing.specs.Place.{IsInPrint};
 ghost use Rattle.agc_script.specs.Written.{word_digits};
 ghost use Rattle.agc_trace.specs.Entry.{FitsLine, FitsWrite};
 ghost use Rattle.agc_trace.specs.Line.{
@@ -15,7 +15,7 @@ ghost use Rattle.agc_trace.specs.Line.{
 
 use crate::entry::{Entry, Registers};
 use agc_machine::{ChannelWrite, InHand, Upcoming};
-use agc_rope_text::{Place, push_order, push_place};
+use agc_rope_listing::{Place, push_order, push_place};
 use agc_script::push_what;
 use agc_store::Addr;
 use agc_word::Narrow;
@@ -95,7 +95,7 @@ fn push_word(text: &mut String, word: Narrow) -> Result<(), AllocError>
 }
 
 /// The place of an order.
-fn order_place(bank: u8, address: Addr) -> Place
+pub(crate) fn order_place(bank: u8, address: Addr) -> Place
     requires bank { bank < 0o50 }
     requires erasable { address < fixed_window → bank < 0o10 }
     ensures place { result ≡ order_place bank address }
@@ -110,7 +110,7 @@ fn order_place(bank: u8, address: Addr) -> Place
 }
 
 /// Adds a channel write, where there is one.
-fn push_write(text: &mut String, write: Option<ChannelWrite>) -> Result<(), AllocError>
+pub(crate) fn push_write(text: &mut String, write: Option<ChannelWrite>) -> Result<(), AllocError>
     requires { FitsWrite write }
     ensures { OnOk result (string_bytes text.new ≡ string_bytes text.old ++ shown_text write) }
 {

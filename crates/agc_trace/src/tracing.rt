@@ -3,17 +3,18 @@ ghost use Rattle.std.specs.Prelude.{◌≡◌, [], ◌∷◌, OnOk, IfOk, IfErr}
 ghost use Rattle.std.specs.Io.KnownBytes.{Appends, Keeps};
 ghost use Rattle.agc_trace.specs.Cut.{IsCut};
 ghost use Rattle.agc_trace.specs.Entry.{FitsLine};
-ghost use Rattle.agc_trace.specs.Line.{line_of};
+ghost use Rattle.agc_trace.specs.NamedLine.{line_with};
 ghost use Rattle.agc_trace.specs.Selection.{last_of, lines_of, selected, selected_lines};
 ghost use Rattle.agc_trace.specs.Service.{service_left};
 ghost use Rattle.agc_trace.specs.Trace.{trace_of};
 
 use crate::entry::{Entry, next_entry};
 use crate::last::write_last;
-use crate::line::push_line;
+use crate::named_line::push_line_with;
 use crate::selection::Selection;
 use crate::service::{Service, service_after};
 use agc_machine::{Machine, Stepped};
+use agc_names::NameTable;
 use agc_progress::{Progress, tell_at};
 use std::alloc::Global;
 use std::io::Write;
@@ -28,26 +29,27 @@ pub enum TraceFault {
     Write,
 }
 
-/// Runs a machine, and writes the line of each boundary that is selected. The run goes to its stop, or
+/// Runs a machine, and writes the line of each boundary that is selected, with the names that are given. The run goes to its stop, or
 /// as far as such a boundary may come: past the last cycle that is selected there is none. At the stop the
 /// service is returned that an interrupt has begun in the range of cycles, and no RESUME has ended.
 pub fn trace<W: Write, P: Progress>(
     alloc: Global,
     machine: &mut Machine,
     selection: &Selection,
+    names: &Option<NameTable>,
     out: &mut W,
     progress: &mut P,
 ) -> Result<Option<Service>, TraceFault>
     ensures lines { OnOk result (Appends (W.contents out.old) (W.contents out.new)
-        (selected_lines selection.now (trace_of machine.old))) }
+        (selected_lines names.now selection.now (trace_of machine.old))) }
     ensures service { IfOk result (λ left. left ≡ service_left selection.now (trace_of machine.old)) }
     ensures cut { IfErr result (λ why. IsCut why (W.contents out.old) (W.contents out.new)
-        (selected_lines selection.now (trace_of machine.old))) }
+        (selected_lines names.now selection.now (trace_of machine.old))) }
 {
     go_to_first(machine, selection, progress);
     match selection.last {
-        None => write_lines(alloc, machine, selection, out, progress),
-        Some(most) => write_last(alloc, machine, selection, most, out, progress),
+        None => write_lines(alloc, machine, selection, names, out, progress),
+        Some(most) => write_last(alloc, machine, selection, names, most, out, progress),
     }
 }
 
@@ -73,20 +75,21 @@ fn write_lines<W: Write, P: Progress>(
     alloc: Global,
     machine: &mut Machine,
     selection: &Selection,
+    names: &Option<NameTable>,
     out: &mut W,
     progress: &mut P,
 ) -> Result<Option<Service>, TraceFault>
     ensures lines { OnOk result (Appends (W.contents out.old) (W.contents out.new)
-        (lines_of (selected selection.now (trace_of machine.old)))) }
+        (lines_of names.now (selected selection.now (trace_of machine.old)))) }
     ensures service { IfOk result (λ left. left ≡ service_left selection.now (trace_of machine.old)) }
     ensures cut { IfErr result (λ why. IsCut why (W.contents out.old) (W.contents out.new)
-        (lines_of (selected selection.now (trace_of machine.old)))) }
+        (lines_of names.now (selected selection.now (trace_of machine.old)))) }
 {
     let mut mark = 0;
     let mut service = None;
     while machine.cycle() <= selection.to {
         let entry = next_entry(machine);
-        write_selected(alloc, selection, &entry, out)?;
+        write_selected(alloc, selection, names, &entry, out)?;
         if entry.is_stop() {
             return Ok(service);
         }
@@ -101,17 +104,18 @@ fn write_lines<W: Write, P: Progress>(
 fn write_selected<W: Write>(
     alloc: Global,
     selection: &Selection,
+    names: &Option<NameTable>,
     entry: &Entry,
     out: &mut W,
 ) -> Result<(), TraceFault>
     requires { FitsLine entry.now }
     ensures line { OnOk result (Appends (W.contents out.old) (W.contents out.new)
-        (lines_of (selected selection.now (entry.now ∷ [])))) }
+        (lines_of names.now (selected selection.now (entry.now ∷ [])))) }
     ensures kept { IfErr result (λ why. why ≡ TraceFault.Memory
         → Keeps (W.contents out.old) (W.contents out.new)) }
 {
     if selection.takes(entry) {
-        write_line(alloc, entry, out)
+        write_line(alloc, names, entry, out)
     } else {
         Ok(())
     }
@@ -120,17 +124,18 @@ fn write_selected<W: Write>(
 /// Writes the line of an entry.
 pub(crate) fn write_line<W: Write>(
     alloc: Global,
+    names: &Option<NameTable>,
     entry: &Entry,
     out: &mut W,
 ) -> Result<(), TraceFault>
     requires { FitsLine entry.now }
     ensures line { OnOk result
-        (Appends (W.contents out.old) (W.contents out.new) (line_of entry.now)) }
+        (Appends (W.contents out.old) (W.contents out.new) (line_with names.now entry.now)) }
     ensures kept { IfErr result (λ why. why ≡ TraceFault.Memory
         → Keeps (W.contents out.old) (W.contents out.new)) }
 {
     let mut line = String::new(alloc);
-    if push_line(&mut line, entry).is_err() {
+    if push_line_with(&mut line, names, entry).is_err() {
         return Err(TraceFault::Memory);
     }
     match out.write_all(line.as_bytes()) {

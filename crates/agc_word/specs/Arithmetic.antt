@@ -38,7 +38,7 @@ over_of x =
 
 -- Overflow correction: a word that is stored keeps its sign, and fourteen digits of its magnitude.
 unfoldable pub narrow_of : Number → Number
-narrow_of x = record x { magnitude = x.magnitude % 16384 }
+narrow_of x = record x { magnitude = x.magnitude % 0o40000 }
 
 -- the other sign, the same magnitude
 unfoldable pub complement_of : Number → Number

@@ -14,13 +14,13 @@ unfoldable pub product_of : Number → Number → Number × Number
 product_of a k =
     let size = a.magnitude * k.magnitude in
     let sign = signs_differ a.minus k.minus && not (k.magnitude == 0) in
-    let upper : Number = record { minus = sign; magnitude = size / 16384 } in
-    let lower : Number = record { minus = sign; magnitude = size % 16384 } in
+    let upper : Number = record { minus = sign; magnitude = size / 0o40000 } in
+    let lower : Number = record { minus = sign; magnitude = size % 0o40000 } in
     (upper, lower)
 
 -- the number in two words that division takes: the lower one may have another sign than the upper
 abbrev pub dividend_of : Number → Number → ℤ
-dividend_of a l = pos 16384 *ℤ value a +ℤ value l
+dividend_of a l = pos 0o40000 *ℤ value a +ℤ value l
 
 -- its sign is the upper word's, and the lower word's where the upper one is a zero
 abbrev pub dividend_is_minus : Number → Number → Bool
@@ -35,7 +35,7 @@ quotient_of a l k =
     let whole = min (size / k.magnitude) 16383 in
     let quotient : Number = record { minus = signs_differ sign k.minus; magnitude = whole } in
     let remainder : Number = record { minus = sign; magnitude = size - whole * k.magnitude } in
-    let fits = not (k.magnitude == 0) && nat_le size (16384 * k.magnitude) in
+    let fits = not (k.magnitude == 0) && nat_le size (0o40000 * k.magnitude) in
     if fits then Some (quotient, remainder) else None
 
 -- The law of division: quotient q and remainder r make up the dividend, and the remainder is below

@@ -17,8 +17,8 @@ pub fn product(a: Narrow, k: Narrow) -> (Narrow, Narrow)
     let size = u32::from(a.magnitude()) * u32::from(k.magnitude());
     let minus = a.is_minus() != k.is_minus() && k.magnitude() != 0;
     (
-        Narrow::signed(minus, (size / 16384) as u16),
-        Narrow::signed(minus, (size % 16384) as u16),
+        Narrow::signed(minus, (size / 0o40000) as u16),
+        Narrow::signed(minus, (size % 0o40000) as u16),
     )
 }
 
@@ -36,7 +36,7 @@ pub fn quotient(a: Narrow, l: Narrow, k: Narrow) -> Option<(Narrow, Narrow)>
     if divisor == 0 {
         return None;
     }
-    if dividend > 16384 * divisor {
+    if dividend > 0o40000 * divisor {
         return None;
     }
     let minus = if a.magnitude() == 0 {
@@ -55,13 +55,13 @@ pub fn quotient(a: Narrow, l: Narrow, k: Narrow) -> Option<(Narrow, Narrow)>
 fn divided(dividend: u32, divisor: u32) -> (u16, u16)
     requires positive { 0 < divisor }
     requires narrow { divisor < 2 ^ 14 }
-    requires within { dividend ≤ 16384 * divisor }
+    requires within { dividend ≤ 0o40000 * divisor }
     ensures whole { result.0 ≡ min (dividend / divisor) 16383 }
     ensures parts { dividend ≡ result.0 * divisor + result.1 }
     ensures rest { (result.1 < divisor) ⊎ ((result.0 ≡ 16383) × (result.1 ≡ divisor)) }
 {
     let whole = dividend / divisor;
-    if whole < 16384 {
+    if whole < 0o40000 {
         (whole as u16, (dividend % divisor) as u16)
     } else {
         (16383, divisor as u16)
@@ -72,7 +72,7 @@ fn dividend_size(a: Narrow, l: Narrow) -> u32
     ensures size { result ≡ nat_abs (dividend_of a l) }
     ensures bound { result < 2 ^ 28 }
 {
-    let upper = u32::from(a.magnitude()) * 16384;
+    let upper = u32::from(a.magnitude()) * 0o40000;
     let lower = u32::from(l.magnitude());
     if a.is_minus() == l.is_minus() {
         upper + lower

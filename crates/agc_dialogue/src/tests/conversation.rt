@@ -1,9 +1,9 @@
 //! Whole conversations: the texts were worked by hand from the programs and the cycles of their orders.
 use crate::converse;
-use agc_listing::{DIVISION, EDRUPT, IDLE, RELAY_WORD, rope_file};
 use agc_script::Script;
 use agc_sitting::Sitting;
 use agc_store::Rope;
+use agc_test_ropes::{DIVISION, EDRUPT, IDLE, RELAY_WORD, rope_file};
 use std::process::Abort;
 use std::test::Fail;
 

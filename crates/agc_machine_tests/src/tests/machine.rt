@@ -4,10 +4,11 @@ mod runs;
 mod timing;
 mod upcoming;
 
-use agc_listing::rope_file;
+use super::equal;
 use agc_machine::{Machine, Next, Stepped, Stop};
 use agc_script::Script;
 use agc_store::{Addr, Rope};
+use agc_test_ropes::rope_file;
 use std::process::Abort;
 use std::test::Fail;
 
@@ -71,25 +72,25 @@ fn next_cycle(rt: &impl Abort, machine: &mut Machine, channel: u16, value: u16) 
     let Next::Wrote(write) = machine.next_write() else {
         panic!(rt; "stopped before the write");
     };
-    assert_eq!(rt; write.channel, channel);
-    assert_eq!(rt; write.value.bits(), value);
+    equal(rt, write.channel, channel);
+    equal(rt, write.value.bits(), value);
     write.cycle
 }
 
 /// The next write is this one.
 fn wrote(rt: &impl Abort, machine: &mut Machine, cycle: u64, channel: u16, value: u16) {
-    assert_eq!(rt; next_cycle(rt, machine, channel, value), cycle);
+    equal(rt, next_cycle(rt, machine, channel, value), cycle);
 }
 
 /// No write comes any more, and the machine stops at this cycle.
 fn stopped(rt: &impl Abort, machine: &mut Machine, why: Stop, cycle: u64) {
-    assert_eq!(rt; machine.next_write(), Next::Stopped(why));
-    assert_eq!(rt; machine.cycle(), cycle);
+    equal(rt, machine.next_write(), Next::Stopped(why));
+    equal(rt, machine.cycle(), cycle);
 }
 
 /// One boundary that shows nothing outside.
 fn quiet(rt: &impl Abort, machine: &mut Machine) {
-    assert_eq!(rt; machine.step(None), Stepped::Quiet);
+    equal(rt, machine.step(None), Stepped::Quiet);
 }
 
 /// The run of a fresh machine up to an address.

@@ -1,4 +1,5 @@
 //! Words of the instruction memos, each with the order that it names.
+use super::equal;
 use agc_order::{Basic, Extracode};
 use agc_word::Narrow;
 use std::test::Fail;
@@ -19,7 +20,11 @@ fn basic_orders_by_their_words(rt: HostRuntime) -> Result<(), Fail> {
         (0o54100, Basic::Ts),
         (0o77777, Basic::Mask),
     ] {
-        assert_eq!(rt; Basic::named_by(Narrow::with_bits(word % 0o100000)), order);
+        equal(
+            &rt,
+            Basic::named_by(Narrow::with_bits(word % 0o100000)),
+            order,
+        );
     }
     Ok(())
 }
@@ -38,9 +43,10 @@ fn extracodes_by_their_words(rt: HostRuntime) -> Result<(), Fail> {
         (0o62000, Extracode::Bzmf),
         (0o70000, Extracode::Mp),
     ] {
-        assert_eq!(rt;
+        equal(
+            &rt,
             Extracode::named_by(Narrow::with_bits(word % 0o100000)),
-            order
+            order,
         );
     }
     Ok(())

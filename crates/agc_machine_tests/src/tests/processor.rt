@@ -1,9 +1,10 @@
 //! Each public call once, by values worked out by hand. The numbers are octal, but for cycles.
 mod orders;
 
-use agc_listing::{IDLE, rope_file};
+use super::equal;
 use agc_processor::{Halt, Processor, Ran, Rupt, Timer, WRITE_MCT};
 use agc_store::Rope;
+use agc_test_ropes::{IDLE, rope_file};
 use agc_word::{Carry, Narrow, Pulse};
 use std::test::Fail;
 
@@ -53,13 +54,14 @@ fn orders_run(rt: HostRuntime) -> Result<(), Fail> {
 4002 01010 WRITE 10
 4003 12345";
     let mut processor = processor_with(&rt, listing)?;
-    assert_eq!(rt; processor.run(0), Ran::Quiet(2));
-    assert_eq!(rt; processor.run(2), Ran::Quiet(1));
-    assert_eq!(rt;
+    equal(&rt, processor.run(0), Ran::Quiet(2));
+    equal(&rt, processor.run(2), Ran::Quiet(1));
+    equal(
+        &rt,
         processor.run(3),
-        Ran::Wrote(0o10, Narrow::with_bits(0o12345))
+        Ran::Wrote(0o10, Narrow::with_bits(0o12345)),
     );
-    assert_eq!(rt; processor.channel(5, 0o10).bits(), 0o012345);
+    equal(&rt, processor.channel(5, 0o10).bits(), 0o012345);
     Ok(())
 }
 
@@ -74,8 +76,8 @@ fn orders_halt(rt: HostRuntime) -> Result<(), Fail> {
         ("4000 00006 EXTEND\n4001 07000 EDRUPT", Halt::Edrupt),
     ] {
         let mut processor = processor_with(&rt, listing)?;
-        assert_eq!(rt; processor.run(0), Ran::Quiet(1));
-        assert_eq!(rt; processor.run(1), Ran::Halted(halt));
+        equal(&rt, processor.run(0), Ran::Quiet(1));
+        equal(&rt, processor.run(1), Ran::Halted(halt));
     }
     Ok(())
 }
@@ -84,12 +86,12 @@ fn orders_halt(rt: HostRuntime) -> Result<(), Fail> {
 #[test]
 fn timers_step(rt: HostRuntime) -> Result<(), Fail> {
     let mut processor = processor_with(&rt, IDLE)?;
-    assert_eq!(rt; processor.timers_calm_until(), 427);
-    assert_eq!(rt; processor.due_timer(426), None);
+    equal(&rt, processor.timers_calm_until(), 427);
+    equal(&rt, processor.due_timer(426), None);
     let due = processor.due_timer(427).expect(&rt, "a timer is due");
-    assert_eq!(rt; due, Timer::Time5);
-    assert_eq!(rt; processor.step_timer(due), 1);
-    assert_eq!(rt; processor.store.cell(0, 0o30).bits(), 0o00001);
+    equal(&rt, due, Timer::Time5);
+    equal(&rt, processor.step_timer(due), 1);
+    equal(&rt, processor.store.cell(0, 0o30).bits(), 0o00001);
     Ok(())
 }
 
@@ -99,12 +101,12 @@ fn interrupt_is_taken(rt: HostRuntime) -> Result<(), Fail> {
     let mut processor = processor_with(&rt, IDLE)?;
     processor.request(Rupt::Keyrupt1);
     assert!(rt; processor.is_requested());
-    assert_eq!(rt; processor.pending(), Some(Rupt::Keyrupt1));
+    equal(&rt, processor.pending(), Some(Rupt::Keyrupt1));
     processor.interrupt(Rupt::Keyrupt1);
-    assert_eq!(rt; processor.store.z().bits(), 0o4025);
-    assert_eq!(rt; processor.store.cell(0, 0o15).bits(), 0o04001);
+    equal(&rt, processor.store.z().bits(), 0o4025);
+    equal(&rt, processor.store.cell(0, 0o15).bits(), 0o04001);
     assert!(rt; !processor.is_requested());
-    assert_eq!(rt; processor.pending(), None);
+    equal(&rt, processor.pending(), None);
     Ok(())
 }
 
@@ -113,10 +115,10 @@ fn interrupt_is_taken(rt: HostRuntime) -> Result<(), Fail> {
 fn comes_from_outside(rt: HostRuntime) -> Result<(), Fail> {
     let mut processor = processor_with(&rt, IDLE)?;
     processor.set_channel(0, 7, Narrow::with_bits(0o77777));
-    assert_eq!(rt; processor.channel(0, 7).bits(), 0o000160);
+    equal(&rt, processor.channel(0, 7).bits(), 0o000160);
     assert!(rt; processor.store.superbank());
     processor.store.poke(0, 0o25, Narrow::with_bits(0o37777));
-    assert_eq!(rt; processor.pulse(0o25, Pulse::Pinc), Carry::Out);
-    assert_eq!(rt; processor.store.cell(0, 0o25).bits(), 0o00000);
+    equal(&rt, processor.pulse(0o25, Pulse::Pinc), Carry::Out);
+    equal(&rt, processor.store.cell(0, 0o25).bits(), 0o00000);
     Ok(())
 }

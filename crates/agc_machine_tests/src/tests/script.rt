@@ -8,6 +8,7 @@ mod lines;
 mod merges;
 mod written;
 
+use super::equal;
 use agc_script::{Event, FaultKind, Key, LAST_CYCLE, MOST_EVENTS, Script, ScriptFault, Tape, What};
 use agc_word::{Narrow, Pulse};
 use std::process::Abort;

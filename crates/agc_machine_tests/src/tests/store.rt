@@ -1,6 +1,7 @@
 //! Worked examples of ropes, banks and registers, with the values that the machine's rules give.
 ghost use Rattle.std.specs.Prelude.{◌≡◌, ◌<◌};
 
+use super::equal;
 use agc_store::place::{A, BB, CYL, CYR, EB, EDOP, FB, L, Q, SR, Z, ZERO};
 use agc_store::{Addr, Rope, RopeFault, RopeForm, Store};
 use agc_word::{Narrow, Wide};
@@ -92,9 +93,9 @@ fn rope_sizes(rt: HostRuntime) -> Result<(), Fail> {
     }
     let full = counting_file(rt.alloc(), 73728)?;
     let store = Store::new(Rope::read(rt.alloc(), &full)?);
-    assert_eq!(rt; store.fixed(0o02, 0), word(1));
-    assert_eq!(rt; store.fixed(0o00, 0), word(4096 / 2 + 1));
-    assert_eq!(rt; store.fixed(0o04, 0), word(8192 / 2 + 1));
+    equal(&rt, store.fixed(0o02, 0), word(1));
+    equal(&rt, store.fixed(0o00, 0), word(4096 / 2 + 1));
+    equal(&rt, store.fixed(0o04, 0), word(8192 / 2 + 1));
     Ok(())
 }
 
@@ -162,18 +163,23 @@ fn parity_words(rt: HostRuntime) -> Result<(), Fail> {
         ([0x00, 0x00], 0),
     ] {
         let store = Store::new(Rope::read_as(rt.alloc(), RopeForm::Parity, &bytes)?);
-        assert_eq!(rt; store.fixed(0, 0).bits(), first);
+        equal(&rt, store.fixed(0, 0).bits(), first);
     }
     let wrong = RopeFault::Parity { bank: 0, offset: 0 };
-    assert_eq!(rt; parity_fault(rt.alloc(), &[0x30, 0x00]), Some(wrong));
-    assert_eq!(rt;
+    equal(&rt, parity_fault(rt.alloc(), &[0x30, 0x00]), Some(wrong));
+    equal(
+        &rt,
         parity_fault(rt.alloc(), &[0, 0, 1]),
-        Some(RopeFault::OddLength)
+        Some(RopeFault::OddLength),
     );
     let zeros = repeated(rt.alloc(), [0, 0], 36865)?;
-    assert_eq!(rt; parity_fault(rt.alloc(), &zeros), Some(RopeFault::TooLong));
+    equal(
+        &rt,
+        parity_fault(rt.alloc(), &zeros),
+        Some(RopeFault::TooLong),
+    );
     let ones = repeated(rt.alloc(), [0, 1], 36864)?;
-    assert_eq!(rt; parity_fault(rt.alloc(), &ones), None);
+    equal(&rt, parity_fault(rt.alloc(), &ones), None);
     Ok(())
 }
 
@@ -182,11 +188,11 @@ fn parity_fault_place(rt: HostRuntime) -> Result<(), Fail> {
     let mut bytes = repeated(rt.alloc(), [0, 1], 1024)?;
     bytes.extend_from_slice(&[0x00, 0x00, 0x30, 0x00])?;
     let wrong = Some(RopeFault::Parity { bank: 1, offset: 1 });
-    assert_eq!(rt; parity_fault(rt.alloc(), &bytes), wrong);
+    equal(&rt, parity_fault(rt.alloc(), &bytes), wrong);
 
     // A second bad word does not change the place, and the classic form has no parity.
     bytes.extend_from_slice(&[0x30, 0x00])?;
-    assert_eq!(rt; parity_fault(rt.alloc(), &bytes), wrong);
+    equal(&rt, parity_fault(rt.alloc(), &bytes), wrong);
     assert!(rt; Rope::read(rt.alloc(), &bytes).is_ok());
     Ok(())
 }
@@ -198,19 +204,19 @@ fn editing_registers(rt: HostRuntime) -> Result<(), Fail> {
     store.write(at(SR), Wide::from_bits(1));
     store.write(at(CYL), Wide::from_bits(1));
     store.write(at(EDOP), Wide::from_bits(1));
-    assert_eq!(rt; store.read(at(CYR)).bits(), 0o140000);
-    assert_eq!(rt; store.read(at(SR)).bits(), 0o000000);
-    assert_eq!(rt; store.read(at(CYL)).bits(), 0o000002);
-    assert_eq!(rt; store.read(at(EDOP)).bits(), 0o000000);
+    equal(&rt, store.read(at(CYR)).bits(), 0o140000);
+    equal(&rt, store.read(at(SR)).bits(), 0o000000);
+    equal(&rt, store.read(at(CYL)).bits(), 0o000002);
+    equal(&rt, store.read(at(EDOP)).bits(), 0o000000);
     store.reedit(at(CYR));
-    assert_eq!(rt; store.read(at(CYR)).bits(), 0o020000);
-    assert_eq!(rt; store.read(at(CYL)).bits(), 0o000002);
+    equal(&rt, store.read(at(CYR)).bits(), 0o020000);
+    equal(&rt, store.read(at(CYL)).bits(), 0o000002);
 
     // A read that edits again, by the window at 1400 octal with EB 0; and a poke, which does not.
-    assert_eq!(rt; store.read_and_edit(at(0o1422)).bits(), 0o000002);
-    assert_eq!(rt; store.read(at(CYL)).bits(), 0o000004);
+    equal(&rt, store.read_and_edit(at(0o1422)).bits(), 0o000002);
+    equal(&rt, store.read(at(CYL)).bits(), 0o000004);
     store.poke(0, EDOP, word(0o77777));
-    assert_eq!(rt; store.cell(0, EDOP).bits(), 0o77777);
+    equal(&rt, store.cell(0, EDOP).bits(), 0o77777);
     Ok(())
 }
 
@@ -234,13 +240,13 @@ fn fixed_banks_and_superbank(rt: HostRuntime) -> Result<(), Fail> {
             "FB {fb:o}, superbank on"
         );
     }
-    assert_eq!(rt; store.selected_bank(), 0o44);
+    equal(&rt, store.selected_bank(), 0o44);
     store.write(at(BB), Wide::from_bits(0o160005));
-    assert_eq!(rt; store.read(at(FB)).bits(), 0o160000);
-    assert_eq!(rt; store.read(at(EB)).bits(), 0o002400);
-    assert_eq!(rt; store.read(at(BB)).bits(), 0o160005);
-    assert_eq!(rt; store.fetch(at(0o4000)).bits(), 0o02);
-    assert_eq!(rt; store.fetch(at(0o6000)).bits(), 0o03);
+    equal(&rt, store.read(at(FB)).bits(), 0o160000);
+    equal(&rt, store.read(at(EB)).bits(), 0o002400);
+    equal(&rt, store.read(at(BB)).bits(), 0o160005);
+    equal(&rt, store.fetch(at(0o4000)).bits(), 0o02);
+    equal(&rt, store.fetch(at(0o6000)).bits(), 0o03);
     Ok(())
 }
 
@@ -248,34 +254,34 @@ fn fixed_banks_and_superbank(rt: HostRuntime) -> Result<(), Fail> {
 fn a_jump_fetches_and_counts_on(rt: HostRuntime) -> Result<(), Fail> {
     let file = banks_file(rt.alloc())?;
     let mut store = Store::new(Rope::read(rt.alloc(), &file)?);
-    assert_eq!(rt; store.fetch_at(at(0o6000)).bits(), 0o03);
-    assert_eq!(rt; store.z(), at(0o6001));
-    assert_eq!(rt; store.fetch_at(at(0o2000)).bits(), 0o00);
-    assert_eq!(rt; store.z(), at(0o2001));
+    equal(&rt, store.fetch_at(at(0o6000)).bits(), 0o03);
+    equal(&rt, store.z(), at(0o6001));
+    equal(&rt, store.fetch_at(at(0o2000)).bits(), 0o00);
+    equal(&rt, store.z(), at(0o2001));
     assert_eq!(rt;
         store.fetch_at(at(5)).bits(),
         0o00005,
         "Z shows where the jump went"
     );
-    assert_eq!(rt; store.z(), at(6));
+    equal(&rt, store.z(), at(6));
     Ok(())
 }
 
 #[test]
 fn kept_erasable_bank(rt: HostRuntime) -> Result<(), Fail> {
     let mut store = empty_store(rt.alloc())?;
-    assert_eq!(rt; store.named_cell(at(0o1403)), Some(3));
+    equal(&rt, store.named_cell(at(0o1403)), Some(3));
     store.write(at(0o1403), Wide::from_bits(0o002400));
     store.write(at(0o1400), Wide::from_bits(0o000007));
-    assert_eq!(rt; store.cell(5, 0), word(0o00007));
+    equal(&rt, store.cell(5, 0), word(0o00007));
     store.write_in_range(at(0o1401), Wide::from_bits(0o000011));
-    assert_eq!(rt; store.cell(5, 1), word(0o00011));
+    equal(&rt, store.cell(5, 1), word(0o00011));
     store.write_in_range(at(0o100), Wide::from_bits(0o000012));
-    assert_eq!(rt; store.cell(0, 0o100), word(0o00012));
-    assert_eq!(rt; store.read(at(EB)).bits(), 0o002400);
-    assert_eq!(rt; store.erasable_bank(), 5);
-    assert_eq!(rt; store.named_cell(at(0o1400)), Some(5 * 0o400));
-    assert_eq!(rt; store.named_cell(at(0o2000)), None);
+    equal(&rt, store.cell(0, 0o100), word(0o00012));
+    equal(&rt, store.read(at(EB)).bits(), 0o002400);
+    equal(&rt, store.erasable_bank(), 5);
+    equal(&rt, store.named_cell(at(0o1400)), Some(5 * 0o400));
+    equal(&rt, store.named_cell(at(0o2000)), None);
     Ok(())
 }
 
@@ -286,16 +292,16 @@ fn registers_keep_their_bits(rt: HostRuntime) -> Result<(), Fail> {
     store.set_q(Wide::from_bits(0o137776));
     store.set_l(word(0o12345));
     store.set_z(at(0o7777));
-    assert_eq!(rt; store.a().bits(), 0o040001);
-    assert_eq!(rt; store.q().bits(), 0o137776);
-    assert_eq!(rt; store.l().bits(), 0o12345);
-    assert_eq!(rt; store.z().bits(), 0o7777);
+    equal(&rt, store.a().bits(), 0o040001);
+    equal(&rt, store.q().bits(), 0o137776);
+    equal(&rt, store.l().bits(), 0o12345);
+    equal(&rt, store.z().bits(), 0o7777);
     assert_eq!(rt;
         store.fetch(at(A)).bits(),
         0o00001,
         "the overflow is corrected"
     );
-    assert_eq!(rt; store.cell(0, Q).bits(), 0o77776);
+    equal(&rt, store.cell(0, Q).bits(), 0o77776);
     for (cell, kept) in [
         (L, 0o177777),
         (EB, 0o003400),
@@ -306,7 +312,7 @@ fn registers_keep_their_bits(rt: HostRuntime) -> Result<(), Fail> {
         store.write(at(cell), Wide::from_bits(0o177777));
         assert_eq!(rt; store.read(at(cell)).bits(), kept, "register {cell:o}");
     }
-    assert_eq!(rt; store.read(at(BB)).bits(), 0o176007);
+    equal(&rt, store.read(at(BB)).bits(), 0o176007);
     Ok(())
 }
 
@@ -314,12 +320,12 @@ fn registers_keep_their_bits(rt: HostRuntime) -> Result<(), Fail> {
 fn addresses_wrap(rt: HostRuntime) {
     assert!(rt; Addr::new(0o7777).is_some());
     assert!(rt; Addr::new(0o10000).is_none());
-    assert_eq!(rt; at(0o7777).next(), at(0));
-    assert_eq!(rt; at(0o7776).skip(3), at(1));
-    assert_eq!(rt; at(0).previous(), at(0o7777));
-    assert_eq!(rt; at(0o2000).low_ten(), at(0));
-    assert_eq!(rt; at(0o2000).previous_low_ten(), at(0o1777));
-    assert_eq!(rt; Addr::wrapped(0o34006), at(0o4006));
-    assert_eq!(rt; Addr::of_word(word(0o50017)), at(0o0017));
-    assert_eq!(rt; at(0o4001).word(), word(0o04001));
+    equal(&rt, at(0o7777).next(), at(0));
+    equal(&rt, at(0o7776).skip(3), at(1));
+    equal(&rt, at(0).previous(), at(0o7777));
+    equal(&rt, at(0o2000).low_ten(), at(0));
+    equal(&rt, at(0o2000).previous_low_ten(), at(0o1777));
+    equal(&rt, Addr::wrapped(0o34006), at(0o4006));
+    equal(&rt, Addr::of_word(word(0o50017)), at(0o0017));
+    equal(&rt, at(0o4001).word(), word(0o04001));
 }

@@ -1,4 +1,5 @@
 //! Worked values, in octal: what the definitions are to mean.
+use super::equal;
 use agc_word::{
     Carry, Edit, Narrow, Over, Pulse, Wide, and, complement, dabs, modular_difference, or, product,
     quotient, read_decimal, read_octal, sum, widen, xor,
@@ -23,7 +24,7 @@ fn patterns(rt: HostRuntime) {
         (0o77777, 0o177777),
     ] {
         let word = narrow(&rt, bits);
-        assert_eq!(rt; word.bits(), bits);
+        equal(&rt, word.bits(), bits);
         assert_eq!(rt; widen(word).bits(), widened, "widen of {word}");
     }
 }
@@ -46,8 +47,8 @@ fn zero_sums(rt: HostRuntime) {
 
 #[test]
 fn overflow_correction(rt: HostRuntime) {
-    assert_eq!(rt; sum(wide(0o077777), wide(0o000001)).bits(), 0o100000);
-    assert_eq!(rt; sum(wide(0o100000), wide(0o177776)).bits(), 0o077777);
+    equal(&rt, sum(wide(0o077777), wide(0o000001)).bits(), 0o100000);
+    equal(&rt, sum(wide(0o100000), wide(0o177776)).bits(), 0o077777);
     for (bits, stored, over) in [
         (0o100000, 0o40000, Over::Minus),
         (0o040000, 0o00000, Over::Plus),
@@ -193,16 +194,16 @@ fn angle_and_shift_pulses(rt: HostRuntime) {
 fn logical_operations(rt: HostRuntime) {
     let x = wide(0o177700);
     let y = wide(0o000770);
-    assert_eq!(rt; and(x, y).bits(), 0o000700);
-    assert_eq!(rt; or(x, y).bits(), 0o177770);
-    assert_eq!(rt; xor(x, y).bits(), 0o177070);
+    equal(&rt, and(x, y).bits(), 0o000700);
+    equal(&rt, or(x, y).bits(), 0o177770);
+    equal(&rt, xor(x, y).bits(), 0o177070);
 }
 
 #[test]
 fn signs_bits_and_text(rt: HostRuntime) {
     let minus_five = narrow(&rt, 0o77772);
     assert!(rt; minus_five.is_minus());
-    assert_eq!(rt; minus_five.magnitude(), 5);
+    equal(&rt, minus_five.magnitude(), 5);
     assert!(rt; minus_five == Narrow::signed(true, 5));
     assert!(rt; minus_five == Narrow::with_bits(0o77772));
     assert!(rt; narrow(&rt, 0o20000).bit(14));
@@ -214,7 +215,7 @@ fn signs_bits_and_text(rt: HostRuntime) {
     let text = format!(in rt.alloc(); "{} {}", narrow(&rt, 5), wide(0o177776)).expect(
         &rt, "memory",
     );
-    assert_eq!(rt; text.as_str(), "00005 177776");
+    equal(&rt, text.as_str(), "00005 177776");
 }
 
 #[test]
@@ -233,6 +234,6 @@ fn numerals(rt: HostRuntime) {
         assert_eq!(rt; read_decimal(3, text.as_bytes()), decimal, "decimal {text}");
     }
     let last = b"7777777777777777777";
-    assert_eq!(rt; read_octal(19, last), Some((1 << 57) - 1));
-    assert_eq!(rt; read_octal(18, last), None);
+    equal(&rt, read_octal(19, last), Some((1 << 57) - 1));
+    equal(&rt, read_octal(18, last), None);
 }

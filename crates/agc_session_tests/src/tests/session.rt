@@ -1,9 +1,9 @@
 //! A session of each kind over memory: a run that stops, and a refusal; and the files of one.
-use agc_listing::{RELAY_WORD, rope_file};
 use agc_pipe::Open;
 use agc_script::{Event, FaultKind, ScriptFault, What};
 use agc_session::{DONE, Options, REFUSED, Refusal, read_rope, read_script, session};
 use agc_store::{RopeFault, RopeForm, Store};
+use agc_test_ropes::{RELAY_WORD, rope_file};
 use std::process::Abort;
 use std::sync::Wait;
 use std::test::Fail;

@@ -1,5 +1,5 @@
 //! Texts that say where tables stand, and texts that do not.
-use agc_panel::{Table, WatchFault, WatchSpec};
+use agc_executive::{Table, WatchFault, WatchSpec};
 
 #[test]
 fn reads_seven_octal_numbers(rt: HostRuntime) {

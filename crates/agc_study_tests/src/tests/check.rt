@@ -5,7 +5,7 @@ use agc_check::{
     Report, RopeHoldings, ScriptHoldings, Span, check, check_keys, check_listing, holdings_of_rope,
     holdings_of_script, nearest,
 };
-use agc_rope_text::weave;
+use agc_rope_listing::weave;
 use agc_script::Script;
 use agc_store::{Rope, RopeForm};
 use std::process::Abort;

@@ -1,10 +1,10 @@
 //! Runs of small programs side by side, worked out by hand. The numbers are octal, but for cycles.
 use agc_compare::{compare, push_comparison};
-use agc_listing::rope_file;
 use agc_machine::Machine;
 use agc_progress::Untold;
 use agc_script::Script;
 use agc_store::Rope;
+use agc_test_ropes::rope_file;
 use std::process::Abort;
 use std::test::Fail;
 

@@ -1,10 +1,10 @@
 //! When it is told: no clause says that it is told at all.
 use agc_compare::compare;
-use agc_listing::{IDLE, rope_file};
 use agc_machine::Machine;
 use agc_progress::{Progress, Untold, mark_past, tell_at};
 use agc_script::Script;
 use agc_store::Rope;
+use agc_test_ropes::{IDLE, rope_file};
 use agc_trace::{Selection, trace};
 use std::process::Abort;
 use std::test::Fail;
@@ -52,7 +52,14 @@ fn a_trace_tells_how_far_it_has_come(rt: HostRuntime) -> Result<(), Fail> {
     };
     let mut told = Told::default();
     let mut out = Vec::new(rt.alloc());
-    trace(rt.alloc(), &mut machine, &selection, &mut out, &mut told)?;
+    trace(
+        rt.alloc(),
+        &mut machine,
+        &selection,
+        &None,
+        &mut out,
+        &mut told,
+    )?;
     assert_eq!(rt; told.times, 3);
     assert_eq!(rt; told.cycle, 1_100_000);
     assert_eq!(rt; told.sum, 2_100_000);

@@ -1,5 +1,5 @@
 //! Sources of ropes, each line's word worked by hand from the tables of orders. The numbers are octal.
-use agc_rope_text::{LineFault, list};
+use agc_rope_listing::{LineFault, list};
 use agc_source::{SourceFault, SourceTrouble, weave_source};
 use agc_store::{Rope, RopeForm, Store};
 use std::process::Abort;

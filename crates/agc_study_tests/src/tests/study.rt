@@ -5,7 +5,7 @@ use agc_args::ArgsFault;
 use agc_asked::{Asked, Comparing, Filming, asked_by};
 use agc_film::{Part, RunFiles};
 use agc_progress::Untold;
-use agc_rope_text::LineFault;
+use agc_rope_listing::LineFault;
 use agc_session::Refusal;
 use agc_source::{SourceFault, SourceTrouble};
 use agc_store::{RopeFault, RopeForm};
@@ -67,6 +67,8 @@ fn help(rt: HostRuntime) {
         ("agc-study trace --help", "--until"),
         ("agc-study trace --help", "--only"),
         ("agc-study compare --help", "--limit"),
+        ("agc-study compare --help", "--by"),
+        ("agc-study compare --help", "--brief"),
         ("agc-study film --help", "--limit"),
         ("agc-study film --help", "SCRIPT"),
     ] {
@@ -100,6 +102,12 @@ fn mistakes(rt: HostRuntime) {
         "agc-study film rope script --limit 10 --from 3 --to 2",
         "agc-study compare rope script rope --limit 10",
         "agc-study compare rope script rope script",
+        "agc-study compare rope script rope script --limit 10 --by pictures",
+        "agc-study compare rope script rope script --limit 10 --by channel",
+        "agc-study compare rope script rope script --limit 10 --by channel 8",
+        "agc-study compare rope script rope script --limit 10 --by channel 1000",
+        "agc-study compare rope script rope script --limit 10 --by",
+        "agc-study compare rope script rope script --limit 10 --brief",
     ] {
         let ended = program(&rt, line);
         assert_eq!(rt; ended.status, 2, "{line}");
@@ -142,6 +150,14 @@ fn troubles(rt: HostRuntime) {
         (
             "agc-study list nothing --bank=8",
             "agc-study: bank: BadSpec\n",
+        ),
+        (
+            "agc-study list nothing --names nothing",
+            "agc-study: cannot read names\n",
+        ),
+        (
+            "agc-study trace nothing nothing --limit 10 --names nothing",
+            "agc-study: cannot read names\n",
         ),
     ] {
         let ended = program(&rt, line);
@@ -299,6 +315,7 @@ fn runs_are_compared(rt: HostRuntime) -> Result<(), Fail> {
             form: RopeForm::Classic,
             limit: 2,
             until: None,
+            shown: None,
         };
         let (mut rope, mut script): (&[u8], &[u8]) = (&[0x30, 0x00], b"");
         let (mut other_rope, mut other_script): (&[u8], &[u8]) = (other, b"");
@@ -339,6 +356,7 @@ fn the_run_at_fault_is_named(rt: HostRuntime) -> Result<(), Fail> {
             form: RopeForm::Classic,
             limit,
             until: None,
+            shown: None,
         };
         let (mut rope, mut script): (&[u8], &[u8]) = (left, b"");
         let (mut other_rope, mut other_script): (&[u8], &[u8]) = (right, b"");

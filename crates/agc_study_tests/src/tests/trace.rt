@@ -1,11 +1,11 @@
 //! Traces of small programs, worked out by hand.
-use agc_listing::rope_file;
 use agc_machine::Machine;
 use agc_processor::Rupt;
 use agc_progress::Untold;
 use agc_script::Script;
 use agc_source_words::{Location, location_at};
 use agc_store::{Addr, Rope};
+use agc_test_ropes::rope_file;
 use agc_trace::{Only, Places, PlacesFault, Selection, Service, trace};
 use std::process::Abort;
 use std::test::Fail;
@@ -37,7 +37,14 @@ fn traced(
 ) -> Result<String, Fail> {
     let mut machine = machine_of(rt, listing, script, limit)?;
     let mut out = Vec::new(rt.alloc());
-    trace(rt.alloc(), &mut machine, selection, &mut out, &mut Untold)?;
+    trace(
+        rt.alloc(),
+        &mut machine,
+        selection,
+        &None,
+        &mut out,
+        &mut Untold,
+    )?;
     Ok(String::from_utf8(out).ok().expect(rt, "a text"))
 }
 
@@ -304,7 +311,14 @@ fn services_at_the_stop(rt: HostRuntime) -> Result<(), Fail> {
         let mut machine = machine_of(&rt, TWO_KEYS, "2 key VERB\n3 raise 6\n", limit)?;
         let mut out = Vec::new(rt.alloc());
         let selection = between(&rt, from, to, only);
-        let told = trace(rt.alloc(), &mut machine, &selection, &mut out, &mut Untold)?;
+        let told = trace(
+            rt.alloc(),
+            &mut machine,
+            &selection,
+            &None,
+            &mut out,
+            &mut Untold,
+        )?;
         assert_eq!(rt; told, left, "{limit} {from} {to}");
     }
     Ok(())

@@ -1,18 +1,33 @@
-use Rattle.std.specs.Prelude.{◌≡◌, ◌++◌, ℕ, List, string_bytes}
-use Rattle.std.proofs.Common.{subst}
-use Rattle.agc_dialogue.specs.Answer.{error_line}
-use Rattle.agc_dialogue.proofs.Answering.{given_is_said, refusal_is_said, when_ok}
-use Rattle.agc_dialogue.proofs.Due.{why_refused}
+use Rattle.std.specs.Prelude.{string_bytes}
+use Rattle.std.proofs.Common.{inl, inr}
+use Rattle.agc_dialogue.proofs.Answering.{given_is, line_is, refused_is}
+use Rattle.agc_dialogue.proofs.Telling.{when_ok}
 use Rattle.agc_dialogue.proofs.conversation.push_given.Goals as goal
 
-pub returns-in-Ok : goal.returns-in-Ok
-returns-in-Ok c =
+pub returns-in-Ok-clause-gone : goal.returns-in-Ok-clause-gone
+returns-in-Ok-clause-gone c =
     when_ok c.push_end.result c.push_end.ensures
-    (λ said. given_is_said c.args.what c.args.talk.now c.give.new.talk (string_bytes c.args.text.now) (string_bytes c.push_end.new.text) c.in-Ok.ensures.given said)
+    (λ said. (given_is c.args.what c.args.talk.now c.give.new.talk c.in-Ok.ensures.given c.in-Ok.ensures.taken c.in-Ok.ensures.room).0)
 
-pub returns-in_ok-push_error_line-in-Err : goal.returns-in_ok-push_error_line-in-Err
-returns-in_ok-push_error_line-in-Err c =
-    refusal_is_said c.args.what c.in-Err.fault c.args.talk.now c.give.new.talk (string_bytes c.args.text.now) (string_bytes c.push_error_line.new.text)
-    (why_refused c.give.result c.in-Err.fault c.args.talk.now c.give.new.talk c.in-Err.is c.give.ensures.refused c.give.ensures.unwanted c.give.ensures.many)
-    (subst (λ (reason : List ℕ). string_bytes c.push_error_line.new.text ≡ string_bytes c.args.text.now ++ error_line reason) c.refusal.ensures
-    c.in_ok-push_error_line-in-Err.ensures)
+pub returns-in-Ok-clause-said : goal.returns-in-Ok-clause-said
+returns-in-Ok-clause-said c =
+    when_ok c.push_end.result c.push_end.ensures
+    (λ said. line_is (string_bytes c.args.text.now) (string_bytes c.push_end.new.text) _ _ said
+    (given_is c.args.what c.args.talk.now c.give.new.talk c.in-Ok.ensures.given c.in-Ok.ensures.taken c.in-Ok.ensures.room).1)
+
+pub returns-in-Ok-clause-left : goal.returns-in-Ok-clause-left
+returns-in-Ok-clause-left c = inl (given_is c.args.what c.args.talk.now c.give.new.talk c.in-Ok.ensures.given c.in-Ok.ensures.taken c.in-Ok.ensures.room).0
+
+pub returns-in-Err-clause-gone : goal.returns-in-Err-clause-gone
+returns-in-Err-clause-gone c =
+    when_ok c.push_refused.result c.push_refused.ensures
+    (λ said. (refused_is c.args.what c.args.talk.now c.give.new.talk c.give.result c.in-Err.fault c.in-Err.is said.0 c.give.ensures.unwanted c.give.ensures.many).0)
+
+pub returns-in-Err-clause-said : goal.returns-in-Err-clause-said
+returns-in-Err-clause-said c =
+    when_ok c.push_refused.result c.push_refused.ensures
+    (λ said. line_is (string_bytes c.args.text.now) (string_bytes c.push_refused.new.text) _ _ said.1
+    (refused_is c.args.what c.args.talk.now c.give.new.talk c.give.result c.in-Err.fault c.in-Err.is said.0 c.give.ensures.unwanted c.give.ensures.many).1)
+
+pub returns-in-Err-clause-left : goal.returns-in-Err-clause-left
+returns-in-Err-clause-left c = inr c.in-Err.ensures.on

@@ -1,14 +1,32 @@
 use Rattle.std.specs.Prelude.{string_bytes}
-use Rattle.agc_dialogue.proofs.Answering.{event_said, other_said, when_ok}
+use Rattle.std.proofs.Common.{inr}
+use Rattle.agc_dialogue.proofs.Answering.{answered_event, answered_other, left_same, tells_end, tells_same, tells_waiting, when_both}
+use Rattle.agc_dialogue.proofs.Telling.{stays_known, when_ok}
 use Rattle.agc_dialogue.proofs.conversation.say_command.Goals as goal
 
-pub returns-in-Give : goal.returns-in-Give
-returns-in-Give g c =
-    when_ok c.push_given.result c.push_given.ensures
-    (λ said. event_said c.args.command c.in-Give.what c.args.talk.now c.push_given.new.talk (g.W.Write.contents c.args.output.now) (string_bytes c.args.text.now) (string_bytes c.push_given.new.text) c.in-Give.is said)
+pub returns-in-Give-clause-said : goal.returns-in-Give-clause-said
+returns-in-Give-clause-said g c =
+    when_both c.push_given.result c.push_given.ensures.gone c.push_given.ensures.said
+    (λ gone said. tells_same _ _ _ _ _ (answered_event _ c.in-Give.what c.args.talk.now c.in-Give.is)
+    (tells_waiting _ _ (g.W.Write.contents c.args.output.now) (string_bytes c.args.text.now) (string_bytes c.push_given.new.text) gone said))
 
-pub returns-in_ok-carry_out-in_default : goal.returns-in_ok-carry_out-in_default
-returns-in_ok-carry_out-in_default g c =
+pub returns-in-Give-clause-left : goal.returns-in-Give-clause-left
+returns-in-Give-clause-left g c = left_same _ _ _ _ (answered_event _ c.in-Give.what c.args.talk.now c.in-Give.is) c.push_given.ensures.left
+
+pub returns-in-Give-clause-grows : goal.returns-in-Give-clause-grows
+returns-in-Give-clause-grows g c never = stays_known _
+
+pub returns-in_ok-carry_out-in_default-clause-said : goal.returns-in_ok-carry_out-in_default-clause-said
+returns-in_ok-carry_out-in_default-clause-said g c =
     when_ok c.push_end.result c.push_end.ensures
-    (λ said. other_said c.args.command c.args.talk.now c.carry_out.new.talk _ (g.W.Write.contents c.carry_out.new.output)
-    (string_bytes c.carry_out.new.text) (string_bytes c.push_end.new.text) c.in_default.not-Give c.in_ok-carry_out-in_default.ensures said)
+    (λ said. tells_same _ _ _ _ _ (answered_other c.args.command c.args.talk.now c.in_default.not-Give)
+    (tells_end _ _ _ (g.W.Write.contents c.carry_out.new.output) (string_bytes c.carry_out.new.text) (string_bytes c.push_end.new.text) c.in_ok-carry_out-in_default.ensures.told said))
+
+pub returns-in_ok-carry_out-in_default-clause-left : goal.returns-in_ok-carry_out-in_default-clause-left
+returns-in_ok-carry_out-in_default-clause-left g c = inr c.in_ok-carry_out-in_default.ensures.on
+
+pub returns-in_ok-carry_out-in_default-clause-grows : goal.returns-in_ok-carry_out-in_default-clause-grows
+returns-in_ok-carry_out-in_default-clause-grows g c never = c.in_ok-carry_out-in_default.ensures.grows (λ e. cc)
+
+pub returns-in_err-carry_out-in_default-clause-left : goal.returns-in_err-carry_out-in_default-clause-left
+returns-in_err-carry_out-in_default-clause-left g c = inr c.in_err-carry_out-in_default.ensures.on

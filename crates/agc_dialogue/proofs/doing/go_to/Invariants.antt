@@ -1,17 +1,17 @@
-use Rattle.std.proofs.Common.{◌≡◌, string_bytes}
+use Rattle.std.proofs.Common.{string_bytes}
 use Rattle.std.specs.Io.KnownBytes.{append_known}
-use Rattle.agc_sitting.proofs.Reached.{Way}
-use Rattle.agc_dialogue.specs.Talk.{turns_left}
-use Rattle.agc_dialogue.specs.Told.{TellsWrites}
+use Rattle.agc_dialogue.specs.Answered.{Grows}
+use Rattle.agc_dialogue.specs.Talk.{GoesOn, turns_left}
+use Rattle.agc_dialogue.proofs.Ways.{Follows, Says}
 use Rattle.agc_dialogue.proofs.doing.go_to.Given as goal
 
 abbrev pub invariant-loop-talk : goal.invariant-loop-talk
 invariant-loop-talk g l =
-    Way l.cycle l.initial.talk.sitting.now l.talk.sitting.now
-    × (TellsWrites l.initial.talk.sitting.now l.talk.sitting.now
-    (append_known (g.W.Write.contents l.initial.output) (string_bytes l.initial.text))
-    (append_known (g.W.Write.contents l.output) (string_bytes l.text)))
-    × (l.talk.sitting.script ≡ l.initial.talk.sitting.script) × (l.talk.sitting.given ≡ l.initial.talk.sitting.given)
+    Follows l.fn.sought l.cycle l.initial.talk l.talk
+    × Says l.fn.sought l.cycle l.initial.talk l.talk (append_known (g.W.Write.contents l.initial.output) (string_bytes l.initial.text))
+    (append_known (g.W.Write.contents l.output) (string_bytes l.text))
+    × GoesOn l.initial.talk.sitting l.talk.sitting
+    × Grows (g.W.Write.contents l.initial.output) (g.W.Write.contents l.output)
 
 abbrev pub decreases-loop-talk : goal.decreases-loop-talk
 decreases-loop-talk g l = turns_left l.talk.sitting.now

@@ -1,20 +1,22 @@
-use Rattle.std.proofs.Common.{ℕ, ◌+◌, ◌-◌, ap, string_bytes, refl, sym, ◌∙◌, arith}
-use Rattle.agc_machine.specs.Laws.{after}
+use Rattle.std.proofs.Common.{ℕ, ◌+◌, ◌-◌, ap, string_bytes, sym, ◌∙◌, arith}
+use Rattle.std.proofs.lemmas.Result.{err_from_is_err_and}
 use Rattle.agc_trace.specs.Line.{line_of}
 use Rattle.agc_trace.proofs.Lines.{written_whole}
-use Rattle.agc_dialogue.proofs.Stepping.{all_taken, last_after, none_after, none_taken, one_after, one_said, stop_said}
-use Rattle.agc_dialogue.proofs.Telling.{pushed}
+use Rattle.agc_dialogue.specs.Talk.{after_boundaries}
+use Rattle.agc_dialogue.proofs.Going.{goes_then, stays_put}
+use Rattle.agc_dialogue.proofs.Stepping.{all_taken, boundaries_on, no_boundaries, none_after_stop, none_taken, one_said, stop_said}
+use Rattle.agc_dialogue.proofs.Telling.{grows_then, pushed, stays_known}
 use Rattle.agc_dialogue.proofs.doing.step.Goals as goal
 
 pub loop-boundary-init : goal.loop-boundary-init
-loop-boundary-init g c = (none_taken _ _ c.args.talk.now.sitting.now _ (omega arith), ap (λ (n : ℕ). after n c.args.talk.now.sitting.now) (omega arith), refl, refl)
+loop-boundary-init g c = (none_taken _ _ c.args.talk.now.sitting.now _ (omega arith), ap (λ (n : ℕ). after_boundaries n c.args.talk.now) (omega arith), stays_put _, stays_known _)
 
 pub returns-then-is_stop-clause-lines : goal.returns-then-is_stop-clause-lines
 returns-then-is_stop-clause-lines g c =
     let line =
     pushed (g.W.Write.contents c.loop-boundary.output) (g.W.Write.contents c.write_part.new.output) (string_bytes c.loop-boundary.text)
     (string_bytes c.push_line.new.text) (string_bytes c.write_part.new.text) (line_of c.next_entry-entry.result)
-    c.in_ok-push_line.ensures c.in_ok-write_part.ensures in
+    c.in_ok-push_line.ensures c.in_ok-write_part.ensures.same in
     stop_said _ (c.args.boundaries - (c.loop-boundary._boundary + 1)) _ c.next_entry-entry.result _ _ _ _
     (omega (arith, c.loop-boundary-test.true)) c.next_entry-entry.ensures.entry
     (sym c.is_stop.ensures ∙ c.if-is_stop.true) c.loop-boundary.invariant.0 line
@@ -24,14 +26,14 @@ loop-boundary-preserved g c =
     let line =
     pushed (g.W.Write.contents c.loop-boundary.output) (g.W.Write.contents c.write_part.new.output) (string_bytes c.loop-boundary.text)
     (string_bytes c.push_line.new.text) (string_bytes c.write_part.new.text) (line_of c.next_entry-entry.result)
-    c.in_ok-push_line.ensures c.in_ok-write_part.ensures in (
-      one_said _ (c.args.boundaries - (c.loop-boundary._boundary + 1)) _ _ _ c.next_entry-entry.result _ _ _ _
-          (omega (arith, c.loop-boundary-test.true)) c.next_entry-entry.ensures.entry c.next_entry-entry.ensures.gone.now
+    c.in_ok-push_line.ensures c.in_ok-write_part.ensures.same in (
+      one_said _ (c.args.boundaries - (c.loop-boundary._boundary + 1)) _ _ c.next_entry-entry.result _ _ _ _
+          (omega (arith, c.loop-boundary-test.true)) c.next_entry-entry.ensures.entry c.next_entry-entry.ensures.now
           (sym c.is_stop.ensures ∙ c.if-is_stop.false) c.loop-boundary.invariant.0 line,
-      one_after _ (c.args.boundaries - (c.loop-boundary._boundary + 1)) _ _ _ _ (omega (arith, c.loop-boundary-test.true))
-          c.next_entry-entry.ensures.gone.now c.loop-boundary.invariant.1,
-      c.next_entry-entry.ensures.script ∙ c.loop-boundary.invariant.2,
-      c.next_entry-entry.ensures.given ∙ c.loop-boundary.invariant.3,
+      sym (boundaries_on _ (c.args.boundaries - (c.loop-boundary._boundary + 1)) c.loop-boundary.talk c.next_entry-entry.new.talk (omega (arith, c.loop-boundary-test.true))
+          c.next_entry-entry.ensures.now c.next_entry-entry.ensures.shown) ∙ c.loop-boundary.invariant.1,
+      goes_then _ _ _ c.loop-boundary.invariant.2 c.next_entry-entry.ensures.on,
+      grows_then _ _ _ c.loop-boundary.invariant.3 (c.in_ok-write_part.ensures.grows (λ e. cc)),
     )
 
 pub returns-clause-lines : goal.returns-clause-lines
@@ -40,10 +42,28 @@ returns-clause-lines g c =
 
 pub returns-then-is_stop-clause-gone : goal.returns-then-is_stop-clause-gone
 returns-then-is_stop-clause-gone g c =
-    last_after _ (c.args.boundaries - (c.loop-boundary._boundary + 1)) _ _ _ _ c.next_entry-entry.result
-    (omega (arith, c.loop-boundary-test.true)) c.next_entry-entry.ensures.entry c.next_entry-entry.ensures.gone.now
-    (sym c.is_stop.ensures ∙ c.if-is_stop.true) c.loop-boundary.invariant.1
+    sym (none_after_stop (c.args.boundaries - (c.loop-boundary._boundary + 1)) c.loop-boundary.talk c.next_entry-entry.new.talk c.next_entry-entry.result c.next_entry-entry.ensures.entry
+    c.next_entry-entry.ensures.now (sym c.is_stop.ensures ∙ c.if-is_stop.true))
+    ∙ sym (boundaries_on _ (c.args.boundaries - (c.loop-boundary._boundary + 1)) c.loop-boundary.talk c.next_entry-entry.new.talk (omega (arith, c.loop-boundary-test.true))
+    c.next_entry-entry.ensures.now c.next_entry-entry.ensures.shown) ∙ c.loop-boundary.invariant.1
 
 pub returns-clause-gone : goal.returns-clause-gone
 returns-clause-gone g c =
-    none_after _ c.loop-boundary.talk.sitting.now _ (omega (arith, c.loop-boundary-test.false)) c.loop-boundary.invariant.1
+    sym (no_boundaries _ c.loop-boundary.talk (omega (arith, c.loop-boundary-test.false))) ∙ c.loop-boundary.invariant.1
+
+pub returns-then-is_stop-clause-on : goal.returns-then-is_stop-clause-on
+returns-then-is_stop-clause-on g c = goes_then _ _ _ c.loop-boundary.invariant.2 c.next_entry-entry.ensures.on
+
+pub returns-then-is_stop-clause-grows : goal.returns-then-is_stop-clause-grows
+returns-then-is_stop-clause-grows g c never = grows_then _ _ _ c.loop-boundary.invariant.3 (c.in_ok-write_part.ensures.grows (λ e. cc))
+
+pub returns-in_err-push_line-clause-on : goal.returns-in_err-push_line-clause-on
+returns-in_err-push_line-clause-on g c = goes_then _ _ _ c.loop-boundary.invariant.2 c.next_entry-entry.ensures.on
+
+pub returns-in_err-write_part-clause-on : goal.returns-in_err-write_part-clause-on
+returns-in_err-write_part-clause-on g c = goes_then _ _ _ c.loop-boundary.invariant.2 c.next_entry-entry.ensures.on
+
+pub returns-in_err-write_part-clause-grows : goal.returns-in_err-write_part-clause-grows
+returns-in_err-write_part-clause-grows g c never =
+    let p = err_from_is_err_and c.from_residual-in_err-write_part.result c.from_residual-in_err-write_part.ensures.1 in
+    grows_then _ _ _ c.loop-boundary.invariant.3 (c.write_part.ensures.grows (λ e. never (cc (p.1, p.2, c.in_err-write_part.was, e))))

@@ -1,7 +1,8 @@
 use Rattle.std.proofs.Common.{◌≡◌, ◌-◌, string_bytes}
 use Rattle.std.specs.Io.KnownBytes.{append_known}
-use Rattle.agc_machine.specs.Laws.{after}
 use Rattle.agc_trace.proofs.Lines.{IsWritten}
+use Rattle.agc_dialogue.specs.Answered.{Grows}
+use Rattle.agc_dialogue.specs.Talk.{GoesOn, after_boundaries}
 use Rattle.agc_dialogue.proofs.Stepping.{lines}
 use Rattle.agc_dialogue.proofs.doing.step.Given as goal
 
@@ -10,5 +11,6 @@ invariant-loop-boundary g l =
     IsWritten (append_known (g.W.Write.contents l.initial.output) (string_bytes l.initial.text))
     (append_known (g.W.Write.contents l.output) (string_bytes l.text))
     (lines (l.boundaries - l._boundary) l.talk.sitting.now) (lines l.boundaries l.initial.talk.sitting.now)
-    × (after (l.boundaries - l._boundary) l.talk.sitting.now ≡ after l.boundaries l.initial.talk.sitting.now)
-    × (l.talk.sitting.script ≡ l.initial.talk.sitting.script) × (l.talk.sitting.given ≡ l.initial.talk.sitting.given)
+    × (after_boundaries (l.boundaries - l._boundary) l.talk ≡ after_boundaries l.boundaries l.initial.talk)
+    × GoesOn l.initial.talk.sitting l.talk.sitting
+    × Grows (g.W.Write.contents l.initial.output) (g.W.Write.contents l.output)

@@ -1,20 +1,31 @@
-use Rattle.std.proofs.Common.{refl, ap, sym, subst, ◌∙◌}
+use Rattle.std.proofs.Common.{refl, ap, sym, ◌∙◌, ◌+◌, ◌-◌, arith}
+use Rattle.std.specs.Prelude.{◌≡◌, true, false}
 use Rattle.agc_machine.specs.Boundary.{upcoming_of}
-use Rattle.agc_dialogue.specs.Talk.{IsEvent}
-use Rattle.agc_dialogue.proofs.Due.{none_taken_yet, not_none, one_taken}
+use Rattle.agc_sitting.specs.Sitting.{SittingState}
+use Rattle.agc_dialogue.specs.Talk.{is_event}
+use Rattle.agc_dialogue.proofs.Due.{due_ends, due_more, due_none, not_event}
+use Rattle.agc_dialogue.proofs.Going.{goes_then, stays_put}
 use Rattle.agc_dialogue.proofs.doing.take_due_events.Goals as goal
 
 pub loop-event-init : goal.loop-event-init
-loop-event-init c = (none_taken_yet c.args.talk.now.sitting, refl, refl, λ _. refl)
+loop-event-init c = (refl, stays_put _)
 
 pub loop-event-preserved : goal.loop-event-preserved
 loop-event-preserved c =
     let so_far = c.loop-event.invariant in
     let comes = c.upcoming.ensures.told ∙ ap upcoming_of c.machine.ensures in
-    let event : IsEvent c.upcoming.result = subst IsEvent (sym c.in-Event.is) tt in
-    let due : IsEvent (upcoming_of c.loop-event.talk.sitting.now) = subst IsEvent comes event in (
-      one_taken _ _ _ _ c.upcoming.result so_far.0 comes event c.step.ensures.gone,
-      c.step.ensures.script ∙ so_far.1,
-      c.step.ensures.given ∙ so_far.2,
-      not_none c.args.talk.now.sitting c.loop-event.talk.sitting c.step.new.self.sitting so_far.3 due,
+    let event : is_event c.upcoming.result ≡ true = ap is_event c.in-Event.is in (
+      due_more _ (65537 - (c.loop-event._event + 1)) c.args.talk.now _ _ _ c.upcoming.result _ (omega (arith, c.loop-event-test.true)) comes event
+          c.step.ensures.boundary c.step.ensures.shown so_far.0,
+      goes_then _ _ _ so_far.1 c.step.ensures.on,
     )
+
+pub returns-clause-taken : goal.returns-clause-taken
+returns-clause-taken c =
+    ap (λ (s : SittingState). record c.loop-event.talk { sitting = s }) (sym (due_none _ c.loop-event.talk.sitting (omega (arith, c.loop-event-test.false)))) ∙ c.loop-event.invariant.0
+
+pub returns-in_default-clause-taken : goal.returns-in_default-clause-taken
+returns-in_default-clause-taken c =
+    let comes = c.upcoming.ensures.told ∙ ap upcoming_of c.machine.ensures in
+    let none : is_event (upcoming_of c.loop-event.talk.sitting.now) ≡ false = ap is_event (sym comes) ∙ not_event c.upcoming.result c.in_default.not-Event in
+    ap (λ (s : SittingState). record c.loop-event.talk { sitting = s }) (sym (due_ends (65537 - c.loop-event._event) c.loop-event.talk.sitting none)) ∙ c.loop-event.invariant.0

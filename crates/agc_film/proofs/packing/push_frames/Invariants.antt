@@ -1,5 +1,5 @@
 use Rattle.std.proofs.Common.{◌≡◌, ◌++◌, string_bytes, drop, map}
-use Rattle.agc_panel.specs.TablesText.{numbered}
+use Rattle.agc_executive.specs.TablesText.{numbered}
 use Rattle.agc_film.specs.Packed.{packed}
 use Rattle.agc_film.specs.Page.{placed_frame}
 use Rattle.agc_film.proofs.Added.{text_from}

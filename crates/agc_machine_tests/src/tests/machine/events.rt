@@ -1,7 +1,7 @@
 //! What comes from outside: keys, inputs, pulses, and the channels that show them.
 use super::*;
-use agc_listing::IDLE;
 use agc_script::{Key, Tape, What};
+use agc_test_ropes::IDLE;
 use agc_word::Pulse;
 use std::test::Fail;
 
@@ -13,9 +13,9 @@ fn key_interrupt(rt: HostRuntime) -> Result<(), Fail> {
 4001 14001 TCF 4001
 4024 50017 RESUME";
     let machine = run(&rt, listing, "0 key VERB", 10)?;
-    assert_eq!(rt; cell(&machine, 0o15), 0o04001);
-    assert_eq!(rt; cell(&machine, 0o17), 0o00004);
-    assert_eq!(rt; channel(&machine, 0o15), 0o00021);
+    equal(&rt, cell(&machine, 0o15), 0o04001);
+    equal(&rt, cell(&machine, 0o17), 0o00004);
+    equal(&rt, channel(&machine, 0o15), 0o00021);
     Ok(())
 }
 
@@ -24,15 +24,19 @@ fn key_interrupt(rt: HostRuntime) -> Result<(), Fail> {
 #[test]
 fn live_key(rt: HostRuntime) -> Result<(), Fail> {
     let mut machine = machine(&rt, IDLE, "0 pro down", 3)?;
-    assert_eq!(rt; machine.wants_key(), false);
+    equal(&rt, machine.wants_key(), false);
     quiet(&rt, &mut machine);
     assert!(rt; machine.wants_key());
-    assert_eq!(rt; machine.step(Some(Key::Verb)), Stepped::Quiet);
-    assert_eq!(rt; (machine.cycle(), channel(&machine, 0o15)), (0, 0o00021));
+    equal(&rt, machine.step(Some(Key::Verb)), Stepped::Quiet);
+    equal(
+        &rt,
+        (machine.cycle(), channel(&machine, 0o15)),
+        (0, 0o00021),
+    );
     quiet(&rt, &mut machine);
-    assert_eq!(rt; (machine.cycle(), cell(&machine, 0o15)), (3, 0o04001));
-    assert_eq!(rt; machine.wants_key(), false);
-    assert_eq!(rt; machine.step(None), Stepped::Stopped(Stop::Limit));
+    equal(&rt, (machine.cycle(), cell(&machine, 0o15)), (3, 0o04001));
+    equal(&rt, machine.wants_key(), false);
+    equal(&rt, machine.step(None), Stepped::Stopped(Stop::Limit));
     Ok(())
 }
 
@@ -44,14 +48,18 @@ fn given_events_happen_at_once(rt: HostRuntime) -> Result<(), Fail> {
     let mut machine = machine(&rt, IDLE, "", 10)?;
     assert!(rt; machine.wants_key());
     machine.give(What::Pro(true));
-    assert_eq!(rt; (machine.cycle(), channel(&machine, 0o32)), (0, 0o57777));
+    equal(
+        &rt,
+        (machine.cycle(), channel(&machine, 0o32)),
+        (0, 0o57777),
+    );
     assert!(rt; machine.wants_key());
     machine.give(What::Raise(9));
-    assert_eq!(rt; machine.cycle(), 0);
+    equal(&rt, machine.cycle(), 0);
     assert!(rt; machine.wants_key());
     let (counter, kind) = (0o40, Pulse::Pinc);
     machine.give(What::Pulse { counter, kind });
-    assert_eq!(rt; (machine.cycle(), cell(&machine, 0o40)), (1, 0o00001));
+    equal(&rt, (machine.cycle(), cell(&machine, 0o40)), (1, 0o00001));
     assert!(rt; machine.wants_key());
     Ok(())
 }
@@ -63,9 +71,9 @@ fn a_machine_begins_anew(rt: HostRuntime) -> Result<(), Fail> {
     stopped(&rt, &mut machine, Stop::Limit, 5);
     let script = Script::parse(rt.alloc(), b"2 raise 1")?;
     let anew = machine.anew(script);
-    assert_eq!(rt; (anew.cycle(), anew.fresh()), (0, true));
-    assert_eq!(rt; channel(&anew, 0o32), 0o77777);
-    assert_eq!(rt; anew.events_left().len(), 1);
+    equal(&rt, (anew.cycle(), anew.fresh()), (0, true));
+    equal(&rt, channel(&anew, 0o32), 0o77777);
+    equal(&rt, anew.events_left().len(), 1);
     Ok(())
 }
 
@@ -74,16 +82,16 @@ fn a_machine_begins_anew(rt: HostRuntime) -> Result<(), Fail> {
 #[test]
 fn events_are_left_until_they_are_met(rt: HostRuntime) -> Result<(), Fail> {
     let mut machine = machine(&rt, IDLE, "0 pro down\n4 pro up\n", 10)?;
-    assert_eq!(rt; machine.events_left().len(), 2);
+    equal(&rt, machine.events_left().len(), 2);
     quiet(&rt, &mut machine);
     for cycle in 0..5 {
-        assert_eq!(rt; machine.cycle(), cycle);
-        assert_eq!(rt; machine.events_left().len(), 1);
+        equal(&rt, machine.cycle(), cycle);
+        equal(&rt, machine.events_left().len(), 1);
         let next = machine.events_left().first().map(|event| event.cycle);
-        assert_eq!(rt; next, Some(4));
+        equal(&rt, next, Some(4));
         quiet(&rt, &mut machine);
     }
-    assert_eq!(rt; machine.cycle(), 4);
+    equal(&rt, machine.cycle(), 4);
     assert!(rt; machine.events_left().is_empty());
     Ok(())
 }
@@ -95,9 +103,9 @@ fn pro_key(rt: HostRuntime) -> Result<(), Fail> {
     let mut machine = machine(&rt, IDLE, script, 10)?;
     for word in [0o57777, 0o77777, 0o00000, 0o20000] {
         quiet(&rt, &mut machine);
-        assert_eq!(rt; channel(&machine, 0o32), word);
+        equal(&rt, channel(&machine, 0o32), word);
     }
-    assert_eq!(rt; machine.cycle(), 0);
+    equal(&rt, machine.cycle(), 0);
     Ok(())
 }
 
@@ -109,9 +117,10 @@ fn uprupt_by_a_shift(rt: HostRuntime) -> Result<(), Fail> {
     let fresh = machine(&rt, IDLE, script, 20)?;
     let mut machine = until(&rt, fresh, 0, 0o4034);
     stopped(&rt, &mut machine, Stop::Reached, 14);
-    assert_eq!(rt;
+    equal(
+        &rt,
         [cell(&machine, 0o46), cell(&machine, 0o45)],
-        [0o00000, 0o00003]
+        [0o00000, 0o00003],
     );
     Ok(())
 }
@@ -127,7 +136,7 @@ fn channel_seven_keeps_three_bits(rt: HostRuntime) -> Result<(), Fail> {
 4004 37777";
     let mut machine = machine(&rt, listing, "", 10)?;
     wrote(&rt, &mut machine, 3, 0o7, 0o00160);
-    assert_eq!(rt; channel(&machine, 7), 0o00160);
+    equal(&rt, channel(&machine, 7), 0o00160);
     assert!(rt; machine.store().superbank());
     Ok(())
 }
@@ -151,8 +160,8 @@ fn or_and_and_to_channel_seven(rt: HostRuntime) -> Result<(), Fail> {
     wrote(&rt, &mut machine, 3, 0o7, 0o00160);
     wrote(&rt, &mut machine, 10, 0o7, 0o00120);
     stopped(&rt, &mut machine, Stop::Limit, 15);
-    assert_eq!(rt; cell(&machine, 0o100), 0o00777);
-    assert_eq!(rt; machine.store().a().bits(), 0o000120);
+    equal(&rt, cell(&machine, 0o100), 0o00777);
+    equal(&rt, machine.store().a().bits(), 0o000120);
     assert!(rt; machine.store().superbank());
     Ok(())
 }
@@ -162,10 +171,10 @@ fn or_and_and_to_channel_seven(rt: HostRuntime) -> Result<(), Fail> {
 fn input_switches_the_superbank(rt: HostRuntime) -> Result<(), Fail> {
     let mut machine = machine(&rt, IDLE, "0 input 7 77777\n5 input 7 37\n", 10)?;
     quiet(&rt, &mut machine);
-    assert_eq!(rt; channel(&machine, 7), 0o00160);
+    equal(&rt, channel(&machine, 7), 0o00160);
     assert!(rt; machine.store().superbank());
     stopped(&rt, &mut machine, Stop::Limit, 10);
-    assert_eq!(rt; channel(&machine, 7), 0o00020);
+    equal(&rt, channel(&machine, 7), 0o00020);
     assert!(rt; !machine.store().superbank());
     Ok(())
 }
@@ -213,7 +222,7 @@ fn press_at(rt: &impl Abort, machine: &mut Machine, cycle: u64, key: Key) {
         }
         quiet(rt, machine);
     }
-    assert_eq!(rt; machine.cycle(), cycle);
+    equal(rt, machine.cycle(), cycle);
     assert!(rt; machine.wants_key());
-    assert_eq!(rt; machine.step(Some(key)), Stepped::Quiet);
+    equal(rt, machine.step(Some(key)), Stepped::Quiet);
 }

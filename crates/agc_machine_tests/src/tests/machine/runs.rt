@@ -1,8 +1,8 @@
 //! Whole runs: their channel writes, their limits and their stops.
 use super::*;
-use agc_listing::{DIVISION, IDLE, RELAY_WORD, WRITES};
 use agc_machine::{ChannelWrite, LimitFault, Refused, StopAddress};
 use agc_store::Store;
+use agc_test_ropes::{DIVISION, IDLE, RELAY_WORD, WRITES};
 use agc_word::Narrow;
 use std::test::Fail;
 
@@ -15,9 +15,9 @@ fn thousand_writes(rt: HostRuntime) -> Result<(), Fail> {
     for _ in 0..1000 {
         cycles.push(next_cycle(&rt, &mut machine, 0o10, 0o00000))?;
     }
-    assert_eq!(rt; cycles.get(0), Some(&1));
-    assert_eq!(rt; cycles.get(1), Some(&5));
-    assert_eq!(rt; cycles.get(999), Some(&4014));
+    equal(&rt, cycles.get(0), Some(&1));
+    equal(&rt, cycles.get(1), Some(&5));
+    equal(&rt, cycles.get(999), Some(&4014));
     stopped(&rt, &mut machine, Stop::Limit, 4018);
     Ok(())
 }
@@ -43,8 +43,8 @@ fn division_stops(rt: &impl Abort, machine: &mut Machine) {
     wrote(rt, machine, 3, 0o10, 0o00002);
     stopped(rt, machine, Stop::DivisionUndefined, 6);
     stopped(rt, machine, Stop::DivisionUndefined, 6);
-    assert_eq!(rt; registers(machine), [0o000002, 0, 0, 0o4005]);
-    assert_eq!(rt; machine.wants_key(), false);
+    equal(rt, registers(machine), [0o000002, 0, 0, 0o4005]);
+    equal(rt, machine.wants_key(), false);
 }
 
 /// A write of +0 to channel 10 at this cycle.
@@ -61,23 +61,33 @@ fn write_at(cycle: u64) -> ChannelWrite {
 #[test]
 fn the_way_to_a_cycle(rt: HostRuntime) -> Result<(), Fail> {
     let mut machine = machine(&rt, WRITES, "", 7)?;
-    assert_eq!(rt; machine.next_write_before(1), Stepped::Quiet);
-    assert_eq!(rt; machine.cycle(), 1);
-    assert_eq!(rt; machine.next_write_before(5), Stepped::Wrote(write_at(1)));
-    assert_eq!(rt; machine.cycle(), 3);
-    assert_eq!(rt; machine.next_write_before(4), Stepped::Quiet);
-    assert_eq!(rt; machine.cycle(), 4);
-    assert_eq!(rt; machine.next_write_before(5), Stepped::Quiet);
-    assert_eq!(rt; machine.cycle(), 5);
-    assert_eq!(rt;
-        machine.next_write_before(1000),
-        Stepped::Wrote(write_at(5))
+    equal(&rt, machine.next_write_before(1), Stepped::Quiet);
+    equal(&rt, machine.cycle(), 1);
+    equal(
+        &rt,
+        machine.next_write_before(5),
+        Stepped::Wrote(write_at(1)),
     );
-    assert_eq!(rt;
+    equal(&rt, machine.cycle(), 3);
+    equal(&rt, machine.next_write_before(4), Stepped::Quiet);
+    equal(&rt, machine.cycle(), 4);
+    equal(&rt, machine.next_write_before(5), Stepped::Quiet);
+    equal(&rt, machine.cycle(), 5);
+    equal(
+        &rt,
         machine.next_write_before(1000),
-        Stepped::Stopped(Stop::Limit)
+        Stepped::Wrote(write_at(5)),
     );
-    assert_eq!(rt; machine.next_write_before(0), Stepped::Stopped(Stop::Limit));
+    equal(
+        &rt,
+        machine.next_write_before(1000),
+        Stepped::Stopped(Stop::Limit),
+    );
+    equal(
+        &rt,
+        machine.next_write_before(0),
+        Stepped::Stopped(Stop::Limit),
+    );
     Ok(())
 }
 
@@ -88,9 +98,9 @@ fn edrupt_stops(rt: HostRuntime) -> Result<(), Fail> {
 4000 00006 EXTEND
 4001 07000 EDRUPT";
     let mut machine = machine(&rt, listing, "", 10)?;
-    assert_eq!(rt; machine.fresh(), true);
+    equal(&rt, machine.fresh(), true);
     stopped(&rt, &mut machine, Stop::Edrupt, 1);
-    assert_eq!(rt; machine.fresh(), false);
+    equal(&rt, machine.fresh(), false);
     Ok(())
 }
 
@@ -155,19 +165,19 @@ fn assert_refused(rt: &impl Abort, refused: Refused, fault: LimitFault) {
         rope,
         script,
     } = refused;
-    assert_eq!(rt; found, fault);
-    assert_eq!(rt; Store::new(rope).fixed(2, 0).bits(), 0o14000);
-    assert_eq!(rt; script.len(), 1);
+    equal(rt, found, fault);
+    equal(rt, Store::new(rope).fixed(2, 0).bits(), 0o14000);
+    equal(rt, script.len(), 1);
 }
 
 /// The largest limit is accepted, and the memory comes out with the rope's words.
 #[test]
 fn machine_gives_its_store(rt: HostRuntime) -> Result<(), Fail> {
     let machine = machine(&rt, RELAY_WORD, "", 1_000_000_000_000)?;
-    assert_eq!(rt; machine.fresh(), true);
+    equal(&rt, machine.fresh(), true);
     let store = machine.into_store();
-    assert_eq!(rt; store.fixed(2, 4).bits(), 0o54171);
-    assert_eq!(rt; store.z().bits(), 0o4001);
+    equal(&rt, store.fixed(2, 4).bits(), 0o54171);
+    equal(&rt, store.z().bits(), 0o4001);
     Ok(())
 }
 
@@ -186,13 +196,13 @@ fn stop_addresses_are_read(rt: HostRuntime) {
         "47, 7777",
         "0000047,7777",
     ] {
-        assert_eq!(rt; StopAddress::read(text), None);
+        equal(&rt, StopAddress::read(text), None);
     }
 }
 
 /// The text names the last address of the last bank.
 fn reads_the_last(rt: &impl Abort, text: &str) {
     let at = StopAddress::read(text).expect(rt, "a stop address");
-    assert_eq!(rt; at.bank, 0o47);
-    assert_eq!(rt; at.address.bits(), 0o7777);
+    equal(rt, at.bank, 0o47);
+    equal(rt, at.address.bits(), 0o7777);
 }

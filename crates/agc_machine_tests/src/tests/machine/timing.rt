@@ -1,6 +1,6 @@
 //! Timers, the scaler and interrupts: when they come, and what they leave.
 use super::*;
-use agc_listing::IDLE;
+use agc_test_ropes::IDLE;
 use std::test::Fail;
 
 /// The scaler counts each 320 pulses, 12 a cycle: 12 * 54 / 320 is 2, and 12 * 53 / 320 is 1.
@@ -8,7 +8,7 @@ use std::test::Fail;
 fn scaler_channels(rt: HostRuntime) -> Result<(), Fail> {
     for (limit, low) in [(54, 0o00002), (53, 0o00001)] {
         let machine = run(&rt, IDLE, "", limit)?;
-        assert_eq!(rt; [channel(&machine, 3), channel(&machine, 4)], [0, low]);
+        equal(&rt, [channel(&machine, 3), channel(&machine, 4)], [0, low]);
     }
     Ok(())
 }
@@ -17,7 +17,7 @@ fn scaler_channels(rt: HostRuntime) -> Result<(), Fail> {
 #[test]
 fn timers_step(rt: HostRuntime) -> Result<(), Fail> {
     let machine = run(&rt, IDLE, "0 poke 0 25 37777", 900)?;
-    assert_eq!(rt; timers(&machine), [1, 0, 1, 1, 1]);
+    equal(&rt, timers(&machine), [1, 0, 1, 1, 1]);
     Ok(())
 }
 
@@ -25,7 +25,7 @@ fn timers_step(rt: HostRuntime) -> Result<(), Fail> {
 #[test]
 fn timers_before_the_step(rt: HostRuntime) -> Result<(), Fail> {
     let machine = run(&rt, IDLE, "0 poke 0 25 37777", 854)?;
-    assert_eq!(rt; timers(&machine), [0, 0o37777, 0, 1, 1]);
+    equal(&rt, timers(&machine), [0, 0o37777, 0, 1, 1]);
     Ok(())
 }
 
@@ -48,10 +48,10 @@ fn time6_interrupt(rt: HostRuntime) -> Result<(), Fail> {
 4004 50017 RESUME";
     let script = "0 poke 0 31 1\n0 input 13 40000\n";
     let machine = run(&rt, listing, script, 120)?;
-    assert_eq!(rt; cell(&machine, 0o31), 0o77777);
-    assert_eq!(rt; cell(&machine, 0o15), 0o04001);
-    assert_eq!(rt; cell(&machine, 0o17), 0o14000);
-    assert_eq!(rt; channel(&machine, 0o13), 0o00000);
+    equal(&rt, cell(&machine, 0o31), 0o77777);
+    equal(&rt, cell(&machine, 0o15), 0o04001);
+    equal(&rt, cell(&machine, 0o17), 0o14000);
+    equal(&rt, channel(&machine, 0o13), 0o00000);
     Ok(())
 }
 
@@ -63,8 +63,8 @@ fn time6_mark_at_a_second_switching(rt: HostRuntime) -> Result<(), Fail> {
     let script = "0 poke 0 31 5\n0 input 13 40000\n60 input 13 0\n\
                   200 input 13 40000\n214 input 13 50000\n";
     let machine = run(&rt, IDLE, script, 215)?;
-    assert_eq!(rt; cell(&machine, 0o31), 0o00003);
-    assert_eq!(rt; channel(&machine, 0o13), 0o50000);
+    equal(&rt, cell(&machine, 0o31), 0o00003);
+    equal(&rt, channel(&machine, 0o13), 0o50000);
     Ok(())
 }
 
@@ -76,13 +76,13 @@ fn event_before_timer_before_interrupt(rt: HostRuntime) -> Result<(), Fail> {
     for _ in 0..427 {
         quiet(&rt, &mut machine);
     }
-    assert_eq!(rt; seen(&machine), (427, [0, 0, 0]));
+    equal(&rt, seen(&machine), (427, [0, 0, 0]));
     quiet(&rt, &mut machine);
-    assert_eq!(rt; seen(&machine), (427, [0o00005, 0, 0]));
+    equal(&rt, seen(&machine), (427, [0o00005, 0, 0]));
     quiet(&rt, &mut machine);
-    assert_eq!(rt; seen(&machine), (428, [0o00005, 1, 0]));
+    equal(&rt, seen(&machine), (428, [0o00005, 1, 0]));
     quiet(&rt, &mut machine);
-    assert_eq!(rt; seen(&machine), (431, [0o00005, 1, 0o04001]));
+    equal(&rt, seen(&machine), (431, [0o00005, 1, 0o04001]));
     Ok(())
 }
 
@@ -108,9 +108,9 @@ fn inhint_holds_a_request(rt: HostRuntime) -> Result<(), Fail> {
 4004 12345
 4014 50017 RESUME";
     let machine = run(&rt, listing, "1 raise 3", 10)?;
-    assert_eq!(rt; cell(&machine, 0o15), 0o04004);
-    assert_eq!(rt; cell(&machine, 0o17), 0o14003);
-    assert_eq!(rt; registers(&machine), [0o012345, 0, 0, 0o4004]);
+    equal(&rt, cell(&machine, 0o15), 0o04004);
+    equal(&rt, cell(&machine, 0o17), 0o14003);
+    equal(&rt, registers(&machine), [0o012345, 0, 0, 0o4004]);
     Ok(())
 }
 

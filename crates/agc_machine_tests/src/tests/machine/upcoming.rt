@@ -1,9 +1,9 @@
 //! What is told of the next boundary.
 use super::*;
-use agc_listing::{IDLE, RELAY_WORD};
 use agc_machine::{InHand, Upcoming};
 use agc_processor::{Rupt, Timer};
 use agc_script::{Key, What};
+use agc_test_ropes::{IDLE, RELAY_WORD};
 use agc_word::Narrow;
 use std::test::Fail;
 

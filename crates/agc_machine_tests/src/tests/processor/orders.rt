@@ -17,8 +17,8 @@ fn ts_skips_on_overflow(rt: HostRuntime) -> Result<(), Fail> {
     let mut processor = processor_with(&rt, listing)?;
     processor.store.poke(0, 0o100, Narrow::with_bits(0o12345));
     run(&mut processor, 20);
-    assert_eq!(rt; cell(&processor, 0o100), 0o00000);
-    assert_eq!(rt; registers(&processor), [0o000001, 0, 0, 0o4005]);
+    equal(&rt, cell(&processor, 0o100), 0o00000);
+    equal(&rt, registers(&processor), [0o000001, 0, 0, 0o4005]);
     Ok(())
 }
 
@@ -37,7 +37,7 @@ fn zero_sums_and_ccs(rt: HostRuntime) -> Result<(), Fail> {
 4010 77776";
     let mut processor = processor_with(&rt, listing)?;
     run(&mut processor, 20);
-    assert_eq!(rt; registers(&processor), [0o000000, 0, 0, 0o4007]);
+    equal(&rt, registers(&processor), [0o000000, 0, 0, 0o4007]);
     Ok(())
 }
 
@@ -50,7 +50,7 @@ fn tc_through_q(rt: HostRuntime) -> Result<(), Fail> {
 4010 00002 TC Q";
     let mut processor = processor_with(&rt, listing)?;
     run(&mut processor, 10);
-    assert_eq!(rt; registers(&processor), [0, 0, 0o000003, 0o4002]);
+    equal(&rt, registers(&processor), [0, 0, 0o000003, 0o4002]);
     Ok(())
 }
 
@@ -67,8 +67,12 @@ fn double_add(rt: HostRuntime) -> Result<(), Fail> {
     let mut processor = processor_with(&rt, listing)?;
     processor.store.poke(0, 0o101, Narrow::with_bits(0o1));
     run(&mut processor, 10);
-    assert_eq!(rt; [cell(&processor, 0o100), cell(&processor, 0o101)], [0, 0]);
-    assert_eq!(rt; registers(&processor), [0o000001, 0, 0, 0o4004]);
+    equal(
+        &rt,
+        [cell(&processor, 0o100), cell(&processor, 0o101)],
+        [0, 0],
+    );
+    equal(&rt, registers(&processor), [0o000001, 0, 0, 0o4004]);
     Ok(())
 }
 
@@ -90,9 +94,9 @@ fn dim_and_modular_difference(rt: HostRuntime) -> Result<(), Fail> {
     let mut processor = processor_with(&rt, listing)?;
     processor.store.poke(0, 0o100, Narrow::with_bits(0o1));
     run(&mut processor, 16);
-    assert_eq!(rt; cell(&processor, 0o102), 0o77776);
-    assert_eq!(rt; cell(&processor, 0o100), 0o77777);
-    assert_eq!(rt; processor.store.a().bits(), 0o137777);
+    equal(&rt, cell(&processor, 0o102), 0o77776);
+    equal(&rt, cell(&processor, 0o100), 0o77777);
+    equal(&rt, processor.store.a().bits(), 0o137777);
     Ok(())
 }
 
@@ -111,8 +115,8 @@ fn window_with_bank_zero(rt: HostRuntime) -> Result<(), Fail> {
 4007 00001";
     let mut processor = processor_with(&rt, listing)?;
     run(&mut processor, 10);
-    assert_eq!(rt; registers(&processor), [0o000002, 0, 0o040000, 0o4006]);
-    assert_eq!(rt; processor.channel_cell(2).bits(), 0o00000);
+    equal(&rt, registers(&processor), [0o000002, 0, 0o040000, 0o4006]);
+    equal(&rt, processor.channel_cell(2).bits(), 0o00000);
     Ok(())
 }
 
@@ -135,8 +139,8 @@ fn wide_logic(rt: HostRuntime) -> Result<(), Fail> {
 4013 77777";
     let mut processor = processor_with(&rt, listing)?;
     run(&mut processor, 20);
-    assert_eq!(rt; cell(&processor, 0o100), 0o37776);
-    assert_eq!(rt; registers(&processor), [0o077776, 0, 0o077776, 0o4012]);
+    equal(&rt, cell(&processor, 0o100), 0o37776);
+    equal(&rt, registers(&processor), [0o077776, 0, 0o077776, 0o4012]);
     Ok(())
 }
 
@@ -157,7 +161,7 @@ fn ts_to_a_and_z_with_overflow(rt: HostRuntime) -> Result<(), Fail> {
 4011 04007";
     let mut processor = processor_with(&rt, listing)?;
     run(&mut processor, 10);
-    assert_eq!(rt; registers(&processor), [0o000001, 0, 0, 0o4007]);
+    equal(&rt, registers(&processor), [0o000001, 0, 0, 0o4007]);
     Ok(())
 }
 
@@ -174,7 +178,7 @@ fn index_changes_the_next_order(rt: HostRuntime) -> Result<(), Fail> {
 4006 00003";
     let mut processor = processor_with(&rt, listing)?;
     run(&mut processor, 10);
-    assert_eq!(rt; registers(&processor), [0o000003, 0, 0, 0o4006]);
+    equal(&rt, registers(&processor), [0o000003, 0, 0, 0o4006]);
     Ok(())
 }
 
@@ -192,11 +196,12 @@ fn index_keeps_the_extracode_state(rt: HostRuntime) -> Result<(), Fail> {
 4007 00010";
     let mut processor = processor_with(&rt, listing)?;
     run(&mut processor, 5);
-    assert_eq!(rt;
+    equal(
+        &rt,
         processor.run(5),
-        Ran::Wrote(0o10, Narrow::with_bits(0o12345))
+        Ran::Wrote(0o10, Narrow::with_bits(0o12345)),
     );
-    assert_eq!(rt; registers(&processor), [0o012345, 0, 0, 0o4005]);
+    equal(&rt, registers(&processor), [0o012345, 0, 0, 0o4005]);
     Ok(())
 }
 
@@ -209,7 +214,7 @@ fn reading_edits_again(rt: HostRuntime) -> Result<(), Fail> {
     let mut processor = processor_with(&rt, listing)?;
     processor.store.poke(0, 0o20, Narrow::with_bits(0o3));
     run(&mut processor, 10);
-    assert_eq!(rt; processor.store.a().bits(), 0o000003);
-    assert_eq!(rt; cell(&processor, 0o20), 0o40001);
+    equal(&rt, processor.store.a().bits(), 0o000003);
+    equal(&rt, cell(&processor, 0o20), 0o40001);
     Ok(())
 }

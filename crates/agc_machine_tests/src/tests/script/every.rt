@@ -5,11 +5,11 @@ use super::*;
 fn every_line(rt: HostRuntime) {
     let script = parse(&rt, b"every 10 5 25 raise 8");
     let want = [raise(5, 8), raise(15, 8), raise(25, 8)];
-    assert_eq!(rt; listed(&rt, &script).as_slice(), want.as_slice());
+    equal(&rt, listed(&rt, &script).as_slice(), want.as_slice());
 
     let script = parse(&rt, b"every 10 5 24 raise 8\nevery 1 7 7 raise 9");
     let want = [raise(5, 8), raise(7, 9), raise(15, 8)];
-    assert_eq!(rt; listed(&rt, &script).as_slice(), want.as_slice());
+    equal(&rt, listed(&rt, &script).as_slice(), want.as_slice());
 }
 
 #[test]
@@ -24,12 +24,20 @@ fn every_interleaves(rt: HostRuntime) {
         raise(20, 2),
         raise(30, 8),
     ];
-    assert_eq!(rt; listed(&rt, &parse(&rt, file)).as_slice(), want.as_slice());
+    equal(
+        &rt,
+        listed(&rt, &parse(&rt, file)).as_slice(),
+        want.as_slice(),
+    );
 }
 
 #[test]
 fn every_faults(rt: HostRuntime) {
-    assert_eq!(rt; parse(&rt, b"every 1 0 65535 raise 1").len(), MOST_EVENTS);
+    equal(
+        &rt,
+        parse(&rt, b"every 1 0 65535 raise 1").len(),
+        MOST_EVENTS,
+    );
     refuses(
         &rt,
         &[

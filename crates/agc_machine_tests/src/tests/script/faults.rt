@@ -22,7 +22,7 @@ fn script_faults(rt: HostRuntime) {
     let full = repeated(&rt, b"0 raise 1\n", MOST_EVENTS + 1);
     refuses(&rt, &[(&full, MOST_EVENTS + 1, FaultKind::TooMany)]);
     let full = repeated(&rt, b"0 raise 1\n", MOST_EVENTS);
-    assert_eq!(rt; parse(&rt, &full).len(), MOST_EVENTS);
+    equal(&rt, parse(&rt, &full).len(), MOST_EVENTS);
 }
 
 #[test]
@@ -139,5 +139,9 @@ fn faults_have_texts(rt: HostRuntime) {
         kind: FaultKind::TooMany,
     };
     let text = format!(in rt.alloc(); "{fault}").expect(&rt, "memory");
-    assert_eq!(rt; text.as_str(), "line 7: there are more than 65536 events");
+    equal(
+        &rt,
+        text.as_str(),
+        "line 7: there are more than 65536 events",
+    );
 }

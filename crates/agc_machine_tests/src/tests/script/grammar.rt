@@ -13,24 +13,28 @@ fn names_of_commands(rt: HostRuntime) {
         ("raise", Command::Raise, 1),
         ("poke", Command::Poke, 3),
     ] {
-        assert_eq!(rt; Command::from_name(name.as_bytes()), Some(command));
-        assert_eq!(rt; command.name(), name);
-        assert_eq!(rt; command.argument_count(), count);
+        equal(&rt, Command::from_name(name.as_bytes()), Some(command));
+        equal(&rt, command.name(), name);
+        equal(&rt, command.argument_count(), count);
     }
-    assert_eq!(rt; Command::from_name(b"KEY"), None);
-    assert_eq!(rt; direction_name(true), "down");
-    assert_eq!(rt; pulse_name(Pulse::Shanc), "shanc");
+    equal(&rt, Command::from_name(b"KEY"), None);
+    equal(&rt, direction_name(true), "down");
+    equal(&rt, pulse_name(Pulse::Shanc), "shanc");
 }
 
 /// The counters are 24 to 60 octal, interrupts are written in decimal, and bank 0 is poked from 10 on.
 #[test]
 fn ranges_of_numbers(rt: HostRuntime) {
-    assert_eq!(rt; Command::Pulse.ranges(None), [Some(COUNTERS), None, None]);
-    assert_eq!(rt; COUNTERS.read(b"60"), Some(0o60));
+    equal(
+        &rt,
+        Command::Pulse.ranges(None),
+        [Some(COUNTERS), None, None],
+    );
+    equal(&rt, COUNTERS.read(b"60"), Some(0o60));
     assert!(rt; COUNTERS.has(0o24) && COUNTERS.has(0o60));
     assert!(rt; !COUNTERS.has(0o23) && !COUNTERS.has(0o61));
-    assert_eq!(rt; COUNTERS.read(b"8"), None);
-    assert_eq!(rt; INTERRUPTS.read(b"10"), Some(10));
+    equal(&rt, COUNTERS.read(b"8"), None);
+    equal(&rt, INTERRUPTS.read(b"10"), Some(10));
     assert!(rt; offsets(Some(0)).has(0o10) && !offsets(Some(0)).has(0o7));
     assert!(rt; offsets(Some(1)).has(0) && offsets(None).has(0));
 }

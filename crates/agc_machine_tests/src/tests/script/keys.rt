@@ -24,7 +24,7 @@ fn keys_have_names_and_codes(rt: HostRuntime) {
         (b"CLR".as_slice(), 0o36),
     ] {
         let key = Key::from_name(name).expect(&rt, "a key");
-        assert_eq!(rt; key.name().as_bytes(), name);
+        equal(&rt, key.name().as_bytes(), name);
         assert_eq!(rt; key.code().bits(), code, "the code of {key:?}");
     }
     for name in [

@@ -71,7 +71,7 @@ fn first_lines(rt: HostRuntime) {
     for (file, line, rest) in files {
         assert_eq!(rt; next_line(file), Some((line, rest)), "{file:?}");
     }
-    assert_eq!(rt; next_line(b""), None);
+    equal(&rt, next_line(b""), None);
 }
 
 /// The first word of a line, and what stands after it: only spaces and tabs divide words.

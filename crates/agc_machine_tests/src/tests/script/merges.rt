@@ -4,16 +4,16 @@ use super::*;
 #[test]
 fn command_line_tape(rt: HostRuntime) {
     let mut tape = Tape::new(rt.alloc());
-    assert_eq!(rt; tape.len(), 0);
+    equal(&rt, tape.len(), 0);
     assert!(rt; tape.is_empty());
     assert!(rt; tape.push(5, Key::Verb).is_ok());
-    assert_eq!(rt; tape.len(), 1);
+    equal(&rt, tape.len(), 1);
     assert!(rt; !tape.is_empty());
-    assert_eq!(rt; tape.at(0), (5, Key::Verb));
+    equal(&rt, tape.at(0), (5, Key::Verb));
     assert!(rt; tape.push(6, Key::Noun).is_ok());
-    assert_eq!(rt; tape.len(), 2);
-    assert_eq!(rt; tape.at(0), (5, Key::Verb));
-    assert_eq!(rt; tape.at(1), (6, Key::Noun));
+    equal(&rt, tape.len(), 2);
+    equal(&rt, tape.at(0), (5, Key::Verb));
+    equal(&rt, tape.at(1), (6, Key::Noun));
 }
 
 #[test]
@@ -23,7 +23,7 @@ fn live_keys_replay_merge(rt: HostRuntime) {
     let script = parse(&rt, b"5 raise 1\n6 raise 2");
     let merged = script.merge(rt.alloc(), &tape).expect(&rt, "room");
     let want = [raise(5, 1), key(5, Key::Verb), raise(6, 2)];
-    assert_eq!(rt; listed(&rt, &merged).as_slice(), want.as_slice());
+    equal(&rt, listed(&rt, &merged).as_slice(), want.as_slice());
 
     assert!(rt; tape.push(9, Key::Enter).is_ok());
     let merged = script.merge(rt.alloc(), &tape).expect(&rt, "room");
@@ -33,7 +33,7 @@ fn live_keys_replay_merge(rt: HostRuntime) {
         raise(6, 2),
         key(9, Key::Enter),
     ];
-    assert_eq!(rt; listed(&rt, &merged).as_slice(), want.as_slice());
+    equal(&rt, listed(&rt, &merged).as_slice(), want.as_slice());
 }
 
 /// Keys before, between and after the events of a script, and without any.
@@ -55,7 +55,7 @@ fn keys_between_events(rt: HostRuntime) {
         key(8, Key::Five),
         key(LAST_CYCLE, Key::Enter),
     ];
-    assert_eq!(rt; listed(&rt, &merged).as_slice(), want.as_slice());
+    equal(&rt, listed(&rt, &merged).as_slice(), want.as_slice());
 
     let script = parse(&rt, b"1 raise 1\n9 raise 2\n9 raise 3");
     let merged = script.merge(rt.alloc(), &tape).expect(&rt, "room");
@@ -68,7 +68,7 @@ fn keys_between_events(rt: HostRuntime) {
         raise(9, 3),
         key(LAST_CYCLE, Key::Enter),
     ];
-    assert_eq!(rt; listed(&rt, &merged).as_slice(), want.as_slice());
+    equal(&rt, listed(&rt, &merged).as_slice(), want.as_slice());
 }
 
 #[test]
@@ -76,12 +76,12 @@ fn merge_limit(rt: HostRuntime) {
     let full = parse(&rt, b"every 1 0 65535 raise 1");
     let mut tape = Tape::new(rt.alloc());
     let same = full.merge(rt.alloc(), &tape).expect(&rt, "room");
-    assert_eq!(rt; listed(&rt, &same), listed(&rt, &full));
+    equal(&rt, listed(&rt, &same), listed(&rt, &full));
     assert!(rt; tape.push(5, Key::Verb).is_ok());
     let nearly = parse(&rt, b"every 1 0 65534 raise 1");
     let merged = nearly.merge(rt.alloc(), &tape).expect(&rt, "room");
-    assert_eq!(rt; merged.len(), MOST_EVENTS);
+    equal(&rt, merged.len(), MOST_EVENTS);
     let (line, kind) = (0, FaultKind::TooMany);
     let refused = full.merge(rt.alloc(), &tape).err();
-    assert_eq!(rt; refused, Some(ScriptFault { line, kind }));
+    equal(&rt, refused, Some(ScriptFault { line, kind }));
 }

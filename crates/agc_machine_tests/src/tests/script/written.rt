@@ -15,11 +15,12 @@ fn each_event_is_a_line(rt: HostRuntime) {
     assert!(rt; script.push_text(&mut text).is_ok());
     let want = "0 key KEYREL\n3 pro down\n3 pro up\n7 input 33 00005\n8 pulse 24 mcdu\n9 raise 10\n\
         10 poke 3 100 77777\n11 key 0\n16 key 0\n1000000000000 key +\n";
-    assert_eq!(rt; text.as_str(), want);
+    equal(&rt, text.as_str(), want);
     let again = parse(&rt, text.as_bytes());
-    assert_eq!(rt;
+    equal(
+        &rt,
         listed(&rt, &again).as_slice(),
-        listed(&rt, &script).as_slice()
+        listed(&rt, &script).as_slice(),
     );
 }
 
@@ -27,7 +28,7 @@ fn each_event_is_a_line(rt: HostRuntime) {
 fn a_command_is_written_without_its_cycle(rt: HostRuntime) {
     let mut text = String::new(rt.alloc());
     assert!(rt; push_what(&mut text, What::Raise(5)).is_ok());
-    assert_eq!(rt; text.as_str(), "raise 5");
+    equal(&rt, text.as_str(), "raise 5");
 }
 
 /// Events of one cycle stay in the order in which they were added.
@@ -39,7 +40,7 @@ fn events_are_added_after_the_last(rt: HostRuntime) {
     assert!(rt; script.push(4, What::Key(Key::Verb)).is_ok());
     assert!(rt; script.push(6, What::Raise(1)).is_ok());
     let want = [raise(4, 9), key(4, Key::Verb), raise(6, 1)];
-    assert_eq!(rt; listed(&rt, &script).as_slice(), want.as_slice());
+    equal(&rt, listed(&rt, &script).as_slice(), want.as_slice());
 }
 
 /// Each given event stands after the script's events of its cycle, and those of one cycle keep their
@@ -57,14 +58,18 @@ fn given_events_come_after_those_of_their_cycle(rt: HostRuntime) {
         raise(6, 2),
         raise(9, 5),
     ];
-    assert_eq!(rt; listed(&rt, &joined).as_slice(), want.as_slice());
+    equal(&rt, listed(&rt, &joined).as_slice(), want.as_slice());
 }
 
 #[test]
 fn a_script_before_a_cycle_ends_before_it(rt: HostRuntime) {
     let script = parse(&rt, b"5 raise 1\n6 raise 2\n6 raise 3\n7 raise 4");
     let early = script.before(rt.alloc(), 6).expect(&rt, "memory");
-    assert_eq!(rt; listed(&rt, &early).as_slice(), [raise(5, 1)].as_slice());
+    equal(
+        &rt,
+        listed(&rt, &early).as_slice(),
+        [raise(5, 1)].as_slice(),
+    );
     let all = script.before(rt.alloc(), 8).expect(&rt, "memory");
-    assert_eq!(rt; all.len(), 4);
+    equal(&rt, all.len(), 4);
 }

@@ -2,12 +2,12 @@
 ghost use Rattle.std.specs.Prelude.{◌≡◌, false, IfOk};
 
 use agc_gate::Telling;
-use agc_listing::rope_file;
 use agc_machine::Machine;
 use agc_pipe::{run_live, run_shown};
 use agc_progress::{Progress, Shown};
 use agc_script::Script;
 use agc_store::Rope;
+use agc_test_ropes::rope_file;
 use std::process::Abort;
 use std::test::Fail;
 

@@ -1,6 +1,6 @@
 use Rattle.std.proofs.Common.{refl, sym}
 use Rattle.agc_word.specs.Patterns.{pattern_back}
-use Rattle.agc_rope_text.specs.Order.{extracode_text}
+use Rattle.agc_rope_listing.specs.Order.{extracode_text}
 use Rattle.agc_source_words.proofs.ExtracodeRows.{names_it, not_refused, only, shows_it}
 use Rattle.agc_source_words.proofs.row.extracode_word.Goals as goal
 

@@ -3,13 +3,13 @@ use Rattle.std.proofs.lemmas.Result.{err_from_is_err_and}
 use Rattle.agc_study.proofs.Starts.{memory_refused, started_accepted}
 use Rattle.agc_study.proofs.compares.compare_files.Goals as goal
 
-pub returns-in-Ok-compare_runs-clause-compared : goal.returns-in-Ok-compare_runs-clause-compared
-returns-in-Ok-compare_runs-clause-compared g c = record {
+pub returns-in-Ok-compare_as-clause-compared : goal.returns-in-Ok-compare_as-clause-compared
+returns-in-Ok-compare_as-clause-compared g c = record {
   left = c.in_ok-left.left;
   right = c.in-Ok.machine;
   left_start = c.in_ok-left.ensures.started;
   right_start = c.in-Ok.ensures.started;
-  tells = c.in-Ok-compare_runs.ensures;
+  tells = c.in-Ok-compare_as.ensures;
 }
 
 pub returns-in_err-left-clause-refused : goal.returns-in_err-left-clause-refused

@@ -2,7 +2,7 @@ use Rattle.std.proofs.Common.{◌∙◌, ap}
 use Rattle.std.specs.Prelude.{string_bytes}
 use Rattle.agc_store.specs.Cells.{start_memory}
 use Rattle.agc_store.specs.Memory.{Memory}
-use Rattle.agc_rope_text.specs.List.{rope_text}
+use Rattle.agc_rope_listing.specs.List.{rope_text}
 use Rattle.agc_session.proofs.Denied.{rope_known_memory}
 use Rattle.agc_session.specs.Options.{said_by}
 use Rattle.agc_study.specs.Listed.{bank_named}

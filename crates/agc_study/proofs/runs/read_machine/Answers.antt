@@ -14,10 +14,10 @@ returns-in_err-script-clause-refused g c =
 
 pub returns-clause-started : goal.returns-clause-started
 returns-clause-started g c =
-    all_started c.args.form c.args.until.now c.args.limit _ _ _ _ c.started.result
-    c.in_ok-rope.ensures.words c.in_ok-rope.ensures.accepted c.in_ok-script.ensures.events c.in_ok-script.ensures.accepted c.started.ensures
+    all_started c.args.form c.args.until.now c.args.limit _ _ _ _ c.start_machine.result
+    c.in_ok-rope.ensures.words c.in_ok-rope.ensures.accepted c.in_ok-script.ensures.events c.in_ok-script.ensures.accepted c.start_machine.ensures
 
 pub returns-clause-refused : goal.returns-clause-refused
 returns-clause-refused g c =
-    all_refused c.args.form c.args.until.now c.args.limit _ _ _ _ c.started.result
-    c.in_ok-rope.ensures.accepted c.in_ok-script.ensures.accepted c.started.ensures
+    all_refused c.args.form c.args.until.now c.args.limit _ _ _ _ c.start_machine.result
+    c.in_ok-rope.ensures.accepted c.in_ok-script.ensures.accepted c.start_machine.ensures

@@ -1,11 +1,11 @@
 //! How traces end, and files of more bytes than a rope may have.
 use super::*;
 use agc_asked::Tracing;
-use agc_listing::rope_file;
 use agc_machine::LimitFault;
 use agc_processor::Rupt;
 use agc_session::{ROPE_BYTES, ReadFault};
 use agc_study::{Untraced, remark_service, status_of_untraced, trace_files};
+use agc_test_ropes::rope_file;
 use agc_trace::{Selection, Service, TraceFault};
 use std::io::{self, ErrorKind, Write};
 
@@ -66,6 +66,7 @@ fn tracing(rt: &impl AllocGlobal, limit: u64) -> Tracing {
             channels: Vec::new(rt.alloc()),
             last: None,
         },
+        names: None,
     }
 }
 
@@ -79,6 +80,7 @@ fn a_service_is_told(rt: HostRuntime) -> Result<(), Fail> {
     let traced = trace_files(
         rt.alloc(),
         &asked,
+        &None,
         &mut rope,
         &mut script,
         &mut out,
@@ -118,6 +120,7 @@ fn traces_fail(rt: HostRuntime) -> Result<(), Fail> {
         let traced = trace_files(
             rt.alloc(),
             &asked,
+            &None,
             &mut rope,
             &mut script,
             &mut Full,

@@ -9,7 +9,7 @@ use Rattle.agc_trace.proofs.tracing.write_lines.Goals as goal
 
 pub returns-then-is_stop-clause-lines : goal.returns-then-is_stop-clause-lines
 returns-then-is_stop-clause-lines g c =
-    all_written c.args.selection.now _ _ _ _ c.next_entry-entry.result _ c.next_entry-entry.ensures.entry
+    all_written c.args.names.now c.args.selection.now _ _ _ _ c.next_entry-entry.result _ c.next_entry-entry.ensures.entry
     (sym c.is_stop.ensures ∙ c.if-is_stop.true) c.loop-alloc.invariant.0 c.in_ok-write_selected.ensures.line
 
 pub returns-then-is_stop-clause-service : goal.returns-then-is_stop-clause-service
@@ -25,7 +25,7 @@ loop-alloc-smaller g c =
 
 pub loop-alloc-preserved : goal.loop-alloc-preserved
 loop-alloc-preserved g c = (
-  line_written c.args.selection.now _ _ _ _ _ c.next_entry-entry.result _ c.next_entry-entry.ensures.entry c.next_entry-entry.ensures.after
+  line_written c.args.names.now c.args.selection.now _ _ _ _ _ c.next_entry-entry.result _ c.next_entry-entry.ensures.entry c.next_entry-entry.ensures.after
       (sym c.is_stop.ensures ∙ c.if-is_stop.false) c.loop-alloc.invariant.0 c.in_ok-write_selected.ensures.line,
   rw c.service_after-service.ensures
       (left_after c.args.selection.now _ _ _ c.next_entry-entry.result c.next_entry-entry.ensures.entry c.next_entry-entry.ensures.after
@@ -36,7 +36,7 @@ loop-alloc-preserved g c = (
 pub returns-clause-lines : goal.returns-clause-lines
 returns-clause-lines g c =
     written_whole _ _ _ _
-    (ap (λ (xs : List Entry). lines_of xs) (no_late_entries c.args.selection.now _ (omega (arith, c.cycle.ensures.cycle, c.loop-alloc-test.false))) ∙ lines_of-none)
+    (ap (λ (xs : List Entry). lines_of c.args.names.now xs) (no_late_entries c.args.selection.now _ (omega (arith, c.cycle.ensures.cycle, c.loop-alloc-test.false))) ∙ lines_of-none c.args.names.now)
     c.loop-alloc.invariant.0
 
 pub returns-clause-service : goal.returns-clause-service

@@ -9,8 +9,8 @@ use Rattle.agc_trace.proofs.tracing.write_lines.Given as goal
 -- there after the service in hand
 abbrev pub invariant-loop-alloc : goal.invariant-loop-alloc
 invariant-loop-alloc g l =
-    IsWritten (g.W.Write.contents l.initial.out) (g.W.Write.contents l.out) (lines_of (selected l.selection (trace_of l.machine)))
-    (lines_of (selected l.selection (trace_of l.initial.machine)))
+    IsWritten (g.W.Write.contents l.initial.out) (g.W.Write.contents l.out) (lines_of l.names (selected l.selection (trace_of l.machine)))
+    (lines_of l.names (selected l.selection (trace_of l.initial.machine)))
     × (service_at_stop l.selection l.service (trace_of l.machine) ≡ service_left l.selection (trace_of l.initial.machine))
 
 abbrev pub decreases-loop-alloc : goal.decreases-loop-alloc

@@ -1,22 +1,19 @@
-use Rattle.std.proofs.Common.{refl, ◌∙◌}
-use Rattle.agc_sitting.proofs.Reached.{no_way, then_way, way_on}
-use Rattle.agc_dialogue.proofs.Going.{reached}
+use Rattle.std.proofs.Common.{sym, ◌∙◌}
+use Rattle.agc_dialogue.specs.declared.sought.Sought.TheVariants.{Nothing}
+use Rattle.agc_dialogue.proofs.Going.{under_way}
+use Rattle.agc_dialogue.proofs.Ways.{followed_up, follows, follows_on, never_comes, stretch_to_cycle}
 use Rattle.agc_dialogue.proofs.talk.Talk.go_silently.Goals as goal
 
 pub loop-self-init : goal.loop-self-init
-loop-self-init c = (no_way _ _, refl, refl)
+loop-self-init c = follows Nothing _ _
 
 pub loop-self-preserved : goal.loop-self-preserved
 loop-self-preserved c =
-    let so_far = c.loop-self.invariant in
-    let on = c.is_before.ensures.0 c.loop-self-test.true in (
-      then_way _ _ _ _ so_far.0 (way_on _ _ _ _ on.0 c.go_on.ensures.gone.now),
-      c.go_on.ensures.script ∙ so_far.1,
-      c.go_on.ensures.given ∙ so_far.2,
-    )
+    let on = sym c.is_before.ensures ∙ c.loop-self-test.true in
+    follows_on Nothing _ _ _ _ _ c.loop-self.invariant (stretch_to_cycle _ _ _ _ on c.go_on.ensures.before, c.go_on.ensures.shown) (never_comes _ _)
 
 pub loop-self-smaller : goal.loop-self-smaller
-loop-self-smaller c = c.go_on.ensures.advances (c.is_before.ensures.0 c.loop-self-test.true).1
+loop-self-smaller c = c.go_on.ensures.advances (under_way c.args.cycle c.loop-self.self.sitting.now (sym c.is_before.ensures ∙ c.loop-self-test.true)).1
 
-pub returns-clause-reached : goal.returns-clause-reached
-returns-clause-reached c = reached _ _ _ _ c.loop-self.invariant.0 c.loop-self-test.false c.is_before.ensures.1
+pub returns : goal.returns
+returns c = followed_up Nothing _ _ _ c.loop-self.invariant (sym c.is_before.ensures ∙ c.loop-self-test.false)

@@ -1,8 +1,21 @@
-use Rattle.agc_dialogue.proofs.Going.{advances_by_boundary, shows_by_boundary}
+use Rattle.agc_machine.specs.Boundary.{boundary}
+use Rattle.std.specs.Prelude.{None}
+use Rattle.agc_sitting.specs.Sitting.{HasGone}
+use Rattle.agc_dialogue.proofs.Going.{advances_by_boundary, goes_by, reach_boundary, shows, shows_by_boundary}
 use Rattle.agc_dialogue.proofs.talk.Talk.step.Goals as goal
 
+pub returns-clause-shown : goal.returns-clause-shown
+returns-clause-shown c =
+    let gone : HasGone c.args.self.now.sitting (boundary None c.args.self.now.sitting.now) c.step-stepped.result c.note.new.self.sitting =
+    rw c.note.ensures.sitting c.step-stepped.ensures.gone in
+    rw c.note.ensures.same (shows c.args.self.now c.note.new.self _ c.step-stepped.result gone c.note.ensures.counted)
+
+pub returns-clause-on : goal.returns-clause-on
+returns-clause-on c =
+    rw c.note.ensures.sitting (goes_by _ _ _ _ c.step-stepped.ensures.gone (reach_boundary _ _ _ c.step-stepped.ensures.gone.now))
+
 pub returns-clause-advances : goal.returns-clause-advances
-returns-clause-advances c = rw c.note.ensures.sitting (advances_by_boundary _ _ _ c.step-stepped.ensures.now)
+returns-clause-advances c = rw c.note.ensures.sitting (advances_by_boundary _ _ _ c.step-stepped.ensures.gone.now)
 
 pub returns-clause-channel : goal.returns-clause-channel
-returns-clause-channel c = rw c.note.ensures.same (shows_by_boundary _ _ _ c.step-stepped.ensures.now)
+returns-clause-channel c = rw c.note.ensures.same (shows_by_boundary _ _ _ c.step-stepped.ensures.gone.now)

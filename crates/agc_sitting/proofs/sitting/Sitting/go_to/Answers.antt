@@ -9,28 +9,28 @@ pub loop-self-init : goal.loop-self-init
 loop-self-init c = (no_way _ _, refl, refl, refl, refl)
 
 pub loop-self-smaller-in-Quiet : goal.loop-self-smaller-in-Quiet
-loop-self-smaller-in-Quiet c = fewer_after_way _ _ _ c.in-Quiet.ensures.now
+loop-self-smaller-in-Quiet c = fewer_after_way _ _ _ c.in-Quiet.ensures.gone.now
 
 pub loop-self-smaller : goal.loop-self-smaller
-loop-self-smaller c = fewer_after_write _ _ _ (next_at_way_write _ _ _ _ c.in-Wrote.ensures.now)
+loop-self-smaller c = fewer_after_write _ _ _ (next_at_way_write _ _ _ _ c.in-Wrote.ensures.gone.now)
 
 pub loop-self-preserved-in-Quiet : goal.loop-self-preserved-in-Quiet
 loop-self-preserved-in-Quiet c =
     let so_far = c.loop-self.invariant in
     let short : c.loop-self.self.now.cycle < c.args.cycle = omega (arith, c.cycle.ensures.cycle, c.loop-self-test.true, ap (λ (s : SittingState). s.now.cycle) c.self.view_is) in
-    (then_way _ _ _ _ so_far.0 (way_on _ _ _ _ short c.in-Quiet.ensures.now), c.in-Quiet.ensures.first ∙ so_far.1, c.in-Quiet.ensures.kept ∙ so_far.2, c.in-Quiet.ensures.script ∙ so_far.3, c.in-Quiet.ensures.given ∙ so_far.4)
+    (then_way _ _ _ _ so_far.0 (way_on _ _ _ _ short c.in-Quiet.ensures.gone.now), c.in-Quiet.ensures.gone.first ∙ so_far.1, c.in-Quiet.ensures.gone.kept ∙ so_far.2, c.in-Quiet.ensures.gone.script ∙ so_far.3, c.in-Quiet.ensures.gone.given ∙ so_far.4)
 
 pub loop-self-preserved : goal.loop-self-preserved
 loop-self-preserved c =
     let so_far = c.loop-self.invariant in
     let short : c.loop-self.self.now.cycle < c.args.cycle = omega (arith, c.cycle.ensures.cycle, c.loop-self-test.true, ap (λ (s : SittingState). s.now.cycle) c.self.view_is) in
-    (then_way _ _ _ _ so_far.0 (way_on _ _ _ _ short c.in-Wrote.ensures.now), c.in-Wrote.ensures.first ∙ so_far.1, c.in-Wrote.ensures.kept ∙ so_far.2, c.in-Wrote.ensures.script ∙ so_far.3, c.in-Wrote.ensures.given ∙ so_far.4)
+    (then_way _ _ _ _ so_far.0 (way_on _ _ _ _ short c.in-Wrote.ensures.gone.now), c.in-Wrote.ensures.gone.first ∙ so_far.1, c.in-Wrote.ensures.gone.kept ∙ so_far.2, c.in-Wrote.ensures.gone.script ∙ so_far.3, c.in-Wrote.ensures.gone.given ∙ so_far.4)
 
 pub returns-in-Stopped-clause-reached : goal.returns-in-Stopped-clause-reached
 returns-in-Stopped-clause-reached c =
     let so_far = c.loop-self.invariant in
     let short : c.loop-self.self.now.cycle < c.args.cycle = omega (arith, c.cycle.ensures.cycle, c.loop-self-test.true, ap (λ (s : SittingState). s.now.cycle) c.self.view_is) in
-    at_stop _ _ _ c.in-Stopped.field-0 (then_way _ _ _ _ so_far.0 (way_on _ _ _ _ short c.in-Stopped.ensures.now)) (before_keeps _ _ _ c.in-Stopped.ensures.now)
+    at_stop _ _ _ c.in-Stopped.field-0 (then_way _ _ _ _ so_far.0 (way_on _ _ _ _ short c.in-Stopped.ensures.gone.now)) (before_keeps _ _ _ c.in-Stopped.ensures.gone.now)
 
 pub returns-clause-reached : goal.returns-clause-reached
 returns-clause-reached c =

@@ -1,0 +1,5 @@
+pub mod WatchSpec
+pub mod CoreSet
+pub mod Tables
+pub mod TablesText
+pub mod Watcher

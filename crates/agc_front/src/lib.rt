@@ -1,0 +1,8 @@
+//! The front of a program that sits before a machine: its words and its files.
+#![tactic(auto)]
+
+mod asked;
+mod start;
+
+pub use asked::{Asked, asked_by, asked_of};
+pub use start::{Start, limit_option, sitting_for, start_in, text_in};

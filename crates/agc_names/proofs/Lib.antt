@@ -1,0 +1,3 @@
+mod Lines
+mod Firsts
+pub mod Nearests

@@ -1,0 +1,49 @@
+//! A name with its place as a line of a text of names.
+ghost use Rattle.std.specs.Prelude.{◌≡◌, ◌++◌, IfSome, OnOk};
+ghost use Rattle.agc_rope_listing.specs.Place.{IsInPrint};
+ghost use Rattle.agc_names.specs.Writing.{name_line, place_of};
+
+use agc_rope_listing::{Place, listed_address, push_place};
+use agc_source_words::{Location, cell_address};
+use std::alloc::{AllocError, Global};
+
+/// Adds the line of a name: its place, a blank and the name. A place beyond the memory has no line. Fails where memory runs
+/// out.
+#[tactic(auto, unfolding(crate::specs::Writing::name_line))]
+pub fn push_name_line(
+    alloc: Global,
+    lines: &mut Vec<u8>,
+    at: Location,
+    name: &[u8],
+) -> Result<(), AllocError>
+    ensures { OnOk result (lines.new.items ≡ lines.old.items ++ name_line at name.now) }
+{
+    let Some(place) = place_of(at) else {
+        return Ok(());
+    };
+    let mut text = String::new(alloc);
+    push_place(&mut text, place)?;
+    lines.extend_from_slice(text.as_bytes())?;
+    lines.push(b' ')?;
+    lines.extend_from_slice(name)?;
+    lines.push(b'\n')?;
+    Ok(())
+}
+
+/// A place of the memory in print.
+fn place_of(at: Location) -> Option<Place>
+    ensures place { result ≡ place_of at }
+    ensures range { IfSome result IsInPrint }
+{
+    match at {
+        Location::Fixed(place) if place < 0o110000 => Some(Place::Fixed {
+            bank: (place / 0o2000) as u8,
+            address: listed_address(place as usize),
+        }),
+        Location::Erasable(cell) if cell < 0o4000 => Some(Place::Erasable {
+            bank: (cell / 0o400) as u8,
+            address: cell_address(cell),
+        }),
+        _ => None,
+    }
+}

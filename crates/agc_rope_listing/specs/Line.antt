@@ -1,0 +1,79 @@
+-- What a line of a rope's text says: which word stands at which place.
+use Rattle.std.specs.Prelude.{ℕ, ◌+◌, ◌*◌, ◌%◌, ◌==◌, nat_lt, nat_le, Bool, false, not, ◌&&◌, ◌||◌, List, []}
+use Rattle.std.specs.Prelude.{◌∷◌, length, take, drop, position, Option, Some, None, Result, Ok, Err}
+use Rattle.std.specs.Prelude.{if◌then◌else◌}
+use Rattle.std.specs.List.{list_any}
+use Rattle.agc_word.specs.Numeral.{octal_number}
+use Rattle.agc_store.specs.Cells.{narrow_number}
+use Rattle.agc_script.specs.Text.{words_of}
+use Rattle.agc_rope_listing.specs.List.{listed_address}
+use Rattle.agc_rope_listing.specs.declared.fault.LineFault.{LineFault}
+use Rattle.agc_rope_listing.specs.declared.fault.LineFault.TheVariants as fault
+use Rattle.agc_rope_listing.specs.declared.line.Named.{Named}
+
+-- the number that a text of so many octal digits writes
+unfoldable pub octal_exactly : ℕ → List ℕ → Option ℕ
+octal_exactly width text = if length text == width then octal_number width text else None
+
+abbrev pub is_comma : ℕ → Bool
+is_comma b = b == 0x2C
+
+-- a place, if the rope has it and this is its address
+abbrev pub place_checked : ℕ → ℕ → Option ℕ
+place_checked place address =
+    if nat_lt place 0o110000 && (listed_address place == address) then Some place else None
+
+-- the place of a bank and an address in it
+abbrev pub place_in_bank : Option ℕ → Option ℕ → Option ℕ
+place_in_bank (Some bank) (Some address) =
+    place_checked (0o2000 * bank + address % 0o2000) address
+place_in_bank _ _ = None
+
+-- the place of an address alone: those from 4000 on name one
+abbrev pub place_alone : Option ℕ → Option ℕ
+place_alone (Some address) = if nat_le 0o4000 address then Some address else None
+place_alone None = None
+
+-- the place that a text names, which has a comma there or none
+abbrev pub place_cut : Option ℕ → List ℕ → Option ℕ
+place_cut (Some at) text =
+    place_in_bank (octal_exactly 2 (take at text)) (octal_exactly 4 (drop (at + 1) text))
+place_cut None text = place_alone (octal_exactly 4 text)
+
+-- The place that a text names: `bb,oooo` or `oooo`, all octal.
+unfoldable pub place_named : List ℕ → Option ℕ
+place_named text = place_cut (position is_comma text) text
+
+-- a word at a place, where it is one
+abbrev pub named_at : ℕ → Option ℕ → Result (Option Named) LineFault
+named_at place (Some word) = Ok (Some (record { place = place; word = narrow_number word }))
+named_at place None = Err fault.BadWord
+
+-- the word of five octal digits that comes next
+unfoldable pub word_named : ℕ → List (List ℕ) → Result (Option Named) LineFault
+word_named place [] = Err fault.BadWord
+word_named place (word ∷ comment) = named_at place (octal_exactly 5 word)
+
+-- a place and its word
+abbrev pub named_by : Option ℕ → List (List ℕ) → Result (Option Named) LineFault
+named_by (Some place) words = word_named place words
+named_by None words = Err fault.BadAddress
+
+-- a word that begins a comment: its first byte is `#`
+abbrev pub is_hash : List ℕ → Bool
+is_hash [] = false
+is_hash (b ∷ bs) = b == 0x23
+
+-- what the words of a line say: without words, and after `#`, nothing
+unfoldable pub words_named : List (List ℕ) → Result (Option Named) LineFault
+words_named [] = Ok None
+words_named (first ∷ words) = if is_hash first then Ok None else named_by (place_named first) words
+
+-- a byte that no text has: neither a tab nor one that prints in ASCII
+abbrev pub is_no_text : ℕ → Bool
+is_no_text b = not (b == 0x09) && (nat_lt b 0x20 || nat_le 0x7F b)
+
+-- what a line says: a word and its place, or nothing
+unfoldable pub line_named : List ℕ → Result (Option Named) LineFault
+line_named line =
+    if list_any is_no_text line then Err fault.NotText else words_named (words_of line)

@@ -1,0 +1,140 @@
+//! The text of a rope: a line for each word.
+ghost use Rattle.std.specs.Prelude.{◌≡◌, ◌<◌, ◌≤◌, ◌++◌, ◌&&◌, not, IfOk, OnOk, string_bytes};
+ghost use Rattle.agc_word.specs.Number.{pattern_of};
+ghost use Rattle.agc_store.specs.Memory.{fixed_at};
+ghost use Rattle.agc_rope_listing.specs.List.{
+  begins_anew,
+  is_asked_for,
+  line_text,
+  listed_address,
+  listed_lines,
+  rope_text,
+  text_listed,
+};
+
+use crate::order::{leads_extracode, push_order};
+use crate::place::{Place, push_place};
+use agc_store::Store;
+use agc_word::Narrow;
+use std::alloc::{AllocError, Global};
+
+/// The text of the rope in a store: a line `bb,oooo wwwww MNEMONIC operand` for each word that is
+/// not +0, in the order of the banks, of all banks or of one, 00 to 43 octal. A word after EXTEND, or
+/// after INDEX as an extracode, stands as an extracode. `weave` makes a rope with the same words of
+/// the text of all banks. Fails where memory runs out.
+#[tactic(auto, unfolding(crate::specs::List::rope_text))]
+pub fn list(alloc: Global, store: &Store, bank: Option<u8>) -> Result<String, AllocError>
+    ensures { IfOk result (λ text. string_bytes text ≡ rope_text bank store.now.fixed) }
+{
+    let mut text = String::new(alloc);
+    push_words(&mut text, store, bank, 36864)?;
+    Ok(text)
+}
+
+/// Adds the lines of the words at the first so many places.
+fn push_words(
+    text: &mut String,
+    store: &Store,
+    bank: Option<u8>,
+    count: usize,
+) -> Result<(), AllocError>
+    requires { count ≤ 36864 }
+    ensures { OnOk result (string_bytes text.new
+        ≡ string_bytes text.old ++ listed_lines count bank store.now.fixed) }
+{
+    let mut leads = false;
+    for place in 0..count {
+        let word = word_at(store, place);
+        let extracode = leads_on(leads, place);
+        push_listed(text, bank, place, extracode, word)?;
+        leads = leads_extracode(extracode, word);
+    }
+    Ok(())
+}
+
+/// Whether the word at a place is an extracode, where the word before it leads to one.
+fn leads_on(leads: bool, place: usize) -> bool
+    ensures { result ≡ (leads && not (begins_anew place)) }
+{
+    leads && !begins_anew(place)
+}
+
+/// Adds the line of a word, where it has one.
+fn push_listed(
+    text: &mut String,
+    bank: Option<u8>,
+    place: usize,
+    extracode: bool,
+    word: Narrow,
+) -> Result<(), AllocError>
+    requires { place < 36864 }
+    ensures { OnOk result (string_bytes text.new
+        ≡ string_bytes text.old ++ text_listed bank place extracode word) }
+{
+    if word.bits() != 0 && is_asked_for(bank, place) {
+        push_word(text, place, extracode, word)?;
+    }
+    Ok(())
+}
+
+/// The fixed word at a place.
+#[tactic(auto, unfolding(agc_store::specs::Cells::fixed_of))]
+fn word_at(store: &Store, place: usize) -> Narrow
+    requires { place < 36864 }
+    ensures { result ≡ fixed_at place store.now.fixed }
+{
+    store.fixed((place / 0o2000) as u8, (place % 0o2000) as u16)
+}
+
+/// Whether nothing leads to a place from the one before.
+#[tactic(auto, unfolding(crate::specs::List::begins_anew))]
+fn begins_anew(place: usize) -> bool
+    ensures { result ≡ begins_anew place }
+{
+    place % 0o2000 == 0 && place != 0o6000
+}
+
+fn is_asked_for(bank: Option<u8>, place: usize) -> bool
+    ensures { result ≡ is_asked_for bank place }
+{
+    match bank {
+        Some(bank) => place / 0o2000 == usize::from(bank),
+        None => true,
+    }
+}
+
+/// Adds the line of a word.
+#[tactic(auto, unfolding(crate::specs::List::line_text))]
+fn push_word(
+    text: &mut String,
+    place: usize,
+    extracode: bool,
+    word: Narrow,
+) -> Result<(), AllocError>
+    requires { place < 36864 }
+    ensures { OnOk result (string_bytes text.new
+        ≡ string_bytes text.old ++ line_text place extracode word) }
+{
+    let listed = Place::Fixed {
+        bank: (place / 0o2000) as u8,
+        address: listed_address(place),
+    };
+    push_place(text, listed)?;
+    write!(text, " {word} ")?;
+    push_order(text, extracode, word)?;
+    text.push_str("\n")
+}
+
+/// The address under which a listing names a place.
+#[tactic(auto, unfolding(crate::specs::List::listed_address))]
+pub fn listed_address(place: usize) -> u16
+    requires { place < 36864 }
+    ensures address { result ≡ listed_address place }
+    ensures range { result < 0o10000 }
+{
+    if 0o4000 <= place && place < 0o10000 {
+        place as u16
+    } else {
+        (0o2000 + place % 0o2000) as u16
+    }
+}

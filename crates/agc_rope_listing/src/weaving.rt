@@ -1,0 +1,121 @@
+//! From a rope's text to the words that it names, and to a rope file.
+ghost use Rattle.std.specs.Prelude.{◌≡◌, ◌≢◌, ◌<◌, List, None, Ok, Err, IfOk, IfErr, MatchResult, OnOk};
+ghost use Rattle.agc_word.specs.Number.{Number, pattern_of};
+ghost use Rattle.agc_rope_listing.specs.Laws.{AreRopeWords, IsRopeOf};
+ghost use Rattle.agc_rope_listing.specs.List.{rope_text};
+ghost use Rattle.agc_rope_listing.specs.Weave.{
+  ArePlaces,
+  IsWovenOf,
+  said_in,
+  woven_bits,
+  woven_file,
+  woven_index,
+  woven_with,
+};
+ghost use Rattle.agc_rope_listing.specs.declared.fault.WeaveFault.TheVariants.{Memory};
+
+use crate::fault::WeaveFault;
+use crate::line::Named;
+use crate::loom::Loom;
+use agc_script::next_line;
+use agc_store::RopeForm;
+use agc_word::Narrow;
+use std::alloc::{AllocError, Global};
+
+/// The rope file of a form that a text weaves to, as long as its words need, and one word at least.
+/// A line `bb,oooo wwwww` names a word and its place, all octal; so does `oooo wwwww` for 4000 to
+/// 7777. What stands after the word, an empty line, and a line that begins with `#` say nothing. The
+/// fault is that of the first faulty line, or `Memory`.
+pub fn weave(alloc: Global, form: RopeForm, text: &[u8]) -> Result<Vec<u8>, WeaveFault>
+    ensures file { IfOk result (λ bytes. IsWovenOf form text.now bytes.items) }
+    ensures fault { IfErr result (λ fault. fault ≢ Memory → said_in text.now ≡ Err fault) }
+
+    // The text of a whole rope weaves to a rope with the same words.
+    ensures listing { (words : List Number) → AreRopeWords words → text.now ≡ rope_text None words
+        → MatchResult result (λ bytes. IsRopeOf form words bytes.items) (λ fault. fault ≡ Memory) }
+{
+    let loom = read_text(alloc, text)?;
+    match file_of(alloc, form, loom.words()) {
+        Ok(bytes) => Ok(bytes),
+        Err(_) => Err(WeaveFault::Memory),
+    }
+}
+
+/// The words that a text names, in the order of its lines, or the fault of its first faulty line.
+fn read_text(alloc: Global, text: &[u8]) -> Result<Loom, WeaveFault>
+    ensures words { IfOk result (λ loom. said_in text.now ≡ Ok loom) }
+    ensures fault { IfErr result (λ fault. fault ≢ Memory → said_in text.now ≡ Err fault) }
+{
+    let mut loom = Loom::new(alloc)?;
+    let mut lines = 0;
+    let mut rest = text;
+    while let Some((line, after)) = next_line(rest) {
+        lines += 1;
+        match loom.read(line) {
+            Ok(named) => loom.add(named)?,
+            Err(fault) => return Err(WeaveFault::Line(lines, fault)),
+        }
+        rest = after;
+    }
+    Ok(loom)
+}
+
+/// The rope file of a form that holds some words, as long as they need, and one word at least. Fails where
+/// memory runs out.
+pub fn file_of(alloc: Global, form: RopeForm, words: &[Named]) -> Result<Vec<u8>, AllocError>
+    requires { ArePlaces words.now }
+    ensures { IfOk result (λ bytes. bytes.items ≡ woven_file form words.now) }
+{
+    let mut bytes = vec![in alloc; 0, 0]?;
+    for named in words {
+        put_word(&mut bytes, form, named)?;
+    }
+    Ok(bytes)
+}
+
+/// Puts a word into a file, which grows with zeros as far as the word needs.
+#[tactic(auto, unfolding(crate::specs::Weave::woven_with, crate::specs::Weave::woven_on))]
+fn put_word(bytes: &mut Vec<u8>, form: RopeForm, named: &Named) -> Result<(), AllocError>
+    requires { named.now.place < 0o110000 }
+    ensures { OnOk result (bytes.new.items ≡ woven_with form bytes.old.items named.now) }
+{
+    let at = 2 * woven_index(form, named.place);
+    if bytes.len() < at + 2 {
+        bytes.resize(at + 2, 0)?;
+    }
+    let bits = woven_bits(form, named.word);
+    bytes[at] = (bits / 256) as u8;
+    bytes[at + 1] = (bits % 256) as u8;
+    Ok(())
+}
+
+/// The sixteen bits of a word in a file.
+#[tactic(auto, unfolding(crate::specs::Weave::woven_bits))]
+fn woven_bits(form: RopeForm, word: Narrow) -> u16
+    ensures { result ≡ woven_bits form (pattern_of 15 word) }
+{
+    let bits = 2 * word.bits();
+    match form {
+        RopeForm::Parity if bits.count_ones() % 2 == 0 => bits + 1,
+        _ => bits,
+    }
+}
+
+/// Where the word of a place stands among the words of a file.
+#[tactic(auto, unfolding(crate::specs::Weave::woven_index, agc_store::specs::RopeFile::file_bank))]
+fn woven_index(form: RopeForm, place: usize) -> usize
+    requires { place < 0o110000 }
+    ensures index { result ≡ woven_index form place }
+    ensures range { result < 0o110000 }
+{
+    let bank = place / 0o2000;
+    let bank_in_file = match form {
+        RopeForm::Classic => match bank {
+            0 | 1 => bank + 2,
+            2 | 3 => bank - 2,
+            _ => bank,
+        },
+        RopeForm::Parity => bank,
+    };
+    0o2000 * bank_in_file + place % 0o2000
+}

@@ -1,0 +1,4 @@
+pub mod Alike
+pub mod Follows
+pub mod Together
+pub mod Told

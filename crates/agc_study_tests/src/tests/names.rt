@@ -1,0 +1,68 @@
+//! Names of places, worked by hand.
+use agc_names::{
+    NameFault, NameTable, NameTrouble, push_column, push_name_line, push_named, text_with_names,
+};
+use agc_source_words::Location;
+use agc_study::{Trouble, read_names};
+use std::process::Abort;
+use std::test::Fail;
+
+static NAMES: &str = "4060 KEYIN # the first\n02,4060 SERVICE\n\nE0,0100\tBEFORE\n5777 LAST\n";
+
+fn names(rt: &(impl AllocGlobal + Abort)) -> NameTable {
+    NameTable::read(rt.alloc(), NAMES.as_bytes())
+        .ok()
+        .expect(rt, "names")
+}
+
+/// 100 octal are 64 words, and bank 03 begins at 6000.
+#[test]
+fn a_place_goes_by_the_nearest_name(rt: HostRuntime) -> Result<(), Fail> {
+    let names = names(&rt);
+    for (at, told) in [
+        (Location::Fixed(0o4060), "KEYIN"),
+        (Location::Fixed(0o4072), "KEYIN +10"),
+        (Location::Fixed(0o4160), "KEYIN +64"),
+        (Location::Fixed(0o4161), ""),
+        (Location::Fixed(0o4057), ""),
+        (Location::Fixed(0o6000), ""),
+        (Location::Erasable(0o101), "BEFORE +1"),
+    ] {
+        let mut text = String::new(rt.alloc());
+        push_named(&mut text, &names, at)?;
+        assert_eq!(rt; text.as_str(), told);
+    }
+    let mut column = String::new(rt.alloc());
+    push_column(&mut column, &names, Location::Fixed(0o4062))?;
+    assert_eq!(rt; column.as_str(), "KEYIN +2     ");
+    Ok(())
+}
+
+#[test]
+fn each_fault_is_told(rt: HostRuntime) {
+    for (text, line, fault) in [
+        ("4000 A\n\n4001 B # \x07", 3, NameFault::NotText),
+        ("2000 A", 1, NameFault::BadPlace),
+        ("4000", 1, NameFault::BadName),
+        ("4000 NINECHARS", 1, NameFault::BadName),
+        ("4000 A\n4001 B C", 2, NameFault::MoreWords),
+    ] {
+        let mut text = text.as_bytes();
+        let refused = read_names(rt.alloc(), &mut text).err();
+        assert_eq!(rt;
+            refused,
+            Some(Trouble::Names(NameTrouble::Line(line, fault)))
+        );
+    }
+}
+
+#[test]
+fn names_stand_beside_places(rt: HostRuntime) -> Result<(), Fail> {
+    let named = text_with_names(rt.alloc(), &names(&rt), b"02,4061 34054 CA 4054\n")?;
+    assert!(rt; named.as_slice() == b"02,4061 KEYIN +1     34054 CA 4054\n".as_slice());
+    let mut lines = Vec::new(rt.alloc());
+    push_name_line(rt.alloc(), &mut lines, Location::Erasable(0o1407), b"COUNT")?;
+    push_name_line(rt.alloc(), &mut lines, Location::Fixed(0o4071), b"LOOP")?;
+    assert!(rt; lines.as_slice() == b"E3,1407 COUNT\n02,4071 LOOP\n".as_slice());
+    Ok(())
+}

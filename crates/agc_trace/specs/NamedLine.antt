@@ -1,0 +1,39 @@
+-- An entry's line with names: an order has the name of its place beside that.
+use Rattle.std.specs.Prelude.{List, ℕ, ◌++◌, codes, Option, Some, None}
+use Rattle.std.specs.Fmt.{decimal}
+use Rattle.agc_script.specs.Written.{word_digits}
+use Rattle.agc_machine.specs.declared.upcoming.InHand.{InHand}
+use Rattle.agc_machine.specs.declared.upcoming.Upcoming.{Upcoming}
+use Rattle.agc_machine.specs.declared.upcoming.Upcoming.TheVariants as upcoming
+use Rattle.agc_rope_listing.specs.Order.{order_text}
+use Rattle.agc_rope_listing.specs.Place.{place_text}
+use Rattle.agc_source_words.specs.Location.{location_at}
+use Rattle.agc_names.specs.Column.{name_column}
+use Rattle.agc_names.specs.Names.{Named}
+use Rattle.agc_trace.specs.Line.{happening_text, line_of, order_place, registers_text, shown_text}
+use Rattle.agc_trace.specs.declared.entry.Entry.{Entry}
+
+-- an order with its place, the column of that, and its word
+unfoldable pub named_order : List Named → InHand → List ℕ
+named_order names order =
+    place_text (order_place order.bank order.address) ++ codes " "
+    ++ name_column names (location_at order.bank order.address) ++ word_digits order.word
+    ++ codes " " ++ order_text order.extracode order.word
+
+-- what happened: what is no order stands there as without names
+abbrev pub named_happening : List Named → Upcoming → List ℕ
+named_happening names (upcoming.Order order) = named_order names order
+named_happening names (upcoming.Stop why) = happening_text (upcoming.Stop why)
+named_happening names (upcoming.Event what) = happening_text (upcoming.Event what)
+named_happening names (upcoming.Timer t) = happening_text (upcoming.Timer t)
+named_happening names (upcoming.Interrupt r) = happening_text (upcoming.Interrupt r)
+
+unfoldable pub named_line : List Named → Entry → List ℕ
+named_line names entry =
+    decimal entry.cycle ++ codes " " ++ named_happening names entry.happening
+    ++ shown_text entry.write ++ codes " | " ++ registers_text entry.registers ++ codes "\n"
+
+-- the line of an entry, with names where there are any
+unfoldable pub line_with : Option (List Named) → Entry → List ℕ
+line_with (Some names) entry = named_line names entry
+line_with None entry = line_of entry

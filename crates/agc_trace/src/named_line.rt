@@ -1,0 +1,94 @@
+//! An entry of the trace as a line, with the name of an order's place.
+ghost use Rattle.std.specs.Prelude.{◌≡◌, ◌++◌, OnOk, codes, string_bytes};
+ghost use Rattle.agc_machine.specs.Boundary.{HasPlace};
+ghost use Rattle.agc_machine.specs.declared.upcoming.Upcoming.TheVariants as upcoming;
+ghost use Rattle.agc_script.specs.Written.{word_digits};
+ghost use Rattle.agc_trace.specs.Entry.{FitsLine};
+ghost use Rattle.agc_trace.specs.NamedLine.{line_with, named_happening, named_line, named_order};
+
+use crate::entry::Entry;
+use crate::line::{order_place, push_happening, push_line, push_registers, push_write};
+use agc_machine::{InHand, Upcoming};
+use agc_names::{NameTable, push_column};
+use agc_rope_listing::{push_order, push_place};
+use agc_source_words::location_at;
+use agc_word::Narrow;
+use std::alloc::AllocError;
+
+/// Adds the line of an entry, as `push_line` does. Where names are given, an order has between its place and its word the
+/// column of that place: its name and blanks, thirteen characters. Fails where memory runs out.
+#[tactic(auto, unfolding(crate::specs::NamedLine::line_with))]
+pub fn push_line_with(
+    text: &mut String,
+    names: &Option<NameTable>,
+    entry: &Entry,
+) -> Result<(), AllocError>
+    requires { FitsLine entry.now }
+    ensures { OnOk result
+        (string_bytes text.new ≡ string_bytes text.old ++ line_with names.now entry.now) }
+{
+    match names {
+        Some(names) => push_named_line(text, names, entry),
+        None => push_line(text, entry),
+    }
+}
+
+#[tactic(auto, unfolding(crate::specs::NamedLine::named_line))]
+fn push_named_line(text: &mut String, names: &NameTable, entry: &Entry) -> Result<(), AllocError>
+    requires { FitsLine entry.now }
+    ensures { OnOk result
+        (string_bytes text.new ≡ string_bytes text.old ++ named_line names.now entry.now) }
+{
+    let cycle = entry.cycle;
+    write!(text, "{cycle} ")?;
+    push_named_happening(text, names, entry.happening)?;
+    push_write(text, entry.write)?;
+    text.push_str(" | ")?;
+    push_registers(text, entry.registers)?;
+    text.push_str("\n")
+}
+
+/// Adds what happened, an order with the column of its place.
+fn push_named_happening(
+    text: &mut String,
+    names: &NameTable,
+    happening: Upcoming,
+) -> Result<(), AllocError>
+    requires { HasPlace happening }
+    ensures { OnOk result
+        (string_bytes text.new ≡ string_bytes text.old ++ named_happening names.now happening) }
+{
+    match happening {
+        Upcoming::Order(order) => push_named_order(text, names, order),
+        Upcoming::Stop(_) | Upcoming::Event(_) | Upcoming::Timer(_) | Upcoming::Interrupt(_) => {
+            push_happening(text, happening)
+        }
+    }
+}
+
+#[tactic(auto, unfolding(crate::specs::NamedLine::named_order))]
+fn push_named_order(text: &mut String, names: &NameTable, order: InHand) -> Result<(), AllocError>
+    requires { HasPlace (upcoming.Order order) }
+    ensures { OnOk result
+        (string_bytes text.new ≡ string_bytes text.old ++ named_order names.now order) }
+{
+    let InHand {
+        bank,
+        address,
+        word,
+        extracode,
+    } = order;
+    push_place(text, order_place(bank, address))?;
+    text.push_str(" ")?;
+    push_column(text, names, location_at(bank, address))?;
+    push_digits(text, word)?;
+    push_order(text, extracode, word)
+}
+
+/// Adds a word and a space.
+fn push_digits(text: &mut String, word: Narrow) -> Result<(), AllocError>
+    ensures { OnOk result
+        (string_bytes text.new ≡ string_bytes text.old ++ word_digits word ++ codes " ") }
+{
+    write!(text, "{word} ")
+}
