@@ -539,6 +539,13 @@ def try_no_terminal():
         judge("TERM=dumb: a line", (line, True), (terminal.screen.plain, terminal.is_put_back()))
     finally:
         terminal.close()
+    terminal = Terminal([os.path.join(scratch, "no-such-rope")])
+    try:
+        judge("no rope", 1, terminal.status())
+        line = "agc-dsky: cannot read rope\r\n"
+        judge("no rope: a line", (line, True), (terminal.screen.plain, terminal.is_put_back()))
+    finally:
+        terminal.close()
     save = os.path.join(scratch, "beside")
     words = [KEYS_ROPE, "--save", save]
     master, slave = pty.openpty()

@@ -1,8 +1,6 @@
 //! `agc-console`: a computer that listens. It answers commands on standard input, a line each, as they come.
 #![tactic(auto)]
 
-#[cfg(test)]
-mod tests;
 mod trouble;
 mod words;
 

@@ -4,8 +4,6 @@
 mod saving;
 mod screen;
 mod session;
-#[cfg(test)]
-mod tests;
 mod trouble;
 mod words;
 
