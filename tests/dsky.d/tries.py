@@ -9,6 +9,7 @@ import os
 import pty
 import re
 import select
+import shlex
 import signal
 import struct
 import subprocess
@@ -422,12 +423,17 @@ def trace_of(rope, script, limit):
 def try_saving():
     """No file is written over unasked, none is made in no folder, and a full disk loses nothing."""
     save = written("old", "mine\n")
-    for name, words, file in (("a file that is there", [save], save), ("no folder", [os.path.join(scratch, "none", "x")], None)):
+    nowhere = os.path.join(scratch, "none", "x")
+    for name, words, line in (
+        ("a file that is there", [save], "is there already; --force writes over it"),
+        ("no folder", [nowhere], "cannot be made"),
+        ("no folder, by force", [nowhere, "--force"], "cannot be made"),
+    ):
         terminal = Terminal([KEYS_ROPE, "--save", *words])
         try:
             status = terminal.status()
             judge(f"{name}: the status", (1, True), (status, terminal.is_put_back()))
-            judge(f"{name}: a line", True, terminal.screen.plain.startswith("agc-dsky: the file after --save is there already"))
+            judge(f"{name}: a line", f"agc-dsky: the file after --save {line}\r\n", terminal.screen.plain)
         finally:
             terminal.close()
         judge(f"{name}: nothing is changed", "mine\n", read(save))
@@ -466,6 +472,50 @@ def try_saving():
         terminal.type("s")
         terminal.until("no remark", lambda screen: last_line(screen) == " no file is named: start with --save FILE")
         judge("s without a file", 0, terminal.quit()[0])
+    finally:
+        terminal.close()
+
+
+def try_last_keys():
+    """A key that comes together with q or s, or while time stands, is told, and the told limit reaches it."""
+    for name, stands in (("a key with q", False), ("a key while time stands", True)):
+        terminal = Terminal([KEYS_ROPE])
+        try:
+            terminal.begun()
+            terminal.on_to(1000)
+            if stands:
+                terminal.pause()
+                terminal.type("4")
+                terminal.until("[4] is never lit", lambda screen: "[4]" in screen.text())
+            status, text = terminal.quit("q" if stands else "4q")
+            script, limit, _ = told(text)
+            judge(name, (0, ["4"], True), (status, keys_of(script), cycles_of(script)[-1] < limit))
+        finally:
+            terminal.close()
+    path = written("empty", "")
+    terminal = Terminal([KEYS_ROPE, "--save", path])
+    try:
+        terminal.begun()
+        terminal.type("4s")
+        terminal.until("not saved", lambda screen: last_line(screen) == " saved")
+        judge("a key with s, in a file with nothing in it", ["4"], keys_of(read(path)))
+        terminal.quit()
+    finally:
+        terminal.close()
+
+
+def try_told_names():
+    """The lines that repeat a session are those that a shell reads, and need no script where nothing was typed."""
+    rope = os.path.join(scratch, "my rope's")
+    with open(KEYS_ROPE, "rb") as file, open(rope, "wb") as copy:
+        copy.write(file.read())
+    terminal = Terminal([rope])
+    try:
+        terminal.begun()
+        status, text = terminal.quit()
+        _, limit, _ = told(text)
+        words = shlex.split(text.splitlines()[0])
+        judge("names with a space and a quote", (0, ["again:", "./agc", rope, "/dev/null", "--limit", str(limit)]), (status, words))
     finally:
         terminal.close()
 
@@ -903,7 +953,7 @@ for each in (LARGE, SMALL):
     for face, made, keys in faces():
         attempt(f"{face} at {each}", try_face, f"{face} at {each[0]} lines", made, keys, each)
 for each in (
-    try_saving, try_leaving, try_ink, try_no_terminal, try_resizing, try_script, try_refusals, try_many_keys, try_going_back,
+    try_saving, try_last_keys, try_told_names, try_leaving, try_ink, try_no_terminal, try_resizing, try_script, try_refusals, try_many_keys, try_going_back,
     try_boundaries, try_start, try_speeds, try_idleness,
 ):
     attempt(each.__name__, each)

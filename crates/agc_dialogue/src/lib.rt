@@ -9,8 +9,6 @@ mod outlet;
 mod showing;
 mod sought;
 mod talk;
-#[cfg(test)]
-mod tests;
 
 pub use answer::{
     push_came_line, push_cell_lines, push_channel_line, push_end_line, push_error_line,

@@ -13,6 +13,7 @@ use agc_front::{asked_of, sitting_for};
 use agc_picture::Ink;
 use agc_seat::Seat;
 use agc_session::{DONE, REFUSED, Refusal, UNWRITTEN, status_of};
+use saving::Run;
 use screen::{DrawFault, Screen};
 use session::{Ended, Session, Wish, read_typed, rest};
 use std::io::{IsTerminal, Read, Write};
@@ -99,9 +100,7 @@ where
     let seat = seat_for(rt, asked)?;
     let watch = watch_for(asked)?;
     if let Some(path) = &asked.save {
-        if saving::reserve(rt, path.as_str(), asked.force).is_err() {
-            return Err(Trouble::SaveRefused);
-        }
+        saving::reserve(rt, path.as_str(), asked.force)?;
     }
     let screen = Screen::new(rt.alloc(), ink);
     // Where the terminal takes nothing, the first drawing says so.
@@ -219,7 +218,7 @@ where
     };
     let told = match (&asked.save, handed_on) {
         (Some(path), Ok(())) => tell(asked, path.as_str(), seat, out),
-        _ => print_script(rt, seat, out).and_then(|()| tell_unsaved(asked, seat, out)),
+        _ => tell_unsaved(rt, asked, seat, out),
     };
     let status = match (told, ended) {
         (Err(_), _) | (Ok(()), Ended::Gone) => UNWRITTEN,
@@ -236,27 +235,30 @@ where
 
 /// Tells how the session is repeated with a script.
 fn tell<W: Write>(asked: &Dsky, script: &str, seat: &Seat, out: &mut W) -> io::Result<()> {
-    let limit = seat.limit_to_repeat();
-    saving::tell_how(
-        out,
-        asked.start.rope.as_str(),
+    let run = Run {
+        rope: asked.start.rope.as_str(),
         script,
-        asked.start.form,
-        limit,
-    )
+        form: asked.start.form,
+        limit: seat.limit_to_repeat(),
+    };
+    saving::tell_how(out, &run)
 }
 
-/// Tells how the session is repeated with the lines that were printed.
-fn tell_unsaved<W: Write>(asked: &Dsky, seat: &Seat, out: &mut W) -> io::Result<()> {
-    out.write_all(b"agc-dsky: with the lines above in a file SCRIPT,\n")?;
-    tell(asked, "SCRIPT", seat, out)
-}
-
-/// Prints the script that repeats the session.
-fn print_script<R: AllocGlobal, W: Write>(rt: &R, seat: &Seat, out: &mut W) -> io::Result<()> {
+/// Prints the script that repeats the session, and tells how. Where nothing happened there is nothing to print.
+fn tell_unsaved<R: AllocGlobal, W: Write>(
+    rt: &R,
+    asked: &Dsky,
+    seat: &Seat,
+    out: &mut W,
+) -> io::Result<()> {
     let Some(script) = seat.told(rt.alloc()) else {
         return Err(io::Error::from(io::ErrorKind::OutOfMemory));
     };
     let text = saving::text_of(rt.alloc(), &script)?;
-    out.write_all(text.as_bytes())
+    if text.is_empty() {
+        return tell(asked, "/dev/null", seat, out);
+    }
+    out.write_all(text.as_bytes())?;
+    out.write_all(b"agc-dsky: with the lines above in a file SCRIPT,\n")?;
+    tell(asked, "SCRIPT", seat, out)
 }

@@ -1,21 +1,42 @@
 //! The script that repeats a session, as a file or on the terminal.
+use crate::trouble::Trouble;
 use agc_script::Script;
 use agc_store::RopeForm;
 use std::alloc::{AllocError, Global};
-use std::io::Write;
+use std::fs;
+use std::io::{self, ErrorKind, Write};
 use std::rt::Files;
-use std::{fs, io};
 
-/// Takes the name for the script before the session begins: a file of that name must not be there, unless it may be
-/// written over.
-pub fn reserve<R: Files>(rt: &R, path: &str, force: bool) -> io::Result<()> {
-    if force {
-        return Ok(());
-    }
+/// How a session is repeated.
+#[derive(Clone, Copy, Debug)]
+pub struct Run<'a> {
+    pub rope: &'a str,
+    pub script: &'a str,
+    pub form: RopeForm,
+    pub limit: u64,
+}
+
+/// Takes the name for the script before the session begins: a file of that name must not be there with anything in it,
+/// unless it may be written over.
+pub fn reserve<R: Files>(rt: &R, path: &str, force: bool) -> Result<(), Trouble> {
     let mut how = fs::OpenOptions::new();
     how.write(true).create_new(true);
-    let _made = how.open(rt, path)?;
-    Ok(())
+    match how.open(rt, path) {
+        Ok(_made) => Ok(()),
+        Err(error) => match error.kind() {
+            ErrorKind::AlreadyExists if force || is_empty_file(rt, path) => Ok(()),
+            ErrorKind::AlreadyExists => Err(Trouble::SaveTaken),
+            _ => Err(Trouble::SaveNotMade),
+        },
+    }
+}
+
+/// There is nothing in the file at a path, as where a program was killed that had taken its name.
+fn is_empty_file<R: Files>(rt: &R, path: &str) -> bool {
+    match fs::metadata(rt, path) {
+        Ok(about) => about.is_file() && about.len() == 0,
+        Err(_) => false,
+    }
 }
 
 /// The script as text.
@@ -33,20 +54,46 @@ pub fn save<R: Files>(rt: &R, path: &str, text: &str) -> io::Result<()> {
 }
 
 /// Tells how the session is repeated, up to a limit, and filmed.
-pub fn tell_how<W: Write>(
-    out: &mut W,
-    rope: &str,
-    script: &str,
-    form: RopeForm,
-    limit: u64,
-) -> io::Result<()> {
-    let form = match form {
-        RopeForm::Classic => "",
-        RopeForm::Parity => " --form parity",
-    };
-    writeln!(out, "again: ./agc {rope} {script} --limit {limit}{form}")?;
-    writeln!(
-        out,
-        "as a film: ./agc-study film {rope} {script} --limit {limit}{form} > film.html"
-    )
+pub fn tell_how<W: Write>(out: &mut W, run: &Run<'_>) -> io::Result<()> {
+    out.write_all(b"again: ./agc ")?;
+    write_run(out, run)?;
+    out.write_all(b"\nas a film: ./agc-study film ")?;
+    write_run(out, run)?;
+    out.write_all(b" > film.html\n")
+}
+
+/// The words of a run: its files, its limit and its form.
+fn write_run<W: Write>(out: &mut W, run: &Run<'_>) -> io::Result<()> {
+    write_word(out, run.rope)?;
+    out.write_all(b" ")?;
+    write_word(out, run.script)?;
+    let limit = run.limit;
+    write!(out, " --limit {limit}")?;
+    match run.form {
+        RopeForm::Classic => Ok(()),
+        RopeForm::Parity => out.write_all(b" --form parity"),
+    }
+}
+
+/// A word as a shell reads it: between quotes where it has a byte that may mean something to a shell.
+fn write_word<W: Write>(out: &mut W, word: &str) -> io::Result<()> {
+    if !word.is_empty() && word.bytes().all(is_plain) {
+        return out.write_all(word.as_bytes());
+    }
+    out.write_all(b"'")?;
+    for (number, part) in word.split('\'').enumerate() {
+        if 0 < number {
+            out.write_all(b"'\\''")?;
+        }
+        out.write_all(part.as_bytes())?;
+    }
+    out.write_all(b"'")
+}
+
+fn is_plain(byte: u8) -> bool {
+    byte.is_ascii_alphanumeric()
+        || matches!(
+            byte,
+            b'/' | b'.' | b'-' | b'_' | b'+' | b',' | b':' | b'=' | b'@'
+        )
 }

@@ -111,8 +111,8 @@ impl Session {
         }
         self.remark = "";
         match typed {
-            Typed::Quit => return (self, Wish::Quit),
-            Typed::Save => return (self, Wish::Save),
+            Typed::Quit => return (self.pressed_now(), Wish::Quit),
+            Typed::Save => return (self.pressed_now(), Wish::Save),
             Typed::Back => return (self.back(alloc, clock), Wish::None),
             Typed::Key(cap) => {
                 if self.seat.type_key(cap).is_err() {
@@ -129,6 +129,13 @@ impl Session {
         }
         self.begin_pace(clock);
         (self, Wish::None)
+    }
+
+    /// The key that may go down at the present cycle has gone down.
+    fn pressed_now(mut self) -> Session {
+        let pressed = self.seat.go_to(self.seat.cycle());
+        self.note(pressed);
+        self
     }
 
     /// The Executive's tables are shown, or no longer, where their places are known.

@@ -14,8 +14,10 @@ pub enum Trouble {
     OutputIsNoTerminal,
     /// The terminal knows no sequences.
     DumbTerminal,
-    /// A file of the name after `--save` is there already, or cannot be made.
-    SaveRefused,
+    /// A file of the name after `--save` is there already, and has something in it.
+    SaveTaken,
+    /// No file of the name after `--save` can be made.
+    SaveNotMade,
     /// The script could not be written.
     SaveFailed,
 }
@@ -32,7 +34,8 @@ impl Trouble {
             Trouble::InputIsNoTerminal | Trouble::OutputIsNoTerminal | Trouble::DumbTerminal => {
                 true
             }
-            Trouble::Refused(_) | Trouble::SaveRefused | Trouble::SaveFailed => false,
+            Trouble::Refused(_) | Trouble::SaveTaken | Trouble::SaveNotMade | Trouble::SaveFailed =>
+                false,
         }
     }
 }
@@ -50,11 +53,10 @@ impl fmt::Display for Trouble {
             Trouble::InputIsNoTerminal => f.write_str("standard input is no terminal"),
             Trouble::OutputIsNoTerminal => f.write_str("standard output is no terminal"),
             Trouble::DumbTerminal => f.write_str("a terminal of TERM=dumb cannot be drawn on"),
-            Trouble::SaveRefused => {
-                f.write_str(
-                    "the file after --save is there already, or cannot be made; --force writes over it",
-                )
+            Trouble::SaveTaken => {
+                f.write_str("the file after --save is there already; --force writes over it")
             }
+            Trouble::SaveNotMade => f.write_str("the file after --save cannot be made"),
             Trouble::SaveFailed => f.write_str("the script could not be saved"),
         }
     }

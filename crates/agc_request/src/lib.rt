@@ -9,8 +9,6 @@ mod name;
 mod number;
 mod place;
 mod request;
-#[cfg(test)]
-mod tests;
 mod words;
 
 pub use command::{Command, Target};

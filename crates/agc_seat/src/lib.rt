@@ -10,8 +10,6 @@ mod inside;
 mod pace;
 mod recent;
 mod seat;
-#[cfg(test)]
-mod tests;
 mod typed;
 
 pub use inside::{push_insides, push_tables};

@@ -83,12 +83,23 @@ impl Seat {
         self.machine().cycle()
     }
 
-    /// The limit with which `agc` comes as far: an order that stops the machine is met below it.
+    /// The limit with which `agc` comes as far: a key that was pressed at the present cycle, and an order that stops the
+    /// machine, is met below it.
     pub fn limit_to_repeat(&self) -> u64 {
         let cycle = self.cycle();
         match self.machine().stopped() {
-            None | Some(Stop::Limit) => cycle.max(1),
-            Some(_) => cycle.saturating_add(1),
+            Some(Stop::Limit) => cycle.max(1),
+            None if !self.has_just_pressed() => cycle.max(1),
+            _ => cycle.saturating_add(1),
+        }
+    }
+
+    /// A key went down, or PRO up, at the present cycle.
+    fn has_just_pressed(&self) -> bool {
+        let cycle = self.cycle();
+        match self.pressed.last() {
+            Some(last) => last.released.unwrap_or(last.cycle) == cycle,
+            None => false,
         }
     }
 

@@ -5,8 +5,6 @@
 mod fault;
 pub mod laws;
 mod sitting;
-#[cfg(test)]
-mod tests;
 
 pub use fault::{BeginFault, GiveFault, NotGoneBack};
 pub use sitting::Sitting;

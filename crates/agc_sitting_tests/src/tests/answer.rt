@@ -1,5 +1,5 @@
 //! Lines that answer, as a person or a program reads them.
-use crate::{
+use agc_dialogue::{
     push_came_line, push_cell_lines, push_channel_line, push_end_line, push_error_line,
     push_fault_line, push_next_line, push_registers_line, push_write_line, push_writes_line,
 };

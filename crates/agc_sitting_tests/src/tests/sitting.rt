@@ -1,7 +1,7 @@
 //! Sittings before small programs, worked out by hand. The numbers are octal, but for cycles.
-use crate::{GiveFault, Sitting};
 use agc_machine::{Stepped, Stop};
 use agc_script::{Key, Script, What};
+use agc_sitting::{GiveFault, Sitting};
 use agc_store::Rope;
 use agc_test_ropes::{IDLE, rope_file};
 use std::process::Abort;

@@ -1,6 +1,6 @@
 //! Lines as they are said. What each asks for was worked by hand from the tables of commands and places.
-use crate::{Command, CommandFault, CommandName, Target, read_request};
 use agc_executive::{Table, WatchFault, WatchSpec};
+use agc_request::{Command, CommandFault, CommandName, Target, read_request};
 use agc_script::{FaultKind, Key, What};
 use agc_source_words::Location;
 use agc_word::Narrow;

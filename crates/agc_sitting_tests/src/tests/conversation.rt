@@ -1,5 +1,5 @@
 //! Whole conversations: the texts were worked by hand from the programs and the cycles of their orders.
-use crate::converse;
+use agc_dialogue::converse;
 use agc_script::Script;
 use agc_sitting::Sitting;
 use agc_store::Rope;

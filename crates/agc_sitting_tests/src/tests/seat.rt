@@ -1,7 +1,7 @@
 //! What bytes type, how time goes, and when keys are pressed.
-use crate::{Decoder, Pace, Seat, Speed, Typed, push_insides};
 use agc_picture::Cap;
 use agc_script::{Key, Script};
+use agc_seat::{Decoder, Pace, Seat, Speed, Typed, push_insides};
 use agc_sitting::{GiveFault, Sitting};
 use agc_store::Rope;
 use agc_test_ropes::{IDLE, rope_file};

@@ -1,3 +1,0 @@
-//! Lines that answer, and whole conversations, worked by hand.
-mod answer;
-mod conversation;

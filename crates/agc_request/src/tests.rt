@@ -1,2 +1,0 @@
-//! Lines that are said, worked by hand.
-mod request;
