@@ -1,0 +1,154 @@
+-- The boundaries that a machine still makes, one by one.
+use Rattle.std.proofs.Common.{◌≡◌, ℕ, ◌<◌, List, [], ◌∷◌, None, Bool, true, false, refl, ap, sym, ◌∙◌, subst, arith}
+use Rattle.std.specs.Prelude.{if◌then◌else◌, ◌&&◌, filter, nat_le}
+use Rattle.std.proofs.lemmas.Bool.Decides.{nat_tests}
+use Rattle.agc_machine.specs.Boundary.{boundary, upcoming_of}
+use Rattle.agc_machine.specs.State.{State}
+use Rattle.agc_machine.specs.declared.upcoming.Upcoming.{Upcoming}
+use Rattle.agc_trace.specs.Entry.{entry_of}
+use Rattle.agc_trace.specs.Trace.{entries_left, is_stop, trace_of}
+use Rattle.agc_trace.specs.TraceLaws.{NeverGoBack}
+use Rattle.agc_trace.specs.declared.entry.Entry.{Entry}
+use Rattle.agc_trace.proofs.Forward.{trace_goes_forward}
+use Rattle.agc_trace.proofs.Steps.{fewer_entries, rest_ends, rest_goes_on, trace_by_entry}
+use Rattle.agc_count.specs.Counts.{counted, counted_in, counted_one}
+use Rattle.agc_count.specs.Mode.{mode_after}
+use Rattle.agc_count.specs.Passage.{is_in, passage_between, passage_of, passages, passages_left}
+use Rattle.agc_count.specs.declared.span.Span.{Span}
+use Rattle.agc_count.specs.declared.counts.Counts.{Counts}
+use Rattle.agc_count.specs.declared.mode.Mode.{Mode}
+use Rattle.agc_count.specs.declared.passage.Passage.{Passage}
+
+none_of : (b : Bool) → (b && false) ≡ false
+none_of true = refl
+none_of false = refl
+
+takes_by : (b : Bool) (p : Passage) (ps : List Passage) → b ≡ true → (if b then p ∷ ps else ps) ≡ p ∷ ps
+takes_by true p ps e = refl
+takes_by false p ps e = cc
+
+leaves_by : (b : Bool) (p : Passage) (ps : List Passage) → b ≡ false → (if b then p ∷ ps else ps) ≡ ps
+leaves_by true p ps e = cc
+leaves_by false p ps e = refl
+
+takes_in : (span : Span) (p : Passage) (ps : List Passage) → is_in span p ≡ true → filter (is_in span) (p ∷ ps) ≡ p ∷ filter (is_in span) ps
+takes_in span p ps e = takes_by (is_in span p) p (filter (is_in span) ps) e
+
+not_in : (span : Span) (p : Passage) (ps : List Passage) → is_in span p ≡ false → filter (is_in span) (p ∷ ps) ≡ filter (is_in span) ps
+not_in span p ps e = leaves_by (is_in span p) p (filter (is_in span) ps) e
+
+-- two entries in a row, of which the first tells this state and the second the next one
+first_of : (mode : Mode) (s : State) (entry next : Entry) (rest : List Entry) → entry ≡ entry_of s → next ≡ entry_of (boundary None s).0 →
+    passages mode (entry ∷ next ∷ rest) ≡ passage_of mode s ∷ passages (mode_after (upcoming_of s) mode) (next ∷ rest)
+unfolding passages passage_of entry_of
+first_of mode s entry next rest e f = cc
+
+-- the boundaries from a state on are its own and those from the next state on
+pub passages_go_on : (mode : Mode) (s : State) → is_stop (upcoming_of s) ≡ false →
+    passages mode (trace_of s) ≡ passage_of mode s ∷ passages (mode_after (upcoming_of s) mode) (trace_of (boundary None s).0)
+passages_go_on mode s f =
+    let t = (boundary None s).0 in
+    let rest = if is_stop (upcoming_of t) then [] else trace_of (boundary None t).0 in
+    let two : trace_of s ≡ entry_of s ∷ entry_of t ∷ rest =
+    trace_by_entry s ∙ ap (λ (xs : List Entry). entry_of s ∷ xs) (rest_goes_on (is_stop (upcoming_of s)) (trace_of t) f ∙ trace_by_entry t) in
+    ap (λ (xs : List Entry). passages mode xs) two
+    ∙ first_of mode s (entry_of s) (entry_of t) rest refl refl
+    ∙ ap (λ (xs : List Entry). passage_of mode s ∷ passages (mode_after (upcoming_of s) mode) xs) (sym (trace_by_entry t))
+
+-- at the stop there are none
+pub passages_end : (mode : Mode) (s : State) → is_stop (upcoming_of s) ≡ true → passages mode (trace_of s) ≡ []
+unfolding passages
+passages_end mode s f =
+    ap (λ (xs : List Entry). passages mode xs)
+    (trace_by_entry s ∙ ap (λ (xs : List Entry). entry_of s ∷ xs) (rest_ends (is_stop (upcoming_of s)) (trace_of (boundary None s).0) f))
+
+late : (span : Span) (p : Passage) → span.to < p.cycle → is_in span p ≡ false
+late span p l =
+    let long : nat_le p.cycle span.to ≡ false = grind (arith, nat_tests) in
+    ap (λ (b : Bool). nat_le span.from p.cycle && b) long ∙ none_of (nat_le span.from p.cycle)
+
+none_late : (span : Span) (mode : Mode) (from : ℕ) (entries : List Entry) → span.to < from → NeverGoBack from entries →
+    filter (is_in span) (passages mode entries) ≡ []
+unfolding passages
+none_late span mode from [] l h = refl
+none_late span mode from (entry ∷ []) l h = refl
+none_late span mode from (entry ∷ next ∷ entries) l h =
+    not_in span (passage_between mode entry next) (passages (mode_after entry.happening mode) (next ∷ entries))
+    (late span (passage_between mode entry next) (omega (arith, h.0)))
+    ∙ none_late span (mode_after entry.happening mode) entry.cycle (next ∷ entries) (omega (arith, h.0)) h.1
+
+-- past the last cycle of the span no boundary is counted
+pub none_past : (span : Span) (mode : Mode) (s : State) → span.to < s.cycle → passages_left span mode s ≡ []
+unfolding passages_left
+none_past span mode s l = none_late span mode s.cycle (trace_of s) l (trace_goes_forward s)
+
+-- at the stop none is left
+pub none_at_stop : (span : Span) (mode : Mode) (s : State) → is_stop (upcoming_of s) ≡ true → passages_left span mode s ≡ []
+unfolding passages_left
+none_at_stop span mode s f = ap (λ (ps : List Passage). filter (is_in span) ps) (passages_end mode s f)
+
+-- a boundary that is no stop is left with those after it
+pub left_after : (span : Span) (mode : Mode) (s : State) → is_stop (upcoming_of s) ≡ false →
+    passages_left span mode s
+    ≡ filter (is_in span) (passage_of mode s ∷ passages (mode_after (upcoming_of s) mode) (trace_of (boundary None s).0))
+unfolding passages_left
+left_after span mode s f = ap (λ (ps : List Passage). filter (is_in span) ps) (passages_go_on mode s f)
+
+happens : (mode : Mode) (s : State) → (passage_of mode s).happening ≡ upcoming_of s
+unfolding passage_of
+happens mode s = refl
+
+begins_in : (mode : Mode) (s : State) → (passage_of mode s).mode ≡ mode
+unfolding passage_of
+begins_in mode s = refl
+
+as_told : (span : Span) (mode : Mode) (s : State) (c : Counts) → (passage_of mode s).happening ≡ upcoming_of s → (passage_of mode s).mode ≡ mode →
+    counted (counted_in span (passage_of mode s) c) (passages_left span (mode_after (passage_of mode s).happening (passage_of mode s).mode) (boundary None s).0)
+    ≡ counted (counted_in span (passage_of mode s) c) (passages_left span (mode_after (upcoming_of s) mode) (boundary None s).0)
+as_told span mode s c e f =
+    ap (λ (u : Upcoming). counted (counted_in span (passage_of mode s) c) (passages_left span (mode_after u (passage_of mode s).mode) (boundary None s).0)) e
+    ∙ ap (λ (m : Mode). counted (counted_in span (passage_of mode s) c) (passages_left span (mode_after (upcoming_of s) m) (boundary None s).0)) f
+
+-- the boundary that was told is the stop where what is told is
+pub told_stop : (b : Bool) (mode : Mode) (s : State) (p : Passage) → p ≡ passage_of mode s → is_stop p.happening ≡ b → is_stop (upcoming_of s) ≡ b
+told_stop b mode s p e f = ap is_stop (sym (happens mode s)) ∙ ap (λ (q : Passage). is_stop q.happening) (sym e) ∙ f
+
+counted_by : (b : Bool) (p : Passage) (ps : List Passage) (c : Counts) →
+    counted (if b then counted_one p c else c) ps ≡ counted c (if b then p ∷ ps else ps)
+unfolding counted
+counted_by true p ps c = refl
+counted_by false p ps c = refl
+
+-- a boundary that is no stop is counted where it is in the span, and those after it are left
+pub counted_next : (span : Span) (mode : Mode) (s : State) (c : Counts) → is_stop (upcoming_of s) ≡ false →
+    counted (counted_in span (passage_of mode s) c) (passages_left span (mode_after (upcoming_of s) mode) (boundary None s).0)
+    ≡ counted c (passages_left span mode s)
+unfolding passages_left
+counted_next span mode s c f =
+    let rest = passages (mode_after (upcoming_of s) mode) (trace_of (boundary None s).0) in
+    counted_by (is_in span (passage_of mode s)) (passage_of mode s) (filter (is_in span) rest) c
+    ∙ sym (ap (λ (ps : List Passage). counted c ps) (left_after span mode s f))
+
+-- the same of a boundary that was told
+pub counted_told : (span : Span) (mode after : Mode) (s t : State) (c more : Counts) (p : Passage) → p ≡ passage_of mode s → t ≡ (boundary None s).0 →
+    is_stop p.happening ≡ false → after ≡ mode_after p.happening p.mode → more ≡ counted_in span p c →
+    counted more (passages_left span after t) ≡ counted c (passages_left span mode s)
+counted_told span mode after s t c more p e f stop g h =
+    ap (λ (x : Counts). counted x (passages_left span after t)) h
+    ∙ ap (λ (x : State). counted (counted_in span p c) (passages_left span after x)) f
+    ∙ ap (λ (m : Mode). counted (counted_in span p c) (passages_left span m (boundary None s).0)) g
+    ∙ ap (λ (q : Passage). counted (counted_in span q c) (passages_left span (mode_after q.happening q.mode) (boundary None s).0)) e
+    ∙ as_told span mode s c (happens mode s) (begins_in mode s)
+    ∙ counted_next span mode s c (told_stop false mode s p e stop)
+
+-- a boundary that is no stop leaves fewer entries
+pub fewer_left : (mode : Mode) (s t : State) (p : Passage) → p ≡ passage_of mode s → t ≡ (boundary None s).0 → is_stop p.happening ≡ false →
+    entries_left t < entries_left s
+fewer_left mode s t p e f stop =
+    subst (λ (u : State). entries_left u < entries_left s) (sym f) (fewer_entries s (told_stop false mode s p e stop))
+
+-- nothing more is counted where nothing is left
+pub counted_all : (span : Span) (mode : Mode) (s : State) (c whole : Counts) → passages_left span mode s ≡ [] →
+    counted c (passages_left span mode s) ≡ whole → c ≡ whole
+unfolding counted
+counted_all span mode s c whole e h = ap (λ (ps : List Passage). counted c ps) (sym e) ∙ h

@@ -1,0 +1,105 @@
+-- What of the boundaries of a run is counted.
+use Rattle.std.specs.Prelude.{◌-◌, Bool, true, false, List, [], ◌∷◌, Option, Some, None, if◌then◌else◌}
+use Rattle.agc_word.specs.Number.{pattern_of}
+use Rattle.agc_order.specs.Order.{basic_of, extracode_of}
+use Rattle.agc_processor.specs.Interrupt.{rupt_number}
+use Rattle.agc_processor.specs.declared.interrupt.Rupt.{Rupt}
+use Rattle.agc_machine.specs.declared.upcoming.InHand.{InHand}
+use Rattle.agc_machine.specs.declared.upcoming.Upcoming.{Upcoming}
+use Rattle.agc_machine.specs.declared.upcoming.Upcoming.TheVariants as upcoming
+use Rattle.agc_source_words.specs.Location.{location_at}
+use Rattle.agc_source_words.specs.declared.location.Location.{Location}
+use Rattle.agc_source_words.specs.declared.location.Location.TheVariants as location
+use Rattle.agc_count.specs.Number.{basic_number, extracode_number}
+use Rattle.agc_count.specs.Passage.{is_in, service_of}
+use Rattle.agc_count.specs.Tally.{added, empty_table, nothing, once, plus}
+use Rattle.agc_count.specs.declared.counts.Counts.{Counts}
+use Rattle.agc_count.specs.declared.passage.Passage.{Passage}
+use Rattle.agc_count.specs.declared.span.Span.{Span}
+use Rattle.agc_count.specs.declared.tally.Tally.{Tally}
+
+-- an order may stand at a place of 40 fixed banks, of which the last four are empty, or at a cell
+unfoldable pub nothing_counted : Counts
+nothing_counted =
+    record {
+      fixed = empty_table 0o120000;
+      erasable = empty_table 0o4000;
+      basics = empty_table 19;
+      extracodes = empty_table 20;
+      interrupts = empty_table 10;
+      orders = nothing;
+      timers = nothing;
+      events = nothing;
+      entries = nothing;
+      serving = nothing;
+      inhibited = nothing;
+    }
+
+-- an order at its place
+abbrev pub counted_at : Location → Tally → Counts → Counts
+counted_at (location.Fixed place) one c = record c { fixed = added place one c.fixed }
+counted_at (location.Erasable cell) one c = record c { erasable = added cell one c.erasable }
+
+-- an order with those of its name
+abbrev pub counted_as : InHand → Tally → Counts → Counts
+counted_as order one c =
+    let word = pattern_of 15 order.word in
+    if order.extracode
+    then record c { extracodes = added (extracode_number (extracode_of word)) one c.extracodes }
+    else record c { basics = added (basic_number (basic_of word)) one c.basics }
+
+-- what happened, with all of its kind
+abbrev pub counted_happening : Upcoming → Tally → Counts → Counts
+counted_happening (upcoming.Order order) one c =
+    let placed = counted_at (location_at order.bank order.address) one c in
+    counted_as order one (record placed { orders = plus placed.orders one })
+counted_happening (upcoming.Timer t) one c = record c { timers = plus c.timers one }
+counted_happening (upcoming.Event what) one c = record c { events = plus c.events one }
+counted_happening (upcoming.Interrupt r) one c = record c { entries = plus c.entries one }
+counted_happening (upcoming.Stop why) one c = c
+
+-- an interrupt is taken
+abbrev pub is_entry : Upcoming → Bool
+is_entry (upcoming.Interrupt r) = true
+is_entry (upcoming.Stop why) = false
+is_entry (upcoming.Event what) = false
+is_entry (upcoming.Timer t) = false
+is_entry (upcoming.Order order) = false
+
+-- what a service has of a boundary: its cycles, and one interrupt where that is the entry
+abbrev pub served : Passage → Tally
+served p = record { times = if is_entry p.happening then 1 else 0; cycles = p.cycles }
+
+-- a boundary with the service that it belongs to, if any
+abbrev pub counted_serving : Option Rupt → Passage → Counts → Counts
+counted_serving (Some r) p c =
+    record c {
+      interrupts = added (rupt_number r - 1) (served p) c.interrupts;
+      serving = plus c.serving (once p.cycles);
+    }
+counted_serving None p c = c
+
+-- a boundary that begins with INHINT in force
+abbrev pub counted_inhibited : Bool → Tally → Counts → Counts
+counted_inhibited true one c = record c { inhibited = plus c.inhibited one }
+counted_inhibited false one c = c
+
+-- one boundary more
+unfoldable pub counted_one : Passage → Counts → Counts
+counted_one p c =
+    let one = once p.cycles in
+    counted_inhibited p.mode.inhibited one
+    (counted_serving (service_of p) p (counted_happening p.happening one c))
+
+-- one boundary more, where it begins in a span of cycles
+abbrev pub counted_in : Span → Passage → Counts → Counts
+counted_in span p c = if is_in span p then counted_one p c else c
+
+-- so many boundaries more
+unfoldable pub counted : Counts → List Passage → Counts
+counted c [] = c
+counted c (p ∷ ps) = counted (counted_one p c) ps
+
+-- what of boundaries is counted
+abbrev pub count_of : List Passage → Counts
+count_of ps = counted nothing_counted ps

@@ -1,0 +1,5 @@
+pub mod Tally
+pub mod Mode
+pub mod Passage
+pub mod Number
+pub mod Counts

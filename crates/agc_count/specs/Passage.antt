@@ -1,0 +1,64 @@
+-- The boundaries of a run, each with the cycles that it takes and what it begins in.
+use Rattle.std.specs.Prelude.{◌-◌, ◌&&◌, Bool, nat_le, List, [], ◌∷◌, filter, Option, Some, None}
+use Rattle.agc_processor.specs.declared.interrupt.Rupt.{Rupt}
+use Rattle.agc_machine.specs.Boundary.{boundary, upcoming_of}
+use Rattle.agc_machine.specs.State.{State}
+use Rattle.agc_machine.specs.declared.upcoming.Upcoming.{Upcoming}
+use Rattle.agc_machine.specs.declared.upcoming.Upcoming.TheVariants as upcoming
+use Rattle.agc_trace.specs.Trace.{trace_of}
+use Rattle.agc_trace.specs.declared.entry.Entry.{Entry}
+use Rattle.agc_count.specs.Mode.{at_start, mode_after}
+use Rattle.agc_count.specs.declared.span.Span.{Span}
+use Rattle.agc_count.specs.declared.mode.Mode.{Mode}
+use Rattle.agc_count.specs.declared.passage.Passage.{Passage}
+
+-- an entry of a trace takes the cycles up to the next one
+abbrev pub passage_between : Mode → Entry → Entry → Passage
+passage_between mode entry next =
+    record {
+      cycle = entry.cycle;
+      happening = entry.happening;
+      cycles = next.cycle - entry.cycle;
+      mode = mode;
+    }
+
+-- the boundaries of a trace up to its last entry, which is the stop and takes none
+unfoldable pub passages : Mode → List Entry → List Passage
+passages mode [] = []
+passages mode (last ∷ []) = []
+passages mode (entry ∷ next ∷ entries) =
+    passage_between mode entry next
+    ∷ passages (mode_after entry.happening mode) (next ∷ entries)
+
+-- a boundary that begins in a span of cycles
+abbrev pub is_in : Span → Passage → Bool
+is_in span passage = nat_le span.from passage.cycle && nat_le passage.cycle span.to
+
+-- the boundaries in a span that a machine still makes, from a state that is in a mode
+unfoldable pub passages_left : Span → Mode → State → List Passage
+passages_left span mode s = filter (is_in span) (passages mode (trace_of s))
+
+-- the boundaries of a run in a span
+abbrev pub passages_in : Span → State → List Passage
+passages_in span s = passages_left span at_start s
+
+-- the boundary that begins in a state
+unfoldable pub passage_of : Mode → State → Passage
+passage_of mode s =
+    record {
+      cycle = s.cycle;
+      happening = upcoming_of s;
+      cycles = (boundary None s).0.cycle - s.cycle;
+      mode = mode;
+    }
+
+-- to a service belong the entry of its interrupt and all up to its RESUME
+abbrev pub service_by : Upcoming → Option Rupt → Option Rupt
+service_by (upcoming.Interrupt r) before = Some r
+service_by (upcoming.Stop why) before = before
+service_by (upcoming.Event what) before = before
+service_by (upcoming.Timer t) before = before
+service_by (upcoming.Order order) before = before
+
+abbrev pub service_of : Passage → Option Rupt
+service_of passage = service_by passage.happening passage.mode.service

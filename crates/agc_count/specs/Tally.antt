@@ -1,0 +1,24 @@
+-- How often something happened and how many cycles it took, and tables of that.
+use Rattle.std.specs.Prelude.{ℕ, ◌+◌, List, replicate, set, get_or}
+use Rattle.agc_count.specs.declared.tally.Tally.{Tally}
+
+abbrev pub nothing : Tally
+nothing = record { times = 0; cycles = 0 }
+
+abbrev pub once : ℕ → Tally
+once cycles = record { times = 1; cycles = cycles }
+
+abbrev pub plus : Tally → Tally → Tally
+plus x y = record { times = x.times + y.times; cycles = x.cycles + y.cycles }
+
+-- a table of so many tallies in which nothing is counted yet
+unfoldable pub empty_table : ℕ → List Tally
+empty_table size = replicate size nothing
+
+-- the tally at a place of a table
+unfoldable pub tally_at : ℕ → List Tally → Tally
+tally_at place table = get_or table place nothing
+
+-- a table with a tally more at a place
+unfoldable pub added : ℕ → Tally → List Tally → List Tally
+added place tally table = set table place (plus (get_or table place nothing) tally)

@@ -1,0 +1,19 @@
+//! How often a run does what, and how many cycles that takes: its words, its orders, its interrupts.
+#![tactic(auto)]
+
+mod counting;
+mod counts;
+mod mode;
+mod number;
+mod passage;
+mod span;
+mod table;
+mod tally;
+
+pub use counting::count;
+pub use counts::Counts;
+pub use mode::Mode;
+pub use passage::Passage;
+pub use span::Span;
+pub use table::Table;
+pub use tally::Tally;

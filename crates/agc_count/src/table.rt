@@ -1,0 +1,62 @@
+//! Tallies of many things of one kind, each at its place.
+use crate::tally::Tally;
+use std::alloc::{AllocError, Global};
+use std::marker::Model;
+
+/// A tally for each of so many things.
+#[derive(Debug, Drop)]
+pub struct Table {
+    tallies: Vec<Tally>,
+}
+
+impl Model for Table {
+    ghost use Rattle.std.specs.Prelude.{List};
+    ghost use Rattle.agc_count.specs.declared.tally.Tally.{Tally};
+
+    ghost Value = { List Tally };
+
+    ghost view = { λ t. t.tallies.items };
+}
+
+impl Table {
+    ghost use Rattle.std.specs.Prelude.{◌≡◌, length, IfOk, OnOk};
+    ghost use Rattle.agc_count.specs.Tally.{added, empty_table, tally_at};
+
+    /// A table for so many things, of which nothing is counted yet. Fails where memory runs out.
+    #[tactic(auto, unfolding(crate::specs::Tally::empty_table))]
+    pub(crate) fn new(alloc: Global, size: usize) -> Result<Table, AllocError>
+        ensures { IfOk result (λ table. table ≡ empty_table size) }
+    {
+        let tallies = vec![in alloc; Tally::NOTHING; size]?;
+        Ok(Table { tallies })
+    }
+
+    /// For how many things there is a tally.
+    pub fn len(&self) -> usize
+        ensures { result ≡ length self.now }
+    {
+        self.tallies.len()
+    }
+
+    /// The tally of the thing at a place; past the last one nothing is counted.
+    #[tactic(auto, unfolding(crate::specs::Tally::tally_at))]
+    pub fn at(&self, place: usize) -> Tally
+        ensures { result ≡ tally_at place self.now }
+    {
+        match self.tallies.get(place) {
+            Some(tally) => *tally,
+            None => Tally::NOTHING,
+        }
+    }
+
+    /// Counts a tally more at a place; past the last one nothing is counted. Fails where a number has no room.
+    #[tactic(auto, unfolding(crate::specs::Tally::added))]
+    pub(crate) fn add(&mut self, place: usize, more: Tally) -> Result<(), AllocError>
+        ensures { OnOk result (self.new ≡ added place more self.old) }
+    {
+        if place < self.tallies.len() {
+            self.tallies[place] = self.tallies[place].plus(more)?;
+        }
+        Ok(())
+    }
+}

@@ -1,0 +1,40 @@
+//! How often something happened, and how many cycles it took.
+ghost use Rattle.std.specs.Prelude.{◌≡◌};
+
+use std::alloc::AllocError;
+
+/// How often something happened, and how many cycles it took in all.
+#[derive(Clone, Copy, Debug, PartialEq, Eq)]
+pub struct Tally {
+    pub times: u64,
+    pub cycles: u64,
+}
+
+impl Tally {
+    ghost use Rattle.std.specs.Prelude.{◌≡◌, IfOk};
+    ghost use Rattle.agc_count.specs.Tally.{nothing, once, plus};
+
+    /// Nothing happened.
+    pub const NOTHING: Tally = Tally {
+        times: 0,
+        cycles: 0,
+    };
+
+    /// Something happened once, and took so many cycles.
+    pub fn once(cycles: u64) -> Tally
+        ensures { result ≡ once cycles }
+    {
+        Tally { times: 1, cycles }
+    }
+
+    /// Both together. No run is so long that a count has no room in 64 bits; such a one is refused as one
+    /// whose memory is out.
+    pub fn plus(self, more: Tally) -> Result<Tally, AllocError>
+        ensures { IfOk result (λ both. both ≡ plus self more) }
+    {
+        Ok(Tally {
+            times: self.times.checked_add(more.times).ok_or(AllocError)?,
+            cycles: self.cycles.checked_add(more.cycles).ok_or(AllocError)?,
+        })
+    }
+}
