@@ -1,1 +1,3 @@
 mod Left
+mod Places
+mod Lengths

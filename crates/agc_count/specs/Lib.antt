@@ -3,3 +3,4 @@ pub mod Mode
 pub mod Passage
 pub mod Number
 pub mod Counts
+pub mod Laws

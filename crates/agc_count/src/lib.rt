@@ -3,6 +3,7 @@
 
 mod counting;
 mod counts;
+pub mod laws;
 mod mode;
 mod number;
 mod passage;

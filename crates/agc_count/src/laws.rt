@@ -1,0 +1,26 @@
+//! Laws of every count, each the contract of a function that does nothing.
+ghost use Rattle.std.specs.Prelude.{◌≡◌, ◌+◌, ◌<◌, ℕ, List, filter};
+ghost use Rattle.agc_machine.specs.Run.{run_of};
+ghost use Rattle.agc_machine.specs.State.{State};
+ghost use Rattle.agc_source_words.specs.declared.location.Location.TheVariants as location;
+ghost use Rattle.agc_trace.specs.Trace.{trace_of};
+ghost use Rattle.agc_count.specs.Counts.{count_of};
+ghost use Rattle.agc_count.specs.Laws.{counted_cycles, ran_at, tally_of};
+ghost use Rattle.agc_count.specs.Mode.{at_start};
+ghost use Rattle.agc_count.specs.Passage.{passages};
+ghost use Rattle.agc_count.specs.Tally.{tally_at};
+ghost use Rattle.agc_count.specs.declared.passage.Passage.{Passage};
+
+/// Each place has as many orders as there are boundaries that ran the order at this place, and their cycles.
+pub fn a_place_has_its_boundaries()
+    ensures fixed { (place : ℕ) (ps : List Passage) → place < 0o120000
+        → tally_at place (count_of ps).fixed ≡ tally_of (filter (ran_at (location.Fixed place)) ps) }
+    ensures erasable { (cell : ℕ) (ps : List Passage) → cell < 0o4000
+        → tally_at cell (count_of ps).erasable ≡ tally_of (filter (ran_at (location.Erasable cell)) ps) }
+{}
+
+/// The cycles of a whole run, by kinds, add up to its length.
+pub fn the_cycles_add_up()
+    ensures { (s : State) → counted_cycles (count_of (passages at_start (trace_of s))) + s.cycle
+        ≡ (run_of s).last.cycle }
+{}
