@@ -11,9 +11,9 @@ use Rattle.agc_trace.specs.TraceLaws.{NeverGoBack}
 use Rattle.agc_trace.specs.declared.entry.Entry.{Entry}
 use Rattle.agc_trace.proofs.Forward.{trace_goes_forward}
 use Rattle.agc_trace.proofs.Steps.{fewer_entries, rest_ends, rest_goes_on, trace_by_entry}
-use Rattle.agc_count.specs.Counts.{counted, counted_in, counted_one}
-use Rattle.agc_count.specs.Mode.{mode_after}
-use Rattle.agc_count.specs.Passage.{is_in, passage_between, passage_of, passages, passages_left}
+use Rattle.agc_count.specs.Counts.{count_of, counted, counted_in, counted_one, nothing_counted}
+use Rattle.agc_count.specs.Mode.{at_start, mode_after}
+use Rattle.agc_count.specs.Passage.{is_in, passage_between, passage_of, passages, passages_in, passages_left}
 use Rattle.agc_count.specs.declared.span.Span.{Span}
 use Rattle.agc_count.specs.declared.counts.Counts.{Counts}
 use Rattle.agc_count.specs.declared.mode.Mode.{Mode}
@@ -152,3 +152,9 @@ pub counted_all : (span : Span) (mode : Mode) (s : State) (c whole : Counts) →
     counted c (passages_left span mode s) ≡ whole → c ≡ whole
 unfolding counted
 counted_all span mode s c whole e h = ap (λ (ps : List Passage). counted c ps) (sym e) ∙ h
+
+-- a count begins with nothing, in the mode of a run's start
+pub starts : (span : Span) (s : State) (mode : Mode) (c : Counts) → c ≡ nothing_counted → mode ≡ at_start →
+    counted c (passages_left span mode s) ≡ count_of (passages_in span s)
+starts span s mode c e f =
+    ap (λ (d : Counts). counted d (passages_left span mode s)) e ∙ ap (λ (m : Mode). counted nothing_counted (passages_left span m s)) f

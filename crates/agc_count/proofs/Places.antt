@@ -46,7 +46,7 @@ joined true t p ps =
     (omega arith) (omega (arith, sum_by-cons (λ (q : Passage). q.cycles) p ps))
 joined false t p ps = refl
 
-added_length : (place : ℕ) (t : Tally) (xs : List Tally) → length (added place t xs) ≡ length xs
+pub added_length : (place : ℕ) (t : Tally) (xs : List Tally) → length (added place t xs) ≡ length xs
 unfolding added
 added_length place t xs = length-set xs place (plus (get_or xs place nothing) t)
 

@@ -1,5 +1,5 @@
 -- What the counts of a run say of its boundaries.
-use Rattle.std.specs.Prelude.{ℕ, ◌+◌, Bool, List, length}
+use Rattle.std.specs.Prelude.{◌≡◌, ℕ, ◌+◌, Bool, List, length}
 use Rattle.std.specs.List.{sum_by}
 use Rattle.agc_source_words.specs.declared.location.Location.{Location}
 use Rattle.agc_trace.specs.Selection.{runs_at}
@@ -18,3 +18,19 @@ ran_at here p = runs_at (record { first = here; last = here }) p.happening
 -- the cycles of all kinds of boundaries
 abbrev pub counted_cycles : Counts → ℕ
 counted_cycles c = c.orders.cycles + c.timers.cycles + c.events.cycles + c.entries.cycles
+
+-- how often and for how many cycles, all of a table together
+abbrev pub times_in : List Tally → ℕ
+times_in table = sum_by (λ tally. tally.times) table
+
+abbrev pub cycles_in : List Tally → ℕ
+cycles_in table = sum_by (λ tally. tally.cycles) table
+
+-- two tables make up a whole
+pub record MakeUp (table others : List Tally) (all : Tally) : Type 0 where
+  pub times : times_in table + times_in others ≡ all.times
+  pub cycles : cycles_in table + cycles_in others ≡ all.cycles
+
+-- all orders are those of the places of both memories, and those of all names
+abbrev pub OrdersAddUp : Counts → Type 0
+OrdersAddUp c = MakeUp c.fixed c.erasable c.orders × MakeUp c.basics c.extracodes c.orders

@@ -1,10 +1,13 @@
 -- The boundaries of a run, each with the cycles that it takes and what it begins in.
-use Rattle.std.specs.Prelude.{◌-◌, ◌&&◌, Bool, nat_le, List, [], ◌∷◌, filter, Option, Some, None}
+use Rattle.std.specs.Prelude.{◌<◌, ◌-◌, ◌&&◌, Bool, nat_le, List, [], ◌∷◌, filter, Option, Some, None}
 use Rattle.agc_processor.specs.declared.interrupt.Rupt.{Rupt}
 use Rattle.agc_machine.specs.Boundary.{boundary, upcoming_of}
 use Rattle.agc_machine.specs.State.{State}
 use Rattle.agc_machine.specs.declared.upcoming.Upcoming.{Upcoming}
 use Rattle.agc_machine.specs.declared.upcoming.Upcoming.TheVariants as upcoming
+use Rattle.agc_source_words.specs.Location.{location_at}
+use Rattle.agc_source_words.specs.declared.location.Location.{Location}
+use Rattle.agc_source_words.specs.declared.location.Location.TheVariants as location
 use Rattle.agc_trace.specs.Trace.{trace_of}
 use Rattle.agc_trace.specs.declared.entry.Entry.{Entry}
 use Rattle.agc_count.specs.Mode.{at_start, mode_after}
@@ -62,3 +65,16 @@ service_by (upcoming.Order order) before = before
 
 abbrev pub service_of : Passage → Option Rupt
 service_of passage = service_by passage.happening passage.mode.service
+
+-- a place that the tables of a count have: of 40 fixed banks, of which the last four are empty, or a cell
+abbrev pub HasTally : Location → Type 0
+HasTally (location.Fixed place) = place < 0o120000
+HasTally (location.Erasable cell) = cell < 0o4000
+
+-- an order stands at such a place
+abbrev pub IsPlaced : Upcoming → Type 0
+IsPlaced (upcoming.Order order) = HasTally (location_at order.bank order.address)
+IsPlaced (upcoming.Stop why) = Unit {0}
+IsPlaced (upcoming.Event what) = Unit {0}
+IsPlaced (upcoming.Timer t) = Unit {0}
+IsPlaced (upcoming.Interrupt r) = Unit {0}

@@ -1,6 +1,7 @@
 //! The boundaries of a run counted, one after another: memory does not grow with the run.
 ghost use Rattle.std.specs.Prelude.{◌≡◌, IfOk};
 ghost use Rattle.agc_count.specs.Counts.{count_of};
+ghost use Rattle.agc_count.specs.Laws.{OrdersAddUp};
 ghost use Rattle.agc_count.specs.Passage.{passages_in};
 
 use crate::counts::Counts;
@@ -19,7 +20,8 @@ pub fn count<P: Progress>(
     span: Span,
     progress: &mut P,
 ) -> Result<Counts, AllocError>
-    ensures { IfOk result (λ counts. counts ≡ count_of (passages_in span machine.old)) }
+    ensures counts { IfOk result (λ counts. counts ≡ count_of (passages_in span machine.old)) }
+    ensures law { IfOk result OrdersAddUp }
 {
     let mut counts = Counts::none(alloc)?;
     let mut mode = Mode::at_start();

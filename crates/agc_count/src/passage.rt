@@ -1,11 +1,14 @@
 //! One boundary of a run, with the cycles that it takes and what it begins in.
-ghost use Rattle.std.specs.Prelude.{◌≡◌, None};
-ghost use Rattle.agc_machine.specs.Boundary.{HasPlace, boundary};
-ghost use Rattle.agc_count.specs.Passage.{passage_of};
+ghost use Rattle.std.specs.Prelude.{◌≡◌, ◌<◌, None};
+ghost use Rattle.agc_source_words.specs.Location.{location_at};
+ghost use Rattle.agc_store.specs.Places.{fixed_window};
+ghost use Rattle.agc_machine.specs.Boundary.{boundary, HasPlace};
+ghost use Rattle.agc_count.specs.Passage.{HasTally, IsPlaced, passage_of};
 
 use crate::mode::{Mode, inhibited_after, service_after};
 use agc_machine::{Machine, Upcoming};
 use agc_processor::Rupt;
+use agc_store::Addr;
 
 /// One boundary of a run.
 #[derive(Clone, Copy, Debug, PartialEq, Eq)]
@@ -61,10 +64,11 @@ impl Passage {
 pub(crate) fn next_passage(machine: &mut Machine, mode: Mode) -> Passage
     ensures passage { result ≡ passage_of mode machine.old }
     ensures after { machine.new ≡ (boundary None machine.old).0 }
-    ensures place { HasPlace result.happening }
+    ensures placed { IsPlaced result.happening }
 {
     let cycle = machine.cycle();
     let happening = machine.upcoming();
+    has_tally(&happening);
     machine.step(None);
     Passage {
         cycle,
@@ -72,4 +76,24 @@ pub(crate) fn next_passage(machine: &mut Machine, mode: Mode) -> Passage
         cycles: machine.cycle().saturating_sub(cycle),
         mode,
     }
+}
+
+/// An order that has a place has one in the tables.
+fn has_tally(happening: &Upcoming)
+    requires { HasPlace happening.now }
+    ensures { IsPlaced happening.now }
+{
+    if let Upcoming::Order(order) = happening {
+        is_within(order.bank, order.address);
+    }
+}
+
+/// A place by its bank and its address is in the tables.
+#[tactic(auto, unfolding(agc_source_words::specs::Location::location_at))]
+fn is_within(bank: u8, address: Addr)
+    requires bank { bank < 0o50 }
+    requires erasable { address < fixed_window → bank < 0o10 }
+    ensures { HasTally (location_at bank address) }
+{
+    let _address = address.bits();
 }
