@@ -4,3 +4,4 @@ pub mod Passage
 pub mod Number
 pub mod Counts
 pub mod Laws
+pub mod Row
