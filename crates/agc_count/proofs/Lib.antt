@@ -2,3 +2,4 @@ mod Left
 mod Places
 mod Lengths
 mod Sums
+mod Lines

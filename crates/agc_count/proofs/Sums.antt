@@ -18,10 +18,10 @@ use Rattle.agc_source_words.specs.Location.{location_at}
 use Rattle.agc_source_words.specs.declared.location.Location.{Location}
 use Rattle.agc_source_words.specs.declared.location.Location.TheVariants as location
 use Rattle.agc_count.specs.Counts.{counted_as, counted_at, counted_happening, counted_in, counted_inhibited, counted_one, counted_serving, nothing_counted}
-use Rattle.agc_count.specs.Laws.{MakeUp, OrdersAddUp, cycles_in, times_in}
+use Rattle.agc_count.specs.Laws.{MakeUp, OrdersAddUp}
 use Rattle.agc_count.specs.Number.{basic_number, extracode_number}
 use Rattle.agc_count.specs.Passage.{HasTally, IsPlaced, is_in, service_of}
-use Rattle.agc_count.specs.Tally.{added, empty_table, nothing, once, plus}
+use Rattle.agc_count.specs.Tally.{added, cycles_in, empty_table, nothing, once, plus, times_in}
 use Rattle.agc_count.specs.declared.counts.Counts.{Counts}
 use Rattle.agc_count.specs.declared.passage.Passage.{Passage}
 use Rattle.agc_count.specs.declared.span.Span.{Span}

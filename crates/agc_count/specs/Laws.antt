@@ -3,6 +3,7 @@ use Rattle.std.specs.Prelude.{◌≡◌, ℕ, ◌+◌, Bool, List, length}
 use Rattle.std.specs.List.{sum_by}
 use Rattle.agc_source_words.specs.declared.location.Location.{Location}
 use Rattle.agc_trace.specs.Selection.{runs_at}
+use Rattle.agc_count.specs.Tally.{cycles_in, times_in}
 use Rattle.agc_count.specs.declared.counts.Counts.{Counts}
 use Rattle.agc_count.specs.declared.passage.Passage.{Passage}
 use Rattle.agc_count.specs.declared.tally.Tally.{Tally}
@@ -18,13 +19,6 @@ ran_at here p = runs_at (record { first = here; last = here }) p.happening
 -- the cycles of all kinds of boundaries
 abbrev pub counted_cycles : Counts → ℕ
 counted_cycles c = c.orders.cycles + c.timers.cycles + c.events.cycles + c.entries.cycles
-
--- how often and for how many cycles, all of a table together
-abbrev pub times_in : List Tally → ℕ
-times_in table = sum_by (λ tally. tally.times) table
-
-abbrev pub cycles_in : List Tally → ℕ
-cycles_in table = sum_by (λ tally. tally.cycles) table
 
 -- two tables make up a whole
 pub record MakeUp (table others : List Tally) (all : Tally) : Type 0 where

@@ -5,3 +5,4 @@ pub mod Number
 pub mod Counts
 pub mod Laws
 pub mod Row
+pub mod Report

@@ -1,5 +1,6 @@
 -- How often something happened and how many cycles it took, and tables of that.
-use Rattle.std.specs.Prelude.{ℕ, ◌+◌, List, replicate, set, get_or}
+use Rattle.std.specs.Prelude.{ℕ, ◌+◌, ◌==◌, ◌&&◌, not, Bool, List, replicate, set, get_or}
+use Rattle.std.specs.List.{sum_by}
 use Rattle.agc_count.specs.declared.tally.Tally.{Tally}
 
 abbrev pub nothing : Tally
@@ -22,3 +23,17 @@ tally_at place table = get_or table place nothing
 -- a table with a tally more at a place
 unfoldable pub added : ℕ → Tally → List Tally → List Tally
 added place tally table = set table place (plus (get_or table place nothing) tally)
+
+-- how often and for how many cycles, all of several together
+abbrev pub times_in : List Tally → ℕ
+times_in tallies = sum_by (λ tally. tally.times) tallies
+
+abbrev pub cycles_in : List Tally → ℕ
+cycles_in tallies = sum_by (λ tally. tally.cycles) tallies
+
+abbrev pub total_of : List Tally → Tally
+total_of tallies = record { times = times_in tallies; cycles = cycles_in tallies }
+
+-- it happened at all
+abbrev pub is_counted : Tally → Bool
+is_counted tally = not ((tally.times == 0) && (tally.cycles == 0))

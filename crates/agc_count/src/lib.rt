@@ -1,21 +1,25 @@
 //! How often a run does what, and how many cycles that takes: its words, its orders, its interrupts.
 #![tactic(auto)]
 
+mod banks;
 mod counting;
 mod counts;
 pub mod laws;
 mod mode;
 mod number;
 mod passage;
+mod report;
 mod row;
 mod span;
 mod table;
 mod tally;
+mod words;
 
 pub use counting::count;
 pub use counts::Counts;
 pub use mode::Mode;
 pub use passage::Passage;
+pub use report::push_count;
 pub use row::Layout;
 pub use span::Span;
 pub use table::Table;

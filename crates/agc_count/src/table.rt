@@ -1,5 +1,5 @@
 //! Tallies of many things of one kind, each at its place.
-use crate::tally::Tally;
+use crate::tally::{Tally, total_of};
 use std::alloc::{AllocError, Global};
 use std::marker::Model;
 
@@ -19,7 +19,8 @@ impl Model for Table {
 }
 
 impl Table {
-    ghost use Rattle.std.specs.Prelude.{◌≡◌, length, IfOk, OnOk};
+    ghost use Rattle.std.specs.Prelude.{◌≡◌, ◌*◌, ◌<◌, ◌^◌, length, IfOk, OnOk};
+    ghost use Rattle.agc_count.specs.Report.{bank_tally};
     ghost use Rattle.agc_count.specs.Tally.{added, empty_table, tally_at};
 
     /// A table for so many things, of which nothing is counted yet. Fails where memory runs out.
@@ -47,6 +48,18 @@ impl Table {
             Some(tally) => *tally,
             None => Tally::NOTHING,
         }
+    }
+
+    /// All tallies of a bank of so many places together; past the last place nothing is counted. Fails where a number
+    /// has no room.
+    #[tactic(auto, unfolding(crate::specs::Report::bank_tally))]
+    pub(crate) fn of_bank(&self, size: usize, bank: usize) -> Result<Tally, AllocError>
+        requires { size * bank < 2 ^ 64 }
+        ensures { IfOk result (λ all. all ≡ bank_tally size bank self.now) }
+    {
+        let first = (size * bank).min(self.tallies.len());
+        let last = first.saturating_add(size).min(self.tallies.len());
+        total_of(&self.tallies.as_slice()[first..last])
     }
 
     /// Counts a tally more at a place; past the last one nothing is counted. Fails where a number has no room.

@@ -1,5 +1,6 @@
 //! How often something happened, and how many cycles it took.
-ghost use Rattle.std.specs.Prelude.{◌≡◌};
+ghost use Rattle.std.specs.Prelude.{◌≡◌, IfOk};
+ghost use Rattle.agc_count.specs.Tally.{total_of};
 
 use std::alloc::AllocError;
 
@@ -12,7 +13,7 @@ pub struct Tally {
 
 impl Tally {
     ghost use Rattle.std.specs.Prelude.{◌≡◌, IfOk};
-    ghost use Rattle.agc_count.specs.Tally.{nothing, once, plus};
+    ghost use Rattle.agc_count.specs.Tally.{is_counted, nothing, once, plus};
 
     /// Nothing happened.
     pub const NOTHING: Tally = Tally {
@@ -37,4 +38,22 @@ impl Tally {
             cycles: self.cycles.checked_add(more.cycles).ok_or(AllocError)?,
         })
     }
+
+    /// It happened at all.
+    pub(crate) fn is_counted(self) -> bool
+        ensures { result ≡ is_counted self }
+    {
+        self.times != 0 || self.cycles != 0
+    }
+}
+
+/// All tallies together. Fails where a number has no room.
+pub(crate) fn total_of(tallies: &[Tally]) -> Result<Tally, AllocError>
+    ensures { IfOk result (λ all. all ≡ total_of tallies.now) }
+{
+    let mut all = Tally::NOTHING;
+    for tally in tallies {
+        all = all.plus(*tally)?;
+    }
+    Ok(all)
 }

@@ -1,0 +1,220 @@
+//! The lines of the words: of each how often it ran as an order, and how many cycles that took.
+ghost use Rattle.std.specs.Prelude.{◌≡◌, ◌++◌, ◌&&◌, ◌+◌, ◌<◌, ◌≤◌, not, OnOk, string_bytes};
+ghost use Rattle.agc_word.specs.Number.{pattern_of};
+ghost use Rattle.agc_store.specs.Memory.{fixed_at};
+ghost use Rattle.agc_rope_listing.specs.List.{begins_anew, listed_address, listed_place};
+ghost use Rattle.agc_rope_listing.specs.Place.{IsInPrint};
+ghost use Rattle.agc_count.specs.Report.{
+  cell_line,
+  cell_lines,
+  cell_place,
+  empty_line,
+  empty_lines,
+  word_lines,
+  word_row,
+  words_text,
+};
+
+use crate::counts::Counts;
+use crate::report::push_counted;
+use crate::row::{Layout, push_row};
+use crate::tally::Tally;
+use agc_rope_listing::{Place, leads_extracode, listed_address, push_order, push_place};
+use agc_source_words::cell_address;
+use agc_store::Store;
+use agc_word::Narrow;
+use std::alloc::AllocError;
+
+/// Adds the lines of the words: those of erasable memory, those of the rope, and those of banks that are empty. Fails
+/// where memory runs out.
+#[tactic(auto, unfolding(crate::specs::Report::words_text))]
+pub(crate) fn push_words(
+    text: &mut String,
+    layout: Layout,
+    whole: bool,
+    counts: &Counts,
+    store: &Store,
+) -> Result<(), AllocError>
+    ensures { OnOk result (string_bytes text.new ≡ string_bytes text.old
+        ++ words_text layout whole counts.now store.now.fixed) }
+{
+    push_cells(text, layout, counts, 0o4000)?;
+    push_listed(text, layout, whole, counts, store, 0o110000)?;
+    push_empty(text, layout, counts, 0o110000, 0o10000)
+}
+
+/// Adds the lines of the first so many cells.
+fn push_cells(
+    text: &mut String,
+    layout: Layout,
+    counts: &Counts,
+    count: u32,
+) -> Result<(), AllocError>
+    requires { count ≤ 0o4000 }
+    ensures { OnOk result (string_bytes text.new
+        ≡ string_bytes text.old ++ cell_lines count layout counts.now) }
+{
+    for cell in 0..count {
+        push_cell(text, layout, counts, cell)?;
+    }
+    Ok(())
+}
+
+#[tactic(auto, unfolding(crate::specs::Report::cell_line))]
+fn push_cell(
+    text: &mut String,
+    layout: Layout,
+    counts: &Counts,
+    cell: u32,
+) -> Result<(), AllocError>
+    requires { cell < 0o4000 }
+    ensures { OnOk result (string_bytes text.new
+        ≡ string_bytes text.old ++ cell_line layout counts.now cell) }
+{
+    let mut name = String::new(*text.allocator());
+    push_place(&mut name, cell_place(cell))?;
+    let tally = counts.erasable.at(cell as usize);
+    push_counted(text, layout, "word", name.as_str(), tally)
+}
+
+/// The place of a cell by its number.
+fn cell_place(cell: u32) -> Place
+    requires { cell < 0o4000 }
+    ensures place { result ≡ cell_place cell }
+    ensures range { IsInPrint result }
+{
+    if cell < 0o1400 {
+        Place::Plain(cell as u16)
+    } else {
+        Place::Erasable {
+            bank: (cell / 0o400) as u8,
+            address: cell_address(cell),
+        }
+    }
+}
+
+/// Adds the lines of the words at the first so many places of the rope.
+fn push_listed(
+    text: &mut String,
+    layout: Layout,
+    whole: bool,
+    counts: &Counts,
+    store: &Store,
+    count: usize,
+) -> Result<(), AllocError>
+    requires { count ≤ 0o110000 }
+    ensures { OnOk result (string_bytes text.new
+        ≡ string_bytes text.old ++ word_lines count layout whole counts.now store.now.fixed) }
+{
+    let mut leads = false;
+    for place in 0..count {
+        let word = word_at(store, place);
+        let extracode = leads_on(leads, place);
+        push_word(
+            text,
+            layout,
+            whole,
+            place,
+            extracode,
+            word,
+            counts.fixed.at(place),
+        )?;
+        leads = leads_extracode(extracode, word);
+    }
+    Ok(())
+}
+
+/// Whether the word at a place is an extracode, where the word before it leads to one.
+#[tactic(auto, unfolding(agc_rope_listing::specs::List::begins_anew))]
+fn leads_on(leads: bool, place: usize) -> bool
+    ensures { result ≡ (leads && not (begins_anew place)) }
+{
+    leads && (place % 0o2000 != 0 || place == 0o6000)
+}
+
+/// The fixed word at a place.
+#[tactic(auto, unfolding(agc_store::specs::Cells::fixed_of))]
+fn word_at(store: &Store, place: usize) -> Narrow
+    requires { place < 0o110000 }
+    ensures { result ≡ fixed_at place store.now.fixed }
+{
+    store.fixed((place / 0o2000) as u8, (place % 0o2000) as u16)
+}
+
+/// Adds the line of a word of the rope, where it has one.
+#[tactic(auto, unfolding(crate::specs::Report::word_row))]
+fn push_word(
+    text: &mut String,
+    layout: Layout,
+    whole: bool,
+    place: usize,
+    extracode: bool,
+    word: Narrow,
+    tally: Tally,
+) -> Result<(), AllocError>
+    requires { place < 0o110000 }
+    ensures { OnOk result (string_bytes text.new
+        ≡ string_bytes text.old ++ word_row layout whole place extracode word tally) }
+{
+    if !(tally.is_counted() || (whole && word.bits() != 0)) {
+        return Ok(());
+    }
+    let alloc = *text.allocator();
+    let mut name = String::new(alloc);
+    push_place(&mut name, fixed_place(place))?;
+    let mut order = format!(in alloc; "{word} ")?;
+    push_order(&mut order, extracode, word)?;
+    push_row(text, layout, "word", name.as_str(), order.as_str(), tally)
+}
+
+/// The place of a word of fixed memory, as listings name it.
+#[tactic(auto, unfolding(agc_rope_listing::specs::List::listed_address))]
+fn fixed_place(place: usize) -> Place
+    requires { place < 0o120000 }
+    ensures place { result ≡ listed_place place }
+    ensures range { IsInPrint result }
+{
+    let address = if place < 0o110000 {
+        listed_address(place)
+    } else {
+        (0o2000 + place % 0o2000) as u16
+    };
+    Place::Fixed {
+        bank: (place / 0o2000) as u8,
+        address,
+    }
+}
+
+/// Adds the lines of the orders at so many places from one on, in banks that the rope does not have.
+fn push_empty(
+    text: &mut String,
+    layout: Layout,
+    counts: &Counts,
+    first: usize,
+    count: usize,
+) -> Result<(), AllocError>
+    requires { first + count ≤ 0o120000 }
+    ensures { OnOk result (string_bytes text.new
+        ≡ string_bytes text.old ++ empty_lines first count layout counts.now) }
+{
+    for number in 0..count {
+        push_empty_word(text, layout, counts, first + number)?;
+    }
+    Ok(())
+}
+
+#[tactic(auto, unfolding(crate::specs::Report::empty_line))]
+fn push_empty_word(
+    text: &mut String,
+    layout: Layout,
+    counts: &Counts,
+    place: usize,
+) -> Result<(), AllocError>
+    requires { place < 0o120000 }
+    ensures { OnOk result (string_bytes text.new
+        ≡ string_bytes text.old ++ empty_line layout counts.now place) }
+{
+    let mut name = String::new(*text.allocator());
+    push_place(&mut name, fixed_place(place))?;
+    push_counted(text, layout, "word", name.as_str(), counts.fixed.at(place))
+}
