@@ -1,5 +1,5 @@
 //! The boundaries of a run counted, one after another: memory does not grow with the run.
-ghost use Rattle.std.specs.Prelude.{◌≡◌, IfOk};
+ghost use Rattle.std.specs.Prelude.{◌≡◌, IfOk, OnOk};
 ghost use Rattle.agc_count.specs.Counts.{count_of};
 ghost use Rattle.agc_count.specs.Laws.{OrdersAddUp};
 ghost use Rattle.agc_count.specs.Passage.{passages_in};
@@ -21,6 +21,8 @@ pub fn count<P: Progress>(
     progress: &mut P,
 ) -> Result<Counts, AllocError>
     ensures counts { IfOk result (λ counts. counts ≡ count_of (passages_in span machine.old)) }
+    ensures rope { OnOk result
+        (machine.new.processor.store.fixed ≡ machine.old.processor.store.fixed) }
     ensures law { IfOk result OrdersAddUp }
 {
     let mut counts = Counts::none(alloc)?;

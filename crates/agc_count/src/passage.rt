@@ -6,6 +6,7 @@ ghost use Rattle.agc_machine.specs.Boundary.{boundary, HasPlace};
 ghost use Rattle.agc_count.specs.Passage.{HasTally, IsPlaced, passage_of};
 
 use crate::mode::{Mode, inhibited_after, service_after};
+use agc_machine::laws::the_rope_stays;
 use agc_machine::{Machine, Upcoming};
 use agc_processor::Rupt;
 use agc_store::Addr;
@@ -65,7 +66,9 @@ pub(crate) fn next_passage(machine: &mut Machine, mode: Mode) -> Passage
     ensures passage { result ≡ passage_of mode machine.old }
     ensures after { machine.new ≡ (boundary None machine.old).0 }
     ensures placed { IsPlaced result.happening }
+    ensures rope { machine.new.processor.store.fixed ≡ machine.old.processor.store.fixed }
 {
+    the_rope_stays();
     let cycle = machine.cycle();
     let happening = machine.upcoming();
     has_tally(&happening);

@@ -1,4 +1,4 @@
-use Rattle.std.proofs.Common.{sym, ◌∙◌, arith}
+use Rattle.std.proofs.Common.{sym, ◌∙◌, arith, refl}
 use Rattle.agc_count.proofs.Left.{counted_all, counted_told, fewer_left, none_at_stop, none_past, starts, told_stop}
 use Rattle.agc_count.proofs.Sums.{law_of, none_add_up, one_adds_up}
 use Rattle.agc_count.proofs.counting.count.Goals as goal
@@ -6,6 +6,7 @@ use Rattle.agc_count.proofs.counting.count.Goals as goal
 pub loop-span-init : goal.loop-span-init
 loop-span-init g c = (
   starts c.args.span _ c.at_start-mode.result _ c.in_ok-counts.ensures c.at_start-mode.ensures,
+  refl,
   none_add_up c.in_ok-counts.counts c.in_ok-counts.ensures,
 )
 
@@ -17,7 +18,7 @@ returns-then-is_stop-clause-counts g c =
     c.loop-span.invariant.0
 
 pub returns-then-is_stop-clause-law : goal.returns-then-is_stop-clause-law
-returns-then-is_stop-clause-law g c = law_of c.loop-span.counts c.loop-span.invariant.1
+returns-then-is_stop-clause-law g c = law_of c.loop-span.counts c.loop-span.invariant.2
 
 pub loop-span-smaller : goal.loop-span-smaller
 loop-span-smaller g c =
@@ -29,7 +30,8 @@ loop-span-preserved g c = (
   counted_told c.args.span c.loop-span.mode _ _ _ c.loop-span.counts _ c.next_passage-passage.result c.next_passage-passage.ensures.passage
       c.next_passage-passage.ensures.after (sym c.is_stop.ensures ∙ c.if-is_stop.false) c.mode_after-mode.ensures c.in_ok-take_in.ensures
       ∙ c.loop-span.invariant.0,
-  one_adds_up c.args.span c.next_passage-passage.result c.loop-span.counts _ c.next_passage-passage.ensures.placed c.in_ok-take_in.ensures c.loop-span.invariant.1,
+  c.next_passage-passage.ensures.rope ∙ c.loop-span.invariant.1,
+  one_adds_up c.args.span c.next_passage-passage.result c.loop-span.counts _ c.next_passage-passage.ensures.placed c.in_ok-take_in.ensures c.loop-span.invariant.2,
 )
 
 pub returns-clause-counts : goal.returns-clause-counts
@@ -39,4 +41,4 @@ returns-clause-counts g c =
     c.loop-span.invariant.0
 
 pub returns-clause-law : goal.returns-clause-law
-returns-clause-law g c = law_of c.loop-span.counts c.loop-span.invariant.1
+returns-clause-law g c = law_of c.loop-span.counts c.loop-span.invariant.2

@@ -5,10 +5,11 @@ use Rattle.agc_count.specs.Passage.{passages_in, passages_left}
 use Rattle.agc_count.proofs.Sums.{AddsUp}
 use Rattle.agc_count.proofs.counting.count.Given as goal
 
--- with the boundaries that are left, what is counted so far is what the run comes to, and it adds up
+-- with the boundaries that are left, what is counted so far is what the run comes to, and it adds up; the rope stays
 abbrev pub invariant-loop-span : goal.invariant-loop-span
 invariant-loop-span g l =
-    (counted l.counts (passages_left l.span l.mode l.machine) ≡ count_of (passages_in l.span l.initial.machine)) × AddsUp l.counts
+    (counted l.counts (passages_left l.span l.mode l.machine) ≡ count_of (passages_in l.span l.initial.machine))
+    × (l.machine.processor.store.fixed ≡ l.initial.machine.processor.store.fixed) × AddsUp l.counts
 
 abbrev pub decreases-loop-span : goal.decreases-loop-span
 decreases-loop-span g l = entries_left l.machine
