@@ -1,4 +1,5 @@
 //! What the program is asked for.
+use agc_count::{Layout, Span};
 use agc_film::{Part, RunFiles};
 use agc_shown::By;
 use agc_store::RopeForm;
@@ -11,6 +12,7 @@ pub enum Asked {
     Weave(Weaving),
     Check(Checking),
     Trace(Tracing),
+    Count(Counting),
     Compare(Comparing),
     Film(Filming),
 }
@@ -31,6 +33,12 @@ impl Asked {
                 asked.names.as_deref(),
                 Some(asked.rope.as_str()),
                 Some(asked.script.as_str()),
+                None,
+            ],
+            Asked::Count(asked) => [
+                Some(asked.rope.as_str()),
+                Some(asked.script.as_str()),
+                None,
                 None,
             ],
             Asked::Compare(asked) => asked.paths(),
@@ -105,6 +113,22 @@ pub struct Tracing {
     pub selection: Selection,
     /// The text file of names.
     pub names: Option<String>,
+}
+
+/// A run to count, and what of that is printed.
+#[derive(Debug, Drop)]
+pub struct Counting {
+    pub rope: String,
+    pub script: String,
+    pub form: RopeForm,
+    pub limit: u64,
+    /// The text of `--until`.
+    pub until: Option<String>,
+    /// The cycles at which the boundaries begin that are counted.
+    pub span: Span,
+    pub layout: Layout,
+    /// The words of the whole rope are printed, with those that never ran.
+    pub is_whole: bool,
 }
 
 /// Two runs to compare.

@@ -15,6 +15,7 @@ pub fn command<'a>(alloc: Global) -> Result<Command<'a>, AllocError> {
         .subcommand(weave_command(alloc)?)?
         .subcommand(check_command(alloc)?)?
         .subcommand(trace_command(alloc)?)?
+        .subcommand(count_command(alloc)?)?
         .subcommand(compare_command(alloc)?)?
         .subcommand(film_command(alloc)?)
 }
@@ -70,6 +71,22 @@ fn trace_command<'a>(alloc: Global) -> Result<Command<'a>, AllocError> {
         .arg(names_option(alloc))
 }
 
+fn count_command<'a>(alloc: Global) -> Result<Command<'a>, AllocError> {
+    Command::new(alloc, "count")
+        .about(
+            "Runs a rope and a script, and prints how often each word ran, and how many cycles went where.",
+        )
+        .arg(rope_file(alloc))?
+        .arg(script_file(alloc))?
+        .arg(limit_option(alloc))?
+        .arg(form_option(alloc))?
+        .arg(until_option(alloc))?
+        .arg(cycle_option(alloc, "from", "The first cycle that is counted"))?
+        .arg(cycle_option(alloc, "to", "The last cycle that is counted"))?
+        .arg(whole_option(alloc))?
+        .arg(csv_option(alloc))
+}
+
 fn compare_command<'a>(alloc: Global) -> Result<Command<'a>, AllocError> {
     Command::new(alloc, "compare")
         .about("Runs two ropes with two scripts, and tells where the runs part.")
@@ -98,6 +115,20 @@ fn film_command<'a>(alloc: Global) -> Result<Command<'a>, AllocError> {
         .arg(until_option(alloc))?
         .arg(cycle_option(alloc, "from", "The first cycle that is filmed"))?
         .arg(cycle_option(alloc, "to", "The last cycle that is filmed"))
+}
+
+fn whole_option<'a>(alloc: Global) -> Arg<'a> {
+    Arg::new(alloc, "whole")
+        .long("rope")
+        .action(ArgAction::SetTrue)
+        .help("Print the words of the whole rope that are not +0, with those that never ran")
+}
+
+fn csv_option<'a>(alloc: Global) -> Arg<'a> {
+    Arg::new(alloc, "csv")
+        .long("csv")
+        .action(ArgAction::SetTrue)
+        .help("Print comma-separated values in place of columns")
 }
 
 fn by_option<'a>(alloc: Global) -> Arg<'a> {

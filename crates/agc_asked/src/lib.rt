@@ -3,11 +3,12 @@
 
 mod asked;
 mod command_line;
+mod counted;
 mod questions;
 mod shown;
 mod words;
 
 pub use asked::{
-    Asked, ByShown, CheckedRun, Checking, Comparing, Filming, Listing, Tracing, Weaving,
+    Asked, ByShown, CheckedRun, Checking, Comparing, Counting, Filming, Listing, Tracing, Weaving,
 };
 pub use words::{NAME, asked_by, asked_of};

@@ -1,6 +1,7 @@
 //! The words of a command line to what they ask for.
 use crate::asked::{Asked, CheckedRun, Checking, Comparing, Filming, Listing, Tracing, Weaving};
 use crate::command_line::command;
+use crate::counted::counting_of;
 use crate::questions::{channels_of, orders_of, places_of};
 use crate::shown::{shown_of, with_channels_joined};
 use agc_args::{ArgsFault, WordsFault, fault_of, words_of};
@@ -64,6 +65,8 @@ fn asked_as(alloc: Global, name: &str, given: &ArgMatches<'_>) -> Result<Asked, 
         Ok(Asked::Check(checking_of(alloc, given)?))
     } else if name == "trace" {
         Ok(Asked::Trace(tracing_of(alloc, given)?))
+    } else if name == "count" {
+        Ok(Asked::Count(counting_of(alloc, given)?))
     } else if name == "compare" {
         Ok(Asked::Compare(comparing_of(alloc, given)?))
     } else if name == "film" {
@@ -193,37 +196,51 @@ fn other_run_of(alloc: Global, given: &ArgMatches<'_>) -> Result<Option<RunFiles
     }
 }
 
-/// The part of a run that is filmed, which has a cycle.
+/// The part of a run that is filmed.
 fn part_of(alloc: Global, given: &ArgMatches<'_>) -> Result<Part, ArgsFault> {
+    let (from, to) = cycles_of(alloc, given)?;
+    Ok(Part { from, to })
+}
+
+/// The cycles of `--from` and `--to`, between which there is one.
+pub(crate) fn cycles_of(alloc: Global, given: &ArgMatches<'_>) -> Result<(u64, u64), ArgsFault> {
     let from = number_of(given, "from", 0);
     let to = number_of(given, "to", u64::MAX);
     if to < from {
         let text = format!(in alloc; "{NAME}: no cycle is from {from} to {to}\n")?;
         return Err(ArgsFault::Command(text));
     }
-    Ok(Part { from, to })
+    Ok((from, to))
 }
 
 /// The number of an option, or this one where it is not given.
-fn number_of(given: &ArgMatches<'_>, id: &str, otherwise: u64) -> u64 {
+pub(crate) fn number_of(given: &ArgMatches<'_>, id: &str, otherwise: u64) -> u64 {
     given.get_one::<u64>(id).unwrap_or(otherwise)
 }
 
-fn path_of(alloc: Global, given: &ArgMatches<'_>, id: &str) -> Result<String, AllocError> {
+pub(crate) fn path_of(
+    alloc: Global,
+    given: &ArgMatches<'_>,
+    id: &str,
+) -> Result<String, AllocError> {
     match given.get_str(id) {
         Some(path) => String::from_str(alloc, path),
         None => Ok(String::new(alloc)),
     }
 }
 
-fn text_of(alloc: Global, given: &ArgMatches<'_>, id: &str) -> Result<Option<String>, AllocError> {
+pub(crate) fn text_of(
+    alloc: Global,
+    given: &ArgMatches<'_>,
+    id: &str,
+) -> Result<Option<String>, AllocError> {
     match given.get_str(id) {
         Some(text) => Ok(Some(String::from_str(alloc, text)?)),
         None => Ok(None),
     }
 }
 
-fn form_of(given: &ArgMatches<'_>) -> RopeForm {
+pub(crate) fn form_of(given: &ArgMatches<'_>) -> RopeForm {
     match given.get_str("form") {
         Some(name) => if name == "parity" {
             RopeForm::Parity
