@@ -1,3 +1,4 @@
 pub mod Whole
 pub mod Starts
 pub mod FilmedRuns
+pub mod CountedRuns

@@ -7,3 +7,4 @@ pub mod Ended
 pub mod Compared
 pub mod Filmed
 pub mod Traced
+pub mod Counted

@@ -5,6 +5,7 @@ ghost use Rattle.agc_args.specs.Ending.{EndsMistaken};
 ghost use Rattle.agc_study.specs.Ended.{IsEnded, LooksForFaults};
 
 use crate::check_told::check_to;
+use crate::counts_told::count_to;
 use crate::films_told::film_to;
 use crate::ropes_told::{list_to, weave_to};
 use crate::runs_told::{compare_to, trace_to};
@@ -22,6 +23,7 @@ pub const TROUBLE: u8 = 2;
 pub fn last_cycle(asked: &Result<Asked, ArgsFault>) -> u64 {
     match asked {
         Ok(Asked::Trace(tracing)) => tracing.limit.min(tracing.selection.to),
+        Ok(Asked::Count(counting)) => counting.limit.min(counting.span.to),
         Ok(Asked::Compare(comparing)) => comparing.limit,
         Ok(Asked::Film(filming)) => filming.limit.min(filming.part.to),
         Ok(Asked::List(_) | Asked::Weave(_) | Asked::Check(_)) | Err(_) => 0,
@@ -85,6 +87,7 @@ where
         Asked::Weave(weaving) => weave_to(rt, weaving, out, err, remarks),
         Asked::Check(checking) => check_to(rt, checking, out, err),
         Asked::Trace(tracing) => trace_to(rt, tracing, out, err, remarks, progress),
+        Asked::Count(counting) => count_to(rt, counting, out, err, progress),
         Asked::Compare(comparing) => compare_to(rt, comparing, out, err, progress),
         Asked::Film(filming) => film_to(rt, filming, out, err, remarks, progress),
     }

@@ -1,4 +1,4 @@
-//! What `agc-study` does with its words and files: it lists, weaves, checks, traces, compares and films. The program
+//! What `agc-study` does with its words and files: it lists, weaves, checks, traces, counts, compares and films. The program
 //! itself hands on its streams.
 #![tactic(auto)]
 
@@ -6,6 +6,8 @@ mod answers;
 mod check_told;
 mod checks;
 mod compares;
+mod counts;
+mod counts_told;
 mod films;
 mod films_told;
 mod names;
@@ -21,6 +23,7 @@ pub use answers::{TROUBLE, answer, last_cycle};
 pub use check_told::write_report;
 pub use checks::{check_files, check_key_file, check_listing_file, check_with};
 pub use compares::{Told, compare_files};
+pub use counts::count_files;
 pub use films::{FilmPage, film_files};
 pub use names::read_names;
 pub use ropes::{Woven, list_rope, misnamed_line, weave_text};

@@ -1,6 +1,7 @@
 //! Listings, traces, comparisons and explanations, worked out by hand.
 mod check;
 mod compare;
+mod count;
 mod misnamed;
 mod names;
 mod progress;

@@ -1,0 +1,131 @@
+"""Compares what `agc-study count` tells with a slow count over the lines of the plain trace."""
+
+import csv
+import random
+import subprocess
+import sys
+import tempfile
+from collections import defaultdict
+from pathlib import Path
+
+STUDY, EXAMPLES, TRIES = sys.argv[1], Path(sys.argv[2]), int(sys.argv[3])
+RUNS = [("keys", 300), ("timers", 3000), ("division", 100), ("downlink", 400), ("verbs", 60000)]
+SEED = 20
+# the words before which an order is an extracode
+CHANNELS = {"READ", "WRITE", "RAND", "WAND", "ROR", "WOR", "RXOR", "EDRUPT"}
+EXTRACODES = CHANNELS | {"DV", "BZF", "MSU", "QXCH", "AUG", "DIM", "DCA", "DCS", "SU", "BZMF", "MP"}
+
+
+def run(words):
+    """What the program prints."""
+    return subprocess.run([STUDY, *words], capture_output=True, check=True).stdout.decode()
+
+
+def place_of(text):
+    """The place of an order's line, as a count prints it."""
+    bank, _, address = text.rpartition(",")
+    number = int(address, 8)
+    if number < 0o1400:
+        return f"{number:04o}"
+    if number < 0o2000:
+        cell = 0o400 * int(bank[1:], 8) + number % 0o400
+        return f"{cell:04o}" if cell < 0o1400 else f"E{cell // 0o400:o},{number:04o}"
+    if number >= 0o4000:
+        return f"{number // 0o2000:02o},{number:04o}"
+    if bank in ("02", "03"):
+        return f"{bank},{0o2000 * int(bank, 8) + number % 0o2000:04o}"
+    return text
+
+
+def bank_of(place):
+    """The bank of a place that a count prints."""
+    bank, _, address = place.rpartition(",")
+    return bank or f"E{int(address, 8) // 0o400:o}"
+
+
+def told_by(rope, script, limit, first, last):
+    """The tallies that the lines of a trace give, of the boundaries that begin in a span."""
+    tallies = defaultdict(lambda: [0, 0])
+    lines = [line.split(" | ")[0].split(" ") for line in run(["trace", rope, script, "--limit", str(limit)]).splitlines()]
+    service, inhibited, extended = None, False, False
+    for line, later in zip(lines, lines[1:]):
+        cycle, cycles = int(line[0]), int(later[0]) - int(line[0])
+        things, before = [("all", "boundaries")], inhibited
+        if line[1] == "-":
+            kind = line[2]
+            things.append(("all", kind + "s"))
+            if kind == "interrupt":
+                service = line[3]
+        else:
+            place, name = place_of(line[1]), line[3]
+            extracode = name in EXTRACODES or (name == "INDEX" and extended)
+            things += [("all", "orders"), ("word", place), ("bank", bank_of(place))]
+            things.append(("extracode" if extracode else "order", name))
+            extended = name == "EXTEND" or (name == "INDEX" and extended)
+            inhibited = {"INHINT": True, "RELINT": False}.get(name, inhibited)
+        if service:
+            things.append(("all", "in services"))
+        if before:
+            things.append(("all", "under INHINT"))
+        if first <= cycle <= last:
+            for thing in things:
+                tallies[thing][0] += 1
+                tallies[thing][1] += cycles
+            if service:
+                tallies["interrupt", service][0] += line[1:3] == ["-", "interrupt"]
+                tallies["interrupt", service][1] += cycles
+        if line[1] != "-" and line[3] == "RESUME":
+            service = None
+    return {thing: tuple(tally) for thing, tally in tallies.items() if any(tally)}
+
+
+def counted(rope, script, limit, first, last):
+    """The tallies that a count prints, those that are not all 0."""
+    words = ["count", rope, script, "--limit", str(limit), "--from", str(first), "--to", str(last)]
+    rows = list(csv.DictReader(run([*words, "--csv"]).splitlines()))
+    columns = [line.split(None, 2) for line in run(words).splitlines()[1:]]
+    shown = [(row["times"], row["cycles"], " ".join(filter(None, (row["kind"], row["name"], row["order"])))) for row in rows]
+    if [tuple(column) for column in columns] != shown:
+        return None
+    told = {(row["kind"], row["name"]): (int(row["times"]), int(row["cycles"])) for row in rows}
+    return {thing: tally for thing, tally in told.items() if any(tally)}
+
+
+def written(folder, chance):
+    """A random rope of banks 02 and 03, mostly of orders that stay near, and a random script."""
+    words = [chance.choice((0o30000, 0o50000, 0o54000, 0o60000, 0o24000, 0o14000, 0o10000)) + chance.randrange(0o2000)
+             for _ in range(0o4000)]
+    for at in chance.sample(range(0o4000), 0o1000):
+        words[at] = chance.choice((3, 4, 6, 6, 6, 0o50017, chance.randrange(0o100000)))
+    rope = folder / "rope"
+    rope.write_bytes(b"".join((2 * word).to_bytes(2, "big") for word in words))
+    script = folder / "script"
+    cycles = sorted(chance.randrange(1500) for _ in range(8))
+    script.write_text("".join(f"{cycle} raise {chance.randrange(1, 11)}\n" for cycle in cycles))
+    return rope, script
+
+
+def agrees(rope, script, limit, first, last):
+    """Both ways of counting give the same."""
+    same = counted(rope, script, limit, first, last) == told_by(rope, script, limit, first, last)
+    if not same:
+        print("counts:", rope, script, limit, first, last, file=sys.stderr)
+    return same
+
+
+def main():
+    chance = random.Random(SEED)
+    answers = []
+    for name, limit in RUNS:
+        for first, last in ((0, limit), (limit // 3, limit // 2), (100, 100)):
+            answers.append(agrees(EXAMPLES / name / "rope", EXAMPLES / name / "script", limit, first, last))
+    with tempfile.TemporaryDirectory() as scratch:
+        for _ in range(TRIES):
+            rope, script = written(Path(scratch), chance)
+            first = chance.choice((0, 0, chance.randrange(1000)))
+            answers.append(agrees(rope, script, 2000, first, chance.choice((2000, first + chance.randrange(800)))))
+    print(f"{sum(answers)} passed, {len(answers) - sum(answers)} failed")
+    return 0 if answers and all(answers) else 1
+
+
+sys.exit(main())
