@@ -1,2 +1,9 @@
 mod Ways
 mod FirstMisnamed
+mod Back
+mod Cut
+mod Rows
+mod Stretches
+mod Lines
+mod Orders
+mod Places

@@ -5,3 +5,5 @@ pub mod Meaning
 pub mod Source
 pub mod NameLines
 pub mod Misnamed
+pub mod Unwoven
+pub mod Laws

@@ -10,8 +10,10 @@ mod shape;
 mod source;
 mod steps;
 mod told_names;
+mod unwoven;
 
 pub use agc_source_words::{Location, SourceFault, SourceTrouble, basic_word, extracode_word};
 pub use misnamed::{Misnamed, Written, first_misnamed};
 pub use source::weave_source;
 pub use told_names::name_lines;
+pub use unwoven::rope_source;
