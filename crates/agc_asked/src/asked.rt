@@ -56,6 +56,8 @@ pub struct Listing {
     pub bank: Option<String>,
     /// The text file of names.
     pub names: Option<String>,
+    /// It is listed as a source.
+    pub source: bool,
 }
 
 /// A text file to weave.

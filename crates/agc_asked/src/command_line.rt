@@ -26,7 +26,8 @@ fn list_command<'a>(alloc: Global) -> Result<Command<'a>, AllocError> {
         .arg(rope_file(alloc))?
         .arg(form_option(alloc))?
         .arg(bank_option(alloc))?
-        .arg(names_option(alloc))
+        .arg(names_option(alloc))?
+        .arg(source_option(alloc)?)
 }
 
 fn weave_command<'a>(alloc: Global) -> Result<Command<'a>, AllocError> {
@@ -296,4 +297,12 @@ fn bank_option<'a>(alloc: Global) -> Arg<'a> {
         .long("bank")
         .value_name("BB")
         .help("List this bank alone: octal, 00 to 43")
+}
+
+fn source_option<'a>(alloc: Global) -> Result<Arg<'a>, AllocError> {
+    Arg::new(alloc, "source")
+        .long("source")
+        .action(ArgAction::SetTrue)
+        .help("Print a source that weaves to the rope again: orders without places and words")
+        .conflicts_with("names")
 }

@@ -90,6 +90,7 @@ fn listing_of(alloc: Global, given: &ArgMatches<'_>) -> Result<Listing, AllocErr
         form: form_of(given),
         bank: text_of(alloc, given, "bank")?,
         names: text_of(alloc, given, "names")?,
+        source: given.get_flag("source"),
     })
 }
 
