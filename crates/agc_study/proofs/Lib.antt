@@ -1,3 +1,4 @@
+mod Unwoven
 pub mod Whole
 pub mod Starts
 pub mod FilmedRuns

@@ -1,6 +1,7 @@
 pub mod Trouble
 pub mod Named
 pub mod Listed
+pub mod Sourced
 pub mod Checked
 pub mod Started
 pub mod Ended

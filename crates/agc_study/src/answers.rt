@@ -7,8 +7,9 @@ ghost use Rattle.agc_study.specs.Ended.{IsEnded, LooksForFaults};
 use crate::check_told::check_to;
 use crate::counts_told::count_to;
 use crate::films_told::film_to;
-use crate::ropes_told::{list_to, weave_to};
+use crate::ropes_told::weave_to;
 use crate::runs_told::{compare_to, trace_to};
+use crate::sources::list_as_asked;
 use crate::unreadable::remark_unreadable;
 use agc_args::{ArgsFault, end_mistaken};
 use agc_asked::{Asked, NAME};
@@ -83,7 +84,7 @@ where
     ensures faulty { result ≡ 1 → LooksForFaults (Ok asked.now) }
 {
     match asked {
-        Asked::List(listing) => list_to(rt, listing, out, err),
+        Asked::List(listing) => list_as_asked(rt, listing, out, err),
         Asked::Weave(weaving) => weave_to(rt, weaving, out, err, remarks),
         Asked::Check(checking) => check_to(rt, checking, out, err),
         Asked::Trace(tracing) => trace_to(rt, tracing, out, err, remarks, progress),

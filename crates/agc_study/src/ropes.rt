@@ -41,7 +41,7 @@ pub fn list_rope<R: Read>(
 }
 
 /// The bank that is asked for, where one is.
-fn bank_of(bank: &Option<String>) -> Result<Option<u8>, Trouble>
+pub(crate) fn bank_of(bank: &Option<String>) -> Result<Option<u8>, Trouble>
     ensures ok { IfOk result (λ asked. asked ≡ said_by bank_named bank.now) }
     ensures named { OnOk result (says_nothing bank_named bank.now ≡ false) }
     ensures refused { IfErr result (λ t. t ≡ told.BadBankSpec) }
