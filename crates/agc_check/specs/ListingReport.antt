@@ -1,29 +1,24 @@
--- What is told of the text of a rope: that it has no fault, or the first fault of its first faulty line.
+-- What is told of the text of a rope: that it has no fault, or the first fault of the first faulty line on the way
+-- through it.
 use Rattle.std.specs.Prelude.{◌≡◌, ℕ, List, ◌++◌, codes, Result, Ok, Err}
 use Rattle.std.specs.Fmt.{decimal}
-use Rattle.agc_rope_listing.specs.Weave.{said_in}
-use Rattle.agc_rope_listing.specs.declared.fault.LineFault.{LineFault}
-use Rattle.agc_rope_listing.specs.declared.fault.LineFault.TheVariants as line
-use Rattle.agc_rope_listing.specs.declared.fault.WeaveFault.{WeaveFault}
-use Rattle.agc_rope_listing.specs.declared.fault.WeaveFault.TheVariants as weave
+use Rattle.agc_source.specs.Source.{source_in}
+use Rattle.agc_source_words.specs.Told.{fault_text}
+use Rattle.agc_source_words.specs.declared.fault.SourceFault.{SourceFault}
+use Rattle.agc_source_words.specs.declared.fault.SourceTrouble.{SourceTrouble}
+use Rattle.agc_source_words.specs.declared.fault.SourceTrouble.TheVariants as trouble
 
-abbrev pub line_fault_name : LineFault → List ℕ
-line_fault_name line.NotText = codes "NotText"
-line_fault_name line.BadAddress = codes "BadAddress"
-line_fault_name line.BadWord = codes "BadWord"
-line_fault_name line.NamedTwice = codes "NamedTwice"
-
--- the number of a line, and its fault
-unfoldable pub listing_fault_text : ℕ → LineFault → List ℕ
+-- the number of a line, and its fault: that of a place and its word by its name, any other in a sentence
+unfoldable pub listing_fault_text : ℕ → SourceFault → List ℕ
 listing_fault_text n fault =
-    codes "text line " ++ decimal n ++ codes ": " ++ line_fault_name fault ++ codes "\n"
+    codes "text line " ++ decimal n ++ codes ": " ++ fault_text fault ++ codes "\n"
 
--- `why` shows the line, and tells which word is wrong and what is wanted
-abbrev pub listing_told : {Said : Type 0} → Result Said WeaveFault → List ℕ → List ℕ
+-- `why` shows the line, and of a place and its word tells which word is wrong and what is wanted
+abbrev pub listing_told : {Said : Type 0} → Result Said SourceTrouble → List ℕ → List ℕ
 listing_told (Ok said) why = codes "text: no fault\n"
-listing_told (Err (weave.Line n fault)) why = listing_fault_text n fault ++ why
-listing_told (Err weave.Memory) why = why
+listing_told (Err (trouble.Line n fault)) why = listing_fault_text n fault ++ why
+listing_told (Err trouble.Memory) why = why
 
 pub record IsListingReport (file text : List ℕ) : Type 0 where
   pub why : List ℕ
-  pub told : text ≡ listing_told (said_in file) why
+  pub told : text ≡ listing_told (source_in file) why

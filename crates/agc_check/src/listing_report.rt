@@ -1,23 +1,25 @@
 //! What is wrong with the text of a rope, for a person.
 ghost use Rattle.std.specs.Prelude.{◌≡◌, ◌++◌, IfOk, OnOk, is_ok, string_bytes};
-ghost use Rattle.agc_rope_listing.specs.Weave.{said_in};
-ghost use Rattle.agc_check.specs.ListingReport.{IsListingReport, line_fault_name, listing_fault_text};
+ghost use Rattle.agc_source.specs.Source.{source_in};
+ghost use Rattle.agc_check.specs.ListingReport.{IsListingReport, listing_fault_text};
 
 use crate::remarks::{push_quoted, words_of};
 use crate::reports::Report;
 use crate::shown::push_line;
-use agc_rope_listing::{LineFault, WeaveFault, weave};
+use agc_rope_listing::LineFault;
+use agc_source::{SourceFault, SourceTrouble, weave_source};
 use agc_store::RopeForm;
 use std::alloc::{AllocError, Global};
 
-/// Looks at the text of a rope, as `weave` takes it. The text tells that it has no fault, or the first fault of
-/// its first faulty line, and what is wrong there. Fails where memory runs out.
+/// Looks at the text of a rope, as `weave` takes it: places and words, or names, orders and directives. The text tells
+/// that it has no fault, or the first fault of the first faulty line on the way through it, and what is wrong there.
+/// Fails where memory runs out.
 pub fn check_listing(alloc: Global, file: &[u8]) -> Result<Report, AllocError>
-    ensures sound { IfOk result (λ report. report.is_sound ≡ is_ok (said_in file.now)) }
+    ensures sound { IfOk result (λ report. report.is_sound ≡ is_ok (source_in file.now)) }
     ensures text { IfOk result (λ report. IsListingReport file.now (string_bytes report.text)) }
 {
     let mut text = String::new(alloc);
-    match weave(alloc, RopeForm::Classic, file) {
+    match weave_source(alloc, RopeForm::Classic, file) {
         Ok(_) => {
             text.push_str("text: no fault\n")?;
             Ok(Report {
@@ -25,8 +27,8 @@ pub fn check_listing(alloc: Global, file: &[u8]) -> Result<Report, AllocError>
                 is_sound: true,
             })
         }
-        Err(WeaveFault::Memory) => Err(AllocError),
-        Err(WeaveFault::Line(number, fault)) => {
+        Err(SourceTrouble::Memory) => Err(AllocError),
+        Err(SourceTrouble::Line(number, fault)) => {
             push_listing_fault(&mut text, number, fault)?;
             let remark = remark(alloc, file, number, fault)?;
             text.push_str(remark.as_str())?;
@@ -40,32 +42,25 @@ pub fn check_listing(alloc: Global, file: &[u8]) -> Result<Report, AllocError>
 
 /// Adds the number of a line and its fault.
 #[tactic(auto, unfolding(crate::specs::ListingReport::listing_fault_text))]
-fn push_listing_fault(text: &mut String, number: usize, fault: LineFault) -> Result<(), AllocError>
+fn push_listing_fault(
+    text: &mut String,
+    number: usize,
+    fault: SourceFault,
+) -> Result<(), AllocError>
     ensures { OnOk result
         (string_bytes text.new ≡ string_bytes text.old ++ listing_fault_text number fault) }
 {
     write!(text, "text line {number}: ")?;
-    text.push_str(line_fault_name(fault))?;
+    text.push_str(fault.text())?;
     text.push_str("\n")
 }
 
-fn line_fault_name(fault: LineFault) -> &'static str
-    ensures { result.now ≡ line_fault_name fault }
-{
-    match fault {
-        LineFault::NotText => "NotText",
-        LineFault::BadAddress => "BadAddress",
-        LineFault::BadWord => "BadWord",
-        LineFault::NamedTwice => "NamedTwice",
-    }
-}
-
-/// The faulty line, and below it the word that is wrong and what is wanted.
+/// The faulty line, and below that of a place and its word the word that is wrong and what is wanted.
 fn remark(
     alloc: Global,
     file: &[u8],
     number: usize,
-    fault: LineFault,
+    fault: SourceFault,
 ) -> Result<String, AllocError> {
     let mut text = String::new(alloc);
     let mut lines = file.split(|b| *b == b'\n');
@@ -76,9 +71,12 @@ fn remark(
     };
     text.push_str("    ")?;
     push_line(&mut text, line)?;
-    text.push_str("\n    ")?;
-    let words = words_of(alloc, line)?;
-    push_why(&mut text, fault, words.as_slice())?;
+    text.push_str("\n")?;
+    if let SourceFault::Listed(fault) = fault {
+        text.push_str("    ")?;
+        let words = words_of(alloc, line)?;
+        push_why(&mut text, fault, words.as_slice())?;
+    }
     Ok(text)
 }
 

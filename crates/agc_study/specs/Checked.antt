@@ -5,7 +5,7 @@ use Rattle.std.specs.Io.KnownBytes.{Appends}
 use Rattle.agc_store.specs.RopeFile.{rope_fault_of}
 use Rattle.agc_store.specs.declared.rope_file.RopeForm.{RopeForm}
 use Rattle.agc_script.specs.Parse.{script_of}
-use Rattle.agc_rope_listing.specs.Weave.{said_in}
+use Rattle.agc_source.specs.Source.{source_in}
 use Rattle.agc_check.specs.KeyReport.{IsKeyReport, are_keys}
 use Rattle.agc_check.specs.ListingReport.{IsListingReport}
 use Rattle.agc_check.specs.Report.{IsFileReport}
@@ -55,7 +55,7 @@ pub record AreKeysChecked (keys : List ℕ) (report : Report) : Type 0 where
   pub text : IsKeyReport keys (string_bytes report.text)
 
 pub record IsListingChecked (listing : List ℕ) (report : Report) : Type 0 where
-  pub sound : report.is_sound ≡ is_ok (said_in listing)
+  pub sound : report.is_sound ≡ is_ok (source_in listing)
   pub text : IsListingReport listing (string_bytes report.text)
 
 -- two reports as one, which is sound where both are

@@ -406,8 +406,13 @@ fn a_long_key_is_cut(rt: HostRuntime) -> Result<(), Fail> {
 /// Texts for `weave`: no fault, or the line and the word at fault.
 #[test]
 fn listings(rt: HostRuntime) -> Result<(), Fail> {
-    let texts: [(&[u8], &str); 8] = [
+    let texts: [(&[u8], &str); 10] = [
         (b"", "text: no fault\n"),
+        (b"START CA PROG\nPROG OCT 54171", "text: no fault\n"),
+        (
+            b"START CA PROG\n",
+            "text line 1: no line has this name\n    START CA PROG\n",
+        ),
         (b"# a rope\n4000 14000 TCF 4000", "text: no fault\n"),
         (
             b"4000 14000\n3777 00001 here\n",
