@@ -1,6 +1,6 @@
 //! Sources of ropes, each line's word worked by hand from the tables of orders. The numbers are octal.
 use agc_rope_listing::{LineFault, list};
-use agc_source::{SourceFault, SourceTrouble, weave_source};
+use agc_source::{SourceFault, SourceTrouble, rope_source, weave_source};
 use agc_store::{Rope, RopeForm, Store};
 use std::process::Abort;
 use std::test::Fail;
@@ -236,4 +236,40 @@ fn the_first_fault_is_told(rt: HostRuntime) {
         SourceFault::UnknownOrder,
         " CA ONE\n CAA 1\n CAB 1\n",
     );
+}
+
+/// Each word stands as the order that `list` shows, and a place is gone to where no word stands before it. Bank 03 begins
+/// anew, so the digits stand for the extracode that follows bank 02's EXTEND.
+#[test]
+fn a_rope_stands_as_a_source(rt: HostRuntime) -> Result<(), Fail> {
+    let alloc = rt.alloc();
+    let words =
+        "00,3777 00006\n01,2000 00010\n4000 30001\n5777 00006\n6000 01010\n6001 77777\n43,2000 07123\n";
+    let rope = weave_source(alloc, RopeForm::Classic, words.as_bytes())?;
+    let store = Store::new(Rope::read(alloc, rope.as_slice())?);
+    let source = rope_source(alloc, &store, None)?;
+    assert_eq!(&rt;
+        source.as_str(),
+        "        SETLOC 00,3777
+        EXTEND
+        SETLOC 01,2000
+        TC 0010
+        SETLOC 02,4000
+        CA 0001
+        SETLOC 02,5777
+        EXTEND
+        SETLOC 03,6000
+        OCT 01010
+        MASK 7777
+        SETLOC 43,2000
+        TC 7123
+"
+    );
+    weaves(&rt, source.as_str(), words)?;
+    let bank = rope_source(alloc, &store, Some(3))?;
+    assert_eq!(&rt;
+        bank.as_str(),
+        "        SETLOC 03,6000\n        OCT 01010\n        MASK 7777\n"
+    );
+    Ok(())
 }
