@@ -19,6 +19,10 @@ use Rattle.agc_count.specs.declared.counts.Counts.{Counts}
 use Rattle.agc_count.specs.declared.mode.Mode.{Mode}
 use Rattle.agc_count.specs.declared.passage.Passage.{Passage}
 
+pub begins : (s : State) → (entry_of s).cycle ≡ s.cycle
+unfolding entry_of
+begins s = refl
+
 none_of : (b : Bool) → (b && false) ≡ false
 none_of true = refl
 none_of false = refl

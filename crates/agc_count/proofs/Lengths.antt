@@ -15,7 +15,6 @@ use Rattle.agc_trace.specs.Trace.{is_stop, trace_of}
 use Rattle.agc_trace.specs.TraceLaws.{EndsWithStop, NeverGoBack}
 use Rattle.agc_trace.specs.declared.entry.Entry.{Entry}
 use Rattle.agc_trace.proofs.Forward.{trace_goes_forward}
-use Rattle.agc_trace.proofs.Range.{begins}
 use Rattle.agc_trace.proofs.Steps.{trace_by_entry}
 use Rattle.agc_trace.proofs.Stops.{trace_ends}
 use Rattle.agc_count.specs.Counts.{count_of, counted, counted_as, counted_at, counted_happening, counted_inhibited, counted_one, counted_serving, nothing_counted}
@@ -27,6 +26,7 @@ use Rattle.agc_count.specs.declared.counts.Counts.{Counts}
 use Rattle.agc_count.specs.declared.mode.Mode.{Mode}
 use Rattle.agc_count.specs.declared.passage.Passage.{Passage}
 use Rattle.agc_count.specs.declared.tally.Tally.{Tally}
+use Rattle.agc_count.proofs.Left.{begins}
 
 either_length : (b : Bool) (n : ℕ) (c d : Counts) → counted_cycles c ≡ n → counted_cycles d ≡ n → counted_cycles (if b then c else d) ≡ n
 either_length true n c d e f = e

@@ -3,3 +3,4 @@ mod Places
 mod Lengths
 mod Sums
 mod Lines
+mod Interrupts

@@ -50,13 +50,13 @@ pub added_length : (place : ℕ) (t : Tally) (xs : List Tally) → length (added
 unfolding added
 added_length place t xs = length-set xs place (plus (get_or xs place nothing) t)
 
-added_here : (here place : ℕ) (t : Tally) (xs : List Tally) → here ≡ place → here < length xs → tally_at here (added place t xs) ≡ plus (tally_at here xs) t
+pub added_here : (here place : ℕ) (t : Tally) (xs : List Tally) → here ≡ place → here < length xs → tally_at here (added place t xs) ≡ plus (tally_at here xs) t
 unfolding added tally_at
 added_here here place t xs e l =
     subst (λ (n : ℕ). get_or (set xs n (plus (get_or xs n nothing) t)) here nothing ≡ plus (get_or xs here nothing) t) e
     (get_or-set_same xs here (plus (get_or xs here nothing) t) nothing l)
 
-added_elsewhere : (here place : ℕ) (t : Tally) (xs : List Tally) → here ≢ place → tally_at here (added place t xs) ≡ tally_at here xs
+pub added_elsewhere : (here place : ℕ) (t : Tally) (xs : List Tally) → here ≢ place → tally_at here (added place t xs) ≡ tally_at here xs
 unfolding added tally_at
 added_elsewhere here place t xs e = get_or-set_other xs place here (plus (get_or xs place nothing) t) nothing e
 
@@ -69,7 +69,7 @@ pub empty_length : (size : ℕ) → length (empty_table size) ≡ size
 unfolding empty_table
 empty_length size = length-replicate size nothing
 
-empty_tally : (size place : ℕ) → place < size → tally_at place (empty_table size) ≡ nothing
+pub empty_tally : (size place : ℕ) → place < size → tally_at place (empty_table size) ≡ nothing
 unfolding empty_table tally_at
 empty_tally size place l = get_or-replicate size place nothing nothing l
 

@@ -1,8 +1,12 @@
 -- What the counts of a run say of its boundaries.
-use Rattle.std.specs.Prelude.{◌≡◌, ℕ, ◌+◌, Bool, List, length}
+use Rattle.std.specs.Prelude.{◌≡◌, ◌==◌, ◌&&◌, Option, Some, None, ℕ, ◌+◌, Bool, false, List, length}
 use Rattle.std.specs.List.{sum_by}
+use Rattle.agc_processor.specs.Interrupt.{rupt_number}
+use Rattle.agc_processor.specs.declared.interrupt.Rupt.{Rupt}
 use Rattle.agc_source_words.specs.declared.location.Location.{Location}
 use Rattle.agc_trace.specs.Selection.{runs_at}
+use Rattle.agc_count.specs.Counts.{is_entry}
+use Rattle.agc_count.specs.Passage.{service_of}
 use Rattle.agc_count.specs.Tally.{cycles_in, times_in}
 use Rattle.agc_count.specs.declared.counts.Counts.{Counts}
 use Rattle.agc_count.specs.declared.passage.Passage.{Passage}
@@ -28,3 +32,19 @@ pub record MakeUp (table others : List Tally) (all : Tally) : Type 0 where
 -- all orders are those of the places of both memories, and those of all names
 abbrev pub OrdersAddUp : Counts → Type 0
 OrdersAddUp c = MakeUp c.fixed c.erasable c.orders × MakeUp c.basics c.extracodes c.orders
+
+-- two interrupts are the same
+abbrev pub is_rupt : Rupt → Rupt → Bool
+is_rupt r other = rupt_number r == rupt_number other
+
+-- a boundary belongs to a service of an interrupt
+abbrev pub is_served : Rupt → Option Rupt → Bool
+is_served r (Some other) = is_rupt r other
+is_served r None = false
+
+abbrev pub serves : Rupt → Passage → Bool
+serves r p = is_served r (service_of p)
+
+-- a boundary takes an interrupt
+abbrev pub takes : Rupt → Passage → Bool
+takes r p = serves r p && is_entry p.happening

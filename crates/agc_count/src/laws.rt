@@ -1,11 +1,13 @@
 //! Laws of every count, each the contract of a function that does nothing.
-ghost use Rattle.std.specs.Prelude.{◌≡◌, ◌+◌, ◌<◌, ℕ, List, filter};
+ghost use Rattle.std.specs.Prelude.{◌≡◌, ◌+◌, ◌-◌, ◌<◌, ℕ, List, filter, length};
+ghost use Rattle.agc_processor.specs.Interrupt.{rupt_number};
+ghost use Rattle.agc_processor.specs.declared.interrupt.Rupt.{Rupt};
 ghost use Rattle.agc_machine.specs.Run.{run_of};
 ghost use Rattle.agc_machine.specs.State.{State};
 ghost use Rattle.agc_source_words.specs.declared.location.Location.TheVariants as location;
 ghost use Rattle.agc_trace.specs.Trace.{trace_of};
 ghost use Rattle.agc_count.specs.Counts.{count_of};
-ghost use Rattle.agc_count.specs.Laws.{counted_cycles, ran_at, tally_of};
+ghost use Rattle.agc_count.specs.Laws.{counted_cycles, ran_at, serves, takes, tally_of};
 ghost use Rattle.agc_count.specs.Mode.{at_start};
 ghost use Rattle.agc_count.specs.Passage.{passages};
 ghost use Rattle.agc_count.specs.Tally.{tally_at};
@@ -17,6 +19,16 @@ pub fn a_place_has_its_boundaries()
         → tally_at place (count_of ps).fixed ≡ tally_of (filter (ran_at (location.Fixed place)) ps) }
     ensures erasable { (cell : ℕ) (ps : List Passage) → cell < 0o4000
         → tally_at cell (count_of ps).erasable ≡ tally_of (filter (ran_at (location.Erasable cell)) ps) }
+{}
+
+/// Each interrupt was taken as often as there are boundaries that took it, and its services have the cycles of all
+/// boundaries that belonged to them, the entries with them.
+pub fn an_interrupt_has_its_services()
+    ensures taken { (r : Rupt) (ps : List Passage)
+        → (tally_at (rupt_number r - 1) (count_of ps).interrupts).times ≡ length (filter (takes r) ps) }
+    ensures cycles { (r : Rupt) (ps : List Passage)
+        → (tally_at (rupt_number r - 1) (count_of ps).interrupts).cycles
+        ≡ (tally_of (filter (serves r) ps)).cycles }
 {}
 
 /// The cycles of a whole run, by kinds, add up to its length.
