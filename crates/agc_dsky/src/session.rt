@@ -111,8 +111,14 @@ impl Session {
         }
         self.remark = "";
         match typed {
-            Typed::Quit => return (self.pressed_now(), Wish::Quit),
-            Typed::Save => return (self.pressed_now(), Wish::Save),
+            Typed::Quit => {
+                self.press_now();
+                return (self, Wish::Quit);
+            }
+            Typed::Save => {
+                self.press_now();
+                return (self, Wish::Save);
+            }
             Typed::Back => return (self.back(alloc, clock), Wish::None),
             Typed::Key(cap) => {
                 if self.seat.type_key(cap).is_err() {
@@ -131,11 +137,11 @@ impl Session {
         (self, Wish::None)
     }
 
-    /// The key that may go down at the present cycle has gone down.
-    fn pressed_now(mut self) -> Session {
-        let pressed = self.seat.go_to(self.seat.cycle());
+    /// The key that may go down at the present cycle goes down.
+    fn press_now(&mut self) {
+        let cycle = self.seat.cycle();
+        let pressed = self.seat.go_to(cycle);
         self.note(pressed);
-        self
     }
 
     /// The Executive's tables are shown, or no longer, where their places are known.
