@@ -42,6 +42,12 @@ fn count_run<P: Progress>(
 {
     let counts = count(alloc, machine, asked.span, progress)?;
     let mut text = String::new(alloc);
-    push_count(&mut text, asked.layout, asked.is_whole, &counts, machine.store())?;
+    push_count(
+        &mut text,
+        asked.layout,
+        asked.is_whole,
+        &counts,
+        machine.store(),
+    )?;
     Ok(text)
 }

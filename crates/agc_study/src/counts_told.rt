@@ -34,7 +34,15 @@ where
 {
     let mut rope = InputFile::new(fs::open(rt, asked.rope.as_str()));
     let mut script = InputFile::new(fs::open(rt, asked.script.as_str()));
-    write_count(rt.alloc(), asked, &mut rope, &mut script, out, err, progress)
+    write_count(
+        rt.alloc(),
+        asked,
+        &mut rope,
+        &mut script,
+        out,
+        err,
+        progress,
+    )
 }
 
 /// Counts the run of a rope and a script, and writes what is counted.

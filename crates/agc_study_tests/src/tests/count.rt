@@ -38,10 +38,28 @@ fn counted(rt: &(impl AllocGlobal + Abort), from: u64, to: u64) -> Result<Counts
 #[test]
 fn words_of_a_run(rt: HostRuntime) -> Result<(), Fail> {
     let counts = counted(&rt, 0, u64::MAX)?;
-    assert_eq!(rt; counts.fixed.at(0o4000), Tally { times: 1, cycles: 2 });
-    assert_eq!(rt; counts.fixed.at(0o4003), Tally { times: 5, cycles: 5 });
+    assert_eq!(rt;
+        counts.fixed.at(0o4000),
+        Tally {
+            times: 1,
+            cycles: 2
+        }
+    );
+    assert_eq!(rt;
+        counts.fixed.at(0o4003),
+        Tally {
+            times: 5,
+            cycles: 5
+        }
+    );
     assert_eq!(rt; counts.fixed.at(0o4004), Tally::NOTHING);
-    assert_eq!(rt; counts.orders, Tally { times: 8, cycles: 10 });
+    assert_eq!(rt;
+        counts.orders,
+        Tally {
+            times: 8,
+            cycles: 10
+        }
+    );
     assert_eq!(rt; counts.erasable.len(), 0o4000);
     Ok(())
 }
@@ -53,7 +71,9 @@ fn a_part_in_print(rt: HostRuntime) -> Result<(), Fail> {
     let machine = machine_of(&rt)?;
     let mut text = String::new(rt.alloc());
     push_count(&mut text, Layout::Csv, false, &counts, machine.store())?;
-    assert_eq!(rt; text.as_str(), "kind,name,order,times,cycles
+    assert_eq!(rt;
+        text.as_str(),
+        "kind,name,order,times,cycles
 all,\"boundaries\",,2,3
 all,\"orders\",,2,3
 all,\"timers\",,0,0
@@ -66,6 +86,7 @@ extracode,\"WRITE\",,1,2
 bank,\"02\",,2,3
 word,\"02,4002\",01010 WRITE 010,1,2
 word,\"02,4003\",14003 TCF 4003,1,1
-");
+"
+    );
     Ok(())
 }
