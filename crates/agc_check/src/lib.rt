@@ -11,6 +11,7 @@ mod remarks;
 mod reports;
 mod rope_report;
 mod shown;
+mod source_remark;
 mod vectors;
 
 pub use holdings::{RopeHoldings, ScriptHoldings, Span, holdings_of_rope, holdings_of_script};

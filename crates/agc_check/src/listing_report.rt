@@ -6,6 +6,7 @@ ghost use Rattle.agc_check.specs.ListingReport.{IsListingReport, listing_fault_t
 use crate::remarks::{push_quoted, words_of};
 use crate::reports::Report;
 use crate::shown::push_line;
+use crate::source_remark::push_unknown_order;
 use agc_rope_listing::LineFault;
 use agc_source::{SourceFault, SourceTrouble, weave_source};
 use agc_store::RopeForm;
@@ -72,10 +73,17 @@ fn remark(
     text.push_str("    ")?;
     push_line(&mut text, line)?;
     text.push_str("\n")?;
-    if let SourceFault::Listed(fault) = fault {
-        text.push_str("    ")?;
-        let words = words_of(alloc, line)?;
-        push_why(&mut text, fault, words.as_slice())?;
+    match fault {
+        SourceFault::Listed(fault) => {
+            text.push_str("    ")?;
+            let words = words_of(alloc, line)?;
+            push_why(&mut text, fault, words.as_slice())?;
+        }
+        SourceFault::UnknownOrder => {
+            text.push_str("    ")?;
+            push_unknown_order(alloc, &mut text, line)?;
+        }
+        _ => {}
     }
     Ok(text)
 }

@@ -245,7 +245,7 @@ pub(crate) fn is_pro(alloc: Global, word: &[u8]) -> Result<bool, AllocError> {
 }
 
 /// Tells that a word is no name of a kind, and the name that was perhaps meant.
-fn push_nearest(
+pub(crate) fn push_nearest(
     alloc: Global,
     text: &mut String,
     word: &[u8],

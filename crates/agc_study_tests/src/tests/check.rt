@@ -406,12 +406,20 @@ fn a_long_key_is_cut(rt: HostRuntime) -> Result<(), Fail> {
 /// Texts for `weave`: no fault, or the line and the word at fault.
 #[test]
 fn listings(rt: HostRuntime) -> Result<(), Fail> {
-    let texts: [(&[u8], &str); 10] = [
+    let texts: [(&[u8], &str); 12] = [
         (b"", "text: no fault\n"),
         (b"START CA PROG\nPROG OCT 54171", "text: no fault\n"),
         (
             b"START CA PROG\n",
             "text line 1: no line has this name\n    START CA PROG\n",
+        ),
+        (
+            b"START CAA 4000 # one\n",
+            "text line 1: no order or directive has this name; it stands after the first column\n    START CAA 4000 # one\n    `CAA` is no order or directive; the nearest is `CA`\n",
+        ),
+        (
+            b"# here\nSTART # alone\n",
+            "text line 2: no order or directive has this name; it stands after the first column\n    START # alone\n    the order is missing: it stands after the name\n",
         ),
         (b"# a rope\n4000 14000 TCF 4000", "text: no fault\n"),
         (
