@@ -9,16 +9,14 @@ use crate::counts_told::count_to;
 use crate::films_told::film_to;
 use crate::ropes_told::weave_to;
 use crate::runs_told::{compare_to, trace_to};
-use crate::sources::list_as_asked;
+use crate::sources_told::list_as_asked;
 use crate::unreadable::remark_unreadable;
 use agc_args::{ArgsFault, end_mistaken};
 use agc_asked::{Asked, NAME};
 use agc_progress::Shown;
+use agc_results::TROUBLE;
 use std::io::Write;
 use std::rt::Files;
-
-/// The status where nothing is printed: a mistake in the command line, or a file at fault.
-pub const TROUBLE: u8 = 2;
 
 /// The cycle at which what is asked for ends at the latest; 0 where no machine runs.
 pub fn last_cycle(asked: &Result<Asked, ArgsFault>) -> u64 {

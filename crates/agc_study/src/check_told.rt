@@ -1,13 +1,12 @@
 //! The report of `check`, written: of a rope and a script, of live keys, of the text of a rope.
 ghost use Rattle.std.specs.Prelude.{◌≡◌, ◌⊎◌, true, false};
-ghost use Rattle.agc_study.specs.Checked.{IsCheckWritten, IsUnchecked, IsWritten};
+ghost use Rattle.agc_results.specs.Checked.{IsCheckWritten, IsUnchecked, IsWritten};
 ghost use Rattle.agc_study.specs.Ended.{IsEnded};
-ghost use Rattle.agc_study.specs.Trouble.{IsTold};
+ghost use Rattle.agc_results.specs.Trouble.{IsTold};
 
-use crate::checks::{check_key_file, check_listing_file, check_with, joined};
-use crate::trouble::Trouble;
 use agc_asked::Checking;
 use agc_check::Report;
+use agc_results::{Trouble, check_key_file, check_listing_file, check_with, joined};
 use agc_session::{DONE, InputFile, status_of};
 use agc_store::RopeForm;
 use std::alloc::Global;

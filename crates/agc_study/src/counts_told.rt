@@ -2,16 +2,15 @@
 ghost use Rattle.std.specs.Prelude.{◌≡◌, ◌≢◌, ◌⊎◌};
 ghost use Rattle.std.specs.Io.KnownBytes.{Appends};
 ghost use Rattle.agc_session.specs.declared.refusal.Refusal.{Refusal};
-ghost use Rattle.agc_study.specs.Counted.{IsCountWritten};
+ghost use Rattle.agc_results.specs.Counted.{IsCountWritten};
 ghost use Rattle.agc_study.specs.Ended.{IsEnded};
-ghost use Rattle.agc_study.specs.Started.{IsRefused};
-ghost use Rattle.agc_study.specs.Trouble.{trouble_line};
-ghost use Rattle.agc_study.specs.declared.trouble.Trouble.TheVariants as told;
+ghost use Rattle.agc_results.specs.Started.{IsRefused};
+ghost use Rattle.agc_results.specs.Trouble.{trouble_line};
+ghost use Rattle.agc_results.specs.declared.trouble.Trouble.TheVariants as told;
 
-use crate::counts::count_files;
-use crate::trouble::Trouble;
 use agc_asked::Counting;
 use agc_progress::Shown;
+use agc_results::{Trouble, count_files};
 use agc_session::{DONE, InputFile, status_of};
 use std::alloc::Global;
 use std::fs;

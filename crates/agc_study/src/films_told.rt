@@ -2,17 +2,16 @@
 ghost use Rattle.std.specs.Prelude.{◌≡◌, ◌≢◌, ◌⊎◌, string_bytes};
 ghost use Rattle.std.specs.Io.KnownBytes.{Appends, Keeps};
 ghost use Rattle.agc_study.specs.Ended.{IsEnded};
-ghost use Rattle.agc_study.specs.Filmed.{IsFilmPairWritten, IsFilmWritten};
-ghost use Rattle.agc_study.specs.Started.{IsPairRefused, IsRefused};
-ghost use Rattle.agc_study.specs.Trouble.{IsTold, trouble_line};
+ghost use Rattle.agc_results.specs.Filmed.{IsFilmPairWritten, IsFilmWritten};
+ghost use Rattle.agc_results.specs.Started.{IsPairRefused, IsRefused};
+ghost use Rattle.agc_results.specs.Trouble.{IsTold, trouble_line};
 ghost use Rattle.agc_session.specs.declared.refusal.Refusal.{Refusal};
-ghost use Rattle.agc_study.specs.declared.trouble.Trouble.TheVariants as told;
+ghost use Rattle.agc_results.specs.declared.trouble.Trouble.TheVariants as told;
 
-use crate::films::{FilmPage, film_file_pairs, film_files};
-use crate::trouble::Trouble;
 use agc_asked::Filming;
 use agc_film::{HEAD, RunFiles, TAIL};
 use agc_progress::Shown;
+use agc_results::{FilmPage, Trouble, film_file_pairs, film_files};
 use agc_session::{DONE, InputFile, status_of};
 use std::alloc::Global;
 use std::fs;

@@ -1,19 +1,19 @@
 //! What is told of runs, written: a trace, a comparison.
 ghost use Rattle.std.specs.Prelude.{◌≡◌, ◌≢◌, ◌⊎◌, true, false};
 ghost use Rattle.std.specs.Io.KnownBytes.{Keeps};
-ghost use Rattle.agc_study.specs.Compared.{IsComparisonWritten, IsToldTo};
+ghost use Rattle.agc_results.specs.Compared.{IsComparisonWritten, IsToldTo};
 ghost use Rattle.agc_study.specs.Ended.{IsEnded};
-ghost use Rattle.agc_study.specs.Started.{IsPairRefused};
-ghost use Rattle.agc_study.specs.Traced.{IsTraceWritten};
-ghost use Rattle.agc_study.specs.Trouble.{IsTold};
+ghost use Rattle.agc_results.specs.Started.{IsPairRefused};
+ghost use Rattle.agc_results.specs.Traced.{IsTraceWritten};
+ghost use Rattle.agc_results.specs.Trouble.{IsTold};
 
-use crate::compares::{Told, compare_files};
-use crate::names::names_at;
-use crate::traces::{Traced, remark_service, status_of_untraced, trace_files};
 use agc_asked::{Comparing, Tracing};
 use agc_machine::{Machine, Upcoming};
 use agc_names::NameTable;
 use agc_progress::Shown;
+use agc_results::{
+    Told, Traced, compare_files, names_at, remark_service, status_of_untraced, trace_files,
+};
 use agc_session::{DONE, InputFile, status_of};
 use agc_trace::Selection;
 use std::alloc::Global;

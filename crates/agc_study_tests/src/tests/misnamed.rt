@@ -1,7 +1,7 @@
 //! Orders that stand behind the words of listings, each word's own worked by hand from the tables of orders. The
 //! numbers are octal.
+use agc_results::misnamed_line;
 use agc_source::{Written, first_misnamed};
-use agc_study::misnamed_line;
 use std::process::Abort;
 use std::test::Fail;
 

@@ -2,8 +2,8 @@
 use agc_names::{
     NameFault, NameTable, NameTrouble, push_column, push_name_line, push_named, text_with_names,
 };
+use agc_results::{Trouble, read_names};
 use agc_source_words::Location;
-use agc_study::{Trouble, read_names};
 use std::process::Abort;
 use std::test::Fail;
 

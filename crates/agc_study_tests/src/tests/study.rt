@@ -5,14 +5,15 @@ use agc_args::ArgsFault;
 use agc_asked::{Asked, Comparing, Filming, asked_by};
 use agc_film::{Part, RunFiles};
 use agc_progress::Untold;
+use agc_results::{
+    Trouble, check_files, check_key_file, check_listing_file, check_with, compare_files,
+    film_files, list_rope, weave_text,
+};
 use agc_rope_listing::LineFault;
 use agc_session::Refusal;
 use agc_source::{SourceFault, SourceTrouble};
 use agc_store::{RopeFault, RopeForm};
-use agc_study::{
-    Trouble, answer, check_files, check_key_file, check_listing_file, check_with, compare_files,
-    film_files, last_cycle, list_rope, weave_text, write_report, write_told,
-};
+use agc_study::{answer, last_cycle, write_report, write_told};
 use std::process::Abort;
 use std::rt::Files;
 use std::test::Fail;

@@ -1,7 +1,7 @@
 use Rattle.std.specs.Prelude.{string_bytes}
 use Rattle.agc_session.proofs.Denied.{rope_known_memory}
 use Rattle.agc_session.specs.declared.refusal.Refusal.TheVariants as refusal
-use Rattle.agc_study.specs.declared.trouble.Trouble.TheVariants as trouble
+use Rattle.agc_results.specs.declared.trouble.Trouble.TheVariants as trouble
 use Rattle.agc_study.proofs.ropes_told.write_list.Goals as goal
 
 pub returns-in-Ok-clause-listed : goal.returns-in-Ok-clause-listed

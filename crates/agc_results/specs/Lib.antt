@@ -1,0 +1,10 @@
+pub mod Trouble
+pub mod Named
+pub mod Listed
+pub mod Sourced
+pub mod Checked
+pub mod Started
+pub mod Compared
+pub mod Filmed
+pub mod Traced
+pub mod Counted

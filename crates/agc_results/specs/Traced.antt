@@ -1,0 +1,63 @@
+-- What `trace` writes of the run of a rope and a script, and how it fails.
+use Rattle.std.specs.Prelude.{◌≡◌, ◌⊎◌, ℕ, List, ◌++◌, Option, codes}
+use Rattle.std.specs.Fmt.{decimal}
+use Rattle.std.specs.Io.KnownBytes.{Appends, Keeps}
+use Rattle.agc_processor.specs.Interrupt.{rupt_name}
+use Rattle.agc_machine.specs.State.{State}
+use Rattle.agc_asked.specs.declared.asked.Tracing.{Tracing}
+use Rattle.agc_names.specs.Names.{Named}
+use Rattle.agc_trace.specs.Cut.{IsCut}
+use Rattle.agc_trace.specs.Selection.{selected_lines}
+use Rattle.agc_trace.specs.Service.{service_left}
+use Rattle.agc_trace.specs.Trace.{trace_of}
+use Rattle.agc_trace.specs.declared.service.Service.{Service}
+use Rattle.agc_trace.specs.declared.tracing.TraceFault.{TraceFault}
+use Rattle.agc_trace.specs.declared.tracing.TraceFault.TheVariants as fault
+use Rattle.agc_results.specs.Started.{IsRefused, IsStarted}
+use Rattle.agc_results.specs.Trouble.{trouble_line}
+use Rattle.agc_results.specs.declared.traces.Untraced.{Untraced}
+use Rattle.agc_results.specs.declared.traces.Untraced.TheVariants as untraced
+use Rattle.agc_results.specs.declared.trouble.Trouble.TheVariants as trouble
+
+-- the lines of the run of two files were written, with these names, and this service goes on at its stop
+pub record IsTraced (asked : Tracing) (names : Option (List Named))
+    (rope script before after : Option (List ℕ)) (service : Option Service) : Type 0 where
+  pub machine : State
+  pub start : IsStarted asked.form asked.until asked.limit rope script machine
+  pub lines : Appends before after (selected_lines names asked.selection (trace_of machine))
+  pub left : service ≡ service_left asked.selection (trace_of machine)
+
+-- the same, and of the service that goes on nothing is told
+pub record IsTraceWritten (asked : Tracing) (names : Option (List Named))
+    (rope script before after : Option (List ℕ)) : Type 0 where
+  pub service : Option Service
+  pub traced : IsTraced asked names rope script before after service
+
+-- the lines of the run of two files were cut off
+pub record IsCutOff (asked : Tracing) (names : Option (List Named))
+    (rope script before after : Option (List ℕ)) (why : TraceFault) : Type 0 where
+  pub machine : State
+  pub start : IsStarted asked.form asked.until asked.limit rope script machine
+  pub cut : IsCut why before after (selected_lines names asked.selection (trace_of machine))
+
+-- why no whole trace was written: a refusal, before anything was, or the lines were cut off
+abbrev pub IsUntraced : Tracing → Option (List Named) → Option (List ℕ) → Option (List ℕ)
+    → Option (List ℕ) → Option (List ℕ) → Untraced → Type 0
+IsUntraced asked names rope script before after (untraced.Refused r) =
+    IsRefused asked.form asked.until asked.limit rope script r × Keeps before after
+IsUntraced asked names rope script before after (untraced.Cut why) =
+    IsCutOff asked names rope script before after why
+
+-- How the program ends then: with 2 and the line of a refusal, or with 3 where that line or the trace
+-- cannot be written, or memory ran out.
+abbrev pub EndsUntraced : Untraced → ℕ → Option (List ℕ) → Option (List ℕ) → Type 0
+EndsUntraced (untraced.Refused r) ended before after =
+    ((ended ≡ 2) × Appends before after (trouble_line (trouble.Refused r))) ⊎ (ended ≡ 3)
+EndsUntraced (untraced.Cut fault.Write) ended before after = (ended ≡ 3) × Keeps before after
+EndsUntraced (untraced.Cut fault.Memory) ended before after = ended ≡ 3
+
+-- the line of a service that goes on at the stop
+abbrev pub service_line : Service → List ℕ
+service_line service =
+    codes "agc-study: the service of " ++ rupt_name service.rupt ++ codes ", begun at cycle "
+    ++ decimal service.cycle ++ codes ", has not ended\n"

@@ -1,0 +1,53 @@
+//! A rope and a script to what is counted of their run.
+ghost use Rattle.std.specs.Prelude.{◌≡◌, IfErr, IfOk, string_bytes};
+ghost use Rattle.agc_results.specs.Counted.{IsCounted, counted_text};
+ghost use Rattle.agc_results.specs.Started.{IsRefused};
+
+use crate::runs::read_machine;
+use agc_asked::Counting;
+use agc_count::{count, push_count};
+use agc_machine::Machine;
+use agc_progress::Progress;
+use agc_session::Refusal;
+use std::alloc::{AllocError, Global};
+use std::io::Read;
+
+/// Reads a rope and a script, and makes the text of what is counted of their run. The refusal is the first that applies
+/// of the rope, the script, the limit and the text of `--until`, or want of memory.
+pub fn count_files<R: Read, S: Read, P: Progress>(
+    alloc: Global,
+    asked: &Counting,
+    rope: &mut R,
+    script: &mut S,
+    progress: &mut P,
+) -> Result<String, Refusal>
+    ensures counted { IfOk result
+        (IsCounted asked.now (R.remaining rope.old) (S.remaining script.old)) }
+    ensures refused { IfErr result (IsRefused asked.now.form asked.now.until asked.now.limit
+        (R.remaining rope.old) (S.remaining script.old)) }
+{
+    let (form, limit) = (asked.form, asked.limit);
+    let mut machine = read_machine(alloc, form, limit, &asked.until, rope, script)?;
+    Ok(count_run(alloc, asked, &mut machine, progress)?)
+}
+
+/// The text of what is counted of a machine's run. Fails where memory runs out.
+fn count_run<P: Progress>(
+    alloc: Global,
+    asked: &Counting,
+    machine: &mut Machine,
+    progress: &mut P,
+) -> Result<String, AllocError>
+    ensures { IfOk result (λ text. string_bytes text ≡ counted_text asked.now machine.old) }
+{
+    let counts = count(alloc, machine, asked.span, progress)?;
+    let mut text = String::new(alloc);
+    push_count(
+        &mut text,
+        asked.layout,
+        asked.is_whole,
+        &counts,
+        machine.store(),
+    )?;
+    Ok(text)
+}

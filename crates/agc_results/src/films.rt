@@ -1,0 +1,92 @@
+//! Ropes and scripts to the page that shows their runs.
+ghost use Rattle.std.specs.Prelude.{IfErr, IfOk};
+ghost use Rattle.agc_results.specs.Filmed.{IsFilm, IsFilmPair, IsFilmed};
+ghost use Rattle.agc_results.specs.Started.{IsPairRefused, IsRefused};
+
+use crate::runs::read_machine;
+use crate::trouble::Trouble;
+use agc_asked::Filming;
+use agc_film::{HEAD, Reel, RunFiles, TAIL, film, push_film, push_film_pair};
+use agc_progress::Progress;
+use agc_session::Refusal;
+use std::alloc::Global;
+use std::io::Read;
+
+/// A page for a browser.
+#[derive(Debug, Drop)]
+pub struct FilmPage {
+    pub text: String,
+    /// How many frames it has.
+    pub frames: usize,
+}
+
+/// Reads a rope and a script, and makes the page that shows their run. The refusal is the first that applies
+/// of the rope, the script, the limit and the text of `--until`, or want of memory.
+pub fn film_files<R: Read, S: Read, P: Progress>(
+    alloc: Global,
+    asked: &Filming,
+    rope: &mut R,
+    script: &mut S,
+    progress: &mut P,
+) -> Result<FilmPage, Refusal>
+    ensures film { IfOk result (λ page. IsFilm HEAD.now TAIL.now asked.now
+        (R.remaining rope.old) (S.remaining script.old) page.text) }
+    ensures refused { IfErr result (IsRefused asked.now.form asked.now.until asked.now.limit
+        (R.remaining rope.old) (S.remaining script.old)) }
+{
+    let reel = read_reel(alloc, asked, rope, script, progress)?;
+    let frames = reel.frames.len();
+    let mut text = String::new(alloc);
+    push_film(&mut text, asked.limit, &asked.files, &reel)?;
+    Ok(FilmPage { text, frames })
+}
+
+/// Reads two ropes and two scripts, and makes the page that shows their runs side by side, the one on the right
+/// under the names of other files. The refusal is that of the run on the left, or where there is none that of the run on the right, told as the other run's.
+pub fn film_file_pairs<R: Read, S: Read, T: Read, U: Read, P: Progress>(
+    alloc: Global,
+    asked: &Filming,
+    other: &RunFiles,
+    left_rope: &mut R,
+    left_script: &mut S,
+    right_rope: &mut T,
+    right_script: &mut U,
+    progress: &mut P,
+) -> Result<FilmPage, Trouble>
+    ensures film { IfOk result (λ page. IsFilmPair HEAD.now TAIL.now asked.now other.now
+        (R.remaining left_rope.old) (S.remaining left_script.old)
+        (T.remaining right_rope.old) (U.remaining right_script.old) page.text) }
+    ensures refused { IfErr result (IsPairRefused asked.now.form asked.now.until asked.now.limit
+        (R.remaining left_rope.old) (S.remaining left_script.old)
+        (T.remaining right_rope.old) (U.remaining right_script.old)) }
+{
+    let left = read_reel(alloc, asked, left_rope, left_script, progress)?;
+    let right = match read_reel(alloc, asked, right_rope, right_script, progress) {
+        Ok(reel) => reel,
+        Err(refusal) => return Err(Trouble::of_other_run(refusal)),
+    };
+    let frames = left.frames.len().saturating_add(right.frames.len());
+    let mut text = String::new(alloc);
+    match push_film_pair(&mut text, asked.limit, &asked.files, &left, other, &right) {
+        Ok(()) => Ok(FilmPage { text, frames }),
+        Err(_) => Err(Trouble::Refused(Refusal::Memory)),
+    }
+}
+
+/// Reads a rope and a script, and runs them to their reel.
+fn read_reel<R: Read, S: Read, P: Progress>(
+    alloc: Global,
+    asked: &Filming,
+    rope: &mut R,
+    script: &mut S,
+    progress: &mut P,
+) -> Result<Reel, Refusal>
+    ensures filmed { IfOk result
+        (IsFilmed asked.now (R.remaining rope.old) (S.remaining script.old)) }
+    ensures refused { IfErr result (IsRefused asked.now.form asked.now.until asked.now.limit
+        (R.remaining rope.old) (S.remaining script.old)) }
+{
+    let (form, limit) = (asked.form, asked.limit);
+    let mut machine = read_machine(alloc, form, limit, &asked.until, rope, script)?;
+    Ok(film(alloc, &mut machine, asked.part, progress)?)
+}
