@@ -159,22 +159,27 @@ fn lamps_show(
 
 #[test]
 fn every_lamp_alone(rt: HostRuntime) -> Result<(), Fail> {
-    lamps_show(&rt, 0o10, 0o60004, "FLASH off\nLAMPS VEL\n")?;
-    lamps_show(&rt, 0o10, 0o60010, "FLASH off\nLAMPS NO ATT\n")?;
-    lamps_show(&rt, 0o10, 0o60020, "FLASH off\nLAMPS ALT\n")?;
-    lamps_show(&rt, 0o10, 0o60040, "FLASH off\nLAMPS GIMBAL LOCK\n")?;
-    lamps_show(&rt, 0o10, 0o60200, "FLASH off\nLAMPS TRACKER\n")?;
-    lamps_show(&rt, 0o10, 0o60400, "FLASH off\nLAMPS PROG\n")?;
-    lamps_show(&rt, 0o10, 0o63103, "FLASH off\nLAMPS none\n")?;
-    lamps_show(&rt, 0o11, 0o00001, "FLASH off\nLAMPS ISS\n")?;
-    lamps_show(&rt, 0o11, 0o00002, "FLASH off\nLAMPS COMP ACTY\n")?;
-    lamps_show(&rt, 0o11, 0o00004, "FLASH off\nLAMPS UPLINK ACTY\n")?;
-    lamps_show(&rt, 0o11, 0o00010, "FLASH off\nLAMPS TEMP\n")?;
-    lamps_show(&rt, 0o11, 0o00020, "FLASH off\nLAMPS KEY REL\n")?;
-    lamps_show(&rt, 0o11, 0o00040, "FLASH on\nLAMPS none\n")?;
-    lamps_show(&rt, 0o11, 0o00100, "FLASH off\nLAMPS OPR ERR\n")?;
-    lamps_show(&rt, 0o11, 0o77600, "FLASH off\nLAMPS none\n")?;
-    lamps_show(&rt, 0o12, 0o77777, "FLASH off\nLAMPS none\n")
+    for (channel, bits, lines) in [
+        (0o10, 0o60004, "FLASH off\nLAMPS VEL\n"),
+        (0o10, 0o60010, "FLASH off\nLAMPS NO ATT\n"),
+        (0o10, 0o60020, "FLASH off\nLAMPS ALT\n"),
+        (0o10, 0o60040, "FLASH off\nLAMPS GIMBAL LOCK\n"),
+        (0o10, 0o60200, "FLASH off\nLAMPS TRACKER\n"),
+        (0o10, 0o60400, "FLASH off\nLAMPS PROG\n"),
+        (0o10, 0o63103, "FLASH off\nLAMPS none\n"),
+        (0o11, 0o00001, "FLASH off\nLAMPS ISS\n"),
+        (0o11, 0o00002, "FLASH off\nLAMPS COMP ACTY\n"),
+        (0o11, 0o00004, "FLASH off\nLAMPS UPLINK ACTY\n"),
+        (0o11, 0o00010, "FLASH off\nLAMPS TEMP\n"),
+        (0o11, 0o00020, "FLASH off\nLAMPS KEY REL\n"),
+        (0o11, 0o00040, "FLASH on\nLAMPS none\n"),
+        (0o11, 0o00100, "FLASH off\nLAMPS OPR ERR\n"),
+        (0o11, 0o77600, "FLASH off\nLAMPS none\n"),
+        (0o12, 0o77777, "FLASH off\nLAMPS none\n"),
+    ] {
+        lamps_show(&rt, channel, bits, lines)?;
+    }
+    Ok(())
 }
 
 #[test]

@@ -23,17 +23,21 @@ fn reads_seven_octal_numbers(rt: HostRuntime) {
 
 #[test]
 fn reads_no_other_text(rt: HostRuntime) {
-    assert_eq!(rt; WatchSpec::read(""), None);
-    assert_eq!(rt; WatchSpec::read("1,2"), None);
-    assert_eq!(rt; WatchSpec::read("1,0,2,1,100,1"), None);
-    assert_eq!(rt; WatchSpec::read("1,0,2,1,100,1,200,0"), None);
-    assert_eq!(rt; WatchSpec::read("1,0,2,1,100,1,200,"), None);
-    assert_eq!(rt; WatchSpec::read("1,0,2,1,100,1,"), None);
-    assert_eq!(rt; WatchSpec::read("1,,2,1,100,1,200"), None);
-    assert_eq!(rt; WatchSpec::read("0000001,0,2,1,100,1,200"), None);
-    assert_eq!(rt; WatchSpec::read("1,0,2,1,100,1,0000200"), None);
-    assert_eq!(rt; WatchSpec::read("8,0,2,1,100,1,200"), None);
-    assert_eq!(rt; WatchSpec::read("+1,0,2,1,100,1,200"), None);
-    assert_eq!(rt; WatchSpec::read("1, 0,2,1,100,1,200"), None);
-    assert_eq!(rt; WatchSpec::read("1,0,2,1,100,1,200\n"), None);
+    for text in [
+        "",
+        "1,2",
+        "1,0,2,1,100,1",
+        "1,0,2,1,100,1,200,0",
+        "1,0,2,1,100,1,200,",
+        "1,0,2,1,100,1,",
+        "1,,2,1,100,1,200",
+        "0000001,0,2,1,100,1,200",
+        "1,0,2,1,100,1,0000200",
+        "8,0,2,1,100,1,200",
+        "+1,0,2,1,100,1,200",
+        "1, 0,2,1,100,1,200",
+        "1,0,2,1,100,1,200\n",
+    ] {
+        assert_eq!(rt; WatchSpec::read(text), None, "{text}");
+    }
 }

@@ -116,26 +116,35 @@ fn watch_out_of_erasable(rt: HostRuntime) {
     assert_eq!(rt; fault_where(&rt, "0,0,21,7,377,10,0"), lst1);
 }
 
+/// At each of these places this fault comes first, or there is none.
+fn each_has(rt: &(impl AllocGlobal + Abort), places: &[&str], fault: Option<WatchFault>) {
+    for place in places {
+        assert_eq!(rt; fault_where(rt, place), fault, "{place}");
+    }
+}
+
 #[test]
 fn tables_reach_the_last_cell(rt: HostRuntime) {
+    let sound = [
+        "7,364,1,1,0,1,0",
+        "7,377,0,1,0,1,0",
+        "0,0,20,1,0,1,0",
+        "0,0,0,7,370,1,0",
+        "0,0,0,1,0,7,356",
+    ];
+    each_has(&rt, &sound, None);
     let core = Some(WatchFault::OutOfErasable { table: Table::Core });
-    assert_eq!(rt; fault_where(&rt, "7,364,1,1,0,1,0"), None);
-    assert_eq!(rt; fault_where(&rt, "7,365,1,1,0,1,0"), core);
-    assert_eq!(rt; fault_where(&rt, "7,377,0,1,0,1,0"), None);
-    assert_eq!(rt; fault_where(&rt, "10,0,0,1,0,1,0"), core);
-    assert_eq!(rt; fault_where(&rt, "0,400,0,1,0,1,0"), core);
-    assert_eq!(rt; fault_where(&rt, "0,0,777777,1,0,1,0"), core);
-    assert_eq!(rt; fault_where(&rt, "0,0,20,1,0,1,0"), None);
-
+    let past = [
+        "7,365,1,1,0,1,0",
+        "10,0,0,1,0,1,0",
+        "0,400,0,1,0,1,0",
+        "0,0,777777,1,0,1,0",
+    ];
+    each_has(&rt, &past, core);
     let lst1 = Some(WatchFault::OutOfErasable { table: Table::Lst1 });
-    assert_eq!(rt; fault_where(&rt, "0,0,0,7,370,1,0"), None);
-    assert_eq!(rt; fault_where(&rt, "0,0,0,7,371,1,0"), lst1);
-    assert_eq!(rt; fault_where(&rt, "0,0,0,10,0,1,0"), lst1);
-
+    each_has(&rt, &["0,0,0,7,371,1,0", "0,0,0,10,0,1,0"], lst1);
     let lst2 = Some(WatchFault::OutOfErasable { table: Table::Lst2 });
-    assert_eq!(rt; fault_where(&rt, "0,0,0,1,0,7,356"), None);
-    assert_eq!(rt; fault_where(&rt, "0,0,0,1,0,7,357"), lst2);
-    assert_eq!(rt; fault_where(&rt, "0,0,0,1,0,1,400"), lst2);
+    each_has(&rt, &["0,0,0,1,0,7,357", "0,0,0,1,0,1,400"], lst2);
 }
 
 #[test]
