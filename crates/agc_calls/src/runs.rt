@@ -3,13 +3,12 @@ ghost use Rattle.std.specs.Prelude.{◌≡◌, false, IfSome};
 
 use crate::call::Call;
 use crate::report::{Attempt, answered, begin, no_input, refused, tell, wrong};
-use agc_gate::Counting;
 use agc_machine::{Machine, Stop};
 use agc_panel::Panel;
 use agc_pipe::{LinkFault, Live, ShowFault, Shown, link, run_live, run_shown};
 use agc_script::{Key, Script};
 use agc_store::Rope;
-use agc_test_ropes::{KEYED_WRITES, WRITES, rope_file};
+use agc_test_kit::{Counting, KEYED_WRITES, WRITES, rope_file};
 use std::alloc::Global;
 use std::io::{self, Write};
 use std::sync::Wait;

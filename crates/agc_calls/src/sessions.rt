@@ -5,7 +5,7 @@ use agc_args::{ArgsFault, parse_args};
 use agc_pipe::Open;
 use agc_session::{DONE, Options, REFUSED, session};
 use agc_store::RopeForm;
-use agc_test_ropes::{DIVISION, rope_file};
+use agc_test_kit::{DIVISION, rope_file};
 use std::alloc::Global;
 use std::io::{self, ErrorKind, Write};
 use std::sync::Wait;

@@ -5,7 +5,7 @@ use agc_executive::{WatchFault, WatchSpec, watch};
 use agc_machine::ChannelWrite;
 use agc_panel::Panel;
 use agc_store::{Rope, Store};
-use agc_test_ropes::{IDLE, rope_file};
+use agc_test_kit::{IDLE, rope_file};
 use agc_word::Narrow;
 use std::alloc::Global;
 use std::io::{self, Write};

@@ -7,7 +7,7 @@ use agc_machine::{Machine, Stop};
 use agc_progress::{Progress, Untold};
 use agc_script::{Key, Script};
 use agc_store::Rope;
-use agc_test_ropes::rope_file;
+use agc_test_kit::rope_file;
 use std::process::Abort;
 use std::test::Fail;
 

@@ -1,22 +1,11 @@
-//! Gates: what the two threads of a run call as writes and keys go through their rings, one that tells how
-//! far the run has come, and gates that hold one of them up, for tests.
+//! Gates: what the two threads of a run call as writes and keys go through their rings, and one that tells how far
+//! the run has come. Those that hold a thread up, for tests, stand in agc_test_kit.
 //!
-//! It is proved with which numbers of looks and turns a gate is made, and that a wait of no looks
-//! finds nothing. That it looks and spins so often is read in the code alone. What a gate counts, and
-//! which flags it raises, is tested: no clause knows what an atomic holds, which the other thread may
-//! change at any time.
+//! Nothing of a gate is proved: no clause knows what stands behind a lock, which the other thread may change at any time.
 #![tactic(auto)]
 
-mod counting;
-mod flag;
 mod gate;
-mod meeting;
-mod slow;
 mod telling;
 
-pub use counting::Counting;
-pub use flag::Flag;
 pub use gate::{Gate, Open};
-pub use meeting::{KeysMeet, Meeting};
-pub use slow::Slow;
 pub use telling::Telling;

@@ -1,5 +1,5 @@
 //! Listings and the files that they make.
-use agc_test_ropes::{
+use agc_test_kit::{
     DIVISION, EDRUPT, IDLE, KEYED_WRITES, ListingFault, RELAY_WORD, WRITES, rope_file,
 };
 use std::process::Abort;

@@ -8,7 +8,7 @@ use super::equal;
 use agc_machine::{Machine, Next, Stepped, Stop};
 use agc_script::Script;
 use agc_store::{Addr, Rope};
-use agc_test_ropes::rope_file;
+use agc_test_kit::rope_file;
 use std::process::Abort;
 use std::test::Fail;
 

@@ -4,7 +4,7 @@ mod orders;
 use super::equal;
 use agc_processor::{Halt, Processor, Ran, Rupt, Timer, WRITE_MCT};
 use agc_store::Rope;
-use agc_test_ropes::{IDLE, rope_file};
+use agc_test_kit::{IDLE, rope_file};
 use agc_word::{Carry, Narrow, Pulse};
 use std::test::Fail;
 

@@ -1,5 +1,6 @@
 //! The gates on a single thread: what they count, and which flags they raise.
-use agc_gate::{Counting, Gate, KeysMeet, Meeting, Open, Slow};
+use agc_gate::{Gate, Open};
+use agc_test_kit::{Counting, KeysMeet, Meeting, Slow};
 use std::process::Abort;
 
 /// Tells a gate of writes with these numbers, each sent and then received.

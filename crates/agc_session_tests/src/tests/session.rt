@@ -3,7 +3,7 @@ use agc_pipe::Open;
 use agc_script::{Event, FaultKind, ScriptFault, What};
 use agc_session::{DONE, Options, REFUSED, Refusal, read_rope, read_script, session};
 use agc_store::{RopeFault, RopeForm, Store};
-use agc_test_ropes::{RELAY_WORD, rope_file};
+use agc_test_kit::{RELAY_WORD, rope_file};
 use std::process::Abort;
 use std::sync::Wait;
 use std::test::Fail;

@@ -14,7 +14,7 @@ mod until;
 use agc_args::parse_args;
 use agc_pipe::{Gate, Open};
 use agc_session::{DONE, Options, REFUSED, session};
-use agc_test_ropes::{DIVISION, EDRUPT, IDLE, KEYED_WRITES, RELAY_WORD, WRITES, rope_file};
+use agc_test_kit::{DIVISION, EDRUPT, IDLE, KEYED_WRITES, RELAY_WORD, WRITES, rope_file};
 use std::process::Abort;
 use std::sync::Wait;
 use std::thread::Threads;

@@ -1,7 +1,7 @@
 //! The watcher over known cells: the worked tables, the registers, the edges of erasable memory.
 use agc_executive::{CoreSet, Job, JobPriority, Table, Tables, WatchFault, WatchSpec, watch};
 use agc_store::{Addr, Rope, Store};
-use agc_test_ropes::{IDLE, rope_file};
+use agc_test_kit::{IDLE, rope_file};
 use agc_word::{Narrow, Wide};
 use std::process::Abort;
 use std::test::Fail;

@@ -3,7 +3,7 @@ use agc_dialogue::converse;
 use agc_script::Script;
 use agc_sitting::Sitting;
 use agc_store::Rope;
-use agc_test_ropes::{DIVISION, EDRUPT, IDLE, RELAY_WORD, rope_file};
+use agc_test_kit::{DIVISION, EDRUPT, IDLE, RELAY_WORD, rope_file};
 use std::process::Abort;
 use std::test::Fail;
 

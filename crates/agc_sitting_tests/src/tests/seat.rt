@@ -4,7 +4,7 @@ use agc_script::{Key, Script};
 use agc_seat::{Decoder, Pace, Seat, Speed, Typed, push_insides};
 use agc_sitting::{GiveFault, Sitting};
 use agc_store::Rope;
-use agc_test_ropes::{IDLE, rope_file};
+use agc_test_kit::{IDLE, rope_file};
 use std::process::Abort;
 use std::test::Fail;
 

@@ -3,7 +3,7 @@ use agc_machine::{Stepped, Stop};
 use agc_script::{Key, Script, What};
 use agc_sitting::{GiveFault, Sitting};
 use agc_store::Rope;
-use agc_test_ropes::{IDLE, rope_file};
+use agc_test_kit::{IDLE, rope_file};
 use std::process::Abort;
 use std::test::Fail;
 

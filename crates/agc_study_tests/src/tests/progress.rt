@@ -4,7 +4,7 @@ use agc_machine::Machine;
 use agc_progress::{Progress, Untold, mark_past, tell_at};
 use agc_script::Script;
 use agc_store::Rope;
-use agc_test_ropes::{IDLE, rope_file};
+use agc_test_kit::{IDLE, rope_file};
 use agc_trace::{Selection, trace};
 use std::process::Abort;
 use std::test::Fail;

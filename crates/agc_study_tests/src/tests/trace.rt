@@ -5,7 +5,7 @@ use agc_progress::Untold;
 use agc_script::Script;
 use agc_source_words::{Location, location_at};
 use agc_store::{Addr, Rope};
-use agc_test_ropes::rope_file;
+use agc_test_kit::rope_file;
 use agc_trace::{Only, Places, PlacesFault, Selection, Service, trace};
 use std::process::Abort;
 use std::test::Fail;

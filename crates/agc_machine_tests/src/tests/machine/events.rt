@@ -1,7 +1,7 @@
 //! What comes from outside: keys, inputs, pulses, and the channels that show them.
 use super::*;
 use agc_script::{Key, Tape, What};
-use agc_test_ropes::IDLE;
+use agc_test_kit::IDLE;
 use agc_word::Pulse;
 use std::test::Fail;
 

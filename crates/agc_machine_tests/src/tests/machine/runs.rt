@@ -2,7 +2,7 @@
 use super::*;
 use agc_machine::{ChannelWrite, LimitFault, Refused, StopAddress};
 use agc_store::Store;
-use agc_test_ropes::{DIVISION, IDLE, RELAY_WORD, WRITES};
+use agc_test_kit::{DIVISION, IDLE, RELAY_WORD, WRITES};
 use agc_word::Narrow;
 use std::test::Fail;
 

@@ -1,6 +1,6 @@
 //! Timers, the scaler and interrupts: when they come, and what they leave.
 use super::*;
-use agc_test_ropes::IDLE;
+use agc_test_kit::IDLE;
 use std::test::Fail;
 
 /// The scaler counts each 320 pulses, 12 a cycle: 12 * 54 / 320 is 2, and 12 * 53 / 320 is 1.

@@ -3,7 +3,7 @@ use super::*;
 use agc_machine::{InHand, Upcoming};
 use agc_processor::{Rupt, Timer};
 use agc_script::{Key, What};
-use agc_test_ropes::{IDLE, RELAY_WORD};
+use agc_test_kit::{IDLE, RELAY_WORD};
 use agc_word::Narrow;
 use std::test::Fail;
 

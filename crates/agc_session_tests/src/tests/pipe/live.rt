@@ -1,14 +1,13 @@
 //! Live runs: keys that are taken while the machine runs, and the same run played again.
 ghost use Rattle.std.specs.Prelude.{◌≡◌, false, IfOk};
 
-use agc_gate::{KeysMeet, Meeting, Slow};
 use agc_machine::Machine;
 use agc_pipe::{
     Gate, Live, Open, ShowFault, Shown, Slots, Spacing, run_live, run_shown, show_live_run,
 };
 use agc_script::{Key, Script, Tape};
 use agc_store::{Rope, Store};
-use agc_test_ropes::{KEYED_WRITES, rope_file};
+use agc_test_kit::{KEYED_WRITES, rope_file, KeysMeet, Meeting, Slow};
 use std::process::Abort;
 use std::sync::Wait;
 use std::test::Fail;

@@ -2,13 +2,12 @@
 ghost use Rattle.std.specs.Prelude.{◌≡◌, false, IfOk};
 
 use super::memory::{AFTER_DIVISION, AFTER_EDRUPT, AFTER_WRITES, holds};
-use agc_gate::{Counting, Meeting, Slow};
 use agc_machine::{Machine, Next, Stop};
 use agc_panel::Panel;
 use agc_pipe::{Gate, Open, ShowFault, Shown, Slots, run_shown, show_run};
 use agc_script::Script;
 use agc_store::Rope;
-use agc_test_ropes::{DIVISION, EDRUPT, WRITES, rope_file};
+use agc_test_kit::{DIVISION, EDRUPT, WRITES, rope_file, Counting, Meeting, Slow};
 use std::process::Abort;
 use std::sync::Wait;
 use std::test::Fail;

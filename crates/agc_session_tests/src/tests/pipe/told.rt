@@ -7,7 +7,7 @@ use agc_pipe::{run_live, run_shown};
 use agc_progress::{Progress, Shown};
 use agc_script::Script;
 use agc_store::Rope;
-use agc_test_ropes::rope_file;
+use agc_test_kit::rope_file;
 use std::process::Abort;
 use std::test::Fail;
 

@@ -1,7 +1,7 @@
 //! Live keys: the key text, its refusals, and what is printed of the tape and of the keys left.
 use super::streams::Source;
 use super::*;
-use agc_gate::{KeysMeet, Slow};
+use agc_test_kit::{KeysMeet, Slow};
 use std::alloc::Global;
 use std::test::Fail;
 

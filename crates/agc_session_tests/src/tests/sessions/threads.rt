@@ -1,7 +1,7 @@
 //! The two threads of a session, with gates that hold one of them up: a session that runs the
 //! machine itself, drops the gate or the number of slots does not get through.
 use super::*;
-use agc_gate::{Meeting, Slow};
+use agc_test_kit::{Meeting, Slow};
 use std::test::Fail;
 
 /// How often a gate looks for what must come.

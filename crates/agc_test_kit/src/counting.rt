@@ -1,6 +1,6 @@
 //! The gate that counts.
 use crate::flag::Flag;
-use crate::gate::Gate;
+use agc_gate::Gate;
 use std::sync::atomic::{AtomicU64, Ordering};
 
 /// Counts the writes that were sent and those that were received, and notes a call whose number is

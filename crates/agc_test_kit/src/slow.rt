@@ -1,7 +1,7 @@
 //! The gate that slows one of the threads down.
 ghost use Rattle.std.specs.Prelude.{◌≡◌};
 
-use crate::gate::Gate;
+use agc_gate::Gate;
 use std::hint;
 
 /// Lets a thread spin so many turns at each of its calls. A slow machine leaves the ring empty, and

@@ -1,6 +1,6 @@
 //! The file of a listing's rope, in the classic form.
 ghost use Rattle.std.specs.Prelude.{◌≡◌, ◌*◌, ◌+◌, ◌%◌, ◌<◌, ◌≤◌, ◌^◌, length, max, IfOk, OnOk};
-ghost use Rattle.agc_test_ropes.specs.File.{index_in_file, with_word};
+ghost use Rattle.agc_test_kit.specs.File.{index_in_file, with_word};
 
 use crate::fault::ListingFault;
 use crate::line::{is_comment, read_line};

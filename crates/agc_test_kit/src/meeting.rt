@@ -3,7 +3,7 @@
 ghost use Rattle.std.specs.Prelude.{◌≡◌};
 
 use crate::flag::Flag;
-use crate::gate::Gate;
+use agc_gate::Gate;
 
 /// Holds the machine up before write 2 until the display took write 1, and the display after write
 /// 1 until the machine comes to a later write. So a run on a single thread, a gate that is left out
