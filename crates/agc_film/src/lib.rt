@@ -14,8 +14,6 @@ mod parting;
 mod press;
 mod recorder;
 mod reel;
-#[cfg(test)]
-mod tests;
 mod title;
 
 pub use frame::Frame;

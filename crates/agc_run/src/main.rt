@@ -8,9 +8,6 @@ ghost use Rattle.agc_session.specs.Refusal.{refusal_line};
 ghost use Rattle.agc_session.specs.declared.refusal.Refusal.{Refusal};
 ghost use Rattle.agc_args.specs.Ending.{EndsMistaken};
 
-#[cfg(test)]
-mod tests;
-
 use agc_args::{ArgsFault, end_mistaken, options, stand_ins};
 use agc_gate::{Gate, Telling};
 use agc_progress::Ticker;

@@ -1,7 +1,8 @@
-//! Listings, traces, comparisons and explanations, worked out by hand.
+//! Listings, traces, counts, comparisons, films and explanations, worked out by hand.
 mod check;
 mod compare;
 mod count;
+mod film;
 mod misnamed;
 mod names;
 mod progress;

@@ -1,6 +1,5 @@
 //! Films of small programs, worked out by hand. The numbers are octal, but for cycles.
-use crate::press::presses;
-use crate::{
+use agc_film::{
     Button, Part, Press, Reel, RunFiles, film, first_difference, push_film, push_film_pair,
 };
 use agc_machine::{Machine, Stop};
@@ -208,18 +207,17 @@ fn no_frame(rt: HostRuntime) -> Result<(), Fail> {
     Ok(())
 }
 
-/// The input is no key, and at cycle 30 the limit comes before the key.
+/// The input is no key, and at cycle 30 the limit of 30 comes before the key.
 static KEYS: &str = "10 key VERB\n20 pro down\n25 input 16 00001\n30 pro up\n31 key 4\n";
 
 /// Of the names of the files `<`, the backslash and what does not print in ASCII stand in octal: é has the two bytes
 /// 303 and 251.
 #[test]
 fn keys_before_the_limit(rt: HostRuntime) -> Result<(), Fail> {
-    let script = Script::parse(rt.alloc(), KEYS.as_bytes())?;
-    let all = presses(rt.alloc(), script.rest(0))?;
-    assert_eq!(rt; all.len(), 4);
+    let all = reel_of(&rt, IDLE, KEYS, 40)?;
+    assert_eq!(rt; all.presses.len(), 4);
     assert_eq!(rt;
-        all.as_slice().last().copied(),
+        all.presses.as_slice().last().copied(),
         Some(Press {
             cycle: 31,
             button: Button::Key(Key::Four),
