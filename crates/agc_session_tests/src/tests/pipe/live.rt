@@ -7,7 +7,7 @@ use agc_pipe::{
 };
 use agc_script::{Key, Script, Tape};
 use agc_store::{Rope, Store};
-use agc_test_kit::{KEYED_WRITES, rope_file, KeysMeet, Meeting, Slow};
+use agc_test_kit::{KEYED_WRITES, KeysMeet, Meeting, Slow, rope_file};
 use std::process::Abort;
 use std::sync::Wait;
 use std::test::Fail;

@@ -7,7 +7,7 @@ use agc_panel::Panel;
 use agc_pipe::{Gate, Open, ShowFault, Shown, Slots, run_shown, show_run};
 use agc_script::Script;
 use agc_store::Rope;
-use agc_test_kit::{DIVISION, EDRUPT, WRITES, rope_file, Counting, Meeting, Slow};
+use agc_test_kit::{Counting, DIVISION, EDRUPT, Meeting, Slow, WRITES, rope_file};
 use std::process::Abort;
 use std::sync::Wait;
 use std::test::Fail;
