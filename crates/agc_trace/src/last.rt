@@ -2,15 +2,16 @@
 ghost use Rattle.std.specs.Prelude.{◌≡◌, ◌≤◌, [], ◌∷◌, ◌++◌, All, IfErr, IfOk, OnOk, if◌then◌else◌, length};
 ghost use Rattle.std.specs.Io.KnownBytes.{Appends};
 ghost use Rattle.agc_trace.specs.Cut.{IsCut};
-ghost use Rattle.agc_trace.specs.Entry.{FitsLine};
-ghost use Rattle.agc_trace.specs.Selection.{last_of, lines_of, selected};
+ghost use Rattle.agc_trace.specs.Selection.{last_of, lines_of, selected, watch_for};
 ghost use Rattle.agc_trace.specs.Service.{service_left};
 ghost use Rattle.agc_trace.specs.Trace.{trace_of};
+ghost use Rattle.agc_trace.specs.Watch.{FitsWatched};
 
-use crate::entry::{Entry, next_entry};
+use crate::change::see_named;
 use crate::selection::Selection;
 use crate::service::{Service, service_after};
 use crate::tracing::{TraceFault, write_line};
+use crate::watch::{Watched, next_watched};
 use agc_machine::Machine;
 use agc_names::NameTable;
 use agc_progress::{Progress, tell_at};
@@ -30,38 +31,41 @@ pub(crate) fn write_last<W: Write, P: Progress>(
     progress: &mut P,
 ) -> Result<Option<Service>, TraceFault>
     ensures lines { OnOk result (Appends (W.contents out.old) (W.contents out.new)
-        (lines_of names.now (last_of most (selected selection.now (trace_of machine.old))))) }
+        (lines_of names.now (last_of most (selected selection.now (watch_for selection.now machine.old))))) }
     ensures service { IfOk result (λ left. left ≡ service_left selection.now (trace_of machine.old)) }
     ensures cut { IfErr result (λ why. IsCut why (W.contents out.old) (W.contents out.new)
-        (lines_of names.now (last_of most (selected selection.now (trace_of machine.old))))) }
+        (lines_of names.now (last_of most (selected selection.now (watch_for selection.now machine.old))))) }
 {
     let mut last = VecDeque::new(alloc);
-    let service = keep_last(machine, selection, most, &mut last, progress)?;
+    let service = keep_last(alloc, machine, selection, most, &mut last, progress)?;
     write_kept(alloc, names, &mut last, out)?;
     Ok(service)
 }
 
 /// Runs a machine to its stop, or past the last cycle that is selected, and keeps the last selected entries.
 fn keep_last<P: Progress>(
+    alloc: Global,
     machine: &mut Machine,
     selection: &Selection,
     most: u64,
-    last: &mut VecDeque<Entry>,
+    last: &mut VecDeque<Watched>,
     progress: &mut P,
 ) -> Result<Option<Service>, TraceFault>
     requires { last.old.items ≡ [] }
     ensures entries { OnOk result
-        (last.new.items ≡ last_of most (selected selection.now (trace_of machine.old))) }
-    ensures fits { OnOk result (All FitsLine last.new.items) }
+        (last.new.items ≡ last_of most (selected selection.now (watch_for selection.now machine.old))) }
+    ensures fits { OnOk result (All FitsWatched last.new.items) }
     ensures service { IfOk result (λ left. left ≡ service_left selection.now (trace_of machine.old)) }
     ensures fault { IfErr result (λ why. why ≡ TraceFault.Memory) }
 {
+    let mut seen = see_named(alloc, selection.cells.as_slice(), machine.store())?;
     let mut mark = 0;
     let mut service = None;
     while machine.cycle() <= selection.to {
-        let entry = next_entry(machine);
-        let is_taken = selection.takes(&entry);
-        keep(last, most, entry, is_taken)?;
+        let watched = next_watched(alloc, machine, &mut seen)?;
+        let entry = watched.entry();
+        let is_taken = selection.takes(&watched);
+        keep(last, most, watched, is_taken)?;
         if entry.is_stop() {
             return Ok(service);
         }
@@ -109,17 +113,17 @@ fn push_last<T: Drop>(last: &mut VecDeque<T>, most: u64, value: T) -> Result<(),
 fn write_kept<W: Write>(
     alloc: Global,
     names: &Option<NameTable>,
-    last: &mut VecDeque<Entry>,
+    last: &mut VecDeque<Watched>,
     out: &mut W,
 ) -> Result<(), TraceFault>
-    requires { All FitsLine last.old.items }
+    requires { All FitsWatched last.old.items }
     ensures lines { OnOk result
         (Appends (W.contents out.old) (W.contents out.new) (lines_of names.now last.old.items)) }
     ensures cut { IfErr result (λ why. IsCut why (W.contents out.old) (W.contents out.new)
         (lines_of names.now last.old.items)) }
 {
-    while let Some(entry) = last.pop_front() {
-        write_line(alloc, names, &entry, out)?;
+    while let Some(watched) = last.pop_front() {
+        write_line(alloc, names, &watched, out)?;
     }
     Ok(())
 }

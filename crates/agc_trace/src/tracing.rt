@@ -2,21 +2,22 @@
 ghost use Rattle.std.specs.Prelude.{◌≡◌, [], ◌∷◌, OnOk, IfOk, IfErr};
 ghost use Rattle.std.specs.Io.KnownBytes.{Appends, Keeps};
 ghost use Rattle.agc_trace.specs.Cut.{IsCut};
-ghost use Rattle.agc_trace.specs.Entry.{FitsLine};
 ghost use Rattle.agc_trace.specs.NamedLine.{line_with};
-ghost use Rattle.agc_trace.specs.Selection.{last_of, lines_of, selected, selected_lines};
+ghost use Rattle.agc_trace.specs.Selection.{last_of, lines_of, selected, selected_lines, watch_for};
 ghost use Rattle.agc_trace.specs.Service.{service_left};
 ghost use Rattle.agc_trace.specs.Trace.{trace_of};
+ghost use Rattle.agc_trace.specs.Watch.{FitsWatched};
 
-use crate::entry::{Entry, next_entry};
+use crate::change::see_named;
 use crate::last::write_last;
 use crate::named_line::push_line_with;
 use crate::selection::Selection;
 use crate::service::{Service, service_after};
+use crate::watch::{Watched, next_watched};
 use agc_machine::{Machine, Stepped};
 use agc_names::NameTable;
 use agc_progress::{Progress, tell_at};
-use std::alloc::Global;
+use std::alloc::{AllocError, Global};
 use std::io::Write;
 use thiserror::Error;
 
@@ -27,6 +28,17 @@ pub enum TraceFault {
     Memory,
     #[error("the trace could not be written")]
     Write,
+}
+
+impl From<AllocError> for TraceFault {
+    ghost use Rattle.std.specs.Prelude.{◌≡◌};
+    ghost use Rattle.agc_trace.specs.declared.tracing.TraceFault.TheVariants.{Memory};
+
+    ghost from_gives = { λ _ fault. fault ≡ Memory };
+
+    fn from(_error: AllocError) -> TraceFault {
+        TraceFault::Memory
+    }
 }
 
 /// Runs a machine, and writes the line of each boundary that is selected, with the names that are given. The run goes to its stop, or
@@ -41,10 +53,10 @@ pub fn trace<W: Write, P: Progress>(
     progress: &mut P,
 ) -> Result<Option<Service>, TraceFault>
     ensures lines { OnOk result (Appends (W.contents out.old) (W.contents out.new)
-        (selected_lines names.now selection.now (trace_of machine.old))) }
+        (selected_lines names.now selection.now (watch_for selection.now machine.old))) }
     ensures service { IfOk result (λ left. left ≡ service_left selection.now (trace_of machine.old)) }
     ensures cut { IfErr result (λ why. IsCut why (W.contents out.old) (W.contents out.new)
-        (selected_lines names.now selection.now (trace_of machine.old))) }
+        (selected_lines names.now selection.now (watch_for selection.now machine.old))) }
 {
     go_to_first(machine, selection, progress);
     match selection.last {
@@ -55,8 +67,8 @@ pub fn trace<W: Write, P: Progress>(
 
 /// Runs a machine to the first cycle that is selected, or to its stop where that comes before.
 fn go_to_first<P: Progress>(machine: &mut Machine, selection: &Selection, progress: &mut P)
-    ensures entries { selected selection.now (trace_of machine.new)
-        ≡ selected selection.now (trace_of machine.old) }
+    ensures entries { selected selection.now (watch_for selection.now machine.new)
+        ≡ selected selection.now (watch_for selection.now machine.old) }
     ensures service { service_left selection.now (trace_of machine.new)
         ≡ service_left selection.now (trace_of machine.old) }
 {
@@ -80,16 +92,18 @@ fn write_lines<W: Write, P: Progress>(
     progress: &mut P,
 ) -> Result<Option<Service>, TraceFault>
     ensures lines { OnOk result (Appends (W.contents out.old) (W.contents out.new)
-        (lines_of names.now (selected selection.now (trace_of machine.old)))) }
+        (lines_of names.now (selected selection.now (watch_for selection.now machine.old)))) }
     ensures service { IfOk result (λ left. left ≡ service_left selection.now (trace_of machine.old)) }
     ensures cut { IfErr result (λ why. IsCut why (W.contents out.old) (W.contents out.new)
-        (lines_of names.now (selected selection.now (trace_of machine.old)))) }
+        (lines_of names.now (selected selection.now (watch_for selection.now machine.old)))) }
 {
+    let mut seen = see_named(alloc, selection.cells.as_slice(), machine.store())?;
     let mut mark = 0;
     let mut service = None;
     while machine.cycle() <= selection.to {
-        let entry = next_entry(machine);
-        write_selected(alloc, selection, names, &entry, out)?;
+        let watched = next_watched(alloc, machine, &mut seen)?;
+        write_selected(alloc, selection, names, &watched, out)?;
+        let entry = watched.entry();
         if entry.is_stop() {
             return Ok(service);
         }
@@ -105,17 +119,17 @@ fn write_selected<W: Write>(
     alloc: Global,
     selection: &Selection,
     names: &Option<NameTable>,
-    entry: &Entry,
+    watched: &Watched,
     out: &mut W,
 ) -> Result<(), TraceFault>
-    requires { FitsLine entry.now }
+    requires { FitsWatched watched.now }
     ensures line { OnOk result (Appends (W.contents out.old) (W.contents out.new)
-        (lines_of names.now (selected selection.now (entry.now ∷ [])))) }
+        (lines_of names.now (selected selection.now (watched.now ∷ [])))) }
     ensures kept { IfErr result (λ why. why ≡ TraceFault.Memory
         → Keeps (W.contents out.old) (W.contents out.new)) }
 {
-    if selection.takes(entry) {
-        write_line(alloc, names, entry, out)
+    if selection.takes(watched) {
+        write_line(alloc, names, watched, out)
     } else {
         Ok(())
     }
@@ -125,17 +139,17 @@ fn write_selected<W: Write>(
 pub(crate) fn write_line<W: Write>(
     alloc: Global,
     names: &Option<NameTable>,
-    entry: &Entry,
+    watched: &Watched,
     out: &mut W,
 ) -> Result<(), TraceFault>
-    requires { FitsLine entry.now }
+    requires { FitsWatched watched.now }
     ensures line { OnOk result
-        (Appends (W.contents out.old) (W.contents out.new) (line_with names.now entry.now)) }
+        (Appends (W.contents out.old) (W.contents out.new) (line_with names.now watched.now)) }
     ensures kept { IfErr result (λ why. why ≡ TraceFault.Memory
         → Keeps (W.contents out.old) (W.contents out.new)) }
 {
     let mut line = String::new(alloc);
-    if push_line_with(&mut line, names, entry).is_err() {
+    if push_line_with(&mut line, names, watched).is_err() {
         return Err(TraceFault::Memory);
     }
     match out.write_all(line.as_bytes()) {
