@@ -133,7 +133,7 @@ watched_is cells s t entry seen changes e f h k =
     ∙ ap (λ (xs : List Change). record { entry = entry_of s; changes = xs })
     (k ∙ ap (λ (xs : List Seen). changes_since xs t.processor.store) h ∙ ap (λ (u : State). changes_since (map (seen_in s.processor.store) cells) u.processor.store) f)
 
-pub seen_after : (cells : List ℕ) (s t : State) (seen again : List Seen) → seen ≡ map (seen_in s.processor.store) cells →
-    again ≡ map (λ x. seen_in t.processor.store x.cell) seen → again ≡ map (seen_in t.processor.store) cells
-seen_after cells s t seen again h k =
-    k ∙ ap (λ (xs : List Seen). map (λ x. seen_in t.processor.store x.cell) xs) h ∙ again_in s.processor.store t.processor.store cells
+pub seen_after : (cells : List ℕ) (before after : Memory) (seen again : List Seen) → seen ≡ map (seen_in before) cells →
+    again ≡ map (λ x. seen_in after x.cell) seen → again ≡ map (seen_in after) cells
+seen_after cells before after seen again h k =
+    k ∙ ap (λ (xs : List Seen). map (λ x. seen_in after x.cell) xs) h ∙ again_in before after cells

@@ -1,13 +1,11 @@
 -- The last of the entries that are selected, kept boundary by boundary.
-use Rattle.std.proofs.Common.{◌≡◌, ℕ, ◌-◌, ◌≤◌, ◌<◌, zero, suc, get_or, Bool, List, [], ◌∷◌, ◌++◌, length, drop, None, true, false, refl, ap, sym, ◌∙◌, subst, arith, append_assoc, append-nil, length-drop, length-append}
-use Rattle.std.specs.Prelude.{All, if◌then◌else◌}
+use Rattle.std.proofs.Common.{◌≡◌, ℕ, ◌-◌, ◌≤◌, List, [], ◌∷◌, ◌++◌, length, drop, None, true, false, refl, ap, sym, ◌∙◌, subst, arith, append_assoc, append-nil, length-drop, length-append}
 use Rattle.std.proofs.lemmas.List.{drop-append-le, drop-drop, drop_all}
-use Rattle.std.proofs.lemmas.List.Elements.{All-append, All-drop}
 use Rattle.agc_machine.specs.Boundary.{boundary}
 use Rattle.agc_machine.specs.State.{State}
-use Rattle.agc_trace.specs.Selection.{is_selected, last_of, selected}
+use Rattle.agc_trace.specs.Selection.{last_of, selected}
 use Rattle.agc_trace.specs.Trace.{is_stop}
-use Rattle.agc_trace.specs.Watch.{FitsWatched, Watched, watch_of, watched_of}
+use Rattle.agc_trace.specs.Watch.{Watched, watch_of, watched_of}
 use Rattle.agc_trace.specs.declared.selection.Selection.{Selection}
 use Rattle.agc_trace.proofs.Lines.{entries_after, entries_of_stop}
 
@@ -72,31 +70,6 @@ pub none_more : {T : Type 0} (most : ℕ) (items : List T) → length items ≤ 
 none_more most items few =
     let none : length items - most ≡ 0 = omega arith in
     rw (append-nil items) (rw none refl)
-
-one_fits : (entry : Watched) → FitsWatched entry → (k : ℕ) (d : Watched) → k < 1 → FitsWatched (get_or (entry ∷ []) k d)
-one_fits entry f zero d l = f
-one_fits entry f (suc k) d l = absurd (omega arith)
-
-none_fits : (k : ℕ) (d : Watched) → k < 0 → FitsWatched (get_or [] k d)
-none_fits k d l = absurd (omega arith)
-
-fits_by : (b : Bool) (entry : Watched) → FitsWatched entry → All FitsWatched (if b then entry ∷ [] else [])
-fits_by true entry f = one_fits entry f
-fits_by false entry f = none_fits
-
-module _ (w : Selection) (most : ℕ) (items new : List Watched) (entry : Watched) (b : Bool) (takes : b ≡ is_selected w entry)
-    (keeps : new ≡ last_of most (items ++ (if b then entry ∷ [] else []))) where
-  -- an entry is kept where it is selected
-  pub kept_where_selected : new ≡ last_of most (items ++ selected w (entry ∷ []))
-  unfolding selected
-  kept_where_selected = keeps ∙ ap (λ (c : Bool). last_of most (items ++ (if c then entry ∷ [] else []))) takes
-
-  -- each entry that is kept has its digits in its line
-  pub fits_more : All FitsWatched items → FitsWatched entry → All FitsWatched new
-  fits_more h f =
-      let more = if b then entry ∷ [] else [] in
-      subst (λ (xs : List Watched). All FitsWatched xs) (sym keeps)
-      (All-drop FitsWatched (length (items ++ more) - most) (items ++ more) (All-append FitsWatched items more h (fits_by b entry f)))
 
 -- where nothing comes first nothing is left
 pub nothing_left : (xs ys : List Watched) → xs ≡ ys → ys ≡ drop 1 xs → xs ≡ []

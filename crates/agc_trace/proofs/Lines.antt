@@ -10,6 +10,8 @@ use Rattle.agc_trace.specs.NamedLine.{line_with}
 use Rattle.agc_trace.specs.Selection.{is_selected, kept, last_of, lines_of, selected, selected_lines}
 use Rattle.agc_trace.specs.Trace.{is_stop}
 use Rattle.agc_trace.specs.Watch.{Watched, watch_of, watched_of}
+use Rattle.agc_trace.specs.declared.change.Change.{Change}
+use Rattle.agc_trace.specs.declared.entry.Entry.{Entry}
 use Rattle.agc_trace.specs.declared.selection.Selection.{Selection}
 use Rattle.agc_trace.proofs.Watches.{watch_by_entry, watch_ends, watch_goes_on, watched_by}
 
@@ -108,6 +110,12 @@ pub written_more : (start now new : Option (List ℕ)) (line left whole : List �
     IsWritten start new left whole
 written_more start now new line left whole h k =
     (h.0 ++ line, appends_more start now new h.0 line h.1 k, append_assoc h.0 line left ∙ h.2)
+
+-- a line is that of the same entry and changes, whichever way they are had
+pub line_as : (names : Option (List Named)) (now new : Option (List ℕ)) (x : Watched) (entry : Entry) (changes items : List Change) → changes ≡ items →
+    record { entry = entry; changes = items } ≡ x → Appends now new (line_with names (record { entry = entry; changes = changes })) → Appends now new (line_with names x)
+line_as names now new x entry changes items e f h =
+    subst (λ (y : Watched). Appends now new (line_with names y)) (ap (λ (cs : List Change). record { entry = entry; changes = cs }) e ∙ f) h
 
 module _ (names : Option (List Named)) (w : Selection) (cells : List ℕ) where
   -- one more line is written, and what is left is that of the next boundary's watch

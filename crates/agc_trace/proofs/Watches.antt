@@ -1,5 +1,5 @@
 -- The watch boundary by boundary: its entries are those of the trace.
-use Rattle.std.proofs.Common.{◌≡◌, ℕ, ◌≤◌, suc, zero, List, [], ◌∷◌, None, Bool, true, false, refl, ap, sym, ◌∙◌, arith}
+use Rattle.std.proofs.Common.{◌≡◌, ℕ, ◌≤◌, suc, zero, List, [], ◌∷◌, None, Bool, true, false, refl, ap, ◌∙◌, arith}
 use Rattle.std.specs.Prelude.{if◌then◌else◌, map}
 use Rattle.agc_machine.specs.Boundary.{boundary, upcoming_of}
 use Rattle.agc_machine.specs.State.{State}
@@ -28,10 +28,6 @@ same_entries : (b : Bool) (x : Watched) (entry : Entry) (xs : List Watched) (ys 
 same_entries true x entry xs ys e h = ap (λ (z : Entry). z ∷ []) e
 same_entries false x entry xs ys e h = ap (λ (z : Entry). z ∷ map (λ (y : Watched). y.entry) xs) e ∙ ap (λ (zs : List Entry). entry ∷ zs) h
 
--- whether an entry of a watch is the stop
-pub stop_watched : (x : Watched) (entry : Entry) (is b : Bool) → entry ≡ x.entry → is ≡ is_stop entry.happening → is ≡ b → is_stop x.entry.happening ≡ b
-stop_watched x entry is b e f h = sym (ap (λ (y : Entry). is_stop y.happening) e) ∙ sym f ∙ h
-
 module _ (cells : List ℕ) where
   pub watches : (s : State) → (watched_of cells s).entry ≡ entry_of s
   unfolding watched_of
@@ -39,10 +35,6 @@ module _ (cells : List ℕ) where
 
   pub watched_by : (b : Bool) (s : State) (entry : Watched) → entry ≡ watched_of cells s → is_stop entry.entry.happening ≡ b → is_stop (upcoming_of s) ≡ b
   watched_by b s entry e f = told_by b s entry.entry (ap (λ (x : Watched). x.entry) e ∙ watches s) f
-
-  -- an entry of a watch is the trace's
-  pub entry_watched : (s : State) (x : Watched) (entry : Entry) → entry ≡ x.entry → x ≡ watched_of cells s → entry ≡ entry_of s
-  entry_watched s x entry e f = e ∙ ap (λ (y : Watched). y.entry) f ∙ watches s
 
   -- with entries enough, more make no difference
   same_watch : (n m : ℕ) (s : State) → entries_left s ≤ n → entries_left s ≤ m → watch_within cells n s ≡ watch_within cells m s

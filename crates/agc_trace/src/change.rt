@@ -14,6 +14,7 @@ ghost use Rattle.agc_trace.specs.Change.{
 
 use crate::cell::{Cell, is_same_word, push_cell_word};
 use crate::places::Places;
+use agc_machine::Machine;
 use agc_rope_listing::push_place;
 use agc_source_words::Location;
 use agc_store::Store;
@@ -83,27 +84,46 @@ fn see(cell: Cell, store: &Store) -> Seen
     }
 }
 
-/// Looks at cells again: what has changed of them is returned, and they are kept with the words that they
-/// have now.
+/// Looks at cells again after a boundary: what it has changed of them is told, and they are kept with the words
+/// that they have now.
+#[inline]
 pub(crate) fn look(
     alloc: Global,
+    machine: &Machine,
     seen: &mut Vec<Seen>,
+    changes: &mut Vec<Change>,
+) -> Result<(), AllocError>
+    ensures changes { OnOk result
+        (changes.new.items ≡ changes_since seen.old.items machine.now.processor.store) }
+    ensures seen { OnOk result (seen.new.items
+        ≡ map (λ s. seen_in machine.now.processor.store s.cell) seen.old.items) }
+{
+    if has_changed(seen.as_slice(), machine.store()) {
+        look_closely(alloc, machine.store(), seen, changes)
+    } else {
+        changes.clear();
+        Ok(())
+    }
+}
+
+/// The same where a cell has changed.
+fn look_closely(
+    alloc: Global,
     store: &Store,
-) -> Result<Vec<Change>, AllocError>
-    ensures changes { IfOk result (λ changes. changes.items ≡ changes_since seen.old.items store.now) }
+    seen: &mut Vec<Seen>,
+    changes: &mut Vec<Change>,
+) -> Result<(), AllocError>
+    ensures changes { OnOk result (changes.new.items ≡ changes_since seen.old.items store.now) }
     ensures seen { OnOk result
         (seen.new.items ≡ map (λ s. seen_in store.now s.cell) seen.old.items) }
 {
-    if !has_changed(seen.as_slice(), store) {
-        return Ok(Vec::new(alloc));
-    }
-    let changes = changes(alloc, seen.as_slice(), store)?;
-    let again = see_again(alloc, seen.as_slice(), store)?;
-    *seen = again;
-    Ok(changes)
+    *changes = changes_since(alloc, seen.as_slice(), store)?;
+    *seen = see_again(alloc, seen.as_slice(), store)?;
+    Ok(())
 }
 
 /// One of the cells has another word now.
+#[inline]
 fn has_changed(seen: &[Seen], store: &Store) -> bool
     ensures { result ≡ list_any (λ s. is_changed store.now s) seen.now }
 {
@@ -118,7 +138,7 @@ fn is_changed(seen: Seen, store: &Store) -> bool
 }
 
 /// What has changed of the cells.
-fn changes(alloc: Global, seen: &[Seen], store: &Store) -> Result<Vec<Change>, AllocError>
+fn changes_since(alloc: Global, seen: &[Seen], store: &Store) -> Result<Vec<Change>, AllocError>
     ensures { IfOk result (λ changes. changes.items ≡ changes_since seen.now store.now) }
 {
     seen.iter()

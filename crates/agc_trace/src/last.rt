@@ -2,22 +2,39 @@
 ghost use Rattle.std.specs.Prelude.{◌≡◌, ◌≤◌, [], ◌∷◌, ◌++◌, All, IfErr, IfOk, OnOk, if◌then◌else◌, length};
 ghost use Rattle.std.specs.Io.KnownBytes.{Appends};
 ghost use Rattle.agc_trace.specs.Cut.{IsCut};
+ghost use Rattle.agc_trace.specs.Entry.{FitsLine};
 ghost use Rattle.agc_trace.specs.Selection.{last_of, lines_of, selected, watch_for};
 ghost use Rattle.agc_trace.specs.Service.{service_left};
 ghost use Rattle.agc_trace.specs.Trace.{trace_of};
 ghost use Rattle.agc_trace.specs.Watch.{FitsWatched};
 
-use crate::change::see_named;
+use crate::change::{Change, look, see_named};
+use crate::entry::{Entry, next_entry};
 use crate::selection::Selection;
 use crate::service::{Service, service_after};
 use crate::tracing::{TraceFault, write_line};
-use crate::watch::{Watched, next_watched};
 use agc_machine::Machine;
 use agc_names::NameTable;
 use agc_progress::{Progress, tell_at};
 use std::alloc::Global;
 use std::collections::VecDeque;
 use std::io::Write;
+use std::marker::Model;
+
+/// An entry that is kept, with what its boundary has changed of the cells that are named.
+#[derive(Drop)]
+struct Kept {
+    entry: Entry,
+    changes: Vec<Change>,
+}
+
+impl Model for Kept {
+    ghost use Rattle.agc_trace.specs.Watch.{Watched};
+
+    ghost Value = { Watched };
+
+    ghost view = { λ k. record { entry = k.entry; changes = k.changes.items } };
+}
 
 /// Runs a machine to its stop, or past the last cycle that is selected, and writes the lines of the last
 /// selected entries, at most so many. Memory holds no more of them.
@@ -48,7 +65,7 @@ fn keep_last<P: Progress>(
     machine: &mut Machine,
     selection: &Selection,
     most: u64,
-    last: &mut VecDeque<Watched>,
+    last: &mut VecDeque<Kept>,
     progress: &mut P,
 ) -> Result<Option<Service>, TraceFault>
     requires { last.old.items ≡ [] }
@@ -59,13 +76,13 @@ fn keep_last<P: Progress>(
     ensures fault { IfErr result (λ why. why ≡ TraceFault.Memory) }
 {
     let mut seen = see_named(alloc, selection.cells.as_slice(), machine.store())?;
+    let mut changes = Vec::new(alloc);
     let mut mark = 0;
     let mut service = None;
     while machine.cycle() <= selection.to {
-        let watched = next_watched(alloc, machine, &mut seen)?;
-        let entry = watched.entry();
-        let is_taken = selection.takes(&watched);
-        keep(last, most, watched, is_taken)?;
+        let entry = next_entry(machine);
+        look(alloc, machine, &mut seen, &mut changes)?;
+        keep_selected(alloc, selection, last, most, &entry, changes.as_slice())?;
         if entry.is_stop() {
             return Ok(service);
         }
@@ -75,23 +92,30 @@ fn keep_last<P: Progress>(
     Ok(None)
 }
 
-/// Keeps a value as the last one, where it is taken.
-fn keep<T: Drop>(
-    last: &mut VecDeque<T>,
+/// Keeps an entry with its changes as the last one, where it is selected.
+#[tactic(auto, unfolding(crate::specs::Selection::selected))]
+fn keep_selected(
+    alloc: Global,
+    selection: &Selection,
+    last: &mut VecDeque<Kept>,
     most: u64,
-    value: T,
-    is_taken: bool,
+    entry: &Entry,
+    changes: &[Change],
 ) -> Result<(), TraceFault>
-    requires { length last.old.items ≤ most }
-    ensures kept { OnOk result (last.new.items
-        ≡ last_of most (last.old.items ++ (if is_taken then value ∷ [] else []))) }
+    requires few { length last.old.items ≤ most }
+    requires fits { All FitsWatched last.old.items }
+    requires digits { FitsLine entry.now }
+    ensures kept { OnOk result (last.new.items ≡ last_of most (last.old.items
+        ++ selected selection.now (record { entry = entry.now; changes = changes.now } ∷ []))) }
+    ensures fits { OnOk result (All FitsWatched last.new.items) }
     ensures fault { IfErr result (λ why. why ≡ TraceFault.Memory) }
 {
-    if is_taken {
-        push_last(last, most, value)
-    } else {
-        Ok(())
+    if !selection.takes(entry, changes) {
+        return Ok(());
     }
+    let changes = Vec::from_slice(alloc, changes)?;
+    let entry = *entry;
+    push_last(last, most, Kept { entry, changes })
 }
 
 /// Puts a value after the last ones, and lets the first of these go where there are too many.
@@ -113,7 +137,7 @@ fn push_last<T: Drop>(last: &mut VecDeque<T>, most: u64, value: T) -> Result<(),
 fn write_kept<W: Write>(
     alloc: Global,
     names: &Option<NameTable>,
-    last: &mut VecDeque<Watched>,
+    last: &mut VecDeque<Kept>,
     out: &mut W,
 ) -> Result<(), TraceFault>
     requires { All FitsWatched last.old.items }
@@ -122,8 +146,8 @@ fn write_kept<W: Write>(
     ensures cut { IfErr result (λ why. IsCut why (W.contents out.old) (W.contents out.new)
         (lines_of names.now last.old.items)) }
 {
-    while let Some(watched) = last.pop_front() {
-        write_line(alloc, names, &watched, out)?;
+    while let Some(kept) = last.pop_front() {
+        write_line(alloc, names, &kept.entry, kept.changes.as_slice(), out)?;
     }
     Ok(())
 }

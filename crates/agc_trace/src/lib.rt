@@ -12,7 +12,6 @@ mod places;
 mod selection;
 mod service;
 mod tracing;
-mod watch;
 
 pub use cell::Cell;
 pub use change::Change;
@@ -23,4 +22,3 @@ pub use places::{Places, PlacesFault};
 pub use selection::{Only, Selection};
 pub use service::Service;
 pub use tracing::{TraceFault, trace};
-pub use watch::Watched;

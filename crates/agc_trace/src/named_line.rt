@@ -4,7 +4,6 @@ ghost use Rattle.agc_machine.specs.Boundary.{HasPlace};
 ghost use Rattle.agc_machine.specs.declared.upcoming.Upcoming.TheVariants as upcoming;
 ghost use Rattle.agc_script.specs.Written.{word_digits};
 ghost use Rattle.agc_trace.specs.Entry.{FitsLine};
-ghost use Rattle.agc_trace.specs.Watch.{FitsWatched};
 ghost use Rattle.agc_trace.specs.NamedLine.{
   line_with,
   named_happening,
@@ -13,10 +12,9 @@ ghost use Rattle.agc_trace.specs.NamedLine.{
   text_with,
 };
 
-use crate::change::push_changes;
+use crate::change::{Change, push_changes};
 use crate::entry::Entry;
 use crate::line::{order_place, push_entry, push_happening, push_registers, push_write};
-use crate::watch::Watched;
 use agc_machine::{InHand, Upcoming};
 use agc_names::{NameTable, push_column};
 use agc_rope_listing::{push_order, push_place};
@@ -24,21 +22,22 @@ use agc_source_words::location_at;
 use agc_word::Narrow;
 use std::alloc::AllocError;
 
-/// Adds the line of a boundary, as `push_line` does, with what it has changed of the cells that are watched after the registers:
+/// Adds the line of an entry, as `push_line` does, and after the registers what its boundary has changed of some cells,
 /// ` | PLACE WORD to WORD` for each. Where names are given, an order has between its place and its word the column of that
 /// place: its name and blanks, thirteen characters. Fails where memory runs out.
 #[tactic(auto, unfolding(crate::specs::NamedLine::line_with))]
 pub fn push_line_with(
     text: &mut String,
     names: &Option<NameTable>,
-    watched: &Watched,
+    entry: &Entry,
+    changes: &[Change],
 ) -> Result<(), AllocError>
-    requires { FitsWatched watched.now }
-    ensures { OnOk result
-        (string_bytes text.new ≡ string_bytes text.old ++ line_with names.now watched.now) }
+    requires { FitsLine entry.now }
+    ensures { OnOk result (string_bytes text.new ≡ string_bytes text.old
+        ++ line_with names.now (record { entry = entry.now; changes = changes.now })) }
 {
-    push_entry_with(text, names, &watched.entry)?;
-    push_changes(text, watched.changes.as_slice())?;
+    push_entry_with(text, names, entry)?;
+    push_changes(text, changes)?;
     text.push_str("\n")
 }
 

@@ -18,7 +18,6 @@ ghost use Rattle.agc_trace.specs.Selection.{
 use crate::change::Change;
 use crate::entry::{Entry, Registers};
 use crate::places::Places;
-use crate::watch::Watched;
 use agc_machine::{InHand, Upcoming};
 use agc_order::{Basic, Extracode};
 use agc_source_words::location_at;
@@ -59,15 +58,15 @@ impl Selection {
     ghost use Rattle.std.specs.Prelude.{◌≡◌};
     ghost use Rattle.agc_trace.specs.Selection.{is_answer, is_selected};
 
-    /// The boundary, which has changed these of the cells that are named, has a line.
+    /// The boundary of an entry, which has changed these of the cells that are named, has a line.
     #[tactic(auto, unfolding(crate::specs::Selection::is_selected))]
-    pub fn takes(&self, watched: &Watched) -> bool
-        ensures { result ≡ is_selected self.now watched.now }
+    pub fn takes(&self, entry: &Entry, changes: &[Change]) -> bool
+        ensures { result
+            ≡ is_selected self.now (record { entry = entry.now; changes = changes.now }) }
     {
-        let entry = &watched.entry;
         self.from <= entry.cycle
             && entry.cycle <= self.to
-            && (entry.is_stop() || self.is_answer(entry, watched.changes.as_slice()))
+            && (entry.is_stop() || self.is_answer(entry, changes))
     }
 
     /// The boundary answers every question.

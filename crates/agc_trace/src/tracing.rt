@@ -2,18 +2,18 @@
 ghost use Rattle.std.specs.Prelude.{◌≡◌, [], ◌∷◌, OnOk, IfOk, IfErr};
 ghost use Rattle.std.specs.Io.KnownBytes.{Appends, Keeps};
 ghost use Rattle.agc_trace.specs.Cut.{IsCut};
+ghost use Rattle.agc_trace.specs.Entry.{FitsLine};
 ghost use Rattle.agc_trace.specs.NamedLine.{line_with};
 ghost use Rattle.agc_trace.specs.Selection.{last_of, lines_of, selected, selected_lines, watch_for};
 ghost use Rattle.agc_trace.specs.Service.{service_left};
 ghost use Rattle.agc_trace.specs.Trace.{trace_of};
-ghost use Rattle.agc_trace.specs.Watch.{FitsWatched};
 
-use crate::change::see_named;
+use crate::change::{Change, look, see_named};
+use crate::entry::{Entry, next_entry};
 use crate::last::write_last;
 use crate::named_line::push_line_with;
 use crate::selection::Selection;
 use crate::service::{Service, service_after};
-use crate::watch::{Watched, next_watched};
 use agc_machine::{Machine, Stepped};
 use agc_names::NameTable;
 use agc_progress::{Progress, tell_at};
@@ -98,12 +98,13 @@ fn write_lines<W: Write, P: Progress>(
         (lines_of names.now (selected selection.now (watch_for selection.now machine.old)))) }
 {
     let mut seen = see_named(alloc, selection.cells.as_slice(), machine.store())?;
+    let mut changes = Vec::new(alloc);
     let mut mark = 0;
     let mut service = None;
     while machine.cycle() <= selection.to {
-        let watched = next_watched(alloc, machine, &mut seen)?;
-        write_selected(alloc, selection, names, &watched, out)?;
-        let entry = watched.entry();
+        let entry = next_entry(machine);
+        look(alloc, machine, &mut seen, &mut changes)?;
+        write_selected(alloc, selection, names, &entry, changes.as_slice(), out)?;
         if entry.is_stop() {
             return Ok(service);
         }
@@ -119,17 +120,18 @@ fn write_selected<W: Write>(
     alloc: Global,
     selection: &Selection,
     names: &Option<NameTable>,
-    watched: &Watched,
+    entry: &Entry,
+    changes: &[Change],
     out: &mut W,
 ) -> Result<(), TraceFault>
-    requires { FitsWatched watched.now }
-    ensures line { OnOk result (Appends (W.contents out.old) (W.contents out.new)
-        (lines_of names.now (selected selection.now (watched.now ∷ [])))) }
+    requires { FitsLine entry.now }
+    ensures line { OnOk result (Appends (W.contents out.old) (W.contents out.new) (lines_of names.now
+        (selected selection.now (record { entry = entry.now; changes = changes.now } ∷ [])))) }
     ensures kept { IfErr result (λ why. why ≡ TraceFault.Memory
         → Keeps (W.contents out.old) (W.contents out.new)) }
 {
-    if selection.takes(watched) {
-        write_line(alloc, names, watched, out)
+    if selection.takes(entry, changes) {
+        write_line(alloc, names, entry, changes, out)
     } else {
         Ok(())
     }
@@ -139,17 +141,18 @@ fn write_selected<W: Write>(
 pub(crate) fn write_line<W: Write>(
     alloc: Global,
     names: &Option<NameTable>,
-    watched: &Watched,
+    entry: &Entry,
+    changes: &[Change],
     out: &mut W,
 ) -> Result<(), TraceFault>
-    requires { FitsWatched watched.now }
-    ensures line { OnOk result
-        (Appends (W.contents out.old) (W.contents out.new) (line_with names.now watched.now)) }
+    requires { FitsLine entry.now }
+    ensures line { OnOk result (Appends (W.contents out.old) (W.contents out.new)
+        (line_with names.now (record { entry = entry.now; changes = changes.now }))) }
     ensures kept { IfErr result (λ why. why ≡ TraceFault.Memory
         → Keeps (W.contents out.old) (W.contents out.new)) }
 {
     let mut line = String::new(alloc);
-    if push_line_with(&mut line, names, watched).is_err() {
+    if push_line_with(&mut line, names, entry, changes).is_err() {
         return Err(TraceFault::Memory);
     }
     match out.write_all(line.as_bytes()) {
