@@ -68,6 +68,7 @@ fn trace_command<'a>(alloc: Global) -> Result<Command<'a>, AllocError> {
         .arg(at_option(alloc))?
         .arg(order_option(alloc))?
         .arg(channel_option(alloc))?
+        .arg(cell_option(alloc))?
         .arg(last_option(alloc))?
         .arg(names_option(alloc))
 }
@@ -224,6 +225,16 @@ fn channel_option<'a>(alloc: Global) -> Arg<'a> {
         .action(ArgAction::Append)
         .help(
             "Print the orders that read or write this channel and the stop: octal, 0 to 777; may be said again",
+        )
+}
+
+fn cell_option<'a>(alloc: Global) -> Arg<'a> {
+    Arg::new(alloc, "cell")
+        .long("cell")
+        .value_name("PLACES")
+        .action(ArgAction::Append)
+        .help(
+            "Print what gives one of these erasable cells another word and the stop: 0100, E3,1400, or two of a bank as 0100-0107; may be said again",
         )
 }
 

@@ -1,4 +1,4 @@
-//! The questions to a trace: places, mnemonics and channels, of each as many as are said.
+//! The questions to a trace: places, mnemonics, channels and cells, of each as many as are said.
 use agc_args::ArgsFault;
 use agc_source_words::is_order;
 use agc_trace::Places;
@@ -20,6 +20,25 @@ fn places_in(alloc: Global, texts: &[&str]) -> Result<Vec<Places>, ArgsFault> {
         match Places::named(text.as_bytes()) {
             Ok(places) => push(&mut several, places)?,
             Err(fault) => return Err(refused(alloc, text, "--at <PLACES>", fault.name())),
+        }
+    }
+    Ok(several)
+}
+
+/// The cells of `--cell`.
+pub(crate) fn cells_of(alloc: Global, given: &ArgMatches<'_>) -> Result<Vec<Places>, ArgsFault> {
+    match given.get_strs("cell") {
+        Some(texts) => cells_in(alloc, texts),
+        None => Ok(Vec::new(alloc)),
+    }
+}
+
+fn cells_in(alloc: Global, texts: &[&str]) -> Result<Vec<Places>, ArgsFault> {
+    let mut several = Vec::new(alloc);
+    for text in texts {
+        match Places::of_cells(text.as_bytes()) {
+            Ok(places) => push(&mut several, places)?,
+            Err(fault) => return Err(refused(alloc, text, "--cell <PLACES>", fault.name())),
         }
     }
     Ok(several)

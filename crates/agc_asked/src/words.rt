@@ -2,7 +2,7 @@
 use crate::asked::{Asked, CheckedRun, Checking, Comparing, Filming, Listing, Tracing, Weaving};
 use crate::command_line::command;
 use crate::counted::counting_of;
-use crate::questions::{channels_of, orders_of, places_of};
+use crate::questions::{cells_of, channels_of, orders_of, places_of};
 use crate::shown::{shown_of, with_channels_joined};
 use agc_args::{ArgsFault, WordsFault, fault_of, words_of};
 use agc_film::{Part, RunFiles};
@@ -149,6 +149,7 @@ fn tracing_of(alloc: Global, given: &ArgMatches<'_>) -> Result<Tracing, ArgsFaul
             places: places_of(alloc, given)?,
             orders: orders_of(alloc, given)?,
             channels: channels_of(alloc, given)?,
+            cells: cells_of(alloc, given)?,
             last: given.get_one::<u64>("last"),
         },
         names: text_of(alloc, given, "names")?,

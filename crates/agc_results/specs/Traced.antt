@@ -7,7 +7,7 @@ use Rattle.agc_machine.specs.State.{State}
 use Rattle.agc_asked.specs.declared.asked.Tracing.{Tracing}
 use Rattle.agc_names.specs.Names.{Named}
 use Rattle.agc_trace.specs.Cut.{IsCut}
-use Rattle.agc_trace.specs.Selection.{selected_lines}
+use Rattle.agc_trace.specs.Selection.{selected_lines, watch_for}
 use Rattle.agc_trace.specs.Service.{service_left}
 use Rattle.agc_trace.specs.Trace.{trace_of}
 use Rattle.agc_trace.specs.declared.service.Service.{Service}
@@ -24,7 +24,7 @@ pub record IsTraced (asked : Tracing) (names : Option (List Named))
     (rope script before after : Option (List ℕ)) (service : Option Service) : Type 0 where
   pub machine : State
   pub start : IsStarted asked.form asked.until asked.limit rope script machine
-  pub lines : Appends before after (selected_lines names asked.selection (trace_of machine))
+  pub lines : Appends before after (selected_lines names asked.selection (watch_for asked.selection machine))
   pub left : service ≡ service_left asked.selection (trace_of machine)
 
 -- the same, and of the service that goes on nothing is told
@@ -38,7 +38,7 @@ pub record IsCutOff (asked : Tracing) (names : Option (List Named))
     (rope script before after : Option (List ℕ)) (why : TraceFault) : Type 0 where
   pub machine : State
   pub start : IsStarted asked.form asked.until asked.limit rope script machine
-  pub cut : IsCut why before after (selected_lines names asked.selection (trace_of machine))
+  pub cut : IsCut why before after (selected_lines names asked.selection (watch_for asked.selection machine))
 
 -- why no whole trace was written: a refusal, before anything was, or the lines were cut off
 abbrev pub IsUntraced : Tracing → Option (List Named) → Option (List ℕ) → Option (List ℕ)

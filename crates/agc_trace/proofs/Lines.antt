@@ -1,29 +1,30 @@
--- The lines of a trace boundary by boundary, and what is written of them.
+-- The lines of a watch boundary by boundary, and what is written of them.
 use Rattle.std.proofs.Common.{◌≡◌, ℕ, List, [], ◌∷◌, ◌++◌, Option, Some, None, Bool, true, false, refl, ap, sym, ◌∙◌, subst, append_assoc, append-nil}
 use Rattle.std.specs.Prelude.{if◌then◌else◌, filter}
 use Rattle.std.proofs.lemmas.Grind.{flat_map-append}
 use Rattle.std.specs.Io.KnownBytes.{Appends}
 use Rattle.agc_machine.specs.Boundary.{boundary, upcoming_of}
 use Rattle.agc_machine.specs.State.{State}
-use Rattle.agc_trace.specs.Entry.{entry_of}
 use Rattle.agc_names.specs.Names.{Named}
 use Rattle.agc_trace.specs.NamedLine.{line_with}
 use Rattle.agc_trace.specs.Selection.{is_selected, kept, last_of, lines_of, selected, selected_lines}
-use Rattle.agc_trace.specs.Trace.{is_stop, trace_of}
+use Rattle.agc_trace.specs.Trace.{is_stop}
+use Rattle.agc_trace.specs.Watch.{Watched, watch_of, watched_of}
+use Rattle.agc_trace.specs.declared.change.Change.{Change}
 use Rattle.agc_trace.specs.declared.entry.Entry.{Entry}
 use Rattle.agc_trace.specs.declared.selection.Selection.{Selection}
-use Rattle.agc_trace.proofs.Steps.{rest_ends, rest_goes_on, told_by, trace_by_entry}
+use Rattle.agc_trace.proofs.Watches.{watch_by_entry, watch_ends, watch_goes_on, watched_by}
 
-either_entry : (b : Bool) (entry : Entry) (rest : List Entry) → (if b then entry ∷ rest else rest) ≡ (if b then entry ∷ [] else []) ++ rest
+either_entry : (b : Bool) (entry : Watched) (rest : List Watched) → (if b then entry ∷ rest else rest) ≡ (if b then entry ∷ [] else []) ++ rest
 either_entry true entry rest = refl
 either_entry false entry rest = refl
 
-no_entry_by : (b : Bool) (entry : Entry) (rest : List Entry) → b ≡ false → (if b then entry ∷ rest else rest) ≡ rest
+no_entry_by : (b : Bool) (entry : Watched) (rest : List Watched) → b ≡ false → (if b then entry ∷ rest else rest) ≡ rest
 no_entry_by true entry rest e = cc
 no_entry_by false entry rest e = refl
 
 -- the lines of two lists, one after the other
-pub lines_of-append : (names : Option (List Named)) (xs ys : List Entry) → lines_of names (xs ++ ys) ≡ lines_of names xs ++ lines_of names ys
+pub lines_of-append : (names : Option (List Named)) (xs ys : List Watched) → lines_of names (xs ++ ys) ≡ lines_of names xs ++ lines_of names ys
 unfolding lines_of
 lines_of-append names xs ys = flat_map-append (line_with names) xs ys
 
@@ -31,55 +32,56 @@ pub lines_of-none : (names : Option (List Named)) → lines_of names [] ≡ []
 unfolding lines_of
 lines_of-none names = refl
 
-pub lines_of-cons : (names : Option (List Named)) (entry : Entry) (entries : List Entry) → lines_of names (entry ∷ entries) ≡ line_with names entry ++ lines_of names entries
+pub lines_of-cons : (names : Option (List Named)) (entry : Watched) (entries : List Watched) → lines_of names (entry ∷ entries) ≡ line_with names entry ++ lines_of names entries
 unfolding lines_of
 lines_of-cons names entry entries = refl
 
 module _ (w : Selection) where
-  split_entry : (entry : Entry) (entries : List Entry) → selected w (entry ∷ entries) ≡ selected w (entry ∷ []) ++ selected w entries
+  split_entry : (entry : Watched) (entries : List Watched) → selected w (entry ∷ entries) ≡ selected w (entry ∷ []) ++ selected w entries
   unfolding selected
   split_entry entry entries = either_entry (is_selected w entry) entry (filter (is_selected w) entries)
 
-  pub no_entry : (entry : Entry) (entries : List Entry) → is_selected w entry ≡ false → selected w (entry ∷ entries) ≡ selected w entries
+  pub no_entry : (entry : Watched) (entries : List Watched) → is_selected w entry ≡ false → selected w (entry ∷ entries) ≡ selected w entries
   unfolding selected
   no_entry entry entries e = no_entry_by (is_selected w entry) entry (filter (is_selected w) entries) e
 
-  -- the selected entries of a trace begin with that of its first boundary
-  pub entries_by_entry : (s : State) → is_stop (upcoming_of s) ≡ false →
-      selected w (trace_of s) ≡ selected w (entry_of s ∷ []) ++ selected w (trace_of (boundary None s).0)
-  entries_by_entry s f =
-      ap (λ (xs : List Entry). selected w xs) (trace_by_entry s)
-      ∙ ap (λ (xs : List Entry). selected w (entry_of s ∷ xs)) (rest_goes_on (is_stop (upcoming_of s)) (trace_of (boundary None s).0) f)
-      ∙ split_entry (entry_of s) (trace_of (boundary None s).0)
-
-  pub entries_at_stop : (s : State) → is_stop (upcoming_of s) ≡ true → selected w (trace_of s) ≡ selected w (entry_of s ∷ [])
-  entries_at_stop s f =
-      ap (λ (xs : List Entry). selected w xs) (trace_by_entry s)
-      ∙ ap (λ (xs : List Entry). selected w (entry_of s ∷ xs)) (rest_ends (is_stop (upcoming_of s)) (trace_of (boundary None s).0) f)
-
-  -- the same of a boundary that was told
-  pub entries_after : (s t : State) (entry : Entry) → entry ≡ entry_of s → t ≡ (boundary None s).0 → is_stop entry.happening ≡ false →
-      selected w (trace_of s) ≡ selected w (entry ∷ []) ++ selected w (trace_of t)
-  entries_after s t entry e f stop =
-      entries_by_entry s (told_by false s entry e stop)
-      ∙ ap (λ (x : Entry). selected w (x ∷ []) ++ selected w (trace_of (boundary None s).0)) (sym e)
-      ∙ ap (λ (u : State). selected w (entry ∷ []) ++ selected w (trace_of u)) (sym f)
-
-  pub entries_of_stop : (s : State) (entry : Entry) → entry ≡ entry_of s → is_stop entry.happening ≡ true →
-      selected w (trace_of s) ≡ selected w (entry ∷ [])
-  entries_of_stop s entry e stop = entries_at_stop s (told_by true s entry e stop) ∙ ap (λ (x : Entry). selected w (x ∷ [])) (sym e)
-
   -- where no number of last lines is said, every selected entry has its line
-  pub all_lines : (names : Option (List Named)) (xs ys : List Entry) → w.last ≡ None → selected w xs ≡ selected w ys → lines_of names (selected w xs) ≡ selected_lines names w ys
+  pub all_lines : (names : Option (List Named)) (xs ys : List Watched) → w.last ≡ None → selected w xs ≡ selected w ys → lines_of names (selected w xs) ≡ selected_lines names w ys
   unfolding selected_lines
   all_lines names xs ys e f =
-      ap (λ (zs : List Entry). lines_of names zs) (f ∙ ap (λ (o : Option ℕ). kept o (selected w ys)) (sym e))
+      ap (λ (zs : List Watched). lines_of names zs) (f ∙ ap (λ (o : Option ℕ). kept o (selected w ys)) (sym e))
 
-  pub last_lines : (names : Option (List Named)) (most : ℕ) (xs ys : List Entry) → w.last ≡ Some most → selected w xs ≡ selected w ys →
+  pub last_lines : (names : Option (List Named)) (most : ℕ) (xs ys : List Watched) → w.last ≡ Some most → selected w xs ≡ selected w ys →
       lines_of names (last_of most (selected w xs)) ≡ selected_lines names w ys
   unfolding selected_lines
   last_lines names most xs ys e f =
-      ap (λ (zs : List Entry). lines_of names zs) (ap (λ (zs : List Entry). last_of most zs) f ∙ ap (λ (o : Option ℕ). kept o (selected w ys)) (sym e))
+      ap (λ (zs : List Watched). lines_of names zs) (ap (λ (zs : List Watched). last_of most zs) f ∙ ap (λ (o : Option ℕ). kept o (selected w ys)) (sym e))
+
+  module _ (cells : List ℕ) where
+    -- the selected entries of a watch begin with that of its first boundary
+    pub entries_by_entry : (s : State) → is_stop (upcoming_of s) ≡ false →
+        selected w (watch_of cells s) ≡ selected w (watched_of cells s ∷ []) ++ selected w (watch_of cells (boundary None s).0)
+    entries_by_entry s f =
+        ap (λ (xs : List Watched). selected w xs) (watch_by_entry cells s)
+        ∙ ap (λ (xs : List Watched). selected w (watched_of cells s ∷ xs)) (watch_goes_on (is_stop (upcoming_of s)) (watch_of cells (boundary None s).0) f)
+        ∙ split_entry (watched_of cells s) (watch_of cells (boundary None s).0)
+
+    pub entries_at_stop : (s : State) → is_stop (upcoming_of s) ≡ true → selected w (watch_of cells s) ≡ selected w (watched_of cells s ∷ [])
+    entries_at_stop s f =
+        ap (λ (xs : List Watched). selected w xs) (watch_by_entry cells s)
+        ∙ ap (λ (xs : List Watched). selected w (watched_of cells s ∷ xs)) (watch_ends (is_stop (upcoming_of s)) (watch_of cells (boundary None s).0) f)
+
+    -- the same of a boundary that was told
+    pub entries_after : (s t : State) (entry : Watched) → entry ≡ watched_of cells s → t ≡ (boundary None s).0 → is_stop entry.entry.happening ≡ false →
+        selected w (watch_of cells s) ≡ selected w (entry ∷ []) ++ selected w (watch_of cells t)
+    entries_after s t entry e f stop =
+        entries_by_entry s (watched_by cells false s entry e stop)
+        ∙ ap (λ (x : Watched). selected w (x ∷ []) ++ selected w (watch_of cells (boundary None s).0)) (sym e)
+        ∙ ap (λ (u : State). selected w (entry ∷ []) ++ selected w (watch_of cells u)) (sym f)
+
+    pub entries_of_stop : (s : State) (entry : Watched) → entry ≡ watched_of cells s → is_stop entry.entry.happening ≡ true →
+        selected w (watch_of cells s) ≡ selected w (entry ∷ [])
+    entries_of_stop s entry e stop = entries_at_stop s (watched_by cells true s entry e stop) ∙ ap (λ (x : Watched). selected w (x ∷ [])) (sym e)
 
 -- what a writer took since a start, and what is left of the whole
 abbrev pub IsWritten : Option (List ℕ) → Option (List ℕ) → List ℕ → List ℕ → Type 0
@@ -109,22 +111,29 @@ pub written_more : (start now new : Option (List ℕ)) (line left whole : List �
 written_more start now new line left whole h k =
     (h.0 ++ line, appends_more start now new h.0 line h.1 k, append_assoc h.0 line left ∙ h.2)
 
--- one more line is written, and what is left is that of the next boundary's trace
-pub line_written : (names : Option (List Named)) (w : Selection) (start now new : Option (List ℕ)) (s t : State) (entry : Entry) (whole : List ℕ) →
-    entry ≡ entry_of s → t ≡ (boundary None s).0 → is_stop entry.happening ≡ false →
-    IsWritten start now (lines_of names (selected w (trace_of s))) whole → Appends now new (lines_of names (selected w (entry ∷ []))) →
-    IsWritten start new (lines_of names (selected w (trace_of t))) whole
-line_written names w start now new s t entry whole e f stop h k =
-    let next = ap (λ (xs : List Entry). lines_of names xs) (entries_after w s t entry e f stop) ∙ lines_of-append names (selected w (entry ∷ [])) (selected w (trace_of t)) in
-    written_more start now new (lines_of names (selected w (entry ∷ []))) (lines_of names (selected w (trace_of t))) whole
-    (subst (λ (xs : List ℕ). IsWritten start now xs whole) next h) k
+-- a line is that of the same entry and changes, whichever way they are had
+pub line_as : (names : Option (List Named)) (now new : Option (List ℕ)) (x : Watched) (entry : Entry) (changes items : List Change) → changes ≡ items →
+    record { entry = entry; changes = items } ≡ x → Appends now new (line_with names (record { entry = entry; changes = changes })) → Appends now new (line_with names x)
+line_as names now new x entry changes items e f h =
+    subst (λ (y : Watched). Appends now new (line_with names y)) (ap (λ (cs : List Change). record { entry = entry; changes = cs }) e ∙ f) h
 
--- the last line is written
-pub all_written : (names : Option (List Named)) (w : Selection) (start now new : Option (List ℕ)) (s : State) (entry : Entry) (whole : List ℕ) →
-    entry ≡ entry_of s → is_stop entry.happening ≡ true →
-    IsWritten start now (lines_of names (selected w (trace_of s))) whole → Appends now new (lines_of names (selected w (entry ∷ []))) →
-    Appends start new whole
-all_written names w start now new s entry whole e stop h k =
-    let line = lines_of names (selected w (entry ∷ [])) in
-    let last : lines_of names (selected w (trace_of s)) ≡ line = ap (λ (xs : List Entry). lines_of names xs) (entries_of_stop w s entry e stop) in
-    subst (λ (xs : List ℕ). Appends start new xs) (ap (λ (xs : List ℕ). h.0 ++ xs) (sym last) ∙ h.2) (appends_more start now new h.0 line h.1 k)
+module _ (names : Option (List Named)) (w : Selection) (cells : List ℕ) where
+  -- one more line is written, and what is left is that of the next boundary's watch
+  pub line_written : (start now new : Option (List ℕ)) (s t : State) (entry : Watched) (whole : List ℕ) →
+      entry ≡ watched_of cells s → t ≡ (boundary None s).0 → is_stop entry.entry.happening ≡ false →
+      IsWritten start now (lines_of names (selected w (watch_of cells s))) whole → Appends now new (lines_of names (selected w (entry ∷ []))) →
+      IsWritten start new (lines_of names (selected w (watch_of cells t))) whole
+  line_written start now new s t entry whole e f stop h k =
+      let next = ap (λ (xs : List Watched). lines_of names xs) (entries_after w cells s t entry e f stop) ∙ lines_of-append names (selected w (entry ∷ [])) (selected w (watch_of cells t)) in
+      written_more start now new (lines_of names (selected w (entry ∷ []))) (lines_of names (selected w (watch_of cells t))) whole
+      (subst (λ (xs : List ℕ). IsWritten start now xs whole) next h) k
+
+  -- the last line is written
+  pub all_written : (start now new : Option (List ℕ)) (s : State) (entry : Watched) (whole : List ℕ) →
+      entry ≡ watched_of cells s → is_stop entry.entry.happening ≡ true →
+      IsWritten start now (lines_of names (selected w (watch_of cells s))) whole → Appends now new (lines_of names (selected w (entry ∷ []))) →
+      Appends start new whole
+  all_written start now new s entry whole e stop h k =
+      let line = lines_of names (selected w (entry ∷ [])) in
+      let last : lines_of names (selected w (watch_of cells s)) ≡ line = ap (λ (xs : List Watched). lines_of names xs) (entries_of_stop w cells s entry e stop) in
+      subst (λ (xs : List ℕ). Appends start new xs) (ap (λ (xs : List ℕ). h.0 ++ xs) (sym last) ∙ h.2) (appends_more start now new h.0 line h.1 k)

@@ -2,7 +2,10 @@ pub mod Entry
 pub mod Line
 pub mod NamedLine
 pub mod Trace
+pub mod Cell
 pub mod Places
+pub mod Change
+pub mod Watch
 pub mod Selection
 pub mod Service
 pub mod Cut

@@ -53,8 +53,12 @@ registers_text r =
     ++ codes " EB " ++ octal_digits 1 r.erasable_bank
     ++ codes " FB " ++ octal_digits 2 r.fixed_bank
 
+-- an entry without the end of its line
+unfoldable pub entry_text : Entry → List ℕ
+entry_text entry =
+    decimal entry.cycle ++ codes " " ++ happening_text entry.happening ++ shown_text entry.write
+    ++ codes " | " ++ registers_text entry.registers
+
 -- the line of an entry
 unfoldable pub line_of : Entry → List ℕ
-line_of entry =
-    decimal entry.cycle ++ codes " " ++ happening_text entry.happening ++ shown_text entry.write
-    ++ codes " | " ++ registers_text entry.registers ++ codes "\n"
+line_of entry = entry_text entry ++ codes "\n"

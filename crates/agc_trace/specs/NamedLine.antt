@@ -1,4 +1,5 @@
--- An entry's line with names: an order has the name of its place beside that.
+-- An entry's line with names, where an order has the name of its place beside that, and with the cells that its
+-- boundary changes.
 use Rattle.std.specs.Prelude.{List, ℕ, ◌++◌, codes, Option, Some, None}
 use Rattle.std.specs.Fmt.{decimal}
 use Rattle.agc_script.specs.Written.{word_digits}
@@ -10,7 +11,9 @@ use Rattle.agc_rope_listing.specs.Place.{place_text}
 use Rattle.agc_source_words.specs.Location.{location_at}
 use Rattle.agc_names.specs.Column.{name_column}
 use Rattle.agc_names.specs.Names.{Named}
-use Rattle.agc_trace.specs.Line.{happening_text, line_of, order_place, registers_text, shown_text}
+use Rattle.agc_trace.specs.Change.{changes_text}
+use Rattle.agc_trace.specs.Line.{entry_text, happening_text, order_place, registers_text, shown_text}
+use Rattle.agc_trace.specs.Watch.{Watched}
 use Rattle.agc_trace.specs.declared.entry.Entry.{Entry}
 
 -- an order with its place, the column of that, and its word
@@ -28,12 +31,17 @@ named_happening names (upcoming.Event what) = happening_text (upcoming.Event wha
 named_happening names (upcoming.Timer t) = happening_text (upcoming.Timer t)
 named_happening names (upcoming.Interrupt r) = happening_text (upcoming.Interrupt r)
 
-unfoldable pub named_line : List Named → Entry → List ℕ
-named_line names entry =
+unfoldable pub named_text : List Named → Entry → List ℕ
+named_text names entry =
     decimal entry.cycle ++ codes " " ++ named_happening names entry.happening
-    ++ shown_text entry.write ++ codes " | " ++ registers_text entry.registers ++ codes "\n"
+    ++ shown_text entry.write ++ codes " | " ++ registers_text entry.registers
 
--- the line of an entry, with names where there are any
-unfoldable pub line_with : Option (List Named) → Entry → List ℕ
-line_with (Some names) entry = named_line names entry
-line_with None entry = line_of entry
+-- an entry without the end of its line, with names where there are any
+unfoldable pub text_with : Option (List Named) → Entry → List ℕ
+text_with (Some names) entry = named_text names entry
+text_with None entry = entry_text entry
+
+-- the line of an entry, with the cells that its boundary changes after the registers
+unfoldable pub line_with : Option (List Named) → Watched → List ℕ
+line_with names watched =
+    text_with names watched.entry ++ changes_text watched.changes ++ codes "\n"

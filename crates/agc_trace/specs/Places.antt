@@ -1,5 +1,5 @@
 -- The stretches of places that a question to a trace names.
-use Rattle.std.specs.Prelude.{ℕ, ◌+◌, ◌/◌, ◌==◌, nat_le, Bool, false, ◌&&◌, List, take, drop, position}
+use Rattle.std.specs.Prelude.{ℕ, ◌+◌, ◌/◌, ◌==◌, nat_le, Bool, true, false, ◌&&◌, List, take, drop, position}
 use Rattle.std.specs.Prelude.{Option, Some, None, Result, Ok, Err, if◌then◌else◌}
 use Rattle.agc_store.specs.Places.{erasable_bank_size, fixed_bank_size}
 use Rattle.agc_source_words.specs.Location.{location_named}
@@ -28,6 +28,10 @@ is_stretch (location.Erasable first) (location.Erasable last) =
     (first / erasable_bank_size == last / erasable_bank_size) && nat_le first last
 is_stretch _ _ = false
 
+abbrev pub is_cell : Location → Bool
+is_cell (location.Erasable cell) = true
+is_cell (location.Fixed place) = false
+
 abbrev pub one_place : Option Location → Result Places PlacesFault
 one_place (Some place) = Ok (record { first = place; last = place })
 one_place None = Err fault.BadPlace
@@ -52,3 +56,12 @@ places_cut None text = one_place (location_named text)
 -- the places that a text names: a place, or two of one bank with a dash between, `05,2071-05,2100`
 unfoldable pub places_named : List ℕ → Result Places PlacesFault
 places_named text = places_cut (position is_dash text) text
+
+-- the same where they are cells of erasable memory
+abbrev pub only_cells : Result Places PlacesFault → Result Places PlacesFault
+only_cells (Ok places) = if is_cell places.first then Ok places else Err fault.NotErasable
+only_cells (Err why) = Err why
+
+-- the cells that a text names, a cell or two of one bank with a dash between, `0100-0107`
+unfoldable pub cells_named : List ℕ → Result Places PlacesFault
+cells_named text = only_cells (places_named text)

@@ -13,13 +13,17 @@ use Rattle.agc_order.specs.declared.order.Basic.TheVariants as basic
 use Rattle.agc_order.specs.declared.order.Extracode.{Extracode}
 use Rattle.agc_order.specs.declared.order.Extracode.TheVariants as extra
 use Rattle.agc_source_words.specs.Location.{location_at}
+use Rattle.agc_machine.specs.State.{State}
 use Rattle.agc_machine.specs.declared.upcoming.InHand.{InHand}
 use Rattle.agc_machine.specs.declared.upcoming.Upcoming.{Upcoming}
 use Rattle.agc_machine.specs.declared.upcoming.Upcoming.TheVariants as upcoming
 use Rattle.agc_names.specs.Names.{Named}
+use Rattle.agc_trace.specs.Change.{named_cells}
 use Rattle.agc_trace.specs.NamedLine.{line_with}
 use Rattle.agc_trace.specs.Places.{has_place}
 use Rattle.agc_trace.specs.Trace.{is_stop}
+use Rattle.agc_trace.specs.Watch.{Watched, watch_of}
+use Rattle.agc_trace.specs.declared.change.Change.{Change}
 use Rattle.agc_trace.specs.declared.entry.Entry.{Entry}
 use Rattle.agc_trace.specs.declared.entry.Registers.{Registers}
 use Rattle.agc_trace.specs.declared.places.Places.{Places}
@@ -115,24 +119,34 @@ touches channel (upcoming.Interrupt r) = false
 abbrev pub is_asked : {A : Type 0} → (A → Bool) → List A → Bool
 is_asked test several = (length several == 0) || list_any test several
 
+-- a boundary that changes one of the cells that are named; where none is, any will do
+abbrev pub changes_one : List Places → List Change → Bool
+changes_one cells changes = (length cells == 0) || not (length changes == 0)
+
 -- an entry that answers every question
-abbrev pub is_answer : Selection → Entry → Bool
-is_answer s entry =
+abbrev pub is_answer : Selection → Entry → List Change → Bool
+is_answer s entry changes =
     is_of_kinds s.only entry && is_asked (λ places. runs_at places entry.happening) s.places.items
     && is_asked (λ name. is_called (string_bytes name) entry.happening) s.orders.items
     && is_asked (λ channel. touches channel entry.happening) s.channels.items
+    && changes_one s.cells.items changes
 
 -- an entry whose boundary begins at a cycle of a range
 abbrev pub is_between : ℕ → ℕ → Entry → Bool
 is_between from to entry = nat_le from entry.cycle && nat_le entry.cycle to
 
 -- in the range the answers have a line, and the stop, which says why nothing more comes
-unfoldable pub is_selected : Selection → Entry → Bool
-is_selected s entry =
-    is_between s.from s.to entry && (is_stop entry.happening || is_answer s entry)
+unfoldable pub is_selected : Selection → Watched → Bool
+is_selected s watched =
+    is_between s.from s.to watched.entry
+    && (is_stop watched.entry.happening || is_answer s watched.entry watched.changes)
+
+-- a run's entries, with what each boundary changes of the cells that are named
+abbrev pub watch_for : Selection → State → List Watched
+watch_for s start = watch_of (named_cells s.cells.items) start
 
 -- the entries that are selected
-unfoldable pub selected : Selection → List Entry → List Entry
+unfoldable pub selected : Selection → List Watched → List Watched
 selected s entries = filter (is_selected s) entries
 
 -- the last so many of several, or all where there are no more
@@ -140,14 +154,14 @@ abbrev pub last_of : {A : Type 0} → ℕ → List A → List A
 last_of most several = drop (length several - most) several
 
 -- the last so many, where a number is said
-abbrev pub kept : Option ℕ → List Entry → List Entry
+abbrev pub kept : Option ℕ → List Watched → List Watched
 kept None entries = entries
 kept (Some most) entries = last_of most entries
 
 -- the lines of entries, with names where there are any
-unfoldable pub lines_of : Option (List Named) → List Entry → List ℕ
+unfoldable pub lines_of : Option (List Named) → List Watched → List ℕ
 lines_of names entries = flat_map (line_with names) entries
 
 -- the lines of the entries that are selected, or of the last so many of them
-unfoldable pub selected_lines : Option (List Named) → Selection → List Entry → List ℕ
+unfoldable pub selected_lines : Option (List Named) → Selection → List Watched → List ℕ
 selected_lines names s entries = lines_of names (kept s.last (selected s entries))

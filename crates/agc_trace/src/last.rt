@@ -3,10 +3,12 @@ ghost use Rattle.std.specs.Prelude.{◌≡◌, ◌≤◌, [], ◌∷◌, ◌++�
 ghost use Rattle.std.specs.Io.KnownBytes.{Appends};
 ghost use Rattle.agc_trace.specs.Cut.{IsCut};
 ghost use Rattle.agc_trace.specs.Entry.{FitsLine};
-ghost use Rattle.agc_trace.specs.Selection.{last_of, lines_of, selected};
+ghost use Rattle.agc_trace.specs.Selection.{last_of, lines_of, selected, watch_for};
 ghost use Rattle.agc_trace.specs.Service.{service_left};
 ghost use Rattle.agc_trace.specs.Trace.{trace_of};
+ghost use Rattle.agc_trace.specs.Watch.{FitsWatched};
 
+use crate::change::{Change, look, see_named};
 use crate::entry::{Entry, next_entry};
 use crate::selection::Selection;
 use crate::service::{Service, service_after};
@@ -17,6 +19,22 @@ use agc_progress::{Progress, tell_at};
 use std::alloc::Global;
 use std::collections::VecDeque;
 use std::io::Write;
+use std::marker::Model;
+
+/// An entry that is kept, with what its boundary has changed of the cells that are named.
+#[derive(Drop)]
+struct Kept {
+    entry: Entry,
+    changes: Vec<Change>,
+}
+
+impl Model for Kept {
+    ghost use Rattle.agc_trace.specs.Watch.{Watched};
+
+    ghost Value = { Watched };
+
+    ghost view = { λ k. record { entry = k.entry; changes = k.changes.items } };
+}
 
 /// Runs a machine to its stop, or past the last cycle that is selected, and writes the lines of the last
 /// selected entries, at most so many. Memory holds no more of them.
@@ -30,38 +48,41 @@ pub(crate) fn write_last<W: Write, P: Progress>(
     progress: &mut P,
 ) -> Result<Option<Service>, TraceFault>
     ensures lines { OnOk result (Appends (W.contents out.old) (W.contents out.new)
-        (lines_of names.now (last_of most (selected selection.now (trace_of machine.old))))) }
+        (lines_of names.now (last_of most (selected selection.now (watch_for selection.now machine.old))))) }
     ensures service { IfOk result (λ left. left ≡ service_left selection.now (trace_of machine.old)) }
     ensures cut { IfErr result (λ why. IsCut why (W.contents out.old) (W.contents out.new)
-        (lines_of names.now (last_of most (selected selection.now (trace_of machine.old))))) }
+        (lines_of names.now (last_of most (selected selection.now (watch_for selection.now machine.old))))) }
 {
     let mut last = VecDeque::new(alloc);
-    let service = keep_last(machine, selection, most, &mut last, progress)?;
+    let service = keep_last(alloc, machine, selection, most, &mut last, progress)?;
     write_kept(alloc, names, &mut last, out)?;
     Ok(service)
 }
 
 /// Runs a machine to its stop, or past the last cycle that is selected, and keeps the last selected entries.
 fn keep_last<P: Progress>(
+    alloc: Global,
     machine: &mut Machine,
     selection: &Selection,
     most: u64,
-    last: &mut VecDeque<Entry>,
+    last: &mut VecDeque<Kept>,
     progress: &mut P,
 ) -> Result<Option<Service>, TraceFault>
     requires { last.old.items ≡ [] }
     ensures entries { OnOk result
-        (last.new.items ≡ last_of most (selected selection.now (trace_of machine.old))) }
-    ensures fits { OnOk result (All FitsLine last.new.items) }
+        (last.new.items ≡ last_of most (selected selection.now (watch_for selection.now machine.old))) }
+    ensures fits { OnOk result (All FitsWatched last.new.items) }
     ensures service { IfOk result (λ left. left ≡ service_left selection.now (trace_of machine.old)) }
     ensures fault { IfErr result (λ why. why ≡ TraceFault.Memory) }
 {
+    let mut seen = see_named(alloc, selection.cells.as_slice(), machine.store())?;
+    let mut changes = Vec::new(alloc);
     let mut mark = 0;
     let mut service = None;
     while machine.cycle() <= selection.to {
         let entry = next_entry(machine);
-        let is_taken = selection.takes(&entry);
-        keep(last, most, entry, is_taken)?;
+        look(alloc, machine, &mut seen, &mut changes)?;
+        keep_selected(alloc, selection, last, most, &entry, changes.as_slice())?;
         if entry.is_stop() {
             return Ok(service);
         }
@@ -71,23 +92,30 @@ fn keep_last<P: Progress>(
     Ok(None)
 }
 
-/// Keeps a value as the last one, where it is taken.
-fn keep<T: Drop>(
-    last: &mut VecDeque<T>,
+/// Keeps an entry with its changes as the last one, where it is selected.
+#[tactic(auto, unfolding(crate::specs::Selection::selected))]
+fn keep_selected(
+    alloc: Global,
+    selection: &Selection,
+    last: &mut VecDeque<Kept>,
     most: u64,
-    value: T,
-    is_taken: bool,
+    entry: &Entry,
+    changes: &[Change],
 ) -> Result<(), TraceFault>
-    requires { length last.old.items ≤ most }
-    ensures kept { OnOk result (last.new.items
-        ≡ last_of most (last.old.items ++ (if is_taken then value ∷ [] else []))) }
+    requires few { length last.old.items ≤ most }
+    requires fits { All FitsWatched last.old.items }
+    requires digits { FitsLine entry.now }
+    ensures kept { OnOk result (last.new.items ≡ last_of most (last.old.items
+        ++ selected selection.now (record { entry = entry.now; changes = changes.now } ∷ []))) }
+    ensures fits { OnOk result (All FitsWatched last.new.items) }
     ensures fault { IfErr result (λ why. why ≡ TraceFault.Memory) }
 {
-    if is_taken {
-        push_last(last, most, value)
-    } else {
-        Ok(())
+    if !selection.takes(entry, changes) {
+        return Ok(());
     }
+    let changes = Vec::from_slice(alloc, changes)?;
+    let entry = *entry;
+    push_last(last, most, Kept { entry, changes })
 }
 
 /// Puts a value after the last ones, and lets the first of these go where there are too many.
@@ -109,17 +137,17 @@ fn push_last<T: Drop>(last: &mut VecDeque<T>, most: u64, value: T) -> Result<(),
 fn write_kept<W: Write>(
     alloc: Global,
     names: &Option<NameTable>,
-    last: &mut VecDeque<Entry>,
+    last: &mut VecDeque<Kept>,
     out: &mut W,
 ) -> Result<(), TraceFault>
-    requires { All FitsLine last.old.items }
+    requires { All FitsWatched last.old.items }
     ensures lines { OnOk result
         (Appends (W.contents out.old) (W.contents out.new) (lines_of names.now last.old.items)) }
     ensures cut { IfErr result (λ why. IsCut why (W.contents out.old) (W.contents out.new)
         (lines_of names.now last.old.items)) }
 {
-    while let Some(entry) = last.pop_front() {
-        write_line(alloc, names, &entry, out)?;
+    while let Some(kept) = last.pop_front() {
+        write_line(alloc, names, &kept.entry, kept.changes.as_slice(), out)?;
     }
     Ok(())
 }

@@ -1,11 +1,12 @@
 //! Laws of every trace, each the contract of a function that does nothing.
-ghost use Rattle.std.specs.Prelude.{◌≡◌, ℕ, ◌<◌, length, slice_get, Some};
+ghost use Rattle.std.specs.Prelude.{◌≡◌, ℕ, ◌<◌, List, length, map, slice_get, Some};
 ghost use Rattle.agc_machine.specs.Laws.{after};
 ghost use Rattle.agc_machine.specs.Run.{run_of};
 ghost use Rattle.agc_machine.specs.State.{State};
 ghost use Rattle.agc_trace.specs.Entry.{entry_of};
 ghost use Rattle.agc_trace.specs.Trace.{trace_of};
 ghost use Rattle.agc_trace.specs.TraceLaws.{EndsWithStop, NeverGoBack};
+ghost use Rattle.agc_trace.specs.Watch.{watch_of};
 
 /// An entry of a trace, counted from 0, tells the boundary that comes after so many others.
 pub fn an_entry_tells_its_boundary()
@@ -22,4 +23,9 @@ pub fn a_trace_ends_with_the_stop()
 /// No entry of a trace is before the one before it, and none before the state's own cycle.
 pub fn a_trace_never_goes_back()
     ensures { (s : State) → NeverGoBack s.cycle (trace_of s) }
+{}
+
+/// The entries of a watch are those of the trace, each once and in its order, whatever cells are watched.
+pub fn a_watch_tells_the_trace()
+    ensures { (cells : List ℕ) (s : State) → map (λ watched. watched.entry) (watch_of cells s) ≡ trace_of s }
 {}

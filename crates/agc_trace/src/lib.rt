@@ -1,6 +1,8 @@
 //! The trace of a run: what each boundary did, as values and as lines.
 #![tactic(auto)]
 
+mod cell;
+mod change;
 mod entry;
 mod last;
 pub mod laws;
@@ -11,6 +13,8 @@ mod selection;
 mod service;
 mod tracing;
 
+pub use cell::Cell;
+pub use change::Change;
 pub use entry::{Entry, Registers, next_entry, registers_in};
 pub use line::{push_happening, push_line, push_registers};
 pub use named_line::push_line_with;

@@ -6,6 +6,7 @@ ghost use Rattle.agc_rope_listing.specs.Place.{IsInPrint};
 ghost use Rattle.agc_script.specs.Written.{word_digits};
 ghost use Rattle.agc_trace.specs.Entry.{FitsLine, FitsWrite};
 ghost use Rattle.agc_trace.specs.Line.{
+  entry_text,
   happening_text,
   line_of,
   order_place,
@@ -29,13 +30,22 @@ pub fn push_line(text: &mut String, entry: &Entry) -> Result<(), AllocError>
     requires { FitsLine entry.now }
     ensures { OnOk result (string_bytes text.new ≡ string_bytes text.old ++ line_of entry.now) }
 {
+    push_entry(text, entry)?;
+    text.push_str("\n")
+}
+
+/// Adds an entry without the end of its line.
+#[tactic(auto, unfolding(crate::specs::Line::entry_text))]
+pub(crate) fn push_entry(text: &mut String, entry: &Entry) -> Result<(), AllocError>
+    requires { FitsLine entry.now }
+    ensures { OnOk result (string_bytes text.new ≡ string_bytes text.old ++ entry_text entry.now) }
+{
     let cycle = entry.cycle;
     write!(text, "{cycle} ")?;
     push_happening(text, entry.happening)?;
     push_write(text, entry.write)?;
     text.push_str(" | ")?;
-    push_registers(text, entry.registers)?;
-    text.push_str("\n")
+    push_registers(text, entry.registers)
 }
 
 /// Adds what happened, or will: an order with its place and its word, or after a dash anything else. Fails

@@ -1,13 +1,20 @@
-//! An entry of the trace as a line, with the name of an order's place.
+//! An entry of the trace as a line, with the name of an order's place and the cells that were changed.
 ghost use Rattle.std.specs.Prelude.{◌≡◌, ◌++◌, OnOk, codes, string_bytes};
 ghost use Rattle.agc_machine.specs.Boundary.{HasPlace};
 ghost use Rattle.agc_machine.specs.declared.upcoming.Upcoming.TheVariants as upcoming;
 ghost use Rattle.agc_script.specs.Written.{word_digits};
 ghost use Rattle.agc_trace.specs.Entry.{FitsLine};
-ghost use Rattle.agc_trace.specs.NamedLine.{line_with, named_happening, named_line, named_order};
+ghost use Rattle.agc_trace.specs.NamedLine.{
+  line_with,
+  named_happening,
+  named_order,
+  named_text,
+  text_with,
+};
 
+use crate::change::{Change, push_changes};
 use crate::entry::Entry;
-use crate::line::{order_place, push_happening, push_line, push_registers, push_write};
+use crate::line::{order_place, push_entry, push_happening, push_registers, push_write};
 use agc_machine::{InHand, Upcoming};
 use agc_names::{NameTable, push_column};
 use agc_rope_listing::{push_order, push_place};
@@ -15,37 +22,54 @@ use agc_source_words::location_at;
 use agc_word::Narrow;
 use std::alloc::AllocError;
 
-/// Adds the line of an entry, as `push_line` does. Where names are given, an order has between its place and its word the
-/// column of that place: its name and blanks, thirteen characters. Fails where memory runs out.
+/// Adds the line of an entry, as `push_line` does, and after the registers what its boundary has changed of some cells,
+/// ` | PLACE WORD to WORD` for each. Where names are given, an order has between its place and its word the column of that
+/// place: its name and blanks, thirteen characters. Fails where memory runs out.
 #[tactic(auto, unfolding(crate::specs::NamedLine::line_with))]
 pub fn push_line_with(
+    text: &mut String,
+    names: &Option<NameTable>,
+    entry: &Entry,
+    changes: &[Change],
+) -> Result<(), AllocError>
+    requires { FitsLine entry.now }
+    ensures { OnOk result (string_bytes text.new ≡ string_bytes text.old
+        ++ line_with names.now (record { entry = entry.now; changes = changes.now })) }
+{
+    push_entry_with(text, names, entry)?;
+    push_changes(text, changes)?;
+    text.push_str("\n")
+}
+
+/// Adds an entry without the end of its line.
+#[tactic(auto, unfolding(crate::specs::NamedLine::text_with))]
+fn push_entry_with(
     text: &mut String,
     names: &Option<NameTable>,
     entry: &Entry,
 ) -> Result<(), AllocError>
     requires { FitsLine entry.now }
     ensures { OnOk result
-        (string_bytes text.new ≡ string_bytes text.old ++ line_with names.now entry.now) }
+        (string_bytes text.new ≡ string_bytes text.old ++ text_with names.now entry.now) }
 {
     match names {
-        Some(names) => push_named_line(text, names, entry),
-        None => push_line(text, entry),
+        Some(names) => push_named_entry(text, names, entry),
+        None => push_entry(text, entry),
     }
 }
 
-#[tactic(auto, unfolding(crate::specs::NamedLine::named_line))]
-fn push_named_line(text: &mut String, names: &NameTable, entry: &Entry) -> Result<(), AllocError>
+#[tactic(auto, unfolding(crate::specs::NamedLine::named_text))]
+fn push_named_entry(text: &mut String, names: &NameTable, entry: &Entry) -> Result<(), AllocError>
     requires { FitsLine entry.now }
     ensures { OnOk result
-        (string_bytes text.new ≡ string_bytes text.old ++ named_line names.now entry.now) }
+        (string_bytes text.new ≡ string_bytes text.old ++ named_text names.now entry.now) }
 {
     let cycle = entry.cycle;
     write!(text, "{cycle} ")?;
     push_named_happening(text, names, entry.happening)?;
     push_write(text, entry.write)?;
     text.push_str(" | ")?;
-    push_registers(text, entry.registers)?;
-    text.push_str("\n")
+    push_registers(text, entry.registers)
 }
 
 /// Adds what happened, an order with the column of its place.

@@ -19,6 +19,8 @@ pub enum PlacesFault {
     BadPlace,
     /// Two places of different banks, or the first after the last.
     BadRange,
+    /// A place of the rope where a cell of erasable memory is wanted.
+    NotErasable,
 }
 
 impl PlacesFault {
@@ -27,13 +29,14 @@ impl PlacesFault {
         match self {
             PlacesFault::BadPlace => "BadPlace",
             PlacesFault::BadRange => "BadRange",
+            PlacesFault::NotErasable => "NotErasable",
         }
     }
 }
 
 impl Places {
     ghost use Rattle.std.specs.Prelude.{◌≡◌};
-    ghost use Rattle.agc_trace.specs.Places.{has_place, places_named};
+    ghost use Rattle.agc_trace.specs.Places.{cells_named, has_place, places_named};
 
     /// The places that a text names: a place as sources name it, or two with a dash between.
     #[tactic(auto, unfolding(crate::specs::Places::places_named))]
@@ -43,6 +46,18 @@ impl Places {
         match first_dash(text) {
             Some(at) => two_places(&text[..at], &text[at + 1..]),
             None => one_place(text),
+        }
+    }
+
+    /// The cells of erasable memory that a text names: one, or two with a dash between.
+    #[tactic(auto, unfolding(crate::specs::Places::cells_named))]
+    pub fn of_cells(text: &[u8]) -> Result<Places, PlacesFault>
+        ensures { result ≡ cells_named text.now }
+    {
+        let places = Places::named(text)?;
+        match places.first {
+            Location::Erasable(_) => Ok(places),
+            Location::Fixed(_) => Err(PlacesFault::NotErasable),
         }
     }
 

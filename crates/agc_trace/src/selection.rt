@@ -15,6 +15,7 @@ ghost use Rattle.agc_trace.specs.Selection.{
   touches,
 };
 
+use crate::change::Change;
 use crate::entry::{Entry, Registers};
 use crate::places::Places;
 use agc_machine::{InHand, Upcoming};
@@ -47,6 +48,8 @@ pub struct Selection {
     pub orders: Vec<String>,
     /// The channels of which its order may read or write one; likewise.
     pub channels: Vec<u16>,
+    /// The cells of erasable memory of which it may change one; likewise.
+    pub cells: Vec<Places>,
     /// How many of them have a line, the last ones; with `None` all.
     pub last: Option<u64>,
 }
@@ -55,24 +58,26 @@ impl Selection {
     ghost use Rattle.std.specs.Prelude.{◌≡◌};
     ghost use Rattle.agc_trace.specs.Selection.{is_answer, is_selected};
 
-    /// The boundary of an entry has a line.
+    /// The boundary of an entry, which has changed these of the cells that are named, has a line.
     #[tactic(auto, unfolding(crate::specs::Selection::is_selected))]
-    pub fn takes(&self, entry: &Entry) -> bool
-        ensures { result ≡ is_selected self.now entry.now }
+    pub fn takes(&self, entry: &Entry, changes: &[Change]) -> bool
+        ensures { result
+            ≡ is_selected self.now (record { entry = entry.now; changes = changes.now }) }
     {
         self.from <= entry.cycle
             && entry.cycle <= self.to
-            && (entry.is_stop() || self.is_answer(entry))
+            && (entry.is_stop() || self.is_answer(entry, changes))
     }
 
     /// The boundary answers every question.
-    fn is_answer(&self, entry: &Entry) -> bool
-        ensures { result ≡ is_answer self.now entry.now }
+    fn is_answer(&self, entry: &Entry, changes: &[Change]) -> bool
+        ensures { result ≡ is_answer self.now entry.now changes.now }
     {
         is_of_kinds(self.only, entry)
             && runs_at_one(self.places.as_slice(), entry.happening)
             && is_called_one(self.orders.as_slice(), entry.happening)
             && touches_one(self.channels.as_slice(), entry.happening)
+            && (self.cells.is_empty() || !changes.is_empty())
     }
 }
 

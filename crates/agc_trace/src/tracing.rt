@@ -4,10 +4,11 @@ ghost use Rattle.std.specs.Io.KnownBytes.{Appends, Keeps};
 ghost use Rattle.agc_trace.specs.Cut.{IsCut};
 ghost use Rattle.agc_trace.specs.Entry.{FitsLine};
 ghost use Rattle.agc_trace.specs.NamedLine.{line_with};
-ghost use Rattle.agc_trace.specs.Selection.{last_of, lines_of, selected, selected_lines};
+ghost use Rattle.agc_trace.specs.Selection.{last_of, lines_of, selected, selected_lines, watch_for};
 ghost use Rattle.agc_trace.specs.Service.{service_left};
 ghost use Rattle.agc_trace.specs.Trace.{trace_of};
 
+use crate::change::{Change, look, see_named};
 use crate::entry::{Entry, next_entry};
 use crate::last::write_last;
 use crate::named_line::push_line_with;
@@ -16,7 +17,7 @@ use crate::service::{Service, service_after};
 use agc_machine::{Machine, Stepped};
 use agc_names::NameTable;
 use agc_progress::{Progress, tell_at};
-use std::alloc::Global;
+use std::alloc::{AllocError, Global};
 use std::io::Write;
 use thiserror::Error;
 
@@ -27,6 +28,17 @@ pub enum TraceFault {
     Memory,
     #[error("the trace could not be written")]
     Write,
+}
+
+impl From<AllocError> for TraceFault {
+    ghost use Rattle.std.specs.Prelude.{◌≡◌};
+    ghost use Rattle.agc_trace.specs.declared.tracing.TraceFault.TheVariants.{Memory};
+
+    ghost from_gives = { λ _ fault. fault ≡ Memory };
+
+    fn from(_error: AllocError) -> TraceFault {
+        TraceFault::Memory
+    }
 }
 
 /// Runs a machine, and writes the line of each boundary that is selected, with the names that are given. The run goes to its stop, or
@@ -41,10 +53,10 @@ pub fn trace<W: Write, P: Progress>(
     progress: &mut P,
 ) -> Result<Option<Service>, TraceFault>
     ensures lines { OnOk result (Appends (W.contents out.old) (W.contents out.new)
-        (selected_lines names.now selection.now (trace_of machine.old))) }
+        (selected_lines names.now selection.now (watch_for selection.now machine.old))) }
     ensures service { IfOk result (λ left. left ≡ service_left selection.now (trace_of machine.old)) }
     ensures cut { IfErr result (λ why. IsCut why (W.contents out.old) (W.contents out.new)
-        (selected_lines names.now selection.now (trace_of machine.old))) }
+        (selected_lines names.now selection.now (watch_for selection.now machine.old))) }
 {
     go_to_first(machine, selection, progress);
     match selection.last {
@@ -55,8 +67,8 @@ pub fn trace<W: Write, P: Progress>(
 
 /// Runs a machine to the first cycle that is selected, or to its stop where that comes before.
 fn go_to_first<P: Progress>(machine: &mut Machine, selection: &Selection, progress: &mut P)
-    ensures entries { selected selection.now (trace_of machine.new)
-        ≡ selected selection.now (trace_of machine.old) }
+    ensures entries { selected selection.now (watch_for selection.now machine.new)
+        ≡ selected selection.now (watch_for selection.now machine.old) }
     ensures service { service_left selection.now (trace_of machine.new)
         ≡ service_left selection.now (trace_of machine.old) }
 {
@@ -80,16 +92,19 @@ fn write_lines<W: Write, P: Progress>(
     progress: &mut P,
 ) -> Result<Option<Service>, TraceFault>
     ensures lines { OnOk result (Appends (W.contents out.old) (W.contents out.new)
-        (lines_of names.now (selected selection.now (trace_of machine.old)))) }
+        (lines_of names.now (selected selection.now (watch_for selection.now machine.old)))) }
     ensures service { IfOk result (λ left. left ≡ service_left selection.now (trace_of machine.old)) }
     ensures cut { IfErr result (λ why. IsCut why (W.contents out.old) (W.contents out.new)
-        (lines_of names.now (selected selection.now (trace_of machine.old)))) }
+        (lines_of names.now (selected selection.now (watch_for selection.now machine.old)))) }
 {
+    let mut seen = see_named(alloc, selection.cells.as_slice(), machine.store())?;
+    let mut changes = Vec::new(alloc);
     let mut mark = 0;
     let mut service = None;
     while machine.cycle() <= selection.to {
         let entry = next_entry(machine);
-        write_selected(alloc, selection, names, &entry, out)?;
+        look(alloc, machine, &mut seen, &mut changes)?;
+        write_selected(alloc, selection, names, &entry, changes.as_slice(), out)?;
         if entry.is_stop() {
             return Ok(service);
         }
@@ -106,16 +121,17 @@ fn write_selected<W: Write>(
     selection: &Selection,
     names: &Option<NameTable>,
     entry: &Entry,
+    changes: &[Change],
     out: &mut W,
 ) -> Result<(), TraceFault>
     requires { FitsLine entry.now }
-    ensures line { OnOk result (Appends (W.contents out.old) (W.contents out.new)
-        (lines_of names.now (selected selection.now (entry.now ∷ [])))) }
+    ensures line { OnOk result (Appends (W.contents out.old) (W.contents out.new) (lines_of names.now
+        (selected selection.now (record { entry = entry.now; changes = changes.now } ∷ [])))) }
     ensures kept { IfErr result (λ why. why ≡ TraceFault.Memory
         → Keeps (W.contents out.old) (W.contents out.new)) }
 {
-    if selection.takes(entry) {
-        write_line(alloc, names, entry, out)
+    if selection.takes(entry, changes) {
+        write_line(alloc, names, entry, changes, out)
     } else {
         Ok(())
     }
@@ -126,16 +142,17 @@ pub(crate) fn write_line<W: Write>(
     alloc: Global,
     names: &Option<NameTable>,
     entry: &Entry,
+    changes: &[Change],
     out: &mut W,
 ) -> Result<(), TraceFault>
     requires { FitsLine entry.now }
-    ensures line { OnOk result
-        (Appends (W.contents out.old) (W.contents out.new) (line_with names.now entry.now)) }
+    ensures line { OnOk result (Appends (W.contents out.old) (W.contents out.new)
+        (line_with names.now (record { entry = entry.now; changes = changes.now }))) }
     ensures kept { IfErr result (λ why. why ≡ TraceFault.Memory
         → Keeps (W.contents out.old) (W.contents out.new)) }
 {
     let mut line = String::new(alloc);
-    if push_line_with(&mut line, names, entry).is_err() {
+    if push_line_with(&mut line, names, entry, changes).is_err() {
         return Err(TraceFault::Memory);
     }
     match out.write_all(line.as_bytes()) {

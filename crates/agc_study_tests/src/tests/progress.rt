@@ -48,6 +48,7 @@ fn a_trace_tells_how_far_it_has_come(rt: HostRuntime) -> Result<(), Fail> {
         places: Vec::new(rt.alloc()),
         orders: Vec::new(rt.alloc()),
         channels: Vec::new(rt.alloc()),
+        cells: Vec::new(rt.alloc()),
         last: None,
     };
     let mut told = Told::default();

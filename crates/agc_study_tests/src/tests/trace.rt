@@ -56,6 +56,7 @@ fn between(rt: &impl AllocGlobal, from: u64, to: u64, only: Option<Only>) -> Sel
         places: Vec::new(rt.alloc()),
         orders: Vec::new(rt.alloc()),
         channels: Vec::new(rt.alloc()),
+        cells: Vec::new(rt.alloc()),
         last: None,
     }
 }
@@ -232,6 +233,74 @@ fn places_by_name(rt: HostRuntime) {
     ] {
         assert_eq!(rt; Places::named(text.as_bytes()), Err(fault), "{text}");
     }
+}
+
+/// The cells that texts name, and why others name none.
+#[test]
+fn cells_by_name(rt: HostRuntime) {
+    for (text, first, last) in [
+        ("0100-0107", 0o100, 0o107),
+        ("E3,1400", 0o1400, 0o1400),
+        ("E2,1777", 0o1377, 0o1377),
+    ] {
+        let (first, last) = (Location::Erasable(first), Location::Erasable(last));
+        let named = Places::of_cells(text.as_bytes());
+        assert_eq!(rt; named, Ok(Places { first, last }), "{text}");
+    }
+    for (text, fault) in [
+        ("4100", PlacesFault::NotErasable),
+        ("02,2100-02,2101", PlacesFault::BadPlace),
+        ("05,2071-2100", PlacesFault::BadPlace),
+        ("1400", PlacesFault::BadPlace),
+        ("0377-0400", PlacesFault::BadRange),
+        ("0100-4000", PlacesFault::BadRange),
+        ("4000-4001", PlacesFault::NotErasable),
+    ] {
+        assert_eq!(rt; Places::of_cells(text.as_bytes()), Err(fault), "{text}");
+    }
+}
+
+/// Puts 7 into 0100, and adds 1 there.
+static CHANGES: &str = "
+4000 34004 CA 4004
+4001 54100 TS 0100
+4002 24100 INCR 0100
+4003 14003 TCF 4003
+4004 00007 seven
+";
+
+/// CA 4004, TS 0100 and INCR 0100 from 0, 2 and 4 on, two cycles each; the script writes E3,1400 twice at 7, the second
+/// time the same word. A has sixteen bits.
+#[test]
+fn who_wrote_a_cell(rt: HostRuntime) -> Result<(), Fail> {
+    let load =
+        "0 4000 34004 CA 4004 | A 000007 L 00000 Q 000000 Z 4002 EB 0 FB 00 | 0000 000000 to 000007\n";
+    let store =
+        "2 4001 54100 TS 0100 | A 000007 L 00000 Q 000000 Z 4003 EB 0 FB 00 | 0100 00000 to 00007\n";
+    let add =
+        "4 4002 24100 INCR 0100 | A 000007 L 00000 Q 000000 Z 4004 EB 0 FB 00 | 0100 00007 to 00010\n";
+    let poke =
+        "7 - event poke 3 0 00005 | A 000007 L 00000 Q 000000 Z 4004 EB 0 FB 00 | E3,1400 00000 to 00005\n";
+    let stop = "9 - stop Limit | A 000007 L 00000 Q 000000 Z 4004 EB 0 FB 00\n";
+    let script = "7 poke 3 0 5\n7 poke 3 0 5\n";
+    let mut selection = between(&rt, 0, 9, None);
+    for text in ["E3,1400", "0000", "0077-0101"] {
+        let cells = Places::of_cells(text.as_bytes()).ok().ok_or("cells")?;
+        selection.cells.push(cells)?;
+    }
+    let text = traced(&rt, CHANGES, script, 9, &selection)?;
+    let wanted = format!(in rt.alloc(); "{load}{store}{add}{poke}{stop}")?;
+    assert_eq!(rt; text.as_str(), wanted.as_str());
+    selection.last = Some(2);
+    let text = traced(&rt, CHANGES, script, 9, &selection)?;
+    let wanted = format!(in rt.alloc(); "{poke}{stop}")?;
+    assert_eq!(rt; text.as_str(), wanted.as_str());
+    selection.last = None;
+    selection.orders.push("INCR".to_string(rt.alloc())?)?;
+    let text = traced(&rt, CHANGES, script, 9, &selection)?;
+    let wanted = format!(in rt.alloc(); "{add}{stop}")?;
+    assert_eq!(rt; text.as_str(), wanted.as_str());
+    Ok(())
 }
 
 #[test]

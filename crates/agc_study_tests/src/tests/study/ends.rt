@@ -64,6 +64,7 @@ fn tracing(rt: &impl AllocGlobal, limit: u64) -> Tracing {
             places: Vec::new(rt.alloc()),
             orders: Vec::new(rt.alloc()),
             channels: Vec::new(rt.alloc()),
+            cells: Vec::new(rt.alloc()),
             last: None,
         },
         names: None,

@@ -1,55 +1,51 @@
 use Rattle.std.proofs.Common.{rules, sym, ◌∙◌, arith}
-use Rattle.agc_trace.proofs.Kept.{all_kept, entry_kept, few_kept, fits_more, kept_where_selected, kept_whole, nothing_kept}
+use Rattle.agc_trace.proofs.Kept.{all_kept, entry_kept, few_kept, kept_whole, nothing_kept}
 use Rattle.agc_trace.proofs.Range.{no_late_entries}
 use Rattle.agc_trace.proofs.Services.{left_after, left_at_stop, none_past}
 use Rattle.agc_trace.proofs.Steps.{fewer_after_entry}
+use Rattle.agc_trace.proofs.Changes.{seen_after, watched_is}
 use Rattle.agc_trace.proofs.last.keep_last.Goals as goal
 
-pub keep-requires : goal.keep-requires
-keep-requires g c = few_kept _ _ _ _ c.loop-service.invariant.kept
+pub keep_selected-requires-clause-few : goal.keep_selected-requires-clause-few
+keep_selected-requires-clause-few g c = few_kept _ _ _ _ c.loop-alloc.invariant.kept
 
 pub returns-then-is_stop-clause-entries : goal.returns-then-is_stop-clause-entries
 returns-then-is_stop-clause-entries g c =
-    all_kept c.args.selection.now _ _ _ _ c.next_entry-entry.result _ c.next_entry-entry.ensures.entry
-    (sym c.is_stop.ensures ∙ c.if-is_stop.true) c.loop-service.invariant.kept (kept_where_selected c.args.selection.now c.args.most c.loop-service.last.items c.keep.new.last.items c.next_entry-entry.result c.takes-is_taken.result c.takes-is_taken.ensures c.in_ok-keep.ensures.kept)
+    all_kept c.args.selection.now _ _ _ _ _ _ _ (watched_is _ _ _ c.next_entry-entry.result _ _ c.next_entry-entry.ensures.entry c.next_entry-entry.ensures.after c.loop-alloc.invariant.seen (c.as_slice-in-loop-alloc.ensures.value ∙ c.in_ok-look.ensures.changes))
+    (sym c.is_stop.ensures ∙ c.if-is_stop.true) c.loop-alloc.invariant.kept c.in_ok-keep_selected.ensures.kept
 
 pub returns-then-is_stop-clause-service : goal.returns-then-is_stop-clause-service
 returns-then-is_stop-clause-service g c =
     sym (left_at_stop c.args.selection.now _ _ c.next_entry-entry.result c.next_entry-entry.ensures.entry
-    (omega (arith, c.cycle.ensures.cycle, c.loop-service-test.true)) (sym c.is_stop.ensures ∙ c.if-is_stop.true))
-    ∙ c.loop-service.invariant.service
+    (omega (arith, c.cycle.ensures.cycle, c.loop-alloc-test.true)) (sym c.is_stop.ensures ∙ c.if-is_stop.true))
+    ∙ c.loop-alloc.invariant.service
 
-pub loop-service-init : goal.loop-service-init
-loop-service-init g c = record { kept = nothing_kept _ _ _ c.requires; fits = search rules; service = search rules }
+pub loop-alloc-init : goal.loop-alloc-init
+loop-alloc-init g c = record { kept = nothing_kept _ _ _ c.requires; fits = search rules; service = search rules; seen = search rules }
 
-pub loop-service-smaller : goal.loop-service-smaller
-loop-service-smaller g c =
-    fewer_after_entry _ _ c.next_entry-entry.result c.next_entry-entry.ensures.entry c.next_entry-entry.ensures.after
-    (sym c.is_stop.ensures ∙ c.if-is_stop.false)
+pub loop-alloc-smaller : goal.loop-alloc-smaller
+loop-alloc-smaller g c =
+    fewer_after_entry _ _ c.next_entry-entry.result c.next_entry-entry.ensures.entry
+    c.next_entry-entry.ensures.after (sym c.is_stop.ensures ∙ c.if-is_stop.false)
 
-pub loop-service-preserved : goal.loop-service-preserved
-loop-service-preserved g c = record {
-  kept = entry_kept c.args.selection.now _ _ _ _ _ c.next_entry-entry.result _ c.next_entry-entry.ensures.entry c.next_entry-entry.ensures.after
-      (sym c.is_stop.ensures ∙ c.if-is_stop.false) c.loop-service.invariant.kept (kept_where_selected c.args.selection.now c.args.most c.loop-service.last.items c.keep.new.last.items c.next_entry-entry.result c.takes-is_taken.result c.takes-is_taken.ensures c.in_ok-keep.ensures.kept);
-  fits = fits_more c.args.selection.now _ _ _ c.next_entry-entry.result c.takes-is_taken.result c.takes-is_taken.ensures c.in_ok-keep.ensures.kept
-      c.loop-service.invariant.fits c.next_entry-entry.ensures.fits;
+pub loop-alloc-preserved : goal.loop-alloc-preserved
+loop-alloc-preserved g c = record {
+  kept = entry_kept c.args.selection.now _ _ _ _ _ _ _ _ (watched_is _ _ _ c.next_entry-entry.result _ _ c.next_entry-entry.ensures.entry c.next_entry-entry.ensures.after c.loop-alloc.invariant.seen (c.as_slice-in-loop-alloc.ensures.value ∙ c.in_ok-look.ensures.changes)) c.next_entry-entry.ensures.after
+      (sym c.is_stop.ensures ∙ c.if-is_stop.false) c.loop-alloc.invariant.kept c.in_ok-keep_selected.ensures.kept;
+  fits = c.in_ok-keep_selected.ensures.fits;
   service = rw c.service_after-service.ensures
       (left_after c.args.selection.now _ _ _ c.next_entry-entry.result c.next_entry-entry.ensures.entry c.next_entry-entry.ensures.after
-      (omega (arith, c.cycle.ensures.cycle, c.loop-service-test.true)) (sym c.is_stop.ensures ∙ c.if-is_stop.false)
-      ∙ c.loop-service.invariant.service);
+      (omega (arith, c.cycle.ensures.cycle, c.loop-alloc-test.true)) (sym c.is_stop.ensures ∙ c.if-is_stop.false)
+      ∙ c.loop-alloc.invariant.service);
+  seen = seen_after _ c.loop-alloc.machine.processor.store c.next_entry-entry.new.machine.processor.store _ _ c.loop-alloc.invariant.seen c.in_ok-look.ensures.seen;
 }
 
 pub returns-clause-entries : goal.returns-clause-entries
 returns-clause-entries g c =
-    kept_whole _ _ _ _ (no_late_entries c.args.selection.now _ (omega (arith, c.cycle.ensures.cycle, c.loop-service-test.false)))
-    c.loop-service.invariant.kept
+    kept_whole _ _ _ _ (no_late_entries c.args.selection.now _ _ (omega (arith, c.cycle.ensures.cycle, c.loop-alloc-test.false)))
+    c.loop-alloc.invariant.kept
 
 pub returns-clause-service : goal.returns-clause-service
 returns-clause-service g c =
-    sym (none_past c.args.selection.now _ _ (omega (arith, c.cycle.ensures.cycle, c.loop-service-test.false)))
-    ∙ c.loop-service.invariant.service
-
-pub returns-then-is_stop-clause-fits : goal.returns-then-is_stop-clause-fits
-returns-then-is_stop-clause-fits g c =
-    fits_more c.args.selection.now _ _ _ c.next_entry-entry.result c.takes-is_taken.result c.takes-is_taken.ensures c.in_ok-keep.ensures.kept
-    c.loop-service.invariant.fits c.next_entry-entry.ensures.fits
+    sym (none_past c.args.selection.now _ _ (omega (arith, c.cycle.ensures.cycle, c.loop-alloc-test.false)))
+    ∙ c.loop-alloc.invariant.service

@@ -8,7 +8,7 @@ loop-machine-smaller g c = fewer_on_way _ _ _ c.next_write_before.result c.next_
 
 pub loop-machine-preserved : goal.loop-machine-preserved
 loop-machine-preserved g c = (
-  no_entry_before c.args.selection.now _ _ _ _ (omega (arith, c.min.ensures)) (omega (arith, c.cycle.ensures.cycle, c.loop-machine-test.true)) c.next_write_before.ensures.next
+  no_entry_before c.args.selection.now _ _ _ _ _ (omega (arith, c.min.ensures)) (omega (arith, c.cycle.ensures.cycle, c.loop-machine-test.true)) c.next_write_before.ensures.next
       ∙ c.loop-machine.invariant.0,
   no_service_before c.args.selection.now _ _ _ _ (omega (arith, c.min.ensures)) (omega (arith, c.cycle.ensures.cycle, c.loop-machine-test.true)) c.next_write_before.ensures.next
       ∙ c.loop-machine.invariant.1,
@@ -16,7 +16,7 @@ loop-machine-preserved g c = (
 
 pub returns-in-Stopped-clause-entries : goal.returns-in-Stopped-clause-entries
 returns-in-Stopped-clause-entries g c =
-    no_entry_before c.args.selection.now _ _ _ _ (omega (arith, c.min.ensures)) (omega (arith, c.cycle.ensures.cycle, c.loop-machine-test.true)) c.next_write_before.ensures.next
+    no_entry_before c.args.selection.now _ _ _ _ _ (omega (arith, c.min.ensures)) (omega (arith, c.cycle.ensures.cycle, c.loop-machine-test.true)) c.next_write_before.ensures.next
     ∙ c.loop-machine.invariant.0
 
 pub returns-in-Stopped-clause-service : goal.returns-in-Stopped-clause-service

@@ -1,45 +1,47 @@
 use Rattle.std.proofs.Common.{sym, ◌∙◌, ap, List, arith}
 use Rattle.agc_trace.specs.Selection.{lines_of}
-use Rattle.agc_trace.specs.declared.entry.Entry.{Entry}
+use Rattle.agc_trace.specs.Watch.{Watched}
 use Rattle.agc_trace.proofs.Lines.{all_written, line_written, lines_of-none, written_whole}
 use Rattle.agc_trace.proofs.Range.{no_late_entries}
 use Rattle.agc_trace.proofs.Services.{left_after, left_at_stop, none_past}
 use Rattle.agc_trace.proofs.Steps.{fewer_after_entry}
+use Rattle.agc_trace.proofs.Changes.{seen_after, watched_is}
 use Rattle.agc_trace.proofs.tracing.write_lines.Goals as goal
 
 pub returns-then-is_stop-clause-lines : goal.returns-then-is_stop-clause-lines
 returns-then-is_stop-clause-lines g c =
-    all_written c.args.names.now c.args.selection.now _ _ _ _ c.next_entry-entry.result _ c.next_entry-entry.ensures.entry
-    (sym c.is_stop.ensures ∙ c.if-is_stop.true) c.loop-alloc.invariant.0 c.in_ok-write_selected.ensures.line
+    all_written c.args.names.now c.args.selection.now _ _ _ _ _ _ _ (watched_is _ _ _ c.next_entry-entry.result _ _ c.next_entry-entry.ensures.entry c.next_entry-entry.ensures.after c.loop-alloc.invariant.seen (c.as_slice-in-loop-alloc.ensures.value ∙ c.in_ok-look.ensures.changes))
+    (sym c.is_stop.ensures ∙ c.if-is_stop.true) c.loop-alloc.invariant.written c.in_ok-write_selected.ensures.line
 
 pub returns-then-is_stop-clause-service : goal.returns-then-is_stop-clause-service
 returns-then-is_stop-clause-service g c =
     sym (left_at_stop c.args.selection.now _ _ c.next_entry-entry.result c.next_entry-entry.ensures.entry
     (omega (arith, c.cycle.ensures.cycle, c.loop-alloc-test.true)) (sym c.is_stop.ensures ∙ c.if-is_stop.true))
-    ∙ c.loop-alloc.invariant.1
+    ∙ c.loop-alloc.invariant.service
 
 pub loop-alloc-smaller : goal.loop-alloc-smaller
 loop-alloc-smaller g c =
-    fewer_after_entry _ _ c.next_entry-entry.result c.next_entry-entry.ensures.entry c.next_entry-entry.ensures.after
-    (sym c.is_stop.ensures ∙ c.if-is_stop.false)
+    fewer_after_entry _ _ c.next_entry-entry.result c.next_entry-entry.ensures.entry
+    c.next_entry-entry.ensures.after (sym c.is_stop.ensures ∙ c.if-is_stop.false)
 
 pub loop-alloc-preserved : goal.loop-alloc-preserved
-loop-alloc-preserved g c = (
-  line_written c.args.names.now c.args.selection.now _ _ _ _ _ c.next_entry-entry.result _ c.next_entry-entry.ensures.entry c.next_entry-entry.ensures.after
-      (sym c.is_stop.ensures ∙ c.if-is_stop.false) c.loop-alloc.invariant.0 c.in_ok-write_selected.ensures.line,
-  rw c.service_after-service.ensures
+loop-alloc-preserved g c = record {
+  written = line_written c.args.names.now c.args.selection.now _ _ _ _ _ _ _ _ (watched_is _ _ _ c.next_entry-entry.result _ _ c.next_entry-entry.ensures.entry c.next_entry-entry.ensures.after c.loop-alloc.invariant.seen (c.as_slice-in-loop-alloc.ensures.value ∙ c.in_ok-look.ensures.changes)) c.next_entry-entry.ensures.after
+      (sym c.is_stop.ensures ∙ c.if-is_stop.false) c.loop-alloc.invariant.written c.in_ok-write_selected.ensures.line;
+  service = rw c.service_after-service.ensures
       (left_after c.args.selection.now _ _ _ c.next_entry-entry.result c.next_entry-entry.ensures.entry c.next_entry-entry.ensures.after
       (omega (arith, c.cycle.ensures.cycle, c.loop-alloc-test.true)) (sym c.is_stop.ensures ∙ c.if-is_stop.false)
-      ∙ c.loop-alloc.invariant.1),
-)
+      ∙ c.loop-alloc.invariant.service);
+  seen = seen_after _ c.loop-alloc.machine.processor.store c.next_entry-entry.new.machine.processor.store _ _ c.loop-alloc.invariant.seen c.in_ok-look.ensures.seen;
+}
 
 pub returns-clause-lines : goal.returns-clause-lines
 returns-clause-lines g c =
     written_whole _ _ _ _
-    (ap (λ (xs : List Entry). lines_of c.args.names.now xs) (no_late_entries c.args.selection.now _ (omega (arith, c.cycle.ensures.cycle, c.loop-alloc-test.false))) ∙ lines_of-none c.args.names.now)
-    c.loop-alloc.invariant.0
+    (ap (λ (xs : List Watched). lines_of c.args.names.now xs) (no_late_entries c.args.selection.now _ _ (omega (arith, c.cycle.ensures.cycle, c.loop-alloc-test.false))) ∙ lines_of-none c.args.names.now)
+    c.loop-alloc.invariant.written
 
 pub returns-clause-service : goal.returns-clause-service
 returns-clause-service g c =
     sym (none_past c.args.selection.now _ _ (omega (arith, c.cycle.ensures.cycle, c.loop-alloc-test.false)))
-    ∙ c.loop-alloc.invariant.1
+    ∙ c.loop-alloc.invariant.service

@@ -1,0 +1,104 @@
+//! A cell of erasable memory by its number, with its word and its place in print.
+ghost use Rattle.std.specs.Prelude.{◌≡◌, ◌↔◌, ◌<◌, ◌++◌, IsTrue, OnOk, string_bytes};
+ghost use Rattle.agc_rope_listing.specs.Place.{IsInPrint};
+ghost use Rattle.agc_store.specs.Memory.{cell_at};
+ghost use Rattle.agc_trace.specs.Cell.{cell_place, cell_word, same_word};
+
+use agc_rope_listing::Place;
+use agc_store::place::{A, Q};
+use agc_store::{Addr, Store};
+use agc_word::{Wide, widen};
+use std::alloc::AllocError;
+use std::marker::Model;
+
+/// A cell of erasable memory by its number, 0 to 3777 octal: 400 octal cells for each bank.
+#[derive(Clone, Copy, Debug, PartialEq, Eq)]
+pub struct Cell {
+    number: u16,
+}
+
+impl Model for Cell {
+    ghost use Rattle.std.specs.Prelude.{ℕ, ◌<◌};
+
+    ghost Value = { ℕ };
+
+    ghost view = { λ c. c.number };
+
+    ghost invariant = { λ c. c.number < 0o4000 };
+
+    ghost inverse = { λ n. record { number = n } };
+}
+
+impl Cell {
+    /// The cell with this number, for a caller who knows that there is one.
+    pub fn new(number: u16) -> Cell
+        requires { number < 0o4000 }
+        ensures { result ≡ number }
+    {
+        Cell { number }
+    }
+
+    /// Its number, 0 to 3777 octal.
+    pub fn number(self) -> u16
+        ensures cell { result ≡ self }
+        ensures range { result < 0o4000 }
+    {
+        self.number
+    }
+
+    /// Its word, of sixteen bits in A and Q; every other cell has a narrow one.
+    #[tactic(auto, unfolding(agc_store::specs::Memory::read_of, agc_store::specs::Memory::erasable_place))]
+    pub fn word(self, store: &Store) -> Wide
+        ensures { result ≡ cell_at self store.now.erasable }
+    {
+        let number = self.number();
+        let word = store.read(Addr::wrapped(number));
+        if number < 0o1400 {
+            return word;
+        }
+        widen(store.cell((number / 0o400) as u8, number % 0o400))
+    }
+
+    /// Its place as traces tell it: up to 1377 octal its address, then its bank and its address in the
+    /// window.
+    pub fn place(self) -> Place
+        ensures place { result ≡ cell_place self }
+        ensures range { IsInPrint result }
+    {
+        let number = self.number;
+        if number < 0o1400 {
+            Place::Plain(number)
+        } else {
+            Place::Erasable {
+                bank: (number / 0o400) as u8,
+                address: 0o1400 + number % 0o400,
+            }
+        }
+    }
+}
+
+/// Adds a word of a cell: of A and Q six octal digits, of all others five.
+#[tactic(auto, unfolding(crate::specs::Cell::cell_word))]
+pub(crate) fn push_cell_word(text: &mut String, cell: Cell, word: Wide) -> Result<(), AllocError>
+    ensures { OnOk result (string_bytes text.new ≡ string_bytes text.old ++ cell_word cell word) }
+{
+    let number = cell.number();
+    if number == A || number == Q {
+        return write!(text, "{word}");
+    }
+    let word = word.narrow();
+    write!(text, "{word}")
+}
+
+/// Two words are the same: +0 and -0 are not.
+pub(crate) fn is_same_word(left: Wide, right: Wide) -> bool
+    ensures { result ≡ same_word left right }
+{
+    is_equal(left, right)
+}
+
+fn is_equal(left: Wide, right: Wide) -> bool
+    ensures { IsTrue result ↔ (left ≡ right) }
+{
+    left == right
+}

@@ -1,0 +1,190 @@
+//! What a boundary changes of the cells that a question to a trace names: they are looked at after each.
+ghost use Rattle.std.specs.Prelude.{◌≡◌, [], ◌∷◌, ◌++◌, IfOk, OnOk, if◌then◌else◌, map, string_bytes};
+ghost use Rattle.std.specs.List.{list_any};
+ghost use Rattle.agc_trace.specs.Change.{
+  change_of,
+  change_text,
+  changes_since,
+  changes_text,
+  is_changed,
+  is_named,
+  named_cells,
+  seen_in,
+};
+
+use crate::cell::{Cell, is_same_word, push_cell_word};
+use crate::places::Places;
+use agc_machine::Machine;
+use agc_rope_listing::push_place;
+use agc_source_words::Location;
+use agc_store::Store;
+use agc_word::Wide;
+use std::alloc::{AllocError, Global};
+
+/// A cell that has another word after a boundary than before.
+#[derive(Clone, Copy, Debug, PartialEq, Eq)]
+pub struct Change {
+    pub cell: Cell,
+    /// Its word before.
+    pub old: Wide,
+    /// Its word after.
+    pub new: Wide,
+}
+
+/// A cell with the word that it had where it was looked at.
+#[derive(Clone, Copy, Debug, PartialEq, Eq)]
+pub(crate) struct Seen {
+    cell: Cell,
+    word: Wide,
+}
+
+/// The cells that are named, each once and in the order of their numbers, with their words.
+#[tactic(auto, unfolding(crate::specs::Change::named_cells))]
+pub(crate) fn see_named(
+    alloc: Global,
+    several: &[Places],
+    store: &Store,
+) -> Result<Vec<Seen>, AllocError>
+    ensures { IfOk result (λ seen. seen.items ≡ map (seen_in store.now) (named_cells several.now)) }
+{
+    let mut seen = Vec::new(alloc);
+    for number in 0..0o4000 {
+        let is_named = is_named(several, number);
+        push_where(&mut seen, is_named, see(Cell::new(number), store))?;
+    }
+    Ok(seen)
+}
+
+/// Adds a cell, where it is named.
+fn push_where(seen: &mut Vec<Seen>, is_named: bool, cell: Seen) -> Result<(), AllocError>
+    ensures { OnOk result
+        (seen.new.items ≡ seen.old.items ++ (if is_named then cell ∷ [] else [])) }
+{
+    if is_named {
+        seen.push(cell)?;
+    }
+    Ok(())
+}
+
+/// One of several stretches of places has this cell.
+fn is_named(several: &[Places], number: u16) -> bool
+    ensures { result ≡ is_named several.now number }
+{
+    let cell = Location::Erasable(u32::from(number));
+    several.iter().any(|places| places.has(cell))
+}
+
+/// A cell with the word that it has.
+fn see(cell: Cell, store: &Store) -> Seen
+    ensures { result ≡ seen_in store.now cell }
+{
+    Seen {
+        cell,
+        word: cell.word(store),
+    }
+}
+
+/// Looks at cells again after a boundary: what it has changed of them is told, and they are kept with the words
+/// that they have now.
+#[inline]
+pub(crate) fn look(
+    alloc: Global,
+    machine: &Machine,
+    seen: &mut Vec<Seen>,
+    changes: &mut Vec<Change>,
+) -> Result<(), AllocError>
+    ensures changes { OnOk result
+        (changes.new.items ≡ changes_since seen.old.items machine.now.processor.store) }
+    ensures seen { OnOk result (seen.new.items
+        ≡ map (λ s. seen_in machine.now.processor.store s.cell) seen.old.items) }
+{
+    if has_changed(seen.as_slice(), machine.store()) {
+        look_closely(alloc, machine.store(), seen, changes)
+    } else {
+        changes.clear();
+        Ok(())
+    }
+}
+
+/// The same where a cell has changed.
+fn look_closely(
+    alloc: Global,
+    store: &Store,
+    seen: &mut Vec<Seen>,
+    changes: &mut Vec<Change>,
+) -> Result<(), AllocError>
+    ensures changes { OnOk result (changes.new.items ≡ changes_since seen.old.items store.now) }
+    ensures seen { OnOk result
+        (seen.new.items ≡ map (λ s. seen_in store.now s.cell) seen.old.items) }
+{
+    *changes = changes_since(alloc, seen.as_slice(), store)?;
+    *seen = see_again(alloc, seen.as_slice(), store)?;
+    Ok(())
+}
+
+/// One of the cells has another word now.
+#[inline]
+fn has_changed(seen: &[Seen], store: &Store) -> bool
+    ensures { result ≡ list_any (λ s. is_changed store.now s) seen.now }
+{
+    seen.iter().any(|cell| is_changed(*cell, store))
+}
+
+/// A cell that was seen has another word now.
+fn is_changed(seen: Seen, store: &Store) -> bool
+    ensures { result ≡ is_changed store.now seen }
+{
+    !is_same_word(seen.word, seen.cell.word(store))
+}
+
+/// What has changed of the cells.
+fn changes_since(alloc: Global, seen: &[Seen], store: &Store) -> Result<Vec<Change>, AllocError>
+    ensures { IfOk result (λ changes. changes.items ≡ changes_since seen.now store.now) }
+{
+    seen.iter()
+        .filter(|cell| is_changed(**cell, store))
+        .map(|cell| change_of(*cell, store))
+        .collect(alloc)
+}
+
+fn change_of(seen: Seen, store: &Store) -> Change
+    ensures { result ≡ change_of store.now seen }
+{
+    Change {
+        cell: seen.cell,
+        old: seen.word,
+        new: seen.cell.word(store),
+    }
+}
+
+/// The cells with the words that they have now.
+fn see_again(alloc: Global, seen: &[Seen], store: &Store) -> Result<Vec<Seen>, AllocError>
+    ensures { IfOk result (λ again. again.items ≡ map (λ s. seen_in store.now s.cell) seen.now) }
+{
+    seen.iter().map(|cell| see(cell.cell, store)).collect(alloc)
+}
+
+/// Adds what has changed: ` | PLACE WORD to WORD` for each cell.
+#[tactic(auto, unfolding(crate::specs::Change::changes_text))]
+pub(crate) fn push_changes(text: &mut String, changes: &[Change]) -> Result<(), AllocError>
+    ensures { OnOk result
+        (string_bytes text.new ≡ string_bytes text.old ++ changes_text changes.now) }
+{
+    for change in changes {
+        push_change(text, *change)?;
+    }
+    Ok(())
+}
+
+#[tactic(auto, unfolding(crate::specs::Change::change_text))]
+fn push_change(text: &mut String, change: Change) -> Result<(), AllocError>
+    ensures { OnOk result (string_bytes text.new ≡ string_bytes text.old ++ change_text change) }
+{
+    let Change { cell, old, new } = change;
+    text.push_str(" | ")?;
+    push_place(text, cell.place())?;
+    text.push_str(" ")?;
+    push_cell_word(text, cell, old)?;
+    text.push_str(" to ")?;
+    push_cell_word(text, cell, new)
+}
