@@ -1,6 +1,7 @@
 //! What the program is asked for.
 use agc_count::{Layout, Span};
 use agc_film::{Part, RunFiles};
+use agc_jobs::Span as TableSpan;
 use agc_shown::By;
 use agc_store::RopeForm;
 use agc_trace::Selection;
@@ -13,6 +14,7 @@ pub enum Asked {
     Check(Checking),
     Trace(Tracing),
     Count(Counting),
+    Jobs(Watching),
     Compare(Comparing),
     Film(Filming),
 }
@@ -36,6 +38,12 @@ impl Asked {
                 None,
             ],
             Asked::Count(asked) => [
+                Some(asked.rope.as_str()),
+                Some(asked.script.as_str()),
+                None,
+                None,
+            ],
+            Asked::Jobs(asked) => [
                 Some(asked.rope.as_str()),
                 Some(asked.script.as_str()),
                 None,
@@ -131,6 +139,21 @@ pub struct Counting {
     pub layout: Layout,
     /// The words of the whole rope are printed, with those that never ran.
     pub is_whole: bool,
+}
+
+/// A run whose tables are told.
+#[derive(Debug, Drop)]
+pub struct Watching {
+    pub rope: String,
+    pub script: String,
+    pub form: RopeForm,
+    pub limit: u64,
+    /// The text of `--until`.
+    pub until: Option<String>,
+    /// The text of `--watch`.
+    pub watch: String,
+    /// The cycles in which they are told.
+    pub span: TableSpan,
 }
 
 /// Two runs to compare.

@@ -16,6 +16,7 @@ pub fn command<'a>(alloc: Global) -> Result<Command<'a>, AllocError> {
         .subcommand(check_command(alloc)?)?
         .subcommand(trace_command(alloc)?)?
         .subcommand(count_command(alloc)?)?
+        .subcommand(jobs_command(alloc)?)?
         .subcommand(compare_command(alloc)?)?
         .subcommand(film_command(alloc)?)
 }
@@ -89,6 +90,25 @@ fn count_command<'a>(alloc: Global) -> Result<Command<'a>, AllocError> {
         .arg(csv_option(alloc))
 }
 
+fn jobs_command<'a>(alloc: Global) -> Result<Command<'a>, AllocError> {
+    Command::new(alloc, "jobs")
+        .about(
+            "Runs a rope and a script, and prints the lines of the Executive's tables as they change.",
+        )
+        .arg(rope_file(alloc))?
+        .arg(script_file(alloc))?
+        .arg(limit_option(alloc))?
+        .arg(watch_option(alloc))?
+        .arg(form_option(alloc))?
+        .arg(until_option(alloc))?
+        .arg(cycle_option(
+            alloc,
+            "from",
+            "The first cycle at which the tables are told",
+        ))?
+        .arg(cycle_option(alloc, "to", "The last cycle at which the tables are told"))
+}
+
 fn compare_command<'a>(alloc: Global) -> Result<Command<'a>, AllocError> {
     Command::new(alloc, "compare")
         .about("Runs two ropes with two scripts, and tells where the runs part.")
@@ -117,6 +137,16 @@ fn film_command<'a>(alloc: Global) -> Result<Command<'a>, AllocError> {
         .arg(until_option(alloc))?
         .arg(cycle_option(alloc, "from", "The first cycle that is filmed"))?
         .arg(cycle_option(alloc, "to", "The last cycle that is filmed"))
+}
+
+fn watch_option<'a>(alloc: Global) -> Arg<'a> {
+    Arg::new(alloc, "watch")
+        .long("watch")
+        .value_name("SPEC")
+        .required(true)
+        .help(
+            "Where core sets and wait lists stand: octal CORE_BANK,CORE_OFFSET,SETS,LST1_BANK,LST1_OFFSET,LST2_BANK,LST2_OFFSET",
+        )
 }
 
 fn whole_option<'a>(alloc: Global) -> Arg<'a> {

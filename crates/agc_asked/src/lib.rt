@@ -6,9 +6,11 @@ mod command_line;
 mod counted;
 mod questions;
 mod shown;
+mod watched;
 mod words;
 
 pub use asked::{
-    Asked, ByShown, CheckedRun, Checking, Comparing, Counting, Filming, Listing, Tracing, Weaving,
+    Asked, ByShown, CheckedRun, Checking, Comparing, Counting, Filming, Listing, Tracing, Watching,
+    Weaving,
 };
 pub use words::{NAME, asked_by, asked_of};

@@ -4,6 +4,7 @@ use crate::command_line::command;
 use crate::counted::counting_of;
 use crate::questions::{cells_of, channels_of, orders_of, places_of};
 use crate::shown::{shown_of, with_channels_joined};
+use crate::watched::watching_of;
 use agc_args::{ArgsFault, WordsFault, fault_of, words_of};
 use agc_film::{Part, RunFiles};
 use agc_store::RopeForm;
@@ -67,6 +68,8 @@ fn asked_as(alloc: Global, name: &str, given: &ArgMatches<'_>) -> Result<Asked, 
         Ok(Asked::Trace(tracing_of(alloc, given)?))
     } else if name == "count" {
         Ok(Asked::Count(counting_of(alloc, given)?))
+    } else if name == "jobs" {
+        Ok(Asked::Jobs(watching_of(alloc, given)?))
     } else if name == "compare" {
         Ok(Asked::Compare(comparing_of(alloc, given)?))
     } else if name == "film" {

@@ -8,3 +8,4 @@ pub mod Compared
 pub mod Filmed
 pub mod Traced
 pub mod Counted
+pub mod Watched

@@ -10,6 +10,7 @@ mod ropes;
 mod runs;
 mod traces;
 mod trouble;
+mod watches;
 
 pub use checks::{check_files, check_key_file, check_listing_file, check_with, joined};
 pub use compares::{Told, compare_files};
@@ -19,3 +20,4 @@ pub use names::{names_at, read_names};
 pub use ropes::{Woven, list_rope, misnamed_line, source_of_rope, weave_text};
 pub use traces::{Traced, Untraced, remark_service, status_of_untraced, trace_files};
 pub use trouble::{TROUBLE, Trouble};
+pub use watches::watch_files;

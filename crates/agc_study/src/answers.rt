@@ -7,6 +7,7 @@ ghost use Rattle.agc_study.specs.Ended.{IsEnded, LooksForFaults};
 use crate::check_told::check_to;
 use crate::counts_told::count_to;
 use crate::films_told::film_to;
+use crate::jobs_told::jobs_to;
 use crate::ropes_told::weave_to;
 use crate::runs_told::{compare_to, trace_to};
 use crate::sources_told::list_as_asked;
@@ -23,6 +24,7 @@ pub fn last_cycle(asked: &Result<Asked, ArgsFault>) -> u64 {
     match asked {
         Ok(Asked::Trace(tracing)) => tracing.limit.min(tracing.selection.to),
         Ok(Asked::Count(counting)) => counting.limit.min(counting.span.to),
+        Ok(Asked::Jobs(watching)) => watching.limit.min(watching.span.to),
         Ok(Asked::Compare(comparing)) => comparing.limit,
         Ok(Asked::Film(filming)) => filming.limit.min(filming.part.to),
         Ok(Asked::List(_) | Asked::Weave(_) | Asked::Check(_)) | Err(_) => 0,
@@ -87,6 +89,7 @@ where
         Asked::Check(checking) => check_to(rt, checking, out, err),
         Asked::Trace(tracing) => trace_to(rt, tracing, out, err, remarks, progress),
         Asked::Count(counting) => count_to(rt, counting, out, err, progress),
+        Asked::Jobs(watching) => jobs_to(rt, watching, out, err, remarks, progress),
         Asked::Compare(comparing) => compare_to(rt, comparing, out, err, progress),
         Asked::Film(filming) => film_to(rt, filming, out, err, remarks, progress),
     }

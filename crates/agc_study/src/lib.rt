@@ -1,4 +1,4 @@
-//! What `agc-study` does with its words and files: it lists, weaves, checks, traces, counts, compares and films. The program
+//! What `agc-study` does with its words and files: it lists, weaves, checks, traces, counts, compares and films, and tells the Executive's tables. The program
 //! itself hands on its streams.
 #![tactic(auto)]
 
@@ -6,6 +6,7 @@ mod answers;
 mod check_told;
 mod counts_told;
 mod films_told;
+mod jobs_told;
 mod ropes_told;
 mod runs_told;
 mod sources_told;

@@ -1,0 +1,6 @@
+pub mod States
+pub mod Sights
+pub mod OneByOne
+pub mod Lines
+pub mod AtCycle
+pub mod Alike

@@ -1,0 +1,4 @@
+pub mod States
+pub mod Changes
+pub mod Lines
+pub mod ChangeLaws

@@ -1,0 +1,26 @@
+//! Laws of the changes of a run, each the contract of a function that does nothing. The code is proved equal to the
+//! definitions that these laws are about.
+ghost use Rattle.std.specs.Prelude.{◌≡◌, ◌≤◌, ℕ, []};
+ghost use Rattle.agc_executive.specs.declared.watch_spec.WatchSpec.{WatchSpec};
+ghost use Rattle.agc_machine.specs.Laws.{after};
+ghost use Rattle.agc_machine.specs.State.{State};
+ghost use Rattle.agc_jobs.specs.ChangeLaws.{AreChanges, shown_at, tables_at};
+ghost use Rattle.agc_jobs.specs.Changes.{changes_in};
+ghost use Rattle.agc_jobs.specs.declared.span.Span.{Span};
+
+/// At each cycle of a span, from its first state on, the changes show what the tables of the run's last state up to then
+/// show.
+#[tactic(auto, using(crate::proofs::AtCycle::changes_are_the_tables))]
+pub fn what_is_shown_is_the_tables()
+    ensures { (span : Span) (spec : WatchSpec) (s : State) (n cycle : ℕ) → span.from ≤ (after n s).cycle
+        → (after n s).cycle ≤ cycle → cycle ≤ span.to
+        → shown_at (changes_in span spec s) cycle ≡ tables_at spec s cycle }
+{}
+
+/// No change is without need: each shows something else than the one before it, the first something at all, and none is
+/// before the one before it.
+#[tactic(auto, using(crate::proofs::AtCycle::each_is_a_change))]
+pub fn each_entry_is_a_change()
+    ensures { (span : Span) (spec : WatchSpec) (s : State)
+        → AreChanges span.from span.to [] (changes_in span spec s) }
+{}

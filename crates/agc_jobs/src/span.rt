@@ -1,0 +1,21 @@
+//! The part of a run's time in which its tables are told.
+
+/// A span of machine cycles, both included.
+#[derive(Clone, Copy, Debug, PartialEq, Eq)]
+pub struct Span {
+    /// The first cycle at which a state of the run may stand that is looked at.
+    pub from: u64,
+    /// The last cycle at which it may stand.
+    pub to: u64,
+}
+
+impl Span {
+    ghost use Rattle.std.specs.Prelude.{◌≡◌, ◌&&◌, nat_le};
+
+    /// A cycle is one of the span.
+    pub(crate) fn has(self, cycle: u64) -> bool
+        ensures { result ≡ (nat_le self.from cycle && nat_le cycle self.to) }
+    {
+        self.from <= cycle && cycle <= self.to
+    }
+}
