@@ -9,7 +9,11 @@ use std::process::Abort;
 use std::string::ToString;
 
 fn asks(rt: &impl Abort, line: &str, command: Command) {
-    assert_eq!(rt; read_request(&None, line.as_bytes()), Ok(Some(command)), "{line}");
+    assert_eq!(rt;
+        read_request(&None, line.as_bytes()),
+        Ok(Some(command)),
+        "{line}"
+    );
 }
 
 fn refuses(rt: &impl Abort, line: &str, fault: CommandFault) {
@@ -156,7 +160,10 @@ fn tables_are_watched_where_they_can_stand(rt: HostRuntime) {
 #[test]
 fn lines_have_120_bytes_of_ascii(rt: HostRuntime) {
     assert_eq!(rt; read_request(&None, &[b' '; 120]), Ok(None));
-    assert_eq!(rt; read_request(&None, &[b' '; 121]), Err(CommandFault::LineTooLong));
+    assert_eq!(rt;
+        read_request(&None, &[b' '; 121]),
+        Err(CommandFault::LineTooLong)
+    );
     assert_eq!(rt; read_request(&None, b"# \xC3"), Err(CommandFault::NotAscii));
     assert_eq!(rt; read_request(&None, b"#quit"), Ok(None));
     assert_eq!(rt; read_request(&None, b""), Ok(None));
@@ -170,7 +177,10 @@ fn a_name_stands_for_its_place(rt: HostRuntime) {
     let text = b"4071 LOOP\nE3,1500 COUNT\nE7,1777 END\n4100 A\n4200 A+1\n";
     let names = NameTable::read(rt.alloc(), text).ok();
     let asked = |line: &[u8]| read_request(&names, line);
-    let order = |place| Ok(Some(Command::Until { what: Target::Order(Location::Fixed(place)), within: 1_000_000 }));
+    let order = |place| Ok(Some(Command::Until {
+        what: Target::Order(Location::Fixed(place)),
+        within: 1_000_000,
+    }));
     let cells = |first, count| Ok(Some(Command::Cells { first, count }));
     assert_eq!(rt; asked(b"until LOOP"), order(0o4071));
     assert_eq!(rt; asked(b"until LOOP+56"), order(0o4161));
