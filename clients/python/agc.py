@@ -30,7 +30,8 @@ __all__ = ["Answer", "Came", "Console", "Ended", "Error", "Refused", "Registers"
 Path = Union[str, "os.PathLike[str]"]
 
 Place = Union[int, str]
-"""An address alone, as 0o4100 or 0o100, or a place as docs/CONSOLE.md names it: "4100", "12,2000" or "E3,1400"."""
+"""An address alone, as 0o4100 or 0o100, or a place as docs/CONSOLE.md names it: "4100", "12,2000" or "E3,1400"; with names
+also "LOOP", or some words beyond or before it, "LOOP+3"."""
 
 LAST_CYCLE = 1_000_000_000_000
 """The last cycle of all: a machine stops there, where no limit is named."""
@@ -101,15 +102,19 @@ class Console:
         *,
         limit: Optional[int] = None,
         form: Optional[str] = None,
+        names: Optional[Path] = None,
         program: Union[None, Path, Sequence[str]] = None,
     ) -> None:
         """Begins a session. The program is `agc-console` of the folder that this file stands in, two levels up, or the
-        one on the path; `program` names another one, or its words."""
+        one on the path; `program` names another one, or its words. `names` is a file that gives places their names, which
+        then stand for them, and stand beside the places of orders in what `step` and `next` return."""
         words = _program(program)
         if limit is not None:
             words += ["--limit", str(limit)]
         if form is not None:
             words += ["--form", form]
+        if names is not None:
+            words += ["--names", os.fspath(names)]
         words += ["--", os.fspath(rope), os.fspath(script)]
         self.cycle = 0
         """The cycle that the machine has come to, as the last answer said it."""

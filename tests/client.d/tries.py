@@ -164,7 +164,18 @@ def try_faults():
     judge("a limit of 0", "agc-console: limit: Zero", raised(Ended, lambda: example("keys", limit=0)))
 
 
-for each in (try_keys, try_events, try_until, try_writes, try_faults):
+def try_names():
+    """places by their names"""
+    names = os.path.join(top, "examples", "console", "names", "names")
+    with example("study/trace-key", names=names) as agc:
+        idle = "0 4000 IDLE         14000 TCF 4000 | A 000000 L 00000 Q 000000 Z 4001 EB 0 FB 00"
+        judge("a name beside its place", [idle], agc.step())
+        agc.key("VERB")
+        judge("a name for a place", True, agc.until("KEYIN").came)
+        judge("a name for a cell", 0, agc.cell("COUNT+1"))
+
+
+for each in (try_keys, try_events, try_until, try_writes, try_names, try_faults):
     try:
         each()
     except Exception as error:

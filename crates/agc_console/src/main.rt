@@ -6,8 +6,10 @@ mod words;
 
 use agc_args::{ArgsFault, end_mistaken, stand_ins};
 use agc_dialogue::{ConverseFault, converse};
-use agc_front::{asked_of, sitting_for};
+use agc_front::{asked_of, names_at, sitting_for};
+use agc_names::NameTable;
 use agc_session::{DONE, REFUSED, Refusal, UNWRITTEN, status_of};
+use agc_sitting::Sitting;
 use std::io::{Read, Write};
 use std::process::ExitCode;
 use std::rt::Files;
@@ -35,11 +37,28 @@ where
     R: Files + AllocGlobal,
 {
     match asked {
-        Ok(asked) => match sitting_for(rt, &asked.start) {
-            Ok(sitting) => status_after(converse(rt.alloc(), sitting, commands, out), err),
-            Err(refusal) => status_of(REFUSED, Trouble::Refused(refusal).write_to(err)),
+        Ok(asked) => match sit_down(rt, &asked) {
+            Ok((sitting, names)) => {
+                status_after(converse(rt.alloc(), sitting, &names, commands, out), err)
+            }
+            Err(trouble) => status_of(REFUSED, trouble.write_to(err)),
         },
         Err(fault) => end_mistaken("agc-console", fault, REFUSED, out, err),
+    }
+}
+
+/// The sitting at the start of time, and the names, which are looked at first.
+fn sit_down<R: Files + AllocGlobal>(
+    rt: &R,
+    asked: &Console,
+) -> Result<(Sitting, Option<NameTable>), Trouble> {
+    let names = match names_at(rt, &asked.names) {
+        Ok(names) => names,
+        Err(refusal) => return Err(Trouble::Unnamed(refusal)),
+    };
+    match sitting_for(rt, &asked.start) {
+        Ok(sitting) => Ok((sitting, names)),
+        Err(refusal) => Err(Trouble::Refused(refusal)),
     }
 }
 

@@ -1,4 +1,5 @@
 //! What the program says where there is no session, or no end of one: a line.
+use agc_front::NamesRefusal;
 use agc_session::Refusal;
 use std::fmt;
 use std::io::{self, Write};
@@ -8,6 +9,8 @@ use std::io::{self, Write};
 pub enum Trouble {
     /// `agc` refuses this too: a rope, a script or a limit at fault, or no memory.
     Refused(Refusal),
+    /// The file of names is at fault.
+    Unnamed(NamesRefusal),
     /// A read of the commands failed.
     CannotReadCommands,
 }
@@ -23,6 +26,7 @@ impl fmt::Display for Trouble {
     fn fmt<W: fmt::Write>(&self, f: &mut fmt::Formatter<W>) -> fmt::Result {
         match *self {
             Trouble::Refused(refusal) => write!(f, "{refusal}"),
+            Trouble::Unnamed(refusal) => write!(f, "{refusal}"),
             Trouble::CannotReadCommands => f.write_str("cannot read commands"),
         }
     }

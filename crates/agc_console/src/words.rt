@@ -1,6 +1,6 @@
 //! The words of the command line: what the console is asked for.
 use agc_args::{form_option, rope_file, script_file};
-use agc_front::{Asked, Start, limit_option, start_in};
+use agc_front::{Asked, Start, limit_option, names_option, start_in, text_in};
 use clap::{ArgMatches, Command};
 use std::alloc::{AllocError, Global};
 
@@ -8,6 +8,8 @@ use std::alloc::{AllocError, Global};
 #[derive(Debug, Drop)]
 pub struct Console {
     pub start: Start,
+    /// The path of the file of names, where there is one.
+    pub names: Option<String>,
 }
 
 impl Asked for Console {
@@ -21,11 +23,13 @@ impl Asked for Console {
             .arg(rope_file(alloc))?
             .arg(script_file(alloc))?
             .arg(limit_option(alloc))?
-            .arg(form_option(alloc))
+            .arg(form_option(alloc))?
+            .arg(names_option(alloc))
     }
 
     fn asked_in(alloc: Global, matches: &ArgMatches<'_>) -> Result<Console, AllocError> {
         let start = start_in(alloc, matches)?;
-        Ok(Console { start })
+        let names = text_in(alloc, matches, "names")?;
+        Ok(Console { start, names })
     }
 }

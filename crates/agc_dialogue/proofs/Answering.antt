@@ -14,7 +14,7 @@ use Rattle.agc_script.specs.declared.event.What.{What}
 use Rattle.agc_sitting.specs.Sitting.{given_now}
 use Rattle.agc_sitting.specs.declared.fault.GiveFault.{GiveFault}
 use Rattle.agc_sitting.specs.declared.fault.GiveFault.TheVariants as fault
-use Rattle.agc_trace.specs.Line.{line_of}
+use Rattle.agc_trace.specs.NamedLine.{line_with}
 use Rattle.agc_trace.specs.Trace.{trace_within}
 use Rattle.agc_dialogue.specs.Answer.{error_line}
 use Rattle.agc_dialogue.specs.Answered.{Answer, GoesNotBack, Grows, IsLeft, Request, RunsOut, Tells, answer_to, answered, cycles_on, done, ended, given_answer, last_line, refusal_text, refused_by, told_until, told_way}
@@ -26,6 +26,7 @@ use Rattle.agc_dialogue.specs.declared.conversation.ConverseFault.{ConverseFault
 use Rattle.agc_dialogue.specs.declared.talk.Talk.{Talk}
 use Rattle.agc_dialogue.proofs.Going.{stays_put}
 use Rattle.agc_dialogue.proofs.Telling.{grown}
+use Rattle.agc_names.specs.Names.{Named}
 
 -- an answer with its end
 pub tells_end : (a : Answer) (t : Talk) (begun o : Option (List ℕ)) (old new : List ℕ) → Tells a t begun (append_known o old) → new ≡ old ++ last_line t
@@ -35,26 +36,26 @@ tells_end a t begun o old new h e =
     subst (λ (u : Talk). Appends (append_known o old) (append_known o new) (last_line u)) h.0 (grown o old new (last_line t) e) in
     (h.0, Appends-trans begun (append_known o old) (append_known o new) a.1 (last_line a.0) h.1 line)
 
-pub answered_other : (c : Command) (s : Talk) → ((what : What) → c ≡ command.Give what → ⊥) → answered c s ≡ ended (done c s)
+pub answered_other : (names : Option (List Named)) (c : Command) (s : Talk) → ((what : What) → c ≡ command.Give what → ⊥) → answered names c s ≡ ended (done names c s)
 unfolding answered
-answered_other (command.Give what) s h = absurd (h what refl)
-answered_other c s h = refl
+answered_other names (command.Give what) s h = absurd (h what refl)
+answered_other names c s h = refl
 
-pub answered_event : (c : Command) (what : What) (s : Talk) → c ≡ command.Give what → answered c s ≡ given_answer what s
+pub answered_event : (names : Option (List Named)) (c : Command) (what : What) (s : Talk) → c ≡ command.Give what → answered names c s ≡ given_answer what s
 unfolding answered
-answered_event c what s e = ap (λ (x : Command). answered x s) e
+answered_event names c what s e = ap (λ (x : Command). answered names x s) e
 
-pub answer_of_command : (request : Request) (said : Option Command) (c : Command) (s : Talk) → request ≡ Ok said → said ≡ Some c → answer_to request s ≡ answered c s
+pub answer_of_command : (names : Option (List Named)) (request : Request) (said : Option Command) (c : Command) (s : Talk) → request ≡ Ok said → said ≡ Some c → answer_to names request s ≡ answered names c s
 unfolding answer_to
-answer_of_command request said c s e f = ap (λ (x : Request). answer_to x s) (e ∙ ap Ok f)
+answer_of_command names request said c s e f = ap (λ (x : Request). answer_to names x s) (e ∙ ap Ok f)
 
-pub answer_of_nothing : (request : Request) (said : Option Command) (s : Talk) → request ≡ Ok said → said ≡ None → answer_to request s ≡ (s, last_line s)
+pub answer_of_nothing : (names : Option (List Named)) (request : Request) (said : Option Command) (s : Talk) → request ≡ Ok said → said ≡ None → answer_to names request s ≡ (s, last_line s)
 unfolding answer_to
-answer_of_nothing request said s e f = ap (λ (x : Request). answer_to x s) (e ∙ ap Ok f)
+answer_of_nothing names request said s e f = ap (λ (x : Request). answer_to names x s) (e ∙ ap Ok f)
 
-pub answer_of_fault : (request : Request) (why : CommandFault) (s : Talk) → request ≡ Err why → answer_to request s ≡ (s, error_line (fault_text why))
+pub answer_of_fault : (names : Option (List Named)) (request : Request) (why : CommandFault) (s : Talk) → request ≡ Err why → answer_to names request s ≡ (s, error_line (fault_text why))
 unfolding answer_to
-answer_of_fault request why s e = ap (λ (x : Request). answer_to x s) e
+answer_of_fault names request why s e = ap (λ (x : Request). answer_to names x s) e
 
 pub tells_same : (a b : Answer) (t : Talk) (old new : Option (List ℕ)) → a ≡ b → Tells b t old new → Tells a t old new
 tells_same a b t old new e h = rw e h
@@ -91,45 +92,45 @@ unfolding given_answer
 full_there what s h = full_by (events s == most_events) _ _ (eq-eqb (events s) most_events h)
 
 -- memory ran out
-pub ran_out : (request : Request) (s t : Talk) (a b c : Option (List ℕ)) → IsLeft request s t → Grows a b → Appends b c (codes "error: memory\n")
-    → RunsOut request s t a c
-ran_out request s t a b c left h k =
+pub ran_out : (names : Option (List Named)) (request : Request) (s t : Talk) (a b c : Option (List ℕ)) → IsLeft names request s t → Grows a b → Appends b c (codes "error: memory\n")
+    → RunsOut names request s t a c
+ran_out names request s t a b c left h k =
     record { left = left; said = h.0; ends = Appends-trans a b c h.0 (codes "error: memory\n") h.1 k }
 
 -- what each command has done
-pub done_go : (c : Command) (cycles end : ℕ) (s : Talk) → c ≡ command.Go cycles → end ≡ cycles_on cycles s
-    → done c s ≡ told_way (way_to sought.Nothing end s.sitting.now) s
+pub done_go : (names : Option (List Named)) (c : Command) (cycles end : ℕ) (s : Talk) → c ≡ command.Go cycles → end ≡ cycles_on cycles s
+    → done names c s ≡ told_way (way_to sought.Nothing end s.sitting.now) s
 unfolding done
-done_go c cycles end s e f = rw f (ap (λ (x : Command). done x s) e)
+done_go names c cycles end s e f = rw f (ap (λ (x : Command). done names x s) e)
 
-pub done_to : (c : Command) (cycle : ℕ) (s : Talk) → c ≡ command.GoTo cycle → done c s ≡ told_way (way_to sought.Nothing cycle s.sitting.now) s
+pub done_to : (names : Option (List Named)) (c : Command) (cycle : ℕ) (s : Talk) → c ≡ command.GoTo cycle → done names c s ≡ told_way (way_to sought.Nothing cycle s.sitting.now) s
 unfolding done
-done_to c cycle s e = ap (λ (x : Command). done x s) e
+done_to names c cycle s e = ap (λ (x : Command). done names x s) e
 
-pub done_step : (c : Command) (boundaries : ℕ) (s : Talk) → c ≡ command.Step boundaries
-    → done c s ≡ (after_boundaries boundaries s, flat_map line_of (trace_within boundaries s.sitting.now))
+pub done_step : (names : Option (List Named)) (c : Command) (boundaries : ℕ) (s : Talk) → c ≡ command.Step boundaries
+    → done names c s ≡ (after_boundaries boundaries s, flat_map (line_with names) (trace_within boundaries s.sitting.now))
 unfolding done
-done_step c boundaries s e = ap (λ (x : Command). done x s) e
+done_step names c boundaries s e = ap (λ (x : Command). done names x s) e
 
-pub done_until : (c : Command) (what : Target) (within : ℕ) (s : Talk) → c ≡ command.Until what within
-    → done c s ≡ told_until (way_to (sought_in s.sitting.now what) (cycles_on within s) s.sitting.now) s
+pub done_until : (names : Option (List Named)) (c : Command) (what : Target) (within : ℕ) (s : Talk) → c ≡ command.Until what within
+    → done names c s ≡ told_until (way_to (sought_in s.sitting.now what) (cycles_on within s) s.sitting.now) s
 unfolding done
-done_until c what within s e = ap (λ (x : Command). done x s) e
+done_until names c what within s e = ap (λ (x : Command). done names x s) e
 
-pub done_shown : (c : Command) (s : Talk) → GoesNotBack c → ((cycles : ℕ) → c ≡ command.Go cycles → ⊥) → ((cycle : ℕ) → c ≡ command.GoTo cycle → ⊥)
+pub done_shown : (names : Option (List Named)) (c : Command) (s : Talk) → GoesNotBack c → ((cycles : ℕ) → c ≡ command.Go cycles → ⊥) → ((cycle : ℕ) → c ≡ command.GoTo cycle → ⊥)
     → ((boundaries : ℕ) → c ≡ command.Step boundaries → ⊥) → ((what : Target) (within : ℕ) → c ≡ command.Until what within → ⊥)
-    → done c s ≡ (s, shown_text c s.sitting s.writes)
+    → done names c s ≡ (s, shown_text names c s.sitting s.writes)
 unfolding done
-done_shown (command.Go cycles) s h a b d e = absurd (a cycles refl)
-done_shown (command.GoTo cycle) s h a b d e = absurd (b cycle refl)
-done_shown (command.Step boundaries) s h a b d e = absurd (d boundaries refl)
-done_shown (command.Until what within) s h a b d e = absurd (e what within refl)
-done_shown (command.Back cycle) s h a b d e = absurd h
-done_shown c s h a b d e = refl
+done_shown names (command.Go cycles) s h a b d e = absurd (a cycles refl)
+done_shown names (command.GoTo cycle) s h a b d e = absurd (b cycle refl)
+done_shown names (command.Step boundaries) s h a b d e = absurd (d boundaries refl)
+done_shown names (command.Until what within) s h a b d e = absurd (e what within refl)
+done_shown names (command.Back cycle) s h a b d e = absurd h
+done_shown names c s h a b d e = refl
 
-pub answered_back : (cycle : ℕ) (s : Talk) → answer_to (Ok (Some (command.Back cycle))) s ≡ ended (gone_back cycle s, [])
+pub answered_back : (names : Option (List Named)) (cycle : ℕ) (s : Talk) → answer_to names (Ok (Some (command.Back cycle))) s ≡ ended (gone_back cycle s, [])
 unfolding answer_to answered done
-answered_back cycle s = refl
+answered_back names cycle s = refl
 
 pub when_both : {P Q R : Type 0} (r : Result (Unit {0}) ConverseFault) → OnOk r P → OnOk r Q → (P → Q → R) → OnOk r R
 when_both (Ok u) h k f = f h k

@@ -17,6 +17,7 @@ use Rattle.agc_script.specs.Text.{is_line_feed, lines_of, without_empty_end}
 use Rattle.agc_dialogue.specs.Answered.{Request}
 use Rattle.agc_dialogue.specs.Input.{IsNextLine, ReadsByte, ReadsLine, ReadsRequest, all_requests}
 use Rattle.agc_dialogue.specs.Session.{is_quit, requests_in, up_to_quit}
+use Rattle.agc_names.specs.Names.{Named}
 
 -- a line before others, and a last line
 before_others : (part : List ℕ) (parts : List (List ℕ)) → 0 < length parts → without_empty_end (part ∷ parts) ≡ part ∷ without_empty_end parts
@@ -43,9 +44,9 @@ unfolding lines_of without_empty_end
 no_line = refl
 
 -- a line that is too long is one as soon as enough of it is read
-too_long : (line : List ℕ) → 120 < length line → request_of line ≡ Err fault.LineTooLong
+too_long : (names : Option (List Named)) (line : List ℕ) → 120 < length line → request_of names line ≡ Err fault.LineTooLong
 unfolding request_of
-too_long line h = let long : nat_lt longest_line (length line) ≡ true = grind (arith, nat_tests) in rw long refl
+too_long names line h = let long : nat_lt longest_line (length line) ≡ true = grind (arith, nat_tests) in rw long refl
 
 strip_by : (b : Bool) (l : List ℕ) → length l ≤ length (if b then take (length l - 1) l else l) + 1
 strip_by true l = omega (arith, length-take-le (length l - 1) l (omega arith))
@@ -54,12 +55,12 @@ strip_by false l = omega arith
 strip_length : (l : List ℕ) → length l ≤ length (strip_carriage_return l) + 1
 strip_length l = strip_by (slice_index l (length l - 1) == 13) l
 
-cut_request : (part : List ℕ) → request_of (strip_carriage_return (take 122 part)) ≡ request_of (strip_carriage_return part)
-cut_request part =
-    elim (leb_tells (length part) 122) as (λ _. request_of (strip_carriage_return (take 122 part)) ≡ request_of (strip_carriage_return part)) [
+cut_request : (names : Option (List Named)) (part : List ℕ) → request_of names (strip_carriage_return (take 122 part)) ≡ request_of names (strip_carriage_return part)
+cut_request names part =
+    elim (leb_tells (length part) 122) as (λ _. request_of names (strip_carriage_return (take 122 part)) ≡ request_of names (strip_carriage_return part)) [
       | inl w ↦ let whole : take 122 part ≡ part = take_all 122 part (omega (arith, w.1)) in rw whole refl
       | inr w ↦ let kept : length (take 122 part) ≡ 122 = length-take-le 122 part (omega (arith, w.1)) in
-          too_long _ (omega (arith, kept, strip_length (take 122 part))) ∙ sym (too_long _ (omega (arith, w.1, strip_length part)))
+          too_long names _ (omega (arith, kept, strip_length (take 122 part))) ∙ sym (too_long names _ (omega (arith, w.1, strip_length part)))
     ]
 
 -- what is kept of the bytes of a line that were read
@@ -75,68 +76,68 @@ one_more_byte start mid now kept more byte h read other keeps =
     let no_feed : is_line_feed byte ≡ false = grind (arith, nat_tests) in
     (h.0 ++ byte ∷ [], Consumes-trans start mid now h.0 (byte ∷ []) h.1 read, All-push (λ b. is_line_feed b ≡ false) h.0 byte h.2 no_feed, keeps h.0 h.3)
 
-abbrev Cut : List ℕ → List ℕ → List ℕ → Type 0
-Cut input part rest = all_requests input ≡ request_of (strip_carriage_return (take 122 part)) ∷ all_requests rest
+abbrev Cut : Option (List Named) → List ℕ → List ℕ → List ℕ → Type 0
+Cut names input part rest = all_requests names input ≡ request_of names (strip_carriage_return (take 122 part)) ∷ all_requests names rest
 
-cut_by : (input part rest : List ℕ) → lines_of input ≡ strip_carriage_return part ∷ lines_of rest → Cut input part rest
-cut_by input part rest e =
-    ap (map request_of) e ∙ ap (λ (r : Request). r ∷ all_requests rest) (sym (cut_request part))
+cut_by : (names : Option (List Named)) (input part rest : List ℕ) → lines_of input ≡ strip_carriage_return part ∷ lines_of rest → Cut names input part rest
+cut_by names input part rest e =
+    ap (map (request_of names)) e ∙ ap (λ (r : Request). r ∷ all_requests names rest) (sym (cut_request names part))
 
-next_by : (input rest part kept line : List ℕ) (now : Option (List ℕ)) → now ≡ Some rest → kept ≡ take 122 part → line ≡ strip_carriage_return kept
-    → lines_of input ≡ strip_carriage_return part ∷ lines_of rest → IsNextLine input now (Some line)
-next_by input rest part kept line now n k l e =
+next_by : (names : Option (List Named)) (input rest part kept line : List ℕ) (now : Option (List ℕ)) → now ≡ Some rest → kept ≡ take 122 part → line ≡ strip_carriage_return kept
+    → lines_of input ≡ strip_carriage_return part ∷ lines_of rest → IsNextLine names input now (Some line)
+next_by names input rest part kept line now n k l e =
     let same : line ≡ strip_carriage_return (take 122 part) = l ∙ ap strip_carriage_return k in
-    (rest, n, cut_by input part rest e ∙ ap (λ (x : List ℕ). request_of x ∷ all_requests rest) (sym same))
+    (rest, n, cut_by names input part rest e ∙ ap (λ (x : List ℕ). request_of names x ∷ all_requests names rest) (sym same))
 
 -- a line feed ends a line
-pub fed_line : (start mid now : Option (List ℕ)) (kept line : List ℕ) → SoFar start mid kept → Consumes mid now (10 ∷ []) → line ≡ strip_carriage_return kept
-    → ReadsLine start now (Some line)
-fed_line None mid now kept line h read e = tt
-fed_line (Some input) None now kept line h read e = absurd h.1
-fed_line (Some input) (Some more) None kept line h read e = absurd read
-fed_line (Some input) (Some more) (Some rest) kept line h read e =
+pub fed_line : (names : Option (List Named)) (start mid now : Option (List ℕ)) (kept line : List ℕ) → SoFar start mid kept → Consumes mid now (10 ∷ []) → line ≡ strip_carriage_return kept
+    → ReadsLine names start now (Some line)
+fed_line names None mid now kept line h read e = tt
+fed_line names (Some input) None now kept line h read e = absurd h.1
+fed_line names (Some input) (Some more) None kept line h read e = absurd read
+fed_line names (Some input) (Some more) (Some rest) kept line h read e =
     let whole : input ≡ h.0 ++ 10 ∷ rest = h.1 ∙ ap (λ (x : List ℕ). h.0 ++ x) read in
-    next_by input rest h.0 kept line (Some rest) refl h.3 e (ap lines_of whole ∙ first_line h.0 rest h.2)
+    next_by names input rest h.0 kept line (Some rest) refl h.3 e (ap lines_of whole ∙ first_line h.0 rest h.2)
 
 -- so does the end of the input, where something stands before it
 some_kept : (part kept : List ℕ) → kept ≡ take 122 part → (kept ≡ [] → ⊥) → 0 < length part
 some_kept [] kept e h = absurd (h e)
 some_kept (b ∷ bs) kept e h = omega arith
 
-pub ended_line : (start mid now : Option (List ℕ)) (kept line : List ℕ) → SoFar start mid kept → ReadsByte mid now None → (kept ≡ [] → ⊥)
-    → line ≡ strip_carriage_return kept → ReadsLine start now (Some line)
-ended_line None mid now kept line h read some e = tt
-ended_line (Some input) None now kept line h read some e = absurd h.1
-ended_line (Some input) (Some more) None kept line h read some e = absurd read.0
-ended_line (Some input) (Some more) (Some rest) kept line h read some e =
+pub ended_line : (names : Option (List Named)) (start mid now : Option (List ℕ)) (kept line : List ℕ) → SoFar start mid kept → ReadsByte mid now None → (kept ≡ [] → ⊥)
+    → line ≡ strip_carriage_return kept → ReadsLine names start now (Some line)
+ended_line names None mid now kept line h read some e = tt
+ended_line names (Some input) None now kept line h read some e = absurd h.1
+ended_line names (Some input) (Some more) None kept line h read some e = absurd read.0
+ended_line names (Some input) (Some more) (Some rest) kept line h read some e =
     let none : more ≡ [] = read.0 ∙ read.1 in
     let whole : input ≡ h.0 = h.1 ∙ ap (λ (x : List ℕ). h.0 ++ x) none ∙ append-nil h.0 in
-    next_by input [] h.0 kept line (Some rest) (ap Some read.1) h.3 e
+    next_by names input [] h.0 kept line (Some rest) (ap Some read.1) h.3 e
     (ap lines_of whole ∙ last_line h.0 h.2 (some_kept h.0 kept h.3 some) ∙ ap (λ (x : List (List ℕ)). strip_carriage_return h.0 ∷ x) (sym no_line))
 
 none_kept : (part kept : List ℕ) → kept ≡ take 122 part → kept ≡ [] → part ≡ []
 none_kept [] kept e h = refl
 none_kept (b ∷ bs) kept e h = let same : take 122 (b ∷ bs) ≡ [] = sym e ∙ h in cc
 
-pub no_more_lines : (start mid now : Option (List ℕ)) (kept : List ℕ) → SoFar start mid kept → ReadsByte mid now None → kept ≡ [] → ReadsLine start now None
-no_more_lines None mid now kept h read e = tt
-no_more_lines (Some input) None now kept h read e = absurd h.1
-no_more_lines (Some input) (Some more) None kept h read e = absurd read.0
-no_more_lines (Some input) (Some more) (Some rest) kept h read e =
+pub no_more_lines : (names : Option (List Named)) (start mid now : Option (List ℕ)) (kept : List ℕ) → SoFar start mid kept → ReadsByte mid now None → kept ≡ [] → ReadsLine names start now None
+no_more_lines names None mid now kept h read e = tt
+no_more_lines names (Some input) None now kept h read e = absurd h.1
+no_more_lines names (Some input) (Some more) None kept h read e = absurd read.0
+no_more_lines names (Some input) (Some more) (Some rest) kept h read e =
     let none : more ≡ [] = read.0 ∙ read.1 in
     let whole : input ≡ [] = h.1 ∙ ap (λ (x : List ℕ). h.0 ++ x) none ∙ append-nil h.0 ∙ none_kept h.0 kept h.3 e in
-    ap all_requests whole ∙ ap (map request_of) no_line
+    ap (all_requests names) whole ∙ ap (map (request_of names)) no_line
 
 -- what a line asks for
-pub no_request : (old new : Option (List ℕ)) → ReadsLine old new None → ReadsRequest old new None
+pub no_request : (names : Option (List Named)) (old new : Option (List ℕ)) → ReadsLine names old new None → ReadsRequest names old new None
 unfolding requests_in up_to_quit
-no_request None new h = tt
-no_request (Some input) new h = ap up_to_quit h
+no_request names None new h = tt
+no_request names (Some input) new h = ap up_to_quit h
 
-pub quit_request : (old new : Option (List ℕ)) (line : List ℕ) → ReadsLine old new (Some line) → request_of line ≡ Ok (Some command.Quit) → ReadsRequest old new None
+pub quit_request : (names : Option (List Named)) (old new : Option (List ℕ)) (line : List ℕ) → ReadsLine names old new (Some line) → request_of names line ≡ Ok (Some command.Quit) → ReadsRequest names old new None
 unfolding requests_in up_to_quit
-quit_request None new line h e = tt
-quit_request (Some input) new line h e = ap up_to_quit (h.2 ∙ ap (λ (r : Request). r ∷ all_requests h.0) e)
+quit_request names None new line h e = tt
+quit_request names (Some input) new line h e = ap up_to_quit (h.2 ∙ ap (λ (r : Request). r ∷ all_requests names h.0) e)
 
 pub quits : (r : Request) → is_quit r ≡ true → r ≡ Ok (Some command.Quit)
 quits (Ok (Some command.Quit)) h = refl
@@ -146,14 +147,14 @@ goes_on : (request : Request) (requests : List Request) → is_quit request ≡ 
 unfolding up_to_quit
 goes_on request requests e = rw e refl
 
-pub other_request : (old new : Option (List ℕ)) (line : List ℕ) (request : Request) → ReadsLine old new (Some line) → request ≡ request_of line
-    → is_quit request ≡ false → ReadsRequest old new (Some request)
+pub other_request : (names : Option (List Named)) (old new : Option (List ℕ)) (line : List ℕ) (request : Request) → ReadsLine names old new (Some line) → request ≡ request_of names line
+    → is_quit request ≡ false → ReadsRequest names old new (Some request)
 unfolding requests_in
-other_request None new line request h e other = tt
-other_request (Some input) new line request h e other = (
+other_request names None new line request h e other = tt
+other_request names (Some input) new line request h e other = (
   h.0,
   h.1,
-  ap up_to_quit (h.2 ∙ ap (λ (r : Request). r ∷ all_requests h.0) (sym e)) ∙ goes_on request (all_requests h.0) other,
+  ap up_to_quit (h.2 ∙ ap (λ (r : Request). r ∷ all_requests names h.0) (sym e)) ∙ goes_on request (all_requests names h.0) other,
 )
 
 -- one byte at a time

@@ -7,58 +7,59 @@ use Rattle.agc_dialogue.specs.Answered.{Grows, IsAnswered, Request, RunsOut, Tel
 use Rattle.agc_dialogue.specs.Input.{ReadsRequest}
 use Rattle.agc_dialogue.specs.Session.{AreAnswered, RanOut, requests_in, session_text}
 use Rattle.agc_dialogue.specs.declared.talk.Talk.{Talk}
+use Rattle.agc_names.specs.Names.{Named}
 
 -- where a conversation has come, what is left of the session is all that is missing of it
-abbrev pub Goes : Option (List ℕ) → Option (List ℕ) → Talk → Talk → Option (List ℕ) → Option (List ℕ) → Type 0
-Goes known left s t old now =
+abbrev pub Goes : Option (List Named) → Option (List ℕ) → Option (List ℕ) → Talk → Talk → Option (List ℕ) → Option (List ℕ) → Type 0
+Goes names known left s t old now =
     IfSome known (λ input. (rest : List ℕ) × (left ≡ Some rest)
-    × ((end : Option (List ℕ)) → AreAnswered (requests_in rest) t now end → AreAnswered (requests_in input) s old end))
+    × ((end : Option (List ℕ)) → AreAnswered names (requests_in names rest) t now end → AreAnswered names (requests_in names input) s old end))
 
-pub nothing_answered : (known left : Option (List ℕ)) (s : Talk) (old : Option (List ℕ)) → left ≡ known → Goes known left s s old old
-nothing_answered None left s old e = tt
-nothing_answered (Some input) left s old e = (input, e, λ end h. h)
+pub nothing_answered : (names : Option (List Named)) (known left : Option (List ℕ)) (s : Talk) (old : Option (List ℕ)) → left ≡ known → Goes names known left s s old old
+nothing_answered names None left s old e = tt
+nothing_answered names (Some input) left s old e = (input, e, λ end h. h)
 
-still_answered : (request : Request) (s t : Talk) (old mid new : Option (List ℕ)) → IsAnswered request s t old mid → Keeps mid new → IsAnswered request s t old new
-still_answered request s t old mid new (inl h) k = inl (h.0, Appends-kept old mid new (answer_to request s).1 h.1 k)
-still_answered request s t old mid new (inr h) k =
+still_answered : (names : Option (List Named)) (request : Request) (s t : Talk) (old mid new : Option (List ℕ)) → IsAnswered names request s t old mid → Keeps mid new → IsAnswered names request s t old new
+still_answered names request s t old mid new (inl h) k = inl (h.0, Appends-kept old mid new (answer_to names request s).1 h.1 k)
+still_answered names request s t old mid new (inr h) k =
     inr (record { left = h.left; said = h.said; ends = Appends-kept old mid new _ h.ends k })
 
-first_answered : (request : Request) (requests : List Request) (s t : Talk) (old mid new : Option (List ℕ)) → IsAnswered request s t old mid
-    → AreAnswered requests t mid new → AreAnswered (request ∷ requests) s old new
+first_answered : (names : Option (List Named)) (request : Request) (requests : List Request) (s t : Talk) (old mid new : Option (List ℕ)) → IsAnswered names request s t old mid
+    → AreAnswered names requests t mid new → AreAnswered names (request ∷ requests) s old new
 unfolding AreAnswered
-first_answered request requests s t old mid new h k = (t, mid, h, k)
+first_answered names request requests s t old mid new h k = (t, mid, h, k)
 
-one_answered : (left later : Option (List ℕ)) (rest : List ℕ) (request : Request) → left ≡ Some rest → ReadsRequest left later (Some request)
-    → (more : List ℕ) × (later ≡ Some more) × (requests_in rest ≡ request ∷ requests_in more)
-one_answered None later rest request e h = cc
-one_answered (Some other) later rest request e h =
+one_answered : (names : Option (List Named)) (left later : Option (List ℕ)) (rest : List ℕ) (request : Request) → left ≡ Some rest → ReadsRequest names left later (Some request)
+    → (more : List ℕ) × (later ≡ Some more) × (requests_in names rest ≡ request ∷ requests_in names more)
+one_answered names None later rest request e h = cc
+one_answered names (Some other) later rest request e h =
     let same : Some other ≡ Some rest = e in
-    subst (λ (o : Option (List ℕ)). ReadsRequest o later (Some request)) same h
+    subst (λ (o : Option (List ℕ)). ReadsRequest names o later (Some request)) same h
 
-pub one_more_answered : (known left later : Option (List ℕ)) (s t u : Talk) (old now mid new : Option (List ℕ)) (request : Request) → Goes known left s t old now
-    → ReadsRequest left later (Some request) → IsAnswered request t u now mid → Keeps mid new → Goes known later s u old new
-one_more_answered None left later s t u old now mid new request h r a k = tt
-one_more_answered (Some input) left later s t u old now mid new request h r a k =
-    let next = one_answered left later h.0 request h.1 r in (
+pub one_more_answered : (names : Option (List Named)) (known left later : Option (List ℕ)) (s t u : Talk) (old now mid new : Option (List ℕ)) (request : Request) → Goes names known left s t old now
+    → ReadsRequest names left later (Some request) → IsAnswered names request t u now mid → Keeps mid new → Goes names known later s u old new
+one_more_answered names None left later s t u old now mid new request h r a k = tt
+one_more_answered names (Some input) left later s t u old now mid new request h r a k =
+    let next = one_answered names left later h.0 request h.1 r in (
       next.0,
       next.1,
-      λ end more. h.2 end (subst (λ (requests : List Request). AreAnswered requests t now end) (sym next.2)
-          (first_answered request (requests_in next.0) t u now new end (still_answered request t u now mid new a k) more)),
+      λ end more. h.2 end (subst (λ (requests : List Request). AreAnswered names requests t now end) (sym next.2)
+          (first_answered names request (requests_in names next.0) t u now new end (still_answered names request t u now mid new a k) more)),
     )
 
-none_left : (left later : Option (List ℕ)) (rest : List ℕ) → left ≡ Some rest → ReadsRequest left later None → requests_in rest ≡ []
-none_left None later rest e h = cc
-none_left (Some other) later rest e h = subst (λ (o : Option (List ℕ)). ReadsRequest o later None) e h
+none_left : (names : Option (List Named)) (left later : Option (List ℕ)) (rest : List ℕ) → left ≡ Some rest → ReadsRequest names left later None → requests_in names rest ≡ []
+none_left names None later rest e h = cc
+none_left names (Some other) later rest e h = subst (λ (o : Option (List ℕ)). ReadsRequest names o later None) e h
 
-no_requests : (t : Talk) (known : Option (List ℕ)) → AreAnswered [] t known known
+no_requests : (names : Option (List Named)) (t : Talk) (known : Option (List ℕ)) → AreAnswered names [] t known known
 unfolding AreAnswered
-no_requests t known = Keeps-refl known
+no_requests names t known = Keeps-refl known
 
-pub all_answered : (known left later : Option (List ℕ)) (s t : Talk) (old now : Option (List ℕ)) → Goes known left s t old now → ReadsRequest left later None
-    → IfSome known (λ input. AreAnswered (requests_in input) s old now)
-all_answered None left later s t old now h r = tt
-all_answered (Some input) left later s t old now h r =
-    h.2 now (subst (λ (requests : List Request). AreAnswered requests t now now) (sym (none_left left later h.0 h.1 r)) (no_requests t now))
+pub all_answered : (names : Option (List Named)) (known left later : Option (List ℕ)) (s t : Talk) (old now : Option (List ℕ)) → Goes names known left s t old now → ReadsRequest names left later None
+    → IfSome known (λ input. AreAnswered names (requests_in names input) s old now)
+all_answered names None left later s t old now h r = tt
+all_answered names (Some input) left later s t old now h r =
+    h.2 now (subst (λ (requests : List Request). AreAnswered names requests t now now) (sym (none_left names left later h.0 h.1 r)) (no_requests names t now))
 
 -- where memory suffices the text is that of the session
 kept_is_none : (a b : Option (List ℕ)) → Keeps a b → Appends a b []
@@ -66,52 +67,52 @@ kept_is_none None b h = tt
 kept_is_none (Some xs) None h = absurd h
 kept_is_none (Some xs) (Some ys) h = h ∙ sym (append-nil xs)
 
-answer_grows : (request : Request) (s t : Talk) (old new : Option (List ℕ)) → IsAnswered request s t old new → Grows old new
-answer_grows request s t old new (inl h) = ((answer_to request s).1, h.1)
-answer_grows request s t old new (inr h) = (h.said ++ codes "error: memory\n", h.ends)
+answer_grows : (names : Option (List Named)) (request : Request) (s t : Talk) (old new : Option (List ℕ)) → IsAnswered names request s t old new → Grows old new
+answer_grows names request s t old new (inl h) = ((answer_to names request s).1, h.1)
+answer_grows names request s t old new (inr h) = (h.said ++ codes "error: memory\n", h.ends)
 
-answers_grow : (requests : List Request) (s : Talk) (old new : Option (List ℕ)) → AreAnswered requests s old new → Grows old new
+answers_grow : (names : Option (List Named)) (requests : List Request) (s : Talk) (old new : Option (List ℕ)) → AreAnswered names requests s old new → Grows old new
 unfolding AreAnswered
-answers_grow [] s old new h = ([], kept_is_none old new h)
-answers_grow (request ∷ requests) s old new h =
-    let one = answer_grows request s h.0 old h.1 h.2 in
-    let more = answers_grow requests h.0 h.1 new h.3 in
+answers_grow names [] s old new h = ([], kept_is_none old new h)
+answers_grow names (request ∷ requests) s old new h =
+    let one = answer_grows names request s h.0 old h.1 h.2 in
+    let more = answers_grow names requests h.0 h.1 new h.3 in
     (one.0 ++ more.0, Appends-trans old h.1 new one.0 more.0 one.1 more.1)
 
-text_then : (request : Request) (requests : List Request) (s : Talk)
-    → session_text (request ∷ requests) s ≡ (answer_to request s).1 ++ session_text requests (answer_to request s).0
+text_then : (names : Option (List Named)) (request : Request) (requests : List Request) (s : Talk)
+    → session_text names (request ∷ requests) s ≡ (answer_to names request s).1 ++ session_text names requests (answer_to names request s).0
 unfolding session_text
-text_then request requests s = refl
+text_then names request requests s = refl
 
-no_text : (s : Talk) → session_text [] s ≡ []
+no_text : (names : Option (List Named)) (s : Talk) → session_text names [] s ≡ []
 unfolding session_text
-no_text s = refl
+no_text names s = refl
 
 -- an answer comes before the rest of a session
-answer_first : (request : Request) (requests : List Request) (s t : Talk) (old mid new : Option (List ℕ)) → Tells (answer_to request s) t old mid
-    → (Appends mid new (session_text requests t) ⊎ RanOut requests t mid new) → Appends old new (session_text (request ∷ requests) s) ⊎ RanOut (request ∷ requests) s old new
-answer_first request requests s t old mid new h (inl k) =
-    let whole : (answer_to request s).1 ++ session_text requests t ≡ session_text (request ∷ requests) s =
-    ap (λ (u : Talk). (answer_to request s).1 ++ session_text requests u) h.0 ∙ sym (text_then request requests s) in
-    inl (subst (Appends old new) whole (Appends-trans old mid new (answer_to request s).1 (session_text requests t) h.1 k))
-answer_first request requests s t old mid new h (inr k) =
+answer_first : (names : Option (List Named)) (request : Request) (requests : List Request) (s t : Talk) (old mid new : Option (List ℕ)) → Tells (answer_to names request s) t old mid
+    → (Appends mid new (session_text names requests t) ⊎ RanOut names requests t mid new) → Appends old new (session_text names (request ∷ requests) s) ⊎ RanOut names (request ∷ requests) s old new
+answer_first names request requests s t old mid new h (inl k) =
+    let whole : (answer_to names request s).1 ++ session_text names requests t ≡ session_text names (request ∷ requests) s =
+    ap (λ (u : Talk). (answer_to names request s).1 ++ session_text names requests u) h.0 ∙ sym (text_then names request requests s) in
+    inl (subst (Appends old new) whole (Appends-trans old mid new (answer_to names request s).1 (session_text names requests t) h.1 k))
+answer_first names request requests s t old mid new h (inr k) =
     let rest = k.said ++ (codes "error: memory\n" ++ k.more) in
-    let whole : (answer_to request s).1 ++ (session_text k.earlier t ++ rest) ≡ session_text (request ∷ k.earlier) s ++ rest =
-    sym (append_assoc (answer_to request s).1 (session_text k.earlier t) rest)
-    ∙ ap (λ (u : Talk). ((answer_to request s).1 ++ session_text k.earlier u) ++ rest) h.0
-    ∙ ap (λ (text : List ℕ). text ++ rest) (sym (text_then request k.earlier s)) in
+    let whole : (answer_to names request s).1 ++ (session_text names k.earlier t ++ rest) ≡ session_text names (request ∷ k.earlier) s ++ rest =
+    sym (append_assoc (answer_to names request s).1 (session_text names k.earlier t) rest)
+    ∙ ap (λ (u : Talk). ((answer_to names request s).1 ++ session_text names k.earlier u) ++ rest) h.0
+    ∙ ap (λ (text : List ℕ). text ++ rest) (sym (text_then names request k.earlier s)) in
     inr (record {
       earlier = request ∷ k.earlier;
       rest = k.rest;
       requests_are = ap (λ (more : List Request). request ∷ more) k.requests_are;
       said = k.said;
       more = k.more;
-      text = subst (Appends old new) whole (Appends-trans old mid new (answer_to request s).1 (session_text k.earlier t ++ rest) h.1 k.text);
+      text = subst (Appends old new) whole (Appends-trans old mid new (answer_to names request s).1 (session_text names k.earlier t ++ rest) h.1 k.text);
     })
 
-ran_out_first : (request : Request) (requests : List Request) (s t : Talk) (old mid new : Option (List ℕ)) → RunsOut request s t old mid → Grows mid new
-    → RanOut (request ∷ requests) s old new
-ran_out_first request requests s t old mid new h k =
+ran_out_first : (names : Option (List Named)) (request : Request) (requests : List Request) (s t : Talk) (old mid new : Option (List ℕ)) → RunsOut names request s t old mid → Grows mid new
+    → RanOut names (request ∷ requests) s old new
+ran_out_first names request requests s t old mid new h k =
     let here : Appends old new ((h.said ++ codes "error: memory\n") ++ k.0) = Appends-trans old mid new (h.said ++ codes "error: memory\n") k.0 h.ends k.1 in
     record {
       earlier = [];
@@ -119,22 +120,22 @@ ran_out_first request requests s t old mid new h k =
       requests_are = refl;
       said = h.said;
       more = k.0;
-      text = subst (Appends old new) (append_assoc h.said (codes "error: memory\n") k.0 ∙ ap (λ (text : List ℕ). text ++ (h.said ++ (codes "error: memory\n" ++ k.0))) (sym (no_text s))) here;
+      text = subst (Appends old new) (append_assoc h.said (codes "error: memory\n") k.0 ∙ ap (λ (text : List ℕ). text ++ (h.said ++ (codes "error: memory\n" ++ k.0))) (sym (no_text names s))) here;
     }
 
-by_answer : (request : Request) (requests : List Request) (s t : Talk) (old mid new : Option (List ℕ)) → IsAnswered request s t old mid → AreAnswered requests t mid new
-    → (Appends mid new (session_text requests t) ⊎ RanOut requests t mid new) → Appends old new (session_text (request ∷ requests) s) ⊎ RanOut (request ∷ requests) s old new
-by_answer request requests s t old mid new (inl h) k more = answer_first request requests s t old mid new h more
-by_answer request requests s t old mid new (inr h) k more = inr (ran_out_first request requests s t old mid new h (answers_grow requests t mid new k))
+by_answer : (names : Option (List Named)) (request : Request) (requests : List Request) (s t : Talk) (old mid new : Option (List ℕ)) → IsAnswered names request s t old mid → AreAnswered names requests t mid new
+    → (Appends mid new (session_text names requests t) ⊎ RanOut names requests t mid new) → Appends old new (session_text names (request ∷ requests) s) ⊎ RanOut names (request ∷ requests) s old new
+by_answer names request requests s t old mid new (inl h) k more = answer_first names request requests s t old mid new h more
+by_answer names request requests s t old mid new (inr h) k more = inr (ran_out_first names request requests s t old mid new h (answers_grow names requests t mid new k))
 
-session_told : (requests : List Request) (s : Talk) (old new : Option (List ℕ)) → AreAnswered requests s old new
-    → Appends old new (session_text requests s) ⊎ RanOut requests s old new
+session_told : (names : Option (List Named)) (requests : List Request) (s : Talk) (old new : Option (List ℕ)) → AreAnswered names requests s old new
+    → Appends old new (session_text names requests s) ⊎ RanOut names requests s old new
 unfolding AreAnswered
-session_told [] s old new h = inl (subst (Appends old new) (sym (no_text s)) (kept_is_none old new h))
-session_told (request ∷ requests) s old new h =
-    by_answer request requests s h.0 old h.1 new h.2 h.3 (session_told requests h.0 h.1 new h.3)
+session_told names [] s old new h = inl (subst (Appends old new) (sym (no_text names s)) (kept_is_none old new h))
+session_told names (request ∷ requests) s old new h =
+    by_answer names request requests s h.0 old h.1 new h.2 h.3 (session_told names requests h.0 h.1 new h.3)
 
-pub text_told : (known : Option (List ℕ)) (s : Talk) (old new : Option (List ℕ)) → IfSome known (λ input. AreAnswered (requests_in input) s old new)
-    → IfSome known (λ input. Appends old new (session_text (requests_in input) s) ⊎ RanOut (requests_in input) s old new)
-text_told None s old new h = tt
-text_told (Some input) s old new h = session_told (requests_in input) s old new h
+pub text_told : (names : Option (List Named)) (known : Option (List ℕ)) (s : Talk) (old new : Option (List ℕ)) → IfSome known (λ input. AreAnswered names (requests_in names input) s old new)
+    → IfSome known (λ input. Appends old new (session_text names (requests_in names input) s) ⊎ RanOut names (requests_in names input) s old new)
+text_told names None s old new h = tt
+text_told names (Some input) s old new h = session_told names (requests_in names input) s old new h

@@ -14,7 +14,7 @@ use Rattle.agc_machine.specs.declared.upcoming.Upcoming.{Upcoming}
 use Rattle.agc_machine.specs.declared.upcoming.Upcoming.TheVariants as upcoming
 use Rattle.agc_machine.proofs.Chain.{stopped_stays}
 use Rattle.agc_trace.specs.Entry.{entry_of}
-use Rattle.agc_trace.specs.Line.{line_of}
+use Rattle.agc_trace.specs.NamedLine.{line_with}
 use Rattle.agc_trace.specs.Trace.{is_stop, trace_within}
 use Rattle.agc_trace.specs.declared.entry.Entry.{Entry}
 use Rattle.agc_trace.proofs.Lines.{IsWritten, nothing_written}
@@ -22,52 +22,53 @@ use Rattle.agc_trace.proofs.Steps.{rest_ends, rest_goes_on, told_by}
 use Rattle.agc_dialogue.specs.Talk.{after_boundaries, after_chain, gone_on}
 use Rattle.agc_dialogue.specs.declared.talk.Talk.{Talk}
 use Rattle.agc_dialogue.proofs.Going.{gone_nowhere, gone_then}
+use Rattle.agc_names.specs.Names.{Named}
 
-abbrev pub lines : ℕ → State → List ℕ
-lines n s = flat_map line_of (trace_within n s)
+abbrev pub lines : Option (List Named) → ℕ → State → List ℕ
+lines names n s = flat_map (line_with names) (trace_within n s)
 
-no_lines : (s : State) → lines zero s ≡ []
+no_lines : (names : Option (List Named)) (s : State) → lines names zero s ≡ []
 unfolding trace_within
-no_lines s = refl
+no_lines names s = refl
 
-pub all_taken : (n : ℕ) (s : State) → n ≡ zero → lines n s ≡ []
-all_taken n s e = rw e (no_lines s)
+pub all_taken : (names : Option (List Named)) (n : ℕ) (s : State) → n ≡ zero → lines names n s ≡ []
+all_taken names n s e = rw e (no_lines names s)
 
-pub none_taken : (n m : ℕ) (s : State) (known : Option (List ℕ)) → n ≡ m → IsWritten known known (lines n s) (lines m s)
-none_taken n m s known e = rw e (nothing_written known (lines m s))
+pub none_taken : (names : Option (List Named)) (n m : ℕ) (s : State) (known : Option (List ℕ)) → n ≡ m → IsWritten known known (lines names n s) (lines names m s)
+none_taken names n m s known e = rw e (nothing_written known (lines names m s))
 
 -- the stop is the last
-lines_at_stop : (n : ℕ) (s : State) (entry : Entry) → entry ≡ entry_of s → is_stop entry.happening ≡ true → lines (suc n) s ≡ line_of entry
+lines_at_stop : (names : Option (List Named)) (n : ℕ) (s : State) (entry : Entry) → entry ≡ entry_of s → is_stop entry.happening ≡ true → lines names (suc n) s ≡ line_with names entry
 unfolding trace_within
-lines_at_stop n s entry e stop =
-    ap (λ (more : List Entry). flat_map line_of (entry_of s ∷ more)) (rest_ends (is_stop (upcoming_of s)) (trace_within n (boundary None s).0) (told_by true s entry e stop))
-    ∙ append-nil (line_of (entry_of s)) ∙ ap line_of (sym e)
+lines_at_stop names n s entry e stop =
+    ap (λ (more : List Entry). flat_map (line_with names) (entry_of s ∷ more)) (rest_ends (is_stop (upcoming_of s)) (trace_within n (boundary None s).0) (told_by true s entry e stop))
+    ∙ append-nil (line_with names (entry_of s)) ∙ ap (line_with names) (sym e)
 
-lines_go_on : (n : ℕ) (s : State) (entry : Entry) → entry ≡ entry_of s → is_stop entry.happening ≡ false
-    → lines (suc n) s ≡ line_of entry ++ lines n (boundary None s).0
+lines_go_on : (names : Option (List Named)) (n : ℕ) (s : State) (entry : Entry) → entry ≡ entry_of s → is_stop entry.happening ≡ false
+    → lines names (suc n) s ≡ line_with names entry ++ lines names n (boundary None s).0
 unfolding trace_within
-lines_go_on n s entry e stop =
-    ap (λ (more : List Entry). flat_map line_of (entry_of s ∷ more)) (rest_goes_on (is_stop (upcoming_of s)) (trace_within n (boundary None s).0) (told_by false s entry e stop))
-    ∙ ap (λ (x : Entry). line_of x ++ lines n (boundary None s).0) (sym e)
+lines_go_on names n s entry e stop =
+    ap (λ (more : List Entry). flat_map (line_with names) (entry_of s ∷ more)) (rest_goes_on (is_stop (upcoming_of s)) (trace_within n (boundary None s).0) (told_by false s entry e stop))
+    ∙ ap (λ (x : Entry). line_with names x ++ lines names n (boundary None s).0) (sym e)
 
 -- one more line is said, and what is left is that of the boundaries after it
-pub one_said : (m n : ℕ) (s t : State) (entry : Entry) (start now new : Option (List ℕ)) (whole : List ℕ) → m ≡ suc n → entry ≡ entry_of s
-    → t ≡ (boundary None s).0 → is_stop entry.happening ≡ false → IsWritten start now (lines m s) whole → Appends now new (line_of entry)
-    → IsWritten start new (lines n t) whole
-one_said m n s t entry start now new whole count e f stop h k =
-    let line = line_of entry in
-    let next : lines m s ≡ line ++ lines n t =
-    ap (λ (boundaries : ℕ). lines boundaries s) count ∙ lines_go_on n s entry e stop
-    ∙ ap (λ (x : State). line_of entry ++ lines n x) (sym f) in
-    (h.0 ++ line, Appends-trans start now new h.0 line h.1 k, append_assoc h.0 line (lines n t) ∙ ap (λ (xs : List ℕ). h.0 ++ xs) (sym next) ∙ h.2)
+pub one_said : (names : Option (List Named)) (m n : ℕ) (s t : State) (entry : Entry) (start now new : Option (List ℕ)) (whole : List ℕ) → m ≡ suc n → entry ≡ entry_of s
+    → t ≡ (boundary None s).0 → is_stop entry.happening ≡ false → IsWritten start now (lines names m s) whole → Appends now new (line_with names entry)
+    → IsWritten start new (lines names n t) whole
+one_said names m n s t entry start now new whole count e f stop h k =
+    let line = line_with names entry in
+    let next : lines names m s ≡ line ++ lines names n t =
+    ap (λ (boundaries : ℕ). lines names boundaries s) count ∙ lines_go_on names n s entry e stop
+    ∙ ap (λ (x : State). line_with names entry ++ lines names n x) (sym f) in
+    (h.0 ++ line, Appends-trans start now new h.0 line h.1 k, append_assoc h.0 line (lines names n t) ∙ ap (λ (xs : List ℕ). h.0 ++ xs) (sym next) ∙ h.2)
 
 -- the line of the stop is said
-pub stop_said : (m n : ℕ) (s : State) (entry : Entry) (start now new : Option (List ℕ)) (whole : List ℕ) → m ≡ suc n → entry ≡ entry_of s
-    → is_stop entry.happening ≡ true → IsWritten start now (lines m s) whole → Appends now new (line_of entry) → Appends start new whole
-stop_said m n s entry start now new whole count e stop h k =
-    let last : lines m s ≡ line_of entry = ap (λ (boundaries : ℕ). lines boundaries s) count ∙ lines_at_stop n s entry e stop in
+pub stop_said : (names : Option (List Named)) (m n : ℕ) (s : State) (entry : Entry) (start now new : Option (List ℕ)) (whole : List ℕ) → m ≡ suc n → entry ≡ entry_of s
+    → is_stop entry.happening ≡ true → IsWritten start now (lines names m s) whole → Appends now new (line_with names entry) → Appends start new whole
+stop_said names m n s entry start now new whole count e stop h k =
+    let last : lines names m s ≡ line_with names entry = ap (λ (boundaries : ℕ). lines names boundaries s) count ∙ lines_at_stop names n s entry e stop in
     subst (Appends start new) (ap (λ (xs : List ℕ). h.0 ++ xs) (sym last) ∙ h.2)
-    (Appends-trans start now new h.0 (line_of entry) h.1 k)
+    (Appends-trans start now new h.0 (line_with names entry) h.1 k)
 
 -- where so many boundaries lead: a stop is the last of them
 stops_then : (u : Upcoming) (s : State) → is_stop u ≡ true → IsSome (carried_out u s).0.stopped

@@ -13,8 +13,10 @@ use Rattle.agc_source_words.specs.Location.{cell_address}
 use Rattle.agc_store.specs.Cells.{cell_of}
 use Rattle.agc_store.specs.Memory.{Memory}
 use Rattle.agc_store.specs.Places.{bb_cell, erasable_bank_size, erasable_window}
+use Rattle.agc_names.specs.Names.{Named}
 use Rattle.agc_trace.specs.Entry.{registers_of}
 use Rattle.agc_trace.specs.Line.{happening_text, registers_text}
+use Rattle.agc_trace.specs.NamedLine.{named_happening}
 use Rattle.agc_script.specs.Written.{word_digits}
 use Rattle.agc_word.specs.Number.{Number}
 use Rattle.agc_word.specs.Octal.{octal_digits}
@@ -44,6 +46,11 @@ registers_line m =
 -- what comes next, as a trace names it
 unfoldable pub next_line : Upcoming → List ℕ
 next_line next = codes "next " ++ happening_text next ++ codes "\n"
+
+-- the same with names: an order has the name of its place beside that
+unfoldable pub next_line_with : Option (List Named) → Upcoming → List ℕ
+next_line_with (Some names) next = codes "next " ++ named_happening names next ++ codes "\n"
+next_line_with None next = next_line next
 
 -- a cell by its number: its address, or its bank and its address in the window
 abbrev pub cell_place : ℕ → Place

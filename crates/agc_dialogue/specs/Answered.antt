@@ -10,7 +10,7 @@ use Rattle.agc_script.specs.declared.event.What.{What}
 use Rattle.agc_sitting.specs.Sitting.{given_now}
 use Rattle.agc_sitting.specs.declared.fault.GiveFault.{GiveFault}
 use Rattle.agc_sitting.specs.declared.fault.GiveFault.TheVariants as fault
-use Rattle.agc_trace.specs.Line.{line_of}
+use Rattle.agc_trace.specs.NamedLine.{line_with}
 use Rattle.agc_trace.specs.Trace.{trace_within}
 use Rattle.agc_dialogue.specs.Answer.{came_line, end_line, error_line}
 use Rattle.agc_dialogue.specs.Shown.{shown_text}
@@ -18,6 +18,7 @@ use Rattle.agc_dialogue.specs.Talk.{GoesOn, after_boundaries, after_due, after_w
 use Rattle.agc_dialogue.specs.Way.{Way, sought_in, way_to, writes_text}
 use Rattle.agc_dialogue.specs.declared.sought.Sought.TheVariants as sought
 use Rattle.agc_dialogue.specs.declared.talk.Talk.{Talk}
+use Rattle.agc_names.specs.Names.{Named}
 
 -- what a line asks for, or its fault
 abbrev pub Request : Type 0
@@ -44,15 +45,15 @@ told_until way t = (after_way way t, writes_text way.writes ++ came_line way.cam
 
 -- What a command does, and what it says before the line with which its answer ends: one case each. Those
 -- that have no case show something, and nothing changes.
-unfoldable pub done : Command → Talk → Answer
-done (command.Go cycles) t = told_way (way_to sought.Nothing (cycles_on cycles t) t.sitting.now) t
-done (command.GoTo cycle) t = told_way (way_to sought.Nothing cycle t.sitting.now) t
-done (command.Step boundaries) t =
-    (after_boundaries boundaries t, flat_map line_of (trace_within boundaries t.sitting.now))
-done (command.Until what within) t =
+unfoldable pub done : Option (List Named) → Command → Talk → Answer
+done names (command.Go cycles) t = told_way (way_to sought.Nothing (cycles_on cycles t) t.sitting.now) t
+done names (command.GoTo cycle) t = told_way (way_to sought.Nothing cycle t.sitting.now) t
+done names (command.Step boundaries) t =
+    (after_boundaries boundaries t, flat_map (line_with names) (trace_within boundaries t.sitting.now))
+done names (command.Until what within) t =
     told_until (way_to (sought_in t.sitting.now what) (cycles_on within t) t.sitting.now) t
-done (command.Back cycle) t = (gone_back cycle t, [])
-done shown t = (t, shown_text shown t.sitting t.writes)
+done names (command.Back cycle) t = (gone_back cycle t, [])
+done names shown t = (t, shown_text names shown t.sitting t.writes)
 
 -- why an event was not taken
 unfoldable pub refusal_text : GiveFault → List ℕ
@@ -78,15 +79,15 @@ given_answer what t =
     else refused_by fault.Unwanted due
 
 -- the answer to a command
-unfoldable pub answered : Command → Talk → Answer
-answered (command.Give what) t = given_answer what t
-answered other t = ended (done other t)
+unfoldable pub answered : Option (List Named) → Command → Talk → Answer
+answered names (command.Give what) t = given_answer what t
+answered names other t = ended (done names other t)
 
 -- the answer to a request: a line that asks for nothing is answered by the end, and a fault by what it is
-unfoldable pub answer_to : Request → Talk → Answer
-answer_to (Ok (Some command)) t = answered command t
-answer_to (Ok None) t = ended (t, [])
-answer_to (Err why) t = (t, error_line (fault_text why))
+unfoldable pub answer_to : Option (List Named) → Request → Talk → Answer
+answer_to names (Ok (Some command)) t = answered names command t
+answer_to names (Ok None) t = ended (t, [])
+answer_to names (Err why) t = (t, error_line (fault_text why))
 
 -- an answer was given: what is known of an output has grown by its lines
 abbrev pub Tells : Answer → Talk → Option (List ℕ) → Option (List ℕ) → Type 0
@@ -97,18 +98,18 @@ abbrev pub Grows : Option (List ℕ) → Option (List ℕ) → Type 0
 Grows old new = (said : List ℕ) × Appends old new said
 
 -- what was asked for is done, or else some boundaries at most were taken, and nothing was given
-abbrev pub IsLeft : Request → Talk → Talk → Type 0
-IsLeft request s t = (t ≡ (answer_to request s).0) ⊎ GoesOn s.sitting t.sitting
+abbrev pub IsLeft : Option (List Named) → Request → Talk → Talk → Type 0
+IsLeft names request s t = (t ≡ (answer_to names request s).0) ⊎ GoesOn s.sitting t.sitting
 
 -- Memory ran out in an answer, which ends with that.
-pub record RunsOut (request : Request) (s t : Talk) (old new : Option (List ℕ)) : Type 0 where
-  pub left : IsLeft request s t
+pub record RunsOut (names : Option (List Named)) (request : Request) (s t : Talk) (old new : Option (List ℕ)) : Type 0 where
+  pub left : IsLeft names request s t
   pub said : List ℕ
   pub ends : Appends old new (said ++ codes "error: memory\n")
 
 -- a request is answered, or memory ran out
-abbrev pub IsAnswered : Request → Talk → Talk → Option (List ℕ) → Option (List ℕ) → Type 0
-IsAnswered request s t old new = Tells (answer_to request s) t old new ⊎ RunsOut request s t old new
+abbrev pub IsAnswered : Option (List Named) → Request → Talk → Talk → Option (List ℕ) → Option (List ℕ) → Type 0
+IsAnswered names request s t old new = Tells (answer_to names request s) t old new ⊎ RunsOut names request s t old new
 
 -- `back` is done by the conversation itself, and by nothing that it calls for a command
 abbrev pub GoesNotBack : Command → Type 0

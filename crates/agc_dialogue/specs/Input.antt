@@ -5,6 +5,7 @@ use Rattle.agc_request.specs.Command.{request_of}
 use Rattle.agc_script.specs.Text.{lines_of}
 use Rattle.agc_dialogue.specs.Answered.{Request}
 use Rattle.agc_dialogue.specs.Session.{requests_in}
+use Rattle.agc_names.specs.Names.{Named}
 
 -- the next byte, or none at the end
 abbrev pub ReadsByte : Option (List ℕ) → Option (List ℕ) → Option ℕ → Type 0
@@ -12,23 +13,23 @@ ReadsByte old new None = Consumes old new [] × IsAtEnd new
 ReadsByte old new (Some byte) = Consumes old new (byte ∷ [])
 
 -- what all lines of an input ask for
-abbrev pub all_requests : List ℕ → List Request
-all_requests input = map request_of (lines_of input)
+abbrev pub all_requests : Option (List Named) → List ℕ → List Request
+all_requests names input = map (request_of names) (lines_of input)
 
 -- The next line, or none at the end: it asks for what the first line asks for, and those after it are left.
-abbrev pub IsNextLine : List ℕ → Option (List ℕ) → Option (List ℕ) → Type 0
-IsNextLine input new None = all_requests input ≡ []
-IsNextLine input new (Some line) =
-    (rest : List ℕ) × (new ≡ Some rest) × (all_requests input ≡ request_of line ∷ all_requests rest)
+abbrev pub IsNextLine : Option (List Named) → List ℕ → Option (List ℕ) → Option (List ℕ) → Type 0
+IsNextLine names input new None = all_requests names input ≡ []
+IsNextLine names input new (Some line) =
+    (rest : List ℕ) × (new ≡ Some rest) × (all_requests names input ≡ request_of names line ∷ all_requests names rest)
 
-abbrev pub ReadsLine : Option (List ℕ) → Option (List ℕ) → Option (List ℕ) → Type 0
-ReadsLine old new line = IfSome old (λ input. IsNextLine input new line)
+abbrev pub ReadsLine : Option (List Named) → Option (List ℕ) → Option (List ℕ) → Option (List ℕ) → Type 0
+ReadsLine names old new line = IfSome old (λ input. IsNextLine names input new line)
 
 -- The next request, or none at the end and at `quit`.
-abbrev pub IsNextRequest : List ℕ → Option (List ℕ) → Option Request → Type 0
-IsNextRequest input new None = requests_in input ≡ []
-IsNextRequest input new (Some request) =
-    (rest : List ℕ) × (new ≡ Some rest) × (requests_in input ≡ request ∷ requests_in rest)
+abbrev pub IsNextRequest : Option (List Named) → List ℕ → Option (List ℕ) → Option Request → Type 0
+IsNextRequest names input new None = requests_in names input ≡ []
+IsNextRequest names input new (Some request) =
+    (rest : List ℕ) × (new ≡ Some rest) × (requests_in names input ≡ request ∷ requests_in names rest)
 
-abbrev pub ReadsRequest : Option (List ℕ) → Option (List ℕ) → Option Request → Type 0
-ReadsRequest old new request = IfSome old (λ input. IsNextRequest input new request)
+abbrev pub ReadsRequest : Option (List Named) → Option (List ℕ) → Option (List ℕ) → Option Request → Type 0
+ReadsRequest names old new request = IfSome old (λ input. IsNextRequest names input new request)

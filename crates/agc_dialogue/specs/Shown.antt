@@ -1,5 +1,5 @@
 -- What the commands that only show tell of a sitting, before the end of the answer.
-use Rattle.std.specs.Prelude.{ℕ, List, [], flat_map}
+use Rattle.std.specs.Prelude.{ℕ, List, [], Option, flat_map}
 use Rattle.std.specs.List.{range_with_len}
 use Rattle.agc_machine.specs.Boundary.{upcoming_of}
 use Rattle.agc_panel.specs.Text.{panel_text}
@@ -8,23 +8,24 @@ use Rattle.agc_processor.specs.Channel.{channel_word}
 use Rattle.agc_script.specs.Written.{script_text}
 use Rattle.agc_sitting.specs.Sitting.{SittingState, told}
 use Rattle.agc_word.specs.Arithmetic.{narrow_of}
-use Rattle.agc_dialogue.specs.Answer.{cell_line, channel_line, next_line, registers_line, writes_line}
+use Rattle.agc_dialogue.specs.Answer.{cell_line, channel_line, next_line_with, registers_line, writes_line}
 use Rattle.agc_request.specs.Help.{help_text}
 use Rattle.agc_request.specs.declared.command.Command.{Command}
 use Rattle.agc_request.specs.declared.command.Command.TheVariants as command
+use Rattle.agc_names.specs.Names.{Named}
 
 -- the lines of a command, by the sitting and the number of channel writes so far; commands that do
 -- something show nothing of themselves
-unfoldable pub shown_text : Command → SittingState → ℕ → List ℕ
-shown_text command.Panel s writes = panel_text s.panel
-shown_text (command.Watch spec) s writes = watch_text s.now.processor.store spec
-shown_text command.Registers s writes = registers_line s.now.processor.store
-shown_text command.Next s writes = next_line (upcoming_of s.now)
-shown_text (command.Cells first count) s writes =
+unfoldable pub shown_text : Option (List Named) → Command → SittingState → ℕ → List ℕ
+shown_text names command.Panel s writes = panel_text s.panel
+shown_text names (command.Watch spec) s writes = watch_text s.now.processor.store spec
+shown_text names command.Registers s writes = registers_line s.now.processor.store
+shown_text names command.Next s writes = next_line_with names (upcoming_of s.now)
+shown_text names (command.Cells first count) s writes =
     flat_map (cell_line s.now.processor.store) (range_with_len first count)
-shown_text (command.Channel channel) s writes =
+shown_text names (command.Channel channel) s writes =
     channel_line channel (narrow_of (channel_word s.now.cycle channel s.now.processor))
-shown_text command.Writes s writes = writes_line writes
-shown_text command.Script s writes = script_text (told s)
-shown_text command.Help s writes = help_text
-shown_text command s writes = []
+shown_text names command.Writes s writes = writes_line writes
+shown_text names command.Script s writes = script_text (told s)
+shown_text names command.Help s writes = help_text
+shown_text names command s writes = []

@@ -9,6 +9,7 @@ ghost use Rattle.agc_dialogue.specs.Answer.{
   end_line,
   error_line,
   next_line,
+  next_line_with,
   registers_line,
   write_line,
   writes_line,
@@ -19,12 +20,13 @@ ghost use Rattle.agc_rope_listing.specs.Place.{IsInPrint};
 ghost use Rattle.agc_word.specs.Channels.{last_io_channel};
 
 use agc_machine::{ChannelWrite, Stop, Upcoming};
+use agc_names::NameTable;
 use agc_request::CommandFault;
 use agc_rope_listing::{Place, push_place};
 use agc_source_words::cell_address;
 use agc_store::Store;
 use agc_store::place::{BB, ERASABLE_BANK_SIZE, ERASABLE_WINDOW};
-use agc_trace::{push_happening, push_registers, registers_in};
+use agc_trace::{push_happening, push_named_happening, push_registers, registers_in};
 use agc_word::Narrow;
 use std::alloc::AllocError;
 
@@ -87,6 +89,26 @@ pub fn push_next_line(text: &mut String, next: Upcoming) -> Result<(), AllocErro
 {
     text.push_str("next ")?;
     push_happening(text, next)?;
+    text.push_str("\n")
+}
+
+/// Adds the line of what comes next, as `push_next_line` does. Where names are given, an order has between its place and its
+/// word the column of that place: its name and blanks, thirteen characters.
+#[tactic(auto, unfolding(crate::specs::Answer::next_line_with))]
+pub fn push_next_line_with(
+    text: &mut String,
+    names: &Option<NameTable>,
+    next: Upcoming,
+) -> Result<(), AllocError>
+    requires { HasPlace next }
+    ensures { OnOk result
+        (string_bytes text.new ≡ string_bytes text.old ++ next_line_with names.now next) }
+{
+    let Some(names) = names else {
+        return push_next_line(text, next);
+    };
+    text.push_str("next ")?;
+    push_named_happening(text, names, next)?;
     text.push_str("\n")
 }
 

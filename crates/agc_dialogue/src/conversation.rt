@@ -34,6 +34,7 @@ use crate::outlet::write_text;
 use crate::showing::push_shown;
 use crate::sought::Sought;
 use crate::talk::Talk;
+use agc_names::NameTable;
 use agc_request::{Command, CommandFault};
 use agc_script::What;
 use agc_sitting::{GiveFault, Sitting};
@@ -66,27 +67,29 @@ const OUT_OF_MEMORY: &str = "error: memory\n";
 /// The bytes for which there is memory before anything is done: those of the longest line with which an answer ends.
 const LONGEST_END: usize = 64;
 
-/// Answers each line of the input, up to `quit` or to the end of the input.
+/// Answers each line of the input, up to `quit` or to the end of the input. Where names are given, a name stands for its
+/// place in what is said, and lines that show an order have the column of its place's name.
 pub fn converse<R: Read, W: Write>(
     alloc: Global,
     sitting: Sitting,
+    names: &Option<NameTable>,
     input: &mut R,
     output: &mut W,
 ) -> Result<(), ConverseFault>
-    ensures session { OnOk result (IfSome (R.remaining input.old) (λ bytes. AreAnswered (requests_in bytes)
+    ensures session { OnOk result (IfSome (R.remaining input.old) (λ bytes. AreAnswered names.now (requests_in names.now bytes)
         (at_start sitting) (W.contents output.old) (W.contents output.new))) }
     ensures text { OnOk result (IfSome (R.remaining input.old) (λ bytes.
-        Appends (W.contents output.old) (W.contents output.new) (session_text (requests_in bytes) (at_start sitting))
-        ⊎ RanOut (requests_in bytes) (at_start sitting) (W.contents output.old) (W.contents output.new))) }
+        Appends (W.contents output.old) (W.contents output.new) (session_text names.now (requests_in names.now bytes) (at_start sitting))
+        ⊎ RanOut names.now (requests_in names.now bytes) (at_start sitting) (W.contents output.old) (W.contents output.new))) }
 {
     let Ok(mut reader) = BufReader::new(alloc, input) else {
         return Err(ConverseFault::Memory);
     };
     let mut talk = Talk::new(sitting);
     for _line in 0..u64::MAX {
-        match next_request(alloc, &mut reader)? {
+        match next_request(alloc, names, &mut reader)? {
             Some(request) => {
-                talk = answer(alloc, talk, request, output)?;
+                talk = answer(alloc, names, talk, request, output)?;
                 flush(output)?;
             }
             None => return Ok(()),
@@ -108,17 +111,18 @@ fn flush<W: Write>(output: &mut W) -> Result<(), ConverseFault>
 /// Answers a request. Where memory runs out the answer ends with that.
 fn answer<W: Write>(
     alloc: Global,
+    names: &Option<NameTable>,
     mut talk: Talk,
     request: Request,
     output: &mut W,
 ) -> Result<Talk, ConverseFault>
     requires { IfOk request (λ said. IfSome said IsCommandInRange) }
-    ensures { IfOk result (λ left. IsAnswered request talk left (W.contents output.old) (W.contents output.new)) }
+    ensures { IfOk result (λ left. IsAnswered names.now request talk left (W.contents output.old) (W.contents output.new)) }
 {
     match goes_back_to(&request) {
-        Some(cycle) => go_back(alloc, talk, cycle, output),
+        Some(cycle) => go_back(alloc, names, talk, cycle, output),
         None => {
-            answer_now(alloc, &mut talk, request, output)?;
+            answer_now(alloc, names, &mut talk, request, output)?;
             Ok(talk)
         }
     }
@@ -138,18 +142,19 @@ fn goes_back_to(request: &Request) -> Option<u64>
 /// Answers a request that does not go back.
 fn answer_now<W: Write>(
     alloc: Global,
+    names: &Option<NameTable>,
     talk: &mut Talk,
     request: Request,
     output: &mut W,
 ) -> Result<(), ConverseFault>
     requires range { IfOk request (λ said. IfSome said IsCommandInRange) }
     requires now { IsOfNow request }
-    ensures { OnOk result (IsAnswered request talk.old talk.new (W.contents output.old) (W.contents output.new)) }
+    ensures { OnOk result (IsAnswered names.now request talk.old talk.new (W.contents output.old) (W.contents output.new)) }
 {
     let Ok(mut text) = String::with_capacity(alloc, LONGEST_END) else {
         return write_text(output, OUT_OF_MEMORY);
     };
-    match say(alloc, talk, request, &mut text, output) {
+    match say(alloc, names, talk, request, &mut text, output) {
         Ok(()) => write_text(output, &text),
         Err(fault) => end_short(fault, output),
     }
@@ -170,6 +175,7 @@ fn end_short<W: Write>(fault: ConverseFault, output: &mut W) -> Result<(), Conve
 #[tactic(auto, unfolding(crate::specs::Answered::answer_to))]
 fn say<W: Write>(
     alloc: Global,
+    names: &Option<NameTable>,
     talk: &mut Talk,
     request: Request,
     text: &mut String,
@@ -177,14 +183,14 @@ fn say<W: Write>(
 ) -> Result<(), ConverseFault>
     requires range { IfOk request (λ said. IfSome said IsCommandInRange) }
     requires now { IsOfNow request }
-    ensures said { OnOk result (Tells (answer_to request talk.old) talk.new
+    ensures said { OnOk result (Tells (answer_to names.now request talk.old) talk.new
         (append_known (W.contents output.old) (string_bytes text.old))
         (append_known (W.contents output.new) (string_bytes text.new))) }
-    ensures left { IsLeft request talk.old talk.new }
+    ensures left { IsLeft names.now request talk.old talk.new }
     ensures grows { (IsErrOf result ConverseFault.Write → ⊥) → Grows (W.contents output.old) (W.contents output.new) }
 {
     match request {
-        Ok(Some(command)) => say_command(alloc, talk, command, text, output),
+        Ok(Some(command)) => say_command(alloc, names, talk, command, text, output),
         Ok(None) => push_end(talk, text),
         Err(fault) => push_refusal(fault, text),
     }
@@ -194,6 +200,7 @@ fn say<W: Write>(
 #[tactic(auto, unfolding(agc_request::specs::Command::IsCommandInRange, crate::specs::Answered::answered))]
 fn say_command<W: Write>(
     alloc: Global,
+    names: &Option<NameTable>,
     talk: &mut Talk,
     command: Command,
     text: &mut String,
@@ -201,16 +208,16 @@ fn say_command<W: Write>(
 ) -> Result<(), ConverseFault>
     requires range { IsCommandInRange command }
     requires now { GoesNotBack command }
-    ensures said { OnOk result (Tells (answered command talk.old) talk.new
+    ensures said { OnOk result (Tells (answered names.now command talk.old) talk.new
         (append_known (W.contents output.old) (string_bytes text.old))
         (append_known (W.contents output.new) (string_bytes text.new))) }
-    ensures left { (talk.new ≡ (answered command talk.old).0) ⊎ GoesOn talk.old.sitting talk.new.sitting }
+    ensures left { (talk.new ≡ (answered names.now command talk.old).0) ⊎ GoesOn talk.old.sitting talk.new.sitting }
     ensures grows { (IsErrOf result ConverseFault.Write → ⊥) → Grows (W.contents output.old) (W.contents output.new) }
 {
     match command {
         Command::Give(what) => push_given(talk, what, text),
         other => {
-            carry_out(alloc, talk, other, text, output)?;
+            carry_out(alloc, names, talk, other, text, output)?;
             push_end(talk, text)
         }
     }
@@ -257,6 +264,7 @@ fn push_refusal(fault: CommandFault, text: &mut String) -> Result<(), ConverseFa
 #[tactic(auto, unfolding(agc_request::specs::Command::IsCommandInRange, crate::specs::Answered::done))]
 fn carry_out<W: Write>(
     alloc: Global,
+    names: &Option<NameTable>,
     talk: &mut Talk,
     command: Command,
     text: &mut String,
@@ -264,7 +272,7 @@ fn carry_out<W: Write>(
 ) -> Result<(), ConverseFault>
     requires range { IsCommandInRange command }
     requires now { GoesNotBack command }
-    ensures told { OnOk result (Tells (done command talk.old) talk.new
+    ensures told { OnOk result (Tells (done names.now command talk.old) talk.new
         (append_known (W.contents output.old) (string_bytes text.old))
         (append_known (W.contents output.new) (string_bytes text.new))) }
     ensures on { GoesOn talk.old.sitting talk.new.sitting }
@@ -280,10 +288,10 @@ fn carry_out<W: Write>(
             go_to(talk, &Sought::Nothing, cycle, text, output)?;
             Ok(())
         }
-        Command::Step(boundaries) => step(talk, boundaries, text, output),
+        Command::Step(boundaries) => step(talk, names, boundaries, text, output),
         Command::Until { what, within } => until(talk, what, within, text, output),
         shown => {
-            push_shown(alloc, talk, shown, text)?;
+            push_shown(alloc, names, talk, shown, text)?;
             Ok(())
         }
     }
@@ -301,11 +309,12 @@ fn push_end(talk: &Talk, text: &mut String) -> Result<(), ConverseFault>
 /// Goes back to the state before a cycle, and answers that. Where memory runs out before it has, nothing changes.
 fn go_back<W: Write>(
     alloc: Global,
+    names: &Option<NameTable>,
     talk: Talk,
     cycle: u64,
     output: &mut W,
 ) -> Result<Talk, ConverseFault>
-    ensures { IfOk result (λ left. IsAnswered (Ok (Some (Command.Back cycle))) talk left
+    ensures { IfOk result (λ left. IsAnswered names.now (Ok (Some (Command.Back cycle))) talk left
         (W.contents output.old) (W.contents output.new)) }
 {
     let Ok(mut text) = String::with_capacity(alloc, LONGEST_END) else {

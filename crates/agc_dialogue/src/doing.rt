@@ -6,7 +6,7 @@ ghost use Rattle.agc_machine.specs.Laws.{HasChannel};
 ghost use Rattle.agc_machine.specs.Replay.{writes_in};
 ghost use Rattle.agc_sitting.specs.Sitting.{given_now};
 ghost use Rattle.agc_trace.specs.Entry.{FitsLine, entry_of};
-ghost use Rattle.agc_trace.specs.Line.{line_of};
+ghost use Rattle.agc_trace.specs.NamedLine.{line_with};
 ghost use Rattle.agc_trace.specs.Trace.{trace_within};
 ghost use Rattle.agc_request.specs.Command.{IsTargetInRange};
 ghost use Rattle.agc_dialogue.specs.Answered.{Grows, Tells, refusal_text, told_until};
@@ -20,10 +20,11 @@ use crate::outlet::write_part;
 use crate::sought::Sought;
 use crate::talk::Talk;
 use agc_machine::{Stepped, Upcoming};
+use agc_names::NameTable;
 use agc_request::Target;
 use agc_script::{MOST_EVENTS, What};
 use agc_sitting::GiveFault;
-use agc_trace::{Entry, push_line, registers_in};
+use agc_trace::{Entry, push_line_with, registers_in};
 use std::io::Write;
 
 /// Goes on to a cycle, or to the stop, or until something comes, and tells each channel write. Returns whether it
@@ -68,9 +69,10 @@ fn tell<W: Write>(stepped: &Stepped, text: &mut String, output: &mut W) -> Resul
     write_part(text, output)
 }
 
-/// Takes so many boundaries, but none after the stop, and tells each as a trace does.
+/// Takes so many boundaries, but none after the stop, and tells each as a trace does, with the names that are given.
 pub(crate) fn step<W: Write>(
     talk: &mut Talk,
+    names: &Option<NameTable>,
     boundaries: u64,
     text: &mut String,
     output: &mut W,
@@ -78,13 +80,13 @@ pub(crate) fn step<W: Write>(
     ensures gone { OnOk result (talk.new ≡ after_boundaries boundaries talk.old) }
     ensures lines { OnOk result (Appends (append_known (W.contents output.old) (string_bytes text.old))
         (append_known (W.contents output.new) (string_bytes text.new))
-        (flat_map line_of (trace_within boundaries talk.old.sitting.now))) }
+        (flat_map (line_with names.now) (trace_within boundaries talk.old.sitting.now))) }
     ensures on { GoesOn talk.old.sitting talk.new.sitting }
     ensures grows { (IsErrOf result ConverseFault.Write → ⊥) → Grows (W.contents output.old) (W.contents output.new) }
 {
     for _boundary in 0..boundaries {
         let entry = next_entry(talk);
-        push_line(text, &entry)?;
+        push_line_with(text, names, &entry)?;
         write_part(text, output)?;
         if entry.is_stop() {
             return Ok(());

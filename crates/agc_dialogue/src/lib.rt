@@ -12,6 +12,7 @@ mod talk;
 
 pub use answer::{
     push_came_line, push_cell_lines, push_channel_line, push_end_line, push_error_line,
-    push_fault_line, push_next_line, push_registers_line, push_write_line, push_writes_line,
+    push_fault_line, push_next_line, push_next_line_with, push_registers_line, push_write_line,
+    push_writes_line,
 };
 pub use conversation::{ConverseFault, converse};

@@ -1,12 +1,14 @@
 //! The lines of an input, as they come, and what they ask for.
-ghost use Rattle.std.specs.Prelude.{◌≡◌, List, ℕ, [], ◌∷◌, option_map, ◌++◌, take, IfOk, IfSome, OnErr, OnOk};
+ghost use Rattle.std.specs.Prelude.{◌≡◌, List, Option, ℕ, [], ◌∷◌, option_map, ◌++◌, take, IfOk, IfSome, OnErr, OnOk};
 ghost use Rattle.std.specs.Io.KnownBytes.{Keeps};
 ghost use Rattle.std.specs.Str.Lines.{strip_carriage_return};
+ghost use Rattle.agc_names.specs.Names.{Named};
 ghost use Rattle.agc_request.specs.Command.{IsCommandInRange};
 ghost use Rattle.agc_dialogue.specs.Input.{ReadsByte, ReadsLine, ReadsRequest};
 ghost use Rattle.agc_dialogue.specs.Session.{is_quit};
 
 use crate::conversation::ConverseFault;
+use agc_names::NameTable;
 use agc_request::{Command, CommandFault, read_request};
 use agc_script::LONGEST_LINE;
 use std::alloc::{AllocError, Global};
@@ -18,18 +20,19 @@ pub(crate) type Request = Result<Option<Command>, CommandFault>;
 /// The bytes of a line that are kept: of one that is too long enough to show that it is.
 const KEPT: usize = LONGEST_LINE + 2;
 
-/// What the next line asks for, or `None` at the end of the input and at `quit`.
+/// What the next line asks for with these names, or `None` at the end of the input and at `quit`.
 pub(crate) fn next_request<R: Read>(
     alloc: Global,
+    names: &Option<NameTable>,
     reader: &mut R,
 ) -> Result<Option<Request>, ConverseFault>
-    ensures reads { IfOk result (λ request. ReadsRequest (R.remaining reader.old) (R.remaining reader.new) request) }
+    ensures reads { IfOk result (λ request. ReadsRequest names.now (R.remaining reader.old) (R.remaining reader.new) request) }
     ensures range { IfOk result (λ next. IfSome next (λ request. IfOk request (λ said. IfSome said IsCommandInRange))) }
 {
     let Some(line) = next_line(alloc, reader)? else {
         return Ok(None);
     };
-    let request = read_request(&line);
+    let request = read_request(names, &line);
     if is_quit(&request) {
         return Ok(None);
     }
@@ -46,8 +49,8 @@ fn is_quit(request: &Request) -> bool
 /// The next line without its end, or `None` at the end of the input. Of a line that is too long no more is
 /// kept than shows that it is.
 fn next_line<R: Read>(alloc: Global, reader: &mut R) -> Result<Option<Vec<u8>>, ConverseFault>
-    ensures { IfOk result (λ line. ReadsLine (R.remaining reader.old) (R.remaining reader.new)
-        (option_map (λ bytes. bytes.items) line)) }
+    ensures { IfOk result (λ line. (names : Option (List Named))
+        → ReadsLine names (R.remaining reader.old) (R.remaining reader.new) (option_map (λ bytes. bytes.items) line)) }
 {
     let mut line = Vec::with_capacity(alloc, KEPT)?;
     for _byte in 0..u64::MAX {

@@ -8,10 +8,11 @@ ghost use Rattle.agc_request.specs.Command.{IsCommandInRange};
 ghost use Rattle.agc_dialogue.specs.Shown.{shown_text};
 
 use crate::answer::{
-    push_cell_lines, push_channel_line, push_next_line, push_registers_line, push_writes_line,
+    push_cell_lines, push_channel_line, push_next_line_with, push_registers_line, push_writes_line,
 };
 use crate::talk::Talk;
 use agc_executive::{WatchSpec, watch};
+use agc_names::NameTable;
 use agc_request::{Command, push_help};
 use std::alloc::{AllocError, Global};
 
@@ -20,20 +21,21 @@ use std::alloc::{AllocError, Global};
 #[tactic(auto, unfolding(agc_request::specs::Command::IsCommandInRange, crate::specs::Shown::shown_text))]
 pub(crate) fn push_shown(
     alloc: Global,
+    names: &Option<NameTable>,
     talk: &Talk,
     command: Command,
     text: &mut String,
 ) -> Result<(), AllocError>
     requires { IsCommandInRange command }
     ensures { OnOk result (string_bytes text.new
-        ≡ string_bytes text.old ++ shown_text command talk.now.sitting talk.now.writes) }
+        ≡ string_bytes text.old ++ shown_text names.now command talk.now.sitting talk.now.writes) }
 {
     let machine = talk.machine();
     match command {
         Command::Panel => push_panel(alloc, talk, text),
         Command::Watch(spec) => push_watch(alloc, talk, spec, text),
         Command::Registers => push_registers_line(text, machine.store()),
-        Command::Next => push_next_line(text, machine.upcoming()),
+        Command::Next => push_next_line_with(text, names, machine.upcoming()),
         Command::Cells { first, count } => push_cell_lines(text, machine.store(), first, count),
         Command::Channel(channel) => push_channel_line(text, channel, machine.channel(channel)),
         Command::Writes => push_writes_line(text, talk.writes),

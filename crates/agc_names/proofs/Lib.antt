@@ -1,3 +1,5 @@
 mod Lines
 mod Firsts
 pub mod Nearests
+mod PlaceRead
+pub mod NamesRead

@@ -5,3 +5,4 @@ pub mod Column
 pub mod Listing
 pub mod Writing
 pub mod Told
+pub mod Lookup

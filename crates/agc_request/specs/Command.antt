@@ -1,9 +1,11 @@
--- What a line asks of the console: one definition for each command, by the words after its name.
+-- What a line asks of the console, with the names of places where they are given: one definition for each command, by the
+-- words after its name.
 use Rattle.std.specs.Prelude.{◌≡◌, ℕ, ◌+◌, ◌≤◌, ◌<◌, nat_lt, is_none, List, [], ◌∷◌, length, codes}
 use Rattle.std.specs.Prelude.{Option, Some, None, Result, Ok, Err, if◌then◌else◌}
 use Rattle.std.specs.List.{list_any}
 use Rattle.std.specs.Str.{bytes_eq}
 use Rattle.agc_executive.specs.WatchSpec.{watch_fault_of}
+use Rattle.agc_names.specs.Names.{Named}
 use Rattle.agc_script.specs.Command.{command_of}
 use Rattle.agc_script.specs.Event.{IsWhatInRange, last_cycle}
 use Rattle.agc_script.specs.Grammar.{command_named}
@@ -62,18 +64,18 @@ until_write (channel ∷ words) =
     and_then (channel_in channel) (λ number. until_target (target.Write number) words)
 
 -- `until cell PLACE`
-abbrev pub until_cell : List (List ℕ) → Result Command CommandFault
-until_cell [] = Err (fault.Usage name.Until)
-until_cell (place ∷ words) =
-    and_then (cell_in place) (λ cell. until_target (target.Cell cell) words)
+abbrev pub until_cell : Option (List Named) → List (List ℕ) → Result Command CommandFault
+until_cell names [] = Err (fault.Usage name.Until)
+until_cell names (place ∷ words) =
+    and_then (cell_in names place) (λ cell. until_target (target.Cell cell) words)
 
 -- `until PLACE`, or one of the two before
-unfoldable pub until_of : List (List ℕ) → Result Command CommandFault
-until_of [] = Err (fault.Usage name.Until)
-until_of (first ∷ words) =
+unfoldable pub until_of : Option (List Named) → List (List ℕ) → Result Command CommandFault
+until_of names [] = Err (fault.Usage name.Until)
+until_of names (first ∷ words) =
     if bytes_eq first (codes "write") then until_write words
-    else if bytes_eq first (codes "cell") then until_cell words
-    else and_then (place_in first) (λ place. until_target (target.Order place) words)
+    else if bytes_eq first (codes "cell") then until_cell names words
+    else and_then (place_in names first) (λ place. until_target (target.Order place) words)
 
 -- `watch SPEC`
 unfoldable pub watch_of : List (List ℕ) → Result Command CommandFault
@@ -81,10 +83,10 @@ watch_of words =
     and_then (and_then (only_word name.Watch words) spec_in) (λ spec. Ok (command.Watch spec))
 
 -- `cell PLACE` and `cell PLACE N`
-unfoldable pub cells_of : List (List ℕ) → Result Command CommandFault
-cells_of [] = Err (fault.Usage name.Cell)
-cells_of (place ∷ words) =
-    and_then (cell_in place)
+unfoldable pub cells_of : Option (List Named) → List (List ℕ) → Result Command CommandFault
+cells_of names [] = Err (fault.Usage name.Cell)
+cells_of names (place ∷ words) =
+    and_then (cell_in names place)
     (λ first. and_then (cells_after first words) (λ count. Ok (command.Cells first count)))
 
 -- `channel CCC`
@@ -98,21 +100,21 @@ unfoldable pub back_of : List (List ℕ) → Result Command CommandFault
 back_of words = and_then (only_cycles name.Back words) (λ cycle. Ok (command.Back cycle))
 
 -- what the words after a name ask for
-unfoldable pub command_by : CommandName → List (List ℕ) → Result Command CommandFault
-command_by name.Go words = go_of words
-command_by name.Step words = step_of words
-command_by name.Until words = until_of words
-command_by name.Panel words = alone command.Panel name.Panel words
-command_by name.Watch words = watch_of words
-command_by name.Registers words = alone command.Registers name.Registers words
-command_by name.Next words = alone command.Next name.Next words
-command_by name.Cell words = cells_of words
-command_by name.Channel words = channel_of words
-command_by name.Writes words = alone command.Writes name.Writes words
-command_by name.Back words = back_of words
-command_by name.Script words = alone command.Script name.Script words
-command_by name.Help words = alone command.Help name.Help words
-command_by name.Quit words = alone command.Quit name.Quit words
+unfoldable pub command_by : Option (List Named) → CommandName → List (List ℕ) → Result Command CommandFault
+command_by names name.Go words = go_of words
+command_by names name.Step words = step_of words
+command_by names name.Until words = until_of names words
+command_by names name.Panel words = alone command.Panel name.Panel words
+command_by names name.Watch words = watch_of words
+command_by names name.Registers words = alone command.Registers name.Registers words
+command_by names name.Next words = alone command.Next name.Next words
+command_by names name.Cell words = cells_of names words
+command_by names name.Channel words = channel_of words
+command_by names name.Writes words = alone command.Writes name.Writes words
+command_by names name.Back words = back_of words
+command_by names name.Script words = alone command.Script name.Script words
+command_by names name.Help words = alone command.Help name.Help words
+command_by names name.Quit words = alone command.Quit name.Quit words
 
 -- an event in the words of a script
 abbrev pub given : Result What FaultKind → Result Command CommandFault
@@ -125,26 +127,27 @@ event_of first words =
     if is_none (command_named first) then Err fault.UnknownCommand else given (command_of words)
 
 -- a command by its first word
-abbrev pub named_or_event : Option CommandName → List ℕ → List (List ℕ) → Result Command CommandFault
-named_or_event (Some n) first words = command_by n words
-named_or_event None first words = event_of first (first ∷ words)
+abbrev pub named_or_event : Option (List Named) → Option CommandName → List ℕ → List (List ℕ)
+    → Result Command CommandFault
+named_or_event names (Some n) first words = command_by names n words
+named_or_event names None first words = event_of first (first ∷ words)
 
 abbrev pub asked : Command → Result (Option Command) CommandFault
 asked command = Ok (Some command)
 
 -- what words ask for: without words, and in a comment, nothing
-unfoldable pub words_request : List (List ℕ) → Result (Option Command) CommandFault
-words_request [] = Ok None
-words_request (first ∷ words) =
+unfoldable pub words_request : Option (List Named) → List (List ℕ) → Result (Option Command) CommandFault
+words_request names [] = Ok None
+words_request names (first ∷ words) =
     if begins_comment first then Ok None
-    else and_then (named_or_event (name_named first) first words) asked
+    else and_then (named_or_event names (name_named first) first words) asked
 
--- What a line asks for, or its fault.
-unfoldable pub request_of : List ℕ → Result (Option Command) CommandFault
-request_of line =
+-- What a line asks for with these names, or its fault.
+unfoldable pub request_of : Option (List Named) → List ℕ → Result (Option Command) CommandFault
+request_of names line =
     if nat_lt longest_line (length line) then Err fault.LineTooLong
     else if list_any is_beyond_ascii line then Err fault.NotAscii
-    else words_request (words_of line)
+    else words_request names (words_of line)
 
 -- each number of a command in its range
 unfoldable pub IsTargetInRange : Target → Type 0

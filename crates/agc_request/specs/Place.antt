@@ -1,8 +1,9 @@
--- The places of commands: those at which orders stand, and cells of erasable memory.
+-- The places of commands, by themselves or by their names: those at which orders stand, and cells of erasable memory.
 use Rattle.std.specs.Prelude.{ℕ, ◌+◌, nat_lt, nat_le, ◌&&◌, List, [], ◌∷◌}
 use Rattle.std.specs.Prelude.{Option, Some, None, Result, Ok, Err, if◌then◌else◌}
 use Rattle.std.specs.Option.{ok_or}
-use Rattle.agc_source_words.specs.Location.{location_named}
+use Rattle.agc_names.specs.Lookup.{place_said}
+use Rattle.agc_names.specs.Names.{Named}
 use Rattle.agc_source_words.specs.declared.location.Location.{Location}
 use Rattle.agc_source_words.specs.declared.location.Location.TheVariants as location
 use Rattle.agc_word.specs.Numeral.{decimal_number}
@@ -11,17 +12,17 @@ use Rattle.agc_request.specs.declared.fault.CommandFault.{CommandFault}
 use Rattle.agc_request.specs.declared.fault.CommandFault.TheVariants as fault
 use Rattle.agc_request.specs.declared.name.CommandName.TheVariants as name
 
--- a place as sources write it: `En,oooo`, `bb,oooo` or an address alone
-unfoldable pub place_in : List ℕ → Result Location CommandFault
-place_in word = ok_or (location_named word) fault.BadPlace
+-- a place as sources write it, `En,oooo`, `bb,oooo` or an address alone, or the name of one where names are given
+unfoldable pub place_in : Option (List Named) → List ℕ → Result Location CommandFault
+place_in names word = ok_or (place_said names word) fault.BadPlace
 
 -- a place that is a cell
 abbrev pub as_cell : Location → Result ℕ CommandFault
 as_cell (location.Erasable cell) = Ok cell
 as_cell (location.Fixed place) = Err fault.NotErasable
 
-unfoldable pub cell_in : List ℕ → Result ℕ CommandFault
-cell_in word = and_then (place_in word) as_cell
+unfoldable pub cell_in : Option (List Named) → List ℕ → Result ℕ CommandFault
+cell_in names word = and_then (place_in names word) as_cell
 
 -- at least one cell, and as many as there are from the first one on
 abbrev pub count_from : ℕ → Option ℕ → Result ℕ CommandFault

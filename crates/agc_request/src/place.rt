@@ -1,4 +1,4 @@
-//! The places of commands, and cells of erasable memory among them.
+//! The places of commands, by themselves or by their names, and cells of erasable memory among them.
 ghost use Rattle.std.specs.Prelude.{◌≡◌, ◌+◌, ◌<◌, ◌≤◌, IfOk};
 ghost use Rattle.agc_script.specs.Text.{words_of};
 ghost use Rattle.agc_source_words.specs.Location.{IsWithin};
@@ -7,29 +7,30 @@ ghost use Rattle.agc_request.specs.Place.{cell_in, cells_after, count_in, place_
 use crate::fault::CommandFault;
 use crate::name::CommandName;
 use crate::words::only_word;
+use agc_names::{NameTable, place_said};
 use agc_script::{MOST_DIGITS, next_word};
-use agc_source_words::{Location, location_named};
+use agc_source_words::Location;
 use agc_word::read_decimal;
 
 /// The cells of erasable memory.
 const CELLS: u16 = 0o4000;
 
-/// The place that a word names.
+/// The place that a word stands for.
 #[tactic(auto, unfolding(crate::specs::Place::place_in))]
-pub(crate) fn read_place(word: &[u8]) -> Result<Location, CommandFault>
-    ensures place { result ≡ place_in word.now }
+pub(crate) fn read_place(names: &Option<NameTable>, word: &[u8]) -> Result<Location, CommandFault>
+    ensures place { result ≡ place_in names.now word.now }
     ensures range { IfOk result IsWithin }
 {
-    location_named(word).ok_or(CommandFault::BadPlace)
+    place_said(names, word).ok_or(CommandFault::BadPlace)
 }
 
-/// The cell that a word names.
+/// The cell that a word stands for.
 #[tactic(auto, unfolding(crate::specs::Place::cell_in))]
-pub(crate) fn read_cell(word: &[u8]) -> Result<u16, CommandFault>
-    ensures cell { result ≡ cell_in word.now }
+pub(crate) fn read_cell(names: &Option<NameTable>, word: &[u8]) -> Result<u16, CommandFault>
+    ensures cell { result ≡ cell_in names.now word.now }
     ensures range { IfOk result (λ cell. cell < 0o4000) }
 {
-    match read_place(word)? {
+    match read_place(names, word)? {
         Location::Erasable(cell) => Ok(cell as u16),
         Location::Fixed(_) => Err(CommandFault::NotErasable),
     }

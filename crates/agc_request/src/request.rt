@@ -28,15 +28,17 @@ use crate::name::CommandName;
 use crate::number::{read_channel, read_cycles, read_spec};
 use crate::place::{read_cell, read_cells_after, read_place};
 use crate::words::{alone, is_word, only_word};
+use agc_names::NameTable;
 use agc_script::{LONGEST_LINE, next_word, read_command};
 
 /// How far a run goes on to what is asked for, where no cycles are said.
 const WITHIN: u64 = 1_000_000;
 
-/// What a line asks for, or its fault; `None` for a line without words and for a comment.
+/// What a line asks for, or its fault; `None` for a line without words and for a comment. Where names are given, a name stands
+/// for its place wherever a place is said, as `place_said` of agc_names reads it.
 #[tactic(auto, unfolding(crate::specs::Command::request_of))]
-pub fn read_request(line: &[u8]) -> Result<Option<Command>, CommandFault>
-    ensures request { result ≡ request_of line.now }
+pub fn read_request(names: &Option<NameTable>, line: &[u8]) -> Result<Option<Command>, CommandFault>
+    ensures request { result ≡ request_of names.now line.now }
     ensures range { IfOk result (λ said. IfSome said IsCommandInRange) }
 {
     if line.len() > LONGEST_LINE {
@@ -44,7 +46,7 @@ pub fn read_request(line: &[u8]) -> Result<Option<Command>, CommandFault>
     } else if has_high_byte(line) {
         Err(CommandFault::NotAscii)
     } else {
-        read_words(line)
+        read_words(names, line)
     }
 }
 
@@ -56,8 +58,8 @@ fn has_high_byte(line: &[u8]) -> bool
 }
 
 #[tactic(auto, unfolding(crate::specs::Command::words_request))]
-fn read_words(line: &[u8]) -> Result<Option<Command>, CommandFault>
-    ensures words { result ≡ words_request (words_of line.now) }
+fn read_words(names: &Option<NameTable>, line: &[u8]) -> Result<Option<Command>, CommandFault>
+    ensures words { result ≡ words_request names.now (words_of line.now) }
     ensures range { IfOk result (λ said. IfSome said IsCommandInRange) }
 {
     let Some((first, words)) = next_word(line) else {
@@ -67,7 +69,7 @@ fn read_words(line: &[u8]) -> Result<Option<Command>, CommandFault>
         return Ok(None);
     }
     let command = match CommandName::from_word(first) {
-        Some(name) => read_named(name, words)?,
+        Some(name) => read_named(names, name, words)?,
         None => read_event(first, line)?,
     };
     Ok(Some(command))
@@ -75,19 +77,23 @@ fn read_words(line: &[u8]) -> Result<Option<Command>, CommandFault>
 
 /// What the words after a command's name ask for.
 #[tactic(auto, unfolding(crate::specs::Command::command_by, crate::specs::Command::IsCommandInRange))]
-fn read_named(name: CommandName, words: &[u8]) -> Result<Command, CommandFault>
-    ensures command { result ≡ command_by name (words_of words.now) }
+fn read_named(
+    names: &Option<NameTable>,
+    name: CommandName,
+    words: &[u8],
+) -> Result<Command, CommandFault>
+    ensures command { result ≡ command_by names.now name (words_of words.now) }
     ensures range { IfOk result IsCommandInRange }
 {
     match name {
         CommandName::Go => read_go(words),
         CommandName::Step => read_step(words),
-        CommandName::Until => read_until(words),
+        CommandName::Until => read_until(names, words),
         CommandName::Panel => alone(Command::Panel, name, words),
         CommandName::Watch => read_watch(words),
         CommandName::Registers => alone(Command::Registers, name, words),
         CommandName::Next => alone(Command::Next, name, words),
-        CommandName::Cell => read_cells(words),
+        CommandName::Cell => read_cells(names, words),
         CommandName::Channel => read_channel_asked(words),
         CommandName::Writes => alone(Command::Writes, name, words),
         CommandName::Back => read_back(words),
@@ -142,8 +148,8 @@ fn read_step(words: &[u8]) -> Result<Command, CommandFault>
 }
 
 #[tactic(auto, unfolding(crate::specs::Command::until_of, crate::specs::Command::IsTargetInRange))]
-fn read_until(words: &[u8]) -> Result<Command, CommandFault>
-    ensures until { result ≡ until_of (words_of words.now) }
+fn read_until(names: &Option<NameTable>, words: &[u8]) -> Result<Command, CommandFault>
+    ensures until { result ≡ until_of names.now (words_of words.now) }
     ensures range { IfOk result IsCommandInRange }
 {
     let (first, rest) = next_word(words).ok_or(CommandFault::Usage(CommandName::Until))?;
@@ -154,10 +160,10 @@ fn read_until(words: &[u8]) -> Result<Command, CommandFault>
     }
     if is_word(first, "cell") {
         let (place, rest) = next_word(rest).ok_or(CommandFault::Usage(CommandName::Until))?;
-        let cell = read_cell(place)?;
+        let cell = read_cell(names, place)?;
         return read_until_target(Target::Cell(cell), rest);
     }
-    let place = read_place(first)?;
+    let place = read_place(names, first)?;
     read_until_target(Target::Order(place), rest)
 }
 
@@ -199,12 +205,12 @@ fn read_watch(words: &[u8]) -> Result<Command, CommandFault>
 }
 
 #[tactic(auto, unfolding(crate::specs::Command::cells_of, crate::specs::Command::IsCommandInRange))]
-fn read_cells(words: &[u8]) -> Result<Command, CommandFault>
-    ensures cells { result ≡ cells_of (words_of words.now) }
+fn read_cells(names: &Option<NameTable>, words: &[u8]) -> Result<Command, CommandFault>
+    ensures cells { result ≡ cells_of names.now (words_of words.now) }
     ensures range { IfOk result IsCommandInRange }
 {
     let (place, rest) = next_word(words).ok_or(CommandFault::Usage(CommandName::Cell))?;
-    let first = read_cell(place)?;
+    let first = read_cell(names, place)?;
     let count = read_cells_after(first, rest)?;
     Ok(Command::Cells { first, count })
 }

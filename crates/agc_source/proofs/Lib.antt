@@ -7,3 +7,6 @@ mod Stretches
 mod Lines
 mod Orders
 mod Places
+mod Within
+mod LabelWords
+mod ToldNames

@@ -1,10 +1,9 @@
 -- Both ways through a text, one line after the other.
-use Rattle.std.proofs.Common.{◌≡◌, ℕ, ◌+◌, List, [], ◌∷◌, ◌++◌, ◌∙◌, refl, sym}
+use Rattle.std.proofs.Common.{◌≡◌, ℕ, ◌+◌, List, [], ◌∷◌, ◌∙◌, refl, sym}
 use Rattle.std.specs.Prelude.{Result, Ok, Err}
 use Rattle.agc_script.specs.Text.{lines_of}
 use Rattle.agc_rope_listing.specs.declared.line.Named.{Named}
 use Rattle.agc_source.specs.Cursor.{first_cursor}
-use Rattle.agc_source.specs.NameLines.{label_line, name_lines_from, name_lines_in}
 use Rattle.agc_source_words.specs.Name.{Naming, own_names}
 use Rattle.agc_source.specs.Source.{both_said, first_state, line_labelled, line_woven, names_from, names_in, naming_after, told_at, words_from, words_in}
 use Rattle.agc_source_words.specs.Text.{label_of}
@@ -32,24 +31,6 @@ faulty_named text n naming cursor line lines why same e = rw (← same, e, names
 pub all_named : (text : List ℕ) (n : ℕ) (naming : Naming) (cursor : Cursor) → names_from n naming cursor [] ≡ names_from 1 own_names first_cursor (lines_of text) → names_in text ≡ Ok naming
 unfolding names_from names_in
 all_named text n naming cursor same = sym same
-
--- the lines of names on the same way
-pub next_told : (naming : Naming) (cursor : Cursor) (told : List ℕ) (line : List ℕ) (lines : List (List ℕ)) (next : Labelled) → line_labelled naming cursor line ≡ Ok next
-    → name_lines_from naming cursor told (line ∷ lines)
-    ≡ name_lines_from (naming_after naming (label_of line) next.place) next.cursor (told ++ label_line (label_of line) next.place) lines
-unfolding name_lines_from
-next_told naming cursor told line lines next e = rw (e, name_lines_from)
-
-pub faulty_told : (text : List ℕ) (naming : Naming) (cursor : Cursor) (told : List ℕ) (line : List ℕ) (lines : List (List ℕ)) (why : SourceFault)
-    → name_lines_from naming cursor told (line ∷ lines) ≡ name_lines_from own_names first_cursor [] (lines_of text) → line_labelled naming cursor line ≡ Err why
-    → told ≡ name_lines_in text
-unfolding name_lines_from name_lines_in
-faulty_told text naming cursor told line lines why same e = rw (← same, e, name_lines_from)
-
-pub all_told : (text : List ℕ) (naming : Naming) (cursor : Cursor) (told : List ℕ) → name_lines_from naming cursor told [] ≡ name_lines_from own_names first_cursor [] (lines_of text)
-    → told ≡ name_lines_in text
-unfolding name_lines_from name_lines_in
-all_told text naming cursor told same = same
 
 -- the same on the second way
 pub next_woven : (n : ℕ) (naming : Naming) (state : State) (said more : List Named) (line : List ℕ) (lines : List (List ℕ)) (step : Step) → line_woven naming state line ≡ Ok step

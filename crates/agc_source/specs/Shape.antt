@@ -22,7 +22,7 @@ use Rattle.agc_source.specs.declared.shape.Shape.TheVariants as shape
 abbrev pub IsShape : Shape → Type 0
 IsShape shape.Word = Unit {0}
 IsShape shape.Pair = Unit {0}
-IsShape (shape.Cells count) = count ≤ 100000
+IsShape (shape.Cells count) = (0 < count) × (count ≤ 100000)
 IsShape (shape.Moves place) = IsWithin place
 IsShape (shape.Bank bank) = bank < 36
 IsShape (shape.StandsFor place) = IsWithin place

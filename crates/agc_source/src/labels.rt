@@ -1,8 +1,8 @@
 //! The first way through a text: where its names stand.
-ghost use Rattle.std.specs.Prelude.{◌≡◌, ◌≢◌, None, Ok, Err, IfOk, IfErr, IfSome, OnOk, option_map};
+ghost use Rattle.std.specs.Prelude.{◌≡◌, ◌≢◌, None, Ok, Err, IfOk, IfErr, IfSome, IsOk, OnOk, option_map};
 ghost use Rattle.agc_source.specs.Cursor.{IsAt};
 ghost use Rattle.agc_source_words.specs.Name.{naming_of};
-ghost use Rattle.agc_source.specs.Shape.{IsShape, shape_of};
+ghost use Rattle.agc_source.specs.Shape.{IsShape, cursor_after, shape_of};
 ghost use Rattle.agc_source.specs.Source.{
   label_place,
   line_labelled,
@@ -12,6 +12,7 @@ ghost use Rattle.agc_source.specs.Source.{
   place_labelled,
   shape_labelled,
 };
+ghost use Rattle.agc_source_words.specs.Location.{IsWithin};
 ghost use Rattle.agc_source_words.specs.Text.{body_of, label_of, said_by};
 ghost use Rattle.agc_rope_listing.specs.Line.{line_named};
 ghost use Rattle.agc_source_words.specs.declared.fault.SourceTrouble.TheVariants.{Memory};
@@ -80,6 +81,7 @@ pub(crate) fn line_labelled(
     requires { IsAt cursor.at }
     ensures labelled { result ≡ line_labelled (naming_of names.now) cursor line.now }
     ensures range { IfOk result (λ next. IsAt next.cursor.at) }
+    ensures within { IfOk result (λ next. IfSome next.place IsWithin) }
     ensures free { IfOk result (λ next. IfSome next.place
         (λ _. IfSome (label_of line.now) (λ label. naming_of names.now label ≡ None))) }
 {
@@ -122,9 +124,12 @@ fn place_labelled(
     shape: Shape,
     label: Option<&[u8]>,
 ) -> Result<Option<Location>, SourceFault>
-    requires { IsAt cursor.at }
+    requires at { IsAt cursor.at }
+    requires shape { IsShape shape }
+    requires room { IsOk (cursor_after cursor shape) }
     ensures place { result ≡ place_labelled (naming_of names.now) cursor shape
         (option_map (λ label. label.now) label.entry) }
+    ensures within { IfOk result (λ place. IfSome place IsWithin) }
     ensures free { IfOk result (λ place. IfSome place
         (λ _. IfSome label.entry (λ label. naming_of names.now label.now ≡ None))) }
 {
@@ -144,9 +149,13 @@ fn place_labelled(
 }
 
 /// Where a name on a line of a shape stands.
+#[tactic(auto, using(crate::proofs::Within::room_within, crate::proofs::Within::cells_within))]
 fn label_place(cursor: Cursor, shape: Shape) -> Result<Option<Location>, SourceFault>
-    requires { IsAt cursor.at }
-    ensures { result ≡ label_place cursor shape }
+    requires at { IsAt cursor.at }
+    requires shape { IsShape shape }
+    requires room { IsOk (cursor_after cursor shape) }
+    ensures place { result ≡ label_place cursor shape }
+    ensures within { IfOk result (λ place. IfSome place IsWithin) }
 {
     match shape {
         Shape::Word | Shape::Pair | Shape::Cells(_) => Ok(Some(cursor.location())),

@@ -17,7 +17,7 @@ pub use cell::Cell;
 pub use change::Change;
 pub use entry::{Entry, Registers, next_entry, registers_in};
 pub use line::{push_happening, push_line, push_registers};
-pub use named_line::push_line_with;
+pub use named_line::{push_line_with, push_named_happening};
 pub use places::{Places, PlacesFault};
 pub use selection::{Only, Selection};
 pub use service::Service;

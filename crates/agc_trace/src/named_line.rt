@@ -72,8 +72,8 @@ fn push_named_entry(text: &mut String, names: &NameTable, entry: &Entry) -> Resu
     push_registers(text, entry.registers)
 }
 
-/// Adds what happened, an order with the column of its place.
-fn push_named_happening(
+/// Adds what happened, or will, as `push_happening` does, an order with the column of its place. Fails where memory runs out.
+pub fn push_named_happening(
     text: &mut String,
     names: &NameTable,
     happening: Upcoming,

@@ -1,5 +1,6 @@
 //! Whole conversations: the texts were worked by hand from the programs and the cycles of their orders.
 use agc_dialogue::converse;
+use agc_names::NameTable;
 use agc_script::Script;
 use agc_sitting::Sitting;
 use agc_store::Rope;
@@ -8,9 +9,20 @@ use std::process::Abort;
 use std::test::Fail;
 
 /// What is answered to a text.
-#[tactic(auto, unfolding(agc_machine::specs::State::start_state))]
 fn answers(
     rt: &(impl AllocGlobal + Abort),
+    listing: &str,
+    script: &str,
+    said: &[u8],
+) -> Result<String, Fail> {
+    answers_with(rt, &None, listing, script, said)
+}
+
+/// What is answered to a text, with names.
+#[tactic(auto, unfolding(agc_machine::specs::State::start_state))]
+fn answers_with(
+    rt: &(impl AllocGlobal + Abort),
+    names: &Option<NameTable>,
     listing: &str,
     script: &str,
     said: &[u8],
@@ -23,7 +35,7 @@ fn answers(
         .expect(rt, "the limit is in range");
     let mut input = said;
     let mut output = Vec::new(rt.alloc());
-    let ended = converse(rt.alloc(), sitting, &mut input, &mut output);
+    let ended = converse(rt.alloc(), sitting, names, &mut input, &mut output);
     assert_eq!(rt; ended, Ok(()));
     Ok(String::from_utf8(output).ok().expect(rt, "ASCII"))
 }
@@ -119,5 +131,25 @@ error: LineTooLong: a line has at most 120 bytes
 fn a_last_line_needs_no_line_feed(rt: HostRuntime) -> Result<(), Fail> {
     let text = answers(&rt, IDLE, "", b"# nothing\r\ngo 5")?;
     assert_eq!(rt; text.as_str(), "at 0\nat 5\n");
+    Ok(())
+}
+
+/// The write's order goes by OUT, one word beyond it.
+#[test]
+fn orders_show_the_names_of_their_places(rt: HostRuntime) -> Result<(), Fail> {
+    let names = NameTable::read(rt.alloc(), b"4001 OUT\n4003 END\n").ok();
+    let said = b"until OUT+1\nnext\nstep\nuntil NONE\nuntil END within 0\n";
+    let text = answers_with(&rt, &names, RELAY_WORD, "", said)?;
+    let wanted = "came yes
+at 3
+next 4002 OUT +1       01010 WRITE 010
+at 3
+3 4002 OUT +1       01010 WRITE 010 > 010 54171 | A 154171 L 00000 Q 000000 Z 4004 EB 0 FB 00
+at 5
+error: BadPlace: a place is En,oooo, or an address below 1400, or bb,oooo, or an address from 4000 on, in octal
+came no
+at 5
+";
+    assert_eq!(rt; text.as_str(), wanted);
     Ok(())
 }

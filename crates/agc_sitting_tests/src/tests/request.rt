@@ -1,5 +1,6 @@
 //! Lines as they are said. What each asks for was worked by hand from the tables of commands and places.
 use agc_executive::{Table, WatchFault, WatchSpec};
+use agc_names::NameTable;
 use agc_request::{Command, CommandFault, CommandName, Target, read_request};
 use agc_script::{FaultKind, Key, What};
 use agc_source_words::Location;
@@ -8,11 +9,15 @@ use std::process::Abort;
 use std::string::ToString;
 
 fn asks(rt: &impl Abort, line: &str, command: Command) {
-    assert_eq!(rt; read_request(line.as_bytes()), Ok(Some(command)), "{line}");
+    assert_eq!(rt;
+        read_request(&None, line.as_bytes()),
+        Ok(Some(command)),
+        "{line}"
+    );
 }
 
 fn refuses(rt: &impl Abort, line: &str, fault: CommandFault) {
-    assert_eq!(rt; read_request(line.as_bytes()), Err(fault), "{line}");
+    assert_eq!(rt; read_request(&None, line.as_bytes()), Err(fault), "{line}");
 }
 
 #[test]
@@ -154,11 +159,38 @@ fn tables_are_watched_where_they_can_stand(rt: HostRuntime) {
 
 #[test]
 fn lines_have_120_bytes_of_ascii(rt: HostRuntime) {
-    assert_eq!(rt; read_request(&[b' '; 120]), Ok(None));
-    assert_eq!(rt; read_request(&[b' '; 121]), Err(CommandFault::LineTooLong));
-    assert_eq!(rt; read_request(b"# \xC3"), Err(CommandFault::NotAscii));
-    assert_eq!(rt; read_request(b"#quit"), Ok(None));
-    assert_eq!(rt; read_request(b""), Ok(None));
+    assert_eq!(rt; read_request(&None, &[b' '; 120]), Ok(None));
+    assert_eq!(rt;
+        read_request(&None, &[b' '; 121]),
+        Err(CommandFault::LineTooLong)
+    );
+    assert_eq!(rt; read_request(&None, b"# \xC3"), Err(CommandFault::NotAscii));
+    assert_eq!(rt; read_request(&None, b"#quit"), Ok(None));
+    assert_eq!(rt; read_request(&None, b""), Ok(None));
     refuses(&rt, "quit #", CommandFault::Usage(CommandName::Quit));
     refuses(&rt, "Quit", CommandFault::UnknownCommand);
+}
+
+/// COUNT stands in cell 1500 of bank 3, and 02,4071 is 56 words before 02,4161. Cells end at 3777, and the word `A+1` is a name.
+#[test]
+fn a_name_stands_for_its_place(rt: HostRuntime) {
+    let text = b"4071 LOOP\nE3,1500 COUNT\nE7,1777 END\n4100 A\n4200 A+1\n";
+    let names = NameTable::read(rt.alloc(), text).ok();
+    let asked = |line: &[u8]| read_request(&names, line);
+    let order = |place| Ok(Some(Command::Until {
+        what: Target::Order(Location::Fixed(place)),
+        within: 1_000_000,
+    }));
+    let cells = |first, count| Ok(Some(Command::Cells { first, count }));
+    assert_eq!(rt; asked(b"until LOOP"), order(0o4071));
+    assert_eq!(rt; asked(b"until LOOP+56"), order(0o4161));
+    assert_eq!(rt; asked(b"until LOOP-1"), order(0o4070));
+    assert_eq!(rt; asked(b"until A+1"), order(0o4200));
+    assert_eq!(rt; asked(b"until 4071"), order(0o4071));
+    assert_eq!(rt; asked(b"cell COUNT 2"), cells(0o1500, 2));
+    assert_eq!(rt; asked(b"cell END-1"), cells(0o3776, 1));
+    assert_eq!(rt; asked(b"cell END+1"), Err(CommandFault::BadPlace));
+    assert_eq!(rt; asked(b"cell LOOP"), Err(CommandFault::NotErasable));
+    assert_eq!(rt; asked(b"until loop"), Err(CommandFault::BadPlace));
+    refuses(&rt, "until LOOP", CommandFault::BadPlace);
 }

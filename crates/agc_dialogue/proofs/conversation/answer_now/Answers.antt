@@ -8,7 +8,7 @@ use Rattle.agc_dialogue.proofs.conversation.answer_now.Goals as goal
 pub returns-in_default : goal.returns-in_default
 returns-in_default g c =
     when_ok c.write_text.result c.write_text.ensures.ok
-    (λ written. inr (ran_out c.args.request c.args.talk.now c.args.talk.now _ _ _ (inr (stays_put _)) (stays_known (g.W.Write.contents c.args.output.now)) written))
+    (λ written. inr (ran_out c.args.names.now c.args.request c.args.talk.now c.args.talk.now _ _ _ (inr (stays_put _)) (stays_known (g.W.Write.contents c.args.output.now)) written))
 
 pub returns-in-Ok-say : goal.returns-in-Ok-say
 returns-in-Ok-say g c =
@@ -23,5 +23,5 @@ returns-in-Ok-say g c =
 pub returns : goal.returns
 returns g c =
     when_ok c.end_short.result c.end_short.ensures
-    (λ short. inr (ran_out c.args.request c.args.talk.now c.say.new.talk (g.W.Write.contents c.args.output.now) (g.W.Write.contents c.say.new.output) _ c.say.ensures.left
+    (λ short. inr (ran_out c.args.names.now c.args.request c.args.talk.now c.say.new.talk (g.W.Write.contents c.args.output.now) (g.W.Write.contents c.say.new.output) _ c.say.ensures.left
     (c.say.ensures.grows (λ e. cc (c.in-Err.is, short.0, e))) short.1))

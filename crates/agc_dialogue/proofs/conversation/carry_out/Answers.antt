@@ -18,7 +18,7 @@ pub returns-in_ok-push_shown-in_default : goal.returns-in_ok-push_shown-in_defau
 returns-in_ok-push_shown-in_default g c =
     record {
       told = tells_same _ _ _ _ _
-          (done_shown c.args.command c.args.talk.now c.requires.now c.in_default.not-Go c.in_default.not-GoTo c.in_default.not-Step c.in_default.not-Until)
+          (done_shown c.args.names.now c.args.command c.args.talk.now c.requires.now c.in_default.not-Go c.in_default.not-GoTo c.in_default.not-Step c.in_default.not-Until)
           (tells_waiting _ _ (g.W.Write.contents c.args.output.now) (string_bytes c.args.text.now) (string_bytes c.push_shown.new.text) refl c.in_ok-push_shown-in_default.ensures);
       on = stays_put c.args.talk.now.sitting;
       grows = λ never. stays_known (g.W.Write.contents c.args.output.now);

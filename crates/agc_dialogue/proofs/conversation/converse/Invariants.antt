@@ -5,5 +5,5 @@ use Rattle.agc_dialogue.proofs.conversation.converse.Given as goal
 
 abbrev pub invariant-loop-line : goal.invariant-loop-line
 invariant-loop-line g l =
-    Goes (g.R.Read.remaining l.fn.input) (reader_remaining (λ r. g.R.Read.remaining r.now) l.reader) (at_start l.fn.sitting) l.talk
+    Goes l.fn.names (g.R.Read.remaining l.fn.input) (reader_remaining (λ r. g.R.Read.remaining r.now) l.reader) (at_start l.fn.sitting) l.talk
     (g.W.Write.contents l.fn.output) (g.W.Write.contents l.output)

@@ -8,12 +8,12 @@ use Rattle.agc_dialogue.proofs.conversation.go_back.Goals as goal
 
 pub returns-in_default : goal.returns-in_default
 returns-in_default g c =
-    inr (ran_out (Ok (Some (command.Back c.args.cycle))) c.args.talk c.args.talk _ _ _ (inr (stays_put c.args.talk.sitting))
+    inr (ran_out c.args.names.now (Ok (Some (command.Back c.args.cycle))) c.args.talk c.args.talk _ _ _ (inr (stays_put c.args.talk.sitting))
     (stays_known (g.W.Write.contents c.args.output.now)) c.in_ok-write_text.ensures.ok)
 
 pub returns-in-Ok-back : goal.returns-in-Ok-back
 returns-in-Ok-back g c =
-    inl (tells_same _ _ _ _ _ (answered_back c.args.cycle c.args.talk) (
+    inl (tells_same _ _ _ _ _ (answered_back c.args.names.now c.args.cycle c.args.talk) (
       c.in-Ok-back.ensures.ok,
       end_written _ _ (string_bytes c.in-Ok.text) (string_bytes c.push_end.new.text) c.deref.result.now c.in-Ok-back.earlier _
           c.in-Ok.ensures.bytes c.in_ok-push_end-in-Ok-back.ensures c.deref.ensures c.in-Ok-back.ensures.ok c.in_ok-write_text-in-Ok-back.ensures.ok,
@@ -21,5 +21,5 @@ returns-in-Ok-back g c =
 
 pub returns : goal.returns
 returns g c =
-    inr (ran_out (Ok (Some (command.Back c.args.cycle))) c.args.talk c.in-Err.same _ _ _ (inr (same_goes c.args.talk c.in-Err.same c.in-Err.ensures.err))
+    inr (ran_out c.args.names.now (Ok (Some (command.Back c.args.cycle))) c.args.talk c.in-Err.same _ _ _ (inr (same_goes c.args.talk c.in-Err.same c.in-Err.ensures.err))
     (stays_known (g.W.Write.contents c.args.output.now)) c.in_ok-write_text-in-Err.ensures.ok)

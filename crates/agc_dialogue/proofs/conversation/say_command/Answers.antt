@@ -7,11 +7,11 @@ use Rattle.agc_dialogue.proofs.conversation.say_command.Goals as goal
 pub returns-in-Give-clause-said : goal.returns-in-Give-clause-said
 returns-in-Give-clause-said g c =
     when_both c.push_given.result c.push_given.ensures.gone c.push_given.ensures.said
-    (λ gone said. tells_same _ _ _ _ _ (answered_event _ c.in-Give.what c.args.talk.now c.in-Give.is)
+    (λ gone said. tells_same _ _ _ _ _ (answered_event c.args.names.now _ c.in-Give.what c.args.talk.now c.in-Give.is)
     (tells_waiting _ _ (g.W.Write.contents c.args.output.now) (string_bytes c.args.text.now) (string_bytes c.push_given.new.text) gone said))
 
 pub returns-in-Give-clause-left : goal.returns-in-Give-clause-left
-returns-in-Give-clause-left g c = left_same _ _ _ _ (answered_event _ c.in-Give.what c.args.talk.now c.in-Give.is) c.push_given.ensures.left
+returns-in-Give-clause-left g c = left_same _ _ _ _ (answered_event c.args.names.now _ c.in-Give.what c.args.talk.now c.in-Give.is) c.push_given.ensures.left
 
 pub returns-in-Give-clause-grows : goal.returns-in-Give-clause-grows
 returns-in-Give-clause-grows g c never = stays_known _
@@ -19,7 +19,7 @@ returns-in-Give-clause-grows g c never = stays_known _
 pub returns-in_ok-carry_out-in_default-clause-said : goal.returns-in_ok-carry_out-in_default-clause-said
 returns-in_ok-carry_out-in_default-clause-said g c =
     when_ok c.push_end.result c.push_end.ensures
-    (λ said. tells_same _ _ _ _ _ (answered_other c.args.command c.args.talk.now c.in_default.not-Give)
+    (λ said. tells_same _ _ _ _ _ (answered_other c.args.names.now c.args.command c.args.talk.now c.in_default.not-Give)
     (tells_end _ _ _ (g.W.Write.contents c.carry_out.new.output) (string_bytes c.carry_out.new.text) (string_bytes c.push_end.new.text) c.in_ok-carry_out-in_default.ensures.told said))
 
 pub returns-in_ok-carry_out-in_default-clause-left : goal.returns-in_ok-carry_out-in_default-clause-left

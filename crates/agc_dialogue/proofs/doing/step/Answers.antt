@@ -1,6 +1,6 @@
 use Rattle.std.proofs.Common.{ℕ, ◌+◌, ◌-◌, ap, string_bytes, sym, ◌∙◌, arith}
 use Rattle.std.proofs.lemmas.Result.{err_from_is_err_and}
-use Rattle.agc_trace.specs.Line.{line_of}
+use Rattle.agc_trace.specs.NamedLine.{line_with}
 use Rattle.agc_trace.proofs.Lines.{written_whole}
 use Rattle.agc_dialogue.specs.Talk.{after_boundaries}
 use Rattle.agc_dialogue.proofs.Going.{goes_then, stays_put}
@@ -9,15 +9,15 @@ use Rattle.agc_dialogue.proofs.Telling.{grows_then, pushed, stays_known}
 use Rattle.agc_dialogue.proofs.doing.step.Goals as goal
 
 pub loop-boundary-init : goal.loop-boundary-init
-loop-boundary-init g c = (none_taken _ _ c.args.talk.now.sitting.now _ (omega arith), ap (λ (n : ℕ). after_boundaries n c.args.talk.now) (omega arith), stays_put _, stays_known _)
+loop-boundary-init g c = (none_taken c.args.names.now _ _ c.args.talk.now.sitting.now _ (omega arith), ap (λ (n : ℕ). after_boundaries n c.args.talk.now) (omega arith), stays_put _, stays_known _)
 
 pub returns-then-is_stop-clause-lines : goal.returns-then-is_stop-clause-lines
 returns-then-is_stop-clause-lines g c =
     let line =
     pushed (g.W.Write.contents c.loop-boundary.output) (g.W.Write.contents c.write_part.new.output) (string_bytes c.loop-boundary.text)
-    (string_bytes c.push_line.new.text) (string_bytes c.write_part.new.text) (line_of c.next_entry-entry.result)
-    c.in_ok-push_line.ensures c.in_ok-write_part.ensures.same in
-    stop_said _ (c.args.boundaries - (c.loop-boundary._boundary + 1)) _ c.next_entry-entry.result _ _ _ _
+    (string_bytes c.push_line_with.new.text) (string_bytes c.write_part.new.text) (line_with c.args.names.now c.next_entry-entry.result)
+    c.in_ok-push_line_with.ensures c.in_ok-write_part.ensures.same in
+    stop_said c.args.names.now _ (c.args.boundaries - (c.loop-boundary._boundary + 1)) _ c.next_entry-entry.result _ _ _ _
     (omega (arith, c.loop-boundary-test.true)) c.next_entry-entry.ensures.entry
     (sym c.is_stop.ensures ∙ c.if-is_stop.true) c.loop-boundary.invariant.0 line
 
@@ -25,9 +25,9 @@ pub loop-boundary-preserved : goal.loop-boundary-preserved
 loop-boundary-preserved g c =
     let line =
     pushed (g.W.Write.contents c.loop-boundary.output) (g.W.Write.contents c.write_part.new.output) (string_bytes c.loop-boundary.text)
-    (string_bytes c.push_line.new.text) (string_bytes c.write_part.new.text) (line_of c.next_entry-entry.result)
-    c.in_ok-push_line.ensures c.in_ok-write_part.ensures.same in (
-      one_said _ (c.args.boundaries - (c.loop-boundary._boundary + 1)) _ _ c.next_entry-entry.result _ _ _ _
+    (string_bytes c.push_line_with.new.text) (string_bytes c.write_part.new.text) (line_with c.args.names.now c.next_entry-entry.result)
+    c.in_ok-push_line_with.ensures c.in_ok-write_part.ensures.same in (
+      one_said c.args.names.now _ (c.args.boundaries - (c.loop-boundary._boundary + 1)) _ _ c.next_entry-entry.result _ _ _ _
           (omega (arith, c.loop-boundary-test.true)) c.next_entry-entry.ensures.entry c.next_entry-entry.ensures.now
           (sym c.is_stop.ensures ∙ c.if-is_stop.false) c.loop-boundary.invariant.0 line,
       sym (boundaries_on _ (c.args.boundaries - (c.loop-boundary._boundary + 1)) c.loop-boundary.talk c.next_entry-entry.new.talk (omega (arith, c.loop-boundary-test.true))
@@ -38,7 +38,7 @@ loop-boundary-preserved g c =
 
 pub returns-clause-lines : goal.returns-clause-lines
 returns-clause-lines g c =
-    written_whole _ _ _ _ (all_taken _ c.loop-boundary.talk.sitting.now (omega (arith, c.loop-boundary-test.false))) c.loop-boundary.invariant.0
+    written_whole _ _ _ _ (all_taken c.args.names.now _ c.loop-boundary.talk.sitting.now (omega (arith, c.loop-boundary-test.false))) c.loop-boundary.invariant.0
 
 pub returns-then-is_stop-clause-gone : goal.returns-then-is_stop-clause-gone
 returns-then-is_stop-clause-gone g c =
@@ -57,8 +57,8 @@ returns-then-is_stop-clause-on g c = goes_then _ _ _ c.loop-boundary.invariant.2
 pub returns-then-is_stop-clause-grows : goal.returns-then-is_stop-clause-grows
 returns-then-is_stop-clause-grows g c never = grows_then _ _ _ c.loop-boundary.invariant.3 (c.in_ok-write_part.ensures.grows (λ e. cc))
 
-pub returns-in_err-push_line-clause-on : goal.returns-in_err-push_line-clause-on
-returns-in_err-push_line-clause-on g c = goes_then _ _ _ c.loop-boundary.invariant.2 c.next_entry-entry.ensures.on
+pub returns-in_err-push_line_with-clause-on : goal.returns-in_err-push_line_with-clause-on
+returns-in_err-push_line_with-clause-on g c = goes_then _ _ _ c.loop-boundary.invariant.2 c.next_entry-entry.ensures.on
 
 pub returns-in_err-write_part-clause-on : goal.returns-in_err-write_part-clause-on
 returns-in_err-write_part-clause-on g c = goes_then _ _ _ c.loop-boundary.invariant.2 c.next_entry-entry.ensures.on

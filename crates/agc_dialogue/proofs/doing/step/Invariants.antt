@@ -10,7 +10,7 @@ abbrev pub invariant-loop-boundary : goal.invariant-loop-boundary
 invariant-loop-boundary g l =
     IsWritten (append_known (g.W.Write.contents l.initial.output) (string_bytes l.initial.text))
     (append_known (g.W.Write.contents l.output) (string_bytes l.text))
-    (lines (l.boundaries - l._boundary) l.talk.sitting.now) (lines l.boundaries l.initial.talk.sitting.now)
+    (lines l.fn.names (l.boundaries - l._boundary) l.talk.sitting.now) (lines l.fn.names l.boundaries l.initial.talk.sitting.now)
     × (after_boundaries (l.boundaries - l._boundary) l.talk ≡ after_boundaries l.boundaries l.initial.talk)
     × GoesOn l.initial.talk.sitting l.talk.sitting
     × Grows (g.W.Write.contents l.initial.output) (g.W.Write.contents l.output)

@@ -5,19 +5,19 @@ use Rattle.agc_dialogue.proofs.Input.{empty_items, ended_line, fed_line, no_more
 use Rattle.agc_dialogue.proofs.lines.next_line.Goals as goal
 
 pub returns-in-Some-eq10 : goal.returns-in-Some-eq10
-returns-in-Some-eq10 g c =
+returns-in-Some-eq10 g c names =
     let fed : c.in_ok-next_byte.field-0 ≡ Some 10 = cc (c.in-Some-eq10.is, c.in-Some-eq10.field-0-is, c.in-Some-eq10.field-0-test) in
-    fed_line _ _ _ _ _ c.loop-byte.invariant (read_as _ _ _ _ fed c.in_ok-next_byte.ensures) c.without_return.ensures
+    fed_line names _ _ _ _ _ c.loop-byte.invariant (read_as _ _ _ _ fed c.in_ok-next_byte.ensures) c.without_return.ensures
 
 pub returns-in-None : goal.returns-in-None
-returns-in-None g c =
-    no_more_lines _ _ _ _ c.loop-byte.invariant (read_as _ _ _ _ c.in-None.is c.in_ok-next_byte.ensures)
+returns-in-None g c names =
+    no_more_lines names _ _ _ _ c.loop-byte.invariant (read_as _ _ _ _ c.in-None.is c.in_ok-next_byte.ensures)
     (empty_items c.loop-byte.line.items (grind (arith, nat_tests)))
 
 pub returns-in-None-2 : goal.returns-in-None-2
-returns-in-None-2 g c =
+returns-in-None-2 g c names =
     let some : 0 < length c.loop-byte.line.items = grind (arith, nat_tests) in
-    ended_line _ _ _ _ _ c.loop-byte.invariant (read_as _ _ _ _ c.in-None-2.is c.in_ok-next_byte.ensures) (some_items c.loop-byte.line.items some)
+    ended_line names _ _ _ _ _ c.loop-byte.invariant (read_as _ _ _ _ c.in-None-2.is c.in_ok-next_byte.ensures) (some_items c.loop-byte.line.items some)
     c.without_return-in-None-2.ensures
 
 pub loop-byte-preserved : goal.loop-byte-preserved

@@ -1,0 +1,65 @@
+-- The place that a word stands for: that which it writes, or that of a name, and a number of words beyond it or before it.
+use Rattle.std.specs.Prelude.{ℕ, ◌+◌, ◌-◌, nat_lt, nat_le, false, List, take, drop, position, find}
+use Rattle.std.specs.Prelude.{Option, Some, None, option_map, if◌then◌else◌}
+use Rattle.std.specs.Option.{option_or}
+use Rattle.std.specs.Str.{bytes_eq}
+use Rattle.agc_source_words.specs.Location.{location_named}
+use Rattle.agc_source_words.specs.Number.{is_sign, offset_named}
+use Rattle.agc_source_words.specs.declared.location.Location.{Location}
+use Rattle.agc_source_words.specs.declared.location.Location.TheVariants as location
+use Rattle.agc_source_words.specs.declared.number.Signed.{Signed}
+use Rattle.agc_names.specs.Names.{Named}
+
+-- where the first name stands that is this word
+unfoldable pub place_of_name : List Named → List ℕ → Option Location
+place_of_name names word =
+    option_map (λ named. named.place) (find (λ named. bytes_eq named.name word) names)
+
+-- a number so much greater or smaller
+abbrev pub number_by : Signed → ℕ → Option ℕ
+number_by by n =
+    if by.minus
+    then (if nat_le by.magnitude n then Some (n - by.magnitude) else None)
+    else Some (n + by.magnitude)
+
+-- a place, and a cell, that the memory has
+abbrev pub fixed_within : Option ℕ → Option Location
+fixed_within (Some place) = if nat_lt place 0o110000 then Some (location.Fixed place) else None
+fixed_within None = None
+
+abbrev pub cell_within : Option ℕ → Option Location
+cell_within (Some cell) = if nat_lt cell 0o4000 then Some (location.Erasable cell) else None
+cell_within None = None
+
+-- so many words beyond a place, or before it, in the same memory
+abbrev pub location_by : Signed → Location → Option Location
+location_by by (location.Fixed place) = fixed_within (number_by by place)
+location_by by (location.Erasable cell) = cell_within (number_by by cell)
+
+abbrev pub moved : Option Signed → Option Location → Option Location
+moved (Some by) (Some at) = location_by by at
+moved (Some by) None = None
+moved None at = None
+
+abbrev pub no_step : Signed
+no_step = record { minus = false; magnitude = 0 }
+
+-- a name with a number after it, which its sign begins
+abbrev pub place_cut : List Named → Option ℕ → List ℕ → Option Location
+place_cut names (Some at) word =
+    moved (offset_named (drop at word)) (place_of_name names (take at word))
+place_cut names None word = None
+
+-- `NAME`, or else `NAME+n` or `NAME-n`, cut before the first sign
+unfoldable pub place_called : List Named → List ℕ → Option Location
+place_called names word =
+    option_or (moved (Some no_step) (place_of_name names word))
+    (place_cut names (position is_sign word) word)
+
+-- the place that a word writes, or else the one that it calls by its name
+abbrev pub called_in : Option (List Named) → List ℕ → Option Location
+called_in (Some names) word = place_called names word
+called_in None word = None
+
+unfoldable pub place_said : Option (List Named) → List ℕ → Option Location
+place_said names word = option_or (location_named word) (called_in names word)
