@@ -6,7 +6,7 @@ use Rattle.std.specs.Io.KnownBytes.{Appends}
 use Rattle.agc_machine.specs.Boundary.{boundary, upcoming_of}
 use Rattle.agc_machine.specs.State.{State}
 use Rattle.agc_names.specs.Names.{Named}
-use Rattle.agc_trace.specs.NamedLine.{line_with}
+use Rattle.agc_trace.specs.NamedLine.{watched_line}
 use Rattle.agc_trace.specs.Selection.{is_selected, kept, last_of, lines_of, selected, selected_lines}
 use Rattle.agc_trace.specs.Trace.{is_stop}
 use Rattle.agc_trace.specs.Watch.{Watched, watch_of, watched_of}
@@ -26,13 +26,13 @@ no_entry_by false entry rest e = refl
 -- the lines of two lists, one after the other
 pub lines_of-append : (names : Option (List Named)) (xs ys : List Watched) → lines_of names (xs ++ ys) ≡ lines_of names xs ++ lines_of names ys
 unfolding lines_of
-lines_of-append names xs ys = flat_map-append (line_with names) xs ys
+lines_of-append names xs ys = flat_map-append (watched_line names) xs ys
 
 pub lines_of-none : (names : Option (List Named)) → lines_of names [] ≡ []
 unfolding lines_of
 lines_of-none names = refl
 
-pub lines_of-cons : (names : Option (List Named)) (entry : Watched) (entries : List Watched) → lines_of names (entry ∷ entries) ≡ line_with names entry ++ lines_of names entries
+pub lines_of-cons : (names : Option (List Named)) (entry : Watched) (entries : List Watched) → lines_of names (entry ∷ entries) ≡ watched_line names entry ++ lines_of names entries
 unfolding lines_of
 lines_of-cons names entry entries = refl
 
@@ -113,9 +113,9 @@ written_more start now new line left whole h k =
 
 -- a line is that of the same entry and changes, whichever way they are had
 pub line_as : (names : Option (List Named)) (now new : Option (List ℕ)) (x : Watched) (entry : Entry) (changes items : List Change) → changes ≡ items →
-    record { entry = entry; changes = items } ≡ x → Appends now new (line_with names (record { entry = entry; changes = changes })) → Appends now new (line_with names x)
+    record { entry = entry; changes = items } ≡ x → Appends now new (watched_line names (record { entry = entry; changes = changes })) → Appends now new (watched_line names x)
 line_as names now new x entry changes items e f h =
-    subst (λ (y : Watched). Appends now new (line_with names y)) (ap (λ (cs : List Change). record { entry = entry; changes = cs }) e ∙ f) h
+    subst (λ (y : Watched). Appends now new (watched_line names y)) (ap (λ (cs : List Change). record { entry = entry; changes = cs }) e ∙ f) h
 
 module _ (names : Option (List Named)) (w : Selection) (cells : List ℕ) where
   -- one more line is written, and what is left is that of the next boundary's watch

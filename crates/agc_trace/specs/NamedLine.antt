@@ -41,7 +41,11 @@ unfoldable pub text_with : Option (List Named) → Entry → List ℕ
 text_with (Some names) entry = named_text names entry
 text_with None entry = entry_text entry
 
+-- the line of an entry, with names where there are any
+unfoldable pub line_with : Option (List Named) → Entry → List ℕ
+line_with names entry = text_with names entry ++ codes "\n"
+
 -- the line of an entry, with the cells that its boundary changes after the registers
-unfoldable pub line_with : Option (List Named) → Watched → List ℕ
-line_with names watched =
+unfoldable pub watched_line : Option (List Named) → Watched → List ℕ
+watched_line names watched =
     text_with names watched.entry ++ changes_text watched.changes ++ codes "\n"

@@ -19,7 +19,7 @@ use Rattle.agc_machine.specs.declared.upcoming.Upcoming.{Upcoming}
 use Rattle.agc_machine.specs.declared.upcoming.Upcoming.TheVariants as upcoming
 use Rattle.agc_names.specs.Names.{Named}
 use Rattle.agc_trace.specs.Change.{named_cells}
-use Rattle.agc_trace.specs.NamedLine.{line_with}
+use Rattle.agc_trace.specs.NamedLine.{watched_line}
 use Rattle.agc_trace.specs.Places.{has_place}
 use Rattle.agc_trace.specs.Trace.{is_stop}
 use Rattle.agc_trace.specs.Watch.{Watched, watch_of}
@@ -160,7 +160,7 @@ kept (Some most) entries = last_of most entries
 
 -- the lines of entries, with names where there are any
 unfoldable pub lines_of : Option (List Named) → List Watched → List ℕ
-lines_of names entries = flat_map (line_with names) entries
+lines_of names entries = flat_map (watched_line names) entries
 
 -- the lines of the entries that are selected, or of the last so many of them
 unfoldable pub selected_lines : Option (List Named) → Selection → List Watched → List ℕ

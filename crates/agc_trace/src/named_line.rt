@@ -10,6 +10,7 @@ ghost use Rattle.agc_trace.specs.NamedLine.{
   named_order,
   named_text,
   text_with,
+  watched_line,
 };
 
 use crate::change::{Change, push_changes};
@@ -22,11 +23,25 @@ use agc_source_words::location_at;
 use agc_word::Narrow;
 use std::alloc::AllocError;
 
-/// Adds the line of an entry, as `push_line` does, and after the registers what its boundary has changed of some cells,
-/// ` | PLACE WORD to WORD` for each. Where names are given, an order has between its place and its word the column of that
-/// place: its name and blanks, thirteen characters. Fails where memory runs out.
+/// Adds the line of an entry, as `push_line` does. Where names are given, an order has between its place and its word the
+/// column of that place: its name and blanks, thirteen characters. Fails where memory runs out.
 #[tactic(auto, unfolding(crate::specs::NamedLine::line_with))]
 pub fn push_line_with(
+    text: &mut String,
+    names: &Option<NameTable>,
+    entry: &Entry,
+) -> Result<(), AllocError>
+    requires { FitsLine entry.now }
+    ensures { OnOk result
+        (string_bytes text.new ≡ string_bytes text.old ++ line_with names.now entry.now) }
+{
+    push_entry_with(text, names, entry)?;
+    text.push_str("\n")
+}
+
+/// Adds that line with what its boundary has changed of some cells, after the registers: ` | PLACE WORD to WORD` for each.
+#[tactic(auto, unfolding(crate::specs::NamedLine::watched_line))]
+pub(crate) fn push_watched_line(
     text: &mut String,
     names: &Option<NameTable>,
     entry: &Entry,
@@ -34,7 +49,7 @@ pub fn push_line_with(
 ) -> Result<(), AllocError>
     requires { FitsLine entry.now }
     ensures { OnOk result (string_bytes text.new ≡ string_bytes text.old
-        ++ line_with names.now (record { entry = entry.now; changes = changes.now })) }
+        ++ watched_line names.now (record { entry = entry.now; changes = changes.now })) }
 {
     push_entry_with(text, names, entry)?;
     push_changes(text, changes)?;

@@ -3,7 +3,7 @@ ghost use Rattle.std.specs.Prelude.{◌≡◌, [], ◌∷◌, OnOk, IfOk, IfErr}
 ghost use Rattle.std.specs.Io.KnownBytes.{Appends, Keeps};
 ghost use Rattle.agc_trace.specs.Cut.{IsCut};
 ghost use Rattle.agc_trace.specs.Entry.{FitsLine};
-ghost use Rattle.agc_trace.specs.NamedLine.{line_with};
+ghost use Rattle.agc_trace.specs.NamedLine.{watched_line};
 ghost use Rattle.agc_trace.specs.Selection.{last_of, lines_of, selected, selected_lines, watch_for};
 ghost use Rattle.agc_trace.specs.Service.{service_left};
 ghost use Rattle.agc_trace.specs.Trace.{trace_of};
@@ -11,7 +11,7 @@ ghost use Rattle.agc_trace.specs.Trace.{trace_of};
 use crate::change::{Change, look, see_named};
 use crate::entry::{Entry, next_entry};
 use crate::last::write_last;
-use crate::named_line::push_line_with;
+use crate::named_line::push_watched_line;
 use crate::selection::Selection;
 use crate::service::{Service, service_after};
 use agc_machine::{Machine, Stepped};
@@ -147,12 +147,12 @@ pub(crate) fn write_line<W: Write>(
 ) -> Result<(), TraceFault>
     requires { FitsLine entry.now }
     ensures line { OnOk result (Appends (W.contents out.old) (W.contents out.new)
-        (line_with names.now (record { entry = entry.now; changes = changes.now }))) }
+        (watched_line names.now (record { entry = entry.now; changes = changes.now }))) }
     ensures kept { IfErr result (λ why. why ≡ TraceFault.Memory
         → Keeps (W.contents out.old) (W.contents out.new)) }
 {
     let mut line = String::new(alloc);
-    if push_line_with(&mut line, names, entry, changes).is_err() {
+    if push_watched_line(&mut line, names, entry, changes).is_err() {
         return Err(TraceFault::Memory);
     }
     match out.write_all(line.as_bytes()) {

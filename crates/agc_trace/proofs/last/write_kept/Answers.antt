@@ -1,6 +1,6 @@
 use Rattle.std.proofs.Common.{ℕ, ◌<◌, List, length, get_or, ap, sym, ◌∙◌, subst}
 use Rattle.std.proofs.lemmas.List.Elements.{All-drop}
-use Rattle.agc_trace.specs.NamedLine.{line_with}
+use Rattle.agc_trace.specs.NamedLine.{watched_line}
 use Rattle.agc_trace.specs.Selection.{lines_of}
 use Rattle.agc_trace.specs.Watch.{FitsWatched, Watched}
 use Rattle.agc_trace.proofs.Kept.{nothing_left}
@@ -11,7 +11,7 @@ pub loop-kept-preserved : goal.loop-kept-preserved
 loop-kept-preserved g c =
     let next = ap (λ (xs : List Watched). lines_of c.args.names.now xs) c.in-Some.ensures.items ∙ lines_of-cons c.args.names.now c.in-Some.kept c.pop_front.new.self.items in
     record {
-      written = written_more _ _ _ (line_with c.args.names.now c.in-Some.kept) (lines_of c.args.names.now c.pop_front.new.self.items) _
+      written = written_more _ _ _ (watched_line c.args.names.now c.in-Some.kept) (lines_of c.args.names.now c.pop_front.new.self.items) _
           (subst (λ (xs : List ℕ). IsWritten (g.W.Write.contents c.args.out.now) (g.W.Write.contents c.loop-kept.out) xs (lines_of c.args.names.now c.args.last.now.items))
           next c.loop-kept.invariant.written)
           (line_as c.args.names.now _ _ _ _ _ _ c.as_slice.ensures.value c.kept.view_is c.in_ok-write_line.ensures.line);
