@@ -85,7 +85,7 @@ fn see(cell: Cell, store: &Store) -> Seen
 }
 
 /// Looks at cells again after a boundary: what it has changed of them is told, and they are kept with the words
-/// that they have now.
+/// that they have now. Where there are none, that costs next to nothing.
 #[inline]
 pub(crate) fn look(
     alloc: Global,
@@ -98,16 +98,13 @@ pub(crate) fn look(
     ensures seen { OnOk result (seen.new.items
         ≡ map (λ s. seen_in machine.now.processor.store s.cell) seen.old.items) }
 {
-    if has_changed(seen.as_slice(), machine.store()) {
-        look_closely(alloc, machine.store(), seen, changes)
-    } else {
-        changes.clear();
-        Ok(())
+    if seen.is_empty() && changes.is_empty() {
+        return Ok(());
     }
+    look_at_some(alloc, machine.store(), seen, changes)
 }
 
-/// The same where a cell has changed.
-fn look_closely(
+fn look_at_some(
     alloc: Global,
     store: &Store,
     seen: &mut Vec<Seen>,
@@ -117,6 +114,10 @@ fn look_closely(
     ensures seen { OnOk result
         (seen.new.items ≡ map (λ s. seen_in store.now s.cell) seen.old.items) }
 {
+    if !has_changed(seen.as_slice(), store) {
+        changes.clear();
+        return Ok(());
+    }
     *changes = changes_since(alloc, seen.as_slice(), store)?;
     *seen = see_again(alloc, seen.as_slice(), store)?;
     Ok(())
