@@ -2,6 +2,7 @@
 mod check;
 mod compare;
 mod count;
+mod jobs;
 mod misnamed;
 mod names;
 mod progress;
