@@ -3,6 +3,7 @@ mod check;
 mod compare;
 mod count;
 mod film;
+mod jobs;
 mod misnamed;
 mod names;
 mod progress;

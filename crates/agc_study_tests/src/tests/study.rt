@@ -2,12 +2,13 @@
 mod ends;
 
 use agc_args::ArgsFault;
-use agc_asked::{Asked, Comparing, Filming, asked_by};
+use agc_asked::{Asked, Comparing, Filming, Watching, asked_by};
 use agc_film::{Part, RunFiles};
+use agc_jobs::Span;
 use agc_progress::Untold;
 use agc_results::{
     Trouble, check_files, check_key_file, check_listing_file, check_with, compare_files,
-    film_files, list_rope, weave_text,
+    film_files, list_rope, status_of_untraced, watch_files, weave_text,
 };
 use agc_rope_listing::LineFault;
 use agc_session::Refusal;
@@ -67,6 +68,7 @@ fn help(rt: HostRuntime) {
         ("agc-study trace --help", "SCRIPT"),
         ("agc-study trace --help", "--until"),
         ("agc-study trace --help", "--only"),
+        ("agc-study jobs --help", "--watch"),
         ("agc-study compare --help", "--limit"),
         ("agc-study compare --help", "--by"),
         ("agc-study compare --help", "--brief"),
@@ -101,6 +103,8 @@ fn mistakes(rt: HostRuntime) {
         "agc-study trace rope script --limit ten",
         "agc-study trace rope script --limit 10 --only orders",
         "agc-study film rope script --limit 10 --from 3 --to 2",
+        "agc-study jobs rope script --limit 10",
+        "agc-study jobs rope script --limit 10 --watch 0,0,0,0,0,0,0 --from 3 --to 2",
         "agc-study compare rope script rope --limit 10",
         "agc-study compare rope script rope script",
         "agc-study compare rope script rope script --limit 10 --by pictures",
@@ -411,6 +415,52 @@ fn runs_are_filmed(rt: HostRuntime) -> Result<(), Fail> {
     Ok(())
 }
 
+/// Where a run's tables are asked for, the text of `--watch` is looked at after the files.
+#[test]
+fn tables_are_watched(rt: HostRuntime) -> Result<(), Fail> {
+    let alloc = rt.alloc();
+    for (rope, watch, told) in [
+        (
+            &[0x30, 0x00][..],
+            "7,0,0,7,0,7",
+            "agc-study: watch: BadSpec\n",
+        ),
+        (
+            &[0x30, 0x00],
+            "7,0,0,7,0,7,400",
+            "agc-study: watch: OutOfErasable\n",
+        ),
+        (&[], "7,0,0,7,0,7", "agc-study: rope: Empty\n"),
+        (&[0x30, 0x00], "7,0,0,7,0,7,0", ""),
+    ] {
+        let asked = Watching {
+            rope: String::new(alloc),
+            script: String::new(alloc),
+            form: RopeForm::Classic,
+            limit: 10,
+            until: None,
+            watch: String::from_str(alloc, watch)?,
+            span: Span { from: 10, to: 10 },
+        };
+        let mut rope: &[u8] = rope;
+        let mut script: &[u8] = b"";
+        let mut out = Vec::new(alloc);
+        let mut err = Vec::new(alloc);
+        match watch_files(alloc, &asked, &mut rope, &mut script, &mut out, &mut Untold) {
+            Ok(machine) => {
+                assert_eq!(rt; machine.cycle(), 10);
+                assert!(rt; out.as_slice().starts_with(b"10 LST1 00000 "));
+            }
+            Err(untraced) => {
+                assert_eq!(rt; status_of_untraced(untraced, &mut err), 2);
+                assert!(rt; out.is_empty());
+            }
+        }
+        assert!(rt; err.as_slice() == told.as_bytes());
+    }
+    Ok(())
+}
+
 /// What is told is how far it is to the cycle after which nothing is printed.
 #[test]
 fn last_cycles(rt: HostRuntime) {
@@ -422,6 +472,10 @@ fn last_cycles(rt: HostRuntime) {
             10,
         ),
         ("agc-study compare rope script rope script --limit 10", 10),
+        (
+            "agc-study jobs rope script --limit 10 --watch 0,0,0,0,0,0,0 --to 7",
+            7,
+        ),
         ("agc-study film rope script --limit 10", 10),
         ("agc-study film rope script --limit 10 --to 7", 7),
         ("agc-study list rope", 0),
