@@ -21,25 +21,31 @@ pub enum Asked {
 
 impl Asked {
     /// The files to be read, in the order in which they are.
-    pub fn paths(&self) -> [Option<&str>; 4] {
+    pub fn paths(&self) -> [Option<&str>; 6] {
         match self {
             Asked::List(asked) => [
                 asked.names.as_deref(),
                 Some(asked.rope.as_str()),
                 None,
                 None,
+                None,
+                None,
             ],
-            Asked::Weave(asked) => [Some(asked.text.as_str()), None, None, None],
+            Asked::Weave(asked) => [Some(asked.text.as_str()), None, None, None, None, None],
             Asked::Check(asked) => asked.paths(),
             Asked::Trace(asked) => [
                 asked.names.as_deref(),
                 Some(asked.rope.as_str()),
                 Some(asked.script.as_str()),
                 None,
+                None,
+                None,
             ],
             Asked::Count(asked) => [
                 Some(asked.rope.as_str()),
                 Some(asked.script.as_str()),
+                None,
+                None,
                 None,
                 None,
             ],
@@ -89,7 +95,7 @@ pub struct Checking {
 }
 
 impl Checking {
-    fn paths(&self) -> [Option<&str>; 4] {
+    fn paths(&self) -> [Option<&str>; 6] {
         let keys = self.keys.as_deref();
         let listing = self.listing.as_deref();
         match &self.run {
@@ -98,8 +104,10 @@ impl Checking {
                 listing,
                 Some(run.rope.as_str()),
                 Some(run.script.as_str()),
+                None,
+                None,
             ],
-            None => [keys, listing, None, None],
+            None => [keys, listing, None, None, None, None],
         }
     }
 }
@@ -169,6 +177,10 @@ pub struct Comparing {
     pub until: Option<String>,
     /// How they are compared by what shows; with `None` they are compared boundary by boundary.
     pub shown: Option<ByShown>,
+    /// The text file of names, of both runs or of the one on the left.
+    pub names: Option<String>,
+    /// The text file of names of the run on the right, where it has its own.
+    pub other_names: Option<String>,
 }
 
 /// How two runs are compared by what shows.
@@ -180,8 +192,10 @@ pub struct ByShown {
 }
 
 impl Comparing {
-    fn paths(&self) -> [Option<&str>; 4] {
+    fn paths(&self) -> [Option<&str>; 6] {
         [
+            self.names.as_deref(),
+            self.other_names.as_deref(),
             Some(self.rope.as_str()),
             Some(self.script.as_str()),
             Some(self.other_rope.as_str()),
@@ -205,7 +219,7 @@ pub struct Filming {
 }
 
 impl Filming {
-    fn paths(&self) -> [Option<&str>; 4] {
+    fn paths(&self) -> [Option<&str>; 6] {
         let (rope, script) = (self.files.rope.as_str(), self.files.script.as_str());
         match &self.other {
             Some(other) => [
@@ -213,8 +227,10 @@ impl Filming {
                 Some(script),
                 Some(other.rope.as_str()),
                 Some(other.script.as_str()),
+                None,
+                None,
             ],
-            None => [Some(rope), Some(script), None, None],
+            None => [Some(rope), Some(script), None, None, None, None],
         }
     }
 }

@@ -120,7 +120,8 @@ fn compare_command<'a>(alloc: Global) -> Result<Command<'a>, AllocError> {
         .arg(form_option(alloc))?
         .arg(until_option(alloc))?
         .arg(by_option(alloc))?
-        .arg(brief_option(alloc)?)
+        .arg(brief_option(alloc)?)?
+        .arg(names_of_runs(alloc)?)
 }
 
 fn film_command<'a>(alloc: Global) -> Result<Command<'a>, AllocError> {
@@ -283,6 +284,17 @@ fn names_option<'a>(alloc: Global) -> Arg<'a> {
         .help(
             "Print the names of places too, which this file gives: a place and its name, a line each",
         )
+}
+
+fn names_of_runs<'a>(alloc: Global) -> Result<Arg<'a>, AllocError> {
+    Arg::new(alloc, "names")
+        .long("names")
+        .value_name("FILE")
+        .action(ArgAction::Append)
+        .help(
+            "Print the names of places too, which this file gives: a place and its name, a line each; said again for the run on the right",
+        )
+        .conflicts_with("by")
 }
 
 fn names_file<'a>(alloc: Global) -> Arg<'a> {

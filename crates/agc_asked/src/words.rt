@@ -160,6 +160,7 @@ fn tracing_of(alloc: Global, given: &ArgMatches<'_>) -> Result<Tracing, ArgsFaul
 }
 
 fn comparing_of(alloc: Global, given: &ArgMatches<'_>) -> Result<Comparing, ArgsFault> {
+    let (names, other_names) = names_of_runs(alloc, given)?;
     Ok(Comparing {
         rope: path_of(alloc, given, "rope")?,
         script: path_of(alloc, given, "script")?,
@@ -169,7 +170,25 @@ fn comparing_of(alloc: Global, given: &ArgMatches<'_>) -> Result<Comparing, Args
         limit: number_of(given, "limit", 0),
         until: text_of(alloc, given, "until")?,
         shown: shown_of(alloc, given)?,
+        names,
+        other_names,
     })
+}
+
+/// The files of names of two runs: one for both, or one for each.
+fn names_of_runs(
+    alloc: Global,
+    given: &ArgMatches<'_>,
+) -> Result<(Option<String>, Option<String>), ArgsFault> {
+    match given.get_strs("names") {
+        None => Ok((None, None)),
+        Some([both]) => Ok((Some(String::from_str(alloc, both)?), None)),
+        Some([left, right]) => Ok((
+            Some(String::from_str(alloc, left)?),
+            Some(String::from_str(alloc, right)?),
+        )),
+        Some(_) => Err(mistake(alloc, "error: compare takes --names once, or twice\n")),
+    }
 }
 
 fn filming_of(alloc: Global, given: &ArgMatches<'_>) -> Result<Filming, ArgsFault> {

@@ -4,3 +4,4 @@ pub mod Cells
 pub mod Compare
 pub mod Apart
 pub mod Report
+pub mod SideNames

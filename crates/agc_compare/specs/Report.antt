@@ -1,4 +1,4 @@
--- A comparison in print.
+-- A comparison in print, with names of places where they are given.
 use Rattle.std.specs.Prelude.{ℕ, ◌+◌, ◌/◌, ◌%◌, ◌==◌, ◌||◌, nat_lt, if◌then◌else◌}
 use Rattle.std.specs.Prelude.{List, [], ◌++◌, codes, length, flat_map, Option, Some, None}
 use Rattle.std.specs.Fmt.{decimal}
@@ -15,7 +15,8 @@ use Rattle.agc_machine.specs.declared.answer.ChannelWrite.{ChannelWrite}
 use Rattle.agc_rope_listing.specs.Place.{place_text}
 use Rattle.agc_rope_listing.specs.declared.place.Place.{Place}
 use Rattle.agc_rope_listing.specs.declared.place.Place.TheVariants as place
-use Rattle.agc_trace.specs.Line.{line_of}
+use Rattle.agc_names.specs.Names.{Named}
+use Rattle.agc_trace.specs.NamedLine.{line_with}
 use Rattle.agc_script.specs.Written.{word_digits}
 use Rattle.agc_machine.specs.Answer.{stop_name}
 use Rattle.agc_trace.specs.declared.entry.Entry.{Entry}
@@ -26,6 +27,11 @@ use Rattle.agc_compare.specs.declared.comparison.Parting.{Parting}
 use Rattle.agc_compare.specs.declared.follower.End.{End}
 use Rattle.agc_compare.specs.declared.follower.WriteParting.{WriteParting}
 
+-- the names for the lines of each of two runs
+pub record Names : Type 0 where
+  pub left : Option (List Named)
+  pub right : Option (List Named)
+
 -- two runs that are the same
 unfoldable pub same_text : Comparison → List ℕ
 same_text c =
@@ -33,13 +39,14 @@ same_text c =
     ++ decimal c.writes ++ codes " writes, stop at cycle " ++ decimal c.left.cycle ++ codes "\n"
 
 -- a line that both runs have, two spaces in
-unfoldable pub entry_text : Entry → List ℕ
-entry_text entry = codes "  " ++ line_of entry
+unfoldable pub entry_text : Option (List Named) → Entry → List ℕ
+entry_text names entry = codes "  " ++ line_with names entry
 
--- the first boundary that differs, the line of each run
-unfoldable pub parting_text : Parting → List ℕ
-parting_text parting =
-    codes "< " ++ line_of parting.left ++ codes "> " ++ line_of parting.right
+-- the first boundary that differs, the line of each run with its names
+unfoldable pub parting_text : Names → Parting → List ℕ
+parting_text names parting =
+    codes "< " ++ line_with names.left parting.left
+    ++ codes "> " ++ line_with names.right parting.right
 
 -- which boundary differs, and its cycle in each run
 abbrev pub number_text : Parting → List ℕ
@@ -47,11 +54,13 @@ number_text parting =
     codes "The runs part at boundary " ++ decimal parting.number ++ codes ", cycle "
     ++ decimal parting.left.cycle ++ codes " and " ++ decimal parting.right.cycle ++ codes ":\n"
 
--- the first boundary that differs, with the lines before it; or that there is none
-unfoldable pub boundaries_text : Comparison → Option Parting → List ℕ
-boundaries_text c (Some parting) =
-    number_text parting ++ flat_map entry_text c.before.items ++ parting_text parting
-boundaries_text c None =
+-- the first boundary that differs, with the lines before it, which have the names of the run on the left; or that there is
+-- none
+unfoldable pub boundaries_text : Names → Comparison → Option Parting → List ℕ
+boundaries_text names c (Some parting) =
+    number_text parting ++ flat_map (entry_text names.left) c.before.items
+    ++ parting_text names parting
+boundaries_text names c None =
     codes "The runs are the same for " ++ decimal c.boundaries ++ codes " boundaries and "
     ++ decimal c.writes ++ codes " writes, but not in their cells\n"
 
@@ -128,9 +137,9 @@ ends_text left right = codes "< " ++ end_text left ++ codes "> " ++ end_text rig
 -- nothing does: the first boundary with up to five lines before it, the first write, the panel's
 -- lines, the cells; and at last both stops. `<` stands before the left run's line, `>` before the
 -- right run's.
-unfoldable pub report_of : Comparison → List ℕ
-report_of c =
+unfoldable pub report_of : Names → Comparison → List ℕ
+report_of names c =
     if is_same c then same_text c
-    else boundaries_text c c.parting ++ write_parting_text c.write
+    else boundaries_text names c c.parting ++ write_parting_text c.write
     ++ panels_text c.left.panel c.right.panel ++ cells_text c.cells.items
     ++ ends_text c.left c.right

@@ -16,5 +16,5 @@ pub use comparison::{Comparison, Parting};
 pub use count::one_more;
 pub use follower::{End, WriteParting};
 pub use next::next_write;
-pub use report::push_comparison;
+pub use report::{SideNames, push_comparison};
 pub use runs::compare;

@@ -1,10 +1,11 @@
-//! A comparison in print.
+//! A comparison in print, with names of places where they are given.
 ghost use Rattle.std.specs.Prelude.{◌≡◌, ◌<◌, ◌++◌, All, OnOk, flat_map, string_bytes};
 ghost use Rattle.std.specs.List.{zip};
 ghost use Rattle.std.specs.Str.Lines.{lines};
 ghost use Rattle.agc_rope_listing.specs.Place.{IsInPrint};
 ghost use Rattle.agc_trace.specs.Entry.{FitsLine, FitsWrite};
 ghost use Rattle.agc_compare.specs.Compare.{FitsLines, FitsWriteParting, IsCell};
+ghost use Rattle.agc_compare.specs.SideNames.{both_names};
 ghost use Rattle.agc_compare.specs.Report.{
   boundaries_text,
   cell_place,
@@ -30,28 +31,41 @@ use crate::cells::CellPair;
 use crate::comparison::{Comparison, Parting};
 use crate::follower::{End, WriteParting};
 use agc_machine::ChannelWrite;
+use agc_names::NameTable;
 use agc_panel::Panel;
 use agc_rope_listing::{Place, push_place};
 use agc_store::place::{A, Q};
-use agc_trace::{Entry, push_line};
+use agc_trace::{Entry, push_line_with};
 use agc_word::Wide;
 use std::alloc::{AllocError, Global};
+
+/// The names with which the lines of each of two runs are shown, where they are given.
+#[derive(Clone, Copy)]
+pub struct SideNames<'a> {
+    pub left: &'a Option<NameTable>,
+    pub right: &'a Option<NameTable>,
+}
 
 /// Adds the report of a comparison. Where the runs are the same it is one line. Else it tells, and
 /// leaves out what is the same: the first boundary that differs, with up to five lines before it, the
 /// first channel write, the panel's lines and the erasable cells; and at last both stops. Of two
 /// lines that differ `<` is that of the run on the left, `>` that of the run on the right. Fails
-/// where memory runs out.
+/// where memory runs out. Where names are given, an order has the column of its place's name: in lines of both runs and of
+/// that on the left by the names of the left one.
 #[tactic(auto, unfolding(crate::specs::Report::report_of))]
-pub fn push_comparison(text: &mut String, comparison: &Comparison) -> Result<(), AllocError>
+pub fn push_comparison(
+    text: &mut String,
+    names: SideNames<'_>,
+    comparison: &Comparison,
+) -> Result<(), AllocError>
     requires { FitsLines comparison.now }
     ensures { OnOk result (string_bytes text.new
-        ≡ string_bytes text.old ++ report_of comparison.now) }
+        ≡ string_bytes text.old ++ report_of (both_names names.entry) comparison.now) }
 {
     if comparison.is_same() {
         return push_same(text, comparison);
     }
-    push_boundaries(text, comparison)?;
+    push_boundaries(text, names, comparison)?;
     push_write_parting(text, comparison.write)?;
     push_panels(text, &comparison.left.panel, &comparison.right.panel)?;
     push_cells(text, comparison.cells.as_slice())?;
@@ -75,16 +89,20 @@ fn push_same(text: &mut String, comparison: &Comparison) -> Result<(), AllocErro
 
 /// Adds the first boundary that differs, with the lines before it; or that there is none.
 #[tactic(auto, unfolding(crate::specs::Report::boundaries_text))]
-fn push_boundaries(text: &mut String, comparison: &Comparison) -> Result<(), AllocError>
+fn push_boundaries(
+    text: &mut String,
+    names: SideNames<'_>,
+    comparison: &Comparison,
+) -> Result<(), AllocError>
     requires { FitsLines comparison.now }
     ensures { OnOk result (string_bytes text.new
-        ≡ string_bytes text.old ++ boundaries_text comparison.now comparison.now.parting) }
+        ≡ string_bytes text.old ++ boundaries_text (both_names names.entry) comparison.now comparison.now.parting) }
 {
     match comparison.parting {
         Some(parting) => {
             push_number(text, &parting)?;
-            push_entries(text, comparison.before.as_slice())?;
-            push_parting(text, &parting)
+            push_entries(text, names.left, comparison.before.as_slice())?;
+            push_parting(text, names, &parting)
         }
         None => {
             let boundaries = comparison.boundaries;
@@ -112,40 +130,48 @@ fn push_number(text: &mut String, parting: &Parting) -> Result<(), AllocError>
 }
 
 /// Adds the lines that both runs have, two spaces in.
-fn push_entries(text: &mut String, entries: &[Entry]) -> Result<(), AllocError>
+fn push_entries(
+    text: &mut String,
+    names: &Option<NameTable>,
+    entries: &[Entry],
+) -> Result<(), AllocError>
     requires { All FitsLine entries.now }
     ensures { OnOk result (string_bytes text.new
-        ≡ string_bytes text.old ++ flat_map entry_text entries.now) }
+        ≡ string_bytes text.old ++ flat_map (entry_text names.now) entries.now) }
 {
     for entry in entries {
-        push_entry(text, entry)?;
+        push_entry(text, names, entry)?;
     }
     Ok(())
 }
 
 /// Adds a line that both runs have, two spaces in.
 #[tactic(auto, unfolding(crate::specs::Report::entry_text))]
-fn push_entry(text: &mut String, entry: &Entry) -> Result<(), AllocError>
+fn push_entry(text: &mut String, names: &Option<NameTable>, entry: &Entry) -> Result<(), AllocError>
     requires { FitsLine entry.now }
     ensures { OnOk result (string_bytes text.new
-        ≡ string_bytes text.old ++ entry_text entry.now) }
+        ≡ string_bytes text.old ++ entry_text names.now entry.now) }
 {
     text.push_str("  ")?;
-    push_line(text, entry)
+    push_line_with(text, names, entry)
 }
 
 /// Adds the two lines that differ.
 #[tactic(auto, unfolding(crate::specs::Report::parting_text))]
-fn push_parting(text: &mut String, parting: &Parting) -> Result<(), AllocError>
+fn push_parting(
+    text: &mut String,
+    names: SideNames<'_>,
+    parting: &Parting,
+) -> Result<(), AllocError>
     requires left { FitsLine parting.now.left }
     requires right { FitsLine parting.now.right }
     ensures { OnOk result (string_bytes text.new
-        ≡ string_bytes text.old ++ parting_text parting.now) }
+        ≡ string_bytes text.old ++ parting_text (both_names names.entry) parting.now) }
 {
     text.push_str("< ")?;
-    push_line(text, &parting.left)?;
+    push_line_with(text, names.left, &parting.left)?;
     text.push_str("> ")?;
-    push_line(text, &parting.right)
+    push_line_with(text, names.right, &parting.right)
 }
 
 /// Adds the first channel write that differs, where one does.

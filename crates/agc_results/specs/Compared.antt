@@ -8,7 +8,7 @@ use Rattle.agc_trace.specs.Trace.{trace_of}
 use Rattle.agc_compare.specs.Cells.{cells_that_differ}
 use Rattle.agc_compare.specs.Compare.{TellsCommon, TellsEnd, TracesPart, cells_at_end}
 use Rattle.agc_compare.specs.Follower.{WritesPart}
-use Rattle.agc_compare.specs.Report.{report_of}
+use Rattle.agc_compare.specs.Report.{Names, report_of}
 use Rattle.agc_compare.specs.declared.comparison.Comparison.{Comparison}
 use Rattle.agc_shown.specs.Common.{ShownPart}
 use Rattle.agc_shown.specs.Compared.{TellsPairs}
@@ -22,11 +22,11 @@ use Rattle.agc_results.specs.declared.compares.Told.{Told}
 
 -- What is told of two machines at their start: the runs are the same just where both traces are and
 -- the erasable cells at both stops, and else they part at the first boundary that differs.
-pub record IsToldOf (left right : State) (told : Told) : Type 0 where
+pub record IsToldOf (names : Names) (left right : State) (told : Told) : Type 0 where
   pub same : IsTrue told.is_same
       ↔ ((trace_of left ≡ trace_of right) × (cells_at_end left ≡ cells_at_end right))
   pub comparison : Comparison
-  pub text : string_bytes told.text ≡ report_of comparison
+  pub text : string_bytes told.text ≡ report_of names comparison
   pub common : TellsCommon (trace_of left) (trace_of right) comparison
   pub parting : TracesPart comparison.boundaries (trace_of left) (trace_of right)
       comparison.parting
@@ -54,18 +54,18 @@ pub record IsShownToldOf (asked : ByShown) (left right : State) (told : Told) : 
       comparison.parting
 
 -- what is told of two machines, boundary by boundary or by what shows
-abbrev pub IsToldAs : Option ByShown → State → State → Told → Type 0
-IsToldAs None left right told = IsToldOf left right told
-IsToldAs (Some asked) left right told = IsShownToldOf asked left right told
+abbrev pub IsToldAs : Names → Option ByShown → State → State → Told → Type 0
+IsToldAs names None left right told = IsToldOf names left right told
+IsToldAs names (Some asked) left right told = IsShownToldOf asked left right told
 
 -- the same of the machines of two ropes and two scripts, as far as their readers tell their bytes
-pub record IsCompared (asked : Comparing)
+pub record IsCompared (names : Names) (asked : Comparing)
     (left_rope left_script right_rope right_script : Option (List ℕ)) (told : Told) : Type 0 where
   pub left : State
   pub right : State
   pub left_start : IsStarted asked.form asked.until asked.limit left_rope left_script left
   pub right_start : IsStarted asked.form asked.until asked.limit right_rope right_script right
-  pub tells : IsToldAs asked.shown left right told
+  pub tells : IsToldAs names asked.shown left right told
 
 -- what is told was written, and the runs are the same or not
 pub record IsToldTo (told : Told) (is_same : Bool) (before after : Option (List ℕ)) : Type 0 where
@@ -73,9 +73,9 @@ pub record IsToldTo (told : Told) (is_same : Bool) (before after : Option (List 
   pub text : Appends before after (string_bytes told.text)
 
 -- what is told of the runs of four files was written: that they are the same, or not
-pub record IsComparisonWritten (asked : Comparing)
+pub record IsComparisonWritten (names : Names) (asked : Comparing)
     (left_rope left_script right_rope right_script : Option (List ℕ)) (is_same : Bool)
     (before after : Option (List ℕ)) : Type 0 where
   pub told : Told
-  pub compared : IsCompared asked left_rope left_script right_rope right_script told
+  pub compared : IsCompared names asked left_rope left_script right_rope right_script told
   pub written : IsToldTo told is_same before after

@@ -1,5 +1,6 @@
 //! Two ropes and two scripts to what is told of their runs.
 ghost use Rattle.std.specs.Prelude.{◌≡◌, IfErr, IfOk, string_bytes};
+ghost use Rattle.agc_compare.specs.SideNames.{both_names};
 ghost use Rattle.agc_shown.specs.Compared.{FitsLines};
 ghost use Rattle.agc_results.specs.Compared.{IsCompared, IsShownToldOf, IsToldAs, IsToldOf, shown_text_of};
 ghost use Rattle.agc_results.specs.Started.{IsPairRefused};
@@ -7,7 +8,7 @@ ghost use Rattle.agc_results.specs.Started.{IsPairRefused};
 use crate::runs::read_machine;
 use crate::trouble::Trouble;
 use agc_asked::{ByShown, Comparing};
-use agc_compare::{compare, push_comparison};
+use agc_compare::{SideNames, compare, push_comparison};
 use agc_machine::Machine;
 use agc_progress::Progress;
 use agc_session::Refusal;
@@ -23,19 +24,20 @@ pub struct Told {
     pub is_same: bool,
 }
 
-/// Reads two ropes and two scripts, and compares their runs. The refusal is that of the run on the left,
+/// Reads two ropes and two scripts, and compares their runs; boundaries are told with the names that are given. The refusal is that of the run on the left,
 /// or where there is none that of the run on the right, told as the other run's: the first that applies of
 /// the rope, the script, the limit and the text of `--until`, or want of memory.
 pub fn compare_files<R: Read, S: Read, T: Read, U: Read, P: Progress>(
     alloc: Global,
     asked: &Comparing,
+    names: SideNames<'_>,
     left_rope: &mut R,
     left_script: &mut S,
     right_rope: &mut T,
     right_script: &mut U,
     progress: &mut P,
 ) -> Result<Told, Trouble>
-    ensures compared { IfOk result (IsCompared asked.now
+    ensures compared { IfOk result (IsCompared (both_names names.entry) asked.now
         (R.remaining left_rope.old) (S.remaining left_script.old)
         (T.remaining right_rope.old) (U.remaining right_script.old)) }
     ensures refused { IfErr result (IsPairRefused asked.now.form asked.now.until asked.now.limit
@@ -49,7 +51,7 @@ pub fn compare_files<R: Read, S: Read, T: Read, U: Read, P: Progress>(
         Ok(machine) => machine,
         Err(refusal) => return Err(Trouble::of_other_run(refusal)),
     };
-    match compare_as(alloc, asked.shown, &mut left, &mut right, progress) {
+    match compare_as(alloc, asked.shown, names, &mut left, &mut right, progress) {
         Ok(told) => Ok(told),
         Err(_) => Err(Trouble::Refused(Refusal::Memory)),
     }
@@ -59,15 +61,16 @@ pub fn compare_files<R: Read, S: Read, T: Read, U: Read, P: Progress>(
 fn compare_as<P: Progress>(
     alloc: Global,
     shown: Option<ByShown>,
+    names: SideNames<'_>,
     left: &mut Machine,
     right: &mut Machine,
     progress: &mut P,
 ) -> Result<Told, AllocError>
-    ensures { IfOk result (IsToldAs shown left.old right.old) }
+    ensures { IfOk result (IsToldAs (both_names names.entry) shown left.old right.old) }
 {
     match shown {
         Some(asked) => compare_what_shows(alloc, asked, left, right, progress),
-        None => compare_runs(alloc, left, right, progress),
+        None => compare_runs(alloc, names, left, right, progress),
     }
 }
 
@@ -109,15 +112,16 @@ fn text_of_shown(
 /// Runs two machines to their stops, and tells whether the runs are the same, or where they part.
 fn compare_runs<P: Progress>(
     alloc: Global,
+    names: SideNames<'_>,
     left: &mut Machine,
     right: &mut Machine,
     progress: &mut P,
 ) -> Result<Told, AllocError>
-    ensures { IfOk result (IsToldOf left.old right.old) }
+    ensures { IfOk result (IsToldOf (both_names names.entry) left.old right.old) }
 {
     let comparison = compare(alloc, left, right, progress)?;
     let mut text = String::new(alloc);
-    push_comparison(&mut text, &comparison)?;
+    push_comparison(&mut text, names, &comparison)?;
     Ok(Told {
         text,
         is_same: comparison.is_same(),

@@ -1,6 +1,8 @@
 //! What is told of runs, written: a trace, a comparison.
 ghost use Rattle.std.specs.Prelude.{◌≡◌, ◌≢◌, ◌⊎◌, true, false};
+ghost use Rattle.std.specs.Option.{option_or};
 ghost use Rattle.std.specs.Io.KnownBytes.{Keeps};
+ghost use Rattle.agc_compare.specs.SideNames.{both_names};
 ghost use Rattle.agc_results.specs.Compared.{IsComparisonWritten, IsToldTo};
 ghost use Rattle.agc_study.specs.Ended.{IsEnded};
 ghost use Rattle.agc_results.specs.Started.{IsPairRefused};
@@ -8,6 +10,7 @@ ghost use Rattle.agc_results.specs.Traced.{IsTraceWritten};
 ghost use Rattle.agc_results.specs.Trouble.{IsTold};
 
 use agc_asked::{Comparing, Tracing};
+use agc_compare::SideNames;
 use agc_machine::{Machine, Upcoming};
 use agc_names::NameTable;
 use agc_progress::Shown;
@@ -130,6 +133,15 @@ where
     ensures ended { IsEnded result (W.contents out.old) (W.contents out.new)
         (E.contents err.old) (E.contents err.new) }
 {
+    let names = match names_at(rt, &asked.names) {
+        Ok(names) => names,
+        Err(trouble) => return trouble.tell_to(err),
+    };
+    let other_names = match names_at(rt, &asked.other_names) {
+        Ok(names) => names,
+        Err(trouble) => return trouble.tell_to(err),
+    };
+    let names = names_of_sides(&names, &other_names);
     let mut rope = InputFile::new(fs::open(rt, asked.rope.as_str()));
     let mut script = InputFile::new(fs::open(rt, asked.script.as_str()));
     let mut other_rope = InputFile::new(fs::open(rt, asked.other_rope.as_str()));
@@ -137,6 +149,7 @@ where
     write_comparison(
         rt.alloc(),
         asked,
+        names,
         &mut rope,
         &mut script,
         &mut other_rope,
@@ -147,10 +160,20 @@ where
     )
 }
 
+/// The names of two runs: those of the left one are for both, where the right one has none of its own.
+fn names_of_sides<'a>(left: &'a Option<NameTable>, right: &'a Option<NameTable>) -> SideNames<'a>
+    ensures left { result.left.now ≡ left.now }
+    ensures right { result.right.now ≡ option_or right.now left.now }
+{
+    let right = if right.is_some() { right } else { left };
+    SideNames { left, right }
+}
+
 /// Compares the runs of two ropes and two scripts, and writes what is told of them.
 fn write_comparison<R: Read, S: Read, T: Read, U: Read, W: Write, E: Write, P: Shown>(
     alloc: Global,
     asked: &Comparing,
+    names: SideNames<'_>,
     rope: &mut R,
     script: &mut S,
     other_rope: &mut T,
@@ -161,11 +184,11 @@ fn write_comparison<R: Read, S: Read, T: Read, U: Read, W: Write, E: Write, P: S
 ) -> u8
     ensures ended { IsEnded result (W.contents out.old) (W.contents out.new)
         (E.contents err.old) (E.contents err.new) }
-    ensures same { result ≡ 0 → IsComparisonWritten asked.now
+    ensures same { result ≡ 0 → IsComparisonWritten (both_names names.entry) asked.now
         (R.remaining rope.old) (S.remaining script.old)
         (T.remaining other_rope.old) (U.remaining other_script.old) true
         (W.contents out.old) (W.contents out.new) }
-    ensures apart { result ≡ 1 → IsComparisonWritten asked.now
+    ensures apart { result ≡ 1 → IsComparisonWritten (both_names names.entry) asked.now
         (R.remaining rope.old) (S.remaining script.old)
         (T.remaining other_rope.old) (U.remaining other_script.old) false
         (W.contents out.old) (W.contents out.new) }
@@ -178,6 +201,7 @@ fn write_comparison<R: Read, S: Read, T: Read, U: Read, W: Write, E: Write, P: S
     let compared = compare_files(
         alloc,
         asked,
+        names,
         rope,
         script,
         other_rope,

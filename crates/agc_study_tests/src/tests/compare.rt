@@ -1,5 +1,5 @@
 //! Runs of small programs side by side, worked out by hand. The numbers are octal, but for cycles.
-use agc_compare::{compare, push_comparison};
+use agc_compare::{SideNames, compare, push_comparison};
 use agc_machine::Machine;
 use agc_progress::Untold;
 use agc_script::Script;
@@ -35,7 +35,11 @@ fn report_with(
     let mut right = machine(rt, right.0, right.1)?;
     let comparison = compare(rt.alloc(), &mut left, &mut right, &mut Untold)?;
     let mut text = String::new(rt.alloc());
-    push_comparison(&mut text, &comparison)?;
+    let names = SideNames {
+        left: &None,
+        right: &None,
+    };
+    push_comparison(&mut text, names, &comparison)?;
     Ok(text)
 }
 

@@ -1,6 +1,7 @@
 //! Names of places, worked by hand.
 use agc_names::{
-    NameFault, NameTable, NameTrouble, push_column, push_name_line, push_named, text_with_names,
+    NameFault, NameTable, NameTrouble, place_said, push_column, push_name_line, push_named,
+    text_with_names,
 };
 use agc_results::{Trouble, read_names};
 use agc_source_words::Location;
@@ -65,4 +66,23 @@ fn names_stand_beside_places(rt: HostRuntime) -> Result<(), Fail> {
     push_name_line(rt.alloc(), &mut lines, Location::Fixed(0o4071), b"LOOP")?;
     assert!(rt; lines.as_slice() == b"E3,1407 COUNT\n02,4071 LOOP\n".as_slice());
     Ok(())
+}
+
+/// 10 words are 12 octal. A word that writes a place is that place, and cells end at 3777.
+#[test]
+fn a_word_stands_for_a_place(rt: HostRuntime) {
+    let names = Some(names(&rt));
+    for (word, place) in [
+        ("KEYIN", Some(Location::Fixed(0o4060))),
+        ("KEYIN+10", Some(Location::Fixed(0o4072))),
+        ("BEFORE-1", Some(Location::Erasable(0o77))),
+        ("BEFORE-65", None),
+        ("5777", Some(Location::Fixed(0o5777))),
+        ("NOWHERE", None),
+        ("KEYIN+", None),
+    ] {
+        assert_eq!(rt; place_said(&names, word.as_bytes()), place, "{word}");
+        let alone = place_said(&None, word.as_bytes());
+        assert_eq!(rt; alone, if word == "5777" { place } else { None }, "{word}");
+    }
 }

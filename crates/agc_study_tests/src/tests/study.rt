@@ -3,6 +3,7 @@ mod ends;
 
 use agc_args::ArgsFault;
 use agc_asked::{Asked, Comparing, Filming, Watching, asked_by};
+use agc_compare::SideNames;
 use agc_film::{Part, RunFiles};
 use agc_jobs::Span;
 use agc_progress::Untold;
@@ -321,12 +322,19 @@ fn runs_are_compared(rt: HostRuntime) -> Result<(), Fail> {
             limit: 2,
             until: None,
             shown: None,
+            names: None,
+            other_names: None,
         };
         let (mut rope, mut script): (&[u8], &[u8]) = (&[0x30, 0x00], b"");
         let (mut other_rope, mut other_script): (&[u8], &[u8]) = (other, b"");
+        let names = SideNames {
+            left: &None,
+            right: &None,
+        };
         let found = compare_files(
             alloc,
             &asked,
+            names,
             &mut rope,
             &mut script,
             &mut other_rope,
@@ -362,12 +370,19 @@ fn the_run_at_fault_is_named(rt: HostRuntime) -> Result<(), Fail> {
             limit,
             until: None,
             shown: None,
+            names: None,
+            other_names: None,
         };
         let (mut rope, mut script): (&[u8], &[u8]) = (left, b"");
         let (mut other_rope, mut other_script): (&[u8], &[u8]) = (right, b"");
+        let names = SideNames {
+            left: &None,
+            right: &None,
+        };
         let trouble = compare_files(
             alloc,
             &asked,
+            names,
             &mut rope,
             &mut script,
             &mut other_rope,
