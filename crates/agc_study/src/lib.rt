@@ -1,5 +1,5 @@
-//! What `agc-study` does with its words and files: it lists, weaves, checks, traces, counts, compares and films, and tells the Executive's tables. The program
-//! itself hands on its streams.
+//! What `agc-study` does with its words and files: it lists, weaves, checks, traces, counts, compares and films, and tells
+//! the Executive's tables as they change. The program itself hands on its streams.
 #![tactic(auto)]
 
 mod answers;

@@ -1,7 +1,7 @@
 //! `agc-study`: looks inside ropes and runs. `list` prints a rope's words as orders, `weave` makes a
 //! rope of such a text, `check` tells what is wrong with a rope and a script, `trace` prints what a run
-//! does, boundary by boundary, `count` how often and how long, `jobs` what the Executive's tables hold as they change, `compare` tells where two runs part, and `film` shows the display
-//! over their time.
+//! does, boundary by boundary, `count` how often and how long, `jobs` what the Executive's tables hold as
+//! they change, `compare` tells where two runs part, and `film` shows the display over their time.
 #![tactic(auto)]
 
 use agc_args::stand_ins;
