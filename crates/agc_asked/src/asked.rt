@@ -54,6 +54,8 @@ impl Asked {
                 Some(asked.script.as_str()),
                 None,
                 None,
+                None,
+                None,
             ],
             Asked::Compare(asked) => asked.paths(),
             Asked::Film(asked) => asked.paths(),
