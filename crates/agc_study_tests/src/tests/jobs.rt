@@ -5,7 +5,7 @@ use agc_machine::Machine;
 use agc_progress::Untold;
 use agc_script::Script;
 use agc_store::Rope;
-use agc_test_ropes::rope_file;
+use agc_test_kit::rope_file;
 use std::process::Abort;
 use std::test::Fail;
 
