@@ -2,7 +2,6 @@
 #![tactic(auto)]
 
 mod asked;
-mod command_line;
 mod counted;
 mod questions;
 mod shown;

@@ -1,11 +1,11 @@
 //! The words of a command line to what they ask for.
 use crate::asked::{Asked, CheckedRun, Checking, Comparing, Filming, Listing, Tracing, Weaving};
-use crate::command_line::command;
 use crate::counted::counting_of;
 use crate::questions::{cells_of, channels_of, orders_of, places_of};
 use crate::shown::{shown_of, with_channels_joined};
 use crate::watched::watching_of;
 use agc_args::{ArgsFault, WordsFault, fault_of, words_of};
+use agc_commands::command;
 use agc_film::{Part, RunFiles};
 use agc_store::RopeForm;
 use agc_trace::{Only, Selection};

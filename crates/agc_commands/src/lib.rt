@@ -1,0 +1,6 @@
+//! The subcommands of `agc-study`, with their files and options: what `clap` reads, and what `--help` prints.
+#![tactic(auto)]
+
+mod command_line;
+
+pub use command_line::command;
