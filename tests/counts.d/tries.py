@@ -14,6 +14,10 @@ SEED = 20
 # the words before which an order is an extracode
 CHANNELS = {"READ", "WRITE", "RAND", "WAND", "ROR", "WOR", "RXOR", "EDRUPT"}
 EXTRACODES = CHANNELS | {"DV", "BZF", "MSU", "QXCH", "AUG", "DIM", "DCA", "DCS", "SU", "BZMF", "MP"}
+# the orders that read a word at an address of ten bits or of twelve, and those that read the word before it too
+SHORT = {"CCS", "LXCH", "INCR", "ADS", "XCH", "DV", "MSU", "QXCH", "AUG", "DIM", "SU"}
+LONG = {"CA", "CS", "AD", "MASK", "MP"}
+SHORT_PAIRS, LONG_PAIRS = {"DAS", "DXCH"}, {"DCA", "DCS"}
 
 
 def run(words):
@@ -43,12 +47,28 @@ def bank_of(place):
     return bank or f"E{int(address, 8) // 0o400:o}"
 
 
+def read_by(word, name, extracode, banks):
+    """The places whose words an order reads as data, by the erasable bank, FB's bank and the superbank before it."""
+    if name in SHORT | SHORT_PAIRS or (name == "INDEX" and not extracode):
+        size = 0o2000
+    elif name in LONG | LONG_PAIRS or name == "INDEX":
+        size = 0o10000
+    else:
+        return []
+    address = word % size
+    addresses = [address, (address - 1) % size] if name in SHORT_PAIRS | LONG_PAIRS else [address]
+    erasable, fixed, is_super = banks
+    bank = fixed + 0o10 if is_super and fixed >= 0o30 else fixed
+    return [place_of(f"E{erasable:o},{each:04o}" if each < 0o2000 else f"{bank:02o},{each:04o}") for each in addresses]
+
+
 def told_by(rope, script, limit, first, last):
-    """The tallies that the lines of a trace give, of the boundaries that begin in a span."""
-    tallies = defaultdict(lambda: [0, 0])
-    lines = [line.split(" | ")[0].split(" ") for line in run(["trace", rope, script, "--limit", str(limit)]).splitlines()]
-    service, inhibited, extended = None, False, False
-    for line, later in zip(lines, lines[1:]):
+    """The tallies that the lines of a trace give, and how often places were read, of the boundaries in a span."""
+    tallies, reads = defaultdict(lambda: [0, 0]), defaultdict(int)
+    halves = [line.split(" | ") for line in run(["trace", rope, script, "--limit", str(limit)]).splitlines()]
+    lines, registers = [half[0].split(" ") for half in halves], [half[1].split(" ") for half in halves]
+    service, inhibited, extended, banks = None, False, False, (0, 0, False)
+    for line, later, after in zip(lines, lines[1:], registers):
         cycle, cycles = int(line[0]), int(later[0]) - int(line[0])
         things, before = [("all", "boundaries")], inhibited
         if line[1] == "-":
@@ -61,6 +81,9 @@ def told_by(rope, script, limit, first, last):
             extracode = name in EXTRACODES or (name == "INDEX" and extended)
             things += [("all", "orders"), ("word", place), ("bank", bank_of(place))]
             things.append(("extracode" if extracode else "order", name))
+            if first <= cycle <= last:
+                for read in read_by(int(line[2], 8), name, extracode, banks):
+                    reads[read] += 1
             extended = name == "EXTEND" or (name == "INDEX" and extended)
             inhibited = {"INHINT": True, "RELINT": False}.get(name, inhibited)
         if service:
@@ -76,19 +99,26 @@ def told_by(rope, script, limit, first, last):
                 tallies["interrupt", service][1] += cycles
         if line[1] != "-" and line[3] == "RESUME":
             service = None
-    return {thing: tuple(tally) for thing, tally in tallies.items() if any(tally)}
+        written = line.index(">") if ">" in line else None
+        is_super = int(line[-1], 8) & 0o100 != 0 if written and line[written + 1] == "007" else banks[2]
+        banks = (int(after[after.index("EB") + 1], 8), int(after[after.index("FB") + 1], 8), is_super)
+    return {thing: tuple(tally) for thing, tally in tallies.items() if any(tally)}, dict(reads)
 
 
 def counted(rope, script, limit, first, last):
-    """The tallies that a count prints, those that are not all 0."""
+    """The tallies that a count prints and how often places were read, those that are not all 0."""
     words = ["count", rope, script, "--limit", str(limit), "--from", str(first), "--to", str(last)]
     rows = list(csv.DictReader(run([*words, "--csv"]).splitlines()))
-    columns = [line.split(None, 2) for line in run(words).splitlines()[1:]]
-    shown = [(row["times"], row["cycles"], " ".join(filter(None, (row["kind"], row["name"], row["order"])))) for row in rows]
+    columns = [line.split(None, 3) for line in run(words).splitlines()[1:]]
+    shown = [(row["times"], row["cycles"], row["data"] or "-", " ".join(filter(None, (row["kind"], row["name"], row["order"]))))
+             for row in rows]
     if [tuple(column) for column in columns] != shown:
         return None
     told = {(row["kind"], row["name"]): (int(row["times"]), int(row["cycles"])) for row in rows}
-    return {thing: tally for thing, tally in told.items() if any(tally)}
+    reads = {row["name"]: int(row["data"]) for row in rows if row["kind"] == "word"}
+    if any(row["data"] for row in rows if row["kind"] != "word"):
+        return None
+    return {thing: tally for thing, tally in told.items() if any(tally)}, {place: times for place, times in reads.items() if times}
 
 
 def written(folder, chance):

@@ -13,11 +13,12 @@ use Rattle.agc_processor.specs.declared.interrupt.Rupt.TheVariants as rupt
 use Rattle.agc_source_words.specs.Location.{location_at}
 use Rattle.agc_source_words.specs.declared.location.Location.{Location}
 use Rattle.agc_source_words.specs.declared.location.Location.TheVariants as location
-use Rattle.agc_count.specs.Counts.{count_of, counted, counted_as, counted_at, counted_happening, counted_inhibited, counted_one, counted_serving, is_entry, nothing_counted, served}
+use Rattle.agc_count.specs.Counts.{count_of, counted, counted_as, counted_at, counted_data, counted_happening, counted_inhibited, counted_one, counted_read, counted_serving, is_entry, nothing_counted, served}
 use Rattle.agc_count.specs.Laws.{is_rupt, is_served, serves, takes, tally_of}
 use Rattle.agc_count.specs.Passage.{service_of}
 use Rattle.agc_count.specs.Tally.{added, empty_table, nothing, once, plus, tally_at}
 use Rattle.agc_count.specs.declared.counts.Counts.{Counts}
+use Rattle.agc_count.specs.declared.data.Data.{Data}
 use Rattle.agc_count.specs.declared.passage.Passage.{Passage}
 use Rattle.agc_count.specs.declared.tally.Tally.{Tally}
 use Rattle.agc_count.proofs.Places.{added_elsewhere, added_here, added_length, empty_length, empty_tally}
@@ -46,11 +47,21 @@ inhibited_same : (b : Bool) (one : Tally) (c : Counts) → (counted_inhibited b 
 inhibited_same true one c = refl
 inhibited_same false one c = refl
 
+read_same : (o : Option Location) (one : Tally) (c : Counts) → (counted_read o one c).interrupts ≡ c.interrupts
+read_same (Some (location.Fixed place)) one c = refl
+read_same (Some (location.Erasable cell)) one c = refl
+read_same None one c = refl
+
+data_same : (words : Data) (one : Tally) (c : Counts) → (counted_data words one c).interrupts ≡ c.interrupts
+data_same words one c = read_same words.before one (counted_read words.at one c) ∙ read_same words.at one c
+
 -- the interrupts after a boundary are those after its service
 after_service : (p : Passage) (c : Counts) →
     (counted_one p c).interrupts ≡ (counted_serving (service_of p) p (counted_happening p.happening (once p.cycles) c)).interrupts
 unfolding counted_one
-after_service p c = inhibited_same p.mode.inhibited (once p.cycles) (counted_serving (service_of p) p (counted_happening p.happening (once p.cycles) c))
+after_service p c =
+    let after = counted_serving (service_of p) p (counted_happening p.happening (once p.cycles) c) in
+    data_same p.reads (once p.cycles) (counted_inhibited p.mode.inhibited (once p.cycles) after) ∙ inhibited_same p.mode.inhibited (once p.cycles) after
 
 serving_length : (o : Option Rupt) (p : Passage) (c : Counts) → length (counted_serving o p c).interrupts ≡ length c.interrupts
 serving_length (Some r) p c = added_length (rupt_number r - 1) (served p) c.interrupts

@@ -6,18 +6,20 @@ use Rattle.agc_machine.specs.Boundary.{boundary, upcoming_of}
 use Rattle.agc_machine.specs.State.{State}
 use Rattle.agc_machine.specs.declared.upcoming.Upcoming.{Upcoming}
 use Rattle.agc_trace.specs.Entry.{entry_of}
-use Rattle.agc_trace.specs.Trace.{entries_left, is_stop, trace_of}
+use Rattle.agc_trace.specs.Trace.{entries_left, is_stop}
 use Rattle.agc_trace.specs.TraceLaws.{NeverGoBack}
 use Rattle.agc_trace.specs.declared.entry.Entry.{Entry}
 use Rattle.agc_trace.proofs.Forward.{trace_goes_forward}
-use Rattle.agc_trace.proofs.Steps.{fewer_entries, rest_ends, rest_goes_on, trace_by_entry}
+use Rattle.agc_trace.proofs.Steps.{fewer_entries}
 use Rattle.agc_count.specs.Counts.{count_of, counted, counted_in, counted_one, nothing_counted}
 use Rattle.agc_count.specs.Mode.{at_start, mode_after}
 use Rattle.agc_count.specs.Passage.{is_in, passage_between, passage_of, passages, passages_in, passages_left}
+use Rattle.agc_count.specs.Told.{Told, all_told, told_of}
 use Rattle.agc_count.specs.declared.span.Span.{Span}
 use Rattle.agc_count.specs.declared.counts.Counts.{Counts}
 use Rattle.agc_count.specs.declared.mode.Mode.{Mode}
 use Rattle.agc_count.specs.declared.passage.Passage.{Passage}
+use Rattle.agc_count.proofs.Told.{entries_of, told_by_one, told_ends, told_is_trace, told_on}
 
 pub begins : (s : State) → (entry_of s).cycle ≡ s.cycle
 unfolding entry_of
@@ -42,49 +44,52 @@ not_in : (span : Span) (p : Passage) (ps : List Passage) → is_in span p ≡ fa
 not_in span p ps e = leaves_by (is_in span p) p (filter (is_in span) ps) e
 
 -- two entries in a row, of which the first tells this state and the second the next one
-first_of : (mode : Mode) (s : State) (entry next : Entry) (rest : List Entry) → entry ≡ entry_of s → next ≡ entry_of (boundary None s).0 →
-    passages mode (entry ∷ next ∷ rest) ≡ passage_of mode s ∷ passages (mode_after (upcoming_of s) mode) (next ∷ rest)
-unfolding passages passage_of entry_of
-first_of mode s entry next rest e f = cc
+first_of : (mode : Mode) (s : State) (told next : Told) (rest : List Told) → told ≡ told_of s → next ≡ told_of (boundary None s).0 →
+    passages mode (told ∷ next ∷ rest) ≡ passage_of mode s ∷ passages (mode_after (upcoming_of s) mode) (next ∷ rest)
+unfolding passages passage_of told_of entry_of
+first_of mode s told next rest e f = cc
 
 -- the boundaries from a state on are its own and those from the next state on
 pub passages_go_on : (mode : Mode) (s : State) → is_stop (upcoming_of s) ≡ false →
-    passages mode (trace_of s) ≡ passage_of mode s ∷ passages (mode_after (upcoming_of s) mode) (trace_of (boundary None s).0)
+    passages mode (all_told s) ≡ passage_of mode s ∷ passages (mode_after (upcoming_of s) mode) (all_told (boundary None s).0)
 passages_go_on mode s f =
     let t = (boundary None s).0 in
-    let rest = if is_stop (upcoming_of t) then [] else trace_of (boundary None t).0 in
-    let two : trace_of s ≡ entry_of s ∷ entry_of t ∷ rest =
-    trace_by_entry s ∙ ap (λ (xs : List Entry). entry_of s ∷ xs) (rest_goes_on (is_stop (upcoming_of s)) (trace_of t) f ∙ trace_by_entry t) in
-    ap (λ (xs : List Entry). passages mode xs) two
-    ∙ first_of mode s (entry_of s) (entry_of t) rest refl refl
-    ∙ ap (λ (xs : List Entry). passage_of mode s ∷ passages (mode_after (upcoming_of s) mode) xs) (sym (trace_by_entry t))
+    let rest = if is_stop (upcoming_of t) then [] else all_told (boundary None t).0 in
+    let two : all_told s ≡ told_of s ∷ told_of t ∷ rest =
+    told_by_one s ∙ ap (λ (xs : List Told). told_of s ∷ xs) (told_on (is_stop (upcoming_of s)) (all_told t) f ∙ told_by_one t) in
+    ap (λ (xs : List Told). passages mode xs) two
+    ∙ first_of mode s (told_of s) (told_of t) rest refl refl
+    ∙ ap (λ (xs : List Told). passage_of mode s ∷ passages (mode_after (upcoming_of s) mode) xs) (sym (told_by_one t))
 
 -- at the stop there are none
-pub passages_end : (mode : Mode) (s : State) → is_stop (upcoming_of s) ≡ true → passages mode (trace_of s) ≡ []
+pub passages_end : (mode : Mode) (s : State) → is_stop (upcoming_of s) ≡ true → passages mode (all_told s) ≡ []
 unfolding passages
 passages_end mode s f =
-    ap (λ (xs : List Entry). passages mode xs)
-    (trace_by_entry s ∙ ap (λ (xs : List Entry). entry_of s ∷ xs) (rest_ends (is_stop (upcoming_of s)) (trace_of (boundary None s).0) f))
+    ap (λ (xs : List Told). passages mode xs)
+    (told_by_one s ∙ ap (λ (xs : List Told). told_of s ∷ xs) (told_ends (is_stop (upcoming_of s)) (all_told (boundary None s).0) f))
 
 late : (span : Span) (p : Passage) → span.to < p.cycle → is_in span p ≡ false
 late span p l =
     let long : nat_le p.cycle span.to ≡ false = grind (arith, nat_tests) in
     ap (λ (b : Bool). nat_le span.from p.cycle && b) long ∙ none_of (nat_le span.from p.cycle)
 
-none_late : (span : Span) (mode : Mode) (from : ℕ) (entries : List Entry) → span.to < from → NeverGoBack from entries →
-    filter (is_in span) (passages mode entries) ≡ []
+none_late : (span : Span) (mode : Mode) (from : ℕ) (all : List Told) → span.to < from → NeverGoBack from (entries_of all) →
+    filter (is_in span) (passages mode all) ≡ []
 unfolding passages
 none_late span mode from [] l h = refl
-none_late span mode from (entry ∷ []) l h = refl
-none_late span mode from (entry ∷ next ∷ entries) l h =
-    not_in span (passage_between mode entry next) (passages (mode_after entry.happening mode) (next ∷ entries))
-    (late span (passage_between mode entry next) (omega (arith, h.0)))
-    ∙ none_late span (mode_after entry.happening mode) entry.cycle (next ∷ entries) (omega (arith, h.0)) h.1
+none_late span mode from (told ∷ []) l h = refl
+none_late span mode from (told ∷ next ∷ later) l h =
+    not_in span (passage_between mode told next) (passages (mode_after told.entry.happening mode) (next ∷ later))
+    (late span (passage_between mode told next) (omega (arith, h.0)))
+    ∙ none_late span (mode_after told.entry.happening mode) told.entry.cycle (next ∷ later) (omega (arith, h.0)) h.1
+
+forward : (s : State) → NeverGoBack s.cycle (entries_of (all_told s))
+forward s = subst (λ (xs : List Entry). NeverGoBack s.cycle xs) (sym (told_is_trace s)) (trace_goes_forward s)
 
 -- past the last cycle of the span no boundary is counted
 pub none_past : (span : Span) (mode : Mode) (s : State) → span.to < s.cycle → passages_left span mode s ≡ []
 unfolding passages_left
-none_past span mode s l = none_late span mode s.cycle (trace_of s) l (trace_goes_forward s)
+none_past span mode s l = none_late span mode s.cycle (all_told s) l (forward s)
 
 -- at the stop none is left
 pub none_at_stop : (span : Span) (mode : Mode) (s : State) → is_stop (upcoming_of s) ≡ true → passages_left span mode s ≡ []
@@ -94,7 +99,7 @@ none_at_stop span mode s f = ap (λ (ps : List Passage). filter (is_in span) ps)
 -- a boundary that is no stop is left with those after it
 pub left_after : (span : Span) (mode : Mode) (s : State) → is_stop (upcoming_of s) ≡ false →
     passages_left span mode s
-    ≡ filter (is_in span) (passage_of mode s ∷ passages (mode_after (upcoming_of s) mode) (trace_of (boundary None s).0))
+    ≡ filter (is_in span) (passage_of mode s ∷ passages (mode_after (upcoming_of s) mode) (all_told (boundary None s).0))
 unfolding passages_left
 left_after span mode s f = ap (λ (ps : List Passage). filter (is_in span) ps) (passages_go_on mode s f)
 
@@ -129,7 +134,7 @@ pub counted_next : (span : Span) (mode : Mode) (s : State) (c : Counts) → is_s
     ≡ counted c (passages_left span mode s)
 unfolding passages_left
 counted_next span mode s c f =
-    let rest = passages (mode_after (upcoming_of s) mode) (trace_of (boundary None s).0) in
+    let rest = passages (mode_after (upcoming_of s) mode) (all_told (boundary None s).0) in
     counted_by (is_in span (passage_of mode s)) (passage_of mode s) (filter (is_in span) rest) c
     ∙ sym (ap (λ (ps : List Passage). counted c ps) (left_after span mode s f))
 

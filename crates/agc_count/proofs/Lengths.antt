@@ -11,22 +11,24 @@ use Rattle.agc_source_words.specs.Location.{location_at}
 use Rattle.agc_source_words.specs.declared.location.Location.{Location}
 use Rattle.agc_source_words.specs.declared.location.Location.TheVariants as location
 use Rattle.agc_trace.specs.Entry.{entry_of}
-use Rattle.agc_trace.specs.Trace.{is_stop, trace_of}
+use Rattle.agc_trace.specs.Trace.{is_stop}
 use Rattle.agc_trace.specs.TraceLaws.{EndsWithStop, NeverGoBack}
 use Rattle.agc_trace.specs.declared.entry.Entry.{Entry}
 use Rattle.agc_trace.proofs.Forward.{trace_goes_forward}
-use Rattle.agc_trace.proofs.Steps.{trace_by_entry}
 use Rattle.agc_trace.proofs.Stops.{trace_ends}
-use Rattle.agc_count.specs.Counts.{count_of, counted, counted_as, counted_at, counted_happening, counted_inhibited, counted_one, counted_serving, nothing_counted}
+use Rattle.agc_count.specs.Counts.{count_of, counted, counted_as, counted_at, counted_data, counted_happening, counted_inhibited, counted_one, counted_read, counted_serving, nothing_counted}
 use Rattle.agc_count.specs.Laws.{counted_cycles}
 use Rattle.agc_count.specs.Mode.{at_start, mode_after}
 use Rattle.agc_count.specs.Passage.{passage_between, passages, service_of}
 use Rattle.agc_count.specs.Tally.{once, plus}
+use Rattle.agc_count.specs.Told.{Told, all_told, told_of}
 use Rattle.agc_count.specs.declared.counts.Counts.{Counts}
+use Rattle.agc_count.specs.declared.data.Data.{Data}
 use Rattle.agc_count.specs.declared.mode.Mode.{Mode}
 use Rattle.agc_count.specs.declared.passage.Passage.{Passage}
 use Rattle.agc_count.specs.declared.tally.Tally.{Tally}
 use Rattle.agc_count.proofs.Left.{begins}
+use Rattle.agc_count.proofs.Told.{entries_of, tells, told_by_one, told_is_trace}
 
 either_length : (b : Bool) (n : ℕ) (c d : Counts) → counted_cycles c ≡ n → counted_cycles d ≡ n → counted_cycles (if b then c else d) ≡ n
 either_length true n c d e f = e
@@ -61,41 +63,53 @@ inhibited_length : (b : Bool) (one : Tally) (c : Counts) → counted_cycles (cou
 inhibited_length true one c = refl
 inhibited_length false one c = refl
 
+read_length : (o : Option Location) (one : Tally) (c : Counts) → counted_cycles (counted_read o one c) ≡ counted_cycles c
+read_length (Some (location.Fixed place)) one c = refl
+read_length (Some (location.Erasable cell)) one c = refl
+read_length None one c = refl
+
+data_length : (words : Data) (one : Tally) (c : Counts) → counted_cycles (counted_data words one c) ≡ counted_cycles c
+data_length words one c = read_length words.before one (counted_read words.at one c) ∙ read_length words.at one c
+
 one_length : (p : Passage) (c : Counts) → is_stop p.happening ≡ false → counted_cycles (counted_one p c) ≡ counted_cycles c + p.cycles
 unfolding counted_one
 one_length p c e =
     let happened = counted_happening p.happening (once p.cycles) c in
-    inhibited_length p.mode.inhibited (once p.cycles) (counted_serving (service_of p) p happened)
+    data_length p.reads (once p.cycles) (counted_inhibited p.mode.inhibited (once p.cycles) (counted_serving (service_of p) p happened))
+    ∙ inhibited_length p.mode.inhibited (once p.cycles) (counted_serving (service_of p) p happened)
     ∙ serving_length (service_of p) p happened
     ∙ happening_length p.happening (once p.cycles) c e
 
 -- up to the stop of a trace the cycles of its entries go by
-all_lengths : (last : State) (mode : Mode) (c : Counts) (entry : Entry) (entries : List Entry) → NeverGoBack entry.cycle (entry ∷ entries) → EndsWithStop last (entry ∷ entries) →
-    counted_cycles (counted c (passages mode (entry ∷ entries))) + entry.cycle ≡ counted_cycles c + last.cycle
+all_lengths : (last : State) (mode : Mode) (c : Counts) (told : Told) (later : List Told) → NeverGoBack told.entry.cycle (entries_of (told ∷ later)) →
+    EndsWithStop last (entries_of (told ∷ later)) →
+    counted_cycles (counted c (passages mode (told ∷ later))) + told.entry.cycle ≡ counted_cycles c + last.cycle
 unfolding counted passages
-all_lengths last mode c entry [] h k = ap (λ (n : ℕ). counted_cycles c + n) k.cycle
-all_lengths last mode c entry (next ∷ entries) h k =
+all_lengths last mode c told [] h k = ap (λ (n : ℕ). counted_cycles c + n) k.cycle
+all_lengths last mode c told (next ∷ later) h k =
     omega (
       arith,
       h.1.0,
-      one_length (passage_between mode entry next) c k.0,
-      all_lengths last (mode_after entry.happening mode) (counted_one (passage_between mode entry next) c) next entries (omega arith, h.1.1) k.1,
+      one_length (passage_between mode told next) c k.0,
+      all_lengths last (mode_after told.entry.happening mode) (counted_one (passage_between mode told next) c) next later (omega arith, h.1.1) k.1,
     )
 
 none_yet : counted_cycles nothing_counted ≡ 0
 unfolding nothing_counted
 none_yet = refl
 
-lengths_from : (s : State) (entries : List Entry) → trace_of s ≡ entry_of s ∷ entries →
-    counted_cycles (count_of (passages at_start (trace_of s))) + s.cycle ≡ (run_of s).last.cycle
-lengths_from s entries e =
-    let forward = subst (λ (xs : List Entry). NeverGoBack s.cycle xs) e (trace_goes_forward s) in
-    let ends = subst (λ (xs : List Entry). EndsWithStop (run_of s).last xs) e (trace_ends s) in
-    let all = all_lengths (run_of s).last at_start nothing_counted (entry_of s) entries (omega arith, forward.1) ends in
-    ap (λ (xs : List Entry). counted_cycles (count_of (passages at_start xs)) + s.cycle) e
-    ∙ ap (λ (n : ℕ). counted_cycles (count_of (passages at_start (entry_of s ∷ entries))) + n) (sym (begins s))
+lengths_from : (s : State) (later : List Told) → all_told s ≡ told_of s ∷ later →
+    counted_cycles (count_of (passages at_start (all_told s))) + s.cycle ≡ (run_of s).last.cycle
+lengths_from s later e =
+    let entries = sym (told_is_trace s) ∙ ap entries_of e in
+    let forward = subst (λ (xs : List Entry). NeverGoBack s.cycle xs) entries (trace_goes_forward s) in
+    let ends = subst (λ (xs : List Entry). EndsWithStop (run_of s).last xs) entries (trace_ends s) in
+    let all = all_lengths (run_of s).last at_start nothing_counted (told_of s) later (omega arith, forward.1) ends in
+    ap (λ (xs : List Told). counted_cycles (count_of (passages at_start xs)) + s.cycle) e
+    ∙ ap (λ (n : ℕ). counted_cycles (count_of (passages at_start (told_of s ∷ later))) + n)
+    (sym (ap (λ (entry : Entry). entry.cycle) (tells s) ∙ begins s))
     ∙ omega (arith, all, none_yet)
 
 -- the cycles of a whole run by kinds are its length
-pub whole_length : (s : State) → counted_cycles (count_of (passages at_start (trace_of s))) + s.cycle ≡ (run_of s).last.cycle
-whole_length s = lengths_from s _ (trace_by_entry s)
+pub whole_length : (s : State) → counted_cycles (count_of (passages at_start (all_told s))) + s.cycle ≡ (run_of s).last.cycle
+whole_length s = lengths_from s _ (told_by_one s)

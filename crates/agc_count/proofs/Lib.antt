@@ -1,5 +1,7 @@
+mod Told
 mod Left
 mod Places
+mod Readers
 mod Lengths
 mod Sums
 mod Lines

@@ -26,13 +26,14 @@ more_lines number line before text after e f =
     ∙ ap (λ (bs : List ℕ). before ++ bs) (sym (one_more number line))
 
 -- the line of a word is written
-pub more_words : (layout : Layout) (whole : Bool) (c : Counts) (words : List Number) (place : ℕ) (before text after : List ℕ) (extracode : Bool) (word : Number) (tally : Tally) →
-    extracode ≡ is_extracode_at words place → word ≡ fixed_at place words → tally ≡ tally_at place c.fixed →
-    text ≡ before ++ lines_below place (word_line layout whole c words) → after ≡ text ++ word_row layout whole place extracode word tally →
+pub more_words : (layout : Layout) (whole : Bool) (c : Counts) (words : List Number) (place : ℕ) (before text after : List ℕ) (extracode : Bool) (word : Number) (tally reads : Tally) →
+    extracode ≡ is_extracode_at words place → word ≡ fixed_at place words → tally ≡ tally_at place c.fixed → reads ≡ tally_at place c.fixed_data →
+    text ≡ before ++ lines_below place (word_line layout whole c words) → after ≡ text ++ word_row layout whole place extracode word tally reads →
     after ≡ before ++ lines_below (place + 1) (word_line layout whole c words)
 unfolding word_line
-more_words layout whole c words place before text after extracode word tally e f g h k =
+more_words layout whole c words place before text after extracode word tally reads e f g r h k =
     more_lines place (word_line layout whole c words) before text after h
-    (k ∙ ap (λ (b : Bool). text ++ word_row layout whole place b word tally) e
-    ∙ ap (λ (n : Number). text ++ word_row layout whole place (is_extracode_at words place) n tally) f
-    ∙ ap (λ (t : Tally). text ++ word_row layout whole place (is_extracode_at words place) (fixed_at place words) t) g)
+    (k ∙ ap (λ (b : Bool). text ++ word_row layout whole place b word tally reads) e
+    ∙ ap (λ (n : Number). text ++ word_row layout whole place (is_extracode_at words place) n tally reads) f
+    ∙ ap (λ (t : Tally). text ++ word_row layout whole place (is_extracode_at words place) (fixed_at place words) t reads) g
+    ∙ ap (λ (t : Tally). text ++ word_row layout whole place (is_extracode_at words place) (fixed_at place words) (tally_at place c.fixed) t) r)

@@ -14,11 +14,12 @@ use Rattle.agc_source_words.specs.declared.location.Location.{Location}
 use Rattle.agc_source_words.specs.declared.location.Location.TheVariants as location
 use Rattle.agc_trace.specs.Places.{is_from_to}
 use Rattle.agc_trace.specs.Selection.{runs_at}
-use Rattle.agc_count.specs.Counts.{count_of, counted, counted_as, counted_at, counted_happening, counted_inhibited, counted_one, counted_serving, nothing_counted}
+use Rattle.agc_count.specs.Counts.{count_of, counted, counted_as, counted_at, counted_data, counted_happening, counted_inhibited, counted_one, counted_read, counted_serving, nothing_counted}
 use Rattle.agc_count.specs.Laws.{ran_at, tally_of}
 use Rattle.agc_count.specs.Passage.{service_of}
 use Rattle.agc_count.specs.Tally.{added, empty_table, nothing, once, plus, tally_at}
 use Rattle.agc_count.specs.declared.counts.Counts.{Counts}
+use Rattle.agc_count.specs.declared.data.Data.{Data}
 use Rattle.agc_count.specs.declared.passage.Passage.{Passage}
 use Rattle.agc_count.specs.declared.tally.Tally.{Tally}
 
@@ -27,16 +28,16 @@ abbrev pub more_if : Bool → ℕ → Tally → Tally
 more_if true cycles tally = plus tally (once cycles)
 more_if false cycles tally = tally
 
-abbrev tally : ℕ → ℕ → Tally
+abbrev pub tally : ℕ → ℕ → Tally
 tally times cycles = record { times = times; cycles = cycles }
 
-same_tally : (a b c d : ℕ) → a ≡ c → b ≡ d → tally a b ≡ tally c d
+pub same_tally : (a b c d : ℕ) → a ≡ c → b ≡ d → tally a b ≡ tally c d
 same_tally a b c d e f = ap (λ (n : ℕ). tally n b) e ∙ ap (λ (n : ℕ). tally c n) f
 
-plus_nothing : (t : Tally) → t ≡ plus t nothing
+pub plus_nothing : (t : Tally) → t ≡ plus t nothing
 plus_nothing t = same_tally t.times t.cycles (t.times + 0) (t.cycles + 0) (omega arith) (omega arith)
 
-nothing_plus : (t : Tally) → plus nothing t ≡ t
+pub nothing_plus : (t : Tally) → plus nothing t ≡ t
 nothing_plus t = same_tally (0 + t.times) (0 + t.cycles) t.times t.cycles (omega arith) (omega arith)
 
 joined : (b : Bool) (t : Tally) (p : Passage) (ps : List Passage) →
@@ -60,7 +61,7 @@ pub added_elsewhere : (here place : ℕ) (t : Tally) (xs : List Tally) → here 
 unfolding added tally_at
 added_elsewhere here place t xs e = get_or-set_other xs place here (plus (get_or xs place nothing) t) nothing e
 
-added_by : (b : Bool) (here place cycles : ℕ) (xs : List Tally) → (nat_le here place && nat_le place here) ≡ b → here < length xs →
+pub added_by : (b : Bool) (here place cycles : ℕ) (xs : List Tally) → (nat_le here place && nat_le place here) ≡ b → here < length xs →
     tally_at here (added place (once cycles) xs) ≡ more_if b cycles (tally_at here xs)
 added_by true here place cycles xs e l = added_here here place (once cycles) xs (grind (arith, nat_tests)) l
 added_by false here place cycles xs e l = added_elsewhere here place (once cycles) xs (λ same. grind (arith, nat_tests))
@@ -119,11 +120,21 @@ inhibited_same : (b : Bool) (one : Tally) (c : Counts) → SamePlaces c (counted
 inhibited_same true one c = record { fixed = refl; erasable = refl }
 inhibited_same false one c = record { fixed = refl; erasable = refl }
 
+read_same : (o : Option Location) (one : Tally) (c : Counts) → SamePlaces c (counted_read o one c)
+read_same (Some (location.Fixed place)) one c = record { fixed = refl; erasable = refl }
+read_same (Some (location.Erasable cell)) one c = record { fixed = refl; erasable = refl }
+read_same None one c = record { fixed = refl; erasable = refl }
+
+data_same : (words : Data) (one : Tally) (c : Counts) → SamePlaces c (counted_data words one c)
+data_same words one c = same_places _ _ _ (read_same words.at one c) (read_same words.before one (counted_read words.at one c))
+
 one_same : (p : Passage) (c : Counts) → SamePlaces (counted_happening p.happening (once p.cycles) c) (counted_one p c)
 unfolding counted_one
 one_same p c =
+    let served = counted_serving (service_of p) p (counted_happening p.happening (once p.cycles) c) in
     same_places _ _ _ (serving_same (service_of p) p (counted_happening p.happening (once p.cycles) c))
-    (inhibited_same p.mode.inhibited (once p.cycles) (counted_serving (service_of p) p (counted_happening p.happening (once p.cycles) c)))
+    (same_places _ _ _ (inhibited_same p.mode.inhibited (once p.cycles) served)
+    (data_same p.reads (once p.cycles) (counted_inhibited p.mode.inhibited (once p.cycles) served)))
 
 -- the tables after a boundary are those after its order, if it is one
 abbrev pub counted_there : Upcoming → Tally → Counts → Counts

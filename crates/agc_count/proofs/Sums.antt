@@ -17,12 +17,13 @@ use Rattle.agc_processor.specs.declared.interrupt.Rupt.{Rupt}
 use Rattle.agc_source_words.specs.Location.{location_at}
 use Rattle.agc_source_words.specs.declared.location.Location.{Location}
 use Rattle.agc_source_words.specs.declared.location.Location.TheVariants as location
-use Rattle.agc_count.specs.Counts.{counted_as, counted_at, counted_happening, counted_in, counted_inhibited, counted_one, counted_serving, nothing_counted}
+use Rattle.agc_count.specs.Counts.{counted_as, counted_at, counted_data, counted_happening, counted_in, counted_inhibited, counted_one, counted_read, counted_serving, nothing_counted}
 use Rattle.agc_count.specs.Laws.{MakeUp, OrdersAddUp}
 use Rattle.agc_count.specs.Number.{basic_number, extracode_number}
 use Rattle.agc_count.specs.Passage.{HasTally, IsPlaced, is_in, service_of}
 use Rattle.agc_count.specs.Tally.{added, cycles_in, empty_table, nothing, once, plus, times_in}
 use Rattle.agc_count.specs.declared.counts.Counts.{Counts}
+use Rattle.agc_count.specs.declared.data.Data.{Data}
 use Rattle.agc_count.specs.declared.passage.Passage.{Passage}
 use Rattle.agc_count.specs.declared.span.Span.{Span}
 use Rattle.agc_count.specs.declared.tally.Tally.{Tally}
@@ -201,12 +202,21 @@ inhibited_adds : (b : Bool) (one : Tally) (c : Counts) → AddsUp c → AddsUp (
 inhibited_adds true one c h = h
 inhibited_adds false one c h = h
 
+read_adds : (o : Option Location) (one : Tally) (c : Counts) → AddsUp c → AddsUp (counted_read o one c)
+read_adds (Some (location.Fixed place)) one c h = h
+read_adds (Some (location.Erasable cell)) one c h = h
+read_adds None one c h = h
+
+data_adds : (words : Data) (one : Tally) (c : Counts) → AddsUp c → AddsUp (counted_data words one c)
+data_adds words one c h = read_adds words.before one (counted_read words.at one c) (read_adds words.at one c h)
+
 one_adds : (p : Passage) (c : Counts) → IsPlaced p.happening → AddsUp c → AddsUp (counted_one p c)
 unfolding counted_one
 one_adds p c l h =
     let happened = counted_happening p.happening (once p.cycles) c in
-    inhibited_adds p.mode.inhibited (once p.cycles) (counted_serving (service_of p) p happened)
-    (serving_adds (service_of p) p happened (happening_adds p.happening (once p.cycles) c l h))
+    data_adds p.reads (once p.cycles) _
+    (inhibited_adds p.mode.inhibited (once p.cycles) (counted_serving (service_of p) p happened)
+    (serving_adds (service_of p) p happened (happening_adds p.happening (once p.cycles) c l h)))
 
 -- a boundary more adds up too
 pub one_adds_up : (span : Span) (p : Passage) (c more : Counts) → IsPlaced p.happening → more ≡ counted_in span p c → AddsUp c → AddsUp more

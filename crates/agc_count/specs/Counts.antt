@@ -14,6 +14,7 @@ use Rattle.agc_count.specs.Number.{basic_number, extracode_number}
 use Rattle.agc_count.specs.Passage.{is_in, service_of}
 use Rattle.agc_count.specs.Tally.{added, empty_table, nothing, once, plus}
 use Rattle.agc_count.specs.declared.counts.Counts.{Counts}
+use Rattle.agc_count.specs.declared.data.Data.{Data}
 use Rattle.agc_count.specs.declared.passage.Passage.{Passage}
 use Rattle.agc_count.specs.declared.span.Span.{Span}
 use Rattle.agc_count.specs.declared.tally.Tally.{Tally}
@@ -24,6 +25,8 @@ nothing_counted =
     record {
       fixed = empty_table 0o120000;
       erasable = empty_table 0o4000;
+      fixed_data = empty_table 0o120000;
+      erasable_data = empty_table 0o4000;
       basics = empty_table 19;
       extracodes = empty_table 20;
       interrupts = empty_table 10;
@@ -84,12 +87,25 @@ abbrev pub counted_inhibited : Bool → Tally → Counts → Counts
 counted_inhibited true one c = record c { inhibited = plus c.inhibited one }
 counted_inhibited false one c = c
 
+-- a word that is read as data
+abbrev pub counted_read : Option Location → Tally → Counts → Counts
+counted_read (Some (location.Fixed place)) one c =
+    record c { fixed_data = added place one c.fixed_data }
+counted_read (Some (location.Erasable cell)) one c =
+    record c { erasable_data = added cell one c.erasable_data }
+counted_read None one c = c
+
+-- all words that a boundary reads as data
+abbrev pub counted_data : Data → Tally → Counts → Counts
+counted_data words one c = counted_read words.before one (counted_read words.at one c)
+
 -- one boundary more
 unfoldable pub counted_one : Passage → Counts → Counts
 counted_one p c =
     let one = once p.cycles in
-    counted_inhibited p.mode.inhibited one
-    (counted_serving (service_of p) p (counted_happening p.happening one c))
+    counted_data p.reads one
+    (counted_inhibited p.mode.inhibited one
+    (counted_serving (service_of p) p (counted_happening p.happening one c)))
 
 -- one boundary more, where it begins in a span of cycles
 abbrev pub counted_in : Span → Passage → Counts → Counts

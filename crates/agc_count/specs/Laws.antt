@@ -1,13 +1,14 @@
 -- What the counts of a run say of its boundaries.
-use Rattle.std.specs.Prelude.{◌≡◌, ◌==◌, ◌&&◌, Option, Some, None, ℕ, ◌+◌, Bool, false, List, length}
+use Rattle.std.specs.Prelude.{◌≡◌, ◌==◌, ◌&&◌, Option, Some, None, ℕ, ◌+◌, Bool, false, List, filter, length}
 use Rattle.std.specs.List.{sum_by}
 use Rattle.agc_processor.specs.Interrupt.{rupt_number}
 use Rattle.agc_processor.specs.declared.interrupt.Rupt.{Rupt}
 use Rattle.agc_source_words.specs.declared.location.Location.{Location}
+use Rattle.agc_trace.specs.Places.{is_from_to}
 use Rattle.agc_trace.specs.Selection.{runs_at}
 use Rattle.agc_count.specs.Counts.{is_entry}
 use Rattle.agc_count.specs.Passage.{service_of}
-use Rattle.agc_count.specs.Tally.{cycles_in, times_in}
+use Rattle.agc_count.specs.Tally.{cycles_in, plus, times_in}
 use Rattle.agc_count.specs.declared.counts.Counts.{Counts}
 use Rattle.agc_count.specs.declared.passage.Passage.{Passage}
 use Rattle.agc_count.specs.declared.tally.Tally.{Tally}
@@ -19,6 +20,23 @@ tally_of ps = record { times = length ps; cycles = sum_by (λ p. p.cycles) ps }
 -- the order at a place ran, as a trace of the orders at this place alone tells it
 abbrev pub ran_at : Location → Passage → Bool
 ran_at here p = runs_at (record { first = here; last = here }) p.happening
+
+-- a word is read as data, and at a place
+abbrev pub is_read : Option Location → Location → Bool
+is_read (Some place) here = is_from_to here here place
+is_read None here = false
+
+-- the order of a boundary reads the word at a place as data, by its address
+abbrev pub read_at : Location → Passage → Bool
+read_at here p = is_read p.reads.at here
+
+-- a double order reads it as the word before its address
+abbrev pub read_before : Location → Passage → Bool
+read_before here p = is_read p.reads.before here
+
+-- what two sorts of boundaries come to together
+abbrev pub tally_of_both : (Passage → Bool) → (Passage → Bool) → List Passage → Tally
+tally_of_both test other ps = plus (tally_of (filter test ps)) (tally_of (filter other ps))
 
 -- the cycles of all kinds of boundaries
 abbrev pub counted_cycles : Counts → ℕ

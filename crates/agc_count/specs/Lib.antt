@@ -1,5 +1,7 @@
 pub mod Tally
 pub mod Mode
+pub mod Data
+pub mod Told
 pub mod Passage
 pub mod Number
 pub mod Counts

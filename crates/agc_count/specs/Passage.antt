@@ -8,30 +8,31 @@ use Rattle.agc_machine.specs.declared.upcoming.Upcoming.TheVariants as upcoming
 use Rattle.agc_source_words.specs.Location.{location_at}
 use Rattle.agc_source_words.specs.declared.location.Location.{Location}
 use Rattle.agc_source_words.specs.declared.location.Location.TheVariants as location
-use Rattle.agc_trace.specs.Trace.{trace_of}
-use Rattle.agc_trace.specs.declared.entry.Entry.{Entry}
+use Rattle.agc_count.specs.Data.{data_of}
 use Rattle.agc_count.specs.Mode.{at_start, mode_after}
+use Rattle.agc_count.specs.Told.{Told, all_told}
 use Rattle.agc_count.specs.declared.span.Span.{Span}
 use Rattle.agc_count.specs.declared.mode.Mode.{Mode}
 use Rattle.agc_count.specs.declared.passage.Passage.{Passage}
 
 -- an entry of a trace takes the cycles up to the next one
-abbrev pub passage_between : Mode → Entry → Entry → Passage
-passage_between mode entry next =
+abbrev pub passage_between : Mode → Told → Told → Passage
+passage_between mode told next =
     record {
-      cycle = entry.cycle;
-      happening = entry.happening;
-      cycles = next.cycle - entry.cycle;
+      cycle = told.entry.cycle;
+      happening = told.entry.happening;
+      cycles = next.entry.cycle - told.entry.cycle;
       mode = mode;
+      reads = told.reads;
     }
 
 -- the boundaries of a trace up to its last entry, which is the stop and takes none
-unfoldable pub passages : Mode → List Entry → List Passage
+unfoldable pub passages : Mode → List Told → List Passage
 passages mode [] = []
 passages mode (last ∷ []) = []
-passages mode (entry ∷ next ∷ entries) =
-    passage_between mode entry next
-    ∷ passages (mode_after entry.happening mode) (next ∷ entries)
+passages mode (told ∷ next ∷ later) =
+    passage_between mode told next
+    ∷ passages (mode_after told.entry.happening mode) (next ∷ later)
 
 -- a boundary that begins in a span of cycles
 abbrev pub is_in : Span → Passage → Bool
@@ -39,7 +40,7 @@ is_in span passage = nat_le span.from passage.cycle && nat_le passage.cycle span
 
 -- the boundaries in a span that a machine still makes, from a state that is in a mode
 unfoldable pub passages_left : Span → Mode → State → List Passage
-passages_left span mode s = filter (is_in span) (passages mode (trace_of s))
+passages_left span mode s = filter (is_in span) (passages mode (all_told s))
 
 -- the boundaries of a run in a span
 abbrev pub passages_in : Span → State → List Passage
@@ -53,6 +54,7 @@ passage_of mode s =
       happening = upcoming_of s;
       cycles = (boundary None s).0.cycle - s.cycle;
       mode = mode;
+      reads = data_of (upcoming_of s) s.processor.store;
     }
 
 -- to a service belong the entry of its interrupt and all up to its RESUME

@@ -1,6 +1,6 @@
 -- A count in print: all of the run, its interrupts, its orders by their names, its banks, and its words.
 use Rattle.std.specs.Prelude.{ℕ, zero, suc, ◌+◌, ◌*◌, ◌/◌, ◌%◌, ◌==◌, ◌&&◌, ◌||◌, not, Bool, nat_lt, if◌then◌else◌}
-use Rattle.std.specs.Prelude.{List, [], ◌++◌, codes, drop, flat_map, take}
+use Rattle.std.specs.Prelude.{List, [], ◌++◌, codes, drop, flat_map, take, Some, None}
 use Rattle.agc_word.specs.Number.{Number, pattern_of}
 use Rattle.agc_word.specs.Octal.{octal_digits}
 use Rattle.agc_store.specs.Memory.{fixed_at}
@@ -23,7 +23,7 @@ use Rattle.agc_count.specs.declared.tally.Tally.{Tally}
 -- the line of what happened at all
 unfoldable pub counted_row : Layout → List ℕ → List ℕ → Tally → List ℕ
 counted_row layout kind name tally =
-    if is_counted tally then row_text layout kind name [] tally else []
+    if is_counted tally then row_text layout kind name [] tally None else []
 
 -- the lines of the first so many things of a kind, by their numbers
 unfoldable pub lines_below : ℕ → (ℕ → List ℕ) → List ℕ
@@ -38,13 +38,13 @@ all_of c = plus (plus (plus c.orders c.timers) c.events) c.entries
 -- INHINT in force
 unfoldable pub all_text : Layout → Counts → List ℕ
 all_text layout c =
-    row_text layout (codes "all") (codes "boundaries") [] (all_of c)
-    ++ row_text layout (codes "all") (codes "orders") [] c.orders
-    ++ row_text layout (codes "all") (codes "timers") [] c.timers
-    ++ row_text layout (codes "all") (codes "events") [] c.events
-    ++ row_text layout (codes "all") (codes "interrupts") [] c.entries
-    ++ row_text layout (codes "all") (codes "in services") [] c.serving
-    ++ row_text layout (codes "all") (codes "under INHINT") [] c.inhibited
+    row_text layout (codes "all") (codes "boundaries") [] (all_of c) None
+    ++ row_text layout (codes "all") (codes "orders") [] c.orders None
+    ++ row_text layout (codes "all") (codes "timers") [] c.timers None
+    ++ row_text layout (codes "all") (codes "events") [] c.events None
+    ++ row_text layout (codes "all") (codes "interrupts") [] c.entries None
+    ++ row_text layout (codes "all") (codes "in services") [] c.serving None
+    ++ row_text layout (codes "all") (codes "under INHINT") [] c.inhibited None
 
 -- the line of an interrupt, and of those with the first so many numbers
 unfoldable pub rupt_line : Layout → Counts → ℕ → List ℕ
@@ -96,36 +96,49 @@ cell_place cell =
     if nat_lt cell 0o1400 then printed.Plain cell
     else printed.Erasable (cell / 0o400) (0o1400 + cell % 0o400)
 
--- the lines of the orders in the first so many cells
+-- a word ran as an order, or was read as data
+abbrev pub is_used : Tally → Tally → Bool
+is_used tally reads = is_counted tally || is_counted reads
+
+-- the line of a word by its place alone: where it ran or was read
+unfoldable pub place_row : Layout → Place → Tally → Tally → List ℕ
+place_row layout place tally reads =
+    if is_used tally reads
+    then row_text layout (codes "word") (place_text place) [] tally (Some reads.times)
+    else []
+
+-- the lines of the first so many cells
 unfoldable pub cell_line : Layout → Counts → ℕ → List ℕ
 cell_line layout c cell =
-    counted_row layout (codes "word") (place_text (cell_place cell)) (tally_at cell c.erasable)
+    place_row layout (cell_place cell) (tally_at cell c.erasable) (tally_at cell c.erasable_data)
 
 abbrev pub cell_lines : ℕ → Layout → Counts → List ℕ
 cell_lines count layout c = lines_below count (cell_line layout c)
 
--- the line of a word of the rope, with the order that it is: where it ran, and of the whole rope where it is not +0
-unfoldable pub word_row : Layout → Bool → ℕ → Bool → Number → Tally → List ℕ
-word_row layout whole place extracode word tally =
-    if is_counted tally || (whole && not (pattern_of 15 word == 0))
+-- The line of a word of the rope, with the order that it is: where it ran or was read, and of the whole rope where it
+-- is not +0.
+unfoldable pub word_row : Layout → Bool → ℕ → Bool → Number → Tally → Tally → List ℕ
+word_row layout whole place extracode word tally reads =
+    if is_used tally reads || (whole && not (pattern_of 15 word == 0))
     then row_text layout (codes "word") (place_text (listed_place place))
     (octal_digits 5 (pattern_of 15 word) ++ codes " " ++ order_text extracode word) tally
+    (Some reads.times)
     else []
 
 unfoldable pub word_line : Layout → Bool → Counts → List Number → ℕ → List ℕ
 word_line layout whole c words place =
     word_row layout whole place (is_extracode_at words place) (fixed_at place words)
-    (tally_at place c.fixed)
+    (tally_at place c.fixed) (tally_at place c.fixed_data)
 
 -- the lines of the words at the first so many places
 abbrev pub word_lines : ℕ → Layout → Bool → Counts → List Number → List ℕ
 word_lines count layout whole c words =
     lines_below count (word_line layout whole c words)
 
--- the lines of the orders at so many places after the rope's, in banks that are empty
+-- the lines of the words at so many places after the rope's, in banks that are empty
 unfoldable pub empty_line : Layout → Counts → ℕ → List ℕ
 empty_line layout c place =
-    counted_row layout (codes "word") (place_text (listed_place place)) (tally_at place c.fixed)
+    place_row layout (listed_place place) (tally_at place c.fixed) (tally_at place c.fixed_data)
 
 abbrev pub empty_lines : ℕ → ℕ → Layout → Counts → List ℕ
 empty_lines first count layout c = lines_below count (λ number. empty_line layout c (first + number))
@@ -142,6 +155,6 @@ words_text layout whole c words =
     cell_lines 0o4000 layout c ++ word_lines 0o110000 layout whole c words
     ++ empty_lines 0o110000 0o10000 layout c
 
--- the text of a count, with the words that ran, or with those of the whole rope
+-- the text of a count, with the words that ran or were read, or with those of the whole rope
 unfoldable pub count_text : Layout → Bool → Counts → List Number → List ℕ
 count_text layout whole c words = summary_text layout c ++ words_text layout whole c words

@@ -2,6 +2,7 @@
 ghost use Rattle.std.specs.Prelude.{◌≡◌};
 ghost use Rattle.agc_count.specs.Counts.{served};
 
+use crate::data::Data;
 use crate::number::{BASICS, EXTRACODES, basic_number, extracode_number};
 use crate::passage::Passage;
 use crate::span::Span;
@@ -27,6 +28,10 @@ pub struct Counts {
     pub fixed: Table,
     /// The orders that ran at each cell of erasable memory: 400 octal times its bank, and its offset.
     pub erasable: Table,
+    /// How often the word at each place of fixed memory was read as data, and the cycles of the orders that read it.
+    pub fixed_data: Table,
+    /// The same of each cell of erasable memory.
+    pub erasable_data: Table,
     /// The orders of each kind, in the order of their codes.
     pub basics: Table,
     pub extracodes: Table,
@@ -51,10 +56,12 @@ impl Counts {
     ghost use Rattle.agc_count.specs.Counts.{
       counted_as,
       counted_at,
+      counted_data,
       counted_happening,
       counted_in,
       counted_inhibited,
       counted_one,
+      counted_read,
       counted_serving,
       nothing_counted,
       served,
@@ -68,6 +75,8 @@ impl Counts {
         Ok(Counts {
             fixed: Table::new(alloc, PLACES)?,
             erasable: Table::new(alloc, CELLS)?,
+            fixed_data: Table::new(alloc, PLACES)?,
+            erasable_data: Table::new(alloc, CELLS)?,
             basics: Table::new(alloc, BASICS)?,
             extracodes: Table::new(alloc, EXTRACODES)?,
             interrupts: Table::new(alloc, RUPTS)?,
@@ -99,7 +108,8 @@ impl Counts {
         let one = Tally::once(passage.cycles);
         self.take_happening(passage.happening, one)?;
         self.take_serving(passage.service(), passage)?;
-        self.take_inhibited(passage.mode.inhibited, one)
+        self.take_inhibited(passage.mode.inhibited, one)?;
+        self.take_data(passage.reads, one)
     }
 
     /// Counts what happened.
@@ -159,6 +169,25 @@ impl Counts {
         self.interrupts.add(place, served(passage))?;
         self.serving = self.serving.plus(Tally::once(passage.cycles))?;
         Ok(())
+    }
+
+    /// Counts the words that a boundary reads as data.
+    fn take_data(&mut self, words: Data, one: Tally) -> Result<(), AllocError>
+        ensures { OnOk result (self.new ≡ counted_data words one self.old) }
+    {
+        self.take_read(words.at, one)?;
+        self.take_read(words.before, one)
+    }
+
+    /// Counts a word that is read as data.
+    fn take_read(&mut self, place: Option<Location>, one: Tally) -> Result<(), AllocError>
+        ensures { OnOk result (self.new ≡ counted_read place one self.old) }
+    {
+        match place {
+            Some(Location::Fixed(place)) => self.fixed_data.add(place as usize, one),
+            Some(Location::Erasable(cell)) => self.erasable_data.add(cell as usize, one),
+            None => Ok(()),
+        }
     }
 
     /// Counts what began with INHINT in force.

@@ -5,12 +5,21 @@ ghost use Rattle.agc_processor.specs.declared.interrupt.Rupt.{Rupt};
 ghost use Rattle.agc_machine.specs.Run.{run_of};
 ghost use Rattle.agc_machine.specs.State.{State};
 ghost use Rattle.agc_source_words.specs.declared.location.Location.TheVariants as location;
-ghost use Rattle.agc_trace.specs.Trace.{trace_of};
 ghost use Rattle.agc_count.specs.Counts.{count_of};
-ghost use Rattle.agc_count.specs.Laws.{counted_cycles, ran_at, serves, takes, tally_of};
+ghost use Rattle.agc_count.specs.Laws.{
+  counted_cycles,
+  ran_at,
+  read_at,
+  read_before,
+  serves,
+  takes,
+  tally_of,
+  tally_of_both,
+};
 ghost use Rattle.agc_count.specs.Mode.{at_start};
 ghost use Rattle.agc_count.specs.Passage.{passages};
 ghost use Rattle.agc_count.specs.Tally.{tally_at};
+ghost use Rattle.agc_count.specs.Told.{all_told};
 ghost use Rattle.agc_count.specs.declared.passage.Passage.{Passage};
 
 /// Each place has as many orders as there are boundaries that ran the order at this place, and their cycles.
@@ -19,6 +28,17 @@ pub fn a_place_has_its_boundaries()
         → tally_at place (count_of ps).fixed ≡ tally_of (filter (ran_at (location.Fixed place)) ps) }
     ensures erasable { (cell : ℕ) (ps : List Passage) → cell < 0o4000
         → tally_at cell (count_of ps).erasable ≡ tally_of (filter (ran_at (location.Erasable cell)) ps) }
+{}
+
+/// Each place was read as data by as many orders as there are boundaries whose order reads it by its address, and with
+/// these those whose order is a double one and reads it as the word before.
+pub fn a_place_has_its_readers()
+    ensures fixed { (place : ℕ) (ps : List Passage) → place < 0o120000
+        → tally_at place (count_of ps).fixed_data
+        ≡ tally_of_both (read_at (location.Fixed place)) (read_before (location.Fixed place)) ps }
+    ensures erasable { (cell : ℕ) (ps : List Passage) → cell < 0o4000
+        → tally_at cell (count_of ps).erasable_data
+        ≡ tally_of_both (read_at (location.Erasable cell)) (read_before (location.Erasable cell)) ps }
 {}
 
 /// Each interrupt was taken as often as there are boundaries that took it, and its services have the cycles of all
@@ -33,6 +53,6 @@ pub fn an_interrupt_has_its_services()
 
 /// The cycles of a whole run, by kinds, add up to its length.
 pub fn the_cycles_add_up()
-    ensures { (s : State) → counted_cycles (count_of (passages at_start (trace_of s))) + s.cycle
+    ensures { (s : State) → counted_cycles (count_of (passages at_start (all_told s))) + s.cycle
         ≡ (run_of s).last.cycle }
 {}

@@ -4,6 +4,7 @@
 mod banks;
 mod counting;
 mod counts;
+mod data;
 pub mod laws;
 mod mode;
 mod number;
@@ -17,6 +18,7 @@ mod words;
 
 pub use counting::count;
 pub use counts::Counts;
+pub use data::Data;
 pub use mode::Mode;
 pub use passage::Passage;
 pub use report::push_count;

@@ -5,6 +5,7 @@ ghost use Rattle.agc_store.specs.Places.{fixed_window};
 ghost use Rattle.agc_machine.specs.Boundary.{boundary, HasPlace};
 ghost use Rattle.agc_count.specs.Passage.{HasTally, IsPlaced, passage_of};
 
+use crate::data::{Data, data_of};
 use crate::mode::{Mode, inhibited_after, service_after};
 use agc_machine::laws::the_rope_stays;
 use agc_machine::{Machine, Upcoming};
@@ -22,6 +23,8 @@ pub struct Passage {
     pub cycles: u64,
     /// What it begins in.
     pub mode: Mode,
+    /// The words that it reads as data.
+    pub reads: Data,
 }
 
 impl Passage {
@@ -71,6 +74,7 @@ pub(crate) fn next_passage(machine: &mut Machine, mode: Mode) -> Passage
     the_rope_stays();
     let cycle = machine.cycle();
     let happening = machine.upcoming();
+    let reads = data_of(&happening, machine.store());
     has_tally(&happening);
     machine.step(None);
     Passage {
@@ -78,6 +82,7 @@ pub(crate) fn next_passage(machine: &mut Machine, mode: Mode) -> Passage
         happening,
         cycles: machine.cycle().saturating_sub(cycle),
         mode,
+        reads,
     }
 }
 

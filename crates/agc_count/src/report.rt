@@ -25,8 +25,8 @@ use agc_store::Store;
 use std::alloc::AllocError;
 
 /// Adds a count in print: lines for all of the run, for its interrupts, for its orders by their names, for its banks
-/// and for its words, each of what happened at all. Of the whole rope also the words stand there that never ran.
-/// Fails where memory runs out.
+/// and for its words, each of what happened at all. Of the whole rope also the words stand there that never ran
+/// and were never read. Fails where memory runs out.
 #[tactic(auto, unfolding(crate::specs::Report::count_text))]
 pub fn push_count(
     text: &mut String,
@@ -68,13 +68,21 @@ fn push_all(text: &mut String, layout: Layout, counts: &Counts) -> Result<(), Al
         .plus(counts.timers)?
         .plus(counts.events)?
         .plus(counts.entries)?;
-    push_row(text, layout, "all", "boundaries", "", all)?;
-    push_row(text, layout, "all", "orders", "", counts.orders)?;
-    push_row(text, layout, "all", "timers", "", counts.timers)?;
-    push_row(text, layout, "all", "events", "", counts.events)?;
-    push_row(text, layout, "all", "interrupts", "", counts.entries)?;
-    push_row(text, layout, "all", "in services", "", counts.serving)?;
-    push_row(text, layout, "all", "under INHINT", "", counts.inhibited)
+    push_row(text, layout, "all", "boundaries", "", all, None)?;
+    push_row(text, layout, "all", "orders", "", counts.orders, None)?;
+    push_row(text, layout, "all", "timers", "", counts.timers, None)?;
+    push_row(text, layout, "all", "events", "", counts.events, None)?;
+    push_row(text, layout, "all", "interrupts", "", counts.entries, None)?;
+    push_row(text, layout, "all", "in services", "", counts.serving, None)?;
+    push_row(
+        text,
+        layout,
+        "all",
+        "under INHINT",
+        "",
+        counts.inhibited,
+        None,
+    )
 }
 
 /// Adds the line of what happened at all.
@@ -90,7 +98,7 @@ pub(crate) fn push_counted(
         ≡ string_bytes text.old ++ counted_row layout kind.now name.now tally) }
 {
     if tally.is_counted() {
-        push_row(text, layout, kind, name, "", tally)
+        push_row(text, layout, kind, name, "", tally, None)
     } else {
         Ok(())
     }

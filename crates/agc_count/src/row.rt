@@ -1,7 +1,7 @@
 //! A line of a count in print.
 ghost use Rattle.std.specs.Prelude.{◌≡◌, ◌++◌, ◌-◌, OnOk, length, replicate, string_bytes};
 ghost use Rattle.std.specs.Fmt.{decimal};
-ghost use Rattle.agc_count.specs.Row.{after_name, column, row_text};
+ghost use Rattle.agc_count.specs.Row.{after_name, column, data_column, data_value, row_text};
 
 use crate::tally::Tally;
 use std::alloc::AllocError;
@@ -24,13 +24,13 @@ impl Layout {
         ensures { result.now ≡ heading self }
     {
         match self {
-            Layout::Columns => "         times          cycles  of what\n",
-            Layout::Csv => "kind,name,order,times,cycles\n",
+            Layout::Columns => "         times          cycles          data  of what\n",
+            Layout::Csv => "kind,name,order,times,cycles,data\n",
         }
     }
 }
 
-/// Adds a line: how often and how many cycles, of what. Fails where memory runs out.
+/// Adds a line: how often, how many cycles and how often read as data, of what. Fails where memory runs out.
 #[tactic(auto, unfolding(crate::specs::Row::row_text))]
 pub(crate) fn push_row(
     text: &mut String,
@@ -39,20 +39,48 @@ pub(crate) fn push_row(
     name: &str,
     order: &str,
     tally: Tally,
+    reads: Option<u64>,
 ) -> Result<(), AllocError>
     ensures { OnOk result (string_bytes text.new
-        ≡ string_bytes text.old ++ row_text layout kind.now name.now order.now tally) }
+        ≡ string_bytes text.old ++ row_text layout kind.now name.now order.now tally reads) }
 {
     let Tally { times, cycles } = tally;
     match layout {
         Layout::Columns => {
             push_column(text, 14, times)?;
             push_column(text, 16, cycles)?;
+            push_data_column(text, reads)?;
             write!(text, "  {kind} {name}")?;
             push_after_name(text, order)?;
             text.push_str("\n")
         }
-        Layout::Csv => writeln!(text, "{kind},\"{name}\",{order},{times},{cycles}"),
+        Layout::Csv => {
+            write!(text, "{kind},\"{name}\",{order},{times},{cycles},")?;
+            push_data_value(text, reads)?;
+            text.push_str("\n")
+        }
+    }
+}
+
+/// Adds how often something was read as data at the right of its column.
+fn push_data_column(text: &mut String, reads: Option<u64>) -> Result<(), AllocError>
+    ensures { OnOk result (string_bytes text.new
+        ≡ string_bytes text.old ++ data_column reads) }
+{
+    match reads {
+        Some(reads) => push_column(text, 14, reads),
+        None => text.push_str("             -"),
+    }
+}
+
+/// Adds how often something was read as data, where it is a word.
+fn push_data_value(text: &mut String, reads: Option<u64>) -> Result<(), AllocError>
+    ensures { OnOk result (string_bytes text.new
+        ≡ string_bytes text.old ++ data_value reads) }
+{
+    match reads {
+        Some(reads) => write!(text, "{reads}"),
+        None => Ok(()),
     }
 }
 

@@ -1,4 +1,5 @@
-//! The lines of the words: of each how often it ran as an order, and how many cycles that took.
+//! The lines of the words: of each how often it ran as an order, how many cycles that took, and how often it was read as
+//! data.
 ghost use Rattle.std.specs.Prelude.{◌≡◌, ◌++◌, ◌&&◌, ◌+◌, ◌<◌, ◌≤◌, not, OnOk, string_bytes};
 ghost use Rattle.agc_word.specs.Number.{pattern_of};
 ghost use Rattle.agc_store.specs.Memory.{fixed_at};
@@ -10,13 +11,14 @@ ghost use Rattle.agc_count.specs.Report.{
   cell_place,
   empty_line,
   empty_lines,
+  is_used,
+  place_row,
   word_lines,
   word_row,
   words_text,
 };
 
 use crate::counts::Counts;
-use crate::report::push_counted;
 use crate::row::{Layout, push_row};
 use crate::tally::Tally;
 use agc_rope_listing::{Place, leads_extracode, listed_address, push_order, push_place};
@@ -71,10 +73,45 @@ fn push_cell(
     ensures { OnOk result (string_bytes text.new
         ≡ string_bytes text.old ++ cell_line layout counts.now cell) }
 {
+    let number = cell as usize;
+    let (tally, reads) = (counts.erasable.at(number), counts.erasable_data.at(number));
+    push_at(text, layout, cell_place(cell), tally, reads)
+}
+
+/// Adds the line of a word by its place alone, where it ran or was read.
+#[tactic(auto, unfolding(crate::specs::Report::place_row))]
+fn push_at(
+    text: &mut String,
+    layout: Layout,
+    place: Place,
+    tally: Tally,
+    reads: Tally,
+) -> Result<(), AllocError>
+    requires { IsInPrint place }
+    ensures { OnOk result (string_bytes text.new
+        ≡ string_bytes text.old ++ place_row layout place tally reads) }
+{
+    if !is_used(tally, reads) {
+        return Ok(());
+    }
     let mut name = String::new(*text.allocator());
-    push_place(&mut name, cell_place(cell))?;
-    let tally = counts.erasable.at(cell as usize);
-    push_counted(text, layout, "word", name.as_str(), tally)
+    push_place(&mut name, place)?;
+    push_row(
+        text,
+        layout,
+        "word",
+        name.as_str(),
+        "",
+        tally,
+        Some(reads.times),
+    )
+}
+
+/// A word ran as an order, or was read as data.
+fn is_used(tally: Tally, reads: Tally) -> bool
+    ensures { result ≡ is_used tally reads }
+{
+    tally.is_counted() || reads.is_counted()
 }
 
 /// The place of a cell by its number.
@@ -110,15 +147,8 @@ fn push_listed(
     for place in 0..count {
         let word = word_at(store, place);
         let extracode = leads_on(leads, place);
-        push_word(
-            text,
-            layout,
-            whole,
-            place,
-            extracode,
-            word,
-            counts.fixed.at(place),
-        )?;
+        let (tally, reads) = (counts.fixed.at(place), counts.fixed_data.at(place));
+        push_word(text, layout, whole, place, extracode, word, tally, reads)?;
         leads = leads_extracode(extracode, word);
     }
     Ok(())
@@ -151,12 +181,13 @@ fn push_word(
     extracode: bool,
     word: Narrow,
     tally: Tally,
+    reads: Tally,
 ) -> Result<(), AllocError>
     requires { place < 0o110000 }
     ensures { OnOk result (string_bytes text.new
-        ≡ string_bytes text.old ++ word_row layout whole place extracode word tally) }
+        ≡ string_bytes text.old ++ word_row layout whole place extracode word tally reads) }
 {
-    if !(tally.is_counted() || (whole && word.bits() != 0)) {
+    if !(is_used(tally, reads) || (whole && word.bits() != 0)) {
         return Ok(());
     }
     let alloc = *text.allocator();
@@ -164,7 +195,16 @@ fn push_word(
     push_place(&mut name, fixed_place(place))?;
     let mut order = format!(in alloc; "{word} ")?;
     push_order(&mut order, extracode, word)?;
-    push_row(text, layout, "word", name.as_str(), order.as_str(), tally)
+    let reads = Some(reads.times);
+    push_row(
+        text,
+        layout,
+        "word",
+        name.as_str(),
+        order.as_str(),
+        tally,
+        reads,
+    )
 }
 
 /// The place of a word of fixed memory, as listings name it.
@@ -185,7 +225,7 @@ fn fixed_place(place: usize) -> Place
     }
 }
 
-/// Adds the lines of the orders at so many places from one on, in banks that the rope does not have.
+/// Adds the lines of the words at so many places from one on, in banks that the rope does not have.
 fn push_empty(
     text: &mut String,
     layout: Layout,
@@ -214,7 +254,6 @@ fn push_empty_word(
     ensures { OnOk result (string_bytes text.new
         ≡ string_bytes text.old ++ empty_line layout counts.now place) }
 {
-    let mut name = String::new(*text.allocator());
-    push_place(&mut name, fixed_place(place))?;
-    push_counted(text, layout, "word", name.as_str(), counts.fixed.at(place))
+    let (tally, reads) = (counts.fixed.at(place), counts.fixed_data.at(place));
+    push_at(text, layout, fixed_place(place), tally, reads)
 }

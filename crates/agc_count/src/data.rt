@@ -1,0 +1,128 @@
+//! The words that an order reads as data.
+ghost use Rattle.std.specs.Prelude.{◌≡◌};
+ghost use Rattle.agc_word.specs.Number.{pattern_of};
+ghost use Rattle.agc_count.specs.Data.{
+  basic_reads,
+  data_of,
+  data_read,
+  location_in,
+  order_reads,
+  word_at,
+  words_at,
+};
+
+use agc_machine::{InHand, Upcoming};
+use agc_order::{Basic, Extracode, Takes};
+use agc_source_words::Location;
+use agc_store::{Addr, Store};
+use agc_word::Narrow;
+
+/// The places of the words that a boundary reads as data.
+#[derive(Clone, Copy, Debug, PartialEq, Eq)]
+pub struct Data {
+    /// The word at its order's address.
+    pub at: Option<Location>,
+    /// The word at the address before it, which a double order reads too.
+    pub before: Option<Location>,
+}
+
+impl Data {
+    ghost use Rattle.std.specs.Prelude.{◌≡◌};
+    ghost use Rattle.agc_count.specs.Data.{no_data};
+
+    /// No word.
+    fn none() -> Data
+        ensures { result ≡ no_data }
+    {
+        Data {
+            at: None,
+            before: None,
+        }
+    }
+}
+
+/// The words that a boundary reads as data, in the memory in which it begins: those of its order.
+#[tactic(auto, unfolding(crate::specs::Data::data_of))]
+pub(crate) fn data_of(happening: &Upcoming, store: &Store) -> Data
+    ensures { result ≡ data_of happening.now store.now }
+{
+    match happening {
+        Upcoming::Order(order) => data_read(order_reads(order), order.word, store),
+        Upcoming::Stop(_) | Upcoming::Event(_) | Upcoming::Timer(_) | Upcoming::Interrupt(_) =>
+            Data::none(),
+    }
+}
+
+/// The words that an order reads, by what it reads and the address in its word.
+fn data_read(reads: Takes, word: Narrow, store: &Store) -> Data
+    ensures { result ≡ data_read reads (pattern_of 15 word) store.now }
+{
+    let long = Addr::of_word(word);
+    match reads {
+        Takes::Erasable => word_at(Addr::wrapped(word.bits() % 0o2000), store),
+        Takes::ErasablePair => {
+            let short = Addr::wrapped(word.bits() % 0o2000);
+            words_at(short, short.previous_low_ten(), store)
+        }
+        Takes::Memory => word_at(long, store),
+        Takes::MemoryPair => words_at(long, long.previous(), store),
+        Takes::Nothing | Takes::Fixed | Takes::Channel => Data::none(),
+    }
+}
+
+/// The word at an address.
+fn word_at(address: Addr, store: &Store) -> Data
+    ensures { result ≡ word_at address store.now }
+{
+    Data {
+        at: Some(location_in(store, address)),
+        before: None,
+    }
+}
+
+/// The words at two addresses.
+fn words_at(address: Addr, before: Addr, store: &Store) -> Data
+    ensures { result ≡ words_at address before store.now }
+{
+    Data {
+        at: Some(location_in(store, address)),
+        before: Some(location_in(store, before)),
+    }
+}
+
+/// The place whose word an address reads.
+#[tactic(auto, unfolding(crate::specs::Data::location_in, agc_store::specs::Cells::named_cell, agc_store::specs::Memory::fixed_place))]
+fn location_in(store: &Store, address: Addr) -> Location
+    ensures { result ≡ location_in store.now address }
+{
+    let number = u32::from(address.bits());
+    match store.named_cell(address) {
+        Some(cell) => Location::Erasable(u32::from(cell)),
+        None => Location::Fixed(if number < 0o4000 {
+            0o2000 * u32::from(store.selected_bank()) + (number - 0o2000)
+        } else {
+            number
+        }),
+    }
+}
+
+/// What an order reads.
+fn order_reads(order: &InHand) -> Takes
+    ensures { result ≡ order_reads order.now }
+{
+    if order.extracode {
+        Extracode::named_by(order.word).row().takes
+    } else {
+        basic_reads(Basic::named_by(order.word))
+    }
+}
+
+/// What a basic order reads: TC takes the address of an order, and TS only stores.
+fn basic_reads(order: Basic) -> Takes
+    ensures { result ≡ basic_reads order }
+{
+    match order {
+        Basic::Tc | Basic::Ts => Takes::Nothing,
+        _ => order.row().takes,
+    }
+}
