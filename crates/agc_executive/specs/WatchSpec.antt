@@ -3,7 +3,7 @@ use Rattle.std.specs.Prelude.{ℕ, ◌+◌, ◌*◌, ◌==◌, ◌<◌, nat_lt, 
 use Rattle.std.specs.Prelude.{◌∷◌, Option, Some, None, option_map, option_and_then, if◌then◌else◌}
 use Rattle.std.specs.List.{slice_split}
 use Rattle.agc_word.specs.Numeral.{octal_number}
-use Rattle.agc_store.specs.Places.{erasable_bank_size}
+use Rattle.agc_store.specs.Places.{erasable_bank_size, erasable_cells}
 use Rattle.agc_executive.specs.declared.watch_spec.WatchSpec.{WatchSpec}
 use Rattle.agc_executive.specs.declared.watch_spec.WatchFault.{WatchFault}
 use Rattle.agc_executive.specs.declared.watch_spec.WatchFault.TheVariants as fault
@@ -55,11 +55,7 @@ pub record HasMore (count : ℕ) (text : List ℕ) : Type 0 where
 unfoldable pub spec_of : List ℕ → Option WatchSpec
 spec_of text = option_and_then spec_from (numbers_in text)
 
--- the cells of the eight erasable banks, which follow one another as one list
-abbrev pub erasable_cells : ℕ
-erasable_cells = 0o4000
-
--- the place in that list of a cell of a bank
+-- the place of a cell of a bank in the list that the eight erasable banks make, one after another
 abbrev pub first_cell : ℕ → ℕ → ℕ
 first_cell bank offset = erasable_bank_size * bank + offset
 

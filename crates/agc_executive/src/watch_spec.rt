@@ -4,7 +4,7 @@ ghost use Rattle.agc_executive.specs.declared.watch_spec.WatchFault.TheVariants.
 ghost use Rattle.agc_executive.specs.WatchSpec.{numbers_in, with_number, HasFewer, HasMore, spec_of};
 ghost use Rattle.agc_executive.specs.WatchSpec.{watch_fault_of, is_out};
 
-use agc_store::place::ERASABLE_BANK_SIZE;
+use agc_store::place::{self, ERASABLE_BANK_SIZE};
 use agc_word::read_octal;
 use std::alloc::AllocError;
 use std::marker::Model;
@@ -14,7 +14,7 @@ use thiserror::Error;
 pub(crate) const BANK_CELLS: u32 = ERASABLE_BANK_SIZE as u32;
 
 /// The cells of the eight erasable banks.
-pub(crate) const ERASABLE_CELLS: u32 = 0o4000;
+pub(crate) const ERASABLE_CELLS: u32 = place::ERASABLE_CELLS as u32;
 
 /// The cells of a core set.
 pub(crate) const CORE_SET_CELLS: u32 = 0o14;

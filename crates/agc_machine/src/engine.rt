@@ -12,6 +12,7 @@ use crate::upcoming::Upcoming;
 use agc_processor::channel::CHAN13;
 use agc_processor::{INTERRUPT_MCT, Processor, Ran, Rupt, Timer, WRITE_MCT};
 use agc_script::{Event, Script, What};
+use agc_store::place::{ERASABLE_WINDOW, FIXED_FIXED, FIXED_WINDOW};
 use agc_store::{Addr, Rope};
 
 /// The run's state and the script that it takes its events from.
@@ -295,9 +296,9 @@ impl Engine {
     {
         let store = &self.processor.store;
         match at.address.bits() {
-            0..0o1400 => true,
-            0o1400..0o2000 => store.erasable_bank() == at.bank,
-            0o2000..0o4000 => store.selected_bank() == at.bank,
+            0..ERASABLE_WINDOW => true,
+            ERASABLE_WINDOW..FIXED_WINDOW => store.erasable_bank() == at.bank,
+            FIXED_WINDOW..FIXED_FIXED => store.selected_bank() == at.bank,
             _ => true,
         }
     }

@@ -11,6 +11,7 @@ use crate::machine::Machine;
 use agc_processor::{Processor, Rupt, Timer};
 use agc_script::What;
 use agc_store::Addr;
+use agc_store::place::{ERASABLE_WINDOW, FIXED_FIXED, FIXED_WINDOW};
 use agc_word::Narrow;
 
 /// The order in hand, which runs where nothing else happens.
@@ -147,9 +148,9 @@ fn bank_of_address(processor: &Processor, address: Addr) -> u8
     ensures erasable { address < fixed_window → result < 0o10 }
 {
     match address.bits() {
-        0..0o1400 => 0,
-        0o1400..0o2000 => processor.store.erasable_bank(),
-        0o2000..0o4000 => processor.store.selected_bank(),
+        0..ERASABLE_WINDOW => 0,
+        ERASABLE_WINDOW..FIXED_WINDOW => processor.store.erasable_bank(),
+        FIXED_WINDOW..FIXED_FIXED => processor.store.selected_bank(),
         _ => 0,
     }
 }

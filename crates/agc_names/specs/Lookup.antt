@@ -3,6 +3,7 @@ use Rattle.std.specs.Prelude.{ℕ, ◌+◌, ◌-◌, nat_lt, nat_le, false, List
 use Rattle.std.specs.Prelude.{Option, Some, None, option_map, if◌then◌else◌}
 use Rattle.std.specs.Option.{option_or}
 use Rattle.std.specs.Str.{bytes_eq}
+use Rattle.agc_store.specs.Places.{erasable_cells, fixed_words}
 use Rattle.agc_source_words.specs.Location.{location_named}
 use Rattle.agc_source_words.specs.Number.{is_sign, offset_named}
 use Rattle.agc_source_words.specs.declared.location.Location.{Location}
@@ -24,11 +25,11 @@ number_by by n =
 
 -- a place, and a cell, that the memory has
 abbrev pub fixed_within : Option ℕ → Option Location
-fixed_within (Some place) = if nat_lt place 0o110000 then Some (location.Fixed place) else None
+fixed_within (Some place) = if nat_lt place fixed_words then Some (location.Fixed place) else None
 fixed_within None = None
 
 abbrev pub cell_within : Option ℕ → Option Location
-cell_within (Some cell) = if nat_lt cell 0o4000 then Some (location.Erasable cell) else None
+cell_within (Some cell) = if nat_lt cell erasable_cells then Some (location.Erasable cell) else None
 cell_within None = None
 
 -- so many words beyond a place, or before it, in the same memory

@@ -2,6 +2,7 @@
 use Rattle.std.specs.Prelude.{◌≡◌, ℕ, ◌/◌, nat_lt, true, List, [], ◌∷◌, ◌++◌, codes, Option, Some, None}
 use Rattle.std.specs.Prelude.{if◌then◌else◌}
 use Rattle.std.specs.List.{flat_map}
+use Rattle.agc_store.specs.Places.{erasable_bank_size, erasable_cells, fixed_words}
 use Rattle.agc_rope_listing.specs.List.{listed_place}
 use Rattle.agc_rope_listing.specs.Place.{place_text}
 use Rattle.agc_rope_listing.specs.declared.place.Place.{Place}
@@ -14,9 +15,12 @@ use Rattle.agc_names.specs.Names.{Named, is_place_name}
 
 -- a place of the memory in print: with its bank
 abbrev pub place_of : Location → Option Place
-place_of (location.Fixed place) = if nat_lt place 0o110000 then Some (listed_place place) else None
+place_of (location.Fixed place) =
+    if nat_lt place fixed_words then Some (listed_place place) else None
 place_of (location.Erasable cell) =
-    if nat_lt cell 0o4000 then Some (printed.Erasable (cell / 0o400) (cell_address cell)) else None
+    if nat_lt cell erasable_cells
+    then Some (printed.Erasable (cell / erasable_bank_size) (cell_address cell))
+    else None
 
 abbrev pub line_at : Option Place → List ℕ → List ℕ
 line_at (Some place) name = place_text place ++ codes " " ++ name ++ codes "\n"

@@ -3,6 +3,7 @@ ghost use Rattle.std.specs.Prelude.{◌≡◌, ◌*◌, ◌≤◌, ◌<◌, ◌^
 ghost use Rattle.agc_names.specs.Index.{number_of, room_below};
 
 use agc_source_words::Location;
+use agc_store::place::{ERASABLE_BANK_SIZE, FIXED_BANK_SIZE};
 
 /// The number of a location: places of the rope have the even ones, cells the odd ones.
 pub(crate) fn number_of(at: Location) -> usize
@@ -21,8 +22,8 @@ pub(crate) fn room_below(at: Location) -> usize
     ensures range { 2 * result ≤ number_of at }
 {
     let below = match at {
-        Location::Fixed(place) => place % 0o2000,
-        Location::Erasable(cell) => cell % 0o400,
+        Location::Fixed(place) => place % u32::from(FIXED_BANK_SIZE),
+        Location::Erasable(cell) => cell % u32::from(ERASABLE_BANK_SIZE),
     };
     below.min(0o100) as usize
 }

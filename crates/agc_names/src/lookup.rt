@@ -14,6 +14,7 @@ ghost use Rattle.agc_source_words.specs.Number.{is_sign};
 use crate::place_name::PlaceName;
 use crate::table::NameTable;
 use agc_source_words::{Location, Signed, location_named, offset_named};
+use agc_store::place::{ERASABLE_CELLS, FIXED_WORDS};
 
 /// No words beyond a place.
 const NO_STEP: Signed = Signed {
@@ -88,11 +89,11 @@ fn location_by(by: Signed, at: Location) -> Option<Location>
 {
     match at {
         Location::Fixed(place) => match number_by(by, place) {
-            Some(place) if place < 0o110000 => Some(Location::Fixed(place as u32)),
+            Some(place) if place < u64::from(FIXED_WORDS) => Some(Location::Fixed(place as u32)),
             _ => None,
         },
         Location::Erasable(cell) => match number_by(by, cell) {
-            Some(cell) if cell < 0o4000 => Some(Location::Erasable(cell as u32)),
+            Some(cell) if cell < u64::from(ERASABLE_CELLS) => Some(Location::Erasable(cell as u32)),
             _ => None,
         },
     }

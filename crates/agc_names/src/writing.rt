@@ -5,6 +5,7 @@ ghost use Rattle.agc_names.specs.Writing.{name_line, place_of};
 
 use agc_rope_listing::{Place, listed_address, push_place};
 use agc_source_words::{Location, cell_address};
+use agc_store::place::{ERASABLE_BANK_SIZE, ERASABLE_CELLS, FIXED_WORDS, bank_of};
 use std::alloc::{AllocError, Global};
 
 /// Adds the line of a name: its place, a blank and the name. A place beyond the memory has no line. Fails where memory runs
@@ -36,12 +37,12 @@ fn place_of(at: Location) -> Option<Place>
     ensures range { IfSome result IsInPrint }
 {
     match at {
-        Location::Fixed(place) if place < 0o110000 => Some(Place::Fixed {
-            bank: (place / 0o2000) as u8,
+        Location::Fixed(place) if place < FIXED_WORDS => Some(Place::Fixed {
+            bank: bank_of(place),
             address: listed_address(place as usize),
         }),
-        Location::Erasable(cell) if cell < 0o4000 => Some(Place::Erasable {
-            bank: (cell / 0o400) as u8,
+        Location::Erasable(cell) if cell < u32::from(ERASABLE_CELLS) => Some(Place::Erasable {
+            bank: (cell / u32::from(ERASABLE_BANK_SIZE)) as u8,
             address: cell_address(cell),
         }),
         _ => None,

@@ -4,10 +4,10 @@ use Rattle.std.proofs.Common.{refl, ◌∙◌, arith, inl, inr, length-set}
 use Rattle.std.proofs.lemmas.Bool.{cases_eq, cases_lt}
 use Rattle.agc_word.specs.Number.{Number, pattern_of}
 use Rattle.agc_store.specs.Memory.{fixed_at}
-use Rattle.agc_store.specs.RopeFile.{file_word}
+use Rattle.agc_store.specs.RopeFile.{file_index, file_word}
 use Rattle.agc_store.specs.declared.rope_file.RopeForm.{RopeForm}
 use Rattle.agc_rope_listing.specs.Laws.{named_word}
-use Rattle.agc_rope_listing.specs.Weave.{woven_bits, woven_index, woven_on, woven_with}
+use Rattle.agc_rope_listing.specs.Weave.{woven_bits, woven_on, woven_with}
 use Rattle.agc_rope_listing.specs.declared.line.Named.{Named}
 use Rattle.agc_rope_listing.proofs.FileWords.{file_bits, index_apart, index_below, length_on, on_word, put_at, put_beside, zeros}
 
@@ -16,8 +16,8 @@ pub record Holds (form : RopeForm) (words : List Number) (count : ℕ) (bytes : 
   pub even : length bytes % 2 ≡ 0
   pub some : 2 ≤ length bytes
   pub within : length bytes ≤ 73728
-  pub woven : (place : ℕ) → place < count → file_word bytes (woven_index form place) ≡ file_bits form (pattern_of 15 (fixed_at place words))
-  pub empty : (place : ℕ) → count ≤ place → file_word bytes (woven_index form place) ≡ 0
+  pub woven : (place : ℕ) → place < count → file_word bytes (file_index form place) ≡ file_bits form (pattern_of 15 (fixed_at place words))
+  pub empty : (place : ℕ) → count ≤ place → file_word bytes (file_index form place) ≡ 0
 
 nothing_in : (i : ℕ) → file_word (0 ∷ 0 ∷ []) i ≡ 0
 unfolding file_word
@@ -30,7 +30,7 @@ holds_none form words =
       some = omega arith;
       within = omega arith;
       woven = λ place below. absurd (omega arith);
-      empty = λ place from. nothing_in (woven_index form place);
+      empty = λ place from. nothing_in (file_index form place);
     }
 
 -- a place more, whose word is +0
@@ -51,27 +51,27 @@ holds_empty form words count bytes h zero_word =
     }
 
 -- what a word that is put leaves of a file
-length_with : (form : RopeForm) (bytes : List ℕ) (word : Named) → length (woven_with form bytes word) ≡ length bytes + (2 * woven_index form word.place + 2 - length bytes)
+length_with : (form : RopeForm) (bytes : List ℕ) (word : Named) → length (woven_with form bytes word) ≡ length bytes + (2 * file_index form word.place + 2 - length bytes)
 unfolding woven_with
 length_with form bytes word =
-    let at = 2 * woven_index form word.place in
+    let at = 2 * file_index form word.place in
     let bits = woven_bits form (pattern_of 15 word.word) in
     length-set (set (woven_on (at + 2) bytes) at (bits / 256)) (at + 1) (bits % 256) ∙ length-set (woven_on (at + 2) bytes) at (bits / 256) ∙ length_on (at + 2) bytes
 
-word_there : (form : RopeForm) (bytes : List ℕ) (word : Named) → file_word (woven_with form bytes word) (woven_index form word.place) ≡ woven_bits form (pattern_of 15 word.word)
+word_there : (form : RopeForm) (bytes : List ℕ) (word : Named) → file_word (woven_with form bytes word) (file_index form word.place) ≡ woven_bits form (pattern_of 15 word.word)
 unfolding woven_with
 word_there form bytes word =
-    let index = woven_index form word.place in
+    let index = file_index form word.place in
     put_at (woven_on (2 * index + 2) bytes) index (woven_bits form (pattern_of 15 word.word)) (omega (arith, length_on (2 * index + 2) bytes))
 
 word_elsewhere : (form : RopeForm) (bytes : List ℕ) (word : Named) (place : ℕ) → place ≢ word.place
-    → file_word (woven_with form bytes word) (woven_index form place) ≡ file_word bytes (woven_index form place)
+    → file_word (woven_with form bytes word) (file_index form place) ≡ file_word bytes (file_index form place)
 unfolding woven_with
 word_elsewhere form bytes word place other =
-    let index = woven_index form word.place in
+    let index = file_index form word.place in
     let bits = woven_bits form (pattern_of 15 word.word) in
-    put_beside (woven_on (2 * index + 2) bytes) index (woven_index form place) (bits / 256) (bits % 256) (index_apart form place word.place other)
-    ∙ on_word (2 * index + 2) (woven_index form place) bytes
+    put_beside (woven_on (2 * index + 2) bytes) index (file_index form place) (bits / 256) (bits % 256) (index_apart form place word.place other)
+    ∙ on_word (2 * index + 2) (file_index form place) bytes
 
 -- a place more, whose word is put
 bits_of : (form : RopeForm) (word : ℕ) → (word == 0) ≡ false → woven_bits form word ≡ file_bits form word

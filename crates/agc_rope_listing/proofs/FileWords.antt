@@ -5,10 +5,10 @@ use Rattle.std.proofs.lemmas.Bool.Decides.{nat_tests}
 use Rattle.std.proofs.lemmas.List.{length-replicate}
 use Rattle.std.specs.Int.Count.{ones}
 use Rattle.std.proofs.lemmas.Nat.{ones_cat}
-use Rattle.agc_store.specs.RopeFile.{file_bank, file_word, is_bad_parity}
+use Rattle.agc_store.specs.RopeFile.{file_bank, file_index, file_word, is_bad_parity}
 use Rattle.agc_store.specs.declared.rope_file.RopeForm.{RopeForm}
 use Rattle.agc_store.specs.declared.rope_file.RopeForm.TheVariants as form
-use Rattle.agc_rope_listing.specs.Weave.{woven_bits, woven_index, woven_on}
+use Rattle.agc_rope_listing.specs.Weave.{woven_bits, woven_on}
 
 -- zeros after a file read as what is past its end
 pub zeros : (n i : ℕ) → get_or {A = ℕ} (replicate n 0) i 0 ≡ 0
@@ -61,20 +61,20 @@ unfolding file_bank
 bank_below form.Classic bank h = grind (arith, nat_tests)
 bank_below form.Parity bank h = h
 
-index_again : (form : RopeForm) (place : ℕ) → woven_index form (woven_index form place) ≡ place
-unfolding woven_index
+index_again : (form : RopeForm) (place : ℕ) → file_index form (file_index form place) ≡ place
+unfolding file_index
 index_again form place =
     let at = 0o2000 * file_bank form (place / 0o2000) + place % 0o2000 in
     let bank : at / 0o2000 ≡ file_bank form (place / 0o2000) = omega arith in
     let offset : at % 0o2000 ≡ place % 0o2000 = omega arith in
     rw (bank, offset, bank_again form (place / 0o2000)) (omega arith)
 
-pub index_below : (form : RopeForm) (place : ℕ) → place < 0o110000 → woven_index form place < 0o110000
-unfolding woven_index
+pub index_below : (form : RopeForm) (place : ℕ) → place < 0o110000 → file_index form place < 0o110000
+unfolding file_index
 index_below form place h = omega (arith, bank_below form (place / 0o2000) (omega arith))
 
-pub index_apart : (form : RopeForm) (a b : ℕ) → a ≢ b → woven_index form a ≢ woven_index form b
-index_apart form a b ne same = ne (sym (index_again form a) ∙ ap (woven_index form) same ∙ index_again form b)
+pub index_apart : (form : RopeForm) (a b : ℕ) → a ≢ b → file_index form a ≢ file_index form b
+index_apart form a b ne same = ne (sym (index_again form a) ∙ ap (file_index form) same ∙ index_again form b)
 
 -- the sixteen bits of a word in a file, where +0 has none
 abbrev pub file_bits : RopeForm → ℕ → ℕ

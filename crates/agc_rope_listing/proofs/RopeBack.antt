@@ -10,11 +10,11 @@ use Rattle.std.proofs.lemmas.List.Sums.{fold-append}
 use Rattle.agc_word.specs.Number.{Number, pattern_of}
 use Rattle.agc_store.specs.Memory.{nothing, fixed_at}
 use Rattle.agc_store.specs.Cells.{narrow_number}
-use Rattle.agc_store.specs.RopeFile.{file_bank, file_word, first_bad, first_words, is_bad_parity, parity_fault, rope_fault_of, rope_word_at}
+use Rattle.agc_store.specs.RopeFile.{file_bank, file_index, file_word, first_bad, first_words, is_bad_parity, parity_fault, rope_fault_of, rope_word_at}
 use Rattle.agc_store.specs.declared.rope_file.RopeForm.{RopeForm}
 use Rattle.agc_store.specs.declared.rope_file.RopeForm.TheVariants as form
 use Rattle.agc_rope_listing.specs.Laws.{has_line, named_word, words_below}
-use Rattle.agc_rope_listing.specs.Weave.{woven_file, woven_index, woven_with}
+use Rattle.agc_rope_listing.specs.Weave.{woven_file, woven_with}
 use Rattle.agc_rope_listing.specs.declared.line.Named.{Named}
 use Rattle.agc_rope_listing.proofs.FileBack.{Holds, holds_empty, holds_none, holds_word}
 use Rattle.agc_rope_listing.proofs.FileWords.{good_parity, half_back}
@@ -60,7 +60,7 @@ holds_all form words (suc count) room =
 -- the words that such a file says
 word_back : (form : RopeForm) (words : List Number) (count place : ℕ) (bytes : List ℕ) → Holds form words count bytes → place < count → (fixed_at place words).magnitude < 2 ^ 14
     → rope_word_at form bytes place ≡ fixed_at place words
-unfolding rope_word_at woven_index
+unfolding rope_word_at
 word_back form words count place bytes h inside narrow =
     let half = ap (λ (bits : ℕ). narrow_number (bits / 2)) (h.woven place inside) in
     half ∙ ap narrow_number (half_back form (pattern_of 15 (fixed_at place words))) ∙ narrow_back (fixed_at place words) narrow
@@ -76,8 +76,8 @@ find_none : (test : ℕ → Bool) (count first : ℕ) → ((i : ℕ) → i < fir
 find_none test zero first h = refl
 find_none test (suc count) first h = rw (h first (omega arith)) (find_none test count (first + 1) (λ i inside. h i (omega arith)))
 
-plain_index : (place : ℕ) → woven_index form.Parity place ≡ place
-unfolding woven_index file_bank
+plain_index : (place : ℕ) → file_index form.Parity place ≡ place
+unfolding file_index file_bank
 plain_index place = omega arith
 
 good_word : (words : List Number) (count index : ℕ) (bytes : List ℕ) → Holds form.Parity words count bytes → index < count → is_bad_parity (file_word bytes index) ≡ false

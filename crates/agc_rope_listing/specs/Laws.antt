@@ -3,6 +3,7 @@ use Rattle.std.specs.Prelude.{◌≡◌, ℕ, ◌^◌, ◌<◌, ◌==◌, Bool, 
 use Rattle.std.specs.Prelude.{None}
 use Rattle.std.specs.List.{range_with_len}
 use Rattle.agc_word.specs.Number.{Number, pattern_of}
+use Rattle.agc_store.specs.Places.{fixed_words}
 use Rattle.agc_store.specs.Memory.{fixed_at}
 use Rattle.agc_store.specs.RopeFile.{rope_fault_of, rope_words}
 use Rattle.agc_store.specs.declared.rope_file.RopeForm.{RopeForm}
@@ -10,7 +11,7 @@ use Rattle.agc_rope_listing.specs.declared.line.Named.{Named}
 
 -- the words of a rope: 36 banks of 2000 octal, each word narrow
 pub record AreRopeWords (words : List Number) : Type 0 where
-  pub count : length words ≡ 0o110000
+  pub count : length words ≡ fixed_words
   pub narrow : All (λ word. word.magnitude < 2 ^ 14) words
 
 -- whether the word at a place has a line: +0 has none, -0 has one
@@ -27,7 +28,7 @@ words_below count words = map (named_word words) (filter (has_line words) (range
 
 -- the words of a rope that have a line, in the order of the places
 unfoldable pub words_listed : List Number → List Named
-words_listed words = words_below 0o110000 words
+words_listed words = words_below fixed_words words
 
 -- a file of a form is a rope's, and these are its words
 pub record IsRopeOf (form : RopeForm) (words : List Number) (file : List ℕ) : Type 0 where

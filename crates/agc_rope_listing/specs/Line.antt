@@ -4,6 +4,7 @@ use Rattle.std.specs.Prelude.{◌∷◌, length, take, drop, position, Option, S
 use Rattle.std.specs.Prelude.{if◌then◌else◌}
 use Rattle.std.specs.List.{list_any}
 use Rattle.agc_word.specs.Numeral.{octal_number}
+use Rattle.agc_store.specs.Places.{fixed_bank_size, fixed_fixed, fixed_words}
 use Rattle.agc_store.specs.Cells.{narrow_number}
 use Rattle.agc_script.specs.Text.{words_of}
 use Rattle.agc_rope_listing.specs.List.{listed_address}
@@ -21,17 +22,17 @@ is_comma b = b == 0x2C
 -- a place, if the rope has it and this is its address
 abbrev pub place_checked : ℕ → ℕ → Option ℕ
 place_checked place address =
-    if nat_lt place 0o110000 && (listed_address place == address) then Some place else None
+    if nat_lt place fixed_words && (listed_address place == address) then Some place else None
 
 -- the place of a bank and an address in it
 abbrev pub place_in_bank : Option ℕ → Option ℕ → Option ℕ
 place_in_bank (Some bank) (Some address) =
-    place_checked (0o2000 * bank + address % 0o2000) address
+    place_checked (fixed_bank_size * bank + address % fixed_bank_size) address
 place_in_bank _ _ = None
 
 -- the place of an address alone: those from 4000 on name one
 abbrev pub place_alone : Option ℕ → Option ℕ
-place_alone (Some address) = if nat_le 0o4000 address then Some address else None
+place_alone (Some address) = if nat_le fixed_fixed address then Some address else None
 place_alone None = None
 
 -- the place that a text names, which has a comma there or none

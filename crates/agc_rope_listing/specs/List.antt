@@ -5,6 +5,7 @@ use Rattle.std.specs.Prelude.{List, [], ◌++◌, codes, Option, Some, None, if�
 use Rattle.std.specs.List.{flat_map, range_with_len}
 use Rattle.agc_word.specs.Number.{Number, pattern_of}
 use Rattle.agc_word.specs.Octal.{octal_digits}
+use Rattle.agc_store.specs.Places.{fixed_bank_size, fixed_fixed, fixed_window, fixed_words}
 use Rattle.agc_store.specs.Memory.{fixed_at}
 use Rattle.agc_rope_listing.specs.Order.{order_text, leads_extracode}
 use Rattle.agc_rope_listing.specs.Place.{place_text}
@@ -15,15 +16,16 @@ use Rattle.agc_rope_listing.specs.declared.place.Place.TheVariants as printed
 -- in the window at 2000 to 3777.
 unfoldable pub listed_address : ℕ → ℕ
 listed_address place =
-    if nat_le 0o4000 place && nat_lt place 0o10000 then place else 0o2000 + place % 0o2000
+    if nat_le fixed_fixed place && nat_lt place 0o10000 then place
+    else fixed_window + place % fixed_bank_size
 
 -- the place as listings name it
 abbrev pub listed_place : ℕ → Place
-listed_place place = printed.Fixed (place / 0o2000) (listed_address place)
+listed_place place = printed.Fixed (place / fixed_bank_size) (listed_address place)
 
 -- Whether nothing leads to a place from the one before: a bank begins there. Bank 03 follows 02.
 unfoldable pub begins_anew : ℕ → Bool
-begins_anew place = (place % 0o2000 == 0) && not (place == 0o6000)
+begins_anew place = (place % fixed_bank_size == 0) && not (place == 0o6000)
 
 -- whether the word at a place is an extracode: the word before it is EXTEND, or INDEX as an
 -- extracode
@@ -44,7 +46,7 @@ line_text place extracode word =
 -- whether a place is in the bank that is asked for, where one is
 abbrev pub is_asked_for : Option ℕ → ℕ → Bool
 is_asked_for None place = true
-is_asked_for (Some bank) place = place / 0o2000 == bank
+is_asked_for (Some bank) place = place / fixed_bank_size == bank
 
 -- the line of a word at a place, where it has one: it is not +0, and it is asked for
 abbrev pub text_listed : Option ℕ → ℕ → Bool → Number → List ℕ
@@ -64,4 +66,4 @@ listed_lines count bank words = flat_map (listed_line bank words) (range_with_le
 
 -- the text of a rope, or of one of its banks
 unfoldable pub rope_text : Option ℕ → List Number → List ℕ
-rope_text bank words = listed_lines 36864 bank words
+rope_text bank words = listed_lines fixed_words bank words

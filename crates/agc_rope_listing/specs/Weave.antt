@@ -4,7 +4,8 @@ use Rattle.std.specs.Prelude.{◌∷◌, ◌++◌, length, replicate, set, fold,
 use Rattle.std.specs.Prelude.{Ok, Err, if◌then◌else◌}
 use Rattle.std.specs.List.{list_any}
 use Rattle.agc_word.specs.Number.{pattern_of}
-use Rattle.agc_store.specs.RopeFile.{file_bank}
+use Rattle.agc_store.specs.Places.{fixed_words}
+use Rattle.agc_store.specs.RopeFile.{file_index}
 use Rattle.agc_store.specs.declared.rope_file.RopeForm.{RopeForm}
 use Rattle.agc_store.specs.declared.rope_file.RopeForm.TheVariants as form
 use Rattle.agc_script.specs.Text.{lines_of}
@@ -56,10 +57,6 @@ woven_bits form.Classic word = 2 * word
 woven_bits form.Parity word =
     if count_ones (2 * word) % 2 == 0 then 2 * word + 1 else 2 * word
 
--- where the word of a place stands among the file's words
-unfoldable pub woven_index : RopeForm → ℕ → ℕ
-woven_index form place = 0o2000 * file_bank form (place / 0o2000) + place % 0o2000
-
 -- a file with zeros after it, up to so many bytes
 unfoldable pub woven_on : ℕ → List ℕ → List ℕ
 woven_on len bytes = bytes ++ replicate (len - length bytes) 0
@@ -67,7 +64,7 @@ woven_on len bytes = bytes ++ replicate (len - length bytes) 0
 -- a file with one word more: sixteen bits, the higher byte first
 unfoldable pub woven_with : RopeForm → List ℕ → Named → List ℕ
 woven_with form bytes word =
-    let at = 2 * woven_index form word.place in
+    let at = 2 * file_index form word.place in
     let bits = woven_bits form (pattern_of 15 word.word) in
     set (set (woven_on (at + 2) bytes) at (bits / 256)) (at + 1) (bits % 256)
 
@@ -83,7 +80,7 @@ IsWovenOf form text file =
 
 -- words whose places a rope has
 abbrev pub ArePlaces : List Named → Type 0
-ArePlaces said = All (λ word. word.place < 0o110000) said
+ArePlaces said = All (λ word. word.place < fixed_words) said
 
 -- for each of so many places, whether a word was named
 unfoldable pub no_flags : ℕ → List Bool

@@ -1,6 +1,7 @@
 //! One line of a rope's text: a word and its place, or nothing.
 ghost use Rattle.std.specs.Prelude.{◌≡◌, ◌<◌, ◌^◌, length, position, IfOk, IfSome};
 ghost use Rattle.std.specs.List.{list_any};
+ghost use Rattle.agc_store.specs.Places.{fixed_words};
 ghost use Rattle.agc_script.specs.Text.{words_of};
 ghost use Rattle.agc_rope_listing.specs.Line.{
   is_comma,
@@ -19,6 +20,7 @@ ghost use Rattle.agc_rope_listing.specs.Line.{
 use crate::fault::LineFault;
 use crate::listed::listed_address;
 use agc_script::next_word;
+use agc_store::place::{FIXED_BANK_SIZE, FIXED_FIXED, FIXED_WORDS};
 use agc_word::{Narrow, read_octal};
 
 /// A word and its place in the rope: 2000 octal times its bank, and its offset; below 36,864.
@@ -32,7 +34,7 @@ pub struct Named {
 #[tactic(auto, unfolding(crate::specs::Line::line_named))]
 pub fn read_line(line: &[u8]) -> Result<Option<Named>, LineFault>
     ensures line { result ≡ line_named line.now }
-    ensures range { IfOk result (λ said. IfSome said (λ named. named.place < 0o110000)) }
+    ensures range { IfOk result (λ said. IfSome said (λ named. named.place < fixed_words)) }
 {
     if has_other_byte(line) {
         return Err(LineFault::NotText);
@@ -51,7 +53,7 @@ fn has_other_byte(line: &[u8]) -> bool
 #[tactic(auto, unfolding(crate::specs::Line::words_named))]
 fn read_words(line: &[u8]) -> Result<Option<Named>, LineFault>
     ensures words { result ≡ words_named (words_of line.now) }
-    ensures range { IfOk result (λ said. IfSome said (λ named. named.place < 0o110000)) }
+    ensures range { IfOk result (λ said. IfSome said (λ named. named.place < fixed_words)) }
 {
     let Some((first, words)) = next_word(line) else {
         return Ok(None);
@@ -76,7 +78,7 @@ fn is_hash(word: &[u8]) -> bool
 #[tactic(auto, unfolding(crate::specs::Line::place_named))]
 pub fn read_place(text: &[u8]) -> Option<usize>
     ensures place { result ≡ place_named text.now }
-    ensures range { IfSome result (λ place. place < 0o110000) }
+    ensures range { IfSome result (λ place. place < fixed_words) }
 {
     match first_comma(text) {
         Some(at) => place_in_bank(
@@ -112,18 +114,19 @@ fn place_in_bank(bank: Option<u64>, address: Option<u64>) -> Option<usize>
     requires bank { IfSome bank (λ bank. bank < 8 ^ 2) }
     requires address { IfSome address (λ address. address < 8 ^ 4) }
     ensures place { result ≡ place_in_bank bank address }
-    ensures range { IfSome result (λ place. place < 0o110000) }
+    ensures range { IfSome result (λ place. place < fixed_words) }
 {
     let (bank, address) = (bank?, address?);
-    place_checked((0o2000 * bank + address % 0o2000) as usize, address)
+    let size = u64::from(FIXED_BANK_SIZE);
+    place_checked((size * bank + address % size) as usize, address)
 }
 
 /// A place, if the rope has it and this is its address.
 fn place_checked(place: usize, address: u64) -> Option<usize>
     ensures place { result ≡ place_checked place address }
-    ensures range { IfSome result (λ place. place < 0o110000) }
+    ensures range { IfSome result (λ place. place < fixed_words) }
 {
-    if place < 0o110000 && u64::from(listed_address(place)) == address {
+    if place < FIXED_WORDS as usize && u64::from(listed_address(place)) == address {
         Some(place)
     } else {
         None
@@ -133,10 +136,10 @@ fn place_checked(place: usize, address: u64) -> Option<usize>
 fn place_alone(address: Option<u64>) -> Option<usize>
     requires { IfSome address (λ address. address < 8 ^ 4) }
     ensures place { result ≡ place_alone address }
-    ensures range { IfSome result (λ place. place < 0o110000) }
+    ensures range { IfSome result (λ place. place < fixed_words) }
 {
     let address = address?;
-    if address >= 0o4000 {
+    if address >= u64::from(FIXED_FIXED) {
         Some(address as usize)
     } else {
         None
@@ -146,9 +149,9 @@ fn place_alone(address: Option<u64>) -> Option<usize>
 /// The word that comes next, at a place.
 #[tactic(auto, unfolding(crate::specs::Line::word_named))]
 fn read_word(place: usize, words: &[u8]) -> Result<Option<Named>, LineFault>
-    requires { place < 0o110000 }
+    requires { place < fixed_words }
     ensures word { result ≡ word_named place (words_of words.now) }
-    ensures range { IfOk result (λ said. IfSome said (λ named. named.place < 0o110000)) }
+    ensures range { IfOk result (λ said. IfSome said (λ named. named.place < fixed_words)) }
 {
     let Some((word, _)) = next_word(words) else {
         return Err(LineFault::BadWord);

@@ -1,7 +1,7 @@
 //! The text of a rope: a line for each word.
 ghost use Rattle.std.specs.Prelude.{◌≡◌, ◌<◌, ◌≤◌, ◌++◌, ◌&&◌, not, IfOk, OnOk, string_bytes};
 ghost use Rattle.agc_word.specs.Number.{pattern_of};
-ghost use Rattle.agc_store.specs.Memory.{fixed_at};
+ghost use Rattle.agc_store.specs.Places.{fixed_words};
 ghost use Rattle.agc_rope_listing.specs.List.{
   begins_anew,
   is_asked_for,
@@ -15,6 +15,9 @@ ghost use Rattle.agc_rope_listing.specs.List.{
 use crate::order::{leads_extracode, push_order};
 use crate::place::{Place, push_place};
 use agc_store::Store;
+use agc_store::place::{
+    FIXED_BANK_SIZE, FIXED_FIXED, FIXED_WINDOW, FIXED_WORDS, bank_of, offset_of,
+};
 use agc_word::Narrow;
 use std::alloc::{AllocError, Global};
 
@@ -27,7 +30,7 @@ pub fn list(alloc: Global, store: &Store, bank: Option<u8>) -> Result<String, Al
     ensures { IfOk result (λ text. string_bytes text ≡ rope_text bank store.now.fixed) }
 {
     let mut text = String::new(alloc);
-    push_words(&mut text, store, bank, 36864)?;
+    push_words(&mut text, store, bank, FIXED_WORDS as usize)?;
     Ok(text)
 }
 
@@ -38,13 +41,13 @@ fn push_words(
     bank: Option<u8>,
     count: usize,
 ) -> Result<(), AllocError>
-    requires { count ≤ 36864 }
+    requires { count ≤ fixed_words }
     ensures { OnOk result (string_bytes text.new
         ≡ string_bytes text.old ++ listed_lines count bank store.now.fixed) }
 {
     let mut leads = false;
     for place in 0..count {
-        let word = word_at(store, place);
+        let word = store.fixed_at(place);
         let extracode = leads_on(leads, place);
         push_listed(text, bank, place, extracode, word)?;
         leads = leads_extracode(extracode, word);
@@ -67,7 +70,7 @@ fn push_listed(
     extracode: bool,
     word: Narrow,
 ) -> Result<(), AllocError>
-    requires { place < 36864 }
+    requires { place < fixed_words }
     ensures { OnOk result (string_bytes text.new
         ≡ string_bytes text.old ++ text_listed bank place extracode word) }
 {
@@ -77,28 +80,19 @@ fn push_listed(
     Ok(())
 }
 
-/// The fixed word at a place.
-#[tactic(auto, unfolding(agc_store::specs::Cells::fixed_of))]
-fn word_at(store: &Store, place: usize) -> Narrow
-    requires { place < 36864 }
-    ensures { result ≡ fixed_at place store.now.fixed }
-{
-    store.fixed((place / 0o2000) as u8, (place % 0o2000) as u16)
-}
-
 /// Whether nothing leads to a place from the one before.
 #[tactic(auto, unfolding(crate::specs::List::begins_anew))]
 fn begins_anew(place: usize) -> bool
     ensures { result ≡ begins_anew place }
 {
-    place % 0o2000 == 0 && place != 0o6000
+    place % FIXED_BANK_SIZE as usize == 0 && place != 0o6000
 }
 
 fn is_asked_for(bank: Option<u8>, place: usize) -> bool
     ensures { result ≡ is_asked_for bank place }
 {
     match bank {
-        Some(bank) => place / 0o2000 == usize::from(bank),
+        Some(bank) => place / FIXED_BANK_SIZE as usize == usize::from(bank),
         None => true,
     }
 }
@@ -111,12 +105,12 @@ fn push_word(
     extracode: bool,
     word: Narrow,
 ) -> Result<(), AllocError>
-    requires { place < 36864 }
+    requires { place < fixed_words }
     ensures { OnOk result (string_bytes text.new
         ≡ string_bytes text.old ++ line_text place extracode word) }
 {
     let listed = Place::Fixed {
-        bank: (place / 0o2000) as u8,
+        bank: bank_of(place as u32),
         address: listed_address(place),
     };
     push_place(text, listed)?;
@@ -128,13 +122,13 @@ fn push_word(
 /// The address under which a listing names a place.
 #[tactic(auto, unfolding(crate::specs::List::listed_address))]
 pub fn listed_address(place: usize) -> u16
-    requires { place < 36864 }
+    requires { place < fixed_words }
     ensures address { result ≡ listed_address place }
     ensures range { result < 0o10000 }
 {
-    if 0o4000 <= place && place < 0o10000 {
+    if FIXED_FIXED as usize <= place && place < 0o10000 {
         place as u16
     } else {
-        (0o2000 + place % 0o2000) as u16
+        FIXED_WINDOW + offset_of(place as u32)
     }
 }

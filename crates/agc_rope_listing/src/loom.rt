@@ -1,5 +1,6 @@
 //! The words that lines have named so far, each place once.
 ghost use Rattle.std.specs.Prelude.{◌≡◌, ◌<◌, [], IfOk, IfSome, OnOk, Ok};
+ghost use Rattle.agc_store.specs.Places.{fixed_words};
 ghost use Rattle.agc_rope_listing.specs.Weave.{
   ArePlaces,
   no_flags,
@@ -10,11 +11,9 @@ ghost use Rattle.agc_rope_listing.specs.Weave.{
 
 use crate::fault::LineFault;
 use crate::line::{Named, read_line};
+use agc_store::place::FIXED_WORDS;
 use std::alloc::{AllocError, Global};
 use std::marker::Model;
-
-/// The words of a rope.
-const PLACES: usize = 0o110000;
 
 /// The words that lines have named so far, in their order. A text's words are put into one, and `file_of`
 /// makes the rope file of them.
@@ -27,6 +26,7 @@ pub struct Loom {
 
 impl Model for Loom {
     ghost use Rattle.std.specs.Prelude.{List};
+    ghost use Rattle.agc_store.specs.Places.{fixed_words};
     ghost use Rattle.agc_rope_listing.specs.Weave.{AreFlags, ArePlaces};
     ghost use Rattle.agc_rope_listing.specs.declared.line.Named.{Named};
 
@@ -34,7 +34,7 @@ impl Model for Loom {
 
     ghost view = { λ l. l.words.items };
 
-    ghost invariant = { λ l. AreFlags 0o110000 l.named.items l.words.items × ArePlaces l.words.items };
+    ghost invariant = { λ l. AreFlags fixed_words l.named.items l.words.items × ArePlaces l.words.items };
 }
 
 impl Loom {
@@ -44,7 +44,7 @@ impl Loom {
     {
         Ok(Loom {
             words: Vec::new(alloc),
-            named: no_flags(alloc, PLACES)?,
+            named: no_flags(alloc, FIXED_WORDS as usize)?,
         })
     }
 
@@ -60,14 +60,14 @@ impl Loom {
     #[tactic(auto, unfolding(crate::specs::Weave::said_next))]
     pub fn read(&self, line: &[u8]) -> Result<Option<Named>, LineFault>
         ensures line { result ≡ said_next self.now line.now }
-        ensures range { IfOk result (λ said. IfSome said (λ named. named.place < 0o110000)) }
+        ensures range { IfOk result (λ said. IfSome said (λ named. named.place < fixed_words)) }
     {
         self.unless_named(read_line(line)?)
     }
 
     /// A word, where no earlier one stands at its place.
     pub fn unless_named(&self, said: Option<Named>) -> Result<Option<Named>, LineFault>
-        requires { IfSome said (λ named. named.place < 0o110000) }
+        requires { IfSome said (λ named. named.place < fixed_words) }
         ensures { result ≡ unless_named self.now (Ok said) }
     {
         let Some(named) = said else {
@@ -82,7 +82,7 @@ impl Loom {
 
     /// Adds what a line says. Fails where memory runs out.
     pub fn add(&mut self, said: Option<Named>) -> Result<(), AllocError>
-        requires { IfSome said (λ named. named.place < 0o110000) }
+        requires { IfSome said (λ named. named.place < fixed_words) }
         ensures { OnOk result (self.new ≡ said_with self.old said) }
     {
         let Some(named) = said else {

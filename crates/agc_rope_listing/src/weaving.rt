@@ -1,6 +1,7 @@
 //! From a rope's text to the words that it names, and to a rope file.
 ghost use Rattle.std.specs.Prelude.{◌≡◌, ◌≢◌, ◌<◌, List, None, Ok, Err, IfOk, IfErr, MatchResult, OnOk};
 ghost use Rattle.agc_word.specs.Number.{Number, pattern_of};
+ghost use Rattle.agc_store.specs.Places.{fixed_words};
 ghost use Rattle.agc_rope_listing.specs.Laws.{AreRopeWords, IsRopeOf};
 ghost use Rattle.agc_rope_listing.specs.List.{rope_text};
 ghost use Rattle.agc_rope_listing.specs.Weave.{
@@ -9,7 +10,6 @@ ghost use Rattle.agc_rope_listing.specs.Weave.{
   said_in,
   woven_bits,
   woven_file,
-  woven_index,
   woven_with,
 };
 ghost use Rattle.agc_rope_listing.specs.declared.fault.WeaveFault.TheVariants.{Memory};
@@ -18,7 +18,7 @@ use crate::fault::WeaveFault;
 use crate::line::Named;
 use crate::loom::Loom;
 use agc_script::next_line;
-use agc_store::RopeForm;
+use agc_store::{RopeForm, index_in_file};
 use agc_word::Narrow;
 use std::alloc::{AllocError, Global};
 
@@ -76,10 +76,10 @@ pub fn file_of(alloc: Global, form: RopeForm, words: &[Named]) -> Result<Vec<u8>
 /// Puts a word into a file, which grows with zeros as far as the word needs.
 #[tactic(auto, unfolding(crate::specs::Weave::woven_with, crate::specs::Weave::woven_on))]
 fn put_word(bytes: &mut Vec<u8>, form: RopeForm, named: &Named) -> Result<(), AllocError>
-    requires { named.now.place < 0o110000 }
+    requires { named.now.place < fixed_words }
     ensures { OnOk result (bytes.new.items ≡ woven_with form bytes.old.items named.now) }
 {
-    let at = 2 * woven_index(form, named.place);
+    let at = 2 * index_in_file(form, named.place);
     if bytes.len() < at + 2 {
         bytes.resize(at + 2, 0)?;
     }
@@ -99,23 +99,4 @@ fn woven_bits(form: RopeForm, word: Narrow) -> u16
         RopeForm::Parity if bits.count_ones() % 2 == 0 => bits + 1,
         _ => bits,
     }
-}
-
-/// Where the word of a place stands among the words of a file.
-#[tactic(auto, unfolding(crate::specs::Weave::woven_index, agc_store::specs::RopeFile::file_bank))]
-fn woven_index(form: RopeForm, place: usize) -> usize
-    requires { place < 0o110000 }
-    ensures index { result ≡ woven_index form place }
-    ensures range { result < 0o110000 }
-{
-    let bank = place / 0o2000;
-    let bank_in_file = match form {
-        RopeForm::Classic => match bank {
-            0 | 1 => bank + 2,
-            2 | 3 => bank - 2,
-            _ => bank,
-        },
-        RopeForm::Parity => bank,
-    };
-    0o2000 * bank_in_file + place % 0o2000
 }

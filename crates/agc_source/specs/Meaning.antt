@@ -6,6 +6,7 @@ use Rattle.agc_word.specs.Numeral.{octal_number}
 use Rattle.agc_order.specs.Row.{basic_row, extracode_row}
 use Rattle.agc_order.specs.declared.order.Basic.{Basic}
 use Rattle.agc_order.specs.declared.order.Extracode.{Extracode}
+use Rattle.agc_store.specs.Places.{fixed_bank_size, fixed_words}
 use Rattle.agc_rope_listing.specs.List.{listed_address}
 use Rattle.agc_rope_listing.specs.declared.order.Operand.{Operand}
 use Rattle.agc_source_words.specs.Location.{bank_register, cell_address, complete_address}
@@ -76,7 +77,7 @@ abbrev pub any_address : Value → Result ℕ SourceFault
 any_address (value.Number n) = if nat_lt n 0o10000 then Ok n else Err fault.NoSuchPlace
 any_address (value.At (location.Erasable cell)) = Ok (cell_address cell)
 any_address (value.At (location.Fixed place)) =
-    if nat_lt place 0o110000 then Ok (listed_address place) else Err fault.NoSuchPlace
+    if nat_lt place fixed_words then Ok (listed_address place) else Err fault.NoSuchPlace
 
 abbrev pub adres_word : Result Value SourceFault → Result Number SourceFault
 adres_word (Ok v) = as_word (any_address v)
@@ -85,7 +86,7 @@ adres_word (Err why) = Err why
 -- a place of fixed memory
 abbrev pub place_of : Value → Result ℕ SourceFault
 place_of (value.At (location.Fixed place)) =
-    if nat_lt place 0o110000 then Ok place else Err fault.NoSuchPlace
+    if nat_lt place fixed_words then Ok place else Err fault.NoSuchPlace
 place_of v = Err fault.FixedWanted
 
 abbrev pub place_in : Result Value SourceFault → Result ℕ SourceFault
@@ -98,7 +99,7 @@ cadr_word (Err why) = Err why
 
 -- a word for BB: the bank that FB has for a place, and erasable bank 0
 abbrev pub bbcon_word : Result ℕ SourceFault → Result Number SourceFault
-bbcon_word (Ok place) = Ok (number_from_pattern 15 (0o2000 * bank_register place))
+bbcon_word (Ok place) = Ok (number_from_pattern 15 (fixed_bank_size * bank_register place))
 bbcon_word (Err why) = Err why
 
 -- the word of a directive, with the words after it

@@ -4,6 +4,7 @@ use Rattle.std.specs.Prelude.{Option, Some, None, Result, Ok, Err, if◌then◌e
 use Rattle.agc_word.specs.Numeral.{octal_number}
 use Rattle.agc_order.specs.declared.row.Takes.{Takes}
 use Rattle.agc_order.specs.declared.row.Takes.TheVariants as takes
+use Rattle.agc_store.specs.Places.{erasable_cells, fixed_words}
 use Rattle.agc_rope_listing.specs.List.{listed_address}
 use Rattle.agc_rope_listing.specs.declared.order.Operand.{Operand}
 use Rattle.agc_rope_listing.specs.declared.order.Operand.TheVariants as operand
@@ -41,8 +42,9 @@ erasable_value None = Err fault.NoSuchPlace
 -- what stands so far from a value
 abbrev pub value_moved : Value → Signed → Result Value SourceFault
 value_moved (value.Number n) by = number_value (moved 0o10000 n by)
-value_moved (value.At (location.Fixed place)) by = fixed_value (moved 0o110000 place by)
-value_moved (value.At (location.Erasable cell)) by = erasable_value (moved 0o4000 cell by)
+value_moved (value.At (location.Fixed place)) by = fixed_value (moved fixed_words place by)
+value_moved (value.At (location.Erasable cell)) by =
+    erasable_value (moved erasable_cells cell by)
 
 -- what a word says: an octal number, or a name
 abbrev pub value_named : Option Location → List ℕ → Result Value SourceFault
@@ -77,7 +79,7 @@ abbrev pub address_at : ℕ → Value → Result ℕ SourceFault
 address_at here (value.Number n) = if nat_lt n 0o10000 then Ok n else Err fault.NoSuchPlace
 address_at here (value.At (location.Erasable cell)) = Ok (cell_address cell)
 address_at here (value.At (location.Fixed place)) =
-    if nat_lt place 0o110000 && sees here place then Ok (listed_address place) else Err fault.AnotherBank
+    if nat_lt place fixed_words && sees here place then Ok (listed_address place) else Err fault.AnotherBank
 
 -- the channel that a value names
 abbrev pub channel_at : Value → Result ℕ SourceFault

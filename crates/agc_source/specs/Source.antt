@@ -3,6 +3,7 @@ use Rattle.std.specs.Prelude.{◌≡◌, ◌<◌, ℕ, ◌+◌, Bool, true, fals
 use Rattle.std.specs.Prelude.{Option, Some, None, Result, Ok, Err, is_some, if◌then◌else◌, IfSome}
 use Rattle.std.specs.List.{list_all, list_any}
 use Rattle.agc_word.specs.Number.{Number}
+use Rattle.agc_store.specs.Places.{fixed_words}
 use Rattle.agc_store.specs.declared.rope_file.RopeForm.{RopeForm}
 use Rattle.agc_script.specs.Text.{lines_of}
 use Rattle.agc_rope_listing.specs.Line.{is_no_text, line_named}
@@ -235,5 +236,5 @@ IsSourceWoven form text file =
 -- a step's places are a rope's
 abbrev pub IsPlaced : Step → Type 0
 IsPlaced step =
-    IfSome step.first (λ word. word.place < 0o110000)
-    × IfSome step.second (λ word. word.place < 0o110000)
+    IfSome step.first (λ word. word.place < fixed_words)
+    × IfSome step.second (λ word. word.place < fixed_words)

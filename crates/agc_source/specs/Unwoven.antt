@@ -5,6 +5,7 @@ use Rattle.std.specs.Prelude.{List, [], ◌++◌, codes, Option, if◌then◌els
 use Rattle.std.specs.List.{flat_map, range_with_len}
 use Rattle.agc_word.specs.Number.{Number, pattern_of}
 use Rattle.agc_word.specs.Octal.{octal_digits}
+use Rattle.agc_store.specs.Places.{fixed_bank_size, fixed_words}
 use Rattle.agc_store.specs.Memory.{fixed_at}
 use Rattle.agc_rope_listing.specs.Laws.{has_line}
 use Rattle.agc_rope_listing.specs.List.{is_asked_for, is_extracode_at, listed_place}
@@ -13,14 +14,14 @@ use Rattle.agc_rope_listing.specs.Place.{place_text}
 
 -- whether a word stands right before a place, in its bank
 abbrev pub follows_word : List Number → ℕ → Bool
-follows_word words place = not (place % 0o2000 == 0) && has_line words (place - 1)
+follows_word words place = not (place % fixed_bank_size == 0) && has_line words (place - 1)
 
 -- whether the line of a place is read as an extracode: it follows EXTEND, or INDEX as an extracode, in its bank
 unfoldable pub is_wanted_at : List Number → ℕ → Bool
 is_wanted_at words zero = false
 is_wanted_at words (suc place) =
     leads_extracode (is_wanted_at words place) (fixed_at place words)
-    && not (suc place % 0o2000 == 0)
+    && not (suc place % fixed_bank_size == 0)
 
 -- a word as the order that `list` shows, where its line is read so; else its digits
 abbrev pub word_said : Bool → Bool → Number → List ℕ
@@ -60,4 +61,4 @@ places_said count bank words = flat_map (place_said bank words) (range_with_len 
 
 -- the source of a rope, or of one of its banks
 unfoldable pub rope_source : Option ℕ → List Number → List ℕ
-rope_source bank words = places_said 36864 bank words
+rope_source bank words = places_said fixed_words bank words

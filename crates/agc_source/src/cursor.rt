@@ -1,5 +1,6 @@
 //! Where the next line of a source stands.
 ghost use Rattle.std.specs.Prelude.{◌≡◌, ◌+◌, ◌*◌, ◌<◌, ◌≤◌, get_or, IfOk, IsOk};
+ghost use Rattle.agc_store.specs.Places.{fixed_bank_size, fixed_banks, fixed_words};
 ghost use Rattle.agc_source.specs.Cursor.{
   IsAt,
   after_cells,
@@ -13,6 +14,7 @@ ghost use Rattle.agc_source_words.specs.Location.{IsWithin};
 ghost use Rattle.agc_source.specs.declared.cursor.At.TheVariants as at;
 
 use agc_source_words::{Location, SourceFault};
+use agc_store::place::{ERASABLE_CELLS, FIXED_BANK_SIZE, bank_of, offset_of, place_of};
 
 /// Which memory the lines go into.
 #[derive(Clone, Copy, Debug, PartialEq, Eq)]
@@ -55,10 +57,10 @@ impl Cursor {
 
     /// The place at which a bank was left.
     fn place_in(&self, bank: u8) -> u32
-        requires { bank < 36 }
-        ensures { result ≡ 0o2000 * bank + get_or self.now.left bank 0 }
+        requires { bank < fixed_banks }
+        ensures { result ≡ fixed_bank_size * bank + get_or self.now.left bank 0 }
     {
-        0o2000 * u32::from(bank) + u32::from(self.left[usize::from(bank)])
+        place_of(bank, self.left[usize::from(bank)])
     }
 
     /// The place of the first of so many words.
@@ -66,13 +68,13 @@ impl Cursor {
         requires at { IsAt self.now.at }
         requires few { count ≤ 2 }
         ensures place { result ≡ room_at self.now self.now.at count }
-        ensures range { IfOk result (λ place. place + count ≤ 0o110000) }
+        ensures range { IfOk result (λ place. place + count ≤ fixed_words) }
     {
         let At::Bank(bank) = self.at else {
             return Err(SourceFault::WrongMemory);
         };
         let end = u32::from(self.left[usize::from(bank)]) + u32::from(count);
-        if end <= 0o2000 {
+        if end <= u32::from(FIXED_BANK_SIZE) {
             Ok(self.place_in(bank))
         } else {
             Err(SourceFault::Full)
@@ -102,8 +104,8 @@ impl Cursor {
         let mut next = self;
         match location {
             Location::Fixed(place) => {
-                let bank = (place / 0o2000) as u8;
-                next.left[usize::from(bank)] = (place % 0o2000) as u16;
+                let bank = bank_of(place);
+                next.left[usize::from(bank)] = offset_of(place);
                 next.at = At::Bank(bank);
             }
             Location::Erasable(cell) => next.at = At::Cell(cell),
@@ -113,7 +115,7 @@ impl Cursor {
 
     /// In a bank, where it was left.
     pub fn in_bank(self, bank: u8) -> Cursor
-        requires { bank < 36 }
+        requires { bank < fixed_banks }
         ensures bank { result ≡ record self { at = at.Bank bank } }
         ensures range { IsAt result.at }
     {
@@ -132,7 +134,7 @@ impl Cursor {
         let At::Cell(cell) = self.at else {
             return Err(SourceFault::WrongMemory);
         };
-        if cell + count <= 0o4000 {
+        if cell + count <= u32::from(ERASABLE_CELLS) {
             let mut next = self;
             next.at = At::Cell(cell + count);
             Ok(next)

@@ -1,5 +1,6 @@
 //! The words that a line stands for.
 ghost use Rattle.std.specs.Prelude.{◌≡◌, ◌<◌, IfOk};
+ghost use Rattle.agc_store.specs.Places.{fixed_words};
 ghost use Rattle.agc_source.specs.Meaning.{
   any_address,
   basic_meaning,
@@ -27,6 +28,7 @@ use agc_source_words::{
     complete_address, decimal_word, extracode_named, extracode_word, next_said, octal_word,
     only_word, signed_number,
 };
+use agc_store::place::FIXED_WORDS;
 use agc_word::{Narrow, read_octal};
 
 /// Two words, the upper one first.
@@ -139,7 +141,9 @@ fn any_address(value: Value) -> Result<u16, SourceFault>
     match value {
         Value::Number(number) if number < 0o10000 => Ok(number as u16),
         Value::At(Location::Erasable(cell)) => Ok(cell_address(cell)),
-        Value::At(Location::Fixed(place)) if place < 0o110000 => Ok(listed_address(place as usize)),
+        Value::At(Location::Fixed(place)) if place < FIXED_WORDS => Ok(listed_address(
+            place as usize,
+        )),
         _ => Err(SourceFault::NoSuchPlace),
     }
 }
@@ -147,10 +151,10 @@ fn any_address(value: Value) -> Result<u16, SourceFault>
 /// The place of fixed memory that an operand names.
 fn place_in(names: &Names, here: u32, rest: &[u8]) -> Result<u32, SourceFault>
     ensures place { result ≡ place_in (value_of (naming_of names.now) here (said_by rest.now)) }
-    ensures range { IfOk result (λ place. place < 0o110000) }
+    ensures range { IfOk result (λ place. place < fixed_words) }
 {
     match value_of(names, here, rest)? {
-        Value::At(Location::Fixed(place)) if place < 0o110000 => Ok(place),
+        Value::At(Location::Fixed(place)) if place < FIXED_WORDS => Ok(place),
         Value::At(Location::Fixed(_)) => Err(SourceFault::NoSuchPlace),
         _ => Err(SourceFault::FixedWanted),
     }

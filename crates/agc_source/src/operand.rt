@@ -20,6 +20,7 @@ use agc_rope_listing::{Operand, listed_address};
 use agc_source_words::{
     Location, Names, Signed, SourceFault, cell_address, is_name, next_said, offset_named, sees,
 };
+use agc_store::place::{ERASABLE_CELLS, FIXED_WORDS};
 use agc_word::read_octal;
 
 /// What an operand says.
@@ -115,10 +116,12 @@ fn value_moved(value: Value, by: Signed) -> Result<Value, SourceFault>
     let found = match value {
         Value::Number(number) => moved(0o10000, number, by).map(Value::Number),
         Value::At(Location::Fixed(place)) => {
-            moved(0o110000, place, by).map(|place| Value::At(Location::Fixed(place)))
+            moved(u64::from(FIXED_WORDS), place, by).map(|place| Value::At(Location::Fixed(place)))
         }
         Value::At(Location::Erasable(cell)) => {
-            moved(0o4000, cell, by).map(|cell| Value::At(Location::Erasable(cell)))
+            moved(u64::from(ERASABLE_CELLS), cell, by).map(|cell| Value::At(Location::Erasable(
+                cell,
+            )))
         }
     };
     found.ok_or(SourceFault::NoSuchPlace)
@@ -149,7 +152,7 @@ pub(crate) fn address_at(here: u32, value: Value) -> Result<u16, SourceFault>
         Value::Number(_) => Err(SourceFault::NoSuchPlace),
         Value::At(Location::Erasable(cell)) => Ok(cell_address(cell)),
         Value::At(Location::Fixed(place)) => {
-            if place < 0o110000 && sees(here, place) {
+            if place < FIXED_WORDS && sees(here, place) {
                 Ok(listed_address(place as usize))
             } else {
                 Err(SourceFault::AnotherBank)

@@ -1,5 +1,6 @@
 //! The second way through a text: the words of its lines.
 ghost use Rattle.std.specs.Prelude.{◌≡◌, ◌≢◌, ◌<◌, Ok, Err, IfOk, IfErr, IfSome, OnOk};
+ghost use Rattle.agc_store.specs.Places.{fixed_words};
 ghost use Rattle.agc_source.specs.Cursor.{IsAt};
 ghost use Rattle.agc_source_words.specs.Name.{naming_of};
 ghost use Rattle.agc_source.specs.Shape.{IsShape, shape_of};
@@ -85,7 +86,7 @@ fn add_words(loom: &mut Loom, number: usize, step: Step) -> Result<(), SourceTro
 }
 
 fn add_word(loom: &mut Loom, number: usize, word: Option<Named>) -> Result<(), SourceTrouble>
-    requires { IfSome word (λ word. word.place < 0o110000) }
+    requires { IfSome word (λ word. word.place < fixed_words) }
     ensures said { OnOk result (said_more loom.old word ≡ Ok loom.new) }
     ensures fault { IfErr result (λ why. why ≢ Memory
         → told_at number (said_more loom.old word) ≡ Err why) }

@@ -1,7 +1,7 @@
 //! The source of a rope: a line for each word.
 ghost use Rattle.std.specs.Prelude.{◌≡◌, ◌<◌, ◌≤◌, ◌+◌, ◌++◌, ◌%◌, ◌==◌, ◌&&◌, not, None, IfOk, OnOk, string_bytes};
 ghost use Rattle.agc_word.specs.Number.{pattern_of};
-ghost use Rattle.agc_store.specs.Memory.{fixed_at};
+ghost use Rattle.agc_store.specs.Places.{fixed_bank_size, fixed_words};
 ghost use Rattle.agc_rope_listing.specs.Laws.{AreRopeWords};
 ghost use Rattle.agc_rope_listing.specs.List.{begins_anew, is_asked_for};
 ghost use Rattle.agc_source.specs.Laws.{WeavesTo};
@@ -18,6 +18,7 @@ ghost use Rattle.agc_source.specs.Unwoven.{
 
 use agc_rope_listing::{Place, leads_extracode, listed_address, push_order, push_place};
 use agc_store::Store;
+use agc_store::place::{FIXED_BANK_SIZE, FIXED_WORDS, bank_of};
 use agc_word::Narrow;
 use std::alloc::{AllocError, Global};
 
@@ -45,7 +46,7 @@ pub fn rope_source(alloc: Global, store: &Store, bank: Option<u8>) -> Result<Str
         → IfOk result (λ text. WeavesTo store.now.fixed (string_bytes text)) }
 {
     let mut text = String::new(alloc);
-    push_places(&mut text, store, bank, 36864)?;
+    push_places(&mut text, store, bank, FIXED_WORDS as usize)?;
     Ok(text)
 }
 
@@ -56,7 +57,7 @@ fn push_places(
     bank: Option<u8>,
     count: usize,
 ) -> Result<(), AllocError>
-    requires { count ≤ 36864 }
+    requires { count ≤ fixed_words }
     ensures { OnOk result (string_bytes text.new
         ≡ string_bytes text.old ++ places_said count bank store.now.fixed) }
 {
@@ -66,7 +67,7 @@ fn push_places(
         extracode: false,
     };
     for place in 0..count {
-        let word = word_at(store, place);
+        let word = store.fixed_at(place);
         push_place_said(text, bank, place, read, word)?;
         read = read_next(read, place, word);
     }
@@ -76,16 +77,16 @@ fn push_places(
 /// How the line of the next place is read.
 #[tactic(auto, unfolding(agc_rope_listing::specs::List::begins_anew))]
 fn read_next(read: Read, place: usize, word: Narrow) -> Read
-    requires { place < 36864 }
+    requires { place < fixed_words }
     ensures follows { result.follows
-        ≡ (not ((place + 1) % 0o2000 == 0) && not (pattern_of 15 word == 0)) }
+        ≡ (not ((place + 1) % fixed_bank_size == 0) && not (pattern_of 15 word == 0)) }
     ensures wanted { result.wanted
-        ≡ (leads_extracode read.wanted word && not ((place + 1) % 0o2000 == 0)) }
+        ≡ (leads_extracode read.wanted word && not ((place + 1) % fixed_bank_size == 0)) }
     ensures extracode { result.extracode
         ≡ (leads_extracode read.extracode word && not (begins_anew (place + 1))) }
 {
     let next = place + 1;
-    let same_bank = next % 0o2000 != 0;
+    let same_bank = next % FIXED_BANK_SIZE as usize != 0;
     Read {
         follows: same_bank && word.bits() != 0,
         wanted: leads_extracode(read.wanted, word) && same_bank,
@@ -101,7 +102,7 @@ fn push_place_said(
     read: Read,
     word: Narrow,
 ) -> Result<(), AllocError>
-    requires { place < 36864 }
+    requires { place < fixed_words }
     ensures { OnOk result (string_bytes text.new ≡ string_bytes text.old
         ++ text_said bank place read.follows read.wanted read.extracode word) }
 {
@@ -114,7 +115,7 @@ fn push_place_said(
 /// Adds the lines of a word.
 #[tactic(auto, unfolding(crate::specs::Unwoven::lines_said))]
 fn push_lines(text: &mut String, place: usize, read: Read, word: Narrow) -> Result<(), AllocError>
-    requires { place < 36864 }
+    requires { place < fixed_words }
     ensures { OnOk result (string_bytes text.new ≡ string_bytes text.old
         ++ lines_said place read.follows read.wanted read.extracode word) }
 {
@@ -128,12 +129,12 @@ fn push_lines(text: &mut String, place: usize, read: Read, word: Narrow) -> Resu
 
 /// Adds the line that goes to a place.
 fn push_line_to(text: &mut String, place: usize) -> Result<(), AllocError>
-    requires { place < 36864 }
+    requires { place < fixed_words }
     ensures { OnOk result (string_bytes text.new ≡ string_bytes text.old ++ line_to place) }
 {
     text.push_str("        SETLOC ")?;
     let listed = Place::Fixed {
-        bank: (place / 0o2000) as u8,
+        bank: bank_of(place as u32),
         address: listed_address(place),
     };
     push_place(text, listed)?;
@@ -153,21 +154,12 @@ fn push_word_said(text: &mut String, read: Read, word: Narrow) -> Result<(), All
     }
 }
 
-/// The fixed word at a place.
-#[tactic(auto, unfolding(agc_store::specs::Cells::fixed_of))]
-fn word_at(store: &Store, place: usize) -> Narrow
-    requires { place < 36864 }
-    ensures { result ≡ fixed_at place store.now.fixed }
-{
-    store.fixed((place / 0o2000) as u8, (place % 0o2000) as u16)
-}
-
 /// Whether a place is in the bank that is asked for, where one is.
 fn is_asked_for(bank: Option<u8>, place: usize) -> bool
     ensures { result ≡ is_asked_for bank place }
 {
     match bank {
-        Some(bank) => place / 0o2000 == usize::from(bank),
+        Some(bank) => place / FIXED_BANK_SIZE as usize == usize::from(bank),
         None => true,
     }
 }

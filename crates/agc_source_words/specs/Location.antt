@@ -2,23 +2,23 @@
 use Rattle.std.specs.Prelude.{ℕ, ◌+◌, ◌*◌, ◌/◌, ◌%◌, ◌<◌, ◌==◌, nat_lt, nat_le, Bool, false, ◌&&◌, ◌||◌, List, [], ◌∷◌}
 use Rattle.std.specs.Prelude.{take, drop, position, Option, Some, None, if◌then◌else◌}
 use Rattle.agc_word.specs.Numeral.{octal_number}
-use Rattle.agc_store.specs.Places.{erasable_bank_size, erasable_window, fixed_bank_size}
-use Rattle.agc_store.specs.Places.{fixed_fixed, fixed_window}
+use Rattle.agc_store.specs.Places.{erasable_bank_size, erasable_cells, erasable_window, fixed_bank_size}
+use Rattle.agc_store.specs.Places.{fixed_fixed, fixed_window, fixed_words}
 use Rattle.agc_rope_listing.specs.Line.{is_comma, place_named}
 use Rattle.agc_source_words.specs.declared.location.Location.{Location}
 use Rattle.agc_source_words.specs.declared.location.Location.TheVariants as location
 
 -- a place of one of the 36 banks, or one of the 2048 cells
 abbrev pub IsWithin : Location → Type 0
-IsWithin (location.Fixed place) = place < 0o110000
-IsWithin (location.Erasable cell) = cell < 0o4000
+IsWithin (location.Fixed place) = place < fixed_words
+IsWithin (location.Erasable cell) = cell < erasable_cells
 
 -- the cell of an erasable bank and an address: in the window, or below it the bank's own
 abbrev pub cell_in_bank : Option ℕ → Option ℕ → Option ℕ
 cell_in_bank (Some bank) (Some address) =
-    if nat_le 0o1400 address && nat_lt address 0o2000
-    then Some (0o400 * bank + address % 0o400)
-    else (if address / 0o400 == bank then Some address else None)
+    if nat_le erasable_window address && nat_lt address fixed_window
+    then Some (erasable_bank_size * bank + address % erasable_bank_size)
+    else (if address / erasable_bank_size == bank then Some address else None)
 cell_in_bank _ _ = None
 
 -- the cell that a text with a comma there names after its `E`
@@ -29,7 +29,7 @@ cell_cut None text = None
 
 -- the cell that an address alone names: those below the window
 abbrev pub cell_alone : Option ℕ → Option ℕ
-cell_alone (Some address) = if nat_lt address 0o1400 then Some address else None
+cell_alone (Some address) = if nat_lt address erasable_window then Some address else None
 cell_alone None = None
 
 abbrev pub erasable_at : Option ℕ → Option Location
@@ -62,21 +62,23 @@ location_named text =
 
 -- the address of a cell: its own below the window, and else that in the window
 abbrev pub cell_address : ℕ → ℕ
-cell_address cell = if nat_lt cell 0o1400 then cell else 0o1400 + cell % 0o400
+cell_address cell =
+    if nat_lt cell erasable_window then cell else erasable_window + cell % erasable_bank_size
 
 -- the bank that FB has for a place: with the superbank it reads ten octal less
 abbrev pub bank_register : ℕ → ℕ
 bank_register place =
-    if nat_lt (place / 0o2000) 0o40 then place / 0o2000 else (place / 0o2000) % 0o10 + 0o30
+    let bank = place / fixed_bank_size in if nat_lt bank 0o40 then bank else bank % 0o10 + 0o30
 
 -- the complete address of a place: the bank that FB has, and the offset
 abbrev pub complete_address : ℕ → ℕ
-complete_address place = 0o2000 * bank_register place + place % 0o2000
+complete_address place = fixed_bank_size * bank_register place + place % fixed_bank_size
 
 -- whether a line at a place sees another place: that is in bank 02 or 03, or in its own bank
 abbrev pub sees : ℕ → ℕ → Bool
 sees here place =
-    nat_le 0o4000 place && nat_lt place 0o10000 || (place / 0o2000 == here / 0o2000)
+    nat_le fixed_fixed place && nat_lt place 0o10000
+    || (place / fixed_bank_size == here / fixed_bank_size)
 
 -- The place of an order by its bank and its address. A cell that the window shows is the same cell
 -- by its own address.

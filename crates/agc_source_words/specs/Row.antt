@@ -8,6 +8,7 @@ use Rattle.agc_order.specs.declared.order.Basic.TheVariants as basic
 use Rattle.agc_order.specs.declared.order.Extracode.{Extracode}
 use Rattle.agc_order.specs.declared.row.Takes.{Takes}
 use Rattle.agc_order.specs.declared.row.Takes.TheVariants as takes
+use Rattle.agc_store.specs.Places.{fixed_window}
 use Rattle.agc_rope_listing.specs.declared.order.Operand.{Operand}
 use Rattle.agc_rope_listing.specs.declared.order.Operand.TheVariants as operand
 use Rattle.agc_source_words.specs.declared.fault.SourceFault.{SourceFault}
@@ -20,7 +21,7 @@ field_of takes.Erasable (operand.Address k) = if nat_lt k 0o2000 then Some k els
 field_of takes.ErasablePair (operand.Address k) =
     if nat_lt k 0o2000 then Some ((k + 1) % 0o2000) else None
 field_of takes.Fixed (operand.Address k) =
-    if nat_le 0o2000 k && nat_lt k 0o10000 then Some k else None
+    if nat_le fixed_window k && nat_lt k 0o10000 then Some k else None
 field_of takes.Memory (operand.Address k) = if nat_lt k 0o10000 then Some k else None
 field_of takes.MemoryPair (operand.Address k) =
     if nat_lt k 0o10000 then Some ((k + 1) % 0o10000) else None

@@ -1,5 +1,13 @@
 //! Where a name and an order in hand stand, and the addresses of places and cells.
-ghost use Rattle.std.specs.Prelude.{◌≡◌, ◌*◌, ◌<◌, ◌≤◌, IfSome, length, position};
+ghost use Rattle.std.specs.Prelude.{◌≡◌, ◌+◌, ◌*◌, ◌%◌, ◌<◌, ◌≤◌, IfSome, length, position};
+ghost use Rattle.agc_store.specs.Places.{
+  erasable_bank_size,
+  erasable_cells,
+  erasable_window,
+  fixed_bank_size,
+  fixed_window,
+  fixed_words,
+};
 ghost use Rattle.agc_rope_listing.specs.Line.{is_comma};
 ghost use Rattle.agc_source_words.specs.Location.{
   IsWithin,
@@ -18,6 +26,10 @@ ghost use Rattle.agc_word.specs.Numeral.{octal_number};
 
 use agc_rope_listing::read_place;
 use agc_store::Addr;
+use agc_store::place::{
+    ERASABLE_BANK_SIZE, ERASABLE_WINDOW, FIXED_BANK_SIZE, FIXED_FIXED, FIXED_WINDOW, bank_of,
+    offset_of, place_of,
+};
 use agc_word::read_octal;
 
 /// Where a name stands.
@@ -54,10 +66,10 @@ fn cell_or_place(text: &[u8]) -> Option<Location>
 /// The cell that an address alone names.
 fn cell_alone(text: &[u8]) -> Option<u32>
     ensures cell { result ≡ cell_alone (octal_number 4 text.now) }
-    ensures range { IfSome result (λ cell. cell < 0o1400) }
+    ensures range { IfSome result (λ cell. cell < erasable_window) }
 {
     let address = read_octal(4, text)?;
-    if address < 0o1400 {
+    if address < u64::from(ERASABLE_WINDOW) {
         Some(address as u32)
     } else {
         None
@@ -68,7 +80,7 @@ fn cell_alone(text: &[u8]) -> Option<u32>
 #[tactic(auto, unfolding(crate::specs::Location::cell_named))]
 fn cell_named(text: &[u8]) -> Option<u32>
     ensures cell { result ≡ cell_named text.now }
-    ensures range { IfSome result (λ cell. cell < 0o4000) }
+    ensures range { IfSome result (λ cell. cell < erasable_cells) }
 {
     let at = first_comma(text)?;
     cell_in_bank(read_octal(1, &text[..at]), read_octal(4, &text[at + 1..]))
@@ -84,12 +96,13 @@ fn first_comma(text: &[u8]) -> Option<usize>
 fn cell_in_bank(bank: Option<u64>, address: Option<u64>) -> Option<u32>
     requires bank { IfSome bank (λ bank. bank < 8) }
     ensures cell { result ≡ cell_in_bank bank address }
-    ensures range { IfSome result (λ cell. cell < 0o4000) }
+    ensures range { IfSome result (λ cell. cell < erasable_cells) }
 {
     let (bank, address) = (bank?, address?);
-    if 0o1400 <= address && address < 0o2000 {
-        Some((0o400 * bank + address % 0o400) as u32)
-    } else if address / 0o400 == bank {
+    let size = u64::from(ERASABLE_BANK_SIZE);
+    if u64::from(ERASABLE_WINDOW) <= address && address < u64::from(FIXED_WINDOW) {
+        Some((size * bank + address % size) as u32)
+    } else if address / size == bank {
         Some(address as u32)
     } else {
         None
@@ -101,34 +114,41 @@ fn cell_in_bank(bank: Option<u64>, address: Option<u64>) -> Option<u32>
 pub fn location_at(bank: u8, address: Addr) -> Location
     ensures { result ≡ location_at bank address }
 {
-    let (bank, address) = (u32::from(bank), u32::from(address.bits()));
+    let address = address.bits();
     match address {
-        0..0o1400 => Location::Erasable(address),
-        0o1400..0o2000 => Location::Erasable(0o400 * bank + address % 0o400),
-        0o2000..0o4000 => Location::Fixed(0o2000 * bank + address % 0o2000),
-        _ => Location::Fixed(address),
+        0..ERASABLE_WINDOW => Location::Erasable(u32::from(address)),
+        ERASABLE_WINDOW..FIXED_WINDOW => Location::Erasable(cell_of(bank, address)),
+        FIXED_WINDOW..FIXED_FIXED => Location::Fixed(place_of(bank, address % FIXED_BANK_SIZE)),
+        _ => Location::Fixed(u32::from(address)),
     }
+}
+
+/// The cell that an address names in the window.
+fn cell_of(bank: u8, address: u16) -> u32
+    ensures { result ≡ erasable_bank_size * bank + address % erasable_bank_size }
+{
+    u32::from(ERASABLE_BANK_SIZE) * u32::from(bank) + u32::from(address % ERASABLE_BANK_SIZE)
 }
 
 /// The address by which an order names a cell: in the window, where the cell is in banks 3 to 7.
 pub fn cell_address(cell: u32) -> u16
     ensures address { result ≡ cell_address cell }
-    ensures range { result < 0o2000 }
+    ensures range { result < fixed_window }
 {
-    if cell < 0o1400 {
+    if cell < u32::from(ERASABLE_WINDOW) {
         cell as u16
     } else {
-        (0o1400 + cell % 0o400) as u16
+        ERASABLE_WINDOW + (cell % u32::from(ERASABLE_BANK_SIZE)) as u16
     }
 }
 
 /// The bank that FB has for a place: with the superbank it reads ten octal less.
-fn bank_register(place: u32) -> u32
-    requires { place < 0o110000 }
+fn bank_register(place: u32) -> u16
+    requires { place < fixed_words }
     ensures bank { result ≡ bank_register place }
     ensures range { result < 0o40 }
 {
-    let bank = place / 0o2000;
+    let bank = u16::from(bank_of(place));
     if bank < 0o40 {
         bank
     } else {
@@ -138,25 +158,26 @@ fn bank_register(place: u32) -> u32
 
 /// The word that puts a place's bank into BB.
 pub fn bank_word(place: u32) -> u16
-    requires { place < 0o110000 }
-    ensures word { result ≡ 0o2000 * bank_register place }
+    requires { place < fixed_words }
+    ensures word { result ≡ fixed_bank_size * bank_register place }
     ensures range { result < 0o100000 }
 {
-    (0o2000 * bank_register(place)) as u16
+    FIXED_BANK_SIZE * bank_register(place)
 }
 
 /// The bank that FB has for a place, and the offset.
 pub fn complete_address(place: u32) -> u16
-    requires { place < 0o110000 }
+    requires { place < fixed_words }
     ensures address { result ≡ complete_address place }
     ensures range { result < 0o100000 }
 {
-    (0o2000 * bank_register(place) + place % 0o2000) as u16
+    FIXED_BANK_SIZE * bank_register(place) + offset_of(place)
 }
 
 /// Whether a line at a place sees another place.
 pub fn sees(here: u32, place: u32) -> bool
     ensures { result ≡ sees here place }
 {
-    0o4000 <= place && place < 0o10000 || place / 0o2000 == here / 0o2000
+    let size = u32::from(FIXED_BANK_SIZE);
+    u32::from(FIXED_FIXED) <= place && place < 0o10000 || place / size == here / size
 }

@@ -16,6 +16,7 @@ ghost use Rattle.agc_source_words.specs.Row.{
 use crate::fault::SourceFault;
 use agc_order::{Basic, Extracode, Row, Takes};
 use agc_rope_listing::Operand;
+use agc_store::place::FIXED_WINDOW;
 use agc_word::Narrow;
 
 /// The word of a basic order with an operand as `list` shows it: of DAS and DXCH the address of the upper
@@ -96,7 +97,7 @@ fn row_word(row: Row, given: Operand) -> Result<u16, SourceFault>
         (Takes::Nothing, Operand::Nothing) => 0,
         (Takes::Erasable, Operand::Address(k)) if k < 0o2000 => k,
         (Takes::ErasablePair, Operand::Address(k)) if k < 0o2000 => (k + 1) % 0o2000,
-        (Takes::Fixed, Operand::Address(k)) if 0o2000 <= k && k < 0o10000 => k,
+        (Takes::Fixed, Operand::Address(k)) if FIXED_WINDOW <= k && k < 0o10000 => k,
         (Takes::Memory, Operand::Address(k)) if k < 0o10000 => k,
         (Takes::MemoryPair, Operand::Address(k)) if k < 0o10000 => (k + 1) % 0o10000,
         (Takes::Channel, Operand::Channel(channel)) if channel < 0o1000 => channel,

@@ -6,7 +6,7 @@ use Rattle.agc_store.specs.declared.rope_file.RopeForm.{RopeForm}
 use Rattle.agc_store.specs.declared.rope_file.RopeForm.TheVariants as form
 use Rattle.agc_store.specs.Memory.{nothing, fixed_at}
 use Rattle.agc_store.specs.Cells.{narrow_number}
-use Rattle.agc_store.specs.RopeFile.{file_word, file_bank, banks_of, rope_word_at, first_words, rope_words, FollowsBanks}
+use Rattle.agc_store.specs.RopeFile.{file_word, file_bank, file_index, banks_of, rope_word_at, first_words, rope_words, FollowsBanks}
 
 -- the i-th bank of the list stands i-th in the file
 record IsIth (form : RopeForm) (i bank : ℕ) : Type 0 where
@@ -42,7 +42,7 @@ at_place form bytes place h = get_or-map-range_with_len (rope_word_at form bytes
 
 in_bank : (form : RopeForm) (bytes : List ℕ) (i bank offset : ℕ) → file_bank form bank ≡ i → offset < 0o2000
     → rope_word_at form bytes (0o2000 * bank + offset) ≡ narrow_number (file_word bytes (0o2000 * i + offset) / 2)
-unfolding rope_word_at
+unfolding rope_word_at file_index
 in_bank form bytes i bank offset stands h =
     let whole : (0o2000 * bank + offset) / 0o2000 ≡ bank = omega arith in
     let rest : (0o2000 * bank + offset) % 0o2000 ≡ offset = omega arith in

@@ -8,7 +8,7 @@ use Rattle.agc_word.specs.declared.edit.Edit.{Edit}
 use Rattle.agc_word.specs.declared.edit.Edit.TheVariants as edit
 use Rattle.agc_store.specs.Places.{a_cell, q_cell, eb_cell, fb_cell, z_cell, bb_cell}
 use Rattle.agc_store.specs.Places.{zero_cell, cyr_cell, sr_cell, cyl_cell, edop_cell}
-use Rattle.agc_store.specs.Places.{erasable_bank_size, fixed_bank_size}
+use Rattle.agc_store.specs.Places.{erasable_bank_size, erasable_cells, fixed_bank_size}
 use Rattle.agc_store.specs.Memory.{Memory, nothing, erasable_bank, fixed_bank, is_erasable}
 use Rattle.agc_store.specs.Memory.{erasable_place, cell_at, fixed_at, read_of}
 
@@ -19,9 +19,9 @@ narrow_number p = number_from_pattern 15 p
 -- EB and FB with these banks, and BB, which shows both: FB's in bits 15 to 11, EB's in bits 3 to 1
 unfoldable pub with_banks : List Number → ℕ → ℕ → List Number
 with_banks cells eb fb =
-    let with_eb = set cells eb_cell (narrow_number (0o400 * eb)) in
-    let with_fb = set with_eb fb_cell (narrow_number (0o2000 * fb)) in
-    set with_fb bb_cell (narrow_number (0o2000 * fb + eb))
+    let with_eb = set cells eb_cell (narrow_number (erasable_bank_size * eb)) in
+    let with_fb = set with_eb fb_cell (narrow_number (fixed_bank_size * fb)) in
+    set with_fb bb_cell (narrow_number (fixed_bank_size * fb + eb))
 
 -- the edit of an editing register
 abbrev pub edit_at : ℕ → Edit
@@ -41,11 +41,11 @@ stored_pattern w = pattern_of 15 (narrow_of w)
 
 -- the erasable bank that a word names which is written to EB: its bits 11 to 9
 abbrev pub bank_in_eb : Number → ℕ
-bank_in_eb w = stored_pattern w / 0o400 % 0o10
+bank_in_eb w = stored_pattern w / erasable_bank_size % 0o10
 
 -- the fixed bank that a word names which is written to FB or BB: its bits 15 to 11
 abbrev pub bank_in_fb : Number → ℕ
-bank_in_fb w = stored_pattern w / 0o2000
+bank_in_fb w = stored_pattern w / fixed_bank_size
 
 -- the erasable bank that a word names which is written to BB: its bits 3 to 1
 abbrev pub bank_in_bb : Number → ℕ
@@ -112,4 +112,5 @@ cleared_cells count = replicate count nothing
 
 -- the memory at the start: the fixed words of a rope, +0 in every erasable cell, the superbank off
 unfoldable pub start_memory : List Number → Memory
-start_memory words = record { erasable = cleared_cells 2048; fixed = words; superbank = false }
+start_memory words =
+    record { erasable = cleared_cells erasable_cells; fixed = words; superbank = false }

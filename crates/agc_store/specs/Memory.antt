@@ -22,11 +22,11 @@ cell_at place cells = get_or cells place nothing
 
 -- The erasable bank that EB names: EB keeps bits 11 to 9.
 unfoldable pub erasable_bank : List Number → ℕ
-erasable_bank cells = pattern_of 15 (cell_at eb_cell cells) / 0o400 % 0o10
+erasable_bank cells = pattern_of 15 (cell_at eb_cell cells) / erasable_bank_size % 0o10
 
 -- The fixed bank that FB names: FB keeps bits 15 to 11.
 unfoldable pub fixed_bank : List Number → ℕ
-fixed_bank cells = pattern_of 15 (cell_at fb_cell cells) / 0o2000
+fixed_bank cells = pattern_of 15 (cell_at fb_cell cells) / fixed_bank_size
 
 -- The bank that FB's bank stands for: the superbank adds ten octal to the banks 30 octal and up.
 unfoldable pub bank_with_superbank : Bool → ℕ → ℕ

@@ -89,9 +89,21 @@ inlink_cell = 0o45
 abbrev pub erasable_bank_size : ℕ
 erasable_bank_size = 0o400
 
+-- the erasable cells, in eight banks
+abbrev pub erasable_cells : ℕ
+erasable_cells = 0o4000
+
 -- the words of a fixed bank
 abbrev pub fixed_bank_size : ℕ
 fixed_bank_size = 0o2000
+
+-- the fixed banks, 00 to 43 octal
+abbrev pub fixed_banks : ℕ
+fixed_banks = 36
+
+-- the fixed words: a place in the rope is below it, 2000 octal times a bank, and an offset
+abbrev pub fixed_words : ℕ
+fixed_words = 36864
 
 -- the first address of the window onto the erasable bank that EB names
 abbrev pub erasable_window : ℕ

@@ -2,7 +2,7 @@
 use Rattle.std.specs.Prelude.{◌≡◌, ◌≢◌, ℕ, ◌+◌, ◌*◌, ◌%◌, ◌^◌, ◌<◌, List, length, Bool}
 use Rattle.agc_word.specs.Number.{Number, pattern_of}
 use Rattle.agc_store.specs.Places.{a_cell, q_cell, eb_cell, fb_cell, z_cell, bb_cell}
-use Rattle.agc_store.specs.Places.{zero_cell, erasable_bank_size, fixed_bank_size}
+use Rattle.agc_store.specs.Places.{zero_cell, erasable_bank_size, erasable_cells, fixed_bank_size}
 use Rattle.agc_store.specs.Memory.{Memory, nothing, erasable_bank, fixed_bank, bank_with_superbank, cell_at}
 use Rattle.agc_store.specs.Cells.{narrow_number}
 
@@ -17,16 +17,16 @@ z_of m = pattern_of 15 (register z_cell m) % 0o10000
 -- There are 2048 cells, of which A and Q alone may hold words with overflow. EB and FB have zeros
 -- beside the bits of their banks, BB shows both banks, and ZERO is +0.
 pub record HoldsRegisters (cells : List Number) : Type 0 where
-  pub count : length cells ≡ 2048
+  pub count : length cells ≡ erasable_cells
   pub narrow : (k : ℕ) → k ≢ a_cell → k ≢ q_cell → (cell_at k cells).magnitude < 2 ^ 14
-  pub eb : cell_at eb_cell cells ≡ narrow_number (0o400 * erasable_bank cells)
-  pub fb : cell_at fb_cell cells ≡ narrow_number (0o2000 * fixed_bank cells)
-  pub bb : cell_at bb_cell cells ≡ narrow_number (0o2000 * fixed_bank cells + erasable_bank cells)
+  pub eb : cell_at eb_cell cells ≡ narrow_number (erasable_bank_size * erasable_bank cells)
+  pub fb : cell_at fb_cell cells ≡ narrow_number (fixed_bank_size * fixed_bank cells)
+  pub bb : cell_at bb_cell cells ≡ narrow_number (fixed_bank_size * fixed_bank cells + erasable_bank cells)
   pub zero : cell_at zero_cell cells ≡ nothing
 
 -- a cell that no bank hangs on, and not ZERO
 pub record IsPlain (place : ℕ) : Type 0 where
-  pub in_range : place < 2048
+  pub in_range : place < erasable_cells
   pub no_eb : place ≢ eb_cell
   pub no_fb : place ≢ fb_cell
   pub no_bb : place ≢ bb_cell

@@ -4,7 +4,7 @@ use Rattle.std.specs.Prelude.{Bool, List, ◌∷◌, map, length, get_or, find, 
 use Rattle.std.specs.Prelude.{Option, Some, None, option_map, nat_lt, if◌then◌else◌}
 use Rattle.std.specs.List.{range_with_len}
 use Rattle.agc_word.specs.Number.{Number}
-use Rattle.agc_store.specs.Places.{fixed_bank_size}
+use Rattle.agc_store.specs.Places.{fixed_bank_size, fixed_banks, fixed_words}
 use Rattle.agc_store.specs.Memory.{fixed_at}
 use Rattle.agc_store.specs.Cells.{narrow_number}
 use Rattle.agc_store.specs.declared.rope_file.RopeForm.{RopeForm}
@@ -23,12 +23,14 @@ file_bank form.Classic bank =
     if nat_lt bank 2 then bank + 2 else if nat_lt bank 4 then bank - 2 else bank
 file_bank form.Parity bank = bank
 
+-- where the word of a place stands among a file's words
+unfoldable pub file_index : RopeForm → ℕ → ℕ
+file_index form place =
+    fixed_bank_size * file_bank form (place / fixed_bank_size) + place % fixed_bank_size
+
 -- the word of a rope at a place: its fifteen bits are the left ones of the file's sixteen
 unfoldable pub rope_word_at : RopeForm → List ℕ → ℕ → Number
-rope_word_at form bytes place =
-    let bank = place / fixed_bank_size in
-    let offset = place % fixed_bank_size in
-    narrow_number (file_word bytes (fixed_bank_size * file_bank form bank + offset) / 2)
+rope_word_at form bytes place = narrow_number (file_word bytes (file_index form place) / 2)
 
 -- the words of a rope at the first so many places
 unfoldable pub first_words : ℕ → RopeForm → List ℕ → List Number
@@ -43,13 +45,13 @@ banks_of form.Parity = range_with_len 0 36
 -- The law of that order: the word at an offset of the i-th bank is the file's at that offset of
 -- its i-th run of 2000 octal words.
 unfoldable pub FollowsBanks : RopeForm → List ℕ → List Number → Type 0
-FollowsBanks form bytes words = (i offset : ℕ) → i < 36 → offset < fixed_bank_size
+FollowsBanks form bytes words = (i offset : ℕ) → i < fixed_banks → offset < fixed_bank_size
     → fixed_at (fixed_bank_size * get_or (banks_of form) i 0 + offset) words
     ≡ narrow_number (file_word bytes (fixed_bank_size * i + offset) / 2)
 
 -- the words of a rope, 36 banks of 1024
 unfoldable pub rope_words : RopeForm → List ℕ → List Number
-rope_words form bytes = first_words 36864 form bytes
+rope_words form bytes = first_words fixed_words form bytes
 
 -- Whether a word has an even count of one bits, so that its parity is wrong. A word of 0 is a place
 -- without a word.
@@ -75,5 +77,5 @@ unfoldable pub rope_fault_of : RopeForm → List ℕ → Option RopeFault
 rope_fault_of form bytes =
     if length bytes == 0 then Some fault.Empty
     else if length bytes % 2 == 1 then Some fault.OddLength
-    else if nat_lt 73728 (length bytes) then Some fault.TooLong
+    else if nat_lt (2 * fixed_words) (length bytes) then Some fault.TooLong
     else parity_fault form bytes

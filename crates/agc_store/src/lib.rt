@@ -10,5 +10,5 @@ mod store;
 
 pub use addr::Addr;
 pub use rope::Rope;
-pub use rope_file::{RopeFault, RopeForm};
+pub use rope_file::{RopeFault, RopeForm, index_in_file};
 pub use store::Store;

@@ -1,4 +1,7 @@
-//! The places that have a name: cells of the first erasable bank, and where the windows stand.
+//! The places that have a name: cells of the first erasable bank, where the windows stand, and how
+//! a place in the rope is made of a bank and an offset.
+ghost use Rattle.std.specs.Prelude.{◌≡◌, ℕ, ◌+◌, ◌*◌, ◌/◌, ◌%◌, ◌<◌};
+ghost use Rattle.agc_store.specs.Places.{fixed_bank_size, fixed_banks, fixed_words};
 
 /// A, the accumulator: sixteen bits, of which the two highest tell overflow.
 pub const A: u16 = 0o0;
@@ -66,8 +69,15 @@ pub const INLINK: u16 = 0o45;
 /// The cells of an erasable bank.
 pub const ERASABLE_BANK_SIZE: u16 = 0o400;
 
+/// The erasable cells, in eight banks.
+pub const ERASABLE_CELLS: u16 = 0o4000;
+
 /// The words of a fixed bank.
 pub const FIXED_BANK_SIZE: u16 = 0o2000;
+
+/// The fixed words, in 36 banks: a place in the rope is below it, 2000 octal times a bank, and an
+/// offset.
+pub const FIXED_WORDS: u32 = 36864;
 
 /// The first address of the window onto the erasable bank that EB names.
 pub const ERASABLE_WINDOW: u16 = 0o1400;
@@ -77,3 +87,30 @@ pub const FIXED_WINDOW: u16 = 0o2000;
 
 /// The first address of fixed-fixed memory: the banks 02 and 03, which are always at hand.
 pub const FIXED_FIXED: u16 = 0o4000;
+
+/// The bank of the fixed word at a place.
+#[inline]
+pub fn bank_of(place: u32) -> u8
+    requires { place < fixed_words }
+    ensures bank { result ≡ place / fixed_bank_size }
+    ensures range { result < fixed_banks }
+{
+    (place / u32::from(FIXED_BANK_SIZE)) as u8
+}
+
+/// The offset of a place in its bank.
+#[inline]
+pub fn offset_of(place: u32) -> u16
+    ensures offset { result ≡ place % fixed_bank_size }
+    ensures range { result < fixed_bank_size }
+{
+    (place % u32::from(FIXED_BANK_SIZE)) as u16
+}
+
+/// The place of the fixed word at an offset of a bank.
+#[inline]
+pub fn place_of(bank: u8, offset: u16) -> u32
+    ensures { result ≡ fixed_bank_size * bank + offset }
+{
+    u32::from(FIXED_BANK_SIZE) * u32::from(bank) + u32::from(offset)
+}

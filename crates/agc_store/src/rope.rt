@@ -1,15 +1,20 @@
 //! The rope: the fixed words, as they were woven.
 ghost use Rattle.std.specs.Prelude.{◌≡◌, ℕ, ◌<◌, ◌≤◌, ◌-◌, ◌%◌, ◌++◌, length, unwrap_or, IfOk, IfErr, IsNone};
 ghost use Rattle.agc_word.specs.Arithmetic.{narrow_of};
+ghost use Rattle.agc_store.specs.Places.{fixed_words};
 ghost use Rattle.agc_store.specs.Memory.{fixed_at};
 ghost use Rattle.agc_store.specs.Cells.{cleared_cells};
 ghost use Rattle.agc_store.specs.RopeFile.{FollowsBanks, first_words, rope_words, rope_fault_of};
 ghost use Rattle.agc_store.specs.declared.rope_file.RopeForm.TheVariants as form;
 
+use crate::place::FIXED_WORDS;
 use crate::rope_file::{RopeFault, RopeForm, fault, woven_word};
 use agc_word::Narrow;
 use std::alloc::{AllocError, Global};
 use std::marker::Model;
+
+/// The places of forty banks, as many as the bank registers and the superbank can name.
+const PLACES: usize = 40960;
 
 /// The 36,864 fixed words, in 36 banks of 1024. In the spacecraft they were woven: a wire through a
 /// core or past it.
@@ -22,11 +27,12 @@ pub struct Rope {
 impl Model for Rope {
     ghost use Rattle.std.specs.Prelude.{List, take};
     ghost use Rattle.agc_word.specs.Number.{Number};
+    ghost use Rattle.agc_store.specs.Places.{fixed_words};
     ghost use Rattle.agc_store.specs.Rope.{IsWoven};
 
     ghost Value = { List Number };
 
-    ghost view = { λ r. take 36864 r.words.items };
+    ghost view = { λ r. take fixed_words r.words.items };
 
     ghost invariant = { λ r. IsWoven r.words.items };
 }
@@ -56,7 +62,7 @@ impl Rope {
         if let Some(fault) = fault(form, bytes) {
             return Err(fault);
         }
-        match weave(alloc, form, bytes, 36864, 40960) {
+        match weave(alloc, form, bytes, FIXED_WORDS as usize, PLACES) {
             Ok(words) => Ok(Rope { words }),
             Err(_) => Err(RopeFault::Memory),
         }
@@ -87,7 +93,7 @@ fn weave(
     places: usize,
 ) -> Result<Vec<Narrow>, AllocError>
     requires even { length bytes.now % 2 ≡ 0 }
-    requires words { words ≤ 36864 }
+    requires words { words ≤ fixed_words }
     requires places { words ≤ places }
     ensures { IfOk result (λ woven. woven.items ≡ first_words words form bytes.now ++ cleared_cells (places - words)) }
 {

@@ -1,9 +1,11 @@
 //! Rope files: their two forms, and why a file is refused.
-#![tactic(auto, unfolding(crate::specs::RopeFile::file_word, crate::specs::RopeFile::file_bank, crate::specs::RopeFile::rope_word_at, crate::specs::RopeFile::is_bad_parity, crate::specs::RopeFile::first_bad, crate::specs::RopeFile::parity_fault, crate::specs::RopeFile::rope_fault_of))]
+#![tactic(auto, unfolding(crate::specs::RopeFile::file_word, crate::specs::RopeFile::file_bank, crate::specs::RopeFile::file_index, crate::specs::RopeFile::rope_word_at, crate::specs::RopeFile::is_bad_parity, crate::specs::RopeFile::first_bad, crate::specs::RopeFile::parity_fault, crate::specs::RopeFile::rope_fault_of))]
 
-ghost use Rattle.std.specs.Prelude.{◌≡◌, ℕ, ◌<◌, ◌≤◌, ◌/◌, ◌%◌, length, IfSome, IfNone};
-ghost use Rattle.agc_store.specs.RopeFile.{file_word, file_bank, rope_word_at, is_bad_parity, first_bad, parity_fault, rope_fault_of};
+ghost use Rattle.std.specs.Prelude.{◌≡◌, ℕ, ◌<◌, ◌≤◌, ◌*◌, ◌/◌, ◌%◌, length, IfSome, IfNone};
+ghost use Rattle.agc_store.specs.Places.{fixed_words};
+ghost use Rattle.agc_store.specs.RopeFile.{file_word, file_index, rope_word_at, is_bad_parity, first_bad, parity_fault, rope_fault_of};
 
+use crate::place::{FIXED_BANK_SIZE, FIXED_WORDS, bank_of, offset_of};
 use agc_word::Narrow;
 use byteorder::{BigEndian, ByteOrder};
 use thiserror::Error;
@@ -47,7 +49,7 @@ pub(crate) fn fault(form: RopeForm, bytes: &[u8]) -> Option<RopeFault>
     if bytes.len() % 2 == 1 {
         return Some(RopeFault::OddLength);
     }
-    if bytes.len() > 73728 {
+    if bytes.len() > 2 * FIXED_WORDS as usize {
         return Some(RopeFault::TooLong);
     }
     find_parity_fault(form, bytes)
@@ -56,15 +58,15 @@ pub(crate) fn fault(form: RopeForm, bytes: &[u8]) -> Option<RopeFault>
 /// The first word with the wrong parity in a file of at most 36 banks.
 fn find_parity_fault(form: RopeForm, bytes: &[u8]) -> Option<RopeFault>
     requires even { length bytes.now % 2 ≡ 0 }
-    requires banks { length bytes.now ≤ 73728 }
+    requires banks { length bytes.now ≤ 2 * fixed_words }
     ensures { result ≡ parity_fault form bytes.now }
 {
     match form {
         RopeForm::Classic => None,
         RopeForm::Parity => match find_bad(bytes) {
             Some(index) => Some(RopeFault::Parity {
-                bank: (index / 0o2000) as u8,
-                offset: (index % 0o2000) as u16,
+                bank: bank_of(index as u32),
+                offset: offset_of(index as u32),
             }),
             None => None,
         },
@@ -99,28 +101,29 @@ fn number_at(bytes: &[u8], index: usize) -> u16
     }
 }
 
-/// Where a bank stands among the banks of a file.
-fn bank_in_file(form: RopeForm, bank: usize) -> usize
-    requires { bank < 36 }
-    ensures bank { result ≡ file_bank form bank }
-    ensures range { result < 36 }
+/// Where the word of a place stands among the words of a file.
+pub fn index_in_file(form: RopeForm, place: usize) -> usize
+    requires { place < fixed_words }
+    ensures index { result ≡ file_index form place }
+    ensures range { result < fixed_words }
 {
-    match form {
+    let bank = place / FIXED_BANK_SIZE as usize;
+    let bank_in_file = match form {
         RopeForm::Classic => match bank {
             0 | 1 => bank + 2,
             2 | 3 => bank - 2,
             _ => bank,
         },
         RopeForm::Parity => bank,
-    }
+    };
+    FIXED_BANK_SIZE as usize * bank_in_file + place % FIXED_BANK_SIZE as usize
 }
 
 /// The word of a rope at a place.
 pub(crate) fn woven_word(form: RopeForm, bytes: &[u8], place: usize) -> Narrow
     requires even { length bytes.now % 2 ≡ 0 }
-    requires place { place < 36864 }
+    requires place { place < fixed_words }
     ensures { result ≡ rope_word_at form bytes.now place }
 {
-    let index = 0o2000 * bank_in_file(form, place / 0o2000) + place % 0o2000;
-    Narrow::with_bits(number_at(bytes, index) / 2)
+    Narrow::with_bits(number_at(bytes, index_in_file(form, place)) / 2)
 }

@@ -2,8 +2,8 @@
 #![tactic(auto, unfolding(crate::specs::Memory::cell_at, crate::specs::Memory::erasable_place, crate::specs::Memory::fixed_at, crate::specs::Memory::selected_bank, crate::specs::Memory::read_of, crate::specs::Cells::write_of, crate::specs::Cells::fetch_of, crate::specs::Cells::named_cell, crate::specs::Cells::reedit_of, crate::specs::Cells::cell_of, crate::specs::Cells::fixed_of, crate::specs::Cells::poke_of, crate::specs::Cells::superbank_set))]
 
 ghost use Rattle.std.specs.Prelude.{◌≡◌, ℕ, ◌+◌, ◌*◌, ◌<◌, ◌≤◌, ◌^◌, ◌&&◌, nat_lt};
-ghost use Rattle.agc_store.specs.Places.{zero_cell, edop_cell, erasable_window, fixed_window};
-ghost use Rattle.agc_store.specs.Memory.{read_of};
+ghost use Rattle.agc_store.specs.Places.{zero_cell, edop_cell, erasable_window, fixed_window, fixed_words};
+ghost use Rattle.agc_store.specs.Memory.{fixed_at, read_of};
 ghost use Rattle.agc_store.specs.Cells.{
   write_of,
   fetch_of,
@@ -24,7 +24,8 @@ mod registers;
 
 use crate::addr::Addr;
 use crate::place::{
-    CYR, EDOP, ERASABLE_BANK_SIZE, ERASABLE_WINDOW, FIXED_BANK_SIZE, FIXED_FIXED, FIXED_WINDOW,
+    CYR, EDOP, ERASABLE_BANK_SIZE, ERASABLE_CELLS, ERASABLE_WINDOW, FIXED_BANK_SIZE, FIXED_FIXED,
+    FIXED_WINDOW, place_of,
 };
 use crate::rope::Rope;
 use agc_word::{Narrow, Wide, widen};
@@ -40,7 +41,7 @@ use std::marker::Model;
 /// of the fixed banks 02 and 03, which are always at hand.
 #[derive(Debug, Drop)]
 pub struct Store {
-    cells: [Wide; 2048],
+    cells: [Wide; ERASABLE_CELLS as usize],
     rope: Rope,
     superbank: bool,
     /// The first cell of the erasable bank that EB names.
@@ -207,13 +208,22 @@ impl Store {
         self.superbank = on;
     }
 
+    /// The fixed word at a place: 2000 octal times its bank, and its offset.
+    #[inline]
+    pub fn fixed_at(&self, place: usize) -> Narrow
+        requires { place < fixed_words }
+        ensures { result ≡ fixed_at place self.now.fixed }
+    {
+        self.rope.word(place)
+    }
+
     /// The fixed word at an offset, 0 to 1777 octal, of a bank, 00 to 43 octal, whatever FB holds.
     pub fn fixed(&self, bank: u8, offset: u16) -> Narrow
         requires bank { bank ≤ 0o43 }
         requires offset { offset ≤ 0o1777 }
         ensures { result ≡ fixed_of self.now bank offset }
     {
-        self.rope.word(FIXED_BANK_SIZE as usize * usize::from(bank) + usize::from(offset))
+        self.fixed_at(place_of(bank, offset) as usize)
     }
 
     /// The erasable cell at an offset, 0 to 377 octal, of a bank, 0 to 7, whatever EB holds. A and Q

@@ -2,7 +2,7 @@
 #![tactic(auto, unfolding(crate::specs::Memory::cell_at, crate::specs::Memory::erasable_bank, crate::specs::Memory::fixed_bank, crate::specs::Memory::selected_bank, crate::specs::Memory::erasable_place, crate::specs::Memory::fixed_place, crate::specs::Cells::with_banks))]
 
 ghost use Rattle.std.specs.Prelude.{◌≡◌, ◌<◌, ◌≤◌};
-ghost use Rattle.agc_store.specs.Places.{fixed_window};
+ghost use Rattle.agc_store.specs.Places.{erasable_cells, fixed_window};
 ghost use Rattle.agc_store.specs.Memory.{erasable_bank, fixed_bank, selected_bank, bank_with_superbank, erasable_place, fixed_place};
 ghost use Rattle.agc_store.specs.Cells.{with_banks};
 
@@ -36,7 +36,7 @@ impl Store {
         ensures bank { result ≡ fixed_bank self.now.erasable }
         ensures range { result < 32 }
     {
-        narrow_pattern(self.cells[FB as usize]) / 0o2000
+        narrow_pattern(self.cells[FB as usize]) / FIXED_BANK_SIZE
     }
 
     /// The erasable cell that an address below 2000 octal names.
@@ -44,7 +44,7 @@ impl Store {
     pub(super) fn erasable_place(&self, number: usize) -> usize
         requires { number < fixed_window }
         ensures place { result ≡ erasable_place self.now.erasable number }
-        ensures range { result < 2048 }
+        ensures range { result < erasable_cells }
     {
         if number < ERASABLE_WINDOW as usize {
             number
@@ -74,9 +74,9 @@ impl Store {
         requires fixed { fixed < 32 }
         ensures { self.new ≡ record self.old { erasable = with_banks self.old.erasable erasable fixed } }
     {
-        self.cells[EB as usize] = narrow_word(0o400 * erasable);
-        self.cells[FB as usize] = narrow_word(0o2000 * fixed);
-        self.cells[BB as usize] = narrow_word(0o2000 * fixed + erasable);
+        self.cells[EB as usize] = narrow_word(ERASABLE_BANK_SIZE * erasable);
+        self.cells[FB as usize] = narrow_word(FIXED_BANK_SIZE * fixed);
+        self.cells[BB as usize] = narrow_word(FIXED_BANK_SIZE * fixed + erasable);
         self.erasable_base = (ERASABLE_BANK_SIZE * erasable) as usize;
         self.fixed_base = (FIXED_BANK_SIZE * selected(fixed, self.superbank)) as usize;
     }

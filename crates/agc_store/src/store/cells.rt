@@ -2,20 +2,22 @@
 #![tactic(auto, unfolding(crate::specs::Memory::cell_at, crate::specs::Memory::erasable_bank, crate::specs::Memory::fixed_bank, crate::specs::Cells::with_banks, crate::specs::Cells::cells_with, crate::specs::Cells::put_of))]
 
 ghost use Rattle.std.specs.Prelude.{◌≡◌, ℕ, ◌<◌, ◌≤◌, set};
-ghost use Rattle.agc_store.specs.Places.{edop_cell};
+ghost use Rattle.agc_store.specs.Places.{edop_cell, erasable_cells};
 ghost use Rattle.agc_store.specs.Cells.{put_of};
 ghost use Rattle.agc_store.specs.Registers.{IsPlain, IsStorable};
 
 use super::Store;
 use super::narrow_cells::narrow_word;
-use crate::place::{A, BB, CYL, CYR, EB, EDOP, FB, Q, SR, Z, ZERO};
+use crate::place::{
+    A, BB, CYL, CYR, EB, EDOP, ERASABLE_BANK_SIZE, FB, FIXED_BANK_SIZE, Q, SR, Z, ZERO,
+};
 use agc_word::{Edit, Wide, widen};
 
 impl Store {
     /// Writes a word to an erasable cell by its number. The cells past EDOP are plain.
     #[inline]
     pub(super) fn put(&mut self, place: usize, word: Wide)
-        requires { place < 2048 }
+        requires { place < erasable_cells }
         ensures { self.new ≡ put_of self.old place word }
     {
         if place > EDOP as usize {
@@ -37,14 +39,14 @@ impl Store {
             A | Q => self.set_plain(place, word),
             EB => {
                 let fixed = self.fixed_bank();
-                self.set_banks(bits / 0o400 % 0o10, fixed);
+                self.set_banks(bits / ERASABLE_BANK_SIZE % 0o10, fixed);
             }
             FB => {
                 let erasable = u16::from(self.erasable_bank());
-                self.set_banks(erasable, bits / 0o2000);
+                self.set_banks(erasable, bits / FIXED_BANK_SIZE);
             }
             Z => self.set_plain(place, narrow_word(bits % 0o10000)),
-            BB => self.set_banks(bits % 0o10, bits / 0o2000),
+            BB => self.set_banks(bits % 0o10, bits / FIXED_BANK_SIZE),
             ZERO => {}
             CYR => self.set_plain(place, widen(narrow.edit(Edit::Cyr))),
             SR => self.set_plain(place, widen(narrow.edit(Edit::Sr))),

@@ -8,6 +8,6 @@ loop-place-init c = (sym (no_lines c.args.bank c.args.store.now.fixed _), extrac
 pub loop-place-preserved : goal.loop-place-preserved
 loop-place-preserved c =
     let extracode = c.leads_on-extracode.ensures ∙ c.loop-place.invariant.1 in (
-      text_more c.args.bank c.args.store.now.fixed c.loop-place.place c.leads_on-extracode.result c.word_at-word.result _ _ _ extracode c.word_at-word.ensures c.loop-place.invariant.0 c.in_ok-push_listed.ensures,
-      extracode_next c.args.store.now.fixed c.loop-place.place c.leads_on-extracode.result c.leads_extracode-leads.result c.word_at-word.result extracode c.word_at-word.ensures c.leads_extracode-leads.ensures,
+      text_more c.args.bank c.args.store.now.fixed c.loop-place.place c.leads_on-extracode.result c.fixed_at-word.result _ _ _ extracode c.fixed_at-word.ensures c.loop-place.invariant.0 c.in_ok-push_listed.ensures,
+      extracode_next c.args.store.now.fixed c.loop-place.place c.leads_on-extracode.result c.leads_extracode-leads.result c.fixed_at-word.result extracode c.fixed_at-word.ensures c.leads_extracode-leads.ensures,
     )

@@ -9,4 +9,4 @@ joined old one two new front place end a b c = rw (c, b, a) (simp append_assoc r
 
 pub returns : goal.returns
 returns c =
-    joined _ _ _ _ (codes "        SETLOC ") (place_text (listed_place c.args.place)) (codes "\n") c.in_ok-push_str.ensures.bytes (rw c.listed_address.ensures.address at c.in_ok-push_place.ensures) c.in_ok-push_str-2.ensures.bytes
+    joined _ _ _ _ (codes "        SETLOC ") (place_text (listed_place c.args.place)) (codes "\n") c.in_ok-push_str.ensures.bytes (rw (c.bank_of.ensures.bank, c.listed_address.ensures.address) at c.in_ok-push_place.ensures) c.in_ok-push_str-2.ensures.bytes

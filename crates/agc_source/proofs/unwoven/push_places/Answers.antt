@@ -16,8 +16,8 @@ loop-place-preserved c =
     let h = c.loop-place.invariant in
     let words = c.args.store.now.fixed in
     let place = c.loop-place.place in
-    let word = c.word_at-word.result in
-    let is = c.word_at-word.ensures in
+    let word = c.fixed_at-word.result in
+    let is = c.fixed_at-word.ensures in
     let next = c.read_next-read.ensures in
     record {
       text = text_more c.args.bank words place c.loop-place.read.follows c.loop-place.read.wanted c.loop-place.read.extracode word _ _ _
