@@ -13,6 +13,7 @@ use Rattle.agc_script.specs.Line.{begins_comment, is_beyond_ascii, longest_line}
 use Rattle.agc_script.specs.Text.{words_of}
 use Rattle.agc_script.specs.declared.event.What.{What}
 use Rattle.agc_script.specs.declared.fault.FaultKind.{FaultKind}
+use Rattle.agc_store.specs.Places.{erasable_cells}
 use Rattle.agc_source_words.specs.Location.{IsWithin}
 use Rattle.agc_word.specs.Channels.{last_io_channel}
 use Rattle.agc_request.specs.Name.{name_named}
@@ -153,7 +154,7 @@ request_of names line =
 unfoldable pub IsTargetInRange : Target → Type 0
 IsTargetInRange (target.Order place) = IsWithin place
 IsTargetInRange (target.Write channel) = channel ≤ last_io_channel
-IsTargetInRange (target.Cell cell) = cell < 0o4000
+IsTargetInRange (target.Cell cell) = cell < erasable_cells
 
 unfoldable pub IsCommandInRange : Command → Type 0
 IsCommandInRange (command.Go cycles) = cycles ≤ last_cycle
@@ -162,7 +163,7 @@ IsCommandInRange (command.Step boundaries) = boundaries ≤ last_cycle
 IsCommandInRange (command.Until what within) = IsTargetInRange what × (within ≤ last_cycle)
 IsCommandInRange (command.Give what) = IsWhatInRange what
 IsCommandInRange (command.Watch spec) = watch_fault_of spec ≡ None
-IsCommandInRange (command.Cells first count) = first + count ≤ 0o4000
+IsCommandInRange (command.Cells first count) = first + count ≤ erasable_cells
 IsCommandInRange (command.Channel channel) = channel ≤ last_io_channel
 IsCommandInRange (command.Back cycle) = cycle ≤ last_cycle
 IsCommandInRange command = Unit {0}

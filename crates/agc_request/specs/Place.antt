@@ -2,6 +2,7 @@
 use Rattle.std.specs.Prelude.{ℕ, ◌+◌, nat_lt, nat_le, ◌&&◌, List, [], ◌∷◌}
 use Rattle.std.specs.Prelude.{Option, Some, None, Result, Ok, Err, if◌then◌else◌}
 use Rattle.std.specs.Option.{ok_or}
+use Rattle.agc_store.specs.Places.{erasable_cells}
 use Rattle.agc_names.specs.Lookup.{place_said}
 use Rattle.agc_names.specs.Names.{Named}
 use Rattle.agc_source_words.specs.declared.location.Location.{Location}
@@ -27,7 +28,7 @@ cell_in names word = and_then (place_in names word) as_cell
 -- at least one cell, and as many as there are from the first one on
 abbrev pub count_from : ℕ → Option ℕ → Result ℕ CommandFault
 count_from first (Some count) =
-    if nat_lt 0 count && nat_le (first + count) 0o4000 then Ok count else Err fault.BadCount
+    if nat_lt 0 count && nat_le (first + count) erasable_cells then Ok count else Err fault.BadCount
 count_from first None = Err fault.BadCount
 
 unfoldable pub count_in : ℕ → List ℕ → Result ℕ CommandFault

@@ -1,5 +1,6 @@
 //! The places of commands, by themselves or by their names, and cells of erasable memory among them.
 ghost use Rattle.std.specs.Prelude.{◌≡◌, ◌+◌, ◌<◌, ◌≤◌, IfOk};
+ghost use Rattle.agc_store.specs.Places.{erasable_cells};
 ghost use Rattle.agc_script.specs.Text.{words_of};
 ghost use Rattle.agc_source_words.specs.Location.{IsWithin};
 ghost use Rattle.agc_request.specs.Place.{cell_in, cells_after, count_in, place_in};
@@ -10,10 +11,8 @@ use crate::words::only_word;
 use agc_names::{NameTable, place_said};
 use agc_script::{MOST_DIGITS, next_word};
 use agc_source_words::Location;
+use agc_store::place::ERASABLE_CELLS;
 use agc_word::read_decimal;
-
-/// The cells of erasable memory.
-const CELLS: u16 = 0o4000;
 
 /// The place that a word stands for.
 #[tactic(auto, unfolding(crate::specs::Place::place_in))]
@@ -28,7 +27,7 @@ pub(crate) fn read_place(names: &Option<NameTable>, word: &[u8]) -> Result<Locat
 #[tactic(auto, unfolding(crate::specs::Place::cell_in))]
 pub(crate) fn read_cell(names: &Option<NameTable>, word: &[u8]) -> Result<u16, CommandFault>
     ensures cell { result ≡ cell_in names.now word.now }
-    ensures range { IfOk result (λ cell. cell < 0o4000) }
+    ensures range { IfOk result (λ cell. cell < erasable_cells) }
 {
     match read_place(names, word)? {
         Location::Erasable(cell) => Ok(cell as u16),
@@ -39,9 +38,9 @@ pub(crate) fn read_cell(names: &Option<NameTable>, word: &[u8]) -> Result<u16, C
 /// How many cells from a first one on the words after it ask for: one, where there is no word.
 #[tactic(auto, unfolding(crate::specs::Place::cells_after))]
 pub(crate) fn read_cells_after(first: u16, words: &[u8]) -> Result<u16, CommandFault>
-    requires { first < 0o4000 }
+    requires { first < erasable_cells }
     ensures count { result ≡ cells_after first (words_of words.now) }
-    ensures range { IfOk result (λ count. first + count ≤ 0o4000) }
+    ensures range { IfOk result (λ count. first + count ≤ erasable_cells) }
 {
     if next_word(words).is_none() {
         return Ok(1);
@@ -53,12 +52,12 @@ pub(crate) fn read_cells_after(first: u16, words: &[u8]) -> Result<u16, CommandF
 /// The number of cells that a word writes, as many as there are from a first one on.
 #[tactic(auto, unfolding(crate::specs::Place::count_in))]
 fn read_count(first: u16, word: &[u8]) -> Result<u16, CommandFault>
-    requires { first < 0o4000 }
+    requires { first < erasable_cells }
     ensures count { result ≡ count_in first word.now }
-    ensures range { IfOk result (λ count. first + count ≤ 0o4000) }
+    ensures range { IfOk result (λ count. first + count ≤ erasable_cells) }
 {
     match read_decimal(MOST_DIGITS, word) {
-        Some(count) if 0 < count && count <= u64::from(CELLS - first) => Ok(count as u16),
+        Some(count) if 0 < count && count <= u64::from(ERASABLE_CELLS - first) => Ok(count as u16),
         _ => Err(CommandFault::BadCount),
     }
 }
