@@ -17,9 +17,20 @@ static WRITES: &str = "
 4004 54171 a relay word: PROG
 ";
 
+/// Reads two words by DCA, counts a cell on, stores A in another, and waits.
+static READS: &str = "
+4000 00006 EXTEND
+4001 34010 DCA 4010, lower word
+4002 24100 INCR 100
+4003 54101 TS 101
+4004 14004 TCF 4004
+4007 00001
+4010 00002
+";
+
 /// CA 4004, EXTEND, WRITE 10 and TCF 4003 from 0, 2, 3 and 5 on; the limit stops at 10.
-fn machine_of(rt: &(impl AllocGlobal + Abort)) -> Result<Machine, Fail> {
-    let bytes = rope_file(rt.alloc(), WRITES)?;
+fn machine_of(rt: &(impl AllocGlobal + Abort), words: &str) -> Result<Machine, Fail> {
+    let bytes = rope_file(rt.alloc(), words)?;
     let rope = Rope::read(rt.alloc(), bytes.as_slice())?;
     let script = Script::parse(rt.alloc(), b"")?;
     Ok(
@@ -30,7 +41,7 @@ fn machine_of(rt: &(impl AllocGlobal + Abort)) -> Result<Machine, Fail> {
 }
 
 fn counted(rt: &(impl AllocGlobal + Abort), from: u64, to: u64) -> Result<Counts, Fail> {
-    let mut machine = machine_of(rt)?;
+    let mut machine = machine_of(rt, WRITES)?;
     Ok(count(rt.alloc(), &mut machine, Span { from, to }, &mut Untold)?)
 }
 
@@ -54,6 +65,14 @@ fn words_of_a_run(rt: HostRuntime) -> Result<(), Fail> {
     );
     assert_eq!(rt; counts.fixed.at(0o4004), Tally::NOTHING);
     assert_eq!(rt;
+        counts.fixed_data.at(0o4004),
+        Tally {
+            times: 1,
+            cycles: 2
+        }
+    );
+    assert_eq!(rt; counts.fixed_data.at(0o4003), Tally::NOTHING);
+    assert_eq!(rt;
         counts.orders,
         Tally {
             times: 8,
@@ -68,25 +87,52 @@ fn words_of_a_run(rt: HostRuntime) -> Result<(), Fail> {
 #[test]
 fn a_part_in_print(rt: HostRuntime) -> Result<(), Fail> {
     let counts = counted(&rt, 3, 5)?;
-    let machine = machine_of(&rt)?;
+    let machine = machine_of(&rt, WRITES)?;
     let mut text = String::new(rt.alloc());
     push_count(&mut text, Layout::Csv, false, &counts, machine.store())?;
     assert_eq!(rt;
         text.as_str(),
-        "kind,name,order,times,cycles
-all,\"boundaries\",,2,3
-all,\"orders\",,2,3
-all,\"timers\",,0,0
-all,\"events\",,0,0
-all,\"interrupts\",,0,0
-all,\"in services\",,0,0
-all,\"under INHINT\",,0,0
-order,\"TCF\",,1,1
-extracode,\"WRITE\",,1,2
-bank,\"02\",,2,3
-word,\"02,4002\",01010 WRITE 010,1,2
-word,\"02,4003\",14003 TCF 4003,1,1
+        "kind,name,order,times,cycles,data
+all,\"boundaries\",,2,3,
+all,\"orders\",,2,3,
+all,\"timers\",,0,0,
+all,\"events\",,0,0,
+all,\"interrupts\",,0,0,
+all,\"in services\",,0,0,
+all,\"under INHINT\",,0,0,
+order,\"TCF\",,1,1,
+extracode,\"WRITE\",,1,2,
+bank,\"02\",,2,3,
+word,\"02,4002\",01010 WRITE 010,1,2,0
+word,\"02,4003\",14003 TCF 4003,1,1,0
 "
+    );
+    Ok(())
+}
+
+/// Code, data and dead words of a rope, in print: DCA reads two words, INCR a cell, and TS reads none.
+#[test]
+fn words_that_are_read(rt: HostRuntime) -> Result<(), Fail> {
+    let mut machine = machine_of(&rt, READS)?;
+    let whole = Span {
+        from: 0,
+        to: u64::MAX,
+    };
+    let counts = count(rt.alloc(), &mut machine, whole, &mut Untold)?;
+    let mut text = String::new(rt.alloc());
+    push_count(&mut text, Layout::Columns, false, &counts, machine.store())?;
+    assert!(rt;
+        text.as_str().ends_with(
+            "             0               0             1  word 0100
+             1               1             0  word 02,4000 00006 EXTEND
+             1               3             0  word 02,4001 34010 DCA 4007
+             1               2             0  word 02,4002 24100 INCR 0100
+             1               2             0  word 02,4003 54101 TS 0101
+             2               2             0  word 02,4004 14004 TCF 4004
+             0               0             1  word 02,4007 00001 TC 0001
+             0               0             1  word 02,4010 00002 TC 0002
+"
+        )
     );
     Ok(())
 }
