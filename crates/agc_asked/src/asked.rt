@@ -131,6 +131,10 @@ pub struct Tracing {
     /// The text of `--until`.
     pub until: Option<String>,
     pub selection: Selection,
+    /// The texts of `--at` and of `--cell` that are not in the selection yet, since they may say places by the names of the
+    /// file.
+    pub at: Vec<String>,
+    pub cell: Vec<String>,
     /// The text file of names.
     pub names: Option<String>,
 }

@@ -6,11 +6,11 @@ use agc_word::read_octal;
 use clap::ArgMatches;
 use std::alloc::{AllocError, Global};
 
-/// The places of `--at`.
+/// The places of `--at`, where no names are given with which its texts are read later.
 pub(crate) fn places_of(alloc: Global, given: &ArgMatches<'_>) -> Result<Vec<Places>, ArgsFault> {
-    match given.get_strs("at") {
-        Some(texts) => places_in(alloc, texts),
-        None => Ok(Vec::new(alloc)),
+    match (given.get_strs("at"), given.get_str("names")) {
+        (Some(texts), None) => places_in(alloc, texts),
+        _ => Ok(Vec::new(alloc)),
     }
 }
 
@@ -25,11 +25,11 @@ fn places_in(alloc: Global, texts: &[&str]) -> Result<Vec<Places>, ArgsFault> {
     Ok(several)
 }
 
-/// The cells of `--cell`.
+/// The cells of `--cell`, where no names are given with which its texts are read later.
 pub(crate) fn cells_of(alloc: Global, given: &ArgMatches<'_>) -> Result<Vec<Places>, ArgsFault> {
-    match given.get_strs("cell") {
-        Some(texts) => cells_in(alloc, texts),
-        None => Ok(Vec::new(alloc)),
+    match (given.get_strs("cell"), given.get_str("names")) {
+        (Some(texts), None) => cells_in(alloc, texts),
+        _ => Ok(Vec::new(alloc)),
     }
 }
 
@@ -40,6 +40,26 @@ fn cells_in(alloc: Global, texts: &[&str]) -> Result<Vec<Places>, ArgsFault> {
             Ok(places) => push(&mut several, places)?,
             Err(fault) => return Err(refused(alloc, text, "--cell <PLACES>", fault.name())),
         }
+    }
+    Ok(several)
+}
+
+/// The texts of an option that are read later, with the names that are given.
+pub(crate) fn texts_of(
+    alloc: Global,
+    given: &ArgMatches<'_>,
+    id: &str,
+) -> Result<Vec<String>, AllocError> {
+    match (given.get_strs(id), given.get_str("names")) {
+        (Some(texts), Some(_)) => texts_in(alloc, texts),
+        _ => Ok(Vec::new(alloc)),
+    }
+}
+
+fn texts_in(alloc: Global, texts: &[&str]) -> Result<Vec<String>, AllocError> {
+    let mut several = Vec::new(alloc);
+    for text in texts {
+        push(&mut several, String::from_str(alloc, text)?)?;
     }
     Ok(several)
 }

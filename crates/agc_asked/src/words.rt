@@ -1,7 +1,7 @@
 //! The words of a command line to what they ask for.
 use crate::asked::{Asked, CheckedRun, Checking, Comparing, Filming, Listing, Tracing, Weaving};
 use crate::counted::counting_of;
-use crate::questions::{cells_of, channels_of, orders_of, places_of};
+use crate::questions::{cells_of, channels_of, orders_of, places_of, texts_of};
 use crate::shown::{shown_of, with_channels_joined};
 use crate::watched::watching_of;
 use agc_args::{ArgsFault, WordsFault, fault_of, words_of};
@@ -155,6 +155,8 @@ fn tracing_of(alloc: Global, given: &ArgMatches<'_>) -> Result<Tracing, ArgsFaul
             cells: cells_of(alloc, given)?,
             last: given.get_one::<u64>("last"),
         },
+        at: texts_of(alloc, given, "at")?,
+        cell: texts_of(alloc, given, "cell")?,
         names: text_of(alloc, given, "names")?,
     })
 }

@@ -237,7 +237,7 @@ fn at_option<'a>(alloc: Global) -> Arg<'a> {
         .value_name("PLACES")
         .action(ArgAction::Append)
         .help(
-            "Print the orders at these places and the stop: 4100, 05,2071, E3,1400, or two of a bank as 4100-4177; may be said again",
+            "Print the orders at these places and the stop: 4100, 05,2071, E3,1400, or two of a bank as 4100-4177, or names of --names; may be said again",
         )
 }
 
@@ -265,7 +265,7 @@ fn cell_option<'a>(alloc: Global) -> Arg<'a> {
         .value_name("PLACES")
         .action(ArgAction::Append)
         .help(
-            "Print what gives one of these erasable cells another word and the stop: 0100, E3,1400, or two of a bank as 0100-0107; may be said again",
+            "Print what gives one of these erasable cells another word and the stop: 0100, E3,1400, or two of a bank as 0100-0107, or names of --names; may be said again",
         )
 }
 

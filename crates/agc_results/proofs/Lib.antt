@@ -3,3 +3,4 @@ pub mod Whole
 pub mod Starts
 pub mod FilmedRuns
 pub mod CountedRuns
+pub mod Saying

@@ -7,5 +7,6 @@ pub mod Started
 pub mod Compared
 pub mod Filmed
 pub mod Traced
+pub mod Placed
 pub mod Counted
 pub mod Watched

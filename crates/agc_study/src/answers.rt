@@ -57,8 +57,8 @@ where
         (E.contents err.old) (E.contents err.new)) }
 {
     match asked {
-        Ok(asked) => {
-            let status = answer_to(rt, &asked, out, err, remarks, progress);
+        Ok(mut asked) => {
+            let status = answer_to(rt, &mut asked, out, err, remarks, progress);
             if status == TROUBLE {
                 remark_unreadable(rt, &asked, remarks);
             }
@@ -68,10 +68,10 @@ where
     }
 }
 
-/// Does what is asked for.
+/// Does what is asked for. In a trace the places are put that names say.
 fn answer_to<R, W: Write, E: Write, N: Write, P: Shown>(
     rt: &R,
-    asked: &Asked,
+    asked: &mut Asked,
     out: &mut W,
     err: &mut E,
     remarks: &mut N,
@@ -81,7 +81,7 @@ where
     R: Files + AllocGlobal,
     ensures ended { IsEnded result (W.contents out.old) (W.contents out.new)
         (E.contents err.old) (E.contents err.new) }
-    ensures faulty { result ≡ 1 → LooksForFaults (Ok asked.now) }
+    ensures faulty { result ≡ 1 → LooksForFaults (Ok asked.old) }
 {
     match asked {
         Asked::List(listing) => list_as_asked(rt, listing, out, err),

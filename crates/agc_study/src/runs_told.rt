@@ -9,13 +9,15 @@ ghost use Rattle.agc_results.specs.Started.{IsPairRefused};
 ghost use Rattle.agc_results.specs.Traced.{IsTraceWritten};
 ghost use Rattle.agc_results.specs.Trouble.{IsTold};
 
-use agc_asked::{Comparing, Tracing};
+use agc_args::end_mistaken;
+use agc_asked::{Comparing, NAME, Tracing};
 use agc_compare::SideNames;
 use agc_machine::{Machine, Upcoming};
 use agc_names::NameTable;
 use agc_progress::Shown;
 use agc_results::{
-    Told, Traced, compare_files, names_at, remark_service, status_of_untraced, trace_files,
+    TROUBLE, Told, Traced, compare_files, names_at, place, remark_service, status_of_untraced,
+    trace_files,
 };
 use agc_session::{DONE, InputFile, status_of};
 use agc_trace::Selection;
@@ -27,11 +29,12 @@ use std::rt::Files;
 /// The status of two runs that are not the same.
 const APART: u8 = 1;
 
-/// Traces the run of a rope file and a script file. A remark says where its range is empty, and where the
+/// Traces the run of a rope file and a script file. Texts of its questions that say no places with the names that are
+/// given are told as mistakes of the command line are. A remark says where its range is empty, and where the
 /// service of an interrupt goes on at the stop.
 pub fn trace_to<R, W: Write, E: Write, N: Write, P: Shown>(
     rt: &R,
-    tracing: &Tracing,
+    tracing: &mut Tracing,
     out: &mut W,
     err: &mut E,
     remarks: &mut N,
@@ -48,6 +51,9 @@ where
         Ok(names) => names,
         Err(trouble) => return trouble.tell_to(err),
     };
+    if let Err(fault) = place(rt.alloc(), &names, tracing) {
+        return end_mistaken(NAME, fault, TROUBLE, out, err);
+    }
     let mut rope = InputFile::new(fs::open(rt, tracing.rope.as_str()));
     let mut script = InputFile::new(fs::open(rt, tracing.script.as_str()));
     write_trace(

@@ -4,6 +4,7 @@ pub mod NamedLine
 pub mod Trace
 pub mod Cell
 pub mod Places
+pub mod Said
 pub mod Change
 pub mod Watch
 pub mod Selection

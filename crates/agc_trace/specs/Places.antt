@@ -1,5 +1,5 @@
 -- The stretches of places that a question to a trace names.
-use Rattle.std.specs.Prelude.{ℕ, ◌+◌, ◌/◌, ◌==◌, nat_le, Bool, true, false, ◌&&◌, List, take, drop, position}
+use Rattle.std.specs.Prelude.{ℕ, ◌+◌, ◌/◌, ◌==◌, nat_le, Bool, true, false, ◌&&◌, List, take, drop, position, codes}
 use Rattle.std.specs.Prelude.{Option, Some, None, Result, Ok, Err, if◌then◌else◌}
 use Rattle.agc_store.specs.Places.{erasable_bank_size, fixed_bank_size}
 use Rattle.agc_source_words.specs.Location.{location_named}
@@ -65,3 +65,9 @@ only_cells (Err why) = Err why
 -- the cells that a text names, a cell or two of one bank with a dash between, `0100-0107`
 unfoldable pub cells_named : List ℕ → Result Places PlacesFault
 cells_named text = only_cells (places_named text)
+
+-- the names of the faults
+abbrev pub fault_name : PlacesFault → List ℕ
+fault_name fault.BadPlace = codes "BadPlace"
+fault_name fault.BadRange = codes "BadRange"
+fault_name fault.NotErasable = codes "NotErasable"

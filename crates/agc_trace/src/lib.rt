@@ -9,6 +9,7 @@ pub mod laws;
 mod line;
 mod named_line;
 mod places;
+mod said;
 mod selection;
 mod service;
 mod tracing;

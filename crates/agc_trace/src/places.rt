@@ -1,7 +1,6 @@
 //! The stretches of places that a question to a trace names.
-ghost use Rattle.std.specs.Prelude.{◌≡◌, ◌<◌, IfSome, length, position};
-ghost use Rattle.agc_trace.specs.Places.{is_dash, is_stretch, one_place, two_places};
-ghost use Rattle.agc_source_words.specs.Location.{location_named};
+ghost use Rattle.std.specs.Prelude.{◌≡◌, ◌<◌, IfSome, Ok, length, position};
+ghost use Rattle.agc_trace.specs.Places.{is_dash, is_stretch, one_place, only_cells, two_places};
 
 use agc_source_words::{Location, location_named};
 
@@ -24,8 +23,13 @@ pub enum PlacesFault {
 }
 
 impl PlacesFault {
+    ghost use Rattle.std.specs.Prelude.{◌≡◌};
+    ghost use Rattle.agc_trace.specs.Places.{fault_name};
+
     /// Its name.
-    pub fn name(self) -> &'static str {
+    pub fn name(self) -> &'static str
+        ensures { result.now ≡ fault_name self }
+    {
         match self {
             PlacesFault::BadPlace => "BadPlace",
             PlacesFault::BadRange => "BadRange",
@@ -44,8 +48,8 @@ impl Places {
         ensures { result ≡ places_named text.now }
     {
         match first_dash(text) {
-            Some(at) => two_places(&text[..at], &text[at + 1..]),
-            None => one_place(text),
+            Some(at) => two_places(location_named(&text[..at]), location_named(&text[at + 1..])),
+            None => one_place(location_named(text)),
         }
     }
 
@@ -54,11 +58,7 @@ impl Places {
     pub fn of_cells(text: &[u8]) -> Result<Places, PlacesFault>
         ensures { result ≡ cells_named text.now }
     {
-        let places = Places::named(text)?;
-        match places.first {
-            Location::Erasable(_) => Ok(places),
-            Location::Fixed(_) => Err(PlacesFault::NotErasable),
-        }
+        only_cells(Places::named(text)?)
     }
 
     /// A place is one of them.
@@ -84,10 +84,10 @@ fn first_dash(text: &[u8]) -> Option<usize>
     text.iter().position(|b| *b == b'-')
 }
 
-fn one_place(text: &[u8]) -> Result<Places, PlacesFault>
-    ensures { result ≡ one_place (location_named text.now) }
+pub(crate) fn one_place(place: Option<Location>) -> Result<Places, PlacesFault>
+    ensures { result ≡ one_place place }
 {
-    match location_named(text) {
+    match place {
         Some(place) => Ok(Places {
             first: place,
             last: place,
@@ -96,16 +96,29 @@ fn one_place(text: &[u8]) -> Result<Places, PlacesFault>
     }
 }
 
-fn two_places(first: &[u8], last: &[u8]) -> Result<Places, PlacesFault>
-    ensures { result ≡ two_places (location_named first.now) (location_named last.now) }
+pub(crate) fn two_places(
+    first: Option<Location>,
+    last: Option<Location>,
+) -> Result<Places, PlacesFault>
+    ensures { result ≡ two_places first last }
 {
-    match (location_named(first), location_named(last)) {
+    match (first, last) {
         (Some(first), Some(last)) => if is_stretch(first, last) {
             Ok(Places { first, last })
         } else {
             Err(PlacesFault::BadRange)
         },
         _ => Err(PlacesFault::BadPlace),
+    }
+}
+
+/// The places where they are cells of erasable memory.
+pub(crate) fn only_cells(places: Places) -> Result<Places, PlacesFault>
+    ensures { result ≡ only_cells (Ok places) }
+{
+    match places.first {
+        Location::Erasable(_) => Ok(places),
+        Location::Fixed(_) => Err(PlacesFault::NotErasable),
     }
 }
 

@@ -67,6 +67,8 @@ fn tracing(rt: &impl AllocGlobal, limit: u64) -> Tracing {
             cells: Vec::new(rt.alloc()),
             last: None,
         },
+        at: Vec::new(rt.alloc()),
+        cell: Vec::new(rt.alloc()),
         names: None,
     }
 }
