@@ -5,6 +5,7 @@ use agc_names::{
 };
 use agc_results::{Trouble, read_names};
 use agc_source_words::Location;
+use agc_trace::{Places, PlacesFault};
 use std::process::Abort;
 use std::test::Fail;
 
@@ -85,4 +86,62 @@ fn a_word_stands_for_a_place(rt: HostRuntime) {
         let alone = place_said(&None, word.as_bytes());
         assert_eq!(rt; alone, if word == "5777" { place } else { None }, "{word}");
     }
+}
+
+static DASHES: &str = "4060 KEYIN\n4070 OUT-IN\n5777 LAST\n0100 BEFORE\n6000 NEXT\n";
+
+/// What the texts of `--at` say: names may hold dashes, an offset is counted in decimal, and a text that names places
+/// without names names them with names too.
+#[test]
+fn a_question_says_places(rt: HostRuntime) -> Result<(), Fail> {
+    let names = NameTable::read(rt.alloc(), DASHES.as_bytes()).ok();
+    for (text, first, last) in [
+        ("KEYIN", 0o4060, 0o4060),
+        ("KEYIN+10", 0o4072, 0o4072),
+        ("KEYIN-1", 0o4057, 0o4057),
+        ("KEYIN-LAST", 0o4060, 0o5777),
+        ("KEYIN-4077", 0o4060, 0o4077),
+        ("02,4057-KEYIN", 0o4057, 0o4060),
+        ("OUT-IN", 0o4070, 0o4070),
+        ("OUT-IN-LAST", 0o4070, 0o5777),
+        ("KEYIN-1-OUT-IN+1", 0o4057, 0o4071),
+        ("4100-4177", 0o4100, 0o4177),
+    ] {
+        let (first, last) = (Location::Fixed(first), Location::Fixed(last));
+        let said = Places::said(&names, text.as_bytes());
+        assert_eq!(rt; said, Ok(Places { first, last }), "{text}");
+    }
+    for (text, fault) in [
+        ("NOWHERE", PlacesFault::BadPlace),
+        ("KEYIN-", PlacesFault::BadPlace),
+        ("KEYIN-NOWHERE", PlacesFault::BadPlace),
+        ("", PlacesFault::BadPlace),
+        ("LAST-KEYIN", PlacesFault::BadRange),
+        ("LAST-NEXT", PlacesFault::BadRange),
+        ("BEFORE-KEYIN", PlacesFault::BadRange),
+        ("4101-4100", PlacesFault::BadRange),
+    ] {
+        assert_eq!(rt; Places::said(&names, text.as_bytes()), Err(fault), "{text}");
+    }
+    Ok(())
+}
+
+/// What the texts of `--cell` say; without names a name is no place.
+#[test]
+fn a_question_says_cells(rt: HostRuntime) -> Result<(), Fail> {
+    let names = NameTable::read(rt.alloc(), DASHES.as_bytes()).ok();
+    for (text, first, last) in [
+        ("BEFORE", 0o100, 0o100),
+        ("BEFORE-0107", 0o100, 0o107),
+        ("BEFORE-BEFORE+1", 0o100, 0o101),
+    ] {
+        let (first, last) = (Location::Erasable(first), Location::Erasable(last));
+        let said = Places::cells_said(&names, text.as_bytes());
+        assert_eq!(rt; said, Ok(Places { first, last }), "{text}");
+        let alone = Places::cells_said(&None, text.as_bytes());
+        assert_eq!(rt; alone, Err(PlacesFault::BadPlace), "{text}");
+    }
+    let fixed = Places::cells_said(&names, b"KEYIN-LAST");
+    assert_eq!(rt; fixed, Err(PlacesFault::NotErasable));
+    Ok(())
 }
