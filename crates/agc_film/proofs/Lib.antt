@@ -17,4 +17,3 @@ pub mod Differ
 pub mod Alone
 pub mod Together
 pub mod Apart
-pub mod Watching

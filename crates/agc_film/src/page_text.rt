@@ -2,19 +2,16 @@
 ghost use Rattle.std.specs.Prelude.{◌≡◌, ◌++◌, OnOk, flat_map, string_bytes};
 ghost use Rattle.agc_film.specs.Parting.{first_difference};
 ghost use Rattle.agc_film.specs.Page.{block_text, film_pair_text, film_text, parting_block, parting_name};
-ghost use Rattle.agc_film.specs.Watched.{watched_pair_tail, watched_tail};
 ghost use Rattle.agc_film.specs.Page.{end_text, press_text, reel_end_text, reel_start_text, reel_text};
 
 use crate::frame::Frame;
 use crate::packing::push_frames;
 use crate::page::HEAD;
 use crate::page_script::TAIL;
-use crate::page_tables::{TABLES, watched_pair_tail, watched_tail};
 use crate::parting::first_difference;
 use crate::press::Press;
 use crate::reel::Reel;
 use crate::title::{RunFiles, push_title};
-use crate::watched::WatchedReel;
 use agc_machine::Stop;
 use std::alloc::AllocError;
 
@@ -53,52 +50,6 @@ pub fn push_film_pair(
         left,
         right_files,
         right,
-    )
-}
-
-/// Adds the page of one run with its tables beside the DSKY. Fails where memory runs out.
-pub fn push_film_watched(
-    text: &mut String,
-    limit: u64,
-    files: &RunFiles,
-    watched: &WatchedReel,
-) -> Result<(), AllocError>
-    ensures { OnOk result (string_bytes text.new ≡ string_bytes text.old
-        ++ film_text HEAD.now
-        (watched_tail TABLES.now TAIL.now (string_bytes watched.now.tables))
-        limit files.now watched.now.reel) }
-{
-    let alloc = *text.allocator();
-    let tail = watched_tail(alloc, TABLES, TAIL, watched.tables.as_str())?;
-    push_page(text, HEAD, tail.as_str(), limit, files, &watched.reel)
-}
-
-/// Adds the page of two runs side by side, each with its tables beside its DSKY. Fails where memory runs out.
-pub fn push_film_pair_watched(
-    text: &mut String,
-    limit: u64,
-    left_files: &RunFiles,
-    left: &WatchedReel,
-    right_files: &RunFiles,
-    right: &WatchedReel,
-) -> Result<(), AllocError>
-    ensures { OnOk result (string_bytes text.new ≡ string_bytes text.old
-        ++ film_pair_text HEAD.now (watched_pair_tail TABLES.now TAIL.now
-        (string_bytes left.now.tables) (string_bytes right.now.tables))
-        limit left_files.now left.now.reel right_files.now right.now.reel) }
-{
-    let alloc = *text.allocator();
-    let (lefts, rights) = (left.tables.as_str(), right.tables.as_str());
-    let tail = watched_pair_tail(alloc, TABLES, TAIL, lefts, rights)?;
-    push_page_pair(
-        text,
-        HEAD,
-        tail.as_str(),
-        limit,
-        left_files,
-        &left.reel,
-        right_files,
-        &right.reel,
     )
 }
 

@@ -1,8 +1,5 @@
 //! The reel of a part of a run: all that its film shows.
 ghost use Rattle.std.specs.Prelude.{◌≡◌, ◌+◌, ◌-◌, ◌≤◌, ℕ, IfOk, None, length, nat_le, take, if◌then◌else◌};
-ghost use Rattle.agc_machine.specs.Run.{run_of};
-ghost use Rattle.agc_machine.specs.State.{State};
-ghost use Rattle.agc_film.specs.Frames.{frames_of, last_of};
 ghost use Rattle.agc_film.specs.Presses.{presses_of};
 ghost use Rattle.agc_film.specs.Reel.{IsReelOf, end_of};
 ghost use Rattle.agc_film.specs.Way.{HasOpened, HasRecorded, past};
@@ -49,29 +46,11 @@ pub fn film<P: Progress>(
     let panel = open(machine, part.from, progress);
     let mut recorder = Recorder::new(alloc, part.from, panel)?;
     let stop = record(alloc, machine, part.last(), &mut recorder, progress)?;
-    reel_up_to(alloc, part, events.as_slice(), machine, recorder, stop)
-}
-
-/// The reel of a part, of what a recorder took of it. Fails where memory runs out.
-pub(crate) fn reel_up_to(
-    alloc: Global,
-    part: Part,
-    events: &[Event],
-    machine: &Machine,
-    recorder: Recorder,
-    stop: Option<Stop>,
-) -> Result<Reel, AllocError>
-    ensures { IfOk result (λ reel. (start : State) → events.now ≡ start.events
-        → machine.now ≡ end_of part start
-        → (machine.now.cycle ≤ last_of part → stop ≡ machine.now.stopped)
-        → recorder.frames.items ≡ frames_of part (run_of start).writes
-        → IsReelOf part start reel) }
-{
     let left = machine.events_left().len();
     Ok(Reel {
         from: part.from,
         frames: recorder.frames,
-        presses: presses_met(alloc, events, left)?,
+        presses: presses_met(alloc, events.as_slice(), left)?,
         stop: stop_up_to(stop, machine.cycle(), part.last()),
         cycle: part.last().min(machine.cycle()),
     })
