@@ -4,3 +4,4 @@ pub mod Starts
 pub mod FilmedRuns
 pub mod CountedRuns
 pub mod Saying
+pub mod StopRead

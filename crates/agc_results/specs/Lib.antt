@@ -7,6 +7,7 @@ pub mod Started
 pub mod Compared
 pub mod Filmed
 pub mod Traced
+pub mod Until
 pub mod Placed
 pub mod Counted
 pub mod Watched

@@ -11,6 +11,7 @@ use Rattle.agc_trace.specs.Places.{fault_name}
 use Rattle.agc_trace.specs.Said.{cells_said, places_said}
 use Rattle.agc_trace.specs.declared.places.Places.{Places}
 use Rattle.agc_trace.specs.declared.places.PlacesFault.{PlacesFault}
+use Rattle.agc_results.specs.Until.{IsUntilWith}
 use Rattle.agc_results.specs.declared.placed.Question.{Question}
 use Rattle.agc_results.specs.declared.placed.Question.TheVariants as question
 
@@ -53,13 +54,16 @@ IsUnsaid question names done texts (fault.Command text) =
 IsUnsaid question names done texts (fault.Help text) = ⊥
 IsUnsaid question names done texts fault.Memory = Unit {0}
 
--- the places and the cells of a selection with those that the texts say, and all else as it was
+-- the places and the cells of a selection with those that the texts say, the text of the stop address as the names have
+-- it, and all else as it was
 pub record IsPlaced (names : Option (List Named)) (asked placed : Tracing) : Type 0 where
   pub places : all_said question.At names asked.selection.places.items asked.at.items
       ≡ Ok placed.selection.places.items
   pub cells : all_said question.Cell names asked.selection.cells.items asked.cell.items
       ≡ Ok placed.selection.cells.items
+  pub until : IsUntilWith names asked.until placed.until
   pub rest : placed ≡ record asked {
+    until = placed.until;
     selection = record asked.selection {
       places = placed.selection.places;
       cells = placed.selection.cells;

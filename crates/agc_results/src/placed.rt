@@ -11,6 +11,7 @@ ghost use Rattle.agc_results.specs.Placed.{
   unsaid_text,
 };
 
+use crate::until::name_until;
 use agc_args::ArgsFault;
 use agc_asked::Tracing;
 use agc_names::NameTable;
@@ -50,8 +51,9 @@ impl Question {
     }
 }
 
-/// Puts the places and the cells into the selection that the texts of `--at` and `--cell` say with these names. A text
-/// that says none is refused as a mistake of the command line is.
+/// Puts the places and the cells into the selection that the texts of `--at` and `--cell` say with these names, and takes
+/// the text of `--until` as they have it. A text of `--at` or `--cell` that says none is refused as a mistake of the
+/// command line is.
 pub fn place(alloc: Global, names: &Option<NameTable>, asked: &mut Tracing) -> Result<(), ArgsFault>
     ensures placed { IfOk result (λ _. IsPlaced names.now asked.old asked.new) }
     ensures unplaced { IfErr result (IsUnplaced names.now asked.old) }
@@ -59,7 +61,9 @@ pub fn place(alloc: Global, names: &Option<NameTable>, asked: &mut Tracing) -> R
     let (at, cell) = (asked.at.as_slice(), asked.cell.as_slice());
     let selection = &mut asked.selection;
     push_said(alloc, Question::At, names, at, &mut selection.places)?;
-    push_said(alloc, Question::Cell, names, cell, &mut selection.cells)
+    push_said(alloc, Question::Cell, names, cell, &mut selection.cells)?;
+    name_until(alloc, names, &mut asked.until)?;
+    Ok(())
 }
 
 /// Adds the places that texts say.

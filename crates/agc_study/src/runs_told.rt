@@ -16,10 +16,10 @@ use agc_machine::{Machine, Upcoming};
 use agc_names::NameTable;
 use agc_progress::Shown;
 use agc_results::{
-    TROUBLE, Told, Traced, compare_files, names_at, place, remark_service, status_of_untraced,
-    trace_files,
+    TROUBLE, Told, Traced, Trouble, compare_files, name_until, names_at, place, remark_service,
+    status_of_untraced, trace_files,
 };
-use agc_session::{DONE, InputFile, status_of};
+use agc_session::{DONE, InputFile, Refusal, status_of};
 use agc_trace::Selection;
 use std::alloc::Global;
 use std::fs;
@@ -126,10 +126,11 @@ fn remark_on_range<N: Write>(machine: &Machine, selection: &Selection, remarks: 
     };
 }
 
-/// Compares the runs of two rope files and two script files.
+/// Compares the runs of two rope files and two script files. The names of the run on the left may say the stop address of
+/// both.
 pub fn compare_to<R, W: Write, E: Write, P: Shown>(
     rt: &R,
-    asked: &Comparing,
+    asked: &mut Comparing,
     out: &mut W,
     err: &mut E,
     progress: &mut P,
@@ -147,6 +148,9 @@ where
         Ok(names) => names,
         Err(trouble) => return trouble.tell_to(err),
     };
+    if name_until(rt.alloc(), &names, &mut asked.until).is_err() {
+        return Trouble::Refused(Refusal::Memory).tell_to(err);
+    }
     let names = names_of_sides(&names, &other_names);
     let mut rope = InputFile::new(fs::open(rt, asked.rope.as_str()));
     let mut script = InputFile::new(fs::open(rt, asked.script.as_str()));

@@ -1,4 +1,4 @@
-use Rattle.std.proofs.Common.{◌≡◌, ◌⊎◌, inl, inr, ℕ, List, Option, arith}
+use Rattle.std.proofs.Common.{◌≡◌, inl, inr, ℕ, List, Option, arith}
 use Rattle.std.specs.Io.KnownBytes.{Appends}
 use Rattle.agc_asked.specs.declared.asked.Watching.{Watching}
 use Rattle.agc_results.specs.Traced.{EndsUntraced}
