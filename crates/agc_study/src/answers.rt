@@ -31,14 +31,13 @@ pub fn last_cycle(asked: &Result<Asked, ArgsFault>) -> u64 {
     }
 }
 
-/// Does what the command line asks for. With status 0 the answer, or the text of help, stands on
-/// `out` and nothing on `err`, and so does with status 1 the report of `check` on a file at fault, or that
-/// of `compare` on runs that are not the same; with status 2 one line on `err`, or clap's text of a
-/// mistake, and nothing on `out`. A write that fails gives status 3, and so do a trace and tables that are cut
-/// off.
-/// How far a run has come is told beside that, to a progress that is wiped before the run's end is told. To
-/// `remarks` goes a line beside an answer: which file cannot be read, and why, that a word of a listing names another
-/// order than stands behind it, that no boundary is in the range of a trace or of tables, or that a film is long.
+/// Does what the command line asks for. With status 0 the answer, or the text of help, stands on `out` and nothing
+/// on `err`, and so does with status 1 the report of `check` on a file at fault, or that of `compare` on runs that
+/// are not the same; with status 2 one line on `err`, or clap's text of a mistake, and nothing on `out`. A write
+/// that fails gives status 3, and so do a trace and tables that are cut off. How far a run has come is told beside
+/// that, to a progress that is wiped before the run's end is told. To `remarks` goes a line beside an answer: which
+/// file cannot be read, and why, that a word of a listing names another order than stands behind it, that no
+/// boundary is in the range of a trace or of tables, or that a film is long.
 pub fn answer<R, W: Write, E: Write, N: Write, P: Shown>(
     rt: &R,
     asked: Result<Asked, ArgsFault>,
