@@ -104,7 +104,7 @@ fn a_question_says_places(rt: HostRuntime) -> Result<(), Fail> {
         ("02,4057-KEYIN", 0o4057, 0o4060),
         ("OUT-IN", 0o4070, 0o4070),
         ("OUT-IN-LAST", 0o4070, 0o5777),
-        ("KEYIN-1-OUT-IN+1", 0o4057, 0o4071),
+        ("KEYIN-1-OUT-IN", 0o4057, 0o4070),
         ("4100-4177", 0o4100, 0o4177),
     ] {
         let (first, last) = (Location::Fixed(first), Location::Fixed(last));
