@@ -1,5 +1,5 @@
 //! Laws of every count, each the contract of a function that does nothing.
-ghost use Rattle.std.specs.Prelude.{◌≡◌, ◌+◌, ◌-◌, ◌<◌, ℕ, List, filter, length};
+ghost use Rattle.std.specs.Prelude.{◌≡◌, ◌+◌, ◌-◌, ◌<◌, ℕ, List, filter, length, map};
 ghost use Rattle.agc_processor.specs.Interrupt.{rupt_number};
 ghost use Rattle.agc_processor.specs.declared.interrupt.Rupt.{Rupt};
 ghost use Rattle.agc_machine.specs.Run.{run_of};
@@ -19,7 +19,8 @@ ghost use Rattle.agc_count.specs.Laws.{
 ghost use Rattle.agc_count.specs.Mode.{at_start};
 ghost use Rattle.agc_count.specs.Passage.{passages};
 ghost use Rattle.agc_count.specs.Tally.{tally_at};
-ghost use Rattle.agc_count.specs.Told.{all_told};
+ghost use Rattle.agc_count.specs.Told.{Told, all_told};
+ghost use Rattle.agc_trace.specs.Trace.{trace_of};
 ghost use Rattle.agc_count.specs.declared.passage.Passage.{Passage};
 
 /// Each place has as many orders as there are boundaries that ran the order at this place, and their cycles.
@@ -49,6 +50,11 @@ pub fn an_interrupt_has_its_services()
     ensures cycles { (r : Rupt) (ps : List Passage)
         → (tally_at (rupt_number r - 1) (count_of ps).interrupts).cycles
         ≡ (tally_of (filter (serves r) ps)).cycles }
+{}
+
+/// The boundaries that are counted are those of the trace, entry by entry.
+pub fn the_boundaries_are_the_trace()
+    ensures { (s : State) → map (λ (told : Told). told.entry) (all_told s) ≡ trace_of s }
 {}
 
 /// The cycles of a whole run, by kinds, add up to its length.
