@@ -17,7 +17,7 @@ use Rattle.clap.proofs.WalkLemmas.{first_value-rows, one_text-rows}
 use Rattle.agc_args.specs.Args.{AreAskedBy, AsksFor, IsCommandLine, IsFaultOf, IsFlag, Tells, command_line, number_written, numbers}
 use Rattle.agc_args.specs.declared.args.ArgsFault.{ArgsFault}
 use Rattle.agc_args.specs.declared.args.ArgsFault.TheVariants as fault
-use Rattle.agc_session.specs.declared.options.Options.{Options}
+use Rattle.agc_options.specs.declared.options.Options.{Options}
 
 -- no parameter of the command line has a rule on another, so its matches and its faults are exact
 pub command_is_simple : (app : App) → IsCommandLine app → is_simple app ≡ true

@@ -20,7 +20,7 @@ use Rattle.agc_store.specs.declared.rope_file.RopeForm.{RopeForm}
 use Rattle.agc_store.specs.declared.rope_file.RopeForm.TheVariants as form
 use Rattle.agc_args.specs.declared.args.ArgsFault.{ArgsFault}
 use Rattle.agc_args.specs.declared.args.ArgsFault.TheVariants as fault
-use Rattle.agc_session.specs.declared.options.Options.{Options}
+use Rattle.agc_options.specs.declared.options.Options.{Options}
 
 -- a file: a word of its own, which must be given
 abbrev pub file_parameter : Text → Rule

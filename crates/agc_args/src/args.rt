@@ -10,7 +10,7 @@ ghost use Rattle.agc_args.specs.Args.{number_option, number_written, text_given,
 ghost use Rattle.agc_args.specs.declared.args.ArgsFault.TheVariants as fault;
 ghost use Rattle.agc_store.specs.declared.rope_file.RopeForm.TheVariants as form;
 
-use agc_session::Options;
+use agc_options::Options;
 use agc_store::RopeForm;
 use clap::error::ErrorKind;
 use clap::{Arg, ArgAction, ArgMatches, Command, value_parser};

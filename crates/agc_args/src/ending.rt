@@ -3,7 +3,7 @@ ghost use Rattle.std.specs.Prelude.{◌<◌};
 ghost use Rattle.agc_args.specs.Ending.{EndsMistaken};
 
 use crate::args::ArgsFault;
-use agc_session::{DONE, Refusal, status_of};
+use agc_options::{DONE, status_of};
 use std::io::Write;
 use std::rt::Files;
 use std::{fs, io};
@@ -28,10 +28,7 @@ pub fn end_mistaken<W: Write, E: Write>(
     match fault {
         ArgsFault::Help(text) => status_of(DONE, out.write_all(text.as_bytes())),
         ArgsFault::Command(text) => status_of(MISUSED, err.write_all(text.as_bytes())),
-        ArgsFault::Memory => {
-            let memory = Refusal::Memory;
-            status_of(without_memory, writeln!(err, "{program}: {memory}"))
-        }
+        ArgsFault::Memory => status_of(without_memory, writeln!(err, "{program}: memory")),
     }
 }
 

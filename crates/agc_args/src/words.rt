@@ -1,6 +1,6 @@
 //! The words of a command line as the system hands them on, which need not be text.
 use crate::args::{ArgsFault, not_text, parse_args};
-use agc_session::Options;
+use agc_options::Options;
 use std::alloc::{AllocError, Global};
 use std::env::{self, FillError};
 use std::io;

@@ -2,8 +2,9 @@
 use crate::call::Call;
 use crate::report::{Attempt, answered, begin, keeps, no_input, refused, wrong};
 use agc_args::{ArgsFault, parse_args};
+use agc_options::{DONE, Options, REFUSED};
 use agc_pipe::Open;
-use agc_session::{DONE, Options, REFUSED, session};
+use agc_session::session;
 use agc_store::RopeForm;
 use agc_test_kit::{DIVISION, rope_file};
 use std::alloc::Global;

@@ -3,7 +3,7 @@ use Rattle.std.proofs.Common.{◌≡◌, ◌∙◌, not, List, [], ◌∷◌, re
 use Rattle.std.specs.Prelude.{Option, Some, None, is_none, is_some, option_map}
 use Rattle.std.specs.List.{list_any}
 use Rattle.agc_script.specs.declared.key.Key.{Key}
-use Rattle.agc_session.specs.Keys.{all_there}
+use Rattle.agc_setup.specs.Keys.{all_there}
 
 some_with : (key : Key) (keys : Option (List Key)) → is_some keys ≡ is_some (option_map (λ others. key ∷ others) keys)
 some_with key None = refl

@@ -1,7 +1,7 @@
 -- What is told of a text of live keys: how many it names, or that one of its names is no key's.
 use Rattle.std.specs.Prelude.{◌≡◌, ℕ, Bool, true, false, List, ◌++◌, codes, is_some, length}
 use Rattle.std.specs.Fmt.{decimal}
-use Rattle.agc_session.specs.Keys.{keys_of, names_in}
+use Rattle.agc_setup.specs.Keys.{keys_of, names_in}
 
 -- every name is a key's
 unfoldable pub are_keys : List ℕ → Bool

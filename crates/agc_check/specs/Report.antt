@@ -7,8 +7,8 @@ use Rattle.agc_script.specs.Text.{lines_of}
 use Rattle.agc_script.specs.Parse.{script_of}
 use Rattle.agc_script.specs.declared.event.Event.{Event}
 use Rattle.agc_script.specs.declared.fault.ScriptFault.{ScriptFault}
-use Rattle.agc_session.specs.Refusal.{refusal_text}
-use Rattle.agc_session.specs.declared.refusal.Refusal.TheVariants as refusal
+use Rattle.agc_setup.specs.Refusal.{refusal_text}
+use Rattle.agc_setup.specs.declared.refusal.Refusal.TheVariants as refusal
 use Rattle.agc_check.specs.Holdings.{script_holdings}
 use Rattle.agc_check.specs.RopeReport.{rope_report}
 use Rattle.agc_check.specs.Shown.{shown_line}

@@ -12,8 +12,8 @@ use Rattle.agc_store.specs.declared.rope_file.RopeFault.TheVariants as rope
 use Rattle.agc_rope_listing.specs.List.{listed_address}
 use Rattle.agc_rope_listing.specs.Place.{place_text}
 use Rattle.agc_rope_listing.specs.declared.place.Place.TheVariants as place
-use Rattle.agc_session.specs.Refusal.{refusal_text}
-use Rattle.agc_session.specs.declared.refusal.Refusal.TheVariants as refusal
+use Rattle.agc_setup.specs.Refusal.{refusal_text}
+use Rattle.agc_setup.specs.declared.refusal.Refusal.TheVariants as refusal
 use Rattle.agc_check.specs.Holdings.{rope_holdings}
 use Rattle.agc_check.specs.Vectors.{vectors_text}
 use Rattle.agc_check.specs.declared.holdings.RopeHoldings.{RopeHoldings}

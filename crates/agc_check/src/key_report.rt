@@ -2,7 +2,7 @@
 ghost use Rattle.std.specs.Prelude.{◌≡◌, ◌++◌, IfOk, OnOk, is_none, is_some, map, string_bytes};
 ghost use Rattle.std.specs.List.{list_any};
 ghost use Rattle.agc_script.specs.Key.{key_named};
-ghost use Rattle.agc_session.specs.Keys.{all_there, is_white, names_in};
+ghost use Rattle.agc_setup.specs.Keys.{all_there, is_white, names_in};
 ghost use Rattle.agc_check.specs.KeyReport.{IsKeyReport, are_keys, key_holdings_text};
 
 use crate::remarks::{is_pro, push_no_key, push_quoted};
@@ -34,7 +34,7 @@ pub fn check_keys(alloc: Global, file: &[u8]) -> Result<Report, AllocError>
 }
 
 /// The key of each name, where it is a key's.
-#[tactic(auto, unfolding(agc_session::specs::Keys::names_in))]
+#[tactic(auto, unfolding(agc_setup::specs::Keys::names_in))]
 fn found_keys(alloc: Global, file: &[u8]) -> Result<Vec<Option<Key>>, AllocError>
     ensures { IfOk result (λ found. found.items ≡ map key_named (names_in file.now)) }
 {

@@ -12,7 +12,7 @@ use crate::remarks::remark;
 use crate::rope_report::push_rope;
 use crate::shown::push_line;
 use agc_script::{FaultKind, Script, ScriptFault};
-use agc_session::Refusal;
+use agc_setup::Refusal;
 use agc_store::RopeForm;
 use std::alloc::{AllocError, Global};
 

@@ -8,7 +8,7 @@ ghost use Rattle.agc_check.specs.RopeReport.{rope_holdings_text, rope_report, ro
 use crate::holdings::{RopeHoldings, holdings_in};
 use crate::vectors::push_vectors;
 use agc_rope_listing::{Place, push_place};
-use agc_session::Refusal;
+use agc_setup::Refusal;
 use agc_store::{Rope, RopeFault, RopeForm, Store};
 use agc_word::Narrow;
 use std::alloc::{AllocError, Global};

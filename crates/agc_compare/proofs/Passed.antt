@@ -8,7 +8,7 @@ use Rattle.agc_machine.specs.Boundary.{boundary, upcoming_of}
 use Rattle.agc_machine.specs.Laws.{Falls}
 use Rattle.agc_machine.specs.Run.{run_of, while_writing}
 use Rattle.agc_machine.specs.State.{State}
-use Rattle.agc_machine.specs.declared.answer.ChannelWrite.{ChannelWrite}
+use Rattle.agc_processor.specs.declared.channel_write.ChannelWrite.{ChannelWrite}
 use Rattle.agc_machine.specs.declared.answer.Stepped.{Stepped}
 use Rattle.agc_machine.specs.declared.answer.Stepped.TheVariants as stepped
 use Rattle.agc_machine.proofs.Chain.{boundary_falls, next_after_quiet, next_of_stopped, run_at_stop, run_at_write, run_by_next, next_at_stop, next_at_write}

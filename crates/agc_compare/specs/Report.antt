@@ -11,7 +11,7 @@ use Rattle.agc_word.specs.Number.{Number, pattern_of}
 use Rattle.agc_word.specs.Arithmetic.{narrow_of}
 use Rattle.agc_word.specs.Octal.{octal_digits}
 use Rattle.agc_store.specs.Places.{a_cell, q_cell, erasable_bank_size, erasable_window}
-use Rattle.agc_machine.specs.declared.answer.ChannelWrite.{ChannelWrite}
+use Rattle.agc_processor.specs.declared.channel_write.ChannelWrite.{ChannelWrite}
 use Rattle.agc_rope_listing.specs.Place.{place_text}
 use Rattle.agc_rope_listing.specs.declared.place.Place.{Place}
 use Rattle.agc_rope_listing.specs.declared.place.Place.TheVariants as place

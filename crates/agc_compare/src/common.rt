@@ -5,8 +5,9 @@ ghost use Rattle.agc_compare.specs.Common.{ComesApart, kept};
 
 use crate::count::one_more;
 use crate::same::is_same_entry;
-use agc_machine::{ChannelWrite, Machine};
+use agc_machine::Machine;
 use agc_panel::Panel;
+use agc_processor::ChannelWrite;
 use agc_progress::{Progress, tell_at};
 use agc_trace::{Entry, next_entry};
 use circular_buffer::HeapCircularBuffer;
@@ -75,7 +76,7 @@ pub(crate) fn run_together<P: Progress>(
 
 impl Common {
     ghost use Rattle.std.specs.Prelude.{◌≡◌, ◌+◌, [], ◌++◌, List, length, OnOk};
-    ghost use Rattle.agc_machine.specs.declared.answer.ChannelWrite.{ChannelWrite};
+    ghost use Rattle.agc_processor.specs.declared.channel_write.ChannelWrite.{ChannelWrite};
     ghost use Rattle.agc_panel.specs.Face.{panel_of};
     ghost use Rattle.agc_compare.specs.Common.{one_write};
 

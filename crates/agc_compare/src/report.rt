@@ -30,9 +30,9 @@ ghost use Rattle.agc_compare.specs.Report.{
 use crate::cells::CellPair;
 use crate::comparison::{Comparison, Parting};
 use crate::follower::{End, WriteParting};
-use agc_machine::ChannelWrite;
 use agc_names::NameTable;
 use agc_panel::Panel;
+use agc_processor::ChannelWrite;
 use agc_rope_listing::{Place, push_place};
 use agc_store::place::{A, Q};
 use agc_trace::{Entry, push_line_with};

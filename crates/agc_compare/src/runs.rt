@@ -14,7 +14,8 @@ use crate::common::{Common, Fork, none_kept, run_together};
 use crate::comparison::{Comparison, Parting};
 use crate::count::one_more;
 use crate::follower::{End, Follower, WriteParting, first_write_apart};
-use agc_machine::{ChannelWrite, Machine};
+use agc_machine::Machine;
+use agc_processor::ChannelWrite;
 use agc_progress::Progress;
 use std::alloc::{AllocError, Global};
 

@@ -2,7 +2,8 @@
 //! function of its own, whose clause says that its `==` tells apart what differs in any way.
 ghost use Rattle.std.specs.Prelude.{◌≡◌, ◌↔◌, IsTrue};
 
-use agc_machine::{ChannelWrite, Upcoming};
+use agc_machine::Upcoming;
+use agc_processor::ChannelWrite;
 use agc_trace::{Entry, Registers};
 use agc_word::Wide;
 

@@ -19,8 +19,9 @@ ghost use Rattle.agc_machine.specs.Boundary.{HasPlace};
 ghost use Rattle.agc_rope_listing.specs.Place.{IsInPrint};
 ghost use Rattle.agc_word.specs.Channels.{last_io_channel};
 
-use agc_machine::{ChannelWrite, Stop, Upcoming};
+use agc_machine::{Stop, Upcoming};
 use agc_names::NameTable;
+use agc_processor::ChannelWrite;
 use agc_request::CommandFault;
 use agc_rope_listing::{Place, push_place};
 use agc_source_words::cell_address;

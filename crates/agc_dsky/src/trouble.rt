@@ -1,5 +1,5 @@
 //! What the program says where there is no session, or where one does not end as it should: a line.
-use agc_session::Refusal;
+use agc_setup::Refusal;
 use std::fmt;
 use std::io::{self, Write};
 

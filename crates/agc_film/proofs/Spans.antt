@@ -3,7 +3,7 @@ use Rattle.std.proofs.Common.{◌≡◌, ℕ, ◌+◌, ◌≤◌, ◌<◌, Bool,
 use Rattle.std.specs.Prelude.{cond, nat_le, nat_lt, ◌&&◌}
 use Rattle.std.proofs.lemmas.Bool.Decides.{leb_tells, nat_tests}
 use Rattle.agc_machine.specs.Laws.{AreRising}
-use Rattle.agc_machine.specs.declared.answer.ChannelWrite.{ChannelWrite}
+use Rattle.agc_processor.specs.declared.channel_write.ChannelWrite.{ChannelWrite}
 use Rattle.agc_film.specs.Frames.{between, up_to}
 use Rattle.agc_film.specs.Way.{AreUpTo}
 

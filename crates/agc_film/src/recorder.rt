@@ -3,8 +3,8 @@ ghost use Rattle.std.specs.Prelude.{◌≡◌, IfOk, OnOk};
 
 use crate::alike::show_alike;
 use crate::frame::Frame;
-use agc_machine::ChannelWrite;
 use agc_panel::Panel;
+use agc_processor::ChannelWrite;
 use std::alloc::{AllocError, Global};
 
 /// The frames so far, and the panel of all writes so far.
@@ -16,7 +16,7 @@ pub(crate) struct Recorder {
 
 impl Recorder {
     ghost use Rattle.std.specs.Prelude.{◌≡◌, [], ◌∷◌, ◌++◌, ℕ, List, IfOk, OnOk};
-    ghost use Rattle.agc_machine.specs.declared.answer.ChannelWrite.{ChannelWrite};
+    ghost use Rattle.agc_processor.specs.declared.channel_write.ChannelWrite.{ChannelWrite};
     ghost use Rattle.agc_panel.specs.Face.{panel_of};
     ghost use Rattle.agc_film.specs.Way.{HasTaken};
 

@@ -5,7 +5,7 @@ use Rattle.std.specs.Io.KnownBytes.{Consumes, IsAtEnd}
 use Rattle.agc_names.specs.Names.{names_in}
 use Rattle.agc_names.specs.declared.fault.NameTrouble.{NameTrouble}
 use Rattle.agc_names.specs.declared.fault.NameTrouble.TheVariants as trouble
-use Rattle.agc_session.proofs.Whole.{of_all}
+use Rattle.agc_setup.proofs.Whole.{of_all}
 use Rattle.agc_front.specs.Names.{AreFaulty, IsRefused}
 use Rattle.agc_front.specs.declared.names.NamesRefusal.{NamesRefusal}
 use Rattle.agc_front.specs.declared.names.NamesRefusal.TheVariants as refusal

@@ -7,7 +7,7 @@ ghost use Rattle.agc_front.specs.Names.{AreNames, IsRefused};
 ghost use Rattle.agc_front.specs.declared.names.NamesRefusal.TheVariants as refusal;
 
 use agc_names::{NameTable, NameTrouble};
-use agc_session::{InputFile, SCRIPT_BYTES, Unread, read_limited};
+use agc_setup::{InputFile, SCRIPT_BYTES, Unread, read_limited};
 use clap::Arg;
 use std::alloc::Global;
 use std::error::Error;

@@ -3,7 +3,7 @@ ghost use Rattle.std.specs.Prelude.{◌≡◌, IfErr};
 
 use agc_args::{form_of, limit_of, path_of};
 use agc_script::Script;
-use agc_session::{InputFile, Refusal, read_rope, read_script};
+use agc_setup::{InputFile, Refusal, read_rope, read_script};
 use agc_sitting::{BeginFault, Sitting};
 use agc_store::RopeForm;
 use clap::{Arg, ArgMatches};

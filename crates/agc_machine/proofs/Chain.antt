@@ -8,7 +8,7 @@ use Rattle.agc_script.specs.declared.event.What.{What}
 use Rattle.agc_machine.specs.declared.answer.Stepped.{Stepped}
 use Rattle.agc_machine.specs.declared.answer.Stepped.TheVariants as stepped
 use Rattle.agc_machine.specs.declared.answer.Stop.{Stop}
-use Rattle.agc_machine.specs.declared.answer.ChannelWrite.{ChannelWrite}
+use Rattle.agc_processor.specs.declared.channel_write.ChannelWrite.{ChannelWrite}
 use Rattle.agc_machine.specs.declared.answer.Next.{Next}
 use Rattle.agc_machine.specs.declared.answer.Next.TheVariants as next
 use Rattle.agc_processor.specs.declared.processor.Processor.{Processor}

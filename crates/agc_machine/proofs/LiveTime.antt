@@ -10,7 +10,7 @@ use Rattle.agc_machine.specs.Laws.{Falls, IsSameRun}
 use Rattle.agc_machine.specs.Live.{IsLive}
 use Rattle.agc_machine.specs.Replay.{AreWanted, chain, tape_of}
 use Rattle.agc_machine.specs.State.{State, live_event}
-use Rattle.agc_machine.specs.declared.answer.ChannelWrite.{ChannelWrite}
+use Rattle.agc_processor.specs.declared.channel_write.ChannelWrite.{ChannelWrite}
 use Rattle.agc_machine.specs.declared.answer.Stepped.{Stepped}
 use Rattle.agc_machine.specs.declared.answer.Stepped.TheVariants as stepped
 use Rattle.agc_machine.proofs.Chain.{boundary_falls}

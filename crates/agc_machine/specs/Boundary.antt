@@ -19,7 +19,7 @@ use Rattle.agc_processor.specs.Processor.{z_at}
 use Rattle.agc_processor.specs.Timer.{due_timer, timer_step}
 use Rattle.agc_machine.specs.Happening.{happened, cycles_of}
 use Rattle.agc_machine.specs.State.{State, fed}
-use Rattle.agc_machine.specs.declared.answer.ChannelWrite.{ChannelWrite}
+use Rattle.agc_processor.specs.declared.channel_write.ChannelWrite.{ChannelWrite}
 use Rattle.agc_machine.specs.declared.answer.Stepped.{Stepped}
 use Rattle.agc_machine.specs.declared.answer.Stepped.TheVariants as stepped
 use Rattle.agc_machine.specs.declared.answer.Stop.{Stop}

@@ -3,19 +3,7 @@ ghost use Rattle.std.specs.Prelude.{◌≡◌};
 ghost use Rattle.agc_machine.specs.Answer.{stop_name};
 ghost use Rattle.agc_machine.specs.Boundary.{stop_of};
 
-use agc_processor::Halt;
-use agc_word::Narrow;
-
-/// One WRITE, WAND or WOR to a channel from 5 to 777 octal. It happens also where the value stays the same.
-#[derive(Clone, Copy, Debug, PartialEq, Eq)]
-pub struct ChannelWrite {
-    /// The machine cycle at which the order began, from 0.
-    pub cycle: u64,
-    /// 5 to 777 octal.
-    pub channel: u16,
-    /// The channel's word after the write.
-    pub value: Narrow,
-}
+use agc_processor::{ChannelWrite, Halt};
 
 /// Why the machine has stopped. A stopped machine stays as it is.
 #[derive(Clone, Copy, Debug, PartialEq, Eq)]

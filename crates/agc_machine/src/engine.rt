@@ -4,13 +4,13 @@ ghost use Rattle.agc_processor.specs.Effect.{order_effect, IsOrderly};
 ghost use Rattle.agc_processor.specs.Keeps.{Keeps};
 ghost use Rattle.agc_machine.specs.Engine.{state_of, IsInTime, IsSound};
 
-use crate::answer::{ChannelWrite, Next, Stepped, Stop};
+use crate::answer::{Next, Stepped, Stop};
 use crate::calm::Pace;
 use crate::happening::meet;
 use crate::stop_address::StopAddress;
 use crate::upcoming::Upcoming;
 use agc_processor::channel::CHAN13;
-use agc_processor::{INTERRUPT_MCT, Processor, Ran, Rupt, Timer, WRITE_MCT};
+use agc_processor::{ChannelWrite, INTERRUPT_MCT, Processor, Ran, Rupt, Timer, WRITE_MCT};
 use agc_script::{Event, Script, What};
 use agc_store::place::{ERASABLE_WINDOW, FIXED_FIXED, FIXED_WINDOW};
 use agc_store::{Addr, Rope};

@@ -11,7 +11,7 @@ mod machine;
 mod stop_address;
 mod upcoming;
 
-pub use answer::{ChannelWrite, Next, Stepped, Stop};
+pub use answer::{Next, Stepped, Stop};
 pub use machine::{LimitFault, Machine, Refused};
 pub use stop_address::StopAddress;
 pub use upcoming::{InHand, Upcoming, the_upcoming_comes};

@@ -2,7 +2,7 @@
 use denote.Enum.Declared.{tag_of}
 use Rattle.std.specs.Prelude.{ℕ, ◌==◌, Bool, false, if◌then◌else◌, List, [], ◌∷◌, Option, Some}
 use Rattle.std.specs.Prelude.{None, codes, get_or, map}
-use Rattle.agc_machine.specs.declared.answer.ChannelWrite.{ChannelWrite}
+use Rattle.agc_processor.specs.declared.channel_write.ChannelWrite.{ChannelWrite}
 use Rattle.agc_panel.specs.declared.lamp.Lamp.{Lamp}
 use Rattle.agc_panel.specs.declared.lamp.Lamps.{Lamps}
 use Rattle.agc_panel.specs.declared.lamp.Source.{Source}

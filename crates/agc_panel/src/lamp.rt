@@ -5,7 +5,7 @@ ghost use Rattle.agc_panel.specs.Lamp.{lamp_given, is_lit, dark_lamps, lit_after
 ghost use Rattle.agc_panel.specs.Lamp.{printed_order};
 
 use crate::relay_word::{OUT0, row_of};
-use agc_machine::ChannelWrite;
+use agc_processor::ChannelWrite;
 use std::convert::AsStr;
 
 /// The channel of the lamps that stand on no relay, and of the flash.

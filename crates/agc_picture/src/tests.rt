@@ -1,8 +1,8 @@
 //! Pictures of faces that were worked out by hand. The words of the writes are octal.
 use crate::face::{push_large_face, push_small_face};
 use crate::{Cap, Ink};
-use agc_machine::ChannelWrite;
 use agc_panel::{Face, Panel};
+use agc_processor::ChannelWrite;
 use agc_script::Key;
 use agc_word::Narrow;
 use std::process::Abort;

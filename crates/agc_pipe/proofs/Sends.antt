@@ -1,7 +1,7 @@
 -- A run that is being sent: what was sent so far, and then the run from where the machine stands.
 use Rattle.std.proofs.Common.{◌≡◌, List, [], ◌∷◌, ◌++◌, sym, ◌∙◌, ap, append_assoc, append-nil}
 use Rattle.std.specs.Prelude.{map, Some}
-use Rattle.agc_machine.specs.declared.answer.ChannelWrite.{ChannelWrite}
+use Rattle.agc_processor.specs.declared.channel_write.ChannelWrite.{ChannelWrite}
 use Rattle.agc_machine.specs.declared.answer.Next.TheVariants as next
 use Rattle.agc_machine.specs.declared.answer.Stop.{Stop}
 use Rattle.agc_machine.specs.Run.{Run, run_of, next_of}

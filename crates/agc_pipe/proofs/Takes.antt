@@ -1,6 +1,6 @@
 -- Items that were taken block by block: the writes before the first end.
 use Rattle.std.proofs.Common.{◌≡◌, ◌<◌, ℕ, zero, suc, List, [], ◌∷◌, ◌++◌, length, take, get_or, true, false, refl, ap, sym, ◌∙◌, subst, arith}
-use Rattle.agc_machine.specs.declared.answer.ChannelWrite.{ChannelWrite}
+use Rattle.agc_processor.specs.declared.channel_write.ChannelWrite.{ChannelWrite}
 use Rattle.agc_pipe.specs.Screen.{IsShowing}
 use Rattle.agc_pipe.specs.Shown.{has_end, shown_in, items_of}
 use Rattle.agc_pipe.specs.declared.display.Screen.{Screen}

@@ -1,6 +1,6 @@
 -- What the display keeps of the writes that it took, and what it finds in its ring.
 use Rattle.std.specs.Prelude.{◌≡◌, Bool, false, true, List}
-use Rattle.agc_machine.specs.declared.answer.ChannelWrite.{ChannelWrite}
+use Rattle.agc_processor.specs.declared.channel_write.ChannelWrite.{ChannelWrite}
 use Rattle.agc_panel.specs.Face.{panel_of}
 use Rattle.agc_pipe.specs.declared.display.Look.{Look}
 use Rattle.agc_pipe.specs.declared.display.Look.TheVariants as look

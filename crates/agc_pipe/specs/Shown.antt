@@ -1,7 +1,7 @@
 -- A run as it goes through the ring: its writes in order, and then the end.
 use Rattle.std.specs.Prelude.{◌≡◌, Bool, true, false, List, [], ◌∷◌, ◌++◌, map, Some}
 use Rattle.agc_machine.specs.Run.{Run}
-use Rattle.agc_machine.specs.declared.answer.ChannelWrite.{ChannelWrite}
+use Rattle.agc_processor.specs.declared.channel_write.ChannelWrite.{ChannelWrite}
 use Rattle.agc_panel.specs.Face.{panel_of}
 use Rattle.agc_pipe.specs.Ring.{Sending}
 use Rattle.agc_pipe.specs.declared.item.Item.{Item}

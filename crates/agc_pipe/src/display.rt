@@ -7,8 +7,8 @@ use crate::item::{BLOCK, Item};
 use crate::keys::Feed;
 use crate::receiver::Receiver;
 use agc_gate::Gate;
-use agc_machine::ChannelWrite;
 use agc_panel::Panel;
+use agc_processor::ChannelWrite;
 use std::alloc::Global;
 use std::sync::Wait;
 use std::sync::atomic::AtomicU64;
@@ -34,7 +34,7 @@ pub(crate) struct Screen {
 
 impl Screen {
     ghost use Rattle.std.specs.Prelude.{◌≡◌, List, [], ◌∷◌, ◌++◌};
-    ghost use Rattle.agc_machine.specs.declared.answer.ChannelWrite.{ChannelWrite};
+    ghost use Rattle.agc_processor.specs.declared.channel_write.ChannelWrite.{ChannelWrite};
     ghost use Rattle.agc_pipe.specs.Screen.{IsShowing};
     ghost use Rattle.agc_pipe.specs.Shown.{has_end, shown_in};
 

@@ -1,5 +1,5 @@
 //! What goes through the ring.
-use agc_machine::ChannelWrite;
+use agc_processor::ChannelWrite;
 use rtrb::Protocol;
 
 /// A channel write of the run, or the end after all of them.

@@ -6,7 +6,7 @@ ghost use Rattle.agc_machine.specs.Laws.{HasChannel, KeepsStop};
 ghost use Rattle.agc_machine.specs.Live.{IsLive};
 ghost use Rattle.agc_machine.specs.Replay.{writes_in};
 ghost use Rattle.agc_machine.specs.State.{State, IsAtStart};
-ghost use Rattle.agc_machine.specs.declared.answer.ChannelWrite.{ChannelWrite};
+ghost use Rattle.agc_processor.specs.declared.channel_write.ChannelWrite.{ChannelWrite};
 ghost use Rattle.agc_pipe.specs.Live.{IsSentLive};
 
 use crate::keys::KeyTaker;

@@ -3,6 +3,7 @@
 
 mod basic;
 pub mod channel;
+mod channel_write;
 mod double;
 mod effect;
 mod extra;
@@ -14,6 +15,7 @@ mod signs;
 mod start;
 mod timer;
 
+pub use channel_write::ChannelWrite;
 pub use interrupt::{INTERRUPT_MCT, Rupt};
 pub use processor::{Halt, Processor, Ran, Timers, WRITE_MCT};
 pub use timer::Timer;

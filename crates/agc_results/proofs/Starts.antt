@@ -10,15 +10,15 @@ use Rattle.agc_script.specs.Parse.{script_of}
 use Rattle.agc_script.specs.declared.event.Event.{Event}
 use Rattle.agc_machine.specs.State.{State, start_state}
 use Rattle.agc_machine.specs.StopAddress.{stop_address_of}
-use Rattle.agc_session.proofs.Denied.{rope_known_memory}
-use Rattle.agc_session.proofs.Told.{none_in_both, told_first, told_later}
-use Rattle.agc_session.specs.Entry.{ComesOf}
-use Rattle.agc_session.specs.Files.{events_in, rope_steps, script_steps}
-use Rattle.agc_session.specs.Options.{said_by}
-use Rattle.agc_session.specs.Prepare.{start_steps}
-use Rattle.agc_session.specs.Steps.{IsTold, refusal_in}
-use Rattle.agc_session.specs.declared.refusal.Refusal.{Refusal}
-use Rattle.agc_session.specs.declared.refusal.Refusal.TheVariants as refusal
+use Rattle.agc_setup.proofs.Denied.{rope_known_memory}
+use Rattle.agc_setup.proofs.Told.{none_in_both, told_first, told_later}
+use Rattle.agc_setup.specs.Steps.{ComesOf}
+use Rattle.agc_setup.specs.Files.{events_in, rope_steps, script_steps}
+use Rattle.agc_setup.specs.Options.{said_by}
+use Rattle.agc_setup.specs.Prepare.{start_steps}
+use Rattle.agc_setup.specs.Steps.{IsTold, refusal_in}
+use Rattle.agc_setup.specs.declared.refusal.Refusal.{Refusal}
+use Rattle.agc_setup.specs.declared.refusal.Refusal.TheVariants as refusal
 use Rattle.agc_results.specs.Started.{IsAccepted, IsRefused, IsStarted, starting_steps}
 
 module _ (form : RopeForm) (until : Option (String Global)) (limit : ℕ) where

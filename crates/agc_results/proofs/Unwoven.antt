@@ -9,7 +9,7 @@ use Rattle.agc_store.specs.declared.rope_file.RopeForm.{RopeForm}
 use Rattle.agc_rope_listing.specs.Laws.{AreRopeWords}
 use Rattle.agc_source.specs.Laws.{WeavesTo}
 use Rattle.agc_source.specs.Unwoven.{rope_source}
-use Rattle.agc_session.specs.Options.{said_by}
+use Rattle.agc_setup.specs.Options.{said_by}
 use Rattle.agc_results.specs.Listed.{bank_named}
 use Rattle.agc_results.specs.Sourced.{IsSource}
 

@@ -11,8 +11,8 @@ use Rattle.agc_rope_listing.specs.List.{rope_text}
 use Rattle.agc_source.specs.Source.{source_in}
 use Rattle.agc_source_words.specs.declared.fault.SourceTrouble.{SourceTrouble}
 use Rattle.agc_source_words.specs.declared.fault.SourceTrouble.TheVariants as source
-use Rattle.agc_session.proofs.Whole.{all_read, of_all}
-use Rattle.agc_session.specs.Options.{said_by}
+use Rattle.agc_setup.proofs.Whole.{all_read, of_all}
+use Rattle.agc_setup.specs.Options.{said_by}
 use Rattle.agc_results.specs.Listed.{IsFaulty, IsListing, IsWeaveRefused, bank_named}
 use Rattle.agc_names.specs.Names.{names_in}
 use Rattle.agc_names.specs.declared.fault.NameTrouble.{NameTrouble}

@@ -10,9 +10,9 @@ use Rattle.agc_check.specs.KeyReport.{IsKeyReport, are_keys}
 use Rattle.agc_check.specs.ListingReport.{IsListingReport}
 use Rattle.agc_check.specs.Report.{IsFileReport}
 use Rattle.agc_check.specs.declared.reports.Report.{Report}
-use Rattle.agc_session.specs.Input.{ExplainsUnread}
-use Rattle.agc_session.specs.declared.input.Unread.TheVariants as unread
-use Rattle.agc_session.specs.declared.refusal.Refusal.TheVariants as refusal
+use Rattle.agc_setup.specs.Input.{ExplainsUnread}
+use Rattle.agc_setup.specs.declared.input.Unread.TheVariants as unread
+use Rattle.agc_setup.specs.declared.refusal.Refusal.TheVariants as refusal
 use Rattle.agc_results.specs.declared.trouble.Trouble.{Trouble}
 use Rattle.agc_results.specs.declared.trouble.Trouble.TheVariants as trouble
 

@@ -19,9 +19,9 @@ use Rattle.agc_source_words.specs.declared.fault.SourceTrouble.{SourceTrouble}
 use Rattle.agc_source_words.specs.declared.fault.SourceTrouble.TheVariants as source
 use Rattle.agc_names.specs.Listing.{text_with_names}
 use Rattle.agc_names.specs.Names.{Named}
-use Rattle.agc_session.specs.Files.{rope_steps}
-use Rattle.agc_session.specs.Options.{said_by, says_nothing}
-use Rattle.agc_session.specs.Steps.{IsTold}
+use Rattle.agc_setup.specs.Files.{rope_steps}
+use Rattle.agc_setup.specs.Options.{said_by, says_nothing}
+use Rattle.agc_setup.specs.Steps.{IsTold}
 use Rattle.agc_results.specs.declared.ropes.Woven.{Woven}
 use Rattle.agc_results.specs.declared.trouble.Trouble.{Trouble}
 use Rattle.agc_results.specs.declared.trouble.Trouble.TheVariants as trouble

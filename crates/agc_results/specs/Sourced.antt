@@ -7,7 +7,7 @@ use Rattle.agc_store.specs.RopeFile.{rope_fault_of, rope_words}
 use Rattle.agc_store.specs.declared.rope_file.RopeForm.{RopeForm}
 use Rattle.agc_source.specs.Laws.{WeavesTo}
 use Rattle.agc_source.specs.Unwoven.{rope_source}
-use Rattle.agc_session.specs.Options.{said_by}
+use Rattle.agc_setup.specs.Options.{said_by}
 use Rattle.agc_results.specs.Listed.{bank_named}
 
 -- A file is a rope's, and a text is the source of its words, or of those of the bank that the text of `--bank` names.

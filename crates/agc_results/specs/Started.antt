@@ -7,11 +7,11 @@ use Rattle.agc_store.specs.declared.rope_file.RopeForm.{RopeForm}
 use Rattle.agc_script.specs.Parse.{script_of}
 use Rattle.agc_machine.specs.State.{State, start_state}
 use Rattle.agc_machine.specs.StopAddress.{stop_address_of}
-use Rattle.agc_session.specs.Files.{events_in, rope_steps, script_steps}
-use Rattle.agc_session.specs.Options.{said_by}
-use Rattle.agc_session.specs.Prepare.{start_steps}
-use Rattle.agc_session.specs.Steps.{Step, IsTold, refusal_in}
-use Rattle.agc_session.specs.declared.refusal.Refusal.{Refusal}
+use Rattle.agc_setup.specs.Files.{events_in, rope_steps, script_steps}
+use Rattle.agc_setup.specs.Options.{said_by}
+use Rattle.agc_setup.specs.Prepare.{start_steps}
+use Rattle.agc_setup.specs.Steps.{Step, IsTold, refusal_in}
+use Rattle.agc_setup.specs.declared.refusal.Refusal.{Refusal}
 use Rattle.agc_results.specs.Trouble.{other_trouble}
 use Rattle.agc_results.specs.declared.trouble.Trouble.{Trouble}
 use Rattle.agc_results.specs.declared.trouble.Trouble.TheVariants as trouble

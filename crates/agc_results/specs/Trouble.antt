@@ -5,9 +5,9 @@ use Rattle.std.specs.Io.KnownBytes.{Appends}
 use Rattle.agc_names.specs.Told.{fault_name}
 use Rattle.agc_names.specs.declared.fault.NameTrouble.{NameTrouble}
 use Rattle.agc_names.specs.declared.fault.NameTrouble.TheVariants as names
-use Rattle.agc_session.specs.Refusal.{refusal_text}
-use Rattle.agc_session.specs.declared.refusal.Refusal.{Refusal}
-use Rattle.agc_session.specs.declared.refusal.Refusal.TheVariants as refusal
+use Rattle.agc_setup.specs.Refusal.{refusal_text}
+use Rattle.agc_setup.specs.declared.refusal.Refusal.{Refusal}
+use Rattle.agc_setup.specs.declared.refusal.Refusal.TheVariants as refusal
 use Rattle.agc_source_words.specs.Told.{fault_text}
 use Rattle.agc_source_words.specs.declared.fault.SourceTrouble.{SourceTrouble}
 use Rattle.agc_source_words.specs.declared.fault.SourceTrouble.TheVariants as source

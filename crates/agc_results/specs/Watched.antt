@@ -6,9 +6,9 @@ use Rattle.agc_executive.specs.WatchSpec.{spec_of, watch_fault_of}
 use Rattle.agc_executive.specs.declared.watch_spec.WatchSpec.{WatchSpec}
 use Rattle.agc_asked.specs.declared.asked.Watching.{Watching}
 use Rattle.agc_jobs.specs.Lines.{jobs_text}
-use Rattle.agc_session.specs.Prepare.{tables_refusal}
-use Rattle.agc_session.specs.declared.refusal.Refusal.{Refusal}
-use Rattle.agc_session.specs.declared.refusal.Refusal.TheVariants as refusal
+use Rattle.agc_setup.specs.Prepare.{tables_refusal}
+use Rattle.agc_setup.specs.declared.refusal.Refusal.{Refusal}
+use Rattle.agc_setup.specs.declared.refusal.Refusal.TheVariants as refusal
 use Rattle.agc_trace.specs.Cut.{IsCut}
 use Rattle.agc_trace.specs.declared.tracing.TraceFault.{TraceFault}
 use Rattle.agc_results.specs.Started.{IsAccepted, IsRefused, IsStarted}

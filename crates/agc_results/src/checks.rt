@@ -1,6 +1,6 @@
 //! Files to what is told of them: a rope and a script, a text of live keys, the text of a rope.
 ghost use Rattle.std.specs.Prelude.{◌≡◌, IfOk, IfErr, IfSome};
-ghost use Rattle.agc_session.specs.declared.refusal.Refusal.TheVariants as refusal;
+ghost use Rattle.agc_setup.specs.declared.refusal.Refusal.TheVariants as refusal;
 ghost use Rattle.agc_results.specs.Checked.{AreKeysChecked, AreKeysUnchecked, IsChecked, IsCheckedWith};
 ghost use Rattle.agc_results.specs.Checked.{IsJoined, IsListingChecked, IsListingUnchecked, IsUnchecked};
 ghost use Rattle.agc_results.specs.Checked.{IsWithMore};
@@ -8,7 +8,7 @@ ghost use Rattle.agc_results.specs.declared.trouble.Trouble.TheVariants as told;
 
 use crate::trouble::Trouble;
 use agc_check::{Report, check, check_keys, check_listing};
-use agc_session::{KEY_BYTES, ROPE_BYTES, Refusal, SCRIPT_BYTES, Unread, read_limited};
+use agc_setup::{KEY_BYTES, ROPE_BYTES, Refusal, SCRIPT_BYTES, Unread, read_limited};
 use agc_store::RopeForm;
 use std::alloc::Global;
 use std::io::Read;

@@ -11,7 +11,7 @@ use agc_asked::{ByShown, Comparing};
 use agc_compare::{SideNames, compare, push_comparison};
 use agc_machine::Machine;
 use agc_progress::Progress;
-use agc_session::Refusal;
+use agc_setup::Refusal;
 use agc_shown::{ShownComparison, compare_shown, push_brief, push_shown};
 use std::alloc::{AllocError, Global};
 use std::io::Read;

@@ -8,7 +8,7 @@ use agc_asked::Counting;
 use agc_count::{count, push_count};
 use agc_machine::Machine;
 use agc_progress::Progress;
-use agc_session::Refusal;
+use agc_setup::Refusal;
 use std::alloc::{AllocError, Global};
 use std::io::Read;
 

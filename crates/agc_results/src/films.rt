@@ -8,7 +8,7 @@ use crate::trouble::Trouble;
 use agc_asked::Filming;
 use agc_film::{HEAD, Reel, RunFiles, TAIL, film, push_film, push_film_pair};
 use agc_progress::Progress;
-use agc_session::Refusal;
+use agc_setup::Refusal;
 use std::alloc::Global;
 use std::io::Read;
 

@@ -8,7 +8,7 @@ ghost use Rattle.agc_results.specs.declared.trouble.Trouble.TheVariants as told;
 
 use crate::trouble::Trouble;
 use agc_names::{NameTable, NameTrouble};
-use agc_session::{InputFile, SCRIPT_BYTES, Unread, read_limited};
+use agc_setup::{InputFile, SCRIPT_BYTES, Unread, read_limited};
 use std::alloc::Global;
 use std::fs;
 use std::io::Read;

@@ -3,7 +3,7 @@ ghost use Rattle.std.specs.Prelude.{◌≡◌, ◌≢◌, Err, IfOk, IfErr, IfSo
 ghost use Rattle.std.specs.Prelude.{string_bytes};
 ghost use Rattle.agc_source.specs.Misnamed.{misnamed_in};
 ghost use Rattle.agc_source.specs.Source.{IsSourceWoven, source_in};
-ghost use Rattle.agc_session.specs.Options.{said_by, says_nothing};
+ghost use Rattle.agc_setup.specs.Options.{said_by, says_nothing};
 ghost use Rattle.agc_results.specs.Listed.{IsListRefused, IsListing, IsWeaveRefused, IsWoven};
 ghost use Rattle.agc_results.specs.Listed.{bank_named, misnamed_line};
 ghost use Rattle.agc_results.specs.Sourced.{IsSource};
@@ -13,7 +13,7 @@ ghost use Rattle.agc_results.specs.declared.trouble.Trouble.TheVariants as told;
 
 use crate::trouble::Trouble;
 use agc_rope_listing::{files_say_rope_words, list, push_order};
-use agc_session::{Refusal, SCRIPT_BYTES, Unread, read_limited, read_rope};
+use agc_setup::{Refusal, SCRIPT_BYTES, Unread, read_limited, read_rope};
 use agc_source::{Misnamed, SourceTrouble, first_misnamed, rope_source, weave_source};
 use agc_store::{RopeForm, Store};
 use agc_word::read_octal;

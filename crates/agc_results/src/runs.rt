@@ -3,7 +3,7 @@ ghost use Rattle.std.specs.Prelude.{IfOk, IfErr};
 ghost use Rattle.agc_results.specs.Started.{IsRefused, IsStarted};
 
 use agc_machine::Machine;
-use agc_session::{Refusal, read_rope, read_script, start_machine};
+use agc_setup::{Refusal, read_rope, read_script, start_machine};
 use agc_store::RopeForm;
 use std::alloc::Global;
 use std::io::Read;

@@ -5,7 +5,8 @@ ghost use Rattle.agc_results.specs.Trouble.{other_trouble, trouble_line};
 ghost use Rattle.agc_results.specs.declared.trouble.Trouble.TheVariants as told;
 
 use agc_names::NameTrouble;
-use agc_session::{Refusal, status_of};
+use agc_options::status_of;
+use agc_setup::Refusal;
 use agc_source::SourceTrouble;
 use std::fmt;
 use std::io::{self, Write};

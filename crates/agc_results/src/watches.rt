@@ -9,7 +9,7 @@ use agc_executive::{CheckedSpec, WatchSpec};
 use agc_jobs::write_changes;
 use agc_machine::Machine;
 use agc_progress::Progress;
-use agc_session::Refusal;
+use agc_setup::Refusal;
 use std::alloc::Global;
 use std::io::{Read, Write};
 

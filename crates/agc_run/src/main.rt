@@ -4,14 +4,16 @@
 
 ghost use Rattle.std.specs.Prelude.{◌≡◌, ◌⊎◌, IfOk, IfErr, codes};
 ghost use Rattle.std.specs.Io.KnownBytes.{Appends, Keeps};
-ghost use Rattle.agc_session.specs.Refusal.{refusal_line};
-ghost use Rattle.agc_session.specs.declared.refusal.Refusal.{Refusal};
+ghost use Rattle.agc_setup.specs.Refusal.{refusal_line};
+ghost use Rattle.agc_setup.specs.declared.refusal.Refusal.{Refusal};
 ghost use Rattle.agc_args.specs.Ending.{EndsMistaken};
 
 use agc_args::{ArgsFault, end_mistaken, options, stand_ins};
 use agc_gate::{Gate, Telling};
+use agc_options::{Options, REFUSED};
 use agc_progress::Ticker;
-use agc_session::{InputFile, Options, REFUSED, session};
+use agc_session::session;
+use agc_setup::InputFile;
 use std::fs;
 use std::io::{IsTerminal, Read, Write};
 use std::process::ExitCode;

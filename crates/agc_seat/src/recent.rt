@@ -8,7 +8,8 @@ ghost use Rattle.agc_trace.specs.Entry.{FitsLine, entry_of, write_shown};
 ghost use Rattle.agc_seat.specs.Inside.{boundary_line};
 ghost use Rattle.agc_seat.specs.Recent.{given_entry, with_last};
 
-use agc_machine::{ChannelWrite, Stepped, Upcoming};
+use agc_machine::{Stepped, Upcoming};
+use agc_processor::ChannelWrite;
 use agc_script::What;
 use agc_sitting::{GiveFault, Sitting};
 use agc_trace::{Entry, push_line, registers_in};

@@ -11,17 +11,18 @@ use Rattle.agc_script.specs.declared.key.Key.{Key}
 use Rattle.agc_machine.specs.State.{State, start_state}
 use Rattle.agc_session.specs.Report.{IsLiveReport}
 use Rattle.agc_session.specs.Print.{report_text}
-use Rattle.agc_session.specs.Entry.{ComesOf, IsAnswered, IsKeysReport, IsReported, IsReportWhere, IsRunReport, IsSessionReport, machine_of, session_steps}
-use Rattle.agc_session.specs.Files.{Files, events_in, files_of, given_files, keys_steps, keys_steps_where, rope_steps, script_steps}
-use Rattle.agc_session.specs.Options.{said_by}
-use Rattle.agc_session.specs.Prepare.{machine_steps, run_steps}
-use Rattle.agc_session.specs.Steps.{IsTold, refusal_in}
-use Rattle.agc_session.specs.Keys.{keys_of}
+use Rattle.agc_session.specs.Entry.{IsAnswered, IsKeysReport, IsReported, IsReportWhere, IsRunReport, IsSessionReport, machine_of, session_steps}
+use Rattle.agc_setup.specs.Steps.{ComesOf}
+use Rattle.agc_setup.specs.Files.{Files, events_in, files_of, given_files, keys_steps, keys_steps_where, rope_steps, script_steps}
+use Rattle.agc_setup.specs.Options.{said_by}
+use Rattle.agc_setup.specs.Prepare.{machine_steps, run_steps}
+use Rattle.agc_setup.specs.Steps.{IsTold, refusal_in}
+use Rattle.agc_setup.specs.Keys.{keys_of}
 use Rattle.agc_machine.specs.StopAddress.{stop_address_of}
-use Rattle.agc_session.specs.declared.options.Options.{Options}
-use Rattle.agc_session.specs.declared.refusal.Refusal.{Refusal}
+use Rattle.agc_options.specs.declared.options.Options.{Options}
+use Rattle.agc_setup.specs.declared.refusal.Refusal.{Refusal}
 use Rattle.agc_session.specs.declared.report.Report.{Report}
-use Rattle.agc_session.specs.declared.refusal.Refusal.TheVariants as refusal
+use Rattle.agc_setup.specs.declared.refusal.Refusal.TheVariants as refusal
 use Rattle.agc_executive.specs.declared.watch_spec.WatchFault.TheVariants as watch
 use Rattle.agc_session.proofs.Refused.{at_last, at_memory, at_tables, keys_are_read}
 

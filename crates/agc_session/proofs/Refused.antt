@@ -3,15 +3,16 @@ use Rattle.std.proofs.Common.{◌≡◌, ◌⊎◌, ℕ, List, ◌∷◌, ◌++�
 use Rattle.std.specs.Prelude.{Option, None, Some, IfSome, Result}
 use Rattle.agc_executive.specs.WatchSpec.{spec_of}
 use Rattle.agc_executive.specs.declared.watch_spec.WatchFault.TheVariants as watch
-use Rattle.agc_session.proofs.Told.{comes_later, none_first, none_later, told_first, told_later, told_found}
-use Rattle.agc_session.specs.Entry.{ComesOf, session_steps}
-use Rattle.agc_session.specs.Files.{Files, files_of, keys_read, rope_steps, script_steps, keys_steps_where}
-use Rattle.agc_session.specs.Options.{said_by}
-use Rattle.agc_session.specs.Prepare.{machine_steps, run_steps, slots_refusal, spacing_refusal, tables_refusal}
-use Rattle.agc_session.specs.Steps.{Step, looks, asks, IsTold, refusal_in}
-use Rattle.agc_session.specs.declared.options.Options.{Options}
-use Rattle.agc_session.specs.declared.refusal.Refusal.{Refusal}
-use Rattle.agc_session.specs.declared.refusal.Refusal.TheVariants as refusal
+use Rattle.agc_setup.proofs.Told.{comes_later, none_first, none_later, told_first, told_later, told_found}
+use Rattle.agc_session.specs.Entry.{session_steps}
+use Rattle.agc_setup.specs.Steps.{ComesOf}
+use Rattle.agc_setup.specs.Files.{Files, files_of, keys_read, rope_steps, script_steps, keys_steps_where}
+use Rattle.agc_setup.specs.Options.{said_by}
+use Rattle.agc_setup.specs.Prepare.{machine_steps, run_steps, slots_refusal, spacing_refusal, tables_refusal}
+use Rattle.agc_setup.specs.Steps.{Step, looks, asks, IsTold, refusal_in}
+use Rattle.agc_options.specs.declared.options.Options.{Options}
+use Rattle.agc_setup.specs.declared.refusal.Refusal.{Refusal}
+use Rattle.agc_setup.specs.declared.refusal.Refusal.TheVariants as refusal
 
 -- what may be told of a run whose options were accepted
 pub run_told : (options : Options) (r : Refusal) → slots_refusal options.slots ≡ None → spacing_refusal options.live options.spacing ≡ None

@@ -1,6 +1,6 @@
 -- What a session reports and prints of the files that it is given, or how it refuses.
-use Rattle.std.specs.Prelude.{◌≡◌, ℕ, Bool, true, false, List, ◌++◌, Option, Some, None, Result, Ok}
-use Rattle.std.specs.Prelude.{Err, string_bytes}
+use Rattle.std.specs.Prelude.{◌≡◌, ℕ, Bool, true, false, List, ◌++◌, Option, Some, None, Result}
+use Rattle.std.specs.Prelude.{string_bytes}
 use Rattle.std.specs.declared.alloc.Global.{Global}
 use Rattle.std.specs.declared.string.String.{String}
 use Rattle.std.specs.Io.KnownBytes.{Appends}
@@ -10,15 +10,18 @@ use Rattle.agc_script.specs.declared.key.Key.{Key}
 use Rattle.agc_machine.specs.Run.{run_of}
 use Rattle.agc_machine.specs.State.{State, start_state}
 use Rattle.agc_machine.specs.StopAddress.{stop_address_of}
-use Rattle.agc_session.specs.Files.{Files, events_in, keys_steps_where, rope_steps, script_steps}
-use Rattle.agc_session.specs.Keys.{keys_of}
-use Rattle.agc_session.specs.Options.{said_by}
-use Rattle.agc_session.specs.Prepare.{machine_steps, run_steps}
+use Rattle.agc_setup.specs.Files.{Files, events_in, keys_steps_where, rope_steps, script_steps}
+use Rattle.agc_setup.specs.Keys.{keys_of}
+use Rattle.agc_setup.specs.Options.{said_by}
+use Rattle.agc_setup.specs.Prepare.{machine_steps, run_steps}
+use Rattle.agc_pipe.specs.declared.shown.ShowFault.{ShowFault}
+use Rattle.agc_pipe.specs.declared.shown.ShowFault.TheVariants as show
 use Rattle.agc_session.specs.Print.{report_text}
 use Rattle.agc_session.specs.Report.{IsLiveReport, IsReport}
-use Rattle.agc_session.specs.Steps.{Step, IsTold, refusal_in}
-use Rattle.agc_session.specs.declared.options.Options.{Options}
-use Rattle.agc_session.specs.declared.refusal.Refusal.{Refusal}
+use Rattle.agc_setup.specs.Steps.{ComesOf, Step, refusal_in}
+use Rattle.agc_options.specs.declared.options.Options.{Options}
+use Rattle.agc_setup.specs.declared.refusal.Refusal.{Refusal}
+use Rattle.agc_setup.specs.declared.refusal.Refusal.TheVariants as refusal
 use Rattle.agc_session.specs.declared.report.Report.{Report}
 
 -- the steps of a session
@@ -35,6 +38,13 @@ unfoldable pub machine_of : Options → Files → State
 machine_of options files =
     start_state (rope_words options.form files.rope) (events_in (script_of files.script))
     options.limit (said_by stop_address_of options.until)
+
+-- the refusal where a run was not shown
+abbrev pub show_refusal : ShowFault → Refusal
+show_refusal show.Slots = refusal.Slots
+show_refusal show.Spacing = refusal.Spacing
+show_refusal show.Memory = refusal.Memory
+show_refusal show.Thread = refusal.Thread
 
 -- the report of a run without live keys
 abbrev pub IsRunReport : Options → State → Report → Type 0
@@ -63,12 +73,6 @@ IsSessionText options files text =
 -- nothing is refused
 abbrev pub IsAccepted : Options → Files → Type 0
 IsAccepted options files = refusal_in (session_steps options files) ≡ None
-
--- What comes of steps: a value as it is to be, where no look refuses, or a refusal that they may
--- tell.
-abbrev pub ComesOf : {A : Type 0} → List Step → (A → Type 0) → Result A Refusal → Type 0
-ComesOf steps IsRight (Ok value) = (refusal_in steps ≡ None) × IsRight value
-ComesOf steps IsRight (Err r) = IsTold steps r
 
 -- a session's report, or its refusal
 abbrev pub IsReported : Options → Result Report Refusal → Files → Type 0

@@ -1,10 +1,3 @@
-pub mod Input
-pub mod Keys
-pub mod Options
-pub mod Refusal
-pub mod Steps
-pub mod Files
-pub mod Prepare
 pub mod Report
 pub mod Text
 pub mod Print

@@ -6,14 +6,14 @@ use Rattle.agc_script.specs.declared.key.Key.{Key}
 use Rattle.agc_machine.specs.Run.{Run, run_of}
 use Rattle.agc_machine.specs.State.{State}
 use Rattle.agc_machine.specs.Taken.{IsTakenTape, replayed}
-use Rattle.agc_machine.specs.declared.answer.ChannelWrite.{ChannelWrite}
+use Rattle.agc_processor.specs.declared.channel_write.ChannelWrite.{ChannelWrite}
 use Rattle.agc_panel.specs.Face.{panel_of}
 use Rattle.agc_executive.specs.Tables.{WatchedTables, tables_of}
 use Rattle.agc_executive.specs.WatchSpec.{spec_of}
 use Rattle.agc_executive.specs.declared.watch_spec.WatchSpec.{WatchSpec}
 use Rattle.agc_pipe.specs.Keys.{key_in}
-use Rattle.agc_session.specs.Options.{said_by}
-use Rattle.agc_session.specs.declared.options.Options.{Options}
+use Rattle.agc_setup.specs.Options.{said_by}
+use Rattle.agc_options.specs.declared.options.Options.{Options}
 use Rattle.agc_session.specs.declared.report.LiveKeys.{LiveKeys}
 use Rattle.agc_session.specs.declared.report.Report.{Report}
 

@@ -1,38 +1,27 @@
 //! A session: from the files and the options to the text, or to the line of a refusal.
-ghost use Rattle.std.specs.Prelude.{◌≡◌, ◌⊎◌, ◌++◌, false, true, OnOk, IfSome, is_ok};
-ghost use Rattle.std.specs.Prelude.{if◌then◌else◌};
+ghost use Rattle.std.specs.Prelude.{◌≡◌, ◌⊎◌, ◌++◌, false, true, OnOk, IfSome};
 ghost use Rattle.std.specs.Io.KnownBytes.{Keeps, Appends, IsAtEnd};
 ghost use Rattle.agc_executive.specs.WatchSpec.{spec_of};
-ghost use Rattle.agc_session.specs.Entry.{ComesOf, IsAccepted, IsAnswered, IsKeysReport, IsPrinted};
+ghost use Rattle.agc_session.specs.Entry.{IsAccepted, IsAnswered, IsKeysReport, IsPrinted};
 ghost use Rattle.agc_session.specs.Entry.{IsReported, IsRunReport, session_steps};
-ghost use Rattle.agc_session.specs.Files.{given_files, keys_steps};
-ghost use Rattle.agc_session.specs.Options.{said_by};
-ghost use Rattle.agc_session.specs.Prepare.{run_steps};
-ghost use Rattle.agc_session.specs.Steps.{IsTold};
-ghost use Rattle.agc_session.specs.Refusal.{refusal_line};
-ghost use Rattle.agc_session.specs.declared.refusal.Refusal.{Refusal};
+ghost use Rattle.agc_setup.specs.Files.{given_files, keys_steps};
+ghost use Rattle.agc_setup.specs.Options.{said_by};
+ghost use Rattle.agc_setup.specs.Prepare.{run_steps};
+ghost use Rattle.agc_setup.specs.Steps.{ComesOf, IsTold};
+ghost use Rattle.agc_setup.specs.Refusal.{refusal_line};
+ghost use Rattle.agc_setup.specs.declared.refusal.Refusal.{Refusal};
 
-use crate::files::{read_keys, read_rope, read_script};
-use crate::options::Options;
-use crate::prepare::{Prepared, check_live_run, check_run, prepare};
 use crate::print::print;
-use crate::refusal::Refusal;
 use crate::report::Report;
 use crate::run::{report_live_run, report_run};
+use crate::run_options::{check_live_run, check_run};
+use agc_options::{DONE, Options, REFUSED, UNWRITTEN, status_of};
 use agc_pipe::Gate;
+use agc_setup::{Prepared, Refusal, prepare, read_keys, read_rope, read_script};
 use std::alloc::Global;
-use std::io::{self, Read, Write};
+use std::io::{Read, Write};
 use std::sync::Wait;
 use std::thread::Threads;
-
-/// The status of a run that came to a stop, whichever.
-pub const DONE: u8 = 0;
-
-/// The status of a refusal.
-pub const REFUSED: u8 = 1;
-
-/// The status of a write that failed.
-pub const UNWRITTEN: u8 = 3;
 
 /// Runs a session: reads both files to their end, and the text of live keys where the options ask
 /// for them, runs the machine on a thread of its own with the display on the caller's, and writes
@@ -76,16 +65,6 @@ where
     match answer(rt, alloc, options, rope, script, keys, gate) {
         Ok(text) => status_of(DONE, out.write_all(text.as_bytes())),
         Err(refusal) => status_of(REFUSED, refusal.write_to(err)),
-    }
-}
-
-/// The status after the only write of a program: this one, or `UNWRITTEN` where the write failed.
-pub fn status_of(status: u8, written: io::Result<()>) -> u8
-    ensures { result ≡ (if is_ok written then status else UNWRITTEN) }
-{
-    match written {
-        Ok(()) => status,
-        Err(_) => UNWRITTEN,
     }
 }
 

@@ -4,12 +4,12 @@ ghost use Rattle.agc_executive.specs.TablesText.{tables_text};
 ghost use Rattle.agc_executive.specs.declared.watch_spec.WatchFault.TheVariants as fault;
 ghost use Rattle.agc_session.specs.Print.{part_text, report_text};
 ghost use Rattle.agc_session.specs.Text.{live_text, log_text};
-ghost use Rattle.agc_session.specs.declared.refusal.Refusal.TheVariants as refusal;
+ghost use Rattle.agc_setup.specs.declared.refusal.Refusal.TheVariants as refusal;
 
-use crate::refusal::Refusal;
 use crate::report::{LiveKeys, Log, Report};
 use crate::text::{push_live, push_log, push_stop_line};
 use agc_executive::{Tables, WatchFault};
+use agc_setup::Refusal;
 use std::alloc::{AllocError, Global};
 
 /// The text of a report. Out of memory for the tables' text is told as the watcher's fault.

@@ -1,7 +1,8 @@
 //! What a session reports of a run, as one value. A printer puts it into words.
 use agc_executive::Tables;
-use agc_machine::{ChannelWrite, Stop};
+use agc_machine::Stop;
 use agc_panel::Panel;
+use agc_processor::ChannelWrite;
 use agc_script::Tape;
 use std::marker::Model;
 
@@ -41,7 +42,7 @@ pub struct Log {
 
 impl Model for Log {
     ghost use Rattle.std.specs.Prelude.{List};
-    ghost use Rattle.agc_machine.specs.declared.answer.ChannelWrite.{ChannelWrite};
+    ghost use Rattle.agc_processor.specs.declared.channel_write.ChannelWrite.{ChannelWrite};
 
     ghost Value = { List ChannelWrite };
 

@@ -3,18 +3,20 @@ ghost use Rattle.std.specs.Prelude.{◌≡◌, ◌⊎◌, ◌<◌, ◌^◌, All,
 ghost use Rattle.agc_machine.specs.Run.{Run, run_of};
 ghost use Rattle.agc_executive.specs.WatchSpec.{spec_of};
 ghost use Rattle.agc_pipe.specs.Shown.{ShowsRun};
-ghost use Rattle.agc_session.specs.Options.{said_by};
+ghost use Rattle.agc_setup.specs.Options.{said_by};
+ghost use Rattle.agc_session.specs.Entry.{show_refusal};
 ghost use Rattle.agc_session.specs.Report.{IsLiveReport, IsReport, log_asked, tables_asked};
-ghost use Rattle.agc_session.specs.declared.refusal.Refusal.TheVariants as refusal;
+ghost use Rattle.agc_setup.specs.declared.refusal.Refusal.TheVariants as refusal;
 
-use crate::options::Options;
-use crate::prepare::RunOptions;
-use crate::refusal::Refusal;
 use crate::report::{LiveKeys, Log, Report};
+use crate::run_options::RunOptions;
 use agc_executive::{CheckedSpec, Tables};
-use agc_machine::{ChannelWrite, Machine};
-use agc_pipe::{Gate, Live, Shown, Spacing, show_live_run, show_run};
+use agc_machine::Machine;
+use agc_options::Options;
+use agc_pipe::{Gate, Live, ShowFault, Shown, Spacing, show_live_run, show_run};
+use agc_processor::ChannelWrite;
 use agc_script::Key;
+use agc_setup::Refusal;
 use agc_store::Store;
 use std::alloc::Global;
 use std::sync::Wait;
@@ -34,8 +36,10 @@ pub fn report_run<H: Threads + Wait + Sync, G: Gate + Sync>(
     ensures report { IfOk result (IsReport options.now (run_of machine) None) }
     ensures refused { IfErr result (λ r. (r ≡ Refusal.Thread) ⊎ (r ≡ Refusal.Memory)) }
 {
-    let shown = show_run(rt, alloc, machine, run.slots, gate)?;
-    Ok(report_shown(options, shown, None, &run.watch))
+    match show_run(rt, alloc, machine, run.slots, gate) {
+        Ok(shown) => Ok(report_shown(options, shown, None, &run.watch)),
+        Err(fault) => Err(show_refusal(fault)),
+    }
 }
 
 /// Runs a machine that is at its start with live keys.
@@ -55,12 +59,26 @@ pub fn report_live_run<H: Threads + Wait + Sync, G: Gate + Sync>(
     ensures report { IfOk result (IsLiveReport options.now machine keys.items) }
     ensures refused { IfErr result (λ r. (r ≡ Refusal.Thread) ⊎ (r ≡ Refusal.Memory)) }
 {
-    let Live { shown, tape, rest } = show_live_run(
-        rt, alloc, machine, keys, spacing, run.slots, gate,
-    )?;
+    let live = match show_live_run(rt, alloc, machine, keys, spacing, run.slots, gate) {
+        Ok(live) => live,
+        Err(fault) => return Err(show_refusal(fault)),
+    };
+    let Live { shown, tape, rest } = live;
     let left = rest.len();
     let keys = LiveKeys { tape, left };
     Ok(report_shown(options, shown, Some(keys), &run.watch))
+}
+
+/// The refusal where a run was not shown.
+pub fn show_refusal(fault: ShowFault) -> Refusal
+    ensures { result ≡ show_refusal fault }
+{
+    match fault {
+        ShowFault::Slots => Refusal::Slots,
+        ShowFault::Spacing => Refusal::Spacing,
+        ShowFault::Memory => Refusal::Memory,
+        ShowFault::Thread => Refusal::Thread,
+    }
 }
 
 /// Puts together what the options ask for of what a run left.

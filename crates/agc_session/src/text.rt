@@ -4,7 +4,8 @@ ghost use Rattle.agc_session.specs.Text.{stop_line, log_line, log_text, tape_lin
 ghost use Rattle.agc_session.specs.Text.{tape_text, live_text};
 
 use crate::report::LiveKeys;
-use agc_machine::{ChannelWrite, Stop};
+use agc_machine::Stop;
+use agc_processor::ChannelWrite;
 use agc_script::{Key, Tape};
 use std::alloc::AllocError;
 

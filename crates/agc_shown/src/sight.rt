@@ -6,8 +6,8 @@ ghost use Rattle.agc_panel.specs.Text.{panel_text};
 ghost use Rattle.agc_shown.specs.Shown.{InPrint, OnChannel, changed_panel, look_of, shown_at, word_of};
 
 use crate::by::By;
-use agc_machine::ChannelWrite;
 use agc_panel::Panel;
+use agc_processor::ChannelWrite;
 use agc_word::Narrow;
 use std::alloc::{AllocError, Global};
 

@@ -13,7 +13,7 @@ use Rattle.agc_processor.specs.Start.{start_processor}
 use Rattle.agc_machine.specs.Live.{IsLive}
 use Rattle.agc_machine.specs.Replay.{Chain, chain, with_tape, writes_in}
 use Rattle.agc_machine.specs.State.{State, start_state}
-use Rattle.agc_machine.specs.declared.answer.ChannelWrite.{ChannelWrite}
+use Rattle.agc_processor.specs.declared.channel_write.ChannelWrite.{ChannelWrite}
 use Rattle.agc_machine.proofs.Live.{live_starts}
 use Rattle.agc_machine.proofs.LiveTime.{live_is_same}
 use Rattle.agc_machine.proofs.Replay.{chain_replays}

@@ -11,7 +11,7 @@ use Rattle.agc_machine.specs.Laws.{IsSameRun, after}
 use Rattle.agc_machine.specs.Live.{IsLive}
 use Rattle.agc_machine.specs.Replay.{Chain, chain, writes_in}
 use Rattle.agc_machine.specs.State.{State, live_event, start_state}
-use Rattle.agc_machine.specs.declared.answer.ChannelWrite.{ChannelWrite}
+use Rattle.agc_processor.specs.declared.channel_write.ChannelWrite.{ChannelWrite}
 use Rattle.agc_machine.specs.declared.answer.Stepped.{Stepped}
 use Rattle.agc_machine.specs.declared.answer.Stepped.TheVariants as stepped
 use Rattle.agc_panel.specs.Face.{face_after, panel_of}

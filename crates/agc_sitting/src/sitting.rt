@@ -10,7 +10,7 @@ ghost use Rattle.agc_machine.specs.Laws.{HasChannel};
 ghost use Rattle.agc_machine.specs.Run.{next_before};
 ghost use Rattle.agc_machine.specs.State.{start_state};
 ghost use Rattle.agc_machine.specs.Replay.{writes_in};
-ghost use Rattle.agc_machine.specs.declared.answer.ChannelWrite.{ChannelWrite};
+ghost use Rattle.agc_processor.specs.declared.channel_write.ChannelWrite.{ChannelWrite};
 ghost use Rattle.agc_panel.specs.Face.{panel_of};
 ghost use Rattle.agc_sitting.specs.Sitting.{HasGone, HasReached, IsReplay, given_now, shown_after, start_with};
 ghost use Rattle.agc_sitting.specs.Sitting.{dropped, kept_before, told, told_before};

@@ -6,8 +6,9 @@ ghost use Rattle.agc_results.specs.Trouble.{IsTold};
 
 use agc_asked::Checking;
 use agc_check::Report;
+use agc_options::{DONE, status_of};
 use agc_results::{Trouble, check_key_file, check_listing_file, check_with, joined};
-use agc_session::{DONE, InputFile, status_of};
+use agc_setup::InputFile;
 use agc_store::RopeForm;
 use std::alloc::Global;
 use std::fs;

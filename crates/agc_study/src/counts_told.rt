@@ -1,7 +1,7 @@
 //! What is counted of a run, written.
 ghost use Rattle.std.specs.Prelude.{◌≡◌, ◌≢◌, ◌⊎◌};
 ghost use Rattle.std.specs.Io.KnownBytes.{Appends};
-ghost use Rattle.agc_session.specs.declared.refusal.Refusal.{Refusal};
+ghost use Rattle.agc_setup.specs.declared.refusal.Refusal.{Refusal};
 ghost use Rattle.agc_results.specs.Counted.{IsCountWritten};
 ghost use Rattle.agc_study.specs.Ended.{IsEnded};
 ghost use Rattle.agc_results.specs.Started.{IsRefused};
@@ -9,9 +9,10 @@ ghost use Rattle.agc_results.specs.Trouble.{trouble_line};
 ghost use Rattle.agc_results.specs.declared.trouble.Trouble.TheVariants as told;
 
 use agc_asked::Counting;
+use agc_options::{DONE, status_of};
 use agc_progress::Shown;
 use agc_results::{Trouble, count_files};
-use agc_session::{DONE, InputFile, status_of};
+use agc_setup::InputFile;
 use std::alloc::Global;
 use std::fs;
 use std::io::{Read, Write};

@@ -5,14 +5,15 @@ ghost use Rattle.agc_study.specs.Ended.{IsEnded};
 ghost use Rattle.agc_results.specs.Filmed.{IsFilmPairWritten, IsFilmWritten};
 ghost use Rattle.agc_results.specs.Started.{IsPairRefused, IsRefused};
 ghost use Rattle.agc_results.specs.Trouble.{IsTold, trouble_line};
-ghost use Rattle.agc_session.specs.declared.refusal.Refusal.{Refusal};
+ghost use Rattle.agc_setup.specs.declared.refusal.Refusal.{Refusal};
 ghost use Rattle.agc_results.specs.declared.trouble.Trouble.TheVariants as told;
 
 use agc_asked::Filming;
 use agc_film::{HEAD, RunFiles, TAIL};
+use agc_options::{DONE, status_of};
 use agc_progress::Shown;
 use agc_results::{FilmPage, Trouble, film_file_pairs, film_files};
-use agc_session::{DONE, InputFile, status_of};
+use agc_setup::InputFile;
 use std::alloc::Global;
 use std::fs;
 use std::io::{Read, Write};

@@ -4,14 +4,15 @@ ghost use Rattle.std.specs.Io.KnownBytes.{Appends, Keeps};
 ghost use Rattle.agc_results.specs.Trouble.{trouble_line};
 ghost use Rattle.agc_results.specs.Watched.{IsWatchRefused, IsWatched};
 ghost use Rattle.agc_results.specs.declared.trouble.Trouble.TheVariants as told;
-ghost use Rattle.agc_session.specs.declared.refusal.Refusal.{Refusal};
+ghost use Rattle.agc_setup.specs.declared.refusal.Refusal.{Refusal};
 ghost use Rattle.agc_study.specs.Ended.{IsEnded};
 
 use agc_asked::Watching;
 use agc_machine::Machine;
+use agc_options::DONE;
 use agc_progress::Shown;
 use agc_results::{status_of_untraced, watch_files};
-use agc_session::{DONE, InputFile};
+use agc_setup::InputFile;
 use std::alloc::Global;
 use std::fs;
 use std::io::{Read, Write};

@@ -1,7 +1,7 @@
 //! Ropes and texts, written: the text of a rope, and the rope of a text.
 ghost use Rattle.std.specs.Prelude.{◌≡◌, ◌≢◌};
 ghost use Rattle.std.specs.Io.KnownBytes.{Appends, Keeps};
-ghost use Rattle.agc_session.specs.declared.refusal.Refusal.TheVariants as refusal;
+ghost use Rattle.agc_setup.specs.declared.refusal.Refusal.TheVariants as refusal;
 ghost use Rattle.agc_study.specs.Ended.{IsEnded};
 ghost use Rattle.agc_results.specs.Listed.{IsListRefused, IsListWritten, IsWeaveRefused, IsWeaveWritten, shown_with};
 ghost use Rattle.agc_results.specs.Trouble.{IsTold, trouble_line};
@@ -9,8 +9,9 @@ ghost use Rattle.agc_results.specs.declared.trouble.Trouble.TheVariants as told;
 
 use agc_asked::{Listing, Weaving};
 use agc_names::{NameTable, text_with_names};
+use agc_options::{DONE, UNWRITTEN, status_of};
 use agc_results::{Trouble, list_rope, misnamed_line, names_at, weave_text};
-use agc_session::{DONE, InputFile, Refusal, UNWRITTEN, status_of};
+use agc_setup::{InputFile, Refusal};
 use agc_source::{Misnamed, name_lines};
 use agc_store::RopeForm;
 use std::alloc::Global;

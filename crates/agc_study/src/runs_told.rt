@@ -14,12 +14,13 @@ use agc_asked::{Comparing, NAME, Tracing};
 use agc_compare::SideNames;
 use agc_machine::{Machine, Upcoming};
 use agc_names::NameTable;
+use agc_options::{DONE, status_of};
 use agc_progress::Shown;
 use agc_results::{
     TROUBLE, Told, Traced, Trouble, compare_files, name_until, names_at, place, remark_service,
     status_of_untraced, trace_files,
 };
-use agc_session::{DONE, InputFile, Refusal, status_of};
+use agc_setup::{InputFile, Refusal};
 use agc_trace::Selection;
 use std::alloc::Global;
 use std::fs;

@@ -7,8 +7,9 @@ ghost use Rattle.agc_results.specs.Trouble.{IsTold};
 
 use crate::ropes_told::list_to;
 use agc_asked::Listing;
+use agc_options::{DONE, status_of};
 use agc_results::{Trouble, source_of_rope};
-use agc_session::{DONE, InputFile, status_of};
+use agc_setup::InputFile;
 use agc_store::RopeForm;
 use std::alloc::Global;
 use std::fs;

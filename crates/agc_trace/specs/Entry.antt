@@ -7,7 +7,7 @@ use Rattle.agc_store.specs.Places.{a_cell, l_cell, q_cell, fb_cell}
 use Rattle.agc_store.specs.Registers.{register, z_of}
 use Rattle.agc_machine.specs.Boundary.{boundary, HasPlace, upcoming_of}
 use Rattle.agc_machine.specs.State.{State}
-use Rattle.agc_machine.specs.declared.answer.ChannelWrite.{ChannelWrite}
+use Rattle.agc_processor.specs.declared.channel_write.ChannelWrite.{ChannelWrite}
 use Rattle.agc_machine.specs.declared.answer.Stepped.{Stepped}
 use Rattle.agc_machine.specs.declared.answer.Stepped.TheVariants as stepped
 use Rattle.agc_trace.specs.declared.entry.Entry.{Entry}

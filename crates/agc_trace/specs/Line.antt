@@ -9,7 +9,7 @@ use Rattle.agc_processor.specs.Interrupt.{rupt_name}
 use Rattle.agc_processor.specs.Timer.{timer_name}
 use Rattle.agc_script.specs.Written.{what_text, word_digits}
 use Rattle.agc_machine.specs.Answer.{stop_name}
-use Rattle.agc_machine.specs.declared.answer.ChannelWrite.{ChannelWrite}
+use Rattle.agc_processor.specs.declared.channel_write.ChannelWrite.{ChannelWrite}
 use Rattle.agc_machine.specs.declared.upcoming.Upcoming.{Upcoming}
 use Rattle.agc_machine.specs.declared.upcoming.Upcoming.TheVariants as upcoming
 use Rattle.agc_rope_listing.specs.Order.{order_text}

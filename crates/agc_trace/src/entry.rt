@@ -3,7 +3,8 @@ ghost use Rattle.std.specs.Prelude.{◌≡◌, ◌<◌, None};
 ghost use Rattle.agc_machine.specs.Boundary.{boundary};
 ghost use Rattle.agc_trace.specs.Entry.{FitsLine, entry_of, registers_of, write_shown};
 
-use agc_machine::{ChannelWrite, Machine, Stepped, Upcoming};
+use agc_machine::{Machine, Stepped, Upcoming};
+use agc_processor::ChannelWrite;
 use agc_store::place::FB;
 use agc_store::{Addr, Store};
 use agc_word::{Narrow, Wide};

@@ -15,7 +15,8 @@ ghost use Rattle.agc_trace.specs.Line.{
 };
 
 use crate::entry::{Entry, Registers};
-use agc_machine::{ChannelWrite, InHand, Upcoming};
+use agc_machine::{InHand, Upcoming};
+use agc_processor::ChannelWrite;
 use agc_rope_listing::{Place, push_order, push_place};
 use agc_script::push_what;
 use agc_store::Addr;

@@ -1,6 +1,6 @@
 //! Command lines: the worked ones, defaults, and the two forms of an option.
 use agc_args::{ArgsFault, fault_of, not_text, parse_args};
-use agc_session::Options;
+use agc_options::Options;
 use agc_store::RopeForm;
 use clap::Command;
 use std::process::Abort;

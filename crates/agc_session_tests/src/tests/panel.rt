@@ -1,6 +1,6 @@
 //! The panel from known words: the worked panel, each digit code, each lamp alone.
-use agc_machine::ChannelWrite;
 use agc_panel::Panel;
+use agc_processor::ChannelWrite;
 use agc_word::Narrow;
 use std::process::Abort;
 use std::test::Fail;

@@ -7,8 +7,8 @@ mod told;
 ghost use Rattle.std.specs.Prelude.{◌≡◌};
 ghost use Rattle.agc_pipe.specs.Item.{IsOutside};
 
-use agc_machine::ChannelWrite;
 use agc_pipe::{Item, LinkFault, Receiver, Sender, Slots, Spacing, link, rejoin};
+use agc_processor::ChannelWrite;
 use agc_word::Narrow;
 use arrayvec::ArrayVec;
 use std::process::Abort;

@@ -1,7 +1,9 @@
 //! A session of each kind over memory: a run that stops, and a refusal; and the files of one.
+use agc_options::{DONE, Options, REFUSED};
 use agc_pipe::Open;
 use agc_script::{Event, FaultKind, ScriptFault, What};
-use agc_session::{DONE, Options, REFUSED, Refusal, read_rope, read_script, session};
+use agc_session::session;
+use agc_setup::{Refusal, read_rope, read_script};
 use agc_store::{RopeFault, RopeForm, Store};
 use agc_test_kit::{RELAY_WORD, rope_file};
 use std::process::Abort;

@@ -12,8 +12,9 @@ mod unread;
 mod until;
 
 use agc_args::parse_args;
+use agc_options::{DONE, Options, REFUSED};
 use agc_pipe::{Gate, Open};
-use agc_session::{DONE, Options, REFUSED, session};
+use agc_session::session;
 use agc_test_kit::{DIVISION, EDRUPT, IDLE, KEYED_WRITES, RELAY_WORD, WRITES, rope_file};
 use std::process::Abort;
 use std::sync::Wait;

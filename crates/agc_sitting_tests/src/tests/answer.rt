@@ -3,7 +3,8 @@ use agc_dialogue::{
     push_came_line, push_cell_lines, push_channel_line, push_end_line, push_error_line,
     push_fault_line, push_next_line, push_registers_line, push_write_line, push_writes_line,
 };
-use agc_machine::{ChannelWrite, Stop, Upcoming};
+use agc_machine::{Stop, Upcoming};
+use agc_processor::ChannelWrite;
 use agc_request::{CommandFault, CommandName, push_help};
 use agc_store::{Addr, Rope, Store};
 use agc_word::{Narrow, Wide, widen};

@@ -12,7 +12,7 @@ use agc_results::{
     film_files, list_rope, status_of_untraced, watch_files, weave_text,
 };
 use agc_rope_listing::LineFault;
-use agc_session::Refusal;
+use agc_setup::Refusal;
 use agc_source::{SourceFault, SourceTrouble};
 use agc_store::{RopeFault, RopeForm};
 use agc_study::{answer, last_cycle, write_report, write_told};

@@ -6,7 +6,7 @@ use Rattle.std.proofs.lemmas.Iterator.{YieldsList-from_map, items_from_collect}
 use Rattle.std.proofs.lemmas.Iterator.Consumers.{YieldsList-from_filter}
 use Rattle.std.proofs.lemmas.Iterator.Splits.{YieldsList-from_slice_split}
 use Rattle.agc_script.specs.Key.{key_named}
-use Rattle.agc_session.specs.Keys.{is_white, names_in}
+use Rattle.agc_setup.specs.Keys.{is_white, names_in}
 use Rattle.agc_check.proofs.key_report.found_keys.Goals as goal
 
 pub returns : goal.returns

@@ -1,6 +1,6 @@
 use Rattle.std.proofs.Common.{◌≤◌, length, arith}
 use Rattle.std.proofs.lemmas.Result.{IfOk-weaker, IfErr-weaker}
-use Rattle.agc_session.proofs.Whole.{of_all}
+use Rattle.agc_setup.proofs.Whole.{of_all}
 use Rattle.agc_front.specs.Names.{AreNames}
 use Rattle.agc_front.proofs.NamesFile.{names_refused}
 use Rattle.agc_front.proofs.names.read_names.Goals as goal

@@ -1,6 +1,7 @@
 //! Whole runs: their channel writes, their limits and their stops.
 use super::*;
-use agc_machine::{ChannelWrite, LimitFault, Refused, StopAddress};
+use agc_machine::{LimitFault, Refused, StopAddress};
+use agc_processor::ChannelWrite;
 use agc_store::Store;
 use agc_test_kit::{DIVISION, IDLE, RELAY_WORD, WRITES};
 use agc_word::Narrow;

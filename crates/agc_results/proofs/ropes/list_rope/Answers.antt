@@ -3,8 +3,8 @@ use Rattle.std.specs.Prelude.{string_bytes}
 use Rattle.agc_store.specs.Cells.{start_memory}
 use Rattle.agc_store.specs.Memory.{Memory}
 use Rattle.agc_rope_listing.specs.List.{rope_text}
-use Rattle.agc_session.proofs.Denied.{rope_known_memory}
-use Rattle.agc_session.specs.Options.{said_by}
+use Rattle.agc_setup.proofs.Denied.{rope_known_memory}
+use Rattle.agc_setup.specs.Options.{said_by}
 use Rattle.agc_results.specs.Listed.{bank_named}
 use Rattle.agc_results.proofs.Whole.{listing}
 use Rattle.agc_results.proofs.ropes.list_rope.Goals as goal

@@ -2,7 +2,7 @@ use Rattle.std.proofs.Common.{ap}
 use Rattle.std.specs.Prelude.{string_bytes}
 use Rattle.agc_store.specs.Cells.{start_memory}
 use Rattle.agc_store.specs.Memory.{Memory}
-use Rattle.agc_session.proofs.Denied.{rope_known_memory}
+use Rattle.agc_setup.proofs.Denied.{rope_known_memory}
 use Rattle.agc_results.proofs.Unwoven.{source_of}
 use Rattle.agc_results.proofs.ropes.source_of_rope.Goals as goal
 

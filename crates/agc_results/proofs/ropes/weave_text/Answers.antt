@@ -1,6 +1,6 @@
 use Rattle.std.proofs.Common.{◌≤◌, length, arith}
 use Rattle.std.proofs.lemmas.Result.{IfOk-weaker, IfErr-weaker}
-use Rattle.agc_session.proofs.Whole.{of_all}
+use Rattle.agc_setup.proofs.Whole.{of_all}
 use Rattle.agc_results.specs.Listed.{IsWoven}
 use Rattle.agc_results.proofs.Whole.{weave_refused}
 use Rattle.agc_results.proofs.ropes.weave_text.Goals as goal

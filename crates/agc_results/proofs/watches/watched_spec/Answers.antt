@@ -3,8 +3,8 @@ use Rattle.std.specs.Prelude.{option_map}
 use Rattle.agc_executive.specs.WatchSpec.{spec_of, watch_fault_of}
 use Rattle.agc_executive.specs.declared.watch_spec.WatchFault.{WatchFault}
 use Rattle.agc_executive.specs.declared.watch_spec.WatchSpec.{WatchSpec}
-use Rattle.agc_session.specs.Prepare.{tables_refusal}
-use Rattle.agc_session.specs.declared.refusal.Refusal.TheVariants as refusal
+use Rattle.agc_setup.specs.Prepare.{tables_refusal}
+use Rattle.agc_setup.specs.declared.refusal.Refusal.TheVariants as refusal
 use Rattle.agc_results.specs.Watched.{refused_of, watch_refusal}
 use Rattle.agc_results.proofs.watches.watched_spec.Goals as goal
 

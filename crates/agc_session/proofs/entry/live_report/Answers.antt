@@ -1,11 +1,11 @@
 use Rattle.std.specs.Prelude.{Err}
 use Rattle.std.proofs.lemmas.Result.{IfErr-weaker, err_from_is_err_and}
 use Rattle.agc_session.specs.Entry.{IsKeysReport}
-use Rattle.agc_session.specs.Files.{keys_steps}
-use Rattle.agc_session.specs.Prepare.{run_steps}
+use Rattle.agc_setup.specs.Files.{keys_steps}
+use Rattle.agc_setup.specs.Prepare.{run_steps}
 use Rattle.agc_session.proofs.Printed.{with_keys}
 use Rattle.agc_session.proofs.Refused.{run_told}
-use Rattle.agc_session.proofs.Told.{known_any, known_first, known_later}
+use Rattle.agc_setup.proofs.Told.{known_any, known_first, known_later}
 use Rattle.agc_session.proofs.entry.live_report.Goals as goal
 
 pub returns-in_err-keys-clause-report : goal.returns-in_err-keys-clause-report

@@ -1,8 +1,8 @@
 use Rattle.std.proofs.lemmas.Result.{IfErr-weaker, err_from_is_err_and}
 use Rattle.agc_session.specs.Entry.{IsRunReport}
-use Rattle.agc_session.specs.Prepare.{run_steps}
+use Rattle.agc_setup.specs.Prepare.{run_steps}
 use Rattle.agc_session.proofs.Refused.{run_told}
-use Rattle.agc_session.proofs.Told.{comes_of}
+use Rattle.agc_setup.proofs.Told.{comes_of}
 use Rattle.agc_session.proofs.entry.plain_report.Goals as goal
 
 pub returns-in_err-run : goal.returns-in_err-run

@@ -1,7 +1,7 @@
 //! Reads and writes that fail, each in turn.
 use super::streams::{Sink, Source};
 use super::*;
-use agc_session::UNWRITTEN;
+use agc_options::UNWRITTEN;
 
 /// Runs the relay word with `0 raise 1` and one live key, from sources of few bytes a read that
 /// fail at a read each.

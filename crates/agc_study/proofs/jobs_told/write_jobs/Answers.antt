@@ -7,7 +7,7 @@ use Rattle.agc_results.specs.Watched.{IsUnwatched, IsWatchRefused}
 use Rattle.agc_results.specs.declared.traces.Untraced.{Untraced}
 use Rattle.agc_results.specs.declared.traces.Untraced.TheVariants as untraced
 use Rattle.agc_results.specs.declared.trouble.Trouble.TheVariants as told
-use Rattle.agc_session.specs.declared.refusal.Refusal.{Refusal}
+use Rattle.agc_setup.specs.declared.refusal.Refusal.{Refusal}
 use Rattle.agc_trace.specs.declared.tracing.TraceFault.TheVariants as fault
 use Rattle.agc_study.proofs.jobs_told.write_jobs.Goals as goal
 

@@ -1,6 +1,6 @@
 use Rattle.std.specs.Prelude.{string_bytes}
-use Rattle.agc_session.proofs.Denied.{rope_known_memory}
-use Rattle.agc_session.specs.declared.refusal.Refusal.TheVariants as refusal
+use Rattle.agc_setup.proofs.Denied.{rope_known_memory}
+use Rattle.agc_setup.specs.declared.refusal.Refusal.TheVariants as refusal
 use Rattle.agc_results.specs.declared.trouble.Trouble.TheVariants as trouble
 use Rattle.agc_study.proofs.ropes_told.write_list.Goals as goal
 

@@ -4,7 +4,7 @@ use agc_asked::Tracing;
 use agc_machine::LimitFault;
 use agc_processor::Rupt;
 use agc_results::{Untraced, remark_service, status_of_untraced, trace_files};
-use agc_session::{ROPE_BYTES, ReadFault};
+use agc_setup::{ROPE_BYTES, ReadFault};
 use agc_test_kit::rope_file;
 use agc_trace::{Selection, Service, TraceFault};
 use std::io::{self, ErrorKind, Write};

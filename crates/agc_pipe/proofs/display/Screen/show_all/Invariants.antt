@@ -1,5 +1,5 @@
 use Rattle.std.proofs.Common.{◌≡◌, false, List, ◌++◌, take}
-use Rattle.agc_machine.specs.declared.answer.ChannelWrite.{ChannelWrite}
+use Rattle.agc_processor.specs.declared.channel_write.ChannelWrite.{ChannelWrite}
 use Rattle.agc_pipe.specs.Screen.{IsShowing}
 use Rattle.agc_pipe.specs.Shown.{has_end, shown_in}
 use Rattle.agc_pipe.proofs.display.Screen.show_all.Given as goal

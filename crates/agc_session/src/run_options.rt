@@ -1,0 +1,117 @@
+//! Before the run: the options of the ring, of live keys and of the watcher are looked at.
+ghost use Rattle.std.specs.Prelude.{◌≡◌, ◌⊎◌, false, true, IfOk, OnOk, MatchResult, None, Some};
+ghost use Rattle.agc_executive.specs.WatchSpec.{spec_of};
+ghost use Rattle.agc_setup.specs.Options.{said_by};
+ghost use Rattle.agc_setup.specs.Prepare.{run_steps, slots_refusal, spacing_refusal, tables_refusal};
+ghost use Rattle.agc_setup.specs.Steps.{IsTold, refusal_in};
+ghost use Rattle.agc_setup.specs.declared.refusal.Refusal.TheVariants as refusal;
+
+use crate::run::show_refusal;
+use agc_executive::{CheckedSpec, WatchSpec};
+use agc_options::Options;
+use agc_pipe::{Slots, Spacing, try_thread};
+use agc_setup::Refusal;
+use std::thread::Threads;
+
+/// What a run goes by, once its options were looked at.
+#[derive(Drop)]
+pub struct RunOptions {
+    pub slots: Slots,
+    /// The tables that the watcher prints.
+    pub watch: Option<CheckedSpec>,
+}
+
+/// Looks at the options of the run itself, where no keys are live. Whether tables can be watched is
+/// known before the run, so a long run is not made in vain; a thread that cannot be had is told before
+/// them, as it is where a run is made.
+#[tactic(auto, unfolding(agc_setup::specs::Prepare::run_steps, agc_setup::specs::Prepare::spacing_refusal))]
+pub fn check_run<H: Threads>(
+    rt: &H,
+    options: &Options,
+    watch: &Option<WatchSpec>,
+) -> Result<RunOptions, Refusal>
+    requires live { options.now.live ≡ false }
+    requires watch { watch.now ≡ said_by spec_of options.now.watch }
+    ensures checked { MatchResult result (λ _. refusal_in (run_steps options.now) ≡ None)
+        (IsTold (run_steps options.now)) }
+    ensures slots { OnOk result (slots_refusal options.now.slots ≡ None) }
+    ensures spacing { OnOk result (spacing_refusal options.now.live options.now.spacing ≡ None) }
+    ensures tables { OnOk result (tables_refusal watch.now ≡ None) }
+    ensures ring { IfOk result (λ run. run.slots ≡ options.now.slots) }
+    ensures watch { IfOk result (λ run. run.watch ≡ watch.now) }
+{
+    let slots = checked_slots(options.slots)?;
+    let watch = checked_tables(rt, watch)?;
+    Ok(RunOptions { slots, watch })
+}
+
+/// Looks at the options of the run itself, with live keys.
+#[tactic(auto, unfolding(agc_setup::specs::Prepare::run_steps))]
+pub fn check_live_run<H: Threads>(
+    rt: &H,
+    options: &Options,
+    watch: &Option<WatchSpec>,
+) -> Result<(RunOptions, Spacing), Refusal>
+    requires live { options.now.live ≡ true }
+    requires watch { watch.now ≡ said_by spec_of options.now.watch }
+    ensures checked { MatchResult result (λ _. refusal_in (run_steps options.now) ≡ None)
+        (IsTold (run_steps options.now)) }
+    ensures slots { OnOk result (slots_refusal options.now.slots ≡ None) }
+    ensures spacing { OnOk result (spacing_refusal options.now.live options.now.spacing ≡ None) }
+    ensures tables { OnOk result (tables_refusal watch.now ≡ None) }
+    ensures apart { IfOk result (λ checked. checked.1 ≡ options.now.spacing) }
+    ensures ring { IfOk result (λ checked. checked.0.slots ≡ options.now.slots) }
+    ensures watch { IfOk result (λ checked. checked.0.watch ≡ watch.now) }
+{
+    let slots = checked_slots(options.slots)?;
+    let spacing = checked_spacing(options.spacing)?;
+    let watch = checked_tables(rt, watch)?;
+    Ok((RunOptions { slots, watch }, spacing))
+}
+
+#[tactic(auto, unfolding(agc_setup::specs::Prepare::slots_refusal))]
+fn checked_slots(slots: usize) -> Result<Slots, Refusal>
+    ensures checked { MatchResult result (λ _. slots_refusal slots ≡ None)
+        (λ refusal. slots_refusal slots ≡ Some refusal) }
+    ensures slots { IfOk result (λ checked. checked ≡ slots) }
+{
+    match Slots::new(slots) {
+        Ok(slots) => Ok(slots),
+        Err(_) => Err(Refusal::Slots),
+    }
+}
+
+#[tactic(auto, unfolding(agc_setup::specs::Prepare::spacing_refusal))]
+fn checked_spacing(spacing: u64) -> Result<Spacing, Refusal>
+    ensures checked { MatchResult result (λ _. spacing_refusal true spacing ≡ None)
+        (λ refusal. spacing_refusal true spacing ≡ Some refusal) }
+    ensures spacing { IfOk result (λ checked. checked ≡ spacing) }
+{
+    match Spacing::new(spacing) {
+        Some(spacing) => Ok(spacing),
+        None => Err(Refusal::Spacing),
+    }
+}
+
+#[tactic(auto, unfolding(agc_setup::specs::Prepare::tables_refusal))]
+fn checked_tables<H: Threads>(
+    rt: &H,
+    watch: &Option<WatchSpec>,
+) -> Result<Option<CheckedSpec>, Refusal>
+    ensures checked { MatchResult result (λ _. tables_refusal watch.now ≡ None)
+        (λ r. (r ≡ refusal.Thread) ⊎ (tables_refusal watch.now ≡ Some r)) }
+    ensures watch { IfOk result (λ checked. checked ≡ watch.now) }
+{
+    let Some(spec) = watch else {
+        return Ok(None);
+    };
+    match spec.checked() {
+        Ok(checked) => Ok(Some(checked)),
+        Err(fault) => {
+            if let Err(fault) = try_thread(rt) {
+                return Err(show_refusal(fault));
+            }
+            Err(Refusal::Watch(fault))
+        }
+    }
+}

@@ -1,0 +1,4 @@
+pub mod Denied
+pub mod There
+pub mod Told
+pub mod Whole

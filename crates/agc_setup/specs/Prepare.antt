@@ -1,0 +1,61 @@
+-- How the options of a session are refused, before its run.
+use Rattle.std.specs.Prelude.{ℕ, ◌==◌, ◌||◌, ◌&&◌, nat_lt, if◌then◌else◌, Bool, List, [], ◌∷◌}
+use Rattle.std.specs.Prelude.{Option, Some, None, option_map, option_and_then}
+use Rattle.std.specs.declared.alloc.Global.{Global}
+use Rattle.std.specs.declared.string.String.{String}
+use Rattle.agc_machine.specs.StopAddress.{stop_address_of}
+use Rattle.agc_machine.specs.declared.machine.LimitFault.TheVariants as limit
+use Rattle.agc_executive.specs.WatchSpec.{spec_of, watch_fault_of}
+use Rattle.agc_executive.specs.declared.watch_spec.WatchSpec.{WatchSpec}
+use Rattle.agc_executive.specs.declared.watch_spec.WatchFault.TheVariants as watch
+use Rattle.agc_setup.specs.Options.{said_by, says_nothing}
+use Rattle.agc_setup.specs.Steps.{Step, asks, looks, refused_if}
+use Rattle.agc_options.specs.declared.options.Options.{Options}
+use Rattle.agc_setup.specs.declared.refusal.Refusal.{Refusal}
+use Rattle.agc_setup.specs.declared.refusal.Refusal.TheVariants as refusal
+
+-- a limit is 1 to 1,000,000,000,000 cycles
+unfoldable pub limit_refusal : ℕ → Option Refusal
+limit_refusal cycles =
+    if cycles == 0 then Some (refusal.Limit limit.Zero)
+    else if nat_lt 1000000000000 cycles then Some (refusal.Limit limit.TooLarge)
+    else None
+
+unfoldable pub watch_spec_refusal : Options → Option Refusal
+watch_spec_refusal options = refused_if (says_nothing spec_of options.watch) refusal.BadWatchSpec
+
+-- the text of a stop address says one, where it is given
+unfoldable pub until_refusal : Option (String Global) → Option Refusal
+until_refusal until = refused_if (says_nothing stop_address_of until) refusal.BadUntilSpec
+
+unfoldable pub machine_steps : Options → List Step
+machine_steps options =
+    looks (limit_refusal options.limit)
+    ∷ looks (watch_spec_refusal options)
+    ∷ looks (until_refusal options.until)
+    ∷ []
+
+-- the steps to a machine where no tables are watched
+unfoldable pub start_steps : Option (String Global) → ℕ → List Step
+start_steps until limit = looks (limit_refusal limit) ∷ looks (until_refusal until) ∷ []
+
+-- a ring has 1 to 65,536 slots
+unfoldable pub slots_refusal : ℕ → Option Refusal
+slots_refusal slots = refused_if ((slots == 0) || nat_lt 65536 slots) refusal.Slots
+
+-- live keys are at least a cycle apart
+unfoldable pub spacing_refusal : Bool → ℕ → Option Refusal
+spacing_refusal live spacing = refused_if (live && (spacing == 0)) refusal.Spacing
+
+unfoldable pub tables_refusal : Option WatchSpec → Option Refusal
+tables_refusal watch = option_map refusal.Watch (option_and_then watch_fault_of watch)
+
+unfoldable pub run_steps : Options → List Step
+run_steps options =
+    looks (slots_refusal options.slots)
+    ∷ looks (spacing_refusal options.live options.spacing)
+    ∷ asks refusal.Thread
+    ∷ looks (tables_refusal (said_by spec_of options.watch))
+    ∷ asks refusal.Memory
+    ∷ asks (refusal.Watch watch.Memory)
+    ∷ []

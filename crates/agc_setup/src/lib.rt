@@ -1,0 +1,13 @@
+//! Before a run: files, their bytes and options give a machine at its start, or the refusal that comes first.
+#![tactic(auto)]
+
+mod files;
+mod input;
+mod keys;
+mod prepare;
+mod refusal;
+
+pub use files::{read_keys, read_rope, read_script};
+pub use input::{InputFile, KEY_BYTES, ROPE_BYTES, ReadFault, SCRIPT_BYTES, Unread, read_limited};
+pub use prepare::{Prepared, prepare, start_machine};
+pub use refusal::Refusal;
