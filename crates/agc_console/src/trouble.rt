@@ -1,5 +1,5 @@
 //! What the program says where there is no session, or no end of one: a line.
-use agc_front::NamesRefusal;
+use agc_names_file::NamesRefusal;
 use agc_setup::Refusal;
 use std::fmt;
 use std::io::{self, Write};

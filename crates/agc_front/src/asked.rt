@@ -1,6 +1,6 @@
 //! What the words of a command line ask for.
 use agc_args::{ArgsFault, WordsFault, fault_of, mistaken_word, words_of};
-use clap::{ArgMatches, Command};
+use clap::{Arg, ArgMatches, Command};
 use std::alloc::{AllocError, Global};
 use std::rt::Env;
 
@@ -45,4 +45,14 @@ pub fn asked_by<'a, A: Asked>(alloc: Global, words: &'a [&'a str]) -> Result<A, 
         Ok(matches) => Ok(A::asked_in(alloc, &matches)?),
         Err(error) => Err(fault_of(alloc, &error)),
     }
+}
+
+/// The option that names a file of names.
+pub fn names_option<'a>(alloc: Global) -> Arg<'a> {
+    Arg::new(alloc, "names")
+        .long("names")
+        .value_name("FILE")
+        .help(
+            "Print the names of places too, which this file gives, and take them for places: a place and its name, a line each",
+        )
 }

@@ -2,9 +2,7 @@
 #![tactic(auto)]
 
 mod asked;
-mod names;
 mod start;
 
-pub use asked::{Asked, asked_by, asked_of};
-pub use names::{NamesRefusal, names_at, names_option, read_names};
+pub use asked::{Asked, asked_by, asked_of, names_option};
 pub use start::{Start, limit_option, sitting_for, start_in, text_in};

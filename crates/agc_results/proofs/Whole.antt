@@ -14,10 +14,6 @@ use Rattle.agc_source_words.specs.declared.fault.SourceTrouble.TheVariants as so
 use Rattle.agc_setup.proofs.Whole.{all_read, of_all}
 use Rattle.agc_setup.specs.Options.{said_by}
 use Rattle.agc_results.specs.Listed.{IsFaulty, IsListing, IsWeaveRefused, bank_named}
-use Rattle.agc_names.specs.Names.{names_in}
-use Rattle.agc_names.specs.declared.fault.NameTrouble.{NameTrouble}
-use Rattle.agc_names.specs.declared.fault.NameTrouble.TheVariants as names
-use Rattle.agc_results.specs.Named.{AreFaulty, AreNamesRefused}
 use Rattle.agc_results.specs.declared.trouble.Trouble.{Trouble}
 use Rattle.agc_results.specs.declared.trouble.Trouble.TheVariants as trouble
 use Rattle.agc_check.specs.declared.reports.Report.{Report}
@@ -36,13 +32,6 @@ pub weave_refused : (before after : Option (List ℕ)) (text : List ℕ) (t : Tr
 weave_refused before after text t c end few (source.Memory, is, named) = rw is tt
 weave_refused before after text t c end few (source.Line n why, is, named) =
     rw is (of_all before after text (λ all. IsFaulty all (source.Line n why)) c end (record { short = few; fault = named (λ h. cc) }))
-
--- a text of names that was read and is refused
-pub names_refused : (before after : Option (List ℕ)) (text : List ℕ) (t : Trouble) → Consumes before after text → IsAtEnd after → length text ≤ 16777216
-    → (why : NameTrouble) × (t ≡ trouble.Names why) × (why ≢ names.Memory → names_in text ≡ Err why) → AreNamesRefused before t
-names_refused before after text t c end few (names.Memory, is, named) = rw is tt
-names_refused before after text t c end few (names.Line n why, is, named) =
-    rw is (of_all before after text (λ all. AreFaulty all (names.Line n why)) c end (record { short = few; fault = named (λ h. cc) }))
 
 -- a report on the bytes of two files
 pub checked : (form : RopeForm) (rope rope_left script script_left : Option (List ℕ)) (rope_read script_read : List ℕ) (report : Report)

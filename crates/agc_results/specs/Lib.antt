@@ -1,5 +1,4 @@
 pub mod Trouble
-pub mod Named
 pub mod Listed
 pub mod Sourced
 pub mod Checked

@@ -2,9 +2,7 @@
 use Rattle.std.specs.Prelude.{ℕ, List, ◌++◌, Option, codes}
 use Rattle.std.specs.Fmt.{decimal}
 use Rattle.std.specs.Io.KnownBytes.{Appends}
-use Rattle.agc_names.specs.Told.{fault_name}
-use Rattle.agc_names.specs.declared.fault.NameTrouble.{NameTrouble}
-use Rattle.agc_names.specs.declared.fault.NameTrouble.TheVariants as names
+use Rattle.agc_names_file.specs.NamesFile.{names_refusal_text}
 use Rattle.agc_setup.specs.Refusal.{refusal_text}
 use Rattle.agc_setup.specs.declared.refusal.Refusal.{Refusal}
 use Rattle.agc_setup.specs.declared.refusal.Refusal.TheVariants as refusal
@@ -18,10 +16,6 @@ abbrev pub weave_text : SourceTrouble → List ℕ
 weave_text (source.Line n why) = codes "text line " ++ decimal n ++ codes ": " ++ fault_text why
 weave_text source.Memory = codes "memory"
 
-abbrev pub names_text : NameTrouble → List ℕ
-names_text (names.Line n why) = codes "names: " ++ fault_name why ++ codes " at line " ++ decimal n
-names_text names.Memory = codes "memory"
-
 -- what is told: a refusal in the words of `agc`, after the run where it is that on the right
 abbrev pub trouble_text : Trouble → List ℕ
 trouble_text (trouble.Refused r) = refusal_text r
@@ -29,8 +23,7 @@ trouble_text (trouble.OtherRefused r) = codes "other run: " ++ refusal_text r
 trouble_text trouble.CannotReadText = codes "cannot read text"
 trouble_text (trouble.Text fault) = weave_text fault
 trouble_text trouble.BadBankSpec = codes "bank: BadSpec"
-trouble_text trouble.CannotReadNames = codes "cannot read names"
-trouble_text (trouble.Names why) = names_text why
+trouble_text (trouble.Unnamed r) = names_refusal_text r
 
 -- the line of a trouble
 abbrev pub trouble_line : Trouble → List ℕ

@@ -4,7 +4,7 @@ ghost use Rattle.std.specs.Io.KnownBytes.{Appends};
 ghost use Rattle.agc_results.specs.Trouble.{other_trouble, trouble_line};
 ghost use Rattle.agc_results.specs.declared.trouble.Trouble.TheVariants as told;
 
-use agc_names::NameTrouble;
+use agc_names_file::NamesRefusal;
 use agc_options::status_of;
 use agc_setup::Refusal;
 use agc_source::SourceTrouble;
@@ -27,10 +27,8 @@ pub enum Trouble {
     Text(SourceTrouble),
     /// The text of `--bank` is no bank.
     BadBankSpec,
-    /// The file of names cannot be opened or read, or has more than 16,777,216 bytes.
-    CannotReadNames,
-    /// The text is none of names.
-    Names(NameTrouble),
+    /// The file of names is at fault.
+    Unnamed(NamesRefusal),
 }
 
 impl Trouble {
@@ -89,11 +87,7 @@ impl fmt::Display for Trouble {
             }
             Trouble::Text(SourceTrouble::Memory) => f.write_str("memory"),
             Trouble::BadBankSpec => f.write_str("bank: BadSpec"),
-            Trouble::CannotReadNames => f.write_str("cannot read names"),
-            Trouble::Names(NameTrouble::Line(line, fault)) => {
-                write!(f, "names: {fault} at line {line}")
-            }
-            Trouble::Names(NameTrouble::Memory) => f.write_str("memory"),
+            Trouble::Unnamed(refusal) => write!(f, "{refusal}"),
         }
     }
 }

@@ -9,8 +9,9 @@ ghost use Rattle.agc_results.specs.declared.trouble.Trouble.TheVariants as told;
 
 use agc_asked::{Listing, Weaving};
 use agc_names::{NameTable, text_with_names};
+use agc_names_file::names_at;
 use agc_options::{DONE, UNWRITTEN, status_of};
-use agc_results::{Trouble, list_rope, misnamed_line, names_at, weave_text};
+use agc_results::{Trouble, list_rope, misnamed_line, weave_text};
 use agc_setup::{InputFile, Refusal};
 use agc_source::{Misnamed, name_lines};
 use agc_store::RopeForm;
@@ -29,7 +30,7 @@ where
 {
     let names = match names_at(rt, &listing.names) {
         Ok(names) => names,
-        Err(trouble) => return trouble.tell_to(err),
+        Err(refusal) => return Trouble::Unnamed(refusal).tell_to(err),
     };
     let mut rope = InputFile::new(fs::open(rt, listing.rope.as_str()));
     write_list(

@@ -14,10 +14,11 @@ use agc_asked::{Comparing, NAME, Tracing};
 use agc_compare::SideNames;
 use agc_machine::{Machine, Upcoming};
 use agc_names::NameTable;
+use agc_names_file::names_at;
 use agc_options::{DONE, status_of};
 use agc_progress::Shown;
 use agc_results::{
-    TROUBLE, Told, Traced, Trouble, compare_files, name_until, names_at, place, remark_service,
+    TROUBLE, Told, Traced, Trouble, compare_files, name_until, place, remark_service,
     status_of_untraced, trace_files,
 };
 use agc_setup::{InputFile, Refusal};
@@ -50,7 +51,7 @@ where
 {
     let names = match names_at(rt, &tracing.names) {
         Ok(names) => names,
-        Err(trouble) => return trouble.tell_to(err),
+        Err(refusal) => return Trouble::Unnamed(refusal).tell_to(err),
     };
     if let Err(fault) = place(rt.alloc(), &names, tracing) {
         return end_mistaken(NAME, fault, TROUBLE, out, err);
@@ -143,11 +144,11 @@ where
 {
     let names = match names_at(rt, &asked.names) {
         Ok(names) => names,
-        Err(trouble) => return trouble.tell_to(err),
+        Err(refusal) => return Trouble::Unnamed(refusal).tell_to(err),
     };
     let other_names = match names_at(rt, &asked.other_names) {
         Ok(names) => names,
-        Err(trouble) => return trouble.tell_to(err),
+        Err(refusal) => return Trouble::Unnamed(refusal).tell_to(err),
     };
     if name_until(rt.alloc(), &names, &mut asked.until).is_err() {
         return Trouble::Refused(Refusal::Memory).tell_to(err);

@@ -3,7 +3,7 @@ use agc_names::{
     NameFault, NameTable, NameTrouble, place_said, push_column, push_name_line, push_named,
     text_with_names,
 };
-use agc_results::{Trouble, read_names};
+use agc_names_file::{NamesRefusal, read_names};
 use agc_source_words::Location;
 use agc_trace::{Places, PlacesFault};
 use std::process::Abort;
@@ -53,7 +53,7 @@ fn each_fault_is_told(rt: HostRuntime) {
         let refused = read_names(rt.alloc(), &mut text).err();
         assert_eq!(rt;
             refused,
-            Some(Trouble::Names(NameTrouble::Line(line, fault)))
+            Some(NamesRefusal::Names(NameTrouble::Line(line, fault)))
         );
     }
 }

@@ -1,9 +1,9 @@
 use Rattle.std.proofs.Common.{◌≤◌, length, arith}
 use Rattle.std.proofs.lemmas.Result.{IfOk-weaker, IfErr-weaker}
 use Rattle.agc_setup.proofs.Whole.{of_all}
-use Rattle.agc_front.specs.Names.{AreNames}
-use Rattle.agc_front.proofs.NamesFile.{names_refused}
-use Rattle.agc_front.proofs.names.read_names.Goals as goal
+use Rattle.agc_names_file.specs.NamesFile.{AreNames}
+use Rattle.agc_names_file.proofs.Refused.{names_refused}
+use Rattle.agc_names_file.proofs.names_file.read_names.Goals as goal
 
 pub returns-clause-names : goal.returns-clause-names
 returns-clause-names g c =

@@ -6,9 +6,9 @@ use Rattle.agc_names.specs.Names.{names_in}
 use Rattle.agc_names.specs.declared.fault.NameTrouble.{NameTrouble}
 use Rattle.agc_names.specs.declared.fault.NameTrouble.TheVariants as trouble
 use Rattle.agc_setup.proofs.Whole.{of_all}
-use Rattle.agc_front.specs.Names.{AreFaulty, IsRefused}
-use Rattle.agc_front.specs.declared.names.NamesRefusal.{NamesRefusal}
-use Rattle.agc_front.specs.declared.names.NamesRefusal.TheVariants as refusal
+use Rattle.agc_names_file.specs.NamesFile.{AreFaulty, IsRefused}
+use Rattle.agc_names_file.specs.declared.names_file.NamesRefusal.{NamesRefusal}
+use Rattle.agc_names_file.specs.declared.names_file.NamesRefusal.TheVariants as refusal
 
 pub names_refused : (before after : Option (List ℕ)) (text : List ℕ) (t : NamesRefusal) → Consumes before after text → IsAtEnd after → length text ≤ 16777216
     → (why : NameTrouble) × (t ≡ refusal.Names why) × (why ≢ trouble.Memory → names_in text ≡ Err why) → IsRefused before t

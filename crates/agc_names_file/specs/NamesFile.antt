@@ -5,8 +5,8 @@ use Rattle.agc_names.specs.Names.{Named, names_in}
 use Rattle.agc_names.specs.Told.{fault_name}
 use Rattle.agc_names.specs.declared.fault.NameTrouble.{NameTrouble}
 use Rattle.agc_names.specs.declared.fault.NameTrouble.TheVariants as trouble
-use Rattle.agc_front.specs.declared.names.NamesRefusal.{NamesRefusal}
-use Rattle.agc_front.specs.declared.names.NamesRefusal.TheVariants as refusal
+use Rattle.agc_names_file.specs.declared.names_file.NamesRefusal.{NamesRefusal}
+use Rattle.agc_names_file.specs.declared.names_file.NamesRefusal.TheVariants as refusal
 
 -- a text has 16,777,216 bytes at most, and these are its names
 pub record AreNames (text : List ℕ) (named : List Named) : Type 0 where
@@ -32,6 +32,6 @@ names_text (trouble.Line n why) =
     codes "names: " ++ fault_name why ++ codes " at line " ++ decimal n
 names_text trouble.Memory = codes "memory"
 
-abbrev pub refusal_text : NamesRefusal → List ℕ
-refusal_text refusal.CannotRead = codes "cannot read names"
-refusal_text (refusal.Names why) = names_text why
+abbrev pub names_refusal_text : NamesRefusal → List ℕ
+names_refusal_text refusal.CannotRead = codes "cannot read names"
+names_refusal_text (refusal.Names why) = names_text why

@@ -3,12 +3,11 @@ ghost use Rattle.std.specs.Prelude.{◌≡◌, ◌≢◌, Err, IfErr, IfOk, IfSo
 ghost use Rattle.agc_names.specs.Names.{names_in};
 ghost use Rattle.agc_names.specs.declared.fault.NameTrouble.{NameTrouble};
 ghost use Rattle.agc_names.specs.declared.fault.NameTrouble.TheVariants as trouble;
-ghost use Rattle.agc_front.specs.Names.{AreNames, IsRefused};
-ghost use Rattle.agc_front.specs.declared.names.NamesRefusal.TheVariants as refusal;
+ghost use Rattle.agc_names_file.specs.NamesFile.{AreNames, IsRefused};
+ghost use Rattle.agc_names_file.specs.declared.names_file.NamesRefusal.TheVariants as refusal;
 
 use agc_names::{NameTable, NameTrouble};
 use agc_setup::{InputFile, SCRIPT_BYTES, Unread, read_limited};
-use clap::Arg;
 use std::alloc::Global;
 use std::error::Error;
 use std::io::Read;
@@ -26,9 +25,9 @@ pub enum NamesRefusal {
 
 impl fmt::Display for NamesRefusal {
     ghost use Rattle.std.specs.Prelude.{Some};
-    ghost use Rattle.agc_front.specs.Names.{refusal_text};
+    ghost use Rattle.agc_names_file.specs.NamesFile.{names_refusal_text};
 
-    ghost output = { λ r. Some (refusal_text r) };
+    ghost output = { λ r. Some (names_refusal_text r) };
 
     fn fmt<W: fmt::Write>(&self, f: &mut fmt::Formatter<W>) -> fmt::Result {
         match *self {
@@ -42,16 +41,6 @@ impl fmt::Display for NamesRefusal {
 }
 
 impl Error for NamesRefusal {}
-
-/// The option that names a file of names.
-pub fn names_option<'a>(alloc: Global) -> Arg<'a> {
-    Arg::new(alloc, "names")
-        .long("names")
-        .value_name("FILE")
-        .help(
-            "Print the names of places too, which this file gives, and take them for places: a place and its name, a line each",
-        )
-}
 
 /// Reads a text of names. It is refused where it cannot be read, has more than `SCRIPT_BYTES` bytes or a faulty line, or
 /// where memory runs out.
