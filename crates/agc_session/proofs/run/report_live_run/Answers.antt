@@ -5,12 +5,12 @@ use Rattle.agc_session.proofs.Channels.{run_in_range}
 use Rattle.agc_session.proofs.run.report_live_run.Goals as goal
 
 pub report_shown-requires-clause-channels : goal.report_shown-requires-clause-channels
-report_shown-requires-clause-channels g c = rw c.in_ok-shown.ensures.live.shown.log (run_in_range (replayed c.in_ok-shown.field-0.tape c.args.machine))
+report_shown-requires-clause-channels g c = rw c.in-Ok.ensures.live.shown.log (run_in_range (replayed c.in-Ok.live.tape c.args.machine))
 
 pub returns-clause-report : goal.returns-clause-report
 returns-clause-report g c =
-    let live = c.in_ok-shown.field-0 in
-    let left = c.in_ok-shown.ensures.live in
+    let live = c.in-Ok.live in
+    let left = c.in-Ok.ensures.live in
     let run = run_of (replayed live.tape c.args.machine) in
     let count : c.len-left.result ≡ length live.rest.items = c.len-left.ensures ∙ live.rest.ok.0 in
     let reported = rw count at (c.report_shown.ensures run left.shown) in

@@ -3,7 +3,7 @@ use Rattle.agc_session.proofs.Channels.{run_in_range}
 use Rattle.agc_session.proofs.run.report_run.Goals as goal
 
 pub report_shown-requires-clause-channels : goal.report_shown-requires-clause-channels
-report_shown-requires-clause-channels g c = rw c.in_ok-shown.ensures.shown.log (run_in_range c.args.machine)
+report_shown-requires-clause-channels g c = rw c.in-Ok.ensures.shown.log (run_in_range c.args.machine)
 
-pub returns-clause-report : goal.returns-clause-report
-returns-clause-report g c = c.report_shown.ensures (run_of c.args.machine) c.in_ok-shown.ensures.shown
+pub returns-in-Ok-clause-report : goal.returns-in-Ok-clause-report
+returns-in-Ok-clause-report g c = c.report_shown.ensures (run_of c.args.machine) c.in-Ok.ensures.shown
