@@ -11,6 +11,7 @@ ghost use Rattle.agc_check.specs.Holdings.{
 };
 
 use agc_script::Script;
+use agc_store::place::FIXED_WORDS;
 use agc_store::{Rope, Store};
 
 /// How much of a rope is woven.
@@ -61,7 +62,7 @@ pub(crate) fn holdings_in(store: &Store) -> RopeHoldings
 fn word_count(store: &Store) -> usize
     ensures { result ≡ word_count store.now.fixed }
 {
-    (0..36864)
+    (0..FIXED_WORDS as usize)
         .filter(|place| is_woven_at(store, *place))
         .count()
 }
@@ -83,15 +84,12 @@ fn has_words(store: &Store, bank: usize) -> bool
 }
 
 /// Whether the word at a place, 2000 octal times its bank plus its offset, is not +0.
-#[tactic(auto, unfolding(agc_store::specs::Cells::fixed_of, crate::specs::Holdings::is_woven_at))]
+#[tactic(auto, unfolding(crate::specs::Holdings::is_woven_at))]
 pub(crate) fn is_woven_at(store: &Store, place: usize) -> bool
     requires { place < 36864 }
     ensures { result ≡ is_woven_at store.now.fixed place }
 {
-    store
-        .fixed((place / 0o2000) as u8, (place % 0o2000) as u16)
-        .bits()
-        != 0
+    store.fixed_at(place).bits() != 0
 }
 
 /// Counts the events of a script.

@@ -7,8 +7,9 @@ ghost use Rattle.agc_check.specs.RopeReport.{rope_holdings_text, rope_report, ro
 
 use crate::holdings::{RopeHoldings, holdings_in};
 use crate::vectors::push_vectors;
-use agc_rope_listing::{Place, push_place};
+use agc_rope_listing::{Place, listed_address, push_place};
 use agc_setup::Refusal;
+use agc_store::place::place_of;
 use agc_store::{Rope, RopeFault, RopeForm, Store};
 use agc_word::Narrow;
 use std::alloc::{AllocError, Global};
@@ -104,18 +105,8 @@ fn push_parity_why(text: &mut String, file: &[u8], bank: u8, offset: u16) -> Res
     ensures { OnOk result
         (string_bytes text.new ≡ string_bytes text.old ++ parity_why file.now bank offset) }
 {
-    let place = place_of(bank, offset);
+    let place = place_of(bank, offset) as usize;
     push_bad_word(text, bank, listed_address(place), word_in_file(file, place))
-}
-
-/// The place of an offset in a bank of the rope.
-fn place_of(bank: u8, offset: u16) -> usize
-    requires bank { bank < 36 }
-    requires offset { offset < 0o2000 }
-    ensures place { result ≡ 0o2000 * bank + offset }
-    ensures range { result < 36864 }
-{
-    0o2000 * usize::from(bank) + usize::from(offset)
 }
 
 /// Adds a place of a fixed bank and the word that stands there in the file.
@@ -158,18 +149,4 @@ fn byte_at(file: &[u8], place: usize) -> u8
     ensures { result ≡ get_or file.now place 0 }
 {
     file.get(place).copied().unwrap_or(0)
-}
-
-/// The address under which listings name a place of the rope.
-#[tactic(auto, unfolding(agc_rope_listing::specs::List::listed_address))]
-fn listed_address(place: usize) -> u16
-    requires { place < 36864 }
-    ensures address { result ≡ listed_address place }
-    ensures range { result < 0o10000 }
-{
-    if 0o4000 <= place && place < 0o10000 {
-        place as u16
-    } else {
-        (0o2000 + place % 0o2000) as u16
-    }
 }
