@@ -17,3 +17,4 @@ pub mod Differ
 pub mod Alone
 pub mod Together
 pub mod Apart
+pub mod Watching

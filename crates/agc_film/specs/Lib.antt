@@ -2,6 +2,7 @@ pub mod Frames
 pub mod Way
 pub mod Presses
 pub mod Reel
+pub mod Watched
 pub mod Packed
 pub mod Parting
 pub mod Title

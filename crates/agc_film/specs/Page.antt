@@ -6,6 +6,7 @@ use Rattle.std.specs.List.{concat}
 use Rattle.agc_machine.specs.declared.answer.Stop.{Stop}
 use Rattle.agc_executive.specs.TablesText.{numbered}
 use Rattle.agc_machine.specs.Answer.{stop_name}
+use Rattle.agc_page.specs.Tables.{tail_text}
 use Rattle.agc_film.specs.Parting.{first_difference}
 use Rattle.agc_film.specs.Packed.{Packed, packed}
 use Rattle.agc_film.specs.Presses.{button_name}
@@ -70,13 +71,15 @@ parting_block cycle =
     codes "<script type=\"text/plain\" id=\"parting\">" ++ parting_name cycle
     ++ codes "</script>\n"
 
--- the page of one run
-unfoldable pub film_text : List ℕ → List ℕ → ℕ → RunFiles → Reel → List ℕ
-film_text head tail limit files reel = head ++ block_text (codes "left") limit files reel ++ tail
+-- the page of one run, with its tables where they are watched
+unfoldable pub film_text : List ℕ → List ℕ → List ℕ → ℕ → RunFiles → Reel → List ℕ
+film_text head script tail limit files reel =
+    head ++ block_text (codes "left") limit files reel ++ tail_text script tail reel.tables None
 
--- the page of two runs side by side
-unfoldable pub film_pair_text : List ℕ → List ℕ → ℕ → RunFiles → Reel → RunFiles → Reel → List ℕ
-film_pair_text head tail limit left_files left right_files right =
+-- the page of two runs side by side, each with its tables where they are watched
+unfoldable pub film_pair_text : List ℕ → List ℕ → List ℕ → ℕ → RunFiles → Reel → RunFiles → Reel → List ℕ
+film_pair_text head script tail limit left_files left right_files right =
     head ++ block_text (codes "left") limit left_files left
     ++ block_text (codes "right") limit right_files right
-    ++ parting_block (first_difference left.frames.items right.frames.items) ++ tail
+    ++ parting_block (first_difference left.frames.items right.frames.items)
+    ++ tail_text script tail left.tables right.tables

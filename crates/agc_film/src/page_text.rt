@@ -6,16 +6,16 @@ ghost use Rattle.agc_film.specs.Page.{end_text, press_text, reel_end_text, reel_
 
 use crate::frame::Frame;
 use crate::packing::push_frames;
-use crate::page::HEAD;
-use crate::page_script::TAIL;
 use crate::parting::first_difference;
 use crate::press::Press;
 use crate::reel::Reel;
 use crate::title::{RunFiles, push_title};
 use agc_machine::Stop;
+use agc_page::{HEAD, TABLES, TAIL, push_tail};
 use std::alloc::AllocError;
 
-/// Adds the page of one run, with the names of its files and its limit. Fails where memory runs out.
+/// Adds the page of one run, with the names of its files and its limit, and with its tables beside the DSKY where they
+/// are watched. Fails where memory runs out.
 pub fn push_film(
     text: &mut String,
     limit: u64,
@@ -23,13 +23,14 @@ pub fn push_film(
     reel: &Reel,
 ) -> Result<(), AllocError>
     ensures { OnOk result (string_bytes text.new
-        ≡ string_bytes text.old ++ film_text HEAD.now TAIL.now limit files.now reel.now) }
+        ≡ string_bytes text.old
+        ++ film_text HEAD.now TABLES.now TAIL.now limit files.now reel.now) }
 {
-    push_page(text, HEAD, TAIL, limit, files, reel)
+    push_page(text, HEAD, TABLES, TAIL, limit, files, reel)
 }
 
 /// Adds the page of two runs side by side, with the names of their files, their limit, and the cycle at which
-/// their panels first differ. Fails where memory runs out.
+/// their panels first differ, and with the tables of each beside its DSKY where they are watched. Fails where memory runs out.
 pub fn push_film_pair(
     text: &mut String,
     limit: u64,
@@ -39,11 +40,13 @@ pub fn push_film_pair(
     right: &Reel,
 ) -> Result<(), AllocError>
     ensures { OnOk result (string_bytes text.new ≡ string_bytes text.old
-        ++ film_pair_text HEAD.now TAIL.now limit left_files.now left.now right_files.now right.now) }
+        ++ film_pair_text HEAD.now TABLES.now TAIL.now limit
+        left_files.now left.now right_files.now right.now) }
 {
     push_page_pair(
         text,
         HEAD,
+        TABLES,
         TAIL,
         limit,
         left_files,
@@ -53,29 +56,31 @@ pub fn push_film_pair(
     )
 }
 
-/// Adds a page of one run between two texts.
+/// Adds a page of one run after a head, and before a tail to which a script belongs where tables are watched.
 #[tactic(auto, unfolding(crate::specs::Page::film_text))]
 fn push_page(
     text: &mut String,
     head: &str,
+    script: &str,
     tail: &str,
     limit: u64,
     files: &RunFiles,
     reel: &Reel,
 ) -> Result<(), AllocError>
     ensures { OnOk result (string_bytes text.new
-        ≡ string_bytes text.old ++ film_text head.now tail.now limit files.now reel.now) }
+        ≡ string_bytes text.old ++ film_text head.now script.now tail.now limit files.now reel.now) }
 {
     text.push_str(head)?;
     push_block(text, "left", limit, files, reel)?;
-    text.push_str(tail)
+    push_tail(text, script, tail, &reel.tables, &None)
 }
 
-/// Adds a page of two runs between two texts.
+/// Adds a page of two runs between the same texts.
 #[tactic(auto, unfolding(crate::specs::Page::film_pair_text))]
 fn push_page_pair(
     text: &mut String,
     head: &str,
+    script: &str,
     tail: &str,
     limit: u64,
     left_files: &RunFiles,
@@ -84,13 +89,14 @@ fn push_page_pair(
     right: &Reel,
 ) -> Result<(), AllocError>
     ensures { OnOk result (string_bytes text.new ≡ string_bytes text.old
-        ++ film_pair_text head.now tail.now limit left_files.now left.now right_files.now right.now) }
+        ++ film_pair_text head.now script.now tail.now limit
+        left_files.now left.now right_files.now right.now) }
 {
     text.push_str(head)?;
     push_block(text, "left", limit, left_files, left)?;
     push_block(text, "right", limit, right_files, right)?;
     push_parting(text, left.frames.as_slice(), right.frames.as_slice())?;
-    text.push_str(tail)
+    push_tail(text, script, tail, &left.tables, &right.tables)
 }
 
 /// Adds a run as blocks under a name.

@@ -1,5 +1,8 @@
 //! The reel of a part of a run: all that its film shows.
 ghost use Rattle.std.specs.Prelude.{◌≡◌, ◌+◌, ◌-◌, ◌≤◌, ℕ, IfOk, None, length, nat_le, take, if◌then◌else◌};
+ghost use Rattle.agc_machine.specs.Run.{run_of};
+ghost use Rattle.agc_machine.specs.State.{State};
+ghost use Rattle.agc_film.specs.Frames.{frames_of, last_of};
 ghost use Rattle.agc_film.specs.Presses.{presses_of};
 ghost use Rattle.agc_film.specs.Reel.{IsReelOf, end_of};
 ghost use Rattle.agc_film.specs.Way.{HasOpened, HasRecorded, past};
@@ -29,6 +32,9 @@ pub struct Reel {
     pub stop: Option<Stop>,
     /// The last machine cycle of the film: that of the stop, where there is one.
     pub cycle: u64,
+    /// Where the Executive's tables are watched, their lines at the first cycle, and of each later change those that are
+    /// not as they were, each with its cycle before it.
+    pub tables: Option<String>,
 }
 
 /// Runs a machine past a part of its run, or to its stop before that, and makes the reel of that part. Fails
@@ -41,18 +47,48 @@ pub fn film<P: Progress>(
 ) -> Result<Reel, AllocError>
     ensures reel { IfOk result (IsReelOf part machine.old) }
     ensures machine { IfOk result (λ _. machine.new ≡ end_of part machine.old) }
+    ensures tables { IfOk result (λ reel. reel.tables ≡ None) }
 {
     let events = machine.events_left().to_vec(alloc)?;
     let panel = open(machine, part.from, progress);
     let mut recorder = Recorder::new(alloc, part.from, panel)?;
     let stop = record(alloc, machine, part.last(), &mut recorder, progress)?;
+    reel_up_to(
+        alloc,
+        part,
+        events.as_slice(),
+        machine,
+        recorder,
+        stop,
+        None,
+    )
+}
+
+/// The reel of a part, of what a recorder took of it, with these tables. Fails where memory runs out.
+pub(crate) fn reel_up_to(
+    alloc: Global,
+    part: Part,
+    events: &[Event],
+    machine: &Machine,
+    recorder: Recorder,
+    stop: Option<Stop>,
+    tables: Option<String>,
+) -> Result<Reel, AllocError>
+    ensures reel { IfOk result (λ reel. (start : State) → events.now ≡ start.events
+        → machine.now ≡ end_of part start
+        → (machine.now.cycle ≤ last_of part → stop ≡ machine.now.stopped)
+        → recorder.frames.items ≡ frames_of part (run_of start).writes
+        → IsReelOf part start reel) }
+    ensures tables { IfOk result (λ reel. reel.tables ≡ tables) }
+{
     let left = machine.events_left().len();
     Ok(Reel {
         from: part.from,
         frames: recorder.frames,
-        presses: presses_met(alloc, events.as_slice(), left)?,
+        presses: presses_met(alloc, events, left)?,
         stop: stop_up_to(stop, machine.cycle(), part.last()),
         cycle: part.last().min(machine.cycle()),
+        tables,
     })
 }
 

@@ -22,7 +22,7 @@ abbrev pub NeverBack : ℕ → ℕ → List Sight → Type 0
 NeverBack from to [] = Unit {0}
 NeverBack from to (x ∷ xs) = (from ≤ x.cycle) × (x.cycle ≤ to) × NeverBack x.cycle to xs
 
-back_later : (from later to : ℕ) (xs : List Sight) → from ≤ later → NeverBack later to xs → NeverBack from to xs
+pub back_later : (from later to : ℕ) (xs : List Sight) → from ≤ later → NeverBack later to xs → NeverBack from to xs
 back_later from later to [] l h = tt
 back_later from later to (x ∷ xs) l h = (omega (arith, h.0), h.1, h.2)
 
@@ -34,7 +34,7 @@ change_by true from to shown x rest (y ∷ others) e l m h k = (omega (arith, l,
 change_by false from to shown x rest others e l m h k =
     (l, m, λ same. not_from_Decides _ (bytes_eq-Decides shown x.text) e (sym same), k)
 
-are_changes : (from to : ℕ) (shown : List ℕ) (xs : List Sight) → NeverBack from to xs → AreChanges from to shown (changes shown xs)
+pub are_changes : (from to : ℕ) (shown : List ℕ) (xs : List Sight) → NeverBack from to xs → AreChanges from to shown (changes shown xs)
 unfolding changes
 are_changes from to shown [] h = tt
 are_changes from to shown (x ∷ xs) h =
@@ -48,11 +48,11 @@ in_by true true span spec from s xs e f l h = (l, grind (arith, nat_tests), h)
 in_by true false span spec from s xs e f l h = back_later from s.cycle span.to xs l h
 in_by false b span spec from s xs e f l h = back_later from s.cycle span.to xs l h
 
-no_sights : (span : Span) (spec : WatchSpec) → sights_in span spec [] ≡ []
+pub no_sights : (span : Span) (spec : WatchSpec) → sights_in span spec [] ≡ []
 unfolding sights_in
 no_sights span spec = refl
 
-sights_forward : (span : Span) (spec : WatchSpec) (from : ℕ) (ss : List State) → GoForward from ss → NeverBack from span.to (sights_in span spec ss)
+pub sights_forward : (span : Span) (spec : WatchSpec) (from : ℕ) (ss : List State) → GoForward from ss → NeverBack from span.to (sights_in span spec ss)
 sights_forward span spec from [] h = subst (λ (xs : List Sight). NeverBack from span.to xs) (sym (no_sights span spec)) tt
 sights_forward span spec from (s ∷ ss) h =
     subst (λ (xs : List Sight). NeverBack from span.to xs) (sym (seen_first span spec s ss))
@@ -65,7 +65,7 @@ later_by true true span spec s xs e f h k = (grind (arith, nat_tests), grind (ar
 later_by true false span spec s xs e f h k = k
 later_by false b span spec s xs e f h k = k
 
-sights_later : (span : Span) (spec : WatchSpec) (from : ℕ) (ss : List State) → GoForward from ss → NeverBack span.from span.to (sights_in span spec ss)
+pub sights_later : (span : Span) (spec : WatchSpec) (from : ℕ) (ss : List State) → GoForward from ss → NeverBack span.from span.to (sights_in span spec ss)
 sights_later span spec from [] h = subst (λ (xs : List Sight). NeverBack span.from span.to xs) (sym (no_sights span spec)) tt
 sights_later span spec from (s ∷ ss) h =
     subst (λ (xs : List Sight). NeverBack span.from span.to xs) (sym (seen_first span spec s ss))
@@ -79,7 +79,7 @@ each_is_a_change span spec s =
 
 -- What is shown at a cycle.
 module _ (cycle : ℕ) where
-  none_up_to : (from to : ℕ) (xs : List Sight) → cycle < from → NeverBack from to xs → up_to cycle xs ≡ []
+  pub none_up_to : (from to : ℕ) (xs : List Sight) → cycle < from → NeverBack from to xs → up_to cycle xs ≡ []
   none_up_to from to [] l h = refl
   none_up_to from to (x ∷ xs) l h =
       let late : nat_le x.cycle cycle ≡ false = grind (arith, nat_tests, h.0) in
@@ -90,10 +90,10 @@ module _ (cycle : ℕ) where
   back_of from to shown [] h = tt
   back_of from to shown (x ∷ xs) h = (h.0, h.1, back_of x.cycle to x.text xs h.3)
 
-  abbrev after_up_to : List ℕ → List Sight → List ℕ
+  abbrev pub after_up_to : List ℕ → List Sight → List ℕ
   after_up_to shown xs = shown_after shown (up_to cycle xs)
 
-  first_in : (shown : List ℕ) (x : Sight) (xs : List Sight) → x.cycle ≤ cycle → after_up_to shown (x ∷ xs) ≡ after_up_to x.text xs
+  pub first_in : (shown : List ℕ) (x : Sight) (xs : List Sight) → x.cycle ≤ cycle → after_up_to shown (x ∷ xs) ≡ after_up_to x.text xs
   first_in shown x xs l =
       let here : nat_le x.cycle cycle ≡ true = grind (arith, nat_tests) in
       let rest : List Sight = up_to cycle xs in
@@ -119,24 +119,24 @@ module _ (cycle : ℕ) where
       (none_up_to x.cycle to (changes x.text xs) l (back_of x.cycle to x.text (changes x.text xs) (are_changes x.cycle to x.text xs h)) ∙ sym (none_up_to x.cycle to xs l h))
       ∙ sym (first_out shown x xs l)
 
-  either : (n : ℕ) → (n ≤ cycle) ⊎ (cycle < n)
+  pub either : (n : ℕ) → (n ≤ cycle) ⊎ (cycle < n)
   either n = elim (leb_tells n cycle) [
     | inl early ↦ inl early.1
     | inr late ↦ inr (omega (arith, late.1))
   ]
 
   -- the changes of sights show what the sights do
-  changes_show : (from to : ℕ) (shown : List ℕ) (xs : List Sight) → NeverBack from to xs → after_up_to shown (changes shown xs) ≡ after_up_to shown xs
+  pub changes_show : (from to : ℕ) (shown : List ℕ) (xs : List Sight) → NeverBack from to xs → after_up_to shown (changes shown xs) ≡ after_up_to shown xs
   unfolding changes
   changes_show from to shown [] h = refl
   changes_show from to shown (x ∷ xs) h =
       same_by (bytes_eq shown x.text) to shown x xs refl h.2 (changes_show x.cycle to shown xs h.2) (changes_show x.cycle to x.text xs h.2) (either x.cycle)
 
   module _ (span : Span) (spec : WatchSpec) where
-    abbrev in_span : List ℕ → List State → List ℕ
+    abbrev pub in_span : List ℕ → List State → List ℕ
     in_span shown ss = after_up_to shown (sights_in span spec ss)
 
-    abbrev in_all : List ℕ → List State → List ℕ
+    abbrev pub in_all : List ℕ → List State → List ℕ
     in_all shown ss = after_up_to shown (map (sight_of spec) ss)
 
     all_back : (from : ℕ) (ss : List State) → cycle < from → GoForward from ss → up_to cycle (map (sight_of spec) ss) ≡ []
@@ -157,7 +157,7 @@ module _ (cycle : ℕ) where
         ap (λ (xs : List Sight). shown_after shown xs)
         (none_up_to s.cycle span.to (sights_in span spec (s ∷ ss)) late (sights_forward span spec s.cycle (s ∷ ss) (omega arith, h)) ∙ sym (all_back s.cycle (s ∷ ss) late (omega arith, h)))
 
-    tail_same : (from : ℕ) (shown : List ℕ) (ss : List State) → span.from ≤ from → cycle ≤ span.to → GoForward from ss → in_span shown ss ≡ in_all shown ss
+    pub tail_same : (from : ℕ) (shown : List ℕ) (ss : List State) → span.from ≤ from → cycle ≤ span.to → GoForward from ss → in_span shown ss ≡ in_all shown ss
     unfolding sights_in
     tail_same from shown [] l m h = refl
     tail_same from shown (s ∷ ss) l m h =

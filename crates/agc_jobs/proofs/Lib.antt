@@ -4,3 +4,5 @@ pub mod OneByOne
 pub mod Lines
 pub mod AtCycle
 pub mod Alike
+pub mod OverPart
+pub mod PartAtCycle

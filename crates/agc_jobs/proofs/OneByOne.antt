@@ -46,16 +46,16 @@ by_test true shown sight sights e =
 by_test false shown sight sights e = refl
 
 -- what is told of sights is what is told of the first one, and of the others after it
-told_by_first : (shown : List ℕ) (sight : Sight) (sights : List Sight) → told_of shown (sight ∷ sights) ≡ change_text shown sight ++ told_of sight.text sights
+pub told_by_first : (shown : List ℕ) (sight : Sight) (sights : List Sight) → told_of shown (sight ∷ sights) ≡ change_text shown sight ++ told_of sight.text sights
 unfolding changes
 told_by_first shown sight sights = by_test (bytes_eq shown sight.text) shown sight sights refl
 
-told_none : (shown : List ℕ) → told_of shown [] ≡ []
+pub told_none : (shown : List ℕ) → told_of shown [] ≡ []
 unfolding changes changes_text
 told_none shown = refl
 
 -- of sights, one after another
-told_append : (shown : List ℕ) (xs ys : List Sight) → told_of shown (xs ++ ys) ≡ told_of shown xs ++ told_of (shown_after shown xs) ys
+pub told_append : (shown : List ℕ) (xs ys : List Sight) → told_of shown (xs ++ ys) ≡ told_of shown xs ++ told_of (shown_after shown xs) ys
 told_append shown [] ys = ap (λ (text : List ℕ). text ++ told_of shown ys) (sym (told_none shown))
 told_append shown (x ∷ xs) ys =
     told_by_first shown x (xs ++ ys)
@@ -64,7 +64,7 @@ told_append shown (x ∷ xs) ys =
     ∙ ap (λ (text : List ℕ). text ++ told_of (shown_after x.text xs) ys) (sym (told_by_first shown x xs))
 
 -- of one sight
-told_one : (shown : List ℕ) (sight : Sight) → told_of shown (sight ∷ []) ≡ change_text shown sight
+pub told_one : (shown : List ℕ) (sight : Sight) → told_of shown (sight ∷ []) ≡ change_text shown sight
 told_one shown sight =
     told_by_first shown sight [] ∙ ap (λ (text : List ℕ). change_text shown sight ++ text) (told_none sight.text) ∙ append-nil (change_text shown sight)
 

@@ -79,7 +79,7 @@ module _ (span : Span) (spec : WatchSpec) where
   pub none_seen : (s : State) (ss : List State) → is_in span s ≡ false → sights_in span spec (s ∷ ss) ≡ sights_in span spec ss
   none_seen s ss e = sights_by_first s ss ∙ ap (λ (xs : List Sight). xs ++ sights_in span spec ss) (unseen s e)
 
-  none_late : (from : ℕ) (ss : List State) → span.to < from → GoForward from ss → sights_in span spec ss ≡ []
+  pub none_late : (from : ℕ) (ss : List State) → span.to < from → GoForward from ss → sights_in span spec ss ≡ []
   unfolding sights_in
   none_late from [] l h = refl
   none_late from (s ∷ ss) l h = none_seen s ss (late s (omega (arith, h.0))) ∙ none_late s.cycle ss (omega (arith, h.0)) h.1
@@ -96,7 +96,7 @@ module _ (span : Span) (spec : WatchSpec) where
   pub sights_end : (s : State) → is_some s.stopped ≡ true → sights_in span spec (states_of s) ≡ sights_in span spec (s ∷ [])
   sights_end s e = ap (λ (ss : List State). sights_in span spec ss) (states_end s e)
 
-  after_stop : (o : Option Stop) (s : State) → s.stopped ≡ o → is_some o ≡ true → (boundary None s).0 ≡ s
+  pub after_stop : (o : Option Stop) (s : State) → s.stopped ≡ o → is_some o ≡ true → (boundary None s).0 ≡ s
   after_stop (Some why) s e f = ap (λ (r : State × Stepped). r.0) (stopped_stays s why e)
   after_stop None s e f = cc
 

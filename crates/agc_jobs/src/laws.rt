@@ -6,6 +6,7 @@ ghost use Rattle.agc_machine.specs.Laws.{after};
 ghost use Rattle.agc_machine.specs.State.{State};
 ghost use Rattle.agc_jobs.specs.ChangeLaws.{AreChanges, shown_at, tables_at};
 ghost use Rattle.agc_jobs.specs.Changes.{changes_in};
+ghost use Rattle.agc_jobs.specs.Film.{film_of};
 ghost use Rattle.agc_jobs.specs.declared.span.Span.{Span};
 
 /// At each cycle of a span, from its first state on, the changes show what the tables of the run's last state up to then
@@ -23,4 +24,20 @@ pub fn what_is_shown_is_the_tables()
 pub fn each_entry_is_a_change()
     ensures { (span : Span) (spec : WatchSpec) (s : State)
         → AreChanges span.from span.to [] (changes_in span spec s) }
+{}
+
+/// At each cycle of a part its film shows what the tables of the run's last state up to then show.
+#[tactic(auto, using(crate::proofs::PartAtCycle::film_is_the_tables))]
+pub fn a_film_shows_the_tables()
+    ensures { (span : Span) (spec : WatchSpec) (s : State) (cycle : ℕ)
+        → span.from ≤ cycle → cycle ≤ span.to
+        → shown_at (film_of span spec s) cycle ≡ tables_at spec s cycle }
+{}
+
+/// No change of a film is without need: each shows something else than the one before it, and none is before the one
+/// before it.
+#[tactic(auto, using(crate::proofs::PartAtCycle::film_is_cut))]
+pub fn each_tables_frame_is_a_change()
+    ensures { (span : Span) (spec : WatchSpec) (s : State) → span.from ≤ span.to
+        → AreChanges span.from span.to [] (film_of span spec s) }
 {}

@@ -1,11 +1,13 @@
 //! The Executive over the time of a run: its tables where they change, line by line.
 #![tactic(auto)]
 
+mod film;
 pub mod laws;
 mod shown;
 mod span;
 mod told;
 mod watching;
 
+pub use film::{Opening, TablesFilm};
 pub use span::Span;
 pub use watching::write_changes;

@@ -10,12 +10,19 @@ pub struct Span {
 }
 
 impl Span {
-    ghost use Rattle.std.specs.Prelude.{◌≡◌, ◌&&◌, nat_le};
+    ghost use Rattle.std.specs.Prelude.{◌≡◌, ◌+◌, ◌&&◌, nat_le};
 
     /// A cycle is one of the span.
     pub(crate) fn has(self, cycle: u64) -> bool
         ensures { result ≡ (nat_le self.from cycle && nat_le cycle self.to) }
     {
         self.from <= cycle && cycle <= self.to
+    }
+
+    /// A cycle is one of the span after its first one.
+    pub(crate) fn has_later(self, cycle: u64) -> bool
+        ensures { result ≡ (nat_le (self.from + 1) cycle && nat_le cycle self.to) }
+    {
+        self.from < cycle && cycle <= self.to
     }
 }

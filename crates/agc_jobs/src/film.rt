@@ -1,0 +1,135 @@
+//! The tables over a part of a run: those at its first cycle, and the lines that change after that. The run itself is
+//! the caller's, who lets each of its states be looked at.
+use crate::shown::Shown;
+use crate::span::Span;
+use agc_executive::{CheckedSpec, Tables};
+use agc_machine::Machine;
+use std::alloc::{AllocError, Global};
+use std::marker::Model;
+
+/// The tables of the last state that was looked at up to a cycle. Contracts see their text, which is empty before the
+/// first state.
+#[derive(Debug, Drop)]
+pub struct Opening {
+    tables: Option<Tables>,
+}
+
+impl Model for Opening {
+    ghost use Rattle.std.specs.Prelude.{ℕ, List};
+    ghost use Rattle.agc_jobs.specs.Film.{opening_text};
+
+    ghost Value = { List ℕ };
+
+    ghost view = { λ opening. opening_text opening.tables };
+}
+
+impl Opening {
+    ghost use Rattle.std.specs.Prelude.{◌≡◌, [], ◌∷◌};
+    ghost use Rattle.agc_jobs.specs.Changes.{shown_after, sights_in};
+    ghost use Rattle.agc_jobs.specs.Film.{until};
+
+    /// No state was looked at yet.
+    pub fn nothing() -> Opening
+        ensures { result ≡ [] }
+    {
+        Opening { tables: None }
+    }
+
+    /// Looks at a state of the run, which counts up to a cycle.
+    pub fn look(&mut self, machine: &Machine, spec: &CheckedSpec, cycle: u64)
+        ensures { self.new ≡ shown_after self.old
+            (sights_in (until cycle) spec.now (machine.now ∷ [])) }
+    {
+        let before = Span { from: 0, to: cycle };
+        if before.has(machine.cycle()) {
+            self.tables = Some(Tables::read(machine.store(), spec));
+        }
+    }
+}
+
+/// The tables from the first cycle of a part on: their lines at that cycle, and those that changed after it.
+#[derive(Debug, Drop)]
+pub struct TablesFilm {
+    shown: Shown,
+    text: String,
+}
+
+impl Model for TablesFilm {
+    ghost use Rattle.std.specs.Prelude.{string_bytes};
+    ghost use Rattle.agc_jobs.specs.Film.{Telling};
+
+    ghost Value = { Telling };
+
+    ghost view = { λ film. record { shown = film.shown; text = string_bytes film.text } };
+}
+
+impl TablesFilm {
+    ghost use Rattle.std.specs.Prelude.{◌≡◌, ◌++◌, [], ◌∷◌, IfOk, OnOk, string_bytes};
+    ghost use Rattle.agc_jobs.specs.Changes.{shown_after, sight_of, sights_in};
+    ghost use Rattle.agc_jobs.specs.Film.{after_first};
+    ghost use Rattle.agc_jobs.specs.Lines.{change_text, told_of};
+
+    /// Begins at a cycle with these tables. Fails where memory runs out.
+    pub fn begin(alloc: Global, cycle: u64, opening: Opening) -> Result<TablesFilm, AllocError>
+        ensures { IfOk result (λ film. film ≡ record {
+          shown = opening;
+          text = change_text [] (record { cycle = cycle; text = opening });
+        }) }
+    {
+        let mut shown = Shown::nothing(alloc);
+        let text = match opening.tables {
+            Some(tables) => shown.take(alloc, cycle, tables)?,
+            None => String::new(alloc),
+        };
+        Ok(TablesFilm { shown, text })
+    }
+
+    /// Looks at a state of the run, which counts after the first cycle of a span, up to its last one: the lines that are
+    /// not as they were shown last. Fails where memory runs out.
+    pub fn look(
+        &mut self,
+        alloc: Global,
+        machine: &Machine,
+        spec: &CheckedSpec,
+        span: Span,
+    ) -> Result<(), AllocError>
+        ensures shown { OnOk result (self.new.shown ≡ shown_after self.old.shown
+            (sights_in (after_first span) spec.now (machine.now ∷ []))) }
+        ensures text { OnOk result (self.new.text ≡ self.old.text ++ told_of self.old.shown
+            (sights_in (after_first span) spec.now (machine.now ∷ []))) }
+    {
+        if span.has_later(machine.cycle()) {
+            self.see(alloc, machine, spec)
+        } else {
+            Ok(())
+        }
+    }
+
+    /// Looks at a state of the run.
+    fn see(
+        &mut self,
+        alloc: Global,
+        machine: &Machine,
+        spec: &CheckedSpec,
+    ) -> Result<(), AllocError>
+        ensures shown { OnOk result (self.new.shown ≡ (sight_of spec.now machine.now).text) }
+        ensures text { OnOk result (self.new.text ≡ self.old.text
+            ++ change_text self.old.shown (sight_of spec.now machine.now)) }
+    {
+        let tables = Tables::read(machine.store(), spec);
+        if self.shown.is_of(&tables) {
+            return Ok(());
+        }
+        let told = self.shown.take(alloc, machine.cycle(), tables)?;
+        self.text.push_str(told.as_str())?;
+        Ok(())
+    }
+
+    /// The lines.
+    pub fn into_text(self) -> String
+        ensures { string_bytes result ≡ self.text }
+    {
+        let TablesFilm { text, .. } = self;
+        text
+    }
+}
