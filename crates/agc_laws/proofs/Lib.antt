@@ -4,5 +4,5 @@ mod Steps
 mod Pairs
 mod Frame
 mod Still
-mod Rows
+pub mod Rows
 mod First

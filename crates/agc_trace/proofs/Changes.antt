@@ -13,7 +13,7 @@ use Rattle.agc_trace.specs.Change.{change_of, changes_between, changes_since, is
 use Rattle.agc_machine.specs.Boundary.{boundary}
 use Rattle.agc_machine.specs.State.{State}
 use Rattle.agc_trace.specs.Entry.{entry_of}
-use Rattle.agc_trace.specs.Watch.{watched_of}
+use Rattle.agc_trace.specs.Watch.{Watched, watched_of}
 use Rattle.agc_trace.specs.declared.entry.Entry.{Entry}
 use Rattle.agc_trace.specs.declared.change.Change.{Change}
 use Rattle.agc_trace.specs.declared.change.Seen.{Seen}
@@ -34,7 +34,7 @@ both_hold true true h = (refl, refl)
 both_hold true false h = cc
 both_hold false b h = cc
 
-same_word-refl : (x : Number) → same_word x x ≡ true
+pub same_word-refl : (x : Number) → same_word x x ≡ true
 same_word-refl x = rw (same_sign-refl x.minus) (eq-eqb x.magnitude x.magnitude refl)
 
 same_word-same : (x y : Number) → same_word x y ≡ true → x ≡ y
@@ -137,3 +137,8 @@ pub seen_after : (cells : List ℕ) (before after : Memory) (seen again : List S
     again ≡ map (λ x. seen_in after x.cell) seen → again ≡ map (seen_in after) cells
 seen_after cells before after seen again h k =
     k ∙ ap (λ (xs : List Seen). map (λ x. seen_in after x.cell) xs) h ∙ again_in before after cells
+
+-- the same by the changes as they are shown
+pub shown_is : (watched : Watched) (entry : Entry) (changes shown : List Change) → shown ≡ changes →
+    record { entry = entry; changes = changes } ≡ watched → record { entry = entry; changes = shown } ≡ watched
+shown_is watched entry changes shown e h = ap (λ (xs : List Change). record { entry = entry; changes = xs }) e ∙ h

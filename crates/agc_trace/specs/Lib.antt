@@ -6,6 +6,7 @@ pub mod Cell
 pub mod Places
 pub mod Said
 pub mod Change
+pub mod Touched
 pub mod Watch
 pub mod Selection
 pub mod Service

@@ -1,6 +1,7 @@
-//! What a boundary changes of the cells that a question to a trace names: they are looked at after each.
-ghost use Rattle.std.specs.Prelude.{◌≡◌, [], ◌∷◌, ◌++◌, IfOk, OnOk, if◌then◌else◌, map, string_bytes};
+//! What a boundary changes of the cells that a question to a trace names: they are looked at after each that may change one.
+ghost use Rattle.std.specs.Prelude.{◌≡◌, [], ◌∷◌, ◌++◌, IfOk, IsTrue, None, OnOk, false, if◌then◌else◌, map, not, string_bytes};
 ghost use Rattle.std.specs.List.{list_any};
+ghost use Rattle.agc_machine.specs.Boundary.{boundary};
 ghost use Rattle.agc_trace.specs.Change.{
   change_of,
   change_text,
@@ -11,9 +12,14 @@ ghost use Rattle.agc_trace.specs.Change.{
   named_cells,
   seen_in,
 };
+ghost use Rattle.agc_trace.specs.Entry.{FitsLine, entry_of};
+ghost use Rattle.agc_trace.specs.Watch.{watched_of};
 
 use crate::cell::{Cell, is_same_word, push_cell_word};
+use crate::entry::{Entry, next_entry};
 use crate::places::Places;
+use crate::selection::Selection;
+use crate::touched::is_away;
 use agc_machine::Machine;
 use agc_rope_listing::push_place;
 use agc_source_words::Location;
@@ -67,7 +73,7 @@ fn push_where(seen: &mut Vec<Seen>, is_named: bool, cell: Seen) -> Result<(), Al
 }
 
 /// One of several stretches of places has this cell.
-fn is_named(several: &[Places], number: u16) -> bool
+pub(crate) fn is_named(several: &[Places], number: u16) -> bool
     ensures { result ≡ is_named several.now number }
 {
     let cell = Location::Erasable(u32::from(number));
@@ -84,43 +90,65 @@ fn see(cell: Cell, store: &Store) -> Seen
     }
 }
 
-/// Looks at cells again after a boundary: what it has changed of them is told, and they are kept with the words
-/// that they have now. Where there are none, that costs next to nothing.
+/// Takes one boundary of a machine, tells it, and what it has changed of the cells that are named, which were seen
+/// before it: they are looked at again where it may have changed one of them. Where none are named, that costs next to
+/// nothing.
 #[inline]
-pub(crate) fn look(
+pub(crate) fn next_watched(
     alloc: Global,
-    machine: &Machine,
+    machine: &mut Machine,
+    selection: &Selection,
     seen: &mut Vec<Seen>,
     changes: &mut Vec<Change>,
-) -> Result<(), AllocError>
-    ensures changes { OnOk result
-        (changes.new.items ≡ changes_since seen.old.items machine.now.processor.store) }
+) -> Result<Entry, AllocError>
+    requires { seen.old.items
+        ≡ map (seen_in machine.old.processor.store) (named_cells selection.now.cells.items) }
+    ensures watched { IfOk result (λ entry. record { entry = entry; changes = changes.new.items }
+        ≡ watched_of (named_cells selection.now.cells.items) machine.old) }
+    ensures entry { IfOk result (λ entry. entry ≡ entry_of machine.old) }
+    ensures fits { IfOk result FitsLine }
+    ensures after { machine.new ≡ (boundary None machine.old).0 }
     ensures seen { OnOk result (seen.new.items
-        ≡ map (λ s. seen_in machine.now.processor.store s.cell) seen.old.items) }
+        ≡ map (seen_in machine.new.processor.store) (named_cells selection.now.cells.items)) }
 {
-    if seen.is_empty() && changes.is_empty() {
-        return Ok(());
-    }
-    look_at_some(alloc, machine.store(), seen, changes)
+    let bank = machine.store().erasable_bank();
+    let entry = next_entry(machine);
+    let stays = is_away(selection.cells.as_slice(), bank, entry.happening);
+    look(alloc, machine.store(), stays, seen, changes)?;
+    Ok(entry)
 }
 
-fn look_at_some(
+/// Looks at cells again after a boundary, unless it is known to leave them as they are: what it has changed of them is
+/// told, and they are kept with the words that they have now.
+#[inline]
+fn look(
     alloc: Global,
     store: &Store,
+    stays: bool,
     seen: &mut Vec<Seen>,
     changes: &mut Vec<Change>,
 ) -> Result<(), AllocError>
+    requires { IsTrue stays → list_any (λ s. is_changed store.now s) seen.old.items ≡ false }
     ensures changes { OnOk result (changes.new.items ≡ changes_since seen.old.items store.now) }
     ensures seen { OnOk result
         (seen.new.items ≡ map (λ s. seen_in store.now s.cell) seen.old.items) }
 {
-    if !has_changed(seen.as_slice(), store) {
+    if are_same(stays, seen.as_slice(), store) {
         changes.clear();
         return Ok(());
     }
     *changes = changes_since(alloc, seen.as_slice(), store)?;
     *seen = see_again(alloc, seen.as_slice(), store)?;
     Ok(())
+}
+
+/// None of the cells has another word now: they are known to be as they were, or looked at.
+#[inline]
+fn are_same(stays: bool, seen: &[Seen], store: &Store) -> bool
+    requires { IsTrue stays → list_any (λ s. is_changed store.now s) seen.now ≡ false }
+    ensures { result ≡ not (list_any (λ s. is_changed store.now s) seen.now) }
+{
+    stays || !has_changed(seen, store)
 }
 
 /// One of the cells has another word now.

@@ -8,8 +8,8 @@ ghost use Rattle.agc_trace.specs.Service.{service_left};
 ghost use Rattle.agc_trace.specs.Trace.{trace_of};
 ghost use Rattle.agc_trace.specs.Watch.{FitsWatched};
 
-use crate::change::{Change, look, see_named};
-use crate::entry::{Entry, next_entry};
+use crate::change::{Change, next_watched, see_named};
+use crate::entry::Entry;
 use crate::selection::Selection;
 use crate::service::{Service, service_after};
 use crate::tracing::{TraceFault, write_line};
@@ -80,8 +80,7 @@ fn keep_last<P: Progress>(
     let mut mark = 0;
     let mut service = None;
     while machine.cycle() <= selection.to {
-        let entry = next_entry(machine);
-        look(alloc, machine, &mut seen, &mut changes)?;
+        let entry = next_watched(alloc, machine, selection, &mut seen, &mut changes)?;
         keep_selected(alloc, selection, last, most, &entry, changes.as_slice())?;
         if entry.is_stop() {
             return Ok(service);

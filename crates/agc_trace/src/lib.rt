@@ -12,6 +12,7 @@ mod places;
 mod said;
 mod selection;
 mod service;
+mod touched;
 mod tracing;
 
 pub use cell::Cell;

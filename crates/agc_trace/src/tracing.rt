@@ -8,8 +8,8 @@ ghost use Rattle.agc_trace.specs.Selection.{last_of, lines_of, selected, selecte
 ghost use Rattle.agc_trace.specs.Service.{service_left};
 ghost use Rattle.agc_trace.specs.Trace.{trace_of};
 
-use crate::change::{Change, look, see_named};
-use crate::entry::{Entry, next_entry};
+use crate::change::{Change, next_watched, see_named};
+use crate::entry::Entry;
 use crate::last::write_last;
 use crate::named_line::push_watched_line;
 use crate::selection::Selection;
@@ -102,8 +102,7 @@ fn write_lines<W: Write, P: Progress>(
     let mut mark = 0;
     let mut service = None;
     while machine.cycle() <= selection.to {
-        let entry = next_entry(machine);
-        look(alloc, machine, &mut seen, &mut changes)?;
+        let entry = next_watched(alloc, machine, selection, &mut seen, &mut changes)?;
         write_selected(alloc, selection, names, &entry, changes.as_slice(), out)?;
         if entry.is_stop() {
             return Ok(service);

@@ -3,7 +3,7 @@ use Rattle.agc_trace.proofs.Kept.{all_kept, entry_kept, few_kept, kept_whole, no
 use Rattle.agc_trace.proofs.Range.{no_late_entries}
 use Rattle.agc_trace.proofs.Services.{left_after, left_at_stop, none_past}
 use Rattle.agc_trace.proofs.Steps.{fewer_after_entry}
-use Rattle.agc_trace.proofs.Changes.{seen_after, watched_is}
+use Rattle.agc_trace.proofs.Changes.{shown_is}
 use Rattle.agc_trace.proofs.last.keep_last.Goals as goal
 
 pub keep_selected-requires-clause-few : goal.keep_selected-requires-clause-few
@@ -11,12 +11,12 @@ keep_selected-requires-clause-few g c = few_kept _ _ _ _ c.loop-alloc.invariant.
 
 pub returns-then-is_stop-clause-entries : goal.returns-then-is_stop-clause-entries
 returns-then-is_stop-clause-entries g c =
-    all_kept c.args.selection.now _ _ _ _ _ _ _ (watched_is _ _ _ c.next_entry-entry.result _ _ c.next_entry-entry.ensures.entry c.next_entry-entry.ensures.after c.loop-alloc.invariant.seen (c.as_slice-in-loop-alloc.ensures.value ∙ c.in_ok-look.ensures.changes))
+    all_kept c.args.selection.now _ _ _ _ _ _ _ (shown_is _ _ _ _ c.as_slice-in-loop-alloc.ensures.value c.in_ok-entry.ensures.watched)
     (sym c.is_stop.ensures ∙ c.if-is_stop.true) c.loop-alloc.invariant.kept c.in_ok-keep_selected.ensures.kept
 
 pub returns-then-is_stop-clause-service : goal.returns-then-is_stop-clause-service
 returns-then-is_stop-clause-service g c =
-    sym (left_at_stop c.args.selection.now _ _ c.next_entry-entry.result c.next_entry-entry.ensures.entry
+    sym (left_at_stop c.args.selection.now _ _ c.in_ok-entry.entry c.in_ok-entry.ensures.entry
     (omega (arith, c.cycle.ensures.cycle, c.loop-alloc-test.true)) (sym c.is_stop.ensures ∙ c.if-is_stop.true))
     ∙ c.loop-alloc.invariant.service
 
@@ -25,19 +25,19 @@ loop-alloc-init g c = record { kept = nothing_kept _ _ _ c.requires; fits = sear
 
 pub loop-alloc-smaller : goal.loop-alloc-smaller
 loop-alloc-smaller g c =
-    fewer_after_entry _ _ c.next_entry-entry.result c.next_entry-entry.ensures.entry
-    c.next_entry-entry.ensures.after (sym c.is_stop.ensures ∙ c.if-is_stop.false)
+    fewer_after_entry _ _ c.in_ok-entry.entry c.in_ok-entry.ensures.entry
+    c.next_watched.ensures.after (sym c.is_stop.ensures ∙ c.if-is_stop.false)
 
 pub loop-alloc-preserved : goal.loop-alloc-preserved
 loop-alloc-preserved g c = record {
-  kept = entry_kept c.args.selection.now _ _ _ _ _ _ _ _ (watched_is _ _ _ c.next_entry-entry.result _ _ c.next_entry-entry.ensures.entry c.next_entry-entry.ensures.after c.loop-alloc.invariant.seen (c.as_slice-in-loop-alloc.ensures.value ∙ c.in_ok-look.ensures.changes)) c.next_entry-entry.ensures.after
+  kept = entry_kept c.args.selection.now _ _ _ _ _ _ _ _ (shown_is _ _ _ _ c.as_slice-in-loop-alloc.ensures.value c.in_ok-entry.ensures.watched) c.next_watched.ensures.after
       (sym c.is_stop.ensures ∙ c.if-is_stop.false) c.loop-alloc.invariant.kept c.in_ok-keep_selected.ensures.kept;
   fits = c.in_ok-keep_selected.ensures.fits;
   service = rw c.service_after-service.ensures
-      (left_after c.args.selection.now _ _ _ c.next_entry-entry.result c.next_entry-entry.ensures.entry c.next_entry-entry.ensures.after
+      (left_after c.args.selection.now _ _ _ c.in_ok-entry.entry c.in_ok-entry.ensures.entry c.next_watched.ensures.after
       (omega (arith, c.cycle.ensures.cycle, c.loop-alloc-test.true)) (sym c.is_stop.ensures ∙ c.if-is_stop.false)
       ∙ c.loop-alloc.invariant.service);
-  seen = seen_after _ c.loop-alloc.machine.processor.store c.next_entry-entry.new.machine.processor.store _ _ c.loop-alloc.invariant.seen c.in_ok-look.ensures.seen;
+  seen = c.in_ok-entry.ensures.seen;
 }
 
 pub returns-clause-entries : goal.returns-clause-entries
