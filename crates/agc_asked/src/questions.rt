@@ -1,7 +1,7 @@
 //! The questions to a trace: places, mnemonics, channels and cells, of each as many as are said.
 use agc_args::ArgsFault;
+use agc_places::Places;
 use agc_source_words::is_order;
-use agc_trace::Places;
 use agc_word::read_octal;
 use clap::ArgMatches;
 use std::alloc::{AllocError, Global};

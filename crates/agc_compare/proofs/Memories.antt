@@ -8,32 +8,10 @@ use Rattle.std.proofs.lemmas.Bool.{eq-eqb, eqb-true}
 use Rattle.agc_store.specs.Registers.{HoldsRegisters}
 use Rattle.agc_word.specs.Number.{Number}
 use Rattle.agc_store.specs.Memory.{Memory, cell_at, nothing}
-use Rattle.agc_compare.specs.Cells.{cell_told, cells_that_differ, differing_below, same_sign, same_word}
+use Rattle.agc_places.proofs.SameWord.{same_word-refl, same_word-same}
+use Rattle.agc_places.specs.Cell.{same_word}
+use Rattle.agc_compare.specs.Cells.{cell_told, cells_that_differ, differing_below}
 use Rattle.agc_compare.specs.declared.cells.CellPair.{CellPair}
-
-same_sign-refl : (b : Bool) → same_sign b b ≡ true
-same_sign-refl true = refl
-same_sign-refl false = refl
-
-same_sign-same : (a b : Bool) → same_sign a b ≡ true → a ≡ b
-same_sign-same true true h = refl
-same_sign-same true false h = cc
-same_sign-same false true h = cc
-same_sign-same false false h = refl
-
-both_hold : (a b : Bool) → (a && b) ≡ true → (a ≡ true) × (b ≡ true)
-both_hold true true h = (refl, refl)
-both_hold true false h = cc
-both_hold false b h = cc
-
-same_word-refl : (x : Number) → same_word x x ≡ true
-same_word-refl x = rw (same_sign-refl x.minus) (eq-eqb x.magnitude x.magnitude refl)
-
-same_word-same : (x y : Number) → same_word x y ≡ true → x ≡ y
-same_word-same x y h =
-    let both = both_hold (same_sign x.minus y.minus) (x.magnitude == y.magnitude) h in
-    ap (λ (b : Bool). record { minus = b; magnitude = x.magnitude }) (same_sign-same x.minus y.minus both.0)
-    ∙ ap (λ (n : ℕ). record { minus = y.minus; magnitude = n }) (eqb-true x.magnitude y.magnitude both.1)
 
 test_is : (b s : Bool) (x y : Number) → (IsTrue b → x ≡ y) → (x ≡ y → IsTrue b) → same_word x y ≡ s → s ≡ b
 test_is true true x y f g e = refl

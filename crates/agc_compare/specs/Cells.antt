@@ -3,16 +3,8 @@ use Rattle.std.specs.Prelude.{ℕ, zero, suc, ◌==◌, ◌&&◌, Bool, true, fa
 use Rattle.std.specs.Prelude.{List, [], ◌∷◌, ◌++◌}
 use Rattle.agc_word.specs.Number.{Number}
 use Rattle.agc_store.specs.Memory.{cell_at}
+use Rattle.agc_places.specs.Cell.{erasable_cells, same_word}
 use Rattle.agc_compare.specs.declared.cells.CellPair.{CellPair}
-
--- two signs are the same
-abbrev pub same_sign : Bool → Bool → Bool
-same_sign true minus = minus
-same_sign false minus = not minus
-
--- two words are the same: +0 and -0 are not
-abbrev pub same_word : Number → Number → Bool
-same_word x y = same_sign x.minus y.minus && (x.magnitude == y.magnitude)
 
 -- a cell by its two words, where they differ
 abbrev pub cell_told : ℕ → Number → Number → List CellPair
@@ -27,4 +19,4 @@ differing_below (suc place) xs ys =
 
 -- of all cells those that differ
 unfoldable pub cells_that_differ : List Number → List Number → List CellPair
-cells_that_differ xs ys = differing_below 2048 xs ys
+cells_that_differ xs ys = differing_below erasable_cells xs ys

@@ -1,5 +1,5 @@
 -- A comparison in print, with names of places where they are given.
-use Rattle.std.specs.Prelude.{ℕ, ◌+◌, ◌/◌, ◌%◌, ◌==◌, ◌||◌, nat_lt, if◌then◌else◌}
+use Rattle.std.specs.Prelude.{ℕ, ◌+◌, ◌==◌, if◌then◌else◌}
 use Rattle.std.specs.Prelude.{List, [], ◌++◌, codes, length, flat_map, Option, Some, None}
 use Rattle.std.specs.Fmt.{decimal}
 use Rattle.std.specs.List.{zip}
@@ -7,17 +7,13 @@ use Rattle.std.specs.Str.Lines.{lines}
 use Rattle.std.specs.Str.{bytes_eq}
 use Rattle.agc_panel.specs.Text.{panel_text}
 use Rattle.agc_panel.specs.declared.face.Face.{Face}
-use Rattle.agc_word.specs.Number.{Number, pattern_of}
-use Rattle.agc_word.specs.Arithmetic.{narrow_of}
 use Rattle.agc_word.specs.Octal.{octal_digits}
-use Rattle.agc_store.specs.Places.{a_cell, q_cell, erasable_bank_size, erasable_window}
+use Rattle.agc_script.specs.Written.{word_digits}
 use Rattle.agc_processor.specs.declared.channel_write.ChannelWrite.{ChannelWrite}
 use Rattle.agc_rope_listing.specs.Place.{place_text}
-use Rattle.agc_rope_listing.specs.declared.place.Place.{Place}
-use Rattle.agc_rope_listing.specs.declared.place.Place.TheVariants as place
 use Rattle.agc_names.specs.Names.{Named}
 use Rattle.agc_trace.specs.NamedLine.{line_with}
-use Rattle.agc_script.specs.Written.{word_digits}
+use Rattle.agc_places.specs.Cell.{cell_place, cell_word}
 use Rattle.agc_machine.specs.Answer.{stop_name}
 use Rattle.agc_trace.specs.declared.entry.Entry.{Entry}
 use Rattle.agc_compare.specs.Compare.{is_same}
@@ -93,20 +89,6 @@ line_pair_text (left, right) =
 unfoldable pub panels_text : Face → Face → List ℕ
 panels_text left right =
     flat_map line_pair_text (zip (lines (panel_text left)) (lines (panel_text right)))
-
--- an erasable cell by its number: its address, or its bank and its address in the window
-abbrev pub cell_place : ℕ → Place
-cell_place number =
-    if nat_lt number erasable_window then place.Plain number
-    else
-    place.Erasable (number / erasable_bank_size) (erasable_window + number % erasable_bank_size)
-
--- a cell's word: A and Q have sixteen bits, every other cell fifteen
-unfoldable pub cell_word : ℕ → Number → List ℕ
-cell_word number word =
-    if number == a_cell || number == q_cell
-    then octal_digits 6 (pattern_of 16 word)
-    else word_digits (narrow_of word)
 
 -- a cell that differs, and its word in each run
 unfoldable pub cell_text : CellPair → List ℕ

@@ -2,15 +2,12 @@
 ghost use Rattle.std.specs.Prelude.{◌≡◌, ◌<◌, ◌++◌, All, OnOk, flat_map, string_bytes};
 ghost use Rattle.std.specs.List.{zip};
 ghost use Rattle.std.specs.Str.Lines.{lines};
-ghost use Rattle.agc_rope_listing.specs.Place.{IsInPrint};
 ghost use Rattle.agc_trace.specs.Entry.{FitsLine, FitsWrite};
 ghost use Rattle.agc_compare.specs.Compare.{FitsLines, FitsWriteParting, IsCell};
 ghost use Rattle.agc_compare.specs.SideNames.{both_names};
 ghost use Rattle.agc_compare.specs.Report.{
   boundaries_text,
-  cell_place,
   cell_text,
-  cell_word,
   cells_text,
   end_text,
   ends_text,
@@ -32,11 +29,10 @@ use crate::comparison::{Comparison, Parting};
 use crate::follower::{End, WriteParting};
 use agc_names::NameTable;
 use agc_panel::Panel;
+use agc_places::{Cell, push_cell_word};
 use agc_processor::ChannelWrite;
-use agc_rope_listing::{Place, push_place};
-use agc_store::place::{A, Q};
+use agc_rope_listing::push_place;
 use agc_trace::{Entry, push_line_with};
-use agc_word::Wide;
 use std::alloc::{AllocError, Global};
 
 /// The names with which the lines of each of two runs are shown, where they are given.
@@ -269,8 +265,8 @@ fn push_line_pair(text: &mut String, left: &str, right: &str) -> Result<(), Allo
     writeln!(text, "< {left}\n> {right}")
 }
 
-/// Adds the cells that differ.
-#[tactic(auto, unfolding(crate::specs::Report::cells_text))]
+/// Adds the cells that differ, where there are some.
+#[tactic(auto, unfolding(crate::specs::Report::cells_text, crate::specs::Report::some_cells_text))]
 fn push_cells(text: &mut String, cells: &[CellPair]) -> Result<(), AllocError>
     requires { All IsCell cells.now }
     ensures { OnOk result (string_bytes text.new
@@ -279,16 +275,6 @@ fn push_cells(text: &mut String, cells: &[CellPair]) -> Result<(), AllocError>
     if cells.is_empty() {
         return Ok(());
     }
-    push_some_cells(text, cells)
-}
-
-/// Adds the cells that differ, of which there are some.
-#[tactic(auto, unfolding(crate::specs::Report::some_cells_text))]
-fn push_some_cells(text: &mut String, cells: &[CellPair]) -> Result<(), AllocError>
-    requires { All IsCell cells.now }
-    ensures { OnOk result (string_bytes text.new
-        ≡ string_bytes text.old ++ some_cells_text cells.now) }
-{
     text.push_str("The cells that differ at the stops:\n")?;
     push_each_cell(text, cells)
 }
@@ -312,42 +298,13 @@ fn push_cell(text: &mut String, cell: CellPair) -> Result<(), AllocError>
     ensures { OnOk result (string_bytes text.new ≡ string_bytes text.old ++ cell_text cell) }
 {
     let CellPair { place, left, right } = cell;
-    push_place(text, cell_place(place))?;
+    let cell = Cell::new(place);
+    push_place(text, cell.place())?;
     text.push_str(" ")?;
-    push_cell_word(text, place, left)?;
+    push_cell_word(text, cell, left)?;
     text.push_str(" ")?;
-    push_cell_word(text, place, right)?;
+    push_cell_word(text, cell, right)?;
     text.push_str("\n")
-}
-
-/// Adds a cell's word: of A and Q six digits, of all others five.
-#[tactic(auto, unfolding(crate::specs::Report::cell_word))]
-fn push_cell_word(text: &mut String, place: u16, word: Wide) -> Result<(), AllocError>
-    ensures { OnOk result (string_bytes text.new
-        ≡ string_bytes text.old ++ cell_word place word) }
-{
-    if place == A || place == Q {
-        return write!(text, "{word}");
-    }
-    let word = word.narrow();
-    write!(text, "{word}")
-}
-
-/// The place of an erasable cell, by its number: up to 1377 octal its address, then its bank and
-/// its address in the window.
-fn cell_place(place: u16) -> Place
-    requires { place < 0o4000 }
-    ensures place { result ≡ cell_place place }
-    ensures range { IsInPrint result }
-{
-    if place < 0o1400 {
-        Place::Plain(place)
-    } else {
-        Place::Erasable {
-            bank: (place / 0o400) as u8,
-            address: 0o1400 + place % 0o400,
-        }
-    }
 }
 
 /// Adds the stops of both runs.

@@ -12,7 +12,7 @@ use Rattle.agc_processor.specs.declared.interrupt.Rupt.{Rupt}
 use Rattle.agc_source_words.specs.Location.{location_at}
 use Rattle.agc_source_words.specs.declared.location.Location.{Location}
 use Rattle.agc_source_words.specs.declared.location.Location.TheVariants as location
-use Rattle.agc_trace.specs.Places.{is_from_to}
+use Rattle.agc_places.specs.Places.{is_from_to}
 use Rattle.agc_trace.specs.Selection.{runs_at}
 use Rattle.agc_count.specs.Counts.{count_of, counted, counted_as, counted_at, counted_data, counted_happening, counted_inhibited, counted_one, counted_read, counted_serving, nothing_counted}
 use Rattle.agc_count.specs.Laws.{ran_at, tally_of}

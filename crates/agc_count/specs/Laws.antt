@@ -4,7 +4,7 @@ use Rattle.std.specs.List.{sum_by}
 use Rattle.agc_processor.specs.Interrupt.{rupt_number}
 use Rattle.agc_processor.specs.declared.interrupt.Rupt.{Rupt}
 use Rattle.agc_source_words.specs.declared.location.Location.{Location}
-use Rattle.agc_trace.specs.Places.{is_from_to}
+use Rattle.agc_places.specs.Places.{is_from_to}
 use Rattle.agc_trace.specs.Selection.{runs_at}
 use Rattle.agc_count.specs.Counts.{is_entry}
 use Rattle.agc_count.specs.Passage.{service_of}

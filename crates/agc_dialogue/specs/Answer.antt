@@ -1,18 +1,16 @@
 -- The lines that answer a command.
-use Rattle.std.specs.Prelude.{ℕ, ◌/◌, ◌%◌, nat_lt, Bool, true, false, List, ◌++◌, codes}
+use Rattle.std.specs.Prelude.{ℕ, ◌/◌, ◌%◌, Bool, true, false, List, ◌++◌, codes}
 use Rattle.std.specs.Prelude.{Option, Some, None, if◌then◌else◌}
 use Rattle.std.specs.Fmt.{decimal}
 use Rattle.agc_machine.specs.Answer.{stop_name}
 use Rattle.agc_processor.specs.declared.channel_write.ChannelWrite.{ChannelWrite}
 use Rattle.agc_machine.specs.declared.answer.Stop.{Stop}
 use Rattle.agc_machine.specs.declared.upcoming.Upcoming.{Upcoming}
+use Rattle.agc_places.specs.Cell.{cell_place}
 use Rattle.agc_rope_listing.specs.Place.{place_text}
-use Rattle.agc_rope_listing.specs.declared.place.Place.{Place}
-use Rattle.agc_rope_listing.specs.declared.place.Place.TheVariants as place
-use Rattle.agc_source_words.specs.Location.{cell_address}
 use Rattle.agc_store.specs.Cells.{cell_of}
 use Rattle.agc_store.specs.Memory.{Memory}
-use Rattle.agc_store.specs.Places.{bb_cell, erasable_bank_size, erasable_window}
+use Rattle.agc_store.specs.Places.{bb_cell, erasable_bank_size}
 use Rattle.agc_names.specs.Names.{Named}
 use Rattle.agc_trace.specs.Entry.{registers_of}
 use Rattle.agc_trace.specs.Line.{happening_text, registers_text}
@@ -51,12 +49,6 @@ next_line next = codes "next " ++ happening_text next ++ codes "\n"
 unfoldable pub next_line_with : Option (List Named) → Upcoming → List ℕ
 next_line_with (Some names) next = codes "next " ++ named_happening names next ++ codes "\n"
 next_line_with None next = next_line next
-
--- a cell by its number: its address, or its bank and its address in the window
-abbrev pub cell_place : ℕ → Place
-cell_place cell =
-    if nat_lt cell erasable_window then place.Plain cell
-    else place.Erasable (cell / erasable_bank_size) (cell_address cell)
 
 -- a cell with its word, overflow corrected
 unfoldable pub cell_line : Memory → ℕ → List ℕ

@@ -4,7 +4,6 @@ ghost use Rattle.std.specs.List.{range_with_len};
 ghost use Rattle.agc_dialogue.specs.Answer.{
   came_line,
   cell_line,
-  cell_place,
   channel_line,
   end_line,
   error_line,
@@ -16,17 +15,16 @@ ghost use Rattle.agc_dialogue.specs.Answer.{
 };
 ghost use Rattle.agc_request.specs.Fault.{fault_text};
 ghost use Rattle.agc_machine.specs.Boundary.{HasPlace};
-ghost use Rattle.agc_rope_listing.specs.Place.{IsInPrint};
 ghost use Rattle.agc_word.specs.Channels.{last_io_channel};
 
 use agc_machine::{Stop, Upcoming};
 use agc_names::NameTable;
+use agc_places::Cell;
 use agc_processor::ChannelWrite;
 use agc_request::CommandFault;
-use agc_rope_listing::{Place, push_place};
-use agc_source_words::cell_address;
+use agc_rope_listing::push_place;
 use agc_store::Store;
-use agc_store::place::{BB, ERASABLE_BANK_SIZE, ERASABLE_WINDOW};
+use agc_store::place::{BB, ERASABLE_BANK_SIZE};
 use agc_trace::{push_happening, push_named_happening, push_registers, registers_in};
 use agc_word::Narrow;
 use std::alloc::AllocError;
@@ -139,23 +137,8 @@ fn push_cell_line(text: &mut String, store: &Store, cell: u16) -> Result<(), All
 {
     let word = store.cell((cell / ERASABLE_BANK_SIZE) as u8, cell % ERASABLE_BANK_SIZE);
     text.push_str("cell ")?;
-    push_place(text, cell_place(cell))?;
+    push_place(text, Cell::new(cell).place())?;
     writeln!(text, " {word}")
-}
-
-/// The place of a cell: up to 1377 octal its address, then its bank and its address in the window.
-fn cell_place(cell: u16) -> Place
-    requires { cell < 0o4000 }
-    ensures place { result ≡ cell_place cell }
-    ensures range { IsInPrint result }
-{
-    if cell < ERASABLE_WINDOW {
-        return Place::Plain(cell);
-    }
-    Place::Erasable {
-        bank: (cell / ERASABLE_BANK_SIZE) as u8,
-        address: cell_address(u32::from(cell)),
-    }
 }
 
 /// Adds the line of a channel's word: `channel CCC VVVVV`.

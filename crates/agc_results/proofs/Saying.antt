@@ -6,8 +6,8 @@ use Rattle.std.specs.declared.string.String.{String}
 use Rattle.agc_args.specs.declared.args.ArgsFault.{ArgsFault}
 use Rattle.agc_args.specs.declared.args.ArgsFault.TheVariants as fault
 use Rattle.agc_names.specs.Names.{Named}
-use Rattle.agc_trace.specs.declared.places.Places.{Places}
-use Rattle.agc_trace.specs.declared.places.PlacesFault.{PlacesFault}
+use Rattle.agc_places.specs.declared.places.Places.{Places}
+use Rattle.agc_places.specs.declared.places.PlacesFault.{PlacesFault}
 use Rattle.agc_results.specs.Placed.{IsMistake, IsUnsaid, all_said, said_in, unsaid_text}
 use Rattle.agc_results.specs.declared.placed.Question.{Question}
 

@@ -7,10 +7,10 @@ use Rattle.agc_args.specs.declared.args.ArgsFault.{ArgsFault}
 use Rattle.agc_args.specs.declared.args.ArgsFault.TheVariants as fault
 use Rattle.agc_asked.specs.declared.asked.Tracing.{Tracing}
 use Rattle.agc_names.specs.Names.{Named}
-use Rattle.agc_trace.specs.Places.{fault_name}
-use Rattle.agc_trace.specs.Said.{cells_said, places_said}
-use Rattle.agc_trace.specs.declared.places.Places.{Places}
-use Rattle.agc_trace.specs.declared.places.PlacesFault.{PlacesFault}
+use Rattle.agc_places.specs.Places.{fault_name}
+use Rattle.agc_places.specs.Said.{cells_said, places_said}
+use Rattle.agc_places.specs.declared.places.Places.{Places}
+use Rattle.agc_places.specs.declared.places.PlacesFault.{PlacesFault}
 use Rattle.agc_results.specs.Until.{IsUntilWith}
 use Rattle.agc_results.specs.declared.placed.Question.{Question}
 use Rattle.agc_results.specs.declared.placed.Question.TheVariants as question

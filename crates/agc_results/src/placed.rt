@@ -15,7 +15,7 @@ use crate::until::name_until;
 use agc_args::ArgsFault;
 use agc_asked::Tracing;
 use agc_names::NameTable;
-use agc_trace::{Places, PlacesFault};
+use agc_places::{Places, PlacesFault};
 use std::alloc::{AllocError, Global};
 
 /// A question to a trace whose answers stand at places.

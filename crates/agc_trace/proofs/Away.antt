@@ -38,19 +38,20 @@ use Rattle.agc_machine.specs.declared.upcoming.Upcoming.TheVariants as upcoming
 use Rattle.agc_machine.proofs.Cases.{upcoming_applies, upcoming_comes}
 use Rattle.agc_source_words.specs.declared.location.Location.{Location}
 use Rattle.agc_source_words.specs.declared.location.Location.TheVariants as location
-use Rattle.agc_trace.specs.Cell.{erasable_cells, same_word}
+use Rattle.agc_places.specs.Cell.{erasable_cells, same_word}
 use Rattle.agc_trace.specs.Change.{changes_since, is_changed, is_named, named_below, named_cells, seen_in}
-use Rattle.agc_trace.specs.Places.{has_place, is_from_to}
+use Rattle.agc_places.specs.Places.{has_place, is_from_to}
 use Rattle.agc_trace.specs.Touched.{are_past, begins_by, cell_in, is_away, reach_of, touched_at, touched_by}
 use Rattle.agc_trace.specs.declared.change.Change.{Change}
 use Rattle.agc_trace.specs.declared.change.Seen.{Seen}
-use Rattle.agc_trace.specs.declared.places.Places.{Places}
+use Rattle.agc_places.specs.declared.places.Places.{Places}
 use Rattle.agc_trace.specs.declared.touched.Touched.{Touched}
 use Rattle.agc_trace.specs.declared.touched.Touched.TheVariants as touched
 use Rattle.agc_trace.specs.Entry.{entry_of}
 use Rattle.agc_trace.specs.Watch.{watched_of}
 use Rattle.agc_trace.specs.declared.entry.Entry.{Entry}
-use Rattle.agc_trace.proofs.Changes.{same_word-refl, seen_after, watched_is}
+use Rattle.agc_places.proofs.SameWord.{same_word-refl}
+use Rattle.agc_trace.proofs.Changes.{seen_after, watched_is}
 
 -- a cell past EDOP is not among those that are touched
 abbrev IsAway : Touched → ℕ → Type 0

@@ -2,9 +2,6 @@ pub mod Entry
 pub mod Line
 pub mod NamedLine
 pub mod Trace
-pub mod Cell
-pub mod Places
-pub mod Said
 pub mod Change
 pub mod Touched
 pub mod Watch

@@ -20,13 +20,13 @@ use Rattle.agc_machine.specs.declared.upcoming.Upcoming.TheVariants as upcoming
 use Rattle.agc_names.specs.Names.{Named}
 use Rattle.agc_trace.specs.Change.{named_cells}
 use Rattle.agc_trace.specs.NamedLine.{watched_line}
-use Rattle.agc_trace.specs.Places.{has_place}
+use Rattle.agc_places.specs.Places.{has_place}
 use Rattle.agc_trace.specs.Trace.{is_stop}
 use Rattle.agc_trace.specs.Watch.{Watched, watch_of}
 use Rattle.agc_trace.specs.declared.change.Change.{Change}
 use Rattle.agc_trace.specs.declared.entry.Entry.{Entry}
 use Rattle.agc_trace.specs.declared.entry.Registers.{Registers}
-use Rattle.agc_trace.specs.declared.places.Places.{Places}
+use Rattle.agc_places.specs.declared.places.Places.{Places}
 use Rattle.agc_trace.specs.declared.selection.Only.{Only}
 use Rattle.agc_trace.specs.declared.selection.Only.TheVariants as only
 use Rattle.agc_trace.specs.declared.selection.Selection.{Selection}

@@ -14,7 +14,7 @@ use Rattle.agc_machine.specs.declared.upcoming.Upcoming.TheVariants as upcoming
 use Rattle.agc_source_words.specs.declared.location.Location.{Location}
 use Rattle.agc_source_words.specs.declared.location.Location.TheVariants as location
 use Rattle.agc_trace.specs.Change.{is_named}
-use Rattle.agc_trace.specs.declared.places.Places.{Places}
+use Rattle.agc_places.specs.declared.places.Places.{Places}
 use Rattle.agc_trace.specs.declared.touched.Touched.{Touched}
 use Rattle.agc_trace.specs.declared.touched.Touched.TheVariants as touched
 

@@ -15,12 +15,11 @@ ghost use Rattle.agc_trace.specs.Change.{
 ghost use Rattle.agc_trace.specs.Entry.{FitsLine, entry_of};
 ghost use Rattle.agc_trace.specs.Watch.{watched_of};
 
-use crate::cell::{Cell, is_same_word, push_cell_word};
 use crate::entry::{Entry, next_entry};
-use crate::places::Places;
 use crate::selection::Selection;
 use crate::touched::is_away;
 use agc_machine::Machine;
+use agc_places::{Cell, Places, is_same_word, push_cell_word};
 use agc_rope_listing::push_place;
 use agc_source_words::Location;
 use agc_store::Store;

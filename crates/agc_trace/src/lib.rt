@@ -1,26 +1,21 @@
 //! The trace of a run: what each boundary did, as values and as lines.
 #![tactic(auto)]
 
-mod cell;
 mod change;
 mod entry;
 mod last;
 pub mod laws;
 mod line;
 mod named_line;
-mod places;
-mod said;
 mod selection;
 mod service;
 mod touched;
 mod tracing;
 
-pub use cell::Cell;
 pub use change::Change;
 pub use entry::{Entry, Registers, next_entry, registers_in};
 pub use line::{push_happening, push_line, push_registers};
 pub use named_line::{push_line_with, push_named_happening};
-pub use places::{Places, PlacesFault};
 pub use selection::{Only, Selection};
 pub use service::Service;
 pub use tracing::{TraceFault, trace};

@@ -17,9 +17,9 @@ ghost use Rattle.agc_trace.specs.Selection.{
 
 use crate::change::Change;
 use crate::entry::{Entry, Registers};
-use crate::places::Places;
 use agc_machine::{InHand, Upcoming};
 use agc_order::{Basic, Extracode};
+use agc_places::Places;
 use agc_source_words::location_at;
 
 /// A kind of boundaries.

@@ -15,9 +15,9 @@ ghost use Rattle.agc_trace.specs.Touched.{
 };
 
 use crate::change::is_named;
-use crate::places::Places;
 use agc_machine::{InHand, Upcoming};
 use agc_order::{Basic, Extracode};
+use agc_places::Places;
 use agc_source_words::Location;
 use agc_store::place::{EDOP, ERASABLE_BANK_SIZE, ERASABLE_WINDOW, TIME6, ZERO};
 

@@ -4,8 +4,8 @@ use agc_names::{
     text_with_names,
 };
 use agc_names_file::{NamesRefusal, read_names};
+use agc_places::{Places, PlacesFault};
 use agc_source_words::Location;
-use agc_trace::{Places, PlacesFault};
 use std::process::Abort;
 use std::test::Fail;
 

@@ -1,12 +1,13 @@
 //! Traces of small programs, worked out by hand.
 use agc_machine::Machine;
+use agc_places::{Places, PlacesFault};
 use agc_processor::Rupt;
 use agc_progress::Untold;
 use agc_script::Script;
 use agc_source_words::{Location, location_at};
 use agc_store::{Addr, Rope};
 use agc_test_kit::rope_file;
-use agc_trace::{Only, Places, PlacesFault, Selection, Service, trace};
+use agc_trace::{Only, Selection, Service, trace};
 use std::process::Abort;
 use std::test::Fail;
 

@@ -1,7 +1,7 @@
 use Rattle.std.proofs.Common.{List, ap, ◌∙◌}
 use Rattle.agc_store.specs.Memory.{Memory, erasable_bank}
 use Rattle.agc_trace.specs.Touched.{is_away, touched_by}
-use Rattle.agc_trace.specs.declared.places.Places.{Places}
+use Rattle.agc_places.specs.declared.places.Places.{Places}
 use Rattle.agc_trace.proofs.Away.{none_found, seen_found, watched_found}
 use Rattle.agc_trace.proofs.change.next_watched.Goals as goal
 

@@ -5,9 +5,9 @@ use Rattle.agc_store.specs.Places.{erasable_bank_size, fixed_bank_size}
 use Rattle.agc_source_words.specs.Location.{location_named}
 use Rattle.agc_source_words.specs.declared.location.Location.{Location}
 use Rattle.agc_source_words.specs.declared.location.Location.TheVariants as location
-use Rattle.agc_trace.specs.declared.places.Places.{Places}
-use Rattle.agc_trace.specs.declared.places.PlacesFault.{PlacesFault}
-use Rattle.agc_trace.specs.declared.places.PlacesFault.TheVariants as fault
+use Rattle.agc_places.specs.declared.places.Places.{Places}
+use Rattle.agc_places.specs.declared.places.PlacesFault.{PlacesFault}
+use Rattle.agc_places.specs.declared.places.PlacesFault.TheVariants as fault
 
 -- a place from one to another, both included
 abbrev pub is_from_to : Location → Location → Location → Bool

@@ -1,13 +1,13 @@
 //! The stretches of places that a question names where names are given.
 ghost use Rattle.std.specs.Prelude.{◌≡◌, ◌<◌, IfSome, length};
-ghost use Rattle.agc_trace.specs.Said.{dash_between, is_between, places_called};
+ghost use Rattle.agc_places.specs.Said.{dash_between, is_between, places_called};
 
 use crate::places::{Places, PlacesFault, one_place, only_cells, two_places};
 use agc_names::{NameTable, place_said};
 
 impl Places {
     ghost use Rattle.std.specs.Prelude.{◌≡◌};
-    ghost use Rattle.agc_trace.specs.Said.{cells_said, places_said};
+    ghost use Rattle.agc_places.specs.Said.{cells_said, places_said};
 
     /// The places that a text says: those that it names without names; or else, where names are given, the place that
     /// it is as `place_said` of agc_names reads it, or two of one bank with a dash between, at the first dash that has a

@@ -5,9 +5,9 @@ use Rattle.std.specs.List.{range_with_len}
 use Rattle.agc_names.specs.Lookup.{place_said}
 use Rattle.agc_names.specs.Names.{Named}
 use Rattle.agc_source_words.specs.declared.location.Location.{Location}
-use Rattle.agc_trace.specs.Places.{is_dash, one_place, only_cells, places_named, two_places}
-use Rattle.agc_trace.specs.declared.places.Places.{Places}
-use Rattle.agc_trace.specs.declared.places.PlacesFault.{PlacesFault}
+use Rattle.agc_places.specs.Places.{is_dash, one_place, only_cells, places_named, two_places}
+use Rattle.agc_places.specs.declared.places.Places.{Places}
+use Rattle.agc_places.specs.declared.places.PlacesFault.{PlacesFault}
 
 -- a dash, and on either side of it a place, by itself or by its name
 abbrev pub is_between : Option (List Named) → List ℕ → ℕ → Bool

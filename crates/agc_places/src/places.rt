@@ -1,6 +1,6 @@
 //! The stretches of places that a question to a trace names.
 ghost use Rattle.std.specs.Prelude.{◌≡◌, ◌<◌, IfSome, Ok, length, position};
-ghost use Rattle.agc_trace.specs.Places.{is_dash, is_stretch, one_place, only_cells, two_places};
+ghost use Rattle.agc_places.specs.Places.{is_dash, is_stretch, one_place, only_cells, two_places};
 
 use agc_source_words::{Location, location_named};
 
@@ -24,7 +24,7 @@ pub enum PlacesFault {
 
 impl PlacesFault {
     ghost use Rattle.std.specs.Prelude.{◌≡◌};
-    ghost use Rattle.agc_trace.specs.Places.{fault_name};
+    ghost use Rattle.agc_places.specs.Places.{fault_name};
 
     /// Its name.
     pub fn name(self) -> &'static str
@@ -40,7 +40,7 @@ impl PlacesFault {
 
 impl Places {
     ghost use Rattle.std.specs.Prelude.{◌≡◌};
-    ghost use Rattle.agc_trace.specs.Places.{cells_named, has_place, places_named};
+    ghost use Rattle.agc_places.specs.Places.{cells_named, has_place, places_named};
 
     /// The places that a text names: a place as sources name it, or two with a dash between.
     #[tactic(auto, unfolding(crate::specs::Places::places_named))]

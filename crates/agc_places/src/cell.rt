@@ -2,7 +2,8 @@
 ghost use Rattle.std.specs.Prelude.{◌≡◌, ◌↔◌, ◌<◌, ◌++◌, IsTrue, OnOk, string_bytes};
 ghost use Rattle.agc_rope_listing.specs.Place.{IsInPrint};
 ghost use Rattle.agc_store.specs.Memory.{cell_at};
-ghost use Rattle.agc_trace.specs.Cell.{cell_place, cell_word, same_word};
+ghost use Rattle.agc_store.specs.Registers.{HoldsRegisters};
+ghost use Rattle.agc_places.specs.Cell.{cell_place, cell_word, same_word};
 
 use agc_rope_listing::Place;
 use agc_store::place::{A, Q};
@@ -49,7 +50,8 @@ impl Cell {
     /// Its word, of sixteen bits in A and Q; every other cell has a narrow one.
     #[tactic(auto, unfolding(agc_store::specs::Memory::read_of, agc_store::specs::Memory::erasable_place))]
     pub fn word(self, store: &Store) -> Wide
-        ensures { result ≡ cell_at self store.now.erasable }
+        ensures word { result ≡ cell_at self store.now.erasable }
+        ensures registers { HoldsRegisters store.now.erasable }
     {
         let number = self.number();
         let word = store.read(Addr::wrapped(number));
@@ -79,7 +81,7 @@ impl Cell {
 
 /// Adds a word of a cell: of A and Q six octal digits, of all others five.
 #[tactic(auto, unfolding(crate::specs::Cell::cell_word))]
-pub(crate) fn push_cell_word(text: &mut String, cell: Cell, word: Wide) -> Result<(), AllocError>
+pub fn push_cell_word(text: &mut String, cell: Cell, word: Wide) -> Result<(), AllocError>
     ensures { OnOk result (string_bytes text.new ≡ string_bytes text.old ++ cell_word cell word) }
 {
     let number = cell.number();
@@ -91,7 +93,7 @@ pub(crate) fn push_cell_word(text: &mut String, cell: Cell, word: Wide) -> Resul
 }
 
 /// Two words are the same: +0 and -0 are not.
-pub(crate) fn is_same_word(left: Wide, right: Wide) -> bool
+pub fn is_same_word(left: Wide, right: Wide) -> bool
     ensures { result ≡ same_word left right }
 {
     is_equal(left, right)

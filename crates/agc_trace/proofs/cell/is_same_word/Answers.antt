@@ -1,5 +1,0 @@
-use Rattle.agc_trace.proofs.Changes.{same_by}
-use Rattle.agc_trace.proofs.cell.is_same_word.Goals as goal
-
-pub returns : goal.returns
-returns c = same_by _ _ _ c.is_equal.ensures.0 c.is_equal.ensures.1
