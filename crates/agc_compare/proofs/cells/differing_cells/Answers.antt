@@ -8,12 +8,14 @@ loop-place-init c = told_none _ _ _ c.new-cells.ensures.items
 
 pub loop-place-preserved : goal.loop-place-preserved
 loop-place-preserved c =
+    let left = rw c.new-named.ensures at c.word.ensures.word in
+    let right = rw c.new-named.ensures at c.word-in-loop-place.ensures.word in
     elim c.if-not-is_same_word.branch [
       | then-not-is_same_word+in_ok-push w ↦
-          told_one _ _ _ _ _ _ _ c.word_at.ensures.word c.word_at-in-loop-place.ensures.word c.word_at.ensures.registers c.word_at-in-loop-place.ensures.registers false
+          told_one _ _ _ _ _ _ _ left right c.word.ensures.registers c.word-in-loop-place.ensures.registers false
           w.if-not-is_same_word.ensures.0 w.if-not-is_same_word.ensures.1 (ap (λ v. v.items) w.cells-is ∙ w.in_ok-push.ensures.items) c.loop-place.invariant
       | else-not-is_same_word w ↦
-          told_one _ _ _ _ _ _ _ c.word_at.ensures.word c.word_at-in-loop-place.ensures.word c.word_at.ensures.registers c.word_at-in-loop-place.ensures.registers true
+          told_one _ _ _ _ _ _ _ left right c.word.ensures.registers c.word-in-loop-place.ensures.registers true
           w.if-not-is_same_word.ensures.0 w.if-not-is_same_word.ensures.1 (ap (λ v. v.items) w.cells-is ∙ sym (append-nil _)) c.loop-place.invariant
     ]
 
