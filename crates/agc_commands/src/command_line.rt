@@ -1,5 +1,6 @@
 //! The command line that `clap` reads: the subcommands with their files and options.
-use clap::{Arg, ArgAction, Command, value_parser};
+use crate::words::{Subcommands, Words, flag, number, option, repeated};
+use clap::{ArgAction, Command};
 use std::alloc::{AllocError, Global};
 
 static FORMS: [&str; 2] = ["classic", "parity"];
@@ -8,354 +9,391 @@ static KINDS: [&str; 3] = ["writes", "interrupts", "jumps"];
 
 /// The program's command, of which one of the subcommands must be named.
 pub fn command<'a>(alloc: Global) -> Result<Command<'a>, AllocError> {
+    let commands = subcommands(alloc).commands?;
     Command::new(alloc, "agc-study")
         .about("Looks inside the ropes and the runs of a Block II computer.")
         .subcommand_required(true)
-        .subcommand(list_command(alloc)?)?
-        .subcommand(weave_command(alloc)?)?
-        .subcommand(check_command(alloc)?)?
-        .subcommand(trace_command(alloc)?)?
-        .subcommand(count_command(alloc)?)?
-        .subcommand(jobs_command(alloc)?)?
-        .subcommand(compare_command(alloc)?)?
-        .subcommand(film_command(alloc)?)
+        .subcommands(commands)
 }
 
-fn list_command<'a>(alloc: Global) -> Result<Command<'a>, AllocError> {
-    Command::new(alloc, "list")
-        .about("Prints each word of a rope that is not +0, as an order.")
-        .arg(rope_file(alloc))?
-        .arg(form_option(alloc))?
-        .arg(bank_option(alloc))?
-        .arg(names_option(alloc))?
-        .arg(source_option(alloc)?)
+fn subcommands<'a>(alloc: Global) -> Subcommands<'a> {
+    Subcommands::none(alloc)
+        .list_command()
+        .weave_command()
+        .check_command()
+        .trace_command()
+        .count_command()
+        .jobs_command()
+        .compare_command()
+        .film_command()
 }
 
-fn weave_command<'a>(alloc: Global) -> Result<Command<'a>, AllocError> {
-    Command::new(alloc, "weave")
-        .about(
+impl<'a> Subcommands<'a> {
+    fn list_command(self) -> Subcommands<'a> {
+        let words = Words::none(self.alloc)
+            .rope_file(true)
+            .form_option()
+            .bank_option()
+            .names_option()
+            .source_option();
+        self.with(
+            "list",
+            "Prints each word of a rope that is not +0, as an order.",
+            words,
+        )
+    }
+
+    fn weave_command(self) -> Subcommands<'a> {
+        let words = Words::none(self.alloc)
+            .text_file()
+            .form_option()
+            .names_file();
+        self.with(
+            "weave",
             "Writes the rope file of a text: places with words, or names, orders and directives, a line each.",
+            words,
         )
-        .arg(text_file(alloc))?
-        .arg(form_option(alloc))?
-        .arg(names_file(alloc))
-}
+    }
 
-fn check_command<'a>(alloc: Global) -> Result<Command<'a>, AllocError> {
-    Command::new(alloc, "check")
-        .about(
+    fn check_command(self) -> Subcommands<'a> {
+        let words = Words::none(self.alloc)
+            .rope_file(false)
+            .script_file(false)
+            .keys_option()
+            .listing_option()
+            .form_option();
+        self.with(
+            "check",
             "Tells what is wrong with a rope and a script, a text of live keys or the text of a rope, or what they hold.",
+            words,
         )
-        .arg(rope_file(alloc).required(false))?
-        .arg(script_file(alloc).required(false))?
-        .arg(keys_option(alloc))?
-        .arg(listing_option(alloc))?
-        .arg(form_option(alloc))
-}
+    }
 
-fn trace_command<'a>(alloc: Global) -> Result<Command<'a>, AllocError> {
-    Command::new(alloc, "trace")
-        .about(
+    fn trace_command(self) -> Subcommands<'a> {
+        let words = Words::none(self.alloc)
+            .rope_file(true)
+            .script_file(true)
+            .limit_option()
+            .form_option()
+            .until_option()
+            .cycle_option("from", "The first cycle whose line is printed")
+            .cycle_option("to", "The last cycle whose line is printed")
+            .only_option()
+            .at_option()
+            .order_option()
+            .channel_option()
+            .cell_option()
+            .last_option()
+            .names_option();
+        self.with(
+            "trace",
             "Runs a rope and a script, and prints a line for each order, event, timer step and interrupt.",
+            words,
         )
-        .arg(rope_file(alloc))?
-        .arg(script_file(alloc))?
-        .arg(limit_option(alloc))?
-        .arg(form_option(alloc))?
-        .arg(until_option(alloc))?
-        .arg(cycle_option(alloc, "from", "The first cycle whose line is printed"))?
-        .arg(cycle_option(alloc, "to", "The last cycle whose line is printed"))?
-        .arg(only_option(alloc))?
-        .arg(at_option(alloc))?
-        .arg(order_option(alloc))?
-        .arg(channel_option(alloc))?
-        .arg(cell_option(alloc))?
-        .arg(last_option(alloc))?
-        .arg(names_option(alloc))
-}
+    }
 
-fn count_command<'a>(alloc: Global) -> Result<Command<'a>, AllocError> {
-    Command::new(alloc, "count")
-        .about(
+    fn count_command(self) -> Subcommands<'a> {
+        let words = Words::none(self.alloc)
+            .rope_file(true)
+            .script_file(true)
+            .limit_option()
+            .form_option()
+            .until_option()
+            .cycle_option("from", "The first cycle that is counted")
+            .cycle_option("to", "The last cycle that is counted")
+            .whole_option()
+            .csv_option();
+        self.with(
+            "count",
             "Runs a rope and a script, and prints how often each word ran, and how many cycles went where.",
+            words,
         )
-        .arg(rope_file(alloc))?
-        .arg(script_file(alloc))?
-        .arg(limit_option(alloc))?
-        .arg(form_option(alloc))?
-        .arg(until_option(alloc))?
-        .arg(cycle_option(alloc, "from", "The first cycle that is counted"))?
-        .arg(cycle_option(alloc, "to", "The last cycle that is counted"))?
-        .arg(whole_option(alloc))?
-        .arg(csv_option(alloc))
-}
+    }
 
-fn jobs_command<'a>(alloc: Global) -> Result<Command<'a>, AllocError> {
-    Command::new(alloc, "jobs")
-        .about(
+    fn jobs_command(self) -> Subcommands<'a> {
+        let words = Words::none(self.alloc)
+            .rope_file(true)
+            .script_file(true)
+            .limit_option()
+            .watch_option()
+            .form_option()
+            .until_option()
+            .cycle_option("from", "The first cycle at which the tables are told")
+            .cycle_option("to", "The last cycle at which the tables are told");
+        self.with(
+            "jobs",
             "Runs a rope and a script, and prints the lines of the Executive's tables as they change.",
+            words,
         )
-        .arg(rope_file(alloc))?
-        .arg(script_file(alloc))?
-        .arg(limit_option(alloc))?
-        .arg(watch_option(alloc))?
-        .arg(form_option(alloc))?
-        .arg(until_option(alloc))?
-        .arg(cycle_option(
-            alloc,
-            "from",
-            "The first cycle at which the tables are told",
-        ))?
-        .arg(cycle_option(alloc, "to", "The last cycle at which the tables are told"))
-}
+    }
 
-fn compare_command<'a>(alloc: Global) -> Result<Command<'a>, AllocError> {
-    Command::new(alloc, "compare")
-        .about("Runs two ropes with two scripts, and tells where the runs part.")
-        .arg(rope_file(alloc))?
-        .arg(script_file(alloc))?
-        .arg(other_rope(alloc).required(true))?
-        .arg(other_script(alloc).required(true))?
-        .arg(limit_option(alloc))?
-        .arg(form_option(alloc))?
-        .arg(until_option(alloc))?
-        .arg(by_option(alloc))?
-        .arg(brief_option(alloc)?)?
-        .arg(names_of_runs(alloc)?)
-}
+    fn compare_command(self) -> Subcommands<'a> {
+        let words = Words::none(self.alloc)
+            .rope_file(true)
+            .script_file(true)
+            .other_rope(true)
+            .other_script(true)
+            .limit_option()
+            .form_option()
+            .until_option()
+            .by_option()
+            .brief_option()
+            .names_of_runs();
+        self.with(
+            "compare",
+            "Runs two ropes with two scripts, and tells where the runs part.",
+            words,
+        )
+    }
 
-fn film_command<'a>(alloc: Global) -> Result<Command<'a>, AllocError> {
-    Command::new(alloc, "film")
-        .about(
+    fn film_command(self) -> Subcommands<'a> {
+        let words = Words::none(self.alloc)
+            .rope_file(true)
+            .script_file(true)
+            .other_rope(false)
+            .other_script(false)
+            .limit_option()
+            .form_option()
+            .until_option()
+            .cycle_option("from", "The first cycle that is filmed")
+            .cycle_option("to", "The last cycle that is filmed");
+        self.with(
+            "film",
             "Prints a page for a browser that shows the DSKY over the time of a run, or of two runs.",
+            words,
         )
-        .arg(rope_file(alloc))?
-        .arg(script_file(alloc))?
-        .arg(other_rope(alloc))?
-        .arg(other_script(alloc))?
-        .arg(limit_option(alloc))?
-        .arg(form_option(alloc))?
-        .arg(until_option(alloc))?
-        .arg(cycle_option(alloc, "from", "The first cycle that is filmed"))?
-        .arg(cycle_option(alloc, "to", "The last cycle that is filmed"))
+    }
 }
 
-fn watch_option<'a>(alloc: Global) -> Arg<'a> {
-    Arg::new(alloc, "watch")
-        .long("watch")
-        .value_name("SPEC")
-        .required(true)
-        .help(
+impl<'a> Words<'a> {
+    fn watch_option(self) -> Words<'a> {
+        let arg = option(
+            self.alloc,
+            "watch",
+            "SPEC",
             "Where core sets and wait lists stand: octal CORE_BANK,CORE_OFFSET,SETS,LST1_BANK,LST1_OFFSET,LST2_BANK,LST2_OFFSET",
         )
-}
+        .required(true);
+        self.with(arg)
+    }
 
-fn whole_option<'a>(alloc: Global) -> Arg<'a> {
-    Arg::new(alloc, "whole")
-        .long("rope")
-        .action(ArgAction::SetTrue)
-        .help("Print the words of the whole rope that are not +0, with those that never ran")
-}
+    fn whole_option(self) -> Words<'a> {
+        let arg = flag(
+            self.alloc,
+            "whole",
+            "Print the words of the whole rope that are not +0, with those that never ran",
+        )
+        .long("rope");
+        self.with(arg)
+    }
 
-fn csv_option<'a>(alloc: Global) -> Arg<'a> {
-    Arg::new(alloc, "csv")
-        .long("csv")
-        .action(ArgAction::SetTrue)
-        .help("Print comma-separated values in place of columns")
-}
+    fn csv_option(self) -> Words<'a> {
+        self.flag("csv", "Print comma-separated values in place of columns")
+    }
 
-fn by_option<'a>(alloc: Global) -> Arg<'a> {
-    Arg::new(alloc, "by").long("by").value_name("WHAT").help(
-        "Compare what shows, with the cycles left out: writes, channel CCC (octal, 0 to 777), or panels",
-    )
-}
+    fn by_option(self) -> Words<'a> {
+        self.option(
+            "by",
+            "WHAT",
+            "Compare what shows, with the cycles left out: writes, channel CCC (octal, 0 to 777), or panels",
+        )
+    }
 
-fn brief_option<'a>(alloc: Global) -> Result<Arg<'a>, AllocError> {
-    Arg::new(alloc, "brief")
-        .long("brief")
-        .action(ArgAction::SetTrue)
-        .help("Tell it in one line: same, or the cycle and the number of the first that differs")
-        .requires_arg("by")
-}
+    fn brief_option(self) -> Words<'a> {
+        let arg = flag(
+            self.alloc,
+            "brief",
+            "Tell it in one line: same, or the cycle and the number of the first that differs",
+        )
+        .requires_arg("by");
+        self.with_tied(arg)
+    }
 
-fn other_rope<'a>(alloc: Global) -> Arg<'a> {
-    Arg::new(alloc, "other-rope")
-        .value_name("ROPE")
-        .help("The rope file of the other run")
-}
+    fn other_rope(self, is_required: bool) -> Words<'a> {
+        self.file(
+            "other-rope",
+            "ROPE",
+            "The rope file of the other run",
+            is_required,
+        )
+    }
 
-fn other_script<'a>(alloc: Global) -> Arg<'a> {
-    Arg::new(alloc, "other-script")
-        .value_name("SCRIPT")
-        .help("The script file of the other run")
-}
+    fn other_script(self, is_required: bool) -> Words<'a> {
+        self.file(
+            "other-script",
+            "SCRIPT",
+            "The script file of the other run",
+            is_required,
+        )
+    }
 
-fn script_file<'a>(alloc: Global) -> Arg<'a> {
-    Arg::new(alloc, "script")
-        .value_name("SCRIPT")
-        .required(true)
-        .help("The file of the script's lines, as agc takes it")
-}
+    fn script_file(self, is_required: bool) -> Words<'a> {
+        self.file(
+            "script",
+            "SCRIPT",
+            "The file of the script's lines, as agc takes it",
+            is_required,
+        )
+    }
 
-fn limit_option<'a>(alloc: Global) -> Arg<'a> {
-    Arg::new(alloc, "limit")
-        .long("limit")
-        .value_name("N")
-        .required(true)
-        .value_parser(value_parser!(u64))
-        .help("Stop at this cycle: decimal, 1 to 1000000000000")
-}
+    fn limit_option(self) -> Words<'a> {
+        let arg = number(
+            self.alloc,
+            "limit",
+            "N",
+            "Stop at this cycle: decimal, 1 to 1000000000000",
+        )
+        .required(true);
+        self.with(arg)
+    }
 
-fn until_option<'a>(alloc: Global) -> Arg<'a> {
-    Arg::new(alloc, "until")
-        .long("until")
-        .value_name("BANK,ADDR")
-        .help("Stop before the order at this address runs: octal, BANK 0 to 47, ADDR 0 to 7777")
-}
+    fn until_option(self) -> Words<'a> {
+        self.option(
+            "until",
+            "BANK,ADDR",
+            "Stop before the order at this address runs: octal, BANK 0 to 47, ADDR 0 to 7777",
+        )
+    }
 
-fn cycle_option<'a>(alloc: Global, name: &'a str, help: &'a str) -> Arg<'a> {
-    Arg::new(alloc, name)
-        .long(name)
-        .value_name("CYCLE")
-        .value_parser(value_parser!(u64))
-        .help(help)
-}
+    fn cycle_option(self, name: &'a str, help: &'a str) -> Words<'a> {
+        self.number(name, "CYCLE", help)
+    }
 
-fn only_option<'a>(alloc: Global) -> Arg<'a> {
-    Arg::new(alloc, "only")
-        .long("only")
-        .value_name("KIND")
-        .value_parser(KINDS.as_slice())
-        .help(
+    fn only_option(self) -> Words<'a> {
+        let arg = option(
+            self.alloc,
+            "only",
+            "KIND",
             "Print these lines and the stop's: orders that write to a channel, interrupts and RESUMEs, or orders that jump",
         )
-}
+        .value_parser(KINDS.as_slice());
+        self.with(arg)
+    }
 
-fn at_option<'a>(alloc: Global) -> Arg<'a> {
-    Arg::new(alloc, "at")
-        .long("at")
-        .value_name("PLACES")
-        .action(ArgAction::Append)
-        .help(
+    fn at_option(self) -> Words<'a> {
+        self.repeated(
+            "at",
+            "PLACES",
             "Print the orders at these places and the stop: 4100, 05,2071, E3,1400, or two of a bank as 4100-4177, or names of --names; may be said again",
         )
-}
+    }
 
-fn order_option<'a>(alloc: Global) -> Arg<'a> {
-    Arg::new(alloc, "order")
-        .long("order")
-        .value_name("NAME")
-        .action(ArgAction::Append)
-        .help("Print the orders of this mnemonic and the stop; may be said again")
-}
+    fn order_option(self) -> Words<'a> {
+        self.repeated(
+            "order",
+            "NAME",
+            "Print the orders of this mnemonic and the stop; may be said again",
+        )
+    }
 
-fn channel_option<'a>(alloc: Global) -> Arg<'a> {
-    Arg::new(alloc, "channel")
-        .long("channel")
-        .value_name("CCC")
-        .action(ArgAction::Append)
-        .help(
+    fn channel_option(self) -> Words<'a> {
+        self.repeated(
+            "channel",
+            "CCC",
             "Print the orders that read or write this channel and the stop: octal, 0 to 777; may be said again",
         )
-}
+    }
 
-fn cell_option<'a>(alloc: Global) -> Arg<'a> {
-    Arg::new(alloc, "cell")
-        .long("cell")
-        .value_name("PLACES")
-        .action(ArgAction::Append)
-        .help(
+    fn cell_option(self) -> Words<'a> {
+        self.repeated(
+            "cell",
+            "PLACES",
             "Print what gives one of these erasable cells another word and the stop: 0100, E3,1400, or two of a bank as 0100-0107, or names of --names; may be said again",
         )
-}
+    }
 
-fn last_option<'a>(alloc: Global) -> Arg<'a> {
-    Arg::new(alloc, "last")
-        .long("last")
-        .value_name("N")
-        .value_parser(value_parser!(u64))
-        .help("Print the last N of these lines alone, where the run has come to its end")
-}
+    fn last_option(self) -> Words<'a> {
+        self.number(
+            "last",
+            "N",
+            "Print the last N of these lines alone, where the run has come to its end",
+        )
+    }
 
-fn names_option<'a>(alloc: Global) -> Arg<'a> {
-    Arg::new(alloc, "names")
-        .long("names")
-        .value_name("FILE")
-        .help(
+    fn names_option(self) -> Words<'a> {
+        self.option(
+            "names",
+            "FILE",
             "Print the names of places too, which this file gives: a place and its name, a line each",
         )
-}
+    }
 
-fn names_of_runs<'a>(alloc: Global) -> Result<Arg<'a>, AllocError> {
-    Arg::new(alloc, "names")
-        .long("names")
-        .value_name("FILE")
-        .action(ArgAction::Append)
-        .help(
+    fn names_of_runs(self) -> Words<'a> {
+        let arg = repeated(
+            self.alloc,
+            "names",
+            "FILE",
             "Print the names of places too, which this file gives: a place and its name, a line each; said again for the run on the right",
         )
-        .conflicts_with("by")
-}
+        .conflicts_with("by");
+        self.with_tied(arg)
+    }
 
-fn names_file<'a>(alloc: Global) -> Arg<'a> {
-    Arg::new(alloc, "names")
-        .long("names")
-        .value_name("OUT")
-        .help("Write the names of the text to this file: a place and its name, a line each")
-}
-
-fn rope_file<'a>(alloc: Global) -> Arg<'a> {
-    Arg::new(alloc, "rope")
-        .value_name("ROPE")
-        .required(true)
-        .help("The file of the fixed memory: 16-bit words, the high byte first")
-}
-
-fn text_file<'a>(alloc: Global) -> Arg<'a> {
-    Arg::new(alloc, "text")
-        .value_name("FILE")
-        .required(true)
-        .help(
-            "The text of a rope, as list prints it or as listings of programs are; # starts a comment",
+    fn names_file(self) -> Words<'a> {
+        self.option(
+            "names",
+            "OUT",
+            "Write the names of the text to this file: a place and its name, a line each",
         )
-}
+    }
 
-fn form_option<'a>(alloc: Global) -> Arg<'a> {
-    Arg::new(alloc, "form")
-        .long("form")
-        .value_name("FORM")
-        .default_value("classic")
-        .value_parser(FORMS.as_slice())
-        .help(
+    fn rope_file(self, is_required: bool) -> Words<'a> {
+        self.file(
+            "rope",
+            "ROPE",
+            "The file of the fixed memory: 16-bit words, the high byte first",
+            is_required,
+        )
+    }
+
+    fn text_file(self) -> Words<'a> {
+        self.file(
+            "text",
+            "FILE",
+            "The text of a rope, as list prints it or as listings of programs are; # starts a comment",
+            true,
+        )
+    }
+
+    fn form_option(self) -> Words<'a> {
+        let arg = option(
+            self.alloc,
+            "form",
+            "FORM",
             "The layout of the rope file: banks 2, 3, 0, 1, 4 to 43 octal, or 0 to 43 octal with odd parity",
         )
-}
+        .default_value("classic")
+        .value_parser(FORMS.as_slice());
+        self.with(arg)
+    }
 
-fn keys_option<'a>(alloc: Global) -> Arg<'a> {
-    Arg::new(alloc, "keys")
-        .long("keys")
-        .value_name("FILE")
-        .help("A text of keys for agc --live, to check it too")
-}
+    fn keys_option(self) -> Words<'a> {
+        self.option(
+            "keys",
+            "FILE",
+            "A text of keys for agc --live, to check it too",
+        )
+    }
 
-fn listing_option<'a>(alloc: Global) -> Arg<'a> {
-    Arg::new(alloc, "listing")
-        .long("listing")
-        .value_name("FILE")
-        .help("The text of a rope for weave, to check it too")
-}
+    fn listing_option(self) -> Words<'a> {
+        self.option(
+            "listing",
+            "FILE",
+            "The text of a rope for weave, to check it too",
+        )
+    }
 
-fn bank_option<'a>(alloc: Global) -> Arg<'a> {
-    Arg::new(alloc, "bank")
-        .long("bank")
-        .value_name("BB")
-        .help("List this bank alone: octal, 00 to 43")
-}
+    fn bank_option(self) -> Words<'a> {
+        self.option("bank", "BB", "List this bank alone: octal, 00 to 43")
+    }
 
-fn source_option<'a>(alloc: Global) -> Result<Arg<'a>, AllocError> {
-    Arg::new(alloc, "source")
-        .long("source")
-        .action(ArgAction::SetTrue)
-        .help("Print a source that weaves to the rope again: orders without places and words")
-        .conflicts_with("names")
+    fn source_option(self) -> Words<'a> {
+        let arg = flag(
+            self.alloc,
+            "source",
+            "Print a source that weaves to the rope again: orders without places and words",
+        )
+        .conflicts_with("names");
+        self.with_tied(arg)
+    }
 }

@@ -2,5 +2,6 @@
 #![tactic(auto)]
 
 mod command_line;
+mod words;
 
 pub use command_line::command;
