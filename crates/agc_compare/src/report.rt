@@ -265,8 +265,8 @@ fn push_line_pair(text: &mut String, left: &str, right: &str) -> Result<(), Allo
     writeln!(text, "< {left}\n> {right}")
 }
 
-/// Adds the cells that differ, where there are some.
-#[tactic(auto, unfolding(crate::specs::Report::cells_text, crate::specs::Report::some_cells_text))]
+/// Adds the cells that differ.
+#[tactic(auto, unfolding(crate::specs::Report::cells_text))]
 fn push_cells(text: &mut String, cells: &[CellPair]) -> Result<(), AllocError>
     requires { All IsCell cells.now }
     ensures { OnOk result (string_bytes text.new
@@ -275,6 +275,16 @@ fn push_cells(text: &mut String, cells: &[CellPair]) -> Result<(), AllocError>
     if cells.is_empty() {
         return Ok(());
     }
+    push_some_cells(text, cells)
+}
+
+/// Adds the cells that differ, of which there are some.
+#[tactic(auto, unfolding(crate::specs::Report::some_cells_text))]
+fn push_some_cells(text: &mut String, cells: &[CellPair]) -> Result<(), AllocError>
+    requires { All IsCell cells.now }
+    ensures { OnOk result (string_bytes text.new
+        ≡ string_bytes text.old ++ some_cells_text cells.now) }
+{
     text.push_str("The cells that differ at the stops:\n")?;
     push_each_cell(text, cells)
 }
