@@ -9,7 +9,7 @@ static KINDS: [&str; 3] = ["writes", "interrupts", "jumps"];
 
 /// The program's command, of which one of the subcommands must be named.
 pub fn command<'a>(alloc: Global) -> Result<Command<'a>, AllocError> {
-    let commands = subcommands(alloc).commands?;
+    let commands = subcommands(alloc).all()?;
     Command::new(alloc, "agc-study")
         .about("Looks inside the ropes and the runs of a Block II computer.")
         .subcommand_required(true)

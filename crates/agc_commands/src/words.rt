@@ -2,74 +2,117 @@
 use clap::{Arg, ArgAction, Command, value_parser};
 use std::alloc::{AllocError, Global};
 
-/// The subcommands, or that there is no memory for one.
-#[derive(Drop)]
+/// The subcommands.
 pub struct Subcommands<'a> {
     pub alloc: Global,
-    pub commands: Result<Vec<Command<'a>>, AllocError>,
+    commands: Vec<Command<'a>>,
+    // There was memory for each.
+    added: Result<(), AllocError>,
 }
 
 impl<'a> Subcommands<'a> {
     pub fn none(alloc: Global) -> Subcommands<'a> {
         Subcommands {
             alloc,
-            commands: Ok(Vec::new(alloc)),
+            commands: Vec::new(alloc),
+            added: Ok(()),
         }
     }
 
     /// These subcommands and the one of this name after them.
     pub fn with(self, name: &'a str, about: &'a str, words: Words<'a>) -> Subcommands<'a> {
-        let commands = with_command(self.commands, words.command(name, about));
-        Subcommands {
-            alloc: self.alloc,
-            commands,
+        self.with_command(words.command(name, about))
+    }
+
+    fn with_command(self, command: Result<Command<'a>, AllocError>) -> Subcommands<'a> {
+        match command {
+            Ok(command) => self.with_added(command),
+            Err(error) => self.failed(error),
         }
+    }
+
+    fn failed(self, error: AllocError) -> Subcommands<'a> {
+        let Subcommands {
+            alloc,
+            commands,
+            added: _,
+        } = self;
+        Subcommands {
+            alloc,
+            commands,
+            added: Err(error),
+        }
+    }
+
+    fn with_added(self, command: Command<'a>) -> Subcommands<'a> {
+        let mut subcommands = self;
+        if let Err(error) = subcommands.commands.push(command) {
+            subcommands.added = Err(error.into());
+        }
+        subcommands
+    }
+
+    /// The subcommands, if there was memory for each.
+    pub fn all(self) -> Result<Vec<Command<'a>>, AllocError> {
+        let Subcommands {
+            alloc: _,
+            commands,
+            added,
+        } = self;
+        added?;
+        Ok(commands)
     }
 }
 
-fn with_command<'a>(
-    commands: Result<Vec<Command<'a>>, AllocError>,
-    command: Result<Command<'a>, AllocError>,
-) -> Result<Vec<Command<'a>>, AllocError> {
-    let mut commands = commands?;
-    commands.push(command?)?;
-    Ok(commands)
-}
-
-/// The words and the options of a subcommand, or that there is no memory for one.
-#[derive(Drop)]
+/// The words and the options of a subcommand.
 pub struct Words<'a> {
     pub alloc: Global,
-    args: Result<Vec<Arg<'a>>, AllocError>,
+    args: Vec<Arg<'a>>,
+    // There was memory for each.
+    added: Result<(), AllocError>,
 }
 
 impl<'a> Words<'a> {
     pub fn none(alloc: Global) -> Words<'a> {
         Words {
             alloc,
-            args: Ok(Vec::new(alloc)),
+            args: Vec::new(alloc),
+            added: Ok(()),
         }
     }
 
     // The subcommand of this name.
     fn command(self, name: &'a str, about: &'a str) -> Result<Command<'a>, AllocError> {
-        Command::new(self.alloc, name).about(about).args(self.args?)
+        let Words { alloc, args, added } = self;
+        added?;
+        Command::new(alloc, name).about(about).args(args)
     }
 
     pub fn with(self, arg: Arg<'a>) -> Words<'a> {
-        Words {
-            alloc: self.alloc,
-            args: with_arg(self.args, arg),
+        let mut words = self;
+        if let Err(error) = words.args.push(arg) {
+            words.added = Err(error.into());
         }
+        words
     }
 
     pub fn with_tied(self, arg: Result<Arg<'a>, AllocError>) -> Words<'a> {
         match arg {
             Ok(arg) => self.with(arg),
-            Err(error) => Words {
-                alloc: self.alloc,
-                args: Err(error),
-            },
+            Err(error) => self.failed(error),
+        }
+    }
+
+    fn failed(self, error: AllocError) -> Words<'a> {
+        let Words {
+            alloc,
+            args,
+            added: _,
+        } = self;
+        Words {
+            alloc,
+            args,
+            added: Err(error),
         }
     }
 
@@ -97,15 +140,6 @@ impl<'a> Words<'a> {
         let arg = flag(self.alloc, name, help);
         self.with(arg)
     }
-}
-
-fn with_arg<'a>(
-    args: Result<Vec<Arg<'a>>, AllocError>,
-    arg: Arg<'a>,
-) -> Result<Vec<Arg<'a>>, AllocError> {
-    let mut args = args?;
-    args.push(arg)?;
-    Ok(args)
 }
 
 fn named<'a>(alloc: Global, id: &'a str, shown: &'a str, help: &'a str) -> Arg<'a> {
