@@ -4,10 +4,10 @@
 mod files;
 mod input;
 mod keys;
-mod prepare;
 mod refusal;
+mod start;
 
 pub use files::{read_keys, read_rope, read_script};
 pub use input::{InputFile, KEY_BYTES, ROPE_BYTES, ReadFault, SCRIPT_BYTES, Unread, read_limited};
-pub use prepare::{Prepared, prepare, start_machine};
 pub use refusal::Refusal;
+pub use start::{Prepared, prepare, start_machine};
