@@ -62,7 +62,7 @@ fn trace_command<'a>(alloc: Global) -> Result<Command<'a>, AllocError> {
         .arg(script_file(alloc))?
         .arg(limit_option(alloc))?
         .arg(form_option(alloc))?
-        .arg(until_option(alloc))?
+        .arg(until_named(alloc))?
         .arg(cycle_option(alloc, "from", "The first cycle whose line is printed"))?
         .arg(cycle_option(alloc, "to", "The last cycle whose line is printed"))?
         .arg(only_option(alloc))?
@@ -118,7 +118,7 @@ fn compare_command<'a>(alloc: Global) -> Result<Command<'a>, AllocError> {
         .arg(other_script(alloc).required(true))?
         .arg(limit_option(alloc))?
         .arg(form_option(alloc))?
-        .arg(until_option(alloc))?
+        .arg(until_named(alloc))?
         .arg(by_option(alloc))?
         .arg(brief_option(alloc)?)?
         .arg(names_of_runs(alloc)?)
@@ -135,9 +135,11 @@ fn film_command<'a>(alloc: Global) -> Result<Command<'a>, AllocError> {
         .arg(other_script(alloc))?
         .arg(limit_option(alloc))?
         .arg(form_option(alloc))?
-        .arg(until_option(alloc))?
+        .arg(until_named(alloc))?
         .arg(cycle_option(alloc, "from", "The first cycle that is filmed"))?
-        .arg(cycle_option(alloc, "to", "The last cycle that is filmed"))
+        .arg(cycle_option(alloc, "to", "The last cycle that is filmed"))?
+        .arg(watch_option(alloc).required(false))?
+        .arg(names_of_stop(alloc))
 }
 
 fn watch_option<'a>(alloc: Global) -> Arg<'a> {
@@ -211,6 +213,13 @@ fn until_option<'a>(alloc: Global) -> Arg<'a> {
         .long("until")
         .value_name("BANK,ADDR")
         .help("Stop before the order at this address runs: octal, BANK 0 to 47, ADDR 0 to 7777")
+}
+
+/// `--until` of a subcommand that takes `--names`.
+fn until_named<'a>(alloc: Global) -> Arg<'a> {
+    until_option(alloc).help(
+        "Stop before the order at this address runs: octal, BANK 0 to 47, ADDR 0 to 7777, or a name of --names",
+    )
 }
 
 fn cycle_option<'a>(alloc: Global, name: &'a str, help: &'a str) -> Arg<'a> {
@@ -295,6 +304,13 @@ fn names_of_runs<'a>(alloc: Global) -> Result<Arg<'a>, AllocError> {
             "Print the names of places too, which this file gives: a place and its name, a line each; said again for the run on the right",
         )
         .conflicts_with("by")
+}
+
+fn names_of_stop<'a>(alloc: Global) -> Arg<'a> {
+    Arg::new(alloc, "names")
+        .long("names")
+        .value_name("FILE")
+        .help("Take names in --until, which this file gives: a place and its name, a line each")
 }
 
 fn names_file<'a>(alloc: Global) -> Arg<'a> {
