@@ -14,6 +14,14 @@ const Look = {
   panel: (side) => Look.run(side).querySelector('.copy pre').textContent,
   keys: (side) => Look.run(side).querySelector('.copy p').textContent,
 
+  // the tables below a run's DSKY, as far as they are seen, or none
+  tables(side) {
+    const shown = Look.run(side).querySelector('[aria-label="The tables of the Executive"]');
+    const dsky = Look.run(side).querySelector('.display').getBoundingClientRect();
+    const isSeen = shown?.checkVisibility() && shown.getBoundingClientRect().top >= dsky.bottom;
+    return isSeen ? shown.textContent : null;
+  },
+
   // how bright a colour is, from 0 to 255; nothing that is hidden is
   light(shape, colour) {
     if (!shape.checkVisibility({ opacityProperty: true, visibilityProperty: true })) return 0;

@@ -18,7 +18,7 @@ SIDES = ('left', 'right')
 FIELDS = ('PROG', 'VERB', 'NOUN', 'R1', 'R2', 'R3')
 LINES = (*FIELDS, 'FLASH', 'LAMPS')
 KEYFRAME_EVERY = 1024
-BLOCKS = re.compile('<script type="text/plain".*</script>\n(?=<script>)', re.DOTALL)
+BLOCKS = re.compile('(?:<script type="text/plain".*?</script>\n)+', re.DOTALL)
 
 # The segments of the DSKY's digits: a top, b upper right, c lower right, d bottom, e lower left, f upper left, g middle.
 DIGITS = {'0': 'abcdef', '1': 'bc', '2': 'abdeg', '3': 'abcdg', '4': 'bcfg', '5': 'acdfg', '6': 'acdefg', '7': 'abc',
@@ -38,6 +38,7 @@ HALF_LOWER = {'VERB': '+', 'NOUN': '-', 'ENTR': 'CLR', 'RSET': 'PRO'}
 A_SECOND = 1024000 / 12  # cycles
 SPEEDS = {'1×': 1, '10×': 10, '100×': 100, '1000×': 1000}
 CONTROLS = ('apart', 'strip', 'time', 'start', 'previous', 'play', 'next', 'end', 'difference', 'speed', 'clock')
+TABLES_PART = (16, 25)  # of the tables
 PART = (140000, 265000)  # the first and the last cycle of the part that tests/film films
 WIDTH, HEIGHT = 1000, 900  # in which all controls are seen
 
@@ -62,11 +63,11 @@ class Tries:
         with open(os.path.join(self.folder, name), encoding='utf-8') as file:
             return file.read()
 
-    def page(self, name, **blocks):
+    def page(self, name, film='one.html', **blocks):
         """Writes a page with these blocks in place of those of a film."""
         text = ''.join(f'<script type="text/plain" id="{id}">{block}</script>\n' for id, block in blocks.items())
         with open(os.path.join(self.folder, name), 'w', encoding='utf-8') as file:
-            file.write(BLOCKS.sub(lambda _: text, self.file('one.html')))
+            file.write(BLOCKS.sub(lambda _: text, self.file(film)))
         return name
 
     def open(self, name, hash=''):
@@ -311,6 +312,72 @@ def try_part(tries):
     tries.check('after the stop there is its panel', [tries.file('panel.299999'), 'cycle 400000 of 400000'],
                 [tries.look("panel('left')"), tries.clock()[:22]])
     tries.check('and the stop is told', True, tries.look("keys('left')").endswith('Stopped: Limit'))
+
+
+def tables(*sets, time='00000'):
+    """The lines of the tables of two core sets, and of a waitlist whose first word is this."""
+    lines = [f'SET {n} {text}' for n, text in enumerate(sets)] + [f'LST1 {time}' + ' 00000' * 7]
+    return '\n'.join([*lines, *(f'LST2 {n} 00000 00000' for n in range(9))]) + '\n'
+
+
+# The job of examples/study/jobs-sets, as its source says: both core sets hold zeros, then they are freed, then a job has
+# priority 20, sleeps, is woken and ends; the script gives the waitlist a time.
+ZEROS = 'READY 00 LOC 00000 BANKSET 00000'
+JOB = '20 LOC 02100 BANKSET 00000'
+SHOWN = {0: tables(ZEROS, ZEROS), 5: tables('FREE', ZEROS), 7: tables('FREE', 'FREE'), 15: tables(f'READY {JOB}', 'FREE'),
+         19: tables(f'ASLEEP {JOB}', 'FREE'), 23: tables(f'READY {JOB}', 'FREE'), 27: tables('FREE', 'FREE'),
+         30: tables('FREE', 'FREE', time='00144')}
+
+
+def shown_at(cycle, last=30):
+    """What the tables show at a cycle, with the changes up to a last one."""
+    return SHOWN[max(at for at in SHOWN if at <= min(cycle, last))]
+
+
+def try_tables(tries):
+    """The Executive's tables beside each DSKY: at each cycle those of the run's last state up to then."""
+    tries.open('tables.html')
+    tries.check('the tables at the start', SHOWN[0], tries.look("tables('left')"))
+    for cycle in [*range(41), *range(40, -1, -1)]:
+        tries.go(cycle)
+        tries.check(f'the tables at {cycle}', shown_at(cycle), tries.look("tables('left')"))
+    for cycle in SHOWN:
+        if cycle:
+            tries.check(f"agc's tables at {cycle}", SHOWN[cycle], tries.file(f'tables.{cycle}'))
+    tries.press('End')
+    tries.check('the tables at the end', SHOWN[30], tries.look("tables('left')"))
+    tries.press('Home')
+    tries.check('and again at the start', SHOWN[0], tries.look("tables('left')"))
+    box = tries.look("box('time')")
+    tries.browser.click((box['left'] + box['right']) / 2, (box['top'] + box['bottom']) / 2)
+    tries.check('the tables where the slider is clicked', (True, shown_at(tries.cycle())),
+                (18 <= tries.cycle() <= 22, tries.look("tables('left')")))
+    tries.open('some_tables.html')
+    for cycle in range(TABLES_PART[0], TABLES_PART[1] + 1):
+        tries.go(cycle)
+        tries.check(f'the tables at {cycle} of the part', (cycle, shown_at(cycle)), (tries.cycle(), tries.look("tables('left')")))
+    tries.open('two_tables.html')
+    for cycle in (0, 16, 29, 30, 40):
+        tries.go(cycle)
+        tries.check(f'the tables of two runs at {cycle}', [shown_at(cycle), shown_at(cycle, 27)],
+                    [tries.look(f"tables('{side}')") for side in SIDES])
+    tries.open('one.html')
+    tries.check('no tables where none are asked for', None, tries.look("tables('left')"))
+    without = [BLOCKS.sub('', tries.file(name)) for name in ('one.html', 'tables.html')]
+    script = re.compile('<script>\n.*?</script>\n', re.DOTALL)
+    tries.check('but for one script the page is that without tables', without[0], script.sub('', without[1], count=1))
+    try_many_tables(tries)
+
+
+def try_many_tables(tries):
+    """More changes than a keyframe is for: what a change does not say stays, from wherever it is gone to."""
+    changes = 2 * KEYFRAME_EVERY + 3
+    told = [f'0 {line}\n' for line in tables('FREE', 'FREE').splitlines()]
+    told += [f'{10 * n} LST1 {n:05o}' + ' 00000' * 7 + '\n' for n in range(1, changes)]
+    tries.open(tries.page('many_tables.html', 'tables.html', **{'left': run([], stop=100000), 'left-tables': '\n' + ''.join(told)}))
+    for n in (0, 1, KEYFRAME_EVERY - 1, KEYFRAME_EVERY, KEYFRAME_EVERY + 1, changes - 1, 2 * KEYFRAME_EVERY, 5, KEYFRAME_EVERY):
+        tries.go(10 * n + 9)
+        tries.check(f'the tables of change {n}', tables('FREE', 'FREE', time=f'{n:05o}'), tries.look("tables('left')"))
 
 
 def try_remark(tries):
@@ -586,7 +653,7 @@ def try_playing(tries):
     tries.check('from the end it plays from the start', True, tries.cycle() < 1000000)
 
 
-TRIES = (try_constants, try_film, try_changes, try_blocks, try_unpacking, try_long_film, try_remark, try_part, try_two_films, try_long_names, try_segments, try_lamps, try_keyboard, try_keys, try_short_run,
+TRIES = (try_constants, try_film, try_changes, try_blocks, try_unpacking, try_long_film, try_remark, try_part, try_tables, try_two_films, try_long_names, try_segments, try_lamps, try_keyboard, try_keys, try_short_run,
          try_two_runs, try_unread, try_slider, try_speeds, try_playing)
 
 

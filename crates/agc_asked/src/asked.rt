@@ -222,21 +222,26 @@ pub struct Filming {
     pub limit: u64,
     /// The text of `--until`.
     pub until: Option<String>,
+    /// The text of `--watch`.
+    pub watch: Option<String>,
+    /// The text file of names.
+    pub names: Option<String>,
 }
 
 impl Filming {
     fn paths(&self) -> [Option<&str>; 6] {
+        let names = self.names.as_deref();
         let (rope, script) = (self.files.rope.as_str(), self.files.script.as_str());
         match &self.other {
             Some(other) => [
+                names,
                 Some(rope),
                 Some(script),
                 Some(other.rope.as_str()),
                 Some(other.script.as_str()),
                 None,
-                None,
             ],
-            None => [Some(rope), Some(script), None, None, None, None],
+            None => [names, Some(rope), Some(script), None, None, None],
         }
     }
 }

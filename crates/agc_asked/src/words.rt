@@ -204,6 +204,8 @@ fn filming_of(alloc: Global, given: &ArgMatches<'_>) -> Result<Filming, ArgsFaul
         form: form_of(given),
         limit: number_of(given, "limit", 0),
         until: text_of(alloc, given, "until")?,
+        watch: text_of(alloc, given, "watch")?,
+        names: text_of(alloc, given, "names")?,
     })
 }
 

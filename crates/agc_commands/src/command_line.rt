@@ -75,7 +75,7 @@ impl<'a> Subcommands<'a> {
             .script_file(true)
             .limit_option()
             .form_option()
-            .until_option()
+            .until_named()
             .cycle_option("from", "The first cycle whose line is printed")
             .cycle_option("to", "The last cycle whose line is printed")
             .only_option()
@@ -115,7 +115,7 @@ impl<'a> Subcommands<'a> {
             .rope_file(true)
             .script_file(true)
             .limit_option()
-            .watch_option()
+            .watch_option(true)
             .form_option()
             .until_option()
             .cycle_option("from", "The first cycle at which the tables are told")
@@ -135,7 +135,7 @@ impl<'a> Subcommands<'a> {
             .other_script(true)
             .limit_option()
             .form_option()
-            .until_option()
+            .until_named()
             .by_option()
             .brief_option()
             .names_of_runs();
@@ -154,9 +154,11 @@ impl<'a> Subcommands<'a> {
             .other_script(false)
             .limit_option()
             .form_option()
-            .until_option()
+            .until_named()
             .cycle_option("from", "The first cycle that is filmed")
-            .cycle_option("to", "The last cycle that is filmed");
+            .cycle_option("to", "The last cycle that is filmed")
+            .watch_option(false)
+            .names_of_stop();
         self.with(
             "film",
             "Prints a page for a browser that shows the DSKY over the time of a run, or of two runs.",
@@ -166,14 +168,14 @@ impl<'a> Subcommands<'a> {
 }
 
 impl<'a> Words<'a> {
-    fn watch_option(self) -> Words<'a> {
+    fn watch_option(self, is_required: bool) -> Words<'a> {
         let arg = option(
             self.alloc,
             "watch",
             "SPEC",
             "Where core sets and wait lists stand: octal CORE_BANK,CORE_OFFSET,SETS,LST1_BANK,LST1_OFFSET,LST2_BANK,LST2_OFFSET",
         )
-        .required(true);
+        .required(is_required);
         self.with(arg)
     }
 
@@ -255,6 +257,15 @@ impl<'a> Words<'a> {
         )
     }
 
+    /// `--until` of a subcommand that takes `--names`.
+    fn until_named(self) -> Words<'a> {
+        self.option(
+            "until",
+            "BANK,ADDR",
+            "Stop before the order at this address runs: octal, BANK 0 to 47, ADDR 0 to 7777, or a name of --names",
+        )
+    }
+
     fn cycle_option(self, name: &'a str, help: &'a str) -> Words<'a> {
         self.number(name, "CYCLE", help)
     }
@@ -327,6 +338,14 @@ impl<'a> Words<'a> {
         )
         .conflicts_with("by");
         self.with_tied(arg)
+    }
+
+    fn names_of_stop(self) -> Words<'a> {
+        self.option(
+            "names",
+            "FILE",
+            "Take names in --until, which this file gives: a place and its name, a line each",
+        )
     }
 
     fn names_file(self) -> Words<'a> {

@@ -1,12 +1,13 @@
 //! Ropes and scripts to the page that shows their runs.
-ghost use Rattle.std.specs.Prelude.{IfErr, IfOk};
-ghost use Rattle.agc_results.specs.Filmed.{IsFilm, IsFilmPair, IsFilmed};
-ghost use Rattle.agc_results.specs.Started.{IsPairRefused, IsRefused};
+ghost use Rattle.std.specs.Prelude.{◌≡◌, IfErr, IfOk, None};
+ghost use Rattle.agc_results.specs.Filmed.{IsFilm, IsFilmPair, IsFilmPairRefused, IsFilmRefused, IsFilmed, unwatched};
 
 use crate::runs::read_machine;
 use crate::trouble::Trouble;
+use crate::watches::watched_spec;
 use agc_asked::Filming;
-use agc_film::{HEAD, Reel, RunFiles, TAIL, film, push_film, push_film_pair};
+use agc_film::{Reel, RunFiles, film, film_watched, push_film, push_film_pair};
+use agc_page::{HEAD, TABLES, TAIL};
 use agc_progress::Progress;
 use agc_setup::Refusal;
 use std::alloc::Global;
@@ -21,7 +22,7 @@ pub struct FilmPage {
 }
 
 /// Reads a rope and a script, and makes the page that shows their run. The refusal is the first that applies
-/// of the rope, the script, the limit and the text of `--until`, or want of memory.
+/// of the rope, the script, the limit, the text of `--until` and that of `--watch`, or want of memory.
 pub fn film_files<R: Read, S: Read, P: Progress>(
     alloc: Global,
     asked: &Filming,
@@ -29,9 +30,9 @@ pub fn film_files<R: Read, S: Read, P: Progress>(
     script: &mut S,
     progress: &mut P,
 ) -> Result<FilmPage, Refusal>
-    ensures film { IfOk result (λ page. IsFilm HEAD.now TAIL.now asked.now
+    ensures film { IfOk result (λ page. IsFilm HEAD.now TABLES.now TAIL.now asked.now
         (R.remaining rope.old) (S.remaining script.old) page.text) }
-    ensures refused { IfErr result (IsRefused asked.now.form asked.now.until asked.now.limit
+    ensures refused { IfErr result (IsFilmRefused asked.now
         (R.remaining rope.old) (S.remaining script.old)) }
 {
     let reel = read_reel(alloc, asked, rope, script, progress)?;
@@ -53,10 +54,10 @@ pub fn film_file_pairs<R: Read, S: Read, T: Read, U: Read, P: Progress>(
     right_script: &mut U,
     progress: &mut P,
 ) -> Result<FilmPage, Trouble>
-    ensures film { IfOk result (λ page. IsFilmPair HEAD.now TAIL.now asked.now other.now
+    ensures film { IfOk result (λ page. IsFilmPair HEAD.now TABLES.now TAIL.now asked.now other.now
         (R.remaining left_rope.old) (S.remaining left_script.old)
         (T.remaining right_rope.old) (U.remaining right_script.old) page.text) }
-    ensures refused { IfErr result (IsPairRefused asked.now.form asked.now.until asked.now.limit
+    ensures refused { IfErr result (IsFilmPairRefused asked.now
         (R.remaining left_rope.old) (S.remaining left_script.old)
         (T.remaining right_rope.old) (U.remaining right_script.old)) }
 {
@@ -73,7 +74,7 @@ pub fn film_file_pairs<R: Read, S: Read, T: Read, U: Read, P: Progress>(
     }
 }
 
-/// Reads a rope and a script, and runs them to their reel.
+/// Reads a rope and a script, and runs them to their reel, with the tables where they are watched.
 fn read_reel<R: Read, S: Read, P: Progress>(
     alloc: Global,
     asked: &Filming,
@@ -83,10 +84,18 @@ fn read_reel<R: Read, S: Read, P: Progress>(
 ) -> Result<Reel, Refusal>
     ensures filmed { IfOk result
         (IsFilmed asked.now (R.remaining rope.old) (S.remaining script.old)) }
-    ensures refused { IfErr result (IsRefused asked.now.form asked.now.until asked.now.limit
+    ensures watched { IfOk result (λ _. unwatched asked.now.watch ≡ None) }
+    ensures refused { IfErr result (IsFilmRefused asked.now
         (R.remaining rope.old) (S.remaining script.old)) }
 {
     let (form, limit) = (asked.form, asked.limit);
     let mut machine = read_machine(alloc, form, limit, &asked.until, rope, script)?;
-    Ok(film(alloc, &mut machine, asked.part, progress)?)
+    let Some(watch) = &asked.watch else {
+        return Ok(film(alloc, &mut machine, asked.part, progress)?);
+    };
+    let spec = match watched_spec(watch.as_str()) {
+        Ok(spec) => spec,
+        Err(refusal) => return Err(refusal),
+    };
+    Ok(film_watched(alloc, &mut machine, asked.part, &spec, progress)?)
 }

@@ -47,7 +47,7 @@ pub fn watch_files<R: Read, S: Read, W: Write, P: Progress>(
 }
 
 /// The spec that a text of `--watch` says, whose tables can be watched.
-fn watched_spec(text: &str) -> Result<CheckedSpec, Refusal>
+pub(crate) fn watched_spec(text: &str) -> Result<CheckedSpec, Refusal>
     ensures { MatchResult result (IsWatchable text.now)
         (λ refusal. watch_refusal text.now ≡ Some refusal) }
 {

@@ -68,7 +68,7 @@ where
     }
 }
 
-/// Does what is asked for. Of a trace and a comparison the places are put that names say.
+/// Does what is asked for. Of a trace, a comparison and a film the places are put that names say.
 fn answer_to<R, W: Write, E: Write, N: Write, P: Shown>(
     rt: &R,
     asked: &mut Asked,

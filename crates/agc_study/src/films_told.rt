@@ -2,18 +2,18 @@
 ghost use Rattle.std.specs.Prelude.{◌≡◌, ◌≢◌, ◌⊎◌, string_bytes};
 ghost use Rattle.std.specs.Io.KnownBytes.{Appends, Keeps};
 ghost use Rattle.agc_study.specs.Ended.{IsEnded};
-ghost use Rattle.agc_results.specs.Filmed.{IsFilmPairWritten, IsFilmWritten};
-ghost use Rattle.agc_results.specs.Started.{IsPairRefused, IsRefused};
+ghost use Rattle.agc_results.specs.Filmed.{IsFilmPairRefused, IsFilmPairWritten, IsFilmRefused, IsFilmWritten};
 ghost use Rattle.agc_results.specs.Trouble.{IsTold, trouble_line};
 ghost use Rattle.agc_setup.specs.declared.refusal.Refusal.{Refusal};
 ghost use Rattle.agc_results.specs.declared.trouble.Trouble.TheVariants as told;
 
 use agc_asked::Filming;
-use agc_film::{HEAD, RunFiles, TAIL};
+use agc_film::RunFiles;
 use agc_options::{DONE, status_of};
+use agc_page::{HEAD, TABLES, TAIL};
 use agc_progress::Shown;
-use agc_results::{FilmPage, Trouble, film_file_pairs, film_files};
-use agc_setup::InputFile;
+use agc_results::{FilmPage, Trouble, film_file_pairs, film_files, name_until, names_at};
+use agc_setup::{InputFile, Refusal};
 use std::alloc::Global;
 use std::fs;
 use std::io::{Read, Write};
@@ -23,10 +23,10 @@ use std::rt::Files;
 const MANY_FRAMES: usize = 1_000_000;
 
 /// Films the run of a rope file and a script file, or the runs of two of each; where the page is so long that a browser
-/// may be slow with it, a remark says so.
+/// may be slow with it, a remark says so. The names that are given may say the stop address.
 pub fn film_to<R, W: Write, E: Write, N: Write, P: Shown>(
     rt: &R,
-    asked: &Filming,
+    asked: &mut Filming,
     out: &mut W,
     err: &mut E,
     remarks: &mut N,
@@ -40,6 +40,13 @@ where
     ensures faulty { result ≢ 1 }
 {
     let alloc = rt.alloc();
+    let names = match names_at(rt, &asked.names) {
+        Ok(names) => names,
+        Err(trouble) => return trouble.tell_to(err),
+    };
+    if name_until(alloc, &names, &mut asked.until).is_err() {
+        return Trouble::Refused(Refusal::Memory).tell_to(err);
+    }
     let mut rope = InputFile::new(fs::open(rt, asked.files.rope.as_str()));
     let mut script = InputFile::new(fs::open(rt, asked.files.script.as_str()));
     let Some(other) = &asked.other else {
@@ -86,11 +93,10 @@ fn write_film<R: Read, S: Read, W: Write, E: Write, N: Write, P: Shown>(
         (E.contents err.old) (E.contents err.new) }
     ensures plain { result ≡ 2 → Keeps (N.contents remarks.old) (N.contents remarks.new) }
     ensures faulty { result ≢ 1 }
-    ensures film { result ≡ 0 → IsFilmWritten HEAD.now TAIL.now asked.now
+    ensures film { result ≡ 0 → IsFilmWritten HEAD.now TABLES.now TAIL.now asked.now
         (R.remaining rope.old) (S.remaining script.old)
         (W.contents out.old) (W.contents out.new) }
-    ensures refused { result ≡ 2 → (r : Refusal) × IsRefused
-        asked.now.form asked.now.until asked.now.limit
+    ensures refused { result ≡ 2 → (r : Refusal) × IsFilmRefused asked.now
         (R.remaining rope.old) (S.remaining script.old) r
         × Appends (E.contents err.old) (E.contents err.new) (trouble_line (told.Refused r)) }
 {
@@ -120,12 +126,11 @@ fn write_film_pair<R: Read, S: Read, T: Read, U: Read, W: Write, E: Write, N: Wr
         (E.contents err.old) (E.contents err.new) }
     ensures plain { result ≡ 2 → Keeps (N.contents remarks.old) (N.contents remarks.new) }
     ensures faulty { result ≢ 1 }
-    ensures film { result ≡ 0 → IsFilmPairWritten HEAD.now TAIL.now asked.now other.now
+    ensures film { result ≡ 0 → IsFilmPairWritten HEAD.now TABLES.now TAIL.now asked.now other.now
         (R.remaining rope.old) (S.remaining script.old)
         (T.remaining other_rope.old) (U.remaining other_script.old)
         (W.contents out.old) (W.contents out.new) }
-    ensures refused { result ≡ 2 → IsTold (IsPairRefused
-        asked.now.form asked.now.until asked.now.limit
+    ensures refused { result ≡ 2 → IsTold (IsFilmPairRefused asked.now
         (R.remaining rope.old) (S.remaining script.old)
         (T.remaining other_rope.old) (U.remaining other_script.old))
         (E.contents err.old) (E.contents err.new) }

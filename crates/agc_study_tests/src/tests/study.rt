@@ -412,6 +412,8 @@ fn runs_are_filmed(rt: HostRuntime) -> Result<(), Fail> {
         form: RopeForm::Classic,
         limit: 10,
         until: None,
+        watch: None,
+        names: None,
     };
     let mut rope: &[u8] = &[0x70, 0x08, 0x00, 0x0C, 0x04, 0x10, 0x30, 0x06, 0xB0, 0xF2];
     let mut script: &[u8] = b"7 pro down";
@@ -470,6 +472,50 @@ fn tables_are_watched(rt: HostRuntime) -> Result<(), Fail> {
                 assert_eq!(rt; status_of_untraced(untraced, &mut err), 2);
                 assert!(rt; out.is_empty());
             }
+        }
+        assert!(rt; err.as_slice() == told.as_bytes());
+    }
+    Ok(())
+}
+
+/// Where a film shows a run's tables, the text of `--watch` is looked at after the files; the tables begin at the first
+/// cycle of the film.
+#[test]
+fn tables_are_filmed(rt: HostRuntime) -> Result<(), Fail> {
+    let alloc = rt.alloc();
+    for (rope, watch, told) in [
+        (
+            &[0x30, 0x00][..],
+            "7,0,0,7,0,7",
+            "agc-study: watch: BadSpec\n",
+        ),
+        (
+            &[0x30, 0x00],
+            "7,0,21,7,0,7,0",
+            "agc-study: watch: TooManySets\n",
+        ),
+        (&[], "7,0,0,7,0,7", "agc-study: rope: Empty\n"),
+        (&[0x30, 0x00], "7,0,0,7,0,7,0", ""),
+    ] {
+        let asked = Filming {
+            files: RunFiles {
+                rope: String::new(alloc),
+                script: String::new(alloc),
+            },
+            other: None,
+            part: Part { from: 9, to: 10 },
+            form: RopeForm::Classic,
+            limit: 10,
+            until: None,
+            watch: Some(String::from_str(alloc, watch)?),
+            names: None,
+        };
+        let mut rope: &[u8] = rope;
+        let mut script: &[u8] = b"";
+        let mut err = Vec::new(alloc);
+        match film_files(alloc, &asked, &mut rope, &mut script, &mut Untold) {
+            Ok(page) => assert!(rt; page.text.as_str().contains("-tables\">\n9 LST1 00000 ")),
+            Err(refusal) => assert_eq!(rt; Trouble::Refused(refusal).tell_to(&mut err), 2),
         }
         assert!(rt; err.as_slice() == told.as_bytes());
     }

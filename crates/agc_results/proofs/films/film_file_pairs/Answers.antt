@@ -1,4 +1,6 @@
-use Rattle.std.proofs.Common.{inl}
+use Rattle.std.proofs.Common.{inl, inr}
+use Rattle.agc_setup.specs.declared.refusal.Refusal.TheVariants as refusal
+use Rattle.agc_results.proofs.FilmedRuns.{filmed_accepted}
 use Rattle.agc_results.proofs.Starts.{memory_refused}
 use Rattle.agc_results.proofs.films.film_file_pairs.Goals as goal
 
@@ -14,4 +16,9 @@ returns-in-Ok-push_film_pair-clause-film g c = record {
 pub returns-clause-refused : goal.returns-clause-refused
 returns-clause-refused g c =
     let asked = c.args.asked.now in
-    inl (_, cc, memory_refused asked.form asked.until asked.limit _ _)
+    inl (refusal.Memory, cc, inl (memory_refused asked.form asked.until asked.limit _ _))
+
+pub returns-in-Err-clause-refused : goal.returns-in-Err-clause-refused
+returns-in-Err-clause-refused g c =
+    let accepted = filmed_accepted c.args.asked.now _ _ c.in_ok-left.left c.in_ok-left.ensures.filmed in
+    inr ((accepted, c.in_ok-left.ensures.watched), c.in-Err.refusal, c.of_other_run.ensures, c.in-Err.ensures.refused)
