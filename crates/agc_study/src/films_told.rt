@@ -9,10 +9,11 @@ ghost use Rattle.agc_results.specs.declared.trouble.Trouble.TheVariants as told;
 
 use agc_asked::Filming;
 use agc_film::RunFiles;
+use agc_names_file::names_at;
 use agc_options::{DONE, status_of};
 use agc_page::{HEAD, TABLES, TAIL};
 use agc_progress::Shown;
-use agc_results::{FilmPage, Trouble, film_file_pairs, film_files, name_until, names_at};
+use agc_results::{FilmPage, Trouble, film_file_pairs, film_files, name_until};
 use agc_setup::{InputFile, Refusal};
 use std::alloc::Global;
 use std::fs;
@@ -42,7 +43,7 @@ where
     let alloc = rt.alloc();
     let names = match names_at(rt, &asked.names) {
         Ok(names) => names,
-        Err(trouble) => return trouble.tell_to(err),
+        Err(refusal) => return Trouble::Unnamed(refusal).tell_to(err),
     };
     if name_until(alloc, &names, &mut asked.until).is_err() {
         return Trouble::Refused(Refusal::Memory).tell_to(err);
