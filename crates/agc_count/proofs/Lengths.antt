@@ -10,7 +10,6 @@ use Rattle.agc_processor.specs.declared.interrupt.Rupt.{Rupt}
 use Rattle.agc_source_words.specs.Location.{location_at}
 use Rattle.agc_source_words.specs.declared.location.Location.{Location}
 use Rattle.agc_source_words.specs.declared.location.Location.TheVariants as location
-use Rattle.agc_trace.specs.Entry.{entry_of}
 use Rattle.agc_trace.specs.Trace.{is_stop}
 use Rattle.agc_trace.specs.TraceLaws.{EndsWithStop, NeverGoBack}
 use Rattle.agc_trace.specs.declared.entry.Entry.{Entry}

@@ -1,5 +1,5 @@
 -- What a table has of the reads of a place, and the boundaries that read there.
-use Rattle.std.proofs.Common.{◌≡◌, ℕ, ◌+◌, ◌<◌, List, [], ◌∷◌, length, Option, Some, None, Bool, true, false, refl, ap, ◌∙◌, arith}
+use Rattle.std.proofs.Common.{◌≡◌, ℕ, ◌<◌, List, [], ◌∷◌, length, Option, Some, None, Bool, true, false, refl, ap, ◌∙◌, arith}
 use Rattle.std.specs.Prelude.{if◌then◌else◌, ◌&&◌, filter, nat_le}
 use Rattle.std.proofs.lemmas.List.Sums.{sum_by-cons}
 use Rattle.agc_machine.specs.declared.upcoming.InHand.{InHand}
@@ -12,9 +12,8 @@ use Rattle.agc_source_words.specs.declared.location.Location.TheVariants as loca
 use Rattle.agc_count.specs.Counts.{count_of, counted, counted_as, counted_at, counted_data, counted_happening, counted_inhibited, counted_one, counted_read, counted_serving, nothing_counted}
 use Rattle.agc_count.specs.Laws.{is_read, read_at, read_before, tally_of, tally_of_both}
 use Rattle.agc_count.specs.Passage.{service_of}
-use Rattle.agc_count.specs.Tally.{empty_table, nothing, once, plus, tally_at}
+use Rattle.agc_count.specs.Tally.{empty_table, once, plus, tally_at}
 use Rattle.agc_count.specs.declared.counts.Counts.{Counts}
-use Rattle.agc_count.specs.declared.data.Data.{Data}
 use Rattle.agc_count.specs.declared.passage.Passage.{Passage}
 use Rattle.agc_count.specs.declared.tally.Tally.{Tally}
 use Rattle.agc_count.proofs.Places.{added_by, added_length, empty_length, empty_tally, more_if, nothing_plus, plus_nothing, same_tally}

@@ -1,5 +1,5 @@
 -- The words that an order reads as data.
-use Rattle.std.specs.Prelude.{ℕ, ◌%◌, Option, Some, None, if◌then◌else◌}
+use Rattle.std.specs.Prelude.{ℕ, ◌%◌, Some, None, if◌then◌else◌}
 use Rattle.agc_word.specs.Number.{pattern_of}
 use Rattle.agc_store.specs.Memory.{Memory, erasable_place, fixed_place, is_erasable}
 use Rattle.agc_order.specs.Order.{basic_of, extracode_of}

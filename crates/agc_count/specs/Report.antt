@@ -1,5 +1,5 @@
 -- A count in print: all of the run, its interrupts, its orders by their names, its banks, and its words.
-use Rattle.std.specs.Prelude.{ℕ, zero, suc, ◌+◌, ◌*◌, ◌/◌, ◌%◌, ◌==◌, ◌&&◌, ◌||◌, not, Bool, nat_lt, if◌then◌else◌}
+use Rattle.std.specs.Prelude.{ℕ, zero, suc, ◌+◌, ◌*◌, ◌==◌, ◌&&◌, ◌||◌, not, Bool, if◌then◌else◌}
 use Rattle.std.specs.Prelude.{List, [], ◌++◌, codes, drop, flat_map, take, Some, None}
 use Rattle.agc_word.specs.Number.{Number, pattern_of}
 use Rattle.agc_word.specs.Octal.{octal_digits}
@@ -12,7 +12,7 @@ use Rattle.agc_rope_listing.specs.List.{is_extracode_at, listed_place}
 use Rattle.agc_rope_listing.specs.Order.{order_text}
 use Rattle.agc_rope_listing.specs.Place.{place_text}
 use Rattle.agc_rope_listing.specs.declared.place.Place.{Place}
-use Rattle.agc_rope_listing.specs.declared.place.Place.TheVariants as printed
+use Rattle.agc_places.specs.Cell.{cell_place}
 use Rattle.agc_count.specs.Number.{basic_number, extracode_number}
 use Rattle.agc_count.specs.Row.{heading, row_text}
 use Rattle.agc_count.specs.Tally.{is_counted, plus, tally_at, total_of}
@@ -89,12 +89,6 @@ fixed_bank_line layout c bank =
 
 abbrev pub fixed_bank_lines : ℕ → Layout → Counts → List ℕ
 fixed_bank_lines count layout c = lines_below count (fixed_bank_line layout c)
-
--- a cell by its number: up to 1377 octal its address, then its bank and its address in the window
-abbrev pub cell_place : ℕ → Place
-cell_place cell =
-    if nat_lt cell 0o1400 then printed.Plain cell
-    else printed.Erasable (cell / 0o400) (0o1400 + cell % 0o400)
 
 -- a word ran as an order, or was read as data
 abbrev pub is_used : Tally → Tally → Bool

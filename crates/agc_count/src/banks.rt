@@ -12,6 +12,7 @@ ghost use Rattle.agc_count.specs.Report.{
 use crate::counts::Counts;
 use crate::report::push_counted;
 use crate::row::Layout;
+use agc_store::place::{ERASABLE_BANK_SIZE, FIXED_BANK_SIZE};
 use std::alloc::AllocError;
 
 /// Adds the lines of the first so many banks of erasable memory.
@@ -45,7 +46,9 @@ fn push_erasable_bank(
     let alloc = *text.allocator();
     let mut name = String::new(alloc);
     push_erasable_name(&mut name, bank)?;
-    let tally = counts.erasable.of_bank(0o400, usize::from(bank))?;
+    let tally = counts
+        .erasable
+        .of_bank(usize::from(ERASABLE_BANK_SIZE), usize::from(bank))?;
     push_counted(text, layout, "bank", name.as_str(), tally)
 }
 
@@ -80,7 +83,9 @@ fn push_fixed_bank(
     let alloc = *text.allocator();
     let mut name = String::new(alloc);
     push_fixed_name(&mut name, bank)?;
-    let tally = counts.fixed.of_bank(0o2000, usize::from(bank))?;
+    let tally = counts
+        .fixed
+        .of_bank(usize::from(FIXED_BANK_SIZE), usize::from(bank))?;
     push_counted(text, layout, "bank", name.as_str(), tally)
 }
 

@@ -12,12 +12,13 @@ use agc_machine::{InHand, Upcoming};
 use agc_order::{Basic, Extracode};
 use agc_processor::Rupt;
 use agc_source_words::{Location, location_at};
+use agc_store::place::ERASABLE_CELLS;
 use std::alloc::{AllocError, Global};
 
 /// The places of fixed memory at which an order may stand: of 40 banks, of which the last four are empty.
 const PLACES: usize = 0o120000;
 /// The cells of erasable memory.
-const CELLS: usize = 0o4000;
+const CELLS: usize = ERASABLE_CELLS as usize;
 /// The interrupts.
 const RUPTS: usize = 10;
 
@@ -90,6 +91,7 @@ impl Counts {
     }
 
     /// Counts a boundary, where it begins in a span of cycles. Fails where a number has no room.
+    #[inline]
     pub(crate) fn take_in(&mut self, span: Span, passage: &Passage) -> Result<(), AllocError>
         ensures { OnOk result (self.new ≡ counted_in span passage.now self.old) }
     {
@@ -101,6 +103,7 @@ impl Counts {
     }
 
     /// Counts a boundary. Fails where a number has no room.
+    #[inline]
     #[tactic(auto, unfolding(crate::specs::Counts::counted_one))]
     fn take(&mut self, passage: &Passage) -> Result<(), AllocError>
         ensures { OnOk result (self.new ≡ counted_one passage.now self.old) }
@@ -113,6 +116,7 @@ impl Counts {
     }
 
     /// Counts what happened.
+    #[inline]
     fn take_happening(&mut self, happening: Upcoming, one: Tally) -> Result<(), AllocError>
         ensures { OnOk result (self.new ≡ counted_happening happening one self.old) }
     {
@@ -127,6 +131,7 @@ impl Counts {
     }
 
     /// Counts an order.
+    #[inline]
     fn take_order(&mut self, order: InHand, one: Tally) -> Result<(), AllocError>
         ensures { OnOk result (self.new ≡ counted_happening (Upcoming.Order order) one self.old) }
     {
@@ -136,6 +141,7 @@ impl Counts {
     }
 
     /// Counts an order at its place.
+    #[inline]
     fn take_at(&mut self, location: Location, one: Tally) -> Result<(), AllocError>
         ensures { OnOk result (self.new ≡ counted_at location one self.old) }
     {
@@ -146,6 +152,7 @@ impl Counts {
     }
 
     /// Counts an order with those of its name.
+    #[inline]
     fn take_as(&mut self, order: InHand, one: Tally) -> Result<(), AllocError>
         ensures { OnOk result (self.new ≡ counted_as order one self.old) }
     {
@@ -159,6 +166,7 @@ impl Counts {
     }
 
     /// Counts a boundary with the service that it belongs to.
+    #[inline]
     fn take_serving(&mut self, rupt: Option<Rupt>, passage: &Passage) -> Result<(), AllocError>
         ensures { OnOk result (self.new ≡ counted_serving rupt passage.now self.old) }
     {
@@ -172,6 +180,7 @@ impl Counts {
     }
 
     /// Counts the words that a boundary reads as data.
+    #[inline]
     fn take_data(&mut self, words: Data, one: Tally) -> Result<(), AllocError>
         ensures { OnOk result (self.new ≡ counted_data words one self.old) }
     {
@@ -180,6 +189,7 @@ impl Counts {
     }
 
     /// Counts a word that is read as data.
+    #[inline]
     fn take_read(&mut self, place: Option<Location>, one: Tally) -> Result<(), AllocError>
         ensures { OnOk result (self.new ≡ counted_read place one self.old) }
     {
@@ -191,6 +201,7 @@ impl Counts {
     }
 
     /// Counts what began with INHINT in force.
+    #[inline]
     fn take_inhibited(&mut self, is_inhibited: bool, one: Tally) -> Result<(), AllocError>
         ensures { OnOk result (self.new ≡ counted_inhibited is_inhibited one self.old) }
     {

@@ -1,6 +1,7 @@
 //! The words that an order reads as data.
 ghost use Rattle.std.specs.Prelude.{◌≡◌};
 ghost use Rattle.agc_word.specs.Number.{pattern_of};
+ghost use Rattle.agc_order.specs.Row.{extracode_row};
 ghost use Rattle.agc_count.specs.Data.{
   basic_reads,
   data_of,
@@ -14,6 +15,7 @@ ghost use Rattle.agc_count.specs.Data.{
 use agc_machine::{InHand, Upcoming};
 use agc_order::{Basic, Extracode, Takes};
 use agc_source_words::Location;
+use agc_store::place::{FIXED_FIXED, FIXED_WINDOW, place_of};
 use agc_store::{Addr, Store};
 use agc_word::Narrow;
 
@@ -42,6 +44,7 @@ impl Data {
 }
 
 /// The words that a boundary reads as data, in the memory in which it begins: those of its order.
+#[inline]
 #[tactic(auto, unfolding(crate::specs::Data::data_of))]
 pub(crate) fn data_of(happening: &Upcoming, store: &Store) -> Data
     ensures { result ≡ data_of happening.now store.now }
@@ -54,6 +57,7 @@ pub(crate) fn data_of(happening: &Upcoming, store: &Store) -> Data
 }
 
 /// The words that an order reads, by what it reads and the address in its word.
+#[inline]
 fn data_read(reads: Takes, word: Narrow, store: &Store) -> Data
     ensures { result ≡ data_read reads (pattern_of 15 word) store.now }
 {
@@ -71,6 +75,7 @@ fn data_read(reads: Takes, word: Narrow, store: &Store) -> Data
 }
 
 /// The word at an address.
+#[inline]
 fn word_at(address: Addr, store: &Store) -> Data
     ensures { result ≡ word_at address store.now }
 {
@@ -81,6 +86,7 @@ fn word_at(address: Addr, store: &Store) -> Data
 }
 
 /// The words at two addresses.
+#[inline]
 fn words_at(address: Addr, before: Addr, store: &Store) -> Data
     ensures { result ≡ words_at address before store.now }
 {
@@ -91,6 +97,7 @@ fn words_at(address: Addr, before: Addr, store: &Store) -> Data
 }
 
 /// The place whose word an address reads.
+#[inline]
 #[tactic(auto, unfolding(crate::specs::Data::location_in, agc_store::specs::Cells::named_cell, agc_store::specs::Memory::fixed_place))]
 fn location_in(store: &Store, address: Addr) -> Location
     ensures { result ≡ location_in store.now address }
@@ -98,8 +105,8 @@ fn location_in(store: &Store, address: Addr) -> Location
     let number = u32::from(address.bits());
     match store.named_cell(address) {
         Some(cell) => Location::Erasable(u32::from(cell)),
-        None => Location::Fixed(if number < 0o4000 {
-            0o2000 * u32::from(store.selected_bank()) + (number - 0o2000)
+        None => Location::Fixed(if number < u32::from(FIXED_FIXED) {
+            place_of(store.selected_bank(), address.bits() - FIXED_WINDOW)
         } else {
             number
         }),
@@ -107,22 +114,56 @@ fn location_in(store: &Store, address: Addr) -> Location
 }
 
 /// What an order reads.
+#[inline]
 fn order_reads(order: &InHand) -> Takes
     ensures { result ≡ order_reads order.now }
 {
     if order.extracode {
-        Extracode::named_by(order.word).row().takes
+        extracode_reads(Extracode::named_by(order.word))
     } else {
         basic_reads(Basic::named_by(order.word))
     }
 }
 
-/// What a basic order reads: TC takes the address of an order, and TS only stores.
+/// What a basic order reads: TC takes the address of an order, and TS only stores. It is told here once more, as a row of the
+/// table of orders has more than this.
+#[inline]
 fn basic_reads(order: Basic) -> Takes
     ensures { result ≡ basic_reads order }
 {
     match order {
-        Basic::Tc | Basic::Ts => Takes::Nothing,
-        _ => order.row().takes,
+        Basic::Tc | Basic::Relint | Basic::Inhint | Basic::Extend | Basic::Resume | Basic::Ts =>
+            Takes::Nothing,
+        Basic::Tcf => Takes::Fixed,
+        Basic::Ccs | Basic::Lxch | Basic::Incr | Basic::Ads | Basic::Index | Basic::Xch =>
+            Takes::Erasable,
+        Basic::Das | Basic::Dxch => Takes::ErasablePair,
+        Basic::Ca | Basic::Cs | Basic::Ad | Basic::Mask => Takes::Memory,
+    }
+}
+
+/// What an extracode reads.
+#[inline]
+fn extracode_reads(order: Extracode) -> Takes
+    ensures { result ≡ (extracode_row order).takes }
+{
+    match order {
+        Extracode::Read
+        | Extracode::Write
+        | Extracode::Rand
+        | Extracode::Wand
+        | Extracode::Ror
+        | Extracode::Wor
+        | Extracode::Rxor
+        | Extracode::Edrupt => Takes::Channel,
+        Extracode::Bzf | Extracode::Bzmf => Takes::Fixed,
+        Extracode::Dv
+        | Extracode::Msu
+        | Extracode::Qxch
+        | Extracode::Aug
+        | Extracode::Dim
+        | Extracode::Su => Takes::Erasable,
+        Extracode::Index | Extracode::Mp => Takes::Memory,
+        Extracode::Dca | Extracode::Dcs => Takes::MemoryPair,
     }
 }

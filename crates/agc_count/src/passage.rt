@@ -64,6 +64,7 @@ impl Passage {
 }
 
 /// Takes one boundary of a machine that is in a mode, and tells it.
+#[inline]
 #[tactic(auto, unfolding(crate::specs::Passage::passage_of))]
 pub(crate) fn next_passage(machine: &mut Machine, mode: Mode) -> Passage
     ensures passage { result ≡ passage_of mode machine.old }

@@ -63,6 +63,7 @@ impl Table {
     }
 
     /// Counts a tally more at a place; past the last one nothing is counted. Fails where a number has no room.
+    #[inline]
     #[tactic(auto, unfolding(crate::specs::Tally::added))]
     pub(crate) fn add(&mut self, place: usize, more: Tally) -> Result<(), AllocError>
         ensures { OnOk result (self.new ≡ added place more self.old) }

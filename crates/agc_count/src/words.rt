@@ -8,7 +8,6 @@ ghost use Rattle.agc_rope_listing.specs.Place.{IsInPrint};
 ghost use Rattle.agc_count.specs.Report.{
   cell_line,
   cell_lines,
-  cell_place,
   empty_line,
   empty_lines,
   is_used,
@@ -21,9 +20,10 @@ ghost use Rattle.agc_count.specs.Report.{
 use crate::counts::Counts;
 use crate::row::{Layout, push_row};
 use crate::tally::Tally;
+use agc_places::Cell;
 use agc_rope_listing::{Place, leads_extracode, listed_address, push_order, push_place};
-use agc_source_words::cell_address;
 use agc_store::Store;
+use agc_store::place::{ERASABLE_CELLS, FIXED_WORDS};
 use agc_word::Narrow;
 use std::alloc::AllocError;
 
@@ -40,9 +40,9 @@ pub(crate) fn push_words(
     ensures { OnOk result (string_bytes text.new ≡ string_bytes text.old
         ++ words_text layout whole counts.now store.now.fixed) }
 {
-    push_cells(text, layout, counts, 0o4000)?;
-    push_listed(text, layout, whole, counts, store, 0o110000)?;
-    push_empty(text, layout, counts, 0o110000, 0o10000)
+    push_cells(text, layout, counts, u32::from(ERASABLE_CELLS))?;
+    push_listed(text, layout, whole, counts, store, FIXED_WORDS as usize)?;
+    push_empty(text, layout, counts, FIXED_WORDS as usize, 0o10000)
 }
 
 /// Adds the lines of the first so many cells.
@@ -75,7 +75,7 @@ fn push_cell(
 {
     let number = cell as usize;
     let (tally, reads) = (counts.erasable.at(number), counts.erasable_data.at(number));
-    push_at(text, layout, cell_place(cell), tally, reads)
+    push_at(text, layout, Cell::new(cell as u16).place(), tally, reads)
 }
 
 /// Adds the line of a word by its place alone, where it ran or was read.
@@ -114,22 +114,6 @@ fn is_used(tally: Tally, reads: Tally) -> bool
     tally.is_counted() || reads.is_counted()
 }
 
-/// The place of a cell by its number.
-fn cell_place(cell: u32) -> Place
-    requires { cell < 0o4000 }
-    ensures place { result ≡ cell_place cell }
-    ensures range { IsInPrint result }
-{
-    if cell < 0o1400 {
-        Place::Plain(cell as u16)
-    } else {
-        Place::Erasable {
-            bank: (cell / 0o400) as u8,
-            address: cell_address(cell),
-        }
-    }
-}
-
 /// Adds the lines of the words at the first so many places of the rope.
 fn push_listed(
     text: &mut String,
@@ -163,12 +147,11 @@ fn leads_on(leads: bool, place: usize) -> bool
 }
 
 /// The fixed word at a place.
-#[tactic(auto, unfolding(agc_store::specs::Cells::fixed_of))]
 fn word_at(store: &Store, place: usize) -> Narrow
     requires { place < 0o110000 }
     ensures { result ≡ fixed_at place store.now.fixed }
 {
-    store.fixed((place / 0o2000) as u8, (place % 0o2000) as u16)
+    store.fixed_at(place)
 }
 
 /// Adds the line of a word of the rope, where it has one.
