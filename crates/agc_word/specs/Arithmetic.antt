@@ -19,7 +19,7 @@ is_plus_zero x = not x.minus && (x.magnitude == 0)
 -- that 65535 goes away.
 abbrev pub wrapped : ℤ → ℤ
 wrapped s =
-    if int_lt (pos 32767) s
+    if int_lt (pos 0o77777) s
     then s -ℤ pos 65535
     else (if int_lt s (negsuc 32766) then s +ℤ pos 65535 else s)
 
@@ -32,7 +32,7 @@ sum_of x y =
 -- can hold.
 unfoldable pub over_of : Number → Over
 over_of x =
-    if int_lt (pos 16383) (value x)
+    if int_lt (pos 0o37777) (value x)
     then over.Plus
     else (if int_lt (value x) (negsuc 16382) then over.Minus else over.None)
 

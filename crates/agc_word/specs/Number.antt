@@ -1,7 +1,7 @@
 -- Ones' complement numbers: a sign and a magnitude, so that there are two zeros.
 use Rattle.std.specs.Prelude.{ℕ, ◌-◌, ◌/◌, ◌%◌, ◌^◌, Bool, true, false, ℤ, pos, neg_ℤ, if◌then◌else◌, nat_lt}
 
--- A number of the machine. A narrow word has magnitudes up to 16383, a wide word up to 32767.
+-- A number of the machine. A narrow word has magnitudes up to 37777 octal, a wide word up to 77777 octal.
 pub record Number : Type 0 where
   pub minus : Bool
   pub magnitude : ℕ

@@ -32,7 +32,7 @@ unfoldable pub quotient_of : Number → Number → Number → Option (Number × 
 quotient_of a l k =
     let size = nat_abs (dividend_of a l) in
     let sign = dividend_is_minus a l in
-    let whole = min (size / k.magnitude) 16383 in
+    let whole = min (size / k.magnitude) 0o37777 in
     let quotient : Number = record { minus = signs_differ sign k.minus; magnitude = whole } in
     let remainder : Number = record { minus = sign; magnitude = size - whole * k.magnitude } in
     let fits = not (k.magnitude == 0) && nat_le size (0o40000 * k.magnitude) in
@@ -43,8 +43,8 @@ quotient_of a l k =
 -- the signs differ, and the remainder has the dividend's sign.
 pub record IsDivision (a l k q r : Number) : Type 0 where
   pub divisor : 0 < k.magnitude
-  pub fits : q.magnitude ≤ 16383
+  pub fits : q.magnitude ≤ 0o37777
   pub whole : nat_abs (dividend_of a l) ≡ q.magnitude * k.magnitude + r.magnitude
-  pub rest : (r.magnitude < k.magnitude) ⊎ ((q.magnitude ≡ 16383) × (r.magnitude ≡ k.magnitude))
+  pub rest : (r.magnitude < k.magnitude) ⊎ ((q.magnitude ≡ 0o37777) × (r.magnitude ≡ k.magnitude))
   pub quotient_sign : q.minus ≡ signs_differ (dividend_is_minus a l) k.minus
   pub remainder_sign : r.minus ≡ dividend_is_minus a l

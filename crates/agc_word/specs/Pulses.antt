@@ -38,12 +38,12 @@ shifted_in d ds =
     (number_of_digits (drop 1 ds ++ d ∷ []), if get_or ds 0 0 == 1 then carry.Out else carry.None)
 
 -- PINC and MINC count by one, DINC counts towards zero, PCDU and MCDU count an angle round its
--- circle of 32768 patterns, SHINC and SHANC shift in a 0 or a 1.
+-- circle of 100000 octal patterns, SHINC and SHANC shift in a 0 or a 1.
 unfoldable pub pulsed : Pulse → Number → Number × Carry
 pulsed pulse.Pinc x = counted (sum_of x plus_one)
 pulsed pulse.Minc x = counted (sum_of x minus_one)
 pulsed pulse.Dinc x = diminished x
-pulsed pulse.Pcdu x = (number_from_pattern 15 ((pattern_of 15 x + 1) % 32768), carry.None)
-pulsed pulse.Mcdu x = (number_from_pattern 15 ((pattern_of 15 x + 32768 - 1) % 32768), carry.None)
+pulsed pulse.Pcdu x = (number_from_pattern 15 ((pattern_of 15 x + 1) % 0o100000), carry.None)
+pulsed pulse.Mcdu x = (number_from_pattern 15 ((pattern_of 15 x + 0o100000 - 1) % 0o100000), carry.None)
 pulsed pulse.Shinc x = shifted_in 0 (digits 15 x)
 pulsed pulse.Shanc x = shifted_in 1 (digits 15 x)

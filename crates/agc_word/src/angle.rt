@@ -6,8 +6,8 @@ ghost use Rattle.agc_word.specs.Angles.{modular_difference_of, IsModularDifferen
 use crate::narrow::Narrow;
 use crate::wide::Wide;
 
-/// The shorter way from angle `k` to angle `a` on a circle of 32768, in -16384 to 16383, as MSU
-/// leaves it in A: equal angles give +0, and the one value -16384 has overflow.
+/// The shorter way from angle `k` to angle `a` on a circle of 100000 octal, in -40000 to 37777 octal, as MSU
+/// leaves it in A: equal angles give +0, and the one value -40000 octal has overflow.
 #[inline]
 #[tactic(auto, unfolding(crate::specs::Angles::modular_difference_of))]
 pub fn modular_difference(a: Narrow, k: Narrow) -> Wide

@@ -5,7 +5,7 @@ ghost use Rattle.agc_word.specs.Products.{product_of, quotient_of, dividend_of, 
 
 use crate::narrow::Narrow;
 
-/// The product in two words: its magnitude divided by 16384, and the rest. Both have its sign,
+/// The product in two words: its magnitude divided by 40000 octal, and the rest. Both have its sign,
 /// also where a word is zero; where `k` is a zero of either sign both are +0. Together they are the
 /// product of the values, as a dividend is read.
 #[inline]
@@ -23,7 +23,7 @@ pub fn product(a: Narrow, k: Narrow) -> (Narrow, Narrow)
 }
 
 /// The quotient and the remainder of the number in `a` and `l` by `k`; `None` where `k` is a zero
-/// of either sign, and where the dividend is more than 16384 times as large as `k`.
+/// of either sign, and where the dividend is more than 40000 octal times as large as `k`.
 #[tactic(auto, unfolding(crate::specs::Products::quotient_of))]
 pub fn quotient(a: Narrow, l: Narrow, k: Narrow) -> Option<(Narrow, Narrow)>
     ensures pair { result ≡ quotient_of a l k }
@@ -51,20 +51,20 @@ pub fn quotient(a: Narrow, l: Narrow, k: Narrow) -> Option<(Narrow, Narrow)>
     ))
 }
 
-/// The whole part, at most 16383, and what is left.
+/// The whole part, at most 37777 octal, and what is left.
 fn divided(dividend: u32, divisor: u32) -> (u16, u16)
     requires positive { 0 < divisor }
     requires narrow { divisor < 2 ^ 14 }
     requires within { dividend ≤ 0o40000 * divisor }
-    ensures whole { result.0 ≡ min (dividend / divisor) 16383 }
+    ensures whole { result.0 ≡ min (dividend / divisor) 0o37777 }
     ensures parts { dividend ≡ result.0 * divisor + result.1 }
-    ensures rest { (result.1 < divisor) ⊎ ((result.0 ≡ 16383) × (result.1 ≡ divisor)) }
+    ensures rest { (result.1 < divisor) ⊎ ((result.0 ≡ 0o37777) × (result.1 ≡ divisor)) }
 {
     let whole = dividend / divisor;
     if whole < 0o40000 {
         (whole as u16, (dividend % divisor) as u16)
     } else {
-        (16383, divisor as u16)
+        (0o37777, divisor as u16)
     }
 }
 

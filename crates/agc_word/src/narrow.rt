@@ -87,7 +87,7 @@ impl Narrow {
         self.bits >> (place - 1) & 1 == 1
     }
 
-    /// The number without its sign, at most 16383.
+    /// The number without its sign, at most 37777 octal.
     #[inline]
     pub fn magnitude(self) -> u16
         ensures size { result ≡ self.magnitude }
