@@ -15,7 +15,7 @@ use Rattle.agc_order.specs.declared.order.Extracode.{Extracode}
 use Rattle.agc_order.specs.declared.order.Extracode.TheVariants as extra
 use Rattle.agc_processor.specs.declared.processor.Processor.{Processor}
 use Rattle.agc_processor.specs.Basic.{tc_of, ccs_of, tcf_of, lxch_of, incr_of, ads_of, ca_of, cs_of, index_of, resume_of, ts_of, ts_by, ts_with_overflow, xch_of, ad_of, mask_of}
-use Rattle.agc_processor.specs.Channel.{read_order, write_order, rand_order, wand_order, ror_order, wor_order, rxor_order, write_channel, set_channel, l_channel, q_channel, high_scaler_channel, low_scaler_channel, superbank_channel, time6_channel}
+use Rattle.agc_processor.specs.Channel.{read_order, write_order, rand_order, wand_order, ror_order, wor_order, rxor_order, write_channel, set_channel, l_channel, q_channel, hiscalar, loscalar, superbnk, chan13}
 use Rattle.agc_processor.specs.Double.{before_in_twelve, dca_of, dcs_of}
 use Rattle.agc_processor.specs.Effect.{basic_effect, extracode_effect, branches, divides, channel_number, short_address}
 use Rattle.agc_processor.specs.Extra.{dv_of, in_a_and_l, msu_of, qxch_of, aug_of, dim_of, su_of, mp_of}
@@ -88,8 +88,8 @@ branches_kept false p c z = z_step _ z start
 set_channel_kept : (c h : ℕ) (w : Number) (cell : ℕ) (p : Processor) → Kept cell p.store (set_channel c h w p).store
 unfolding set_channel
 set_channel_kept c h w cell p =
-    either (h == superbank_channel) _ _ (λ is. superbank_step _ start)
-    (λ other. either (h == time6_channel) _ _ (λ is. start) (λ plain. start))
+    either (h == superbnk) _ _ (λ is. superbank_step _ start)
+    (λ other. either (h == chan13) _ _ (λ is. start) (λ plain. start))
 
 write_channel_kept : (c h : ℕ) (w : Number) (cell : ℕ) (p : Processor) → (h ≡ 1 → cell ≢ l_cell) → (h ≡ 2 → cell ≢ q_cell)
     → Kept cell p.store (write_channel c h w p).store
@@ -97,8 +97,8 @@ unfolding write_channel
 write_channel_kept c h w cell p l q =
     either (h == l_channel) _ _ (λ is. l_step _ (l (grind (arith, nat_tests))) start)
     (λ no_l. either (h == q_channel) _ _ (λ is. q_step _ (q (grind (arith, nat_tests))) start)
-    (λ no_q. either (h == high_scaler_channel) _ _ (λ is. start)
-    (λ no_high. either (h == low_scaler_channel) _ _ (λ is. start)
+    (λ no_q. either (h == hiscalar) _ _ (λ is. start)
+    (λ no_high. either (h == loscalar) _ _ (λ is. start)
     (λ no_low. set_channel_kept c h (narrow_of w) cell p))))
 
 -- the address below in twelve bits

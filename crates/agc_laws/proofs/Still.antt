@@ -18,7 +18,7 @@ use Rattle.agc_order.specs.declared.order.Extracode.TheVariants as extra
 use Rattle.agc_processor.specs.declared.processor.Processor.{Processor}
 use Rattle.agc_processor.specs.declared.processor.Timers.{Timers}
 use Rattle.agc_processor.specs.Basic.{tc_of, ccs_of, tcf_of, lxch_of, incr_of, ads_of, ca_of, cs_of, index_of, resume_of, ts_of, ts_by, ts_with_overflow, xch_of, ad_of, mask_of}
-use Rattle.agc_processor.specs.Channel.{read_order, write_order, rand_order, wand_order, ror_order, wor_order, rxor_order, write_channel, set_channel, l_channel, q_channel, high_scaler_channel, low_scaler_channel, superbank_channel, time6_channel, channel_cell}
+use Rattle.agc_processor.specs.Channel.{read_order, write_order, rand_order, wand_order, ror_order, wor_order, rxor_order, write_channel, set_channel, l_channel, q_channel, hiscalar, loscalar, superbnk, chan13, channel_cell}
 use Rattle.agc_processor.specs.Double.{das_of, das_upper, dxch_of, dca_of, dcs_of}
 use Rattle.agc_processor.specs.Effect.{basic_effect, extracode_effect, branches, divides, channel_number, short_address}
 use Rattle.agc_processor.specs.Extra.{dv_of, in_a_and_l, msu_of, qxch_of, aug_of, dim_of, su_of, mp_of}
@@ -36,8 +36,8 @@ IsStill p q =
 -- all but the flags, and but what hangs on the channel that is set
 pub record Rest (set_one : Option ℕ) (p q : Processor) : Type 0 where
   pub channels : (h : ℕ) → set_one ≢ Some h → channel_cell h q ≡ channel_cell h p
-  pub superbank : set_one ≢ Some superbank_channel → q.store.superbank ≡ p.store.superbank
-  pub mark : set_one ≢ Some time6_channel → q.timers.mark ≡ p.timers.mark
+  pub superbank : set_one ≢ Some superbnk → q.store.superbank ≡ p.store.superbank
+  pub mark : set_one ≢ Some chan13 → q.timers.mark ≡ p.timers.mark
   pub counts : q.timers ≡ record p.timers { mark = q.timers.mark }
   pub requests : q.requests ≡ p.requests
 
@@ -134,19 +134,19 @@ other_cell h k w p other = get_or-set_other p.channels h k w plus_zero (λ (e : 
 set_channel_rest : (c h : ℕ) (w : Number) (p : Processor) → Rest (Some h) p (set_channel c h w p)
 unfolding set_channel superbank_set
 set_channel_rest c h w p =
-    either (Rest (Some h) p) (h == superbank_channel) _ _
-    (λ is. let e : h ≡ superbank_channel = grind (arith, nat_tests) in
+    either (Rest (Some h) p) (h == superbnk) _ _
+    (λ is. let e : h ≡ superbnk = grind (arith, nat_tests) in
     record {
-      channels = λ k other. other_cell superbank_channel k _ p (λ (same : Some superbank_channel ≡ Some k). other (ap Some e ∙ same));
+      channels = λ k other. other_cell superbnk k _ p (λ (same : Some superbnk ≡ Some k). other (ap Some e ∙ same));
       superbank = λ other. absurd (other (ap Some e));
       mark = λ other. refl;
       counts = refl;
       requests = refl;
     })
-    (λ no. either (Rest (Some h) p) (h == time6_channel) _ _
-    (λ is. let e : h ≡ time6_channel = grind (arith, nat_tests) in
+    (λ no. either (Rest (Some h) p) (h == chan13) _ _
+    (λ is. let e : h ≡ chan13 = grind (arith, nat_tests) in
     record {
-      channels = λ k other. other_cell time6_channel k _ p (λ (same : Some time6_channel ≡ Some k). other (ap Some e ∙ same));
+      channels = λ k other. other_cell chan13 k _ p (λ (same : Some chan13 ≡ Some k). other (ap Some e ∙ same));
       superbank = λ other. refl;
       mark = λ other. absurd (other (ap Some e));
       counts = refl;
@@ -170,8 +170,8 @@ write_channel_rest c h w p =
     let one : Option ℕ = if nat_le 1 h && nat_le h 4 then None else Some h in
     either (Rest one p) (h == l_channel) _ _ (λ is. rest one refl refl refl refl)
     (λ no_l. either (Rest one p) (h == q_channel) _ _ (λ is. rest one refl refl refl refl)
-    (λ no_q. either (Rest one p) (h == high_scaler_channel) _ _ (λ is. rest one refl refl refl refl)
-    (λ no_high. either (Rest one p) (h == low_scaler_channel) _ _ (λ is. rest one refl refl refl refl)
+    (λ no_q. either (Rest one p) (h == hiscalar) _ _ (λ is. rest one refl refl refl refl)
+    (λ no_high. either (Rest one p) (h == loscalar) _ _ (λ is. rest one refl refl refl refl)
     (λ no_low. set_one (nat_le 1 h && nat_le h 4) h p _ (grind (arith, nat_tests)) (set_channel_rest c h (narrow_of w) p)))))
 
 -- the same holds once A is set and the next order is in hand
@@ -205,16 +205,16 @@ extracode_rest o c p = rest None refl refl refl refl
 set_channel_flags : (c h : ℕ) (w : Number) (p : Processor) → KeepsFlags p (set_channel c h w p)
 unfolding set_channel
 set_channel_flags c h w p =
-    either (KeepsFlags p) (h == superbank_channel) _ _ (λ is. (refl, refl))
-    (λ no. either (KeepsFlags p) (h == time6_channel) _ _ (λ is. (refl, refl)) (λ plain. (refl, refl)))
+    either (KeepsFlags p) (h == superbnk) _ _ (λ is. (refl, refl))
+    (λ no. either (KeepsFlags p) (h == chan13) _ _ (λ is. (refl, refl)) (λ plain. (refl, refl)))
 
 write_channel_flags : (c h : ℕ) (w : Number) (p : Processor) → KeepsFlags p (write_channel c h w p)
 unfolding write_channel
 write_channel_flags c h w p =
     either (KeepsFlags p) (h == l_channel) _ _ (λ is. (refl, refl))
     (λ no_l. either (KeepsFlags p) (h == q_channel) _ _ (λ is. (refl, refl))
-    (λ no_q. either (KeepsFlags p) (h == high_scaler_channel) _ _ (λ is. (refl, refl))
-    (λ no_high. either (KeepsFlags p) (h == low_scaler_channel) _ _ (λ is. (refl, refl))
+    (λ no_q. either (KeepsFlags p) (h == hiscalar) _ _ (λ is. (refl, refl))
+    (λ no_high. either (KeepsFlags p) (h == loscalar) _ _ (λ is. (refl, refl))
     (λ no_low. set_channel_flags c h (narrow_of w) p))))
 
 pub extracode_flags : (o : Extracode) (c : ℕ) (p : Processor) → KeepsFlags p (extracode_effect o c p).0

@@ -6,7 +6,7 @@ use Rattle.agc_store.specs.Places.{l_cell, q_cell, eb_cell, fb_cell, z_cell, bb_
 use Rattle.agc_store.specs.Memory.{is_erasable, erasable_place, cell_at}
 use Rattle.agc_store.specs.Cells.{is_editing}
 use Rattle.agc_processor.specs.declared.processor.Processor.{Processor}
-use Rattle.agc_processor.specs.Channel.{channel_cell, superbank_channel, time6_channel}
+use Rattle.agc_processor.specs.Channel.{channel_cell, superbnk, chan13}
 
 -- The cells that an order changes by the address in its word: none; the cell K; the cell K and the
 -- one below it; K alone or both where they are editing registers, which are edited again as they
@@ -96,8 +96,8 @@ pub record ChangesItsRow (row : OrderRow) (p q : Processor) : Type 0 where
       → cell_at cell q.store.erasable ≡ cell_at cell p.store.erasable
   pub fixed : q.store.fixed ≡ p.store.fixed
   pub channels : (h : ℕ) → channel_set row.reach p ≢ Some h → channel_cell h q ≡ channel_cell h p
-  pub superbank : channel_set row.reach p ≢ Some superbank_channel
+  pub superbank : channel_set row.reach p ≢ Some superbnk
       → q.store.superbank ≡ p.store.superbank
-  pub mark : channel_set row.reach p ≢ Some time6_channel → q.timers.mark ≡ p.timers.mark
+  pub mark : channel_set row.reach p ≢ Some chan13 → q.timers.mark ≡ p.timers.mark
   pub counts : q.timers ≡ record p.timers { mark = q.timers.mark }
   pub requests : q.requests ≡ p.requests

@@ -13,7 +13,7 @@ use Rattle.agc_store.specs.Cells.{poke_of, put_of, superbank_set}
 use Rattle.agc_processor.specs.declared.interrupt.Rupt.{Rupt}
 use Rattle.agc_processor.specs.declared.interrupt.Rupt.TheVariants as rupt
 use Rattle.agc_processor.specs.declared.processor.Processor.{Processor}
-use Rattle.agc_processor.specs.Channel.{set_channel, superbank_channel, time6_channel}
+use Rattle.agc_processor.specs.Channel.{set_channel, superbnk, chan13}
 use Rattle.agc_processor.specs.Effect.{order_effect}
 use Rattle.agc_processor.specs.Interrupt.{interrupted}
 use Rattle.agc_processor.specs.Processor.{◌▷◌}
@@ -35,7 +35,7 @@ either false p q r h k = k
 pub set_channel_keeps : (c h : ℕ) (w : Number) (p : Processor) → SameFixed p (set_channel c h w p)
 unfolding set_channel superbank_set
 set_channel_keeps c h w p =
-    either (h == superbank_channel) p _ _ refl (either (h == time6_channel) p _ _ refl refl)
+    either (h == superbnk) p _ _ refl (either (h == chan13) p _ _ refl refl)
 
 -- the order in hand
 pub order_keeps : (c : ℕ) (p : Processor) → SameFixed p (order_effect c p).0

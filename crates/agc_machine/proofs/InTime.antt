@@ -17,13 +17,14 @@ use Rattle.agc_processor.specs.declared.processor.Timers.{Timers}
 use Rattle.agc_processor.specs.declared.processor.Ran.{Ran}
 use Rattle.agc_processor.specs.declared.timer.Timer.{Timer}
 use Rattle.agc_processor.specs.declared.timer.Timer.TheVariants as timer
-use Rattle.agc_processor.specs.Channel.{is_on, switch_word, time6_periods}
+use Rattle.agc_processor.specs.Channel.{is_on, switch_word}
 use Rattle.agc_processor.specs.Effect.{order_effect}
 use Rattle.agc_processor.specs.Interrupt.{interrupt_cycles, interrupted}
-use Rattle.agc_processor.specs.Period.{pulses_at, time1_first, time3_first, time4_first, time5_first}
+use Rattle.agc_clock.specs.Due.{is_due, time6_periods}
+use Rattle.agc_clock.specs.Period.{pulses_at, time1_first, time3_first, time4_first, time5_first}
 use Rattle.agc_processor.specs.Processor.{◌▷◌}
 use Rattle.agc_processor.specs.Start.{start_processor}
-use Rattle.agc_processor.specs.Timer.{IsCounted, carried, counter, set_counter, switched_off, time2_by, time1_step, time3_step, time4_step, time5_step, time6_step, is_due, is_time6_due, due_timer, steps_of, timer_step}
+use Rattle.agc_processor.specs.Timer.{IsCounted, carried, counter, set_counter, switched_off, time2_by, time1_step, time3_step, time4_step, time5_step, time6_step, is_time6_due, due_timer, steps_of, timer_step}
 use Rattle.agc_processor.proofs.Timed.{order_timed, set_channel_timed, with_periods}
 use Rattle.agc_machine.specs.Engine.{IsInTime, IsSound}
 use Rattle.agc_machine.specs.declared.engine.Engine.{Engine}

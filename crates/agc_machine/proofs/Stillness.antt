@@ -18,8 +18,9 @@ use Rattle.agc_machine.specs.declared.calm.Pace.{Pace}
 use Rattle.agc_machine.specs.declared.calm.Pace.TheVariants as pace
 use Rattle.agc_machine.specs.State.{State}
 use Rattle.agc_processor.specs.Channel.{switch_word}
-use Rattle.agc_processor.specs.Timer.{due_timer, is_any_due, is_due, is_time6_due}
-use Rattle.agc_processor.specs.Period.{time1_first, time3_first, time4_first, time5_first}
+use Rattle.agc_processor.specs.Timer.{due_timer, is_any_due, is_time6_due}
+use Rattle.agc_clock.specs.Due.{is_due}
+use Rattle.agc_clock.specs.Period.{time1_first, time3_first, time4_first, time5_first}
 
 -- no timer steps where none is due
 none_of_five : {X : Type 0} (a b c d e : Bool) (v w x y z : X) → (a || b || c || d || e) ≡ false →

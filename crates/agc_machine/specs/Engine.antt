@@ -1,7 +1,7 @@
 -- How the machine keeps its state: the script whole, with the place of the next event.
 use Rattle.std.specs.Prelude.{◌≡◌, ℕ, ◌+◌, ◌<◌, ◌≤◌, ◌^◌, false, true, drop, length}
-use Rattle.agc_processor.specs.Channel.{time6_periods}
-use Rattle.agc_processor.specs.Period.{pulses_at}
+use Rattle.agc_clock.specs.Due.{time6_periods}
+use Rattle.agc_clock.specs.Period.{pulses_at}
 use Rattle.agc_processor.specs.declared.processor.Timers.{Timers}
 use Rattle.agc_machine.specs.declared.answer.Stepped.{Stepped}
 use Rattle.agc_machine.specs.declared.answer.Stepped.TheVariants as stepped

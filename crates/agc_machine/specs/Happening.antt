@@ -12,7 +12,7 @@ use Rattle.agc_store.specs.Cells.{narrow_number}
 use Rattle.agc_store.specs.Places.{inlink_cell}
 use Rattle.agc_processor.specs.declared.processor.Processor.{Processor}
 use Rattle.agc_processor.specs.Channel.{channel_cell, set_channel_cell}
-use Rattle.agc_processor.specs.Channel.{set_channel, keyboard_channel, input_channel_32}
+use Rattle.agc_processor.specs.Channel.{set_channel, mnkeyin, chan32}
 use Rattle.agc_processor.specs.Processor.{◌▷◌, poke}
 use Rattle.agc_processor.specs.Interrupt.{request, rupt_numbered}
 use Rattle.agc_processor.specs.Timer.{counter, set_counter, carried}
@@ -21,15 +21,15 @@ use Rattle.agc_processor.specs.declared.interrupt.Rupt.TheVariants as rupt
 -- a key: its code comes into the keyboard's channel, and KEYRUPT1 is requested
 unfoldable pub pressed : Key → Processor → Processor
 pressed key p =
-    p ▷ set_channel_cell keyboard_channel (narrow_number (code_of key)) ▷ request rupt.Keyrupt1
+    p ▷ set_channel_cell mnkeyin (narrow_number (code_of key)) ▷ request rupt.Keyrupt1
 
 -- the PRO key: bit 14 of channel 32 octal is 0 while it is down
 unfoldable pub proceeded : Bool → Processor → Processor
 proceeded down p =
-    let word = pattern_of 15 (channel_cell input_channel_32 p) in
+    let word = pattern_of 15 (channel_cell chan32 p) in
     let bit = if down then 0 else 0o20000 in
     let changed = narrow_number (word / 0o40000 * 0o40000 + bit + word % 0o20000) in
-    p ▷ set_channel_cell input_channel_32 changed
+    p ▷ set_channel_cell chan32 changed
 
 -- only the shifts of INLINK, by which the uplink comes in, ask for UPRUPT with their carry
 abbrev pub is_shift : Pulse → Bool

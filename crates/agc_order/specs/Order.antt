@@ -1,65 +1,46 @@
 -- The orders, and which order a word names.
-use Rattle.std.specs.Prelude.{ℕ, Bool, true, false, List, [], ◌∷◌, nat_le, if◌then◌else◌}
+use Rattle.std.specs.Prelude.{ℕ, ◌+◌, Bool, true, false, List, [], ◌∷◌, nat_le, if◌then◌else◌}
 use Rattle.agc_order.specs.declared.order.Basic.{Basic}
 use Rattle.agc_order.specs.declared.order.Basic.TheVariants as basic
 use Rattle.agc_order.specs.declared.order.Extracode.{Extracode}
 use Rattle.agc_order.specs.declared.order.Extracode.TheVariants as extra
+use Rattle.agc_order.specs.Row.{basic_row, extracode_row, least_word}
 
 -- the words from `first` on name this order, as far as the next stretch
 pub record Stretch (Order : Type 0) : Type 0 where
   pub first : ℕ
   pub names : Order
 
--- The basic orders, in the order of their codes. The first digit is the code, and the digits below
--- it hold the quarter, or the whole of a special word.
+-- the stretch that begins at the least word of an order, and the one that goes on after a single word
+abbrev pub begins : Basic → Stretch Basic
+begins order = record { first = least_word (basic_row order); names = order }
+
+abbrev pub goes_on : Basic → Basic → Stretch Basic
+goes_on single order = record { first = (basic_row single).first + 1; names = order }
+
+abbrev pub begins_extracode : Extracode → Stretch Extracode
+begins_extracode order = record { first = least_word (extracode_row order); names = order }
+
+-- The basic orders, in the order of their words. RELINT, INHINT and EXTEND are single words among those of
+-- TC, and RESUME among those of INDEX, which go on after them.
 unfoldable pub basic_orders : List (Stretch Basic)
 basic_orders =
-    record { first = 0o00000; names = basic.Tc } ∷
-    record { first = 0o00003; names = basic.Relint } ∷
-    record { first = 0o00004; names = basic.Inhint } ∷
-    record { first = 0o00005; names = basic.Tc } ∷
-    record { first = 0o00006; names = basic.Extend } ∷
-    record { first = 0o00007; names = basic.Tc } ∷
-    record { first = 0o10000; names = basic.Ccs } ∷
-    record { first = 0o12000; names = basic.Tcf } ∷
-    record { first = 0o20000; names = basic.Das } ∷
-    record { first = 0o22000; names = basic.Lxch } ∷
-    record { first = 0o24000; names = basic.Incr } ∷
-    record { first = 0o26000; names = basic.Ads } ∷
-    record { first = 0o30000; names = basic.Ca } ∷
-    record { first = 0o40000; names = basic.Cs } ∷
-    record { first = 0o50000; names = basic.Index } ∷
-    record { first = 0o50017; names = basic.Resume } ∷
-    record { first = 0o50020; names = basic.Index } ∷
-    record { first = 0o52000; names = basic.Dxch } ∷
-    record { first = 0o54000; names = basic.Ts } ∷
-    record { first = 0o56000; names = basic.Xch } ∷
-    record { first = 0o60000; names = basic.Ad } ∷
-    record { first = 0o70000; names = basic.Mask } ∷ []
+    begins basic.Tc ∷ begins basic.Relint ∷ begins basic.Inhint ∷ goes_on basic.Inhint basic.Tc ∷
+    begins basic.Extend ∷ goes_on basic.Extend basic.Tc ∷ begins basic.Ccs ∷ begins basic.Tcf ∷
+    begins basic.Das ∷ begins basic.Lxch ∷ begins basic.Incr ∷ begins basic.Ads ∷ begins basic.Ca ∷
+    begins basic.Cs ∷ begins basic.Index ∷ begins basic.Resume ∷ goes_on basic.Resume basic.Index ∷
+    begins basic.Dxch ∷ begins basic.Ts ∷ begins basic.Xch ∷ begins basic.Ad ∷ begins basic.Mask ∷ []
 
--- The extracodes, in the same way: code 0 goes by eighths, one channel order each.
+-- The extracodes, in the same way.
 unfoldable pub extracodes : List (Stretch Extracode)
 extracodes =
-    record { first = 0o00000; names = extra.Read } ∷
-    record { first = 0o01000; names = extra.Write } ∷
-    record { first = 0o02000; names = extra.Rand } ∷
-    record { first = 0o03000; names = extra.Wand } ∷
-    record { first = 0o04000; names = extra.Ror } ∷
-    record { first = 0o05000; names = extra.Wor } ∷
-    record { first = 0o06000; names = extra.Rxor } ∷
-    record { first = 0o07000; names = extra.Edrupt } ∷
-    record { first = 0o10000; names = extra.Dv } ∷
-    record { first = 0o12000; names = extra.Bzf } ∷
-    record { first = 0o20000; names = extra.Msu } ∷
-    record { first = 0o22000; names = extra.Qxch } ∷
-    record { first = 0o24000; names = extra.Aug } ∷
-    record { first = 0o26000; names = extra.Dim } ∷
-    record { first = 0o30000; names = extra.Dca } ∷
-    record { first = 0o40000; names = extra.Dcs } ∷
-    record { first = 0o50000; names = extra.Index } ∷
-    record { first = 0o60000; names = extra.Su } ∷
-    record { first = 0o62000; names = extra.Bzmf } ∷
-    record { first = 0o70000; names = extra.Mp } ∷ []
+    begins_extracode extra.Read ∷ begins_extracode extra.Write ∷ begins_extracode extra.Rand ∷
+    begins_extracode extra.Wand ∷ begins_extracode extra.Ror ∷ begins_extracode extra.Wor ∷
+    begins_extracode extra.Rxor ∷ begins_extracode extra.Edrupt ∷ begins_extracode extra.Dv ∷
+    begins_extracode extra.Bzf ∷ begins_extracode extra.Msu ∷ begins_extracode extra.Qxch ∷
+    begins_extracode extra.Aug ∷ begins_extracode extra.Dim ∷ begins_extracode extra.Dca ∷
+    begins_extracode extra.Dcs ∷ begins_extracode extra.Index ∷ begins_extracode extra.Su ∷
+    begins_extracode extra.Bzmf ∷ begins_extracode extra.Mp ∷ []
 
 -- the order of the last stretch that begins at or below the word
 abbrev pub last_begun : {Order : Type 0} → ℕ → Order → List (Stretch Order) → Order

@@ -1,4 +1,4 @@
-//! The table of the orders: of each the word that it begins with, its mnemonic and what it takes.
+//! The table of the orders: of each the word that it begins with, its mnemonic, what it takes, and its cycles.
 ghost use Rattle.std.specs.Prelude.{◌≡◌, ◌≤◌};
 ghost use Rattle.agc_order.specs.Row.{basic_row, extracode_row};
 
@@ -32,6 +32,9 @@ pub struct Row {
     pub mnemonic: &'static str,
     /// What it takes after its mnemonic.
     pub takes: Takes,
+    /// The machine cycles of it, at most 6: of BZF and BZMF those where no branch is taken, which takes one, and of
+    /// EDRUPT 0, as it halts the machine.
+    pub cycles: u64,
 }
 
 impl Basic {
@@ -63,33 +66,35 @@ impl Basic {
         ensures first { result.first ≡ (basic_row self).first }
         ensures mnemonic { result.mnemonic.now ≡ (basic_row self).mnemonic }
         ensures takes { result.takes ≡ (basic_row self).takes }
+        ensures cycles { result.cycles ≡ (basic_row self).cycles }
         ensures range { result.first ≤ 0o70000 }
     {
-        let (first, mnemonic, takes) = match self {
-            Basic::Tc => (0o00000, "TC", Takes::Memory),
-            Basic::Relint => (0o00003, "RELINT", Takes::Nothing),
-            Basic::Inhint => (0o00004, "INHINT", Takes::Nothing),
-            Basic::Extend => (0o00006, "EXTEND", Takes::Nothing),
-            Basic::Ccs => (0o10000, "CCS", Takes::Erasable),
-            Basic::Tcf => (0o10000, "TCF", Takes::Fixed),
-            Basic::Das => (0o20000, "DAS", Takes::ErasablePair),
-            Basic::Lxch => (0o22000, "LXCH", Takes::Erasable),
-            Basic::Incr => (0o24000, "INCR", Takes::Erasable),
-            Basic::Ads => (0o26000, "ADS", Takes::Erasable),
-            Basic::Ca => (0o30000, "CA", Takes::Memory),
-            Basic::Cs => (0o40000, "CS", Takes::Memory),
-            Basic::Index => (0o50000, "INDEX", Takes::Erasable),
-            Basic::Resume => (0o50017, "RESUME", Takes::Nothing),
-            Basic::Dxch => (0o52000, "DXCH", Takes::ErasablePair),
-            Basic::Ts => (0o54000, "TS", Takes::Erasable),
-            Basic::Xch => (0o56000, "XCH", Takes::Erasable),
-            Basic::Ad => (0o60000, "AD", Takes::Memory),
-            Basic::Mask => (0o70000, "MASK", Takes::Memory),
+        let (first, mnemonic, takes, cycles) = match self {
+            Basic::Tc => (0o00000, "TC", Takes::Memory, 1),
+            Basic::Relint => (0o00003, "RELINT", Takes::Nothing, 1),
+            Basic::Inhint => (0o00004, "INHINT", Takes::Nothing, 1),
+            Basic::Extend => (0o00006, "EXTEND", Takes::Nothing, 1),
+            Basic::Ccs => (0o10000, "CCS", Takes::Erasable, 2),
+            Basic::Tcf => (0o10000, "TCF", Takes::Fixed, 1),
+            Basic::Das => (0o20000, "DAS", Takes::ErasablePair, 3),
+            Basic::Lxch => (0o22000, "LXCH", Takes::Erasable, 2),
+            Basic::Incr => (0o24000, "INCR", Takes::Erasable, 2),
+            Basic::Ads => (0o26000, "ADS", Takes::Erasable, 2),
+            Basic::Ca => (0o30000, "CA", Takes::Memory, 2),
+            Basic::Cs => (0o40000, "CS", Takes::Memory, 2),
+            Basic::Index => (0o50000, "INDEX", Takes::Erasable, 2),
+            Basic::Resume => (0o50017, "RESUME", Takes::Nothing, 2),
+            Basic::Dxch => (0o52000, "DXCH", Takes::ErasablePair, 3),
+            Basic::Ts => (0o54000, "TS", Takes::Erasable, 2),
+            Basic::Xch => (0o56000, "XCH", Takes::Erasable, 2),
+            Basic::Ad => (0o60000, "AD", Takes::Memory, 2),
+            Basic::Mask => (0o70000, "MASK", Takes::Memory, 2),
         };
         Row {
             first,
             mnemonic,
             takes,
+            cycles,
         }
     }
 }
@@ -124,34 +129,36 @@ impl Extracode {
         ensures first { result.first ≡ (extracode_row self).first }
         ensures mnemonic { result.mnemonic.now ≡ (extracode_row self).mnemonic }
         ensures takes { result.takes ≡ (extracode_row self).takes }
+        ensures cycles { result.cycles ≡ (extracode_row self).cycles }
         ensures range { result.first ≤ 0o70000 }
     {
-        let (first, mnemonic, takes) = match self {
-            Extracode::Read => (0o00000, "READ", Takes::Channel),
-            Extracode::Write => (0o01000, "WRITE", Takes::Channel),
-            Extracode::Rand => (0o02000, "RAND", Takes::Channel),
-            Extracode::Wand => (0o03000, "WAND", Takes::Channel),
-            Extracode::Ror => (0o04000, "ROR", Takes::Channel),
-            Extracode::Wor => (0o05000, "WOR", Takes::Channel),
-            Extracode::Rxor => (0o06000, "RXOR", Takes::Channel),
-            Extracode::Edrupt => (0o07000, "EDRUPT", Takes::Channel),
-            Extracode::Dv => (0o10000, "DV", Takes::Erasable),
-            Extracode::Bzf => (0o10000, "BZF", Takes::Fixed),
-            Extracode::Msu => (0o20000, "MSU", Takes::Erasable),
-            Extracode::Qxch => (0o22000, "QXCH", Takes::Erasable),
-            Extracode::Aug => (0o24000, "AUG", Takes::Erasable),
-            Extracode::Dim => (0o26000, "DIM", Takes::Erasable),
-            Extracode::Dca => (0o30000, "DCA", Takes::MemoryPair),
-            Extracode::Dcs => (0o40000, "DCS", Takes::MemoryPair),
-            Extracode::Index => (0o50000, "INDEX", Takes::Memory),
-            Extracode::Su => (0o60000, "SU", Takes::Erasable),
-            Extracode::Bzmf => (0o60000, "BZMF", Takes::Fixed),
-            Extracode::Mp => (0o70000, "MP", Takes::Memory),
+        let (first, mnemonic, takes, cycles) = match self {
+            Extracode::Read => (0o00000, "READ", Takes::Channel, 2),
+            Extracode::Write => (0o01000, "WRITE", Takes::Channel, 2),
+            Extracode::Rand => (0o02000, "RAND", Takes::Channel, 2),
+            Extracode::Wand => (0o03000, "WAND", Takes::Channel, 2),
+            Extracode::Ror => (0o04000, "ROR", Takes::Channel, 2),
+            Extracode::Wor => (0o05000, "WOR", Takes::Channel, 2),
+            Extracode::Rxor => (0o06000, "RXOR", Takes::Channel, 2),
+            Extracode::Edrupt => (0o07000, "EDRUPT", Takes::Channel, 0),
+            Extracode::Dv => (0o10000, "DV", Takes::Erasable, 6),
+            Extracode::Bzf => (0o10000, "BZF", Takes::Fixed, 2),
+            Extracode::Msu => (0o20000, "MSU", Takes::Erasable, 2),
+            Extracode::Qxch => (0o22000, "QXCH", Takes::Erasable, 2),
+            Extracode::Aug => (0o24000, "AUG", Takes::Erasable, 2),
+            Extracode::Dim => (0o26000, "DIM", Takes::Erasable, 2),
+            Extracode::Dca => (0o30000, "DCA", Takes::MemoryPair, 3),
+            Extracode::Dcs => (0o40000, "DCS", Takes::MemoryPair, 3),
+            Extracode::Index => (0o50000, "INDEX", Takes::Memory, 2),
+            Extracode::Su => (0o60000, "SU", Takes::Erasable, 2),
+            Extracode::Bzmf => (0o60000, "BZMF", Takes::Fixed, 2),
+            Extracode::Mp => (0o70000, "MP", Takes::Memory, 3),
         };
         Row {
             first,
             mnemonic,
             takes,
+            cycles,
         }
     }
 }

@@ -4,6 +4,7 @@ use Rattle.std.proofs.lemmas.Bool.{and_parts, cases_Bool, eqb-true, false_from_n
 use Rattle.std.proofs.lemmas.List.Elements.{recursion_from_All}
 use Rattle.std.specs.List.{AllByRecursion, filter_map}
 use Rattle.agc_processor.specs.declared.channel_write.ChannelWrite.{ChannelWrite}
+use Rattle.agc_processor.specs.Channel.{dsalmout, out0}
 use Rattle.agc_panel.specs.Face.{blank_face, blank_pair, blank_register, face_after, pair_after, panel_of}
 use Rattle.agc_panel.specs.Field.{field_after}
 use Rattle.agc_panel.specs.Lamp.{bit_given, dark_lamps, is_from, is_lit, lamps_after, lit_after, printed_order, wiring}
@@ -20,12 +21,12 @@ use Rattle.agc_panel.specs.declared.lamp.Source.TheVariants.{Dsalmout, LampRow}
 -- a write that gives a row something names its fields
 row_named : (row : ℕ) (write : ChannelWrite) → names_row row write ≡ true → fields_named write ≡ OfRow row
 row_named row write h =
-    let parts = and_parts (write.channel == 0o10) (bits 15 12 write.value == row) h in
+    let parts = and_parts (write.channel == out0) (bits 15 12 write.value == row) h in
     rw parts.0 (ap OfRow (eqb-true (bits 15 12 write.value) row parts.1))
 
 -- a write that gives DSALMOUT something names its fields
 dsalmout_named : (write : ChannelWrite) → is_from Dsalmout write ≡ true → fields_named write ≡ OfDsalmout
-dsalmout_named write h = rw (eqb-true write.channel 0o11 h) refl
+dsalmout_named write h = rw (eqb-true write.channel dsalmout h) refl
 
 source_named : (source : Source) (write : ChannelWrite) → is_from source write ≡ true → fields_named write ≡ fields_of_source source
 source_named LampRow write h = row_named 12 write h

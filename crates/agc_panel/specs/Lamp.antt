@@ -3,6 +3,7 @@ use denote.Enum.Declared.{tag_of}
 use Rattle.std.specs.Prelude.{ℕ, ◌==◌, Bool, false, if◌then◌else◌, List, [], ◌∷◌, Option, Some}
 use Rattle.std.specs.Prelude.{None, codes, get_or, map}
 use Rattle.agc_processor.specs.declared.channel_write.ChannelWrite.{ChannelWrite}
+use Rattle.agc_processor.specs.Channel.{dsalmout}
 use Rattle.agc_panel.specs.declared.lamp.Lamp.{Lamp}
 use Rattle.agc_panel.specs.declared.lamp.Lamps.{Lamps}
 use Rattle.agc_panel.specs.declared.lamp.Source.{Source}
@@ -45,14 +46,10 @@ printed_order =
     CompActy ∷ UplinkActy ∷ NoAtt ∷ Temp ∷ GimbalLock ∷ Prog
     ∷ KeyRel ∷ OprErr ∷ Tracker ∷ Alt ∷ Vel ∷ Iss ∷ []
 
--- DSALMOUT, the channel of the lamps that stand on no relay
-abbrev pub dsalmout_channel : ℕ
-dsalmout_channel = 0o11
-
 -- whether a write is such a word
 abbrev pub is_from : Source → ChannelWrite → Bool
 is_from LampRow write = names_row 12 write
-is_from Dsalmout write = write.channel == dsalmout_channel
+is_from Dsalmout write = write.channel == dsalmout
 
 -- what a write gives a bit of such a word
 unfoldable pub bit_given : Source → ℕ → ChannelWrite → Option Bool

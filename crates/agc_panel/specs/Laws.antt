@@ -1,6 +1,7 @@
 -- What the laws of the panel speak of: what a write names, and what two panels show alike.
 use Rattle.std.specs.Prelude.{◌≡◌, ◌≢◌, ℕ, ◌==◌, if◌then◌else◌, List, All}
 use Rattle.agc_processor.specs.declared.channel_write.ChannelWrite.{ChannelWrite}
+use Rattle.agc_processor.specs.Channel.{dsalmout, out0}
 use Rattle.agc_panel.specs.declared.face.Face.{Face}
 use Rattle.agc_panel.specs.declared.face.Register.{Register}
 use Rattle.agc_panel.specs.declared.lamp.Lamp.{Lamp}
@@ -19,8 +20,8 @@ pub data Fields : Type 0 where
 -- the fields that a write names
 abbrev pub fields_named : ChannelWrite → Fields
 fields_named write =
-    if write.channel == 0o10 then OfRow (bits 15 12 write.value)
-    else if write.channel == 0o11 then OfDsalmout
+    if write.channel == out0 then OfRow (bits 15 12 write.value)
+    else if write.channel == dsalmout then OfDsalmout
     else NoFields
 
 -- no write names these fields

@@ -3,6 +3,7 @@ use Rattle.std.specs.Prelude.{ℕ, ◌+◌, ◌-◌, ◌/◌, ◌%◌, ◌^◌, 
 use Rattle.std.specs.Prelude.{Some, None}
 use Rattle.agc_word.specs.Number.{Number, pattern_of, bit_of}
 use Rattle.agc_processor.specs.declared.channel_write.ChannelWrite.{ChannelWrite}
+use Rattle.agc_processor.specs.Channel.{out0}
 use Rattle.agc_panel.specs.declared.digit.Digit.{Digit}
 use Rattle.agc_panel.specs.Digit.{digit_of}
 
@@ -22,13 +23,9 @@ left_digit word = digit_of (bits 10 6 word)
 abbrev pub right_digit : Number → Digit
 right_digit word = digit_of (bits 5 1 word)
 
--- OUT0, the channel of the relay words
-abbrev pub out0_channel : ℕ
-out0_channel = 0o10
-
 -- whether a write is a relay word of a row, which bits 15 to 12 name
 abbrev pub names_row : ℕ → ChannelWrite → Bool
-names_row row write = (write.channel == out0_channel) && (bits 15 12 write.value == row)
+names_row row write = (write.channel == out0) && (bits 15 12 write.value == row)
 
 -- what a write gives a field of a row
 abbrev pub given_by_row : {A : Type 0} → ℕ → (Number → A) → ChannelWrite → Option A

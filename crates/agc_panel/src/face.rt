@@ -7,8 +7,9 @@ ghost use Rattle.agc_panel.specs.RelayWord.{left_digit, right_digit};
 
 use crate::digit::Digit;
 use crate::lamp::{Lamps, Source};
-use crate::relay_word::{OUT0, left_of, right_of, row_of, sign_of};
+use crate::relay_word::{left_of, right_of, row_of, sign_of};
 use agc_processor::ChannelWrite;
+use agc_processor::channel::OUT0;
 use agc_word::Narrow;
 
 /// The bit of DSALMOUT that lets verb and noun flash.

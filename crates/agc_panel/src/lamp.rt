@@ -4,12 +4,10 @@ ghost use Rattle.agc_panel.specs.Lamp.{wiring, words_on, lamp_place, is_from, bi
 ghost use Rattle.agc_panel.specs.Lamp.{lamp_given, is_lit, dark_lamps, lit_after, lamps_after};
 ghost use Rattle.agc_panel.specs.Lamp.{printed_order};
 
-use crate::relay_word::{OUT0, row_of};
+use crate::relay_word::row_of;
 use agc_processor::ChannelWrite;
+use agc_processor::channel::{DSALMOUT, OUT0};
 use std::convert::AsStr;
-
-/// The channel of the lamps that stand on no relay, and of the flash.
-pub(crate) const DSALMOUT: u16 = 0o11;
 
 /// A word whose bits light lamps.
 #[derive(Clone, Copy, Debug, PartialEq, Eq)]

@@ -5,9 +5,6 @@ ghost use Rattle.agc_panel.specs.RelayWord.{bits, is_bit_on, left_digit, right_d
 use crate::digit::Digit;
 use agc_word::Narrow;
 
-/// The channel of the relay words.
-pub(crate) const OUT0: u16 = 0o10;
-
 /// The row that a relay word names.
 #[tactic(auto, unfolding(crate::specs::RelayWord::bits))]
 pub(crate) fn row_of(word: Narrow) -> u16

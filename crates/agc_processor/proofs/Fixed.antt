@@ -14,7 +14,7 @@ use Rattle.agc_order.specs.declared.order.Extracode.{Extracode}
 use Rattle.agc_order.specs.declared.order.Extracode.TheVariants as extra
 use Rattle.agc_processor.specs.declared.processor.Processor.{Processor}
 use Rattle.agc_processor.specs.Basic.{tc_of, ccs_of, tcf_of, lxch_of, incr_of, ads_of, ca_of, cs_of, index_of, resume_of, ts_of, ts_by, ts_with_overflow, xch_of, ad_of, mask_of}
-use Rattle.agc_processor.specs.Channel.{read_order, write_order, rand_order, wand_order, ror_order, wor_order, rxor_order, write_channel, set_channel, l_channel, q_channel, high_scaler_channel, low_scaler_channel, superbank_channel, time6_channel}
+use Rattle.agc_processor.specs.Channel.{read_order, write_order, rand_order, wand_order, ror_order, wor_order, rxor_order, write_channel, set_channel, l_channel, q_channel, hiscalar, loscalar, superbnk, chan13}
 use Rattle.agc_processor.specs.Double.{das_of, das_upper, dxch_of, dca_of, dcs_of}
 use Rattle.agc_processor.specs.Signs.{is_zero, is_minus_or_plus_zero}
 use Rattle.agc_processor.specs.Effect.{basic_effect, extracode_effect, order_effect, branches, divides, channel_number, short_address}
@@ -77,15 +77,15 @@ basic_fixed o p = refl
 set_channel_fixed : (c h : ℕ) (w : Number) (p : Processor) → IsFixed p (set_channel c h w p)
 unfolding set_channel superbank_set
 set_channel_fixed c h w p =
-    either (h == superbank_channel) p _ _ refl (either (h == time6_channel) p _ _ refl refl)
+    either (h == superbnk) p _ _ refl (either (h == chan13) p _ _ refl refl)
 
 write_channel_fixed : (c h : ℕ) (w : Number) (p : Processor) → IsFixed p (write_channel c h w p)
 unfolding write_channel put_of
 write_channel_fixed c h w p =
     either (h == l_channel) p _ _ refl
     (either (h == q_channel) p _ _ refl
-    (either (h == high_scaler_channel) p _ _ refl
-    (either (h == low_scaler_channel) p _ _ refl (set_channel_fixed c h (narrow_of w) p))))
+    (either (h == hiscalar) p _ _ refl
+    (either (h == loscalar) p _ _ refl (set_channel_fixed c h (narrow_of w) p))))
 
 divides_fixed : (words : Option (Number × Number)) (p : Processor) → IsFixed p (divides (option_map (in_a_and_l p) words) p).0
 unfolding fetched put_of

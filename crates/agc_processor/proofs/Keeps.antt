@@ -17,7 +17,7 @@ use Rattle.agc_processor.specs.declared.processor.Processor.{Processor}
 use Rattle.agc_processor.specs.declared.processor.Ran.{Ran}
 use Rattle.agc_processor.specs.declared.processor.Ran.TheVariants as ran
 use Rattle.agc_processor.specs.Basic.{tc_of, ccs_of, tcf_of, lxch_of, incr_of, ads_of, ca_of, cs_of, index_of, resume_of, ts_of, ts_by, ts_with_overflow, xch_of, ad_of, mask_of}
-use Rattle.agc_processor.specs.Channel.{read_order, write_order, rand_order, wand_order, ror_order, wor_order, rxor_order, write_channel, set_channel, l_channel, q_channel, high_scaler_channel, low_scaler_channel, superbank_channel, time6_channel}
+use Rattle.agc_processor.specs.Channel.{read_order, write_order, rand_order, wand_order, ror_order, wor_order, rxor_order, write_channel, set_channel, l_channel, q_channel, hiscalar, loscalar, superbnk, chan13}
 use Rattle.agc_processor.specs.Double.{das_of, das_upper, dxch_of, dca_of, dcs_of}
 use Rattle.agc_processor.specs.Signs.{is_zero, is_minus_or_plus_zero}
 use Rattle.agc_processor.specs.Effect.{basic_effect, extracode_effect, branches, divides, shows, write_cycles, channel_number, short_address}
@@ -63,34 +63,34 @@ quiet_keeps p (q, ran.Quiet cycles) h = h
 quiet_keeps p (q, ran.Wrote channel value) h = λ _. h
 quiet_keeps p (q, ran.Halted why) h = h
 
-other_channel : (b : Bool) (h : ℕ) (p q r : Processor) → (h == time6_channel) ≡ b → (h ≡ time6_channel → ⊥) → IsSame p r → IsSame p (if b then q else r)
+other_channel : (b : Bool) (h : ℕ) (p q r : Processor) → (h == chan13) ≡ b → (h ≡ chan13 → ⊥) → IsSame p r → IsSame p (if b then q else r)
 other_channel true h p q r e not_switch k = absurd (not_switch (grind (arith, nat_tests)))
 other_channel false h p q r e not_switch k = k
 
-cell_kept : (h : ℕ) (w : Number) (p : Processor) → (h ≡ time6_channel → ⊥) → IsSame p (record p { channels = set p.channels h w })
+cell_kept : (h : ℕ) (w : Number) (p : Processor) → (h ≡ chan13 → ⊥) → IsSame p (record p { channels = set p.channels h w })
 cell_kept h w p not_switch = (refl, refl, grind (arith, common_steps))
 
-set_channel_same : (c h : ℕ) (w : Number) (p : Processor) → (h ≡ time6_channel → ⊥) → IsSame p (set_channel c h w p)
+set_channel_same : (c h : ℕ) (w : Number) (p : Processor) → (h ≡ chan13 → ⊥) → IsSame p (set_channel c h w p)
 unfolding set_channel
 set_channel_same c h w p not_switch =
-    either (h == superbank_channel) p _ _ (refl, refl, grind (arith, common_steps))
-    (other_channel (h == time6_channel) h p _ _ refl not_switch (cell_kept h w p not_switch))
+    either (h == superbnk) p _ _ (refl, refl, grind (arith, common_steps))
+    (other_channel (h == chan13) h p _ _ refl not_switch (cell_kept h w p not_switch))
 
-write_channel_same : (c h : ℕ) (w : Number) (p : Processor) → (h ≡ time6_channel → ⊥) → IsSame p (write_channel c h w p)
+write_channel_same : (c h : ℕ) (w : Number) (p : Processor) → (h ≡ chan13 → ⊥) → IsSame p (write_channel c h w p)
 unfolding write_channel
 write_channel_same c h w p not_switch =
     either (h == l_channel) p _ _ (refl, refl, refl)
     (either (h == q_channel) p _ _ (refl, refl, refl)
-    (either (h == high_scaler_channel) p _ _ (refl, refl, refl)
-    (either (h == low_scaler_channel) p _ _ (refl, refl, refl) (set_channel_same c h (narrow_of w) p not_switch))))
+    (either (h == hiscalar) p _ _ (refl, refl, refl)
+    (either (h == loscalar) p _ _ (refl, refl, refl) (set_channel_same c h (narrow_of w) p not_switch))))
 
 shown_keeps : (b : Bool) (h : ℕ) (value : Number) (p q : Processor) → is_io_channel h ≡ b →
-    ((h ≡ time6_channel → ⊥) → IsSame p q) →
+    ((h ≡ chan13 → ⊥) → IsSame p q) →
     Keeps p (q, if b then ran.Wrote h value else ran.Quiet write_cycles)
 shown_keeps true h value p q e f = f
-shown_keeps false h value p q e f = f (λ (is_switch : h ≡ time6_channel). grind (arith, nat_tests))
+shown_keeps false h value p q e f = f (λ (is_switch : h ≡ chan13). grind (arith, nat_tests))
 
-shows_keep : (h : ℕ) (p q : Processor) → ((h ≡ time6_channel → ⊥) → IsSame p q) → Keeps p (shows h q)
+shows_keep : (h : ℕ) (p q : Processor) → ((h ≡ chan13 → ⊥) → IsSame p q) → Keeps p (shows h q)
 unfolding fetched
 shows_keep h p q f = shown_keeps (is_io_channel h) h _ p (fetched (plain q)) refl f
 

@@ -2,6 +2,7 @@
 -- no order touches them but those that put its switch on, and these set the mark.
 use Rattle.std.proofs.Common.{ℕ, Bool, true, false, Option, Some, None, sym, subst}
 use Rattle.std.specs.Prelude.{◌==◌, ◌&&◌, not, if◌then◌else◌, option_map}
+use Rattle.agc_clock.specs.Due.{time6_periods}
 use Rattle.agc_word.specs.Number.{Number}
 use Rattle.agc_word.specs.Arithmetic.{narrow_of}
 use Rattle.agc_order.specs.declared.order.Basic.{Basic}
@@ -9,7 +10,7 @@ use Rattle.agc_order.specs.declared.order.Extracode.{Extracode}
 use Rattle.agc_order.specs.declared.order.Extracode.TheVariants as extra
 use Rattle.agc_processor.specs.declared.processor.Processor.{Processor}
 use Rattle.agc_processor.specs.declared.processor.Timers.{Timers}
-use Rattle.agc_processor.specs.Channel.{read_order, write_order, rand_order, wand_order, ror_order, wor_order, rxor_order, write_channel, set_channel, l_channel, q_channel, high_scaler_channel, low_scaler_channel, superbank_channel, time6_channel, time6_periods, is_on, switch_word}
+use Rattle.agc_processor.specs.Channel.{read_order, write_order, rand_order, wand_order, ror_order, wor_order, rxor_order, write_channel, set_channel, l_channel, q_channel, hiscalar, loscalar, superbnk, chan13, is_on, switch_word}
 use Rattle.agc_processor.specs.Double.{dca_of, dcs_of}
 use Rattle.agc_processor.specs.Effect.{basic_effect, extracode_effect, order_effect, branches, divides, channel_number, short_address}
 use Rattle.agc_processor.specs.Extra.{dv_of, in_a_and_l, msu_of, qxch_of, aug_of, su_of, mp_of}
@@ -35,8 +36,8 @@ pub set_channel_timed : (P : Timers → Type 0) (c h : ℕ) (w : Number) (p : Pr
     P (set_channel c h w p).timers
 unfolding set_channel
 set_channel_timed P c h w p t k =
-    either P (h == superbank_channel) _ _ t
-    (either P (h == time6_channel) _ _ (marked P (is_on w && not (is_on (switch_word p))) c p.timers t k) t)
+    either P (h == superbnk) _ _ t
+    (either P (h == chan13) _ _ (marked P (is_on w && not (is_on (switch_word p))) c p.timers t k) t)
 
 write_channel_timed : (P : Timers → Type 0) (c h : ℕ) (w : Number) (p : Processor) → P p.timers → P (with_periods c p.timers) →
     P (write_channel c h w p).timers
@@ -44,8 +45,8 @@ unfolding write_channel
 write_channel_timed P c h w p t k =
     either P (h == l_channel) _ _ t
     (either P (h == q_channel) _ _ t
-    (either P (h == high_scaler_channel) p _ t
-    (either P (h == low_scaler_channel) p _ t (set_channel_timed P c h (narrow_of w) p t k))))
+    (either P (h == hiscalar) p _ t
+    (either P (h == loscalar) p _ t (set_channel_timed P c h (narrow_of w) p t k))))
 
 divides_timed : (P : Timers → Type 0) (words : Option (Number × Number)) (p : Processor) → P p.timers →
     P (divides (option_map (in_a_and_l p) words) p).0.timers

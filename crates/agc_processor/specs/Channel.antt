@@ -1,11 +1,11 @@
 -- The channels as a program and a script see them, and the orders that read and write them. h is
 -- the channel's number.
 use Rattle.std.specs.Prelude.{ℕ, ◌*◌, ◌/◌, ◌%◌, ◌==◌, ◌&&◌, not, Bool, get_or, set, if◌then◌else◌}
+use Rattle.agc_clock.specs.Due.{scaler, time6_periods}
 use Rattle.agc_word.specs.Number.{Number, pattern_of, bit_of}
 use Rattle.agc_word.specs.Arithmetic.{narrow_of}
 use Rattle.agc_store.specs.Cells.{narrow_number, superbank_set}
 use Rattle.agc_processor.specs.declared.processor.Processor.{Processor}
-use Rattle.agc_processor.specs.Period.{pulses_at, scaler_period, time6_period}
 use Rattle.agc_processor.specs.Signs.{plus_zero}
 use Rattle.agc_processor.specs.Processor.{◌▷◌, a_of, l_of, q_of, set_a, set_l, set_q}
 use Rattle.agc_processor.specs.Logic.{and_words_of, or_words_of, xor_words_of}
@@ -17,36 +17,45 @@ l_channel = 0o1
 abbrev pub q_channel : ℕ
 q_channel = 0o2
 
--- the scaler, in two halves
-abbrev pub high_scaler_channel : ℕ
-high_scaler_channel = 0o3
+-- the two halves of the scaler
+abbrev pub hiscalar : ℕ
+hiscalar = 0o3
 
-abbrev pub low_scaler_channel : ℕ
-low_scaler_channel = 0o4
+abbrev pub loscalar : ℕ
+loscalar = 0o4
 
--- the superbank's channel, and the one with TIME6's switch
-abbrev pub superbank_channel : ℕ
-superbank_channel = 0o7
+-- bit 7 is the superbank
+abbrev pub superbnk : ℕ
+superbnk = 0o7
 
-abbrev pub time6_channel : ℕ
-time6_channel = 0o13
+-- the relay words of the display
+abbrev pub out0 : ℕ
+out0 = 0o10
+
+-- the lamps of the display that stand on no relay, and the flash
+abbrev pub dsalmout : ℕ
+dsalmout = 0o11
+
+-- bit 15 is TIME6's switch
+abbrev pub chan13 : ℕ
+chan13 = 0o13
 
 -- the code of the key that was pressed last
-abbrev pub keyboard_channel : ℕ
-keyboard_channel = 0o15
+abbrev pub mnkeyin : ℕ
+mnkeyin = 0o15
 
 -- the inputs from the spacecraft, of which the third has the PRO key
-abbrev pub input_channel_30 : ℕ
-input_channel_30 = 0o30
+abbrev pub chan30 : ℕ
+chan30 = 0o30
 
-abbrev pub input_channel_31 : ℕ
-input_channel_31 = 0o31
+abbrev pub chan31 : ℕ
+chan31 = 0o31
 
-abbrev pub input_channel_32 : ℕ
-input_channel_32 = 0o32
+abbrev pub chan32 : ℕ
+chan32 = 0o32
 
-abbrev pub input_channel_33 : ℕ
-input_channel_33 = 0o33
+abbrev pub chan33 : ℕ
+chan33 = 0o33
 
 -- the word in a channel's cell, and the state where the cell has taken another
 abbrev pub channel_cell : ℕ → Processor → Number
@@ -55,17 +64,13 @@ channel_cell h p = get_or p.channels h plus_zero
 abbrev pub set_channel_cell : ℕ → Number → Processor → Processor
 set_channel_cell h w p = record p { channels = set p.channels h w }
 
--- the periods that the scaler has counted
-abbrev pub scaler : ℕ → ℕ
-scaler cycle = pulses_at cycle / scaler_period
-
 -- What a channel shows at a cycle: L, Q, the scaler's high or low fourteen digits, else its cell.
 unfoldable pub channel_word : ℕ → ℕ → Processor → Number
 channel_word cycle h p =
     if h == l_channel then l_of p
     else if h == q_channel then q_of p
-    else if h == high_scaler_channel then narrow_number (scaler cycle / 0o40000 % 0o40000)
-    else if h == low_scaler_channel then narrow_number (scaler cycle % 0o40000)
+    else if h == hiscalar then narrow_number (scaler cycle / 0o40000 % 0o40000)
+    else if h == loscalar then narrow_number (scaler cycle % 0o40000)
     else channel_cell h p
 
 -- the superbank goes on or off
@@ -76,18 +81,14 @@ set_superbank on p = record p { store = superbank_set p.store on }
 abbrev pub superbank_switched : Number → Processor → Processor
 superbank_switched w p =
     let kept = narrow_number (pattern_of 15 w / 0o20 % 0o10 * 0o20) in
-    p ▷ set_channel_cell superbank_channel kept ▷ set_superbank (bit_of 7 w == 1)
+    p ▷ set_channel_cell superbnk kept ▷ set_superbank (bit_of 7 w == 1)
 
 -- TIME6's switch is bit 15 of its channel's word.
 abbrev pub switch_word : Processor → Number
-switch_word p = channel_cell time6_channel p
+switch_word p = channel_cell chan13 p
 
 abbrev pub is_on : Number → Bool
 is_on switch = bit_of 15 switch == 1
-
--- the periods of TIME6 that have gone by, whether it was on or off
-abbrev pub time6_periods : ℕ → ℕ
-time6_periods cycle = pulses_at cycle / time6_period
 
 -- Where the switch goes from off to on, all periods that have gone by are taken as counted.
 abbrev pub mark_after : ℕ → Number → Number → ℕ → ℕ
@@ -99,13 +100,13 @@ set_mark mark p = record p { timers = record p.timers { mark = mark } }
 abbrev pub time6_switched : ℕ → Number → Processor → Processor
 time6_switched cycle w p =
     p ▷ set_mark (mark_after cycle (switch_word p) w p.timers.mark)
-    ▷ set_channel_cell time6_channel w
+    ▷ set_channel_cell chan13 w
 
 -- A word comes into a channel's cell, from the program or from outside.
 unfoldable pub set_channel : ℕ → ℕ → Number → Processor → Processor
 set_channel cycle h w p =
-    if h == superbank_channel then p ▷ superbank_switched w
-    else if h == time6_channel then p ▷ time6_switched cycle w
+    if h == superbnk then p ▷ superbank_switched w
+    else if h == chan13 then p ▷ time6_switched cycle w
     else (p ▷ set_channel_cell h w)
 
 -- What a program's write does: it sets L or Q, the scaler ignores it, and else the channel's cell
@@ -114,8 +115,8 @@ unfoldable pub write_channel : ℕ → ℕ → Number → Processor → Processo
 write_channel cycle h w p =
     if h == l_channel then p ▷ set_l (narrow_of w)
     else if h == q_channel then p ▷ set_q w
-    else if h == high_scaler_channel then p
-    else if h == low_scaler_channel then p
+    else if h == hiscalar then p
+    else if h == loscalar then p
     else (p ▷ set_channel cycle h (narrow_of w))
 
 -- READ sets A, and WRITE the channel.

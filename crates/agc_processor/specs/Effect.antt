@@ -1,4 +1,5 @@
--- The table of the orders: for each its cycles, the state it leaves, and its channel write or stop.
+-- What each order does: the state it leaves, and its channel write or stop. Its cycles are those of its row
+-- in the table of the orders.
 use Rattle.std.specs.Prelude.{ℕ, ◌≤◌, ◌%◌, Bool, true, false, Option, Some, None, if◌then◌else◌}
 use Rattle.agc_word.specs.Channels.{IsIoChannel, is_io_channel}
 use Rattle.agc_word.specs.Number.{pattern_of}
@@ -11,6 +12,7 @@ use Rattle.agc_processor.specs.declared.processor.Halt.TheVariants as halt
 use Rattle.agc_processor.specs.declared.processor.Ran.{Ran}
 use Rattle.agc_processor.specs.declared.processor.Ran.TheVariants as ran
 use Rattle.agc_order.specs.Order.{basic_of, extracode_of}
+use Rattle.agc_order.specs.Row.{basic_row, extracode_row}
 use Rattle.agc_processor.specs.Processor.{◌▷◌, a_of, jump, fetched, plain, indexed, extended, inhibit}
 use Rattle.agc_processor.specs.Signs.{is_zero, is_minus_or_plus_zero}
 use Rattle.agc_processor.specs.Basic.{tc_of, ccs_of, tcf_of, lxch_of, incr_of, ads_of, ca_of}
@@ -30,17 +32,24 @@ short_address p = pattern_of 15 p.hand % 0o2000
 abbrev pub channel_number : Processor → ℕ
 channel_number p = pattern_of 15 p.hand % 0o1000
 
+-- the cycles of an order
+abbrev pub cycles : Basic → ℕ
+cycles order = (basic_row order).cycles
+
+abbrev pub extracode_cycles : Extracode → ℕ
+extracode_cycles order = (extracode_row order).cycles
+
 -- the order took so many cycles, and nothing shows outside
 abbrev pub takes : ℕ → Processor → Processor × Ran
-takes cycles p = (p, ran.Quiet cycles)
+takes n p = (p, ran.Quiet n)
 
 -- most orders end by fetching the next one, which is a basic order
 abbrev pub ends : ℕ → Processor → Processor × Ran
-ends cycles p = p ▷ plain ▷ fetched ▷ takes cycles
+ends n p = p ▷ plain ▷ fetched ▷ takes n
 
--- the cycles of WRITE, WAND and WOR
+-- the cycles of WRITE, which are those of WAND and of WOR too
 abbrev pub write_cycles : ℕ
-write_cycles = 2
+write_cycles = extracode_cycles extra.Write
 
 -- what a write to a channel shows: where outside sees the channel, the word that it then has
 abbrev pub shown : ℕ → Processor → Ran
@@ -49,62 +58,68 @@ shown h p = if is_io_channel h then ran.Wrote h (channel_cell h p) else ran.Quie
 abbrev pub shows : ℕ → Processor → Processor × Ran
 shows h p = (p ▷ plain ▷ fetched, p ▷ shown h)
 
--- a branch where the test holds, and else on to the next order
+-- BZF and BZMF: a branch where the test holds, in one cycle, and else on to the next order
 abbrev pub branches : Bool → Processor → Processor × Ran
-branches test p = if test then p ▷ jump (long_address p) ▷ ends 1 else (p ▷ ends 2)
+branches test p =
+    if test then p ▷ jump (long_address p) ▷ ends 1 else (p ▷ ends (extracode_cycles extra.Bzf))
 
 -- DV without a quotient halts the processor as it is
 abbrev pub divides : Option Processor → Processor → Processor × Ran
-divides (Some after) p = after ▷ ends 6
+divides (Some after) p = after ▷ ends (extracode_cycles extra.Dv)
 divides None p = (p, ran.Halted halt.DivisionUndefined)
 
 -- What a basic order does. Only EXTEND leaves the extracode state on, and only it and INDEX stand
 -- midway to the order that follows. TC, INDEX and RESUME have taken their next order in hand
 -- themselves.
 unfoldable pub basic_effect : Basic → Processor → Processor × Ran
-basic_effect basic.Tc p = p ▷ tc_of (long_address p) ▷ plain ▷ takes 1
-basic_effect basic.Relint p = p ▷ inhibit false ▷ ends 1
-basic_effect basic.Inhint p = p ▷ inhibit true ▷ ends 1
-basic_effect basic.Extend p = p ▷ fetched ▷ extended ▷ takes 1
-basic_effect basic.Ccs p = p ▷ ccs_of (short_address p) ▷ ends 2
-basic_effect basic.Tcf p = p ▷ tcf_of (long_address p) ▷ ends 1
-basic_effect basic.Das p = p ▷ das_of (short_address p) ▷ ends 3
-basic_effect basic.Lxch p = p ▷ lxch_of (short_address p) ▷ ends 2
-basic_effect basic.Incr p = p ▷ incr_of (short_address p) ▷ ends 2
-basic_effect basic.Ads p = p ▷ ads_of (short_address p) ▷ ends 2
-basic_effect basic.Ca p = p ▷ ca_of (long_address p) ▷ ends 2
-basic_effect basic.Cs p = p ▷ cs_of (long_address p) ▷ ends 2
-basic_effect basic.Index p = p ▷ index_of (short_address p) ▷ indexed ▷ takes 2
-basic_effect basic.Resume p = p ▷ resume_of ▷ plain ▷ takes 2
-basic_effect basic.Dxch p = p ▷ dxch_of (short_address p) ▷ ends 3
-basic_effect basic.Ts p = p ▷ ts_of (short_address p) ▷ ends 2
-basic_effect basic.Xch p = p ▷ xch_of (short_address p) ▷ ends 2
-basic_effect basic.Ad p = p ▷ ad_of (long_address p) ▷ ends 2
-basic_effect basic.Mask p = p ▷ mask_of (long_address p) ▷ ends 2
+basic_effect basic.Tc p = p ▷ tc_of (long_address p) ▷ plain ▷ takes (cycles basic.Tc)
+basic_effect basic.Relint p = p ▷ inhibit false ▷ ends (cycles basic.Relint)
+basic_effect basic.Inhint p = p ▷ inhibit true ▷ ends (cycles basic.Inhint)
+basic_effect basic.Extend p = p ▷ fetched ▷ extended ▷ takes (cycles basic.Extend)
+basic_effect basic.Ccs p = p ▷ ccs_of (short_address p) ▷ ends (cycles basic.Ccs)
+basic_effect basic.Tcf p = p ▷ tcf_of (long_address p) ▷ ends (cycles basic.Tcf)
+basic_effect basic.Das p = p ▷ das_of (short_address p) ▷ ends (cycles basic.Das)
+basic_effect basic.Lxch p = p ▷ lxch_of (short_address p) ▷ ends (cycles basic.Lxch)
+basic_effect basic.Incr p = p ▷ incr_of (short_address p) ▷ ends (cycles basic.Incr)
+basic_effect basic.Ads p = p ▷ ads_of (short_address p) ▷ ends (cycles basic.Ads)
+basic_effect basic.Ca p = p ▷ ca_of (long_address p) ▷ ends (cycles basic.Ca)
+basic_effect basic.Cs p = p ▷ cs_of (long_address p) ▷ ends (cycles basic.Cs)
+basic_effect basic.Index p = p ▷ index_of (short_address p) ▷ indexed ▷ takes (cycles basic.Index)
+basic_effect basic.Resume p = p ▷ resume_of ▷ plain ▷ takes (cycles basic.Resume)
+basic_effect basic.Dxch p = p ▷ dxch_of (short_address p) ▷ ends (cycles basic.Dxch)
+basic_effect basic.Ts p = p ▷ ts_of (short_address p) ▷ ends (cycles basic.Ts)
+basic_effect basic.Xch p = p ▷ xch_of (short_address p) ▷ ends (cycles basic.Xch)
+basic_effect basic.Ad p = p ▷ ad_of (long_address p) ▷ ends (cycles basic.Ad)
+basic_effect basic.Mask p = p ▷ mask_of (long_address p) ▷ ends (cycles basic.Mask)
 
 -- What an extracode does that begins at a cycle. INDEX leaves the extracode state on.
 unfoldable pub extracode_effect : Extracode → ℕ → Processor → Processor × Ran
-extracode_effect extra.Read c p = p ▷ read_order c (channel_number p) ▷ ends 2
+extracode_effect extra.Read c p =
+    p ▷ read_order c (channel_number p) ▷ ends (extracode_cycles extra.Read)
 extracode_effect extra.Write c p =
     p ▷ write_order c (channel_number p) ▷ shows (channel_number p)
-extracode_effect extra.Rand c p = p ▷ rand_order c (channel_number p) ▷ ends 2
+extracode_effect extra.Rand c p =
+    p ▷ rand_order c (channel_number p) ▷ ends (extracode_cycles extra.Rand)
 extracode_effect extra.Wand c p = p ▷ wand_order c (channel_number p) ▷ shows (channel_number p)
-extracode_effect extra.Ror c p = p ▷ ror_order c (channel_number p) ▷ ends 2
+extracode_effect extra.Ror c p =
+    p ▷ ror_order c (channel_number p) ▷ ends (extracode_cycles extra.Ror)
 extracode_effect extra.Wor c p = p ▷ wor_order c (channel_number p) ▷ shows (channel_number p)
-extracode_effect extra.Rxor c p = p ▷ rxor_order c (channel_number p) ▷ ends 2
+extracode_effect extra.Rxor c p =
+    p ▷ rxor_order c (channel_number p) ▷ ends (extracode_cycles extra.Rxor)
 extracode_effect extra.Edrupt c p = (p, ran.Halted halt.Edrupt)
 extracode_effect extra.Dv c p = divides (p ▷ dv_of (short_address p)) p
 extracode_effect extra.Bzf c p = p ▷ branches (is_zero (a_of p))
-extracode_effect extra.Msu c p = p ▷ msu_of (short_address p) ▷ ends 2
-extracode_effect extra.Qxch c p = p ▷ qxch_of (short_address p) ▷ ends 2
-extracode_effect extra.Aug c p = p ▷ aug_of (short_address p) ▷ ends 2
-extracode_effect extra.Dim c p = p ▷ dim_of (short_address p) ▷ ends 2
-extracode_effect extra.Dca c p = p ▷ dca_of (long_address p) ▷ ends 3
-extracode_effect extra.Dcs c p = p ▷ dcs_of (long_address p) ▷ ends 3
-extracode_effect extra.Index c p = p ▷ index_of (long_address p) ▷ extended ▷ takes 2
-extracode_effect extra.Su c p = p ▷ su_of (short_address p) ▷ ends 2
+extracode_effect extra.Msu c p = p ▷ msu_of (short_address p) ▷ ends (extracode_cycles extra.Msu)
+extracode_effect extra.Qxch c p = p ▷ qxch_of (short_address p) ▷ ends (extracode_cycles extra.Qxch)
+extracode_effect extra.Aug c p = p ▷ aug_of (short_address p) ▷ ends (extracode_cycles extra.Aug)
+extracode_effect extra.Dim c p = p ▷ dim_of (short_address p) ▷ ends (extracode_cycles extra.Dim)
+extracode_effect extra.Dca c p = p ▷ dca_of (long_address p) ▷ ends (extracode_cycles extra.Dca)
+extracode_effect extra.Dcs c p = p ▷ dcs_of (long_address p) ▷ ends (extracode_cycles extra.Dcs)
+extracode_effect extra.Index c p =
+    p ▷ index_of (long_address p) ▷ extended ▷ takes (extracode_cycles extra.Index)
+extracode_effect extra.Su c p = p ▷ su_of (short_address p) ▷ ends (extracode_cycles extra.Su)
 extracode_effect extra.Bzmf c p = p ▷ branches (is_minus_or_plus_zero (a_of p))
-extracode_effect extra.Mp c p = p ▷ mp_of (long_address p) ▷ ends 3
+extracode_effect extra.Mp c p = p ▷ mp_of (long_address p) ▷ ends (extracode_cycles extra.Mp)
 
 -- what the order in hand does at a cycle
 unfoldable pub order_effect : ℕ → Processor → Processor × Ran
@@ -114,6 +129,6 @@ order_effect c p =
 
 -- an order that runs takes 1 to 6 cycles, and what it shows is a channel that outside sees
 abbrev pub IsOrderly : Ran → Type 0
-IsOrderly (ran.Quiet cycles) = (1 ≤ cycles) × (cycles ≤ 6)
+IsOrderly (ran.Quiet n) = (1 ≤ n) × (n ≤ 6)
 IsOrderly (ran.Wrote channel value) = IsIoChannel channel
 IsOrderly (ran.Halted why) = Unit {0}

@@ -4,7 +4,7 @@ use Rattle.std.specs.Prelude.{◌≡◌}
 use Rattle.agc_processor.specs.declared.processor.Processor.{Processor}
 use Rattle.agc_processor.specs.declared.processor.Ran.{Ran}
 use Rattle.agc_processor.specs.declared.processor.Ran.TheVariants as ran
-use Rattle.agc_processor.specs.Channel.{switch_word, time6_channel}
+use Rattle.agc_processor.specs.Channel.{switch_word, chan13}
 
 -- the timers, the requests and TIME6's switch are as they were
 abbrev pub IsSame : Processor → Processor → Type 0
@@ -14,5 +14,5 @@ IsSame p q =
 -- an order leaves them, unless it shows a write to the channel with that switch
 abbrev pub Keeps : Processor → Processor × Ran → Type 0
 Keeps p (q, ran.Quiet cycles) = IsSame p q
-Keeps p (q, ran.Wrote channel value) = (channel ≡ time6_channel → ⊥) → IsSame p q
+Keeps p (q, ran.Wrote channel value) = (channel ≡ chan13 → ⊥) → IsSame p q
 Keeps p (q, ran.Halted why) = IsSame p q

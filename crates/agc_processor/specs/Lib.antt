@@ -4,7 +4,6 @@ pub mod Logic
 pub mod Basic
 pub mod Double
 pub mod Extra
-pub mod Period
 pub mod Channel
 pub mod Effect
 pub mod Timer

@@ -3,8 +3,8 @@ use Rattle.std.specs.Prelude.{ℕ, false, List, set, replicate}
 use Rattle.agc_word.specs.Number.{Number}
 use Rattle.agc_store.specs.Cells.{narrow_number, start_memory, fetch_of}
 use Rattle.agc_processor.specs.declared.processor.Processor.{Processor}
-use Rattle.agc_processor.specs.Channel.{input_channel_30, input_channel_31}
-use Rattle.agc_processor.specs.Channel.{input_channel_32, input_channel_33}
+use Rattle.agc_processor.specs.Channel.{chan30, chan31}
+use Rattle.agc_processor.specs.Channel.{chan32, chan33}
 use Rattle.agc_processor.specs.Processor.{◌▷◌, jump}
 use Rattle.agc_processor.specs.Signs.{plus_zero}
 
@@ -12,10 +12,10 @@ use Rattle.agc_processor.specs.Signs.{plus_zero}
 -- nothing is asserted.
 unfoldable pub channels_at_start : ℕ → List Number
 channels_at_start count =
-    let at_30 = set (replicate count plus_zero) input_channel_30 (narrow_number 0o37777) in
-    let at_31 = set at_30 input_channel_31 (narrow_number 0o77777) in
-    let at_32 = set at_31 input_channel_32 (narrow_number 0o77777) in
-    set at_32 input_channel_33 (narrow_number 0o77777)
+    let at_30 = set (replicate count plus_zero) chan30 (narrow_number 0o37777) in
+    let at_31 = set at_30 chan31 (narrow_number 0o77777) in
+    let at_32 = set at_31 chan32 (narrow_number 0o77777) in
+    set at_32 chan33 (narrow_number 0o77777)
 
 -- Power comes on: the order at 4000 octal is in hand and Z is one past it, everything else is at
 -- rest.

@@ -1,6 +1,8 @@
 -- The five timers, which count pulses.
-use Rattle.std.specs.Prelude.{ℕ, ◌≤◌, ◌+◌, ◌*◌, ◌%◌, ◌^◌, ◌&&◌, ◌||◌, Bool}
-use Rattle.std.specs.Prelude.{List, codes, Option, Some, None, nat_lt, nat_le, if◌then◌else◌}
+use Rattle.std.specs.Prelude.{ℕ, ◌≤◌, ◌+◌, ◌%◌, ◌^◌, ◌&&◌, ◌||◌, Bool}
+use Rattle.std.specs.Prelude.{List, codes, Option, Some, None, nat_lt, if◌then◌else◌}
+use Rattle.agc_clock.specs.Due.{is_due, time6_periods}
+use Rattle.agc_clock.specs.Period.{time1_first, time3_first, time4_first, time5_first}
 use Rattle.agc_word.specs.Number.{Number, pattern_of}
 use Rattle.agc_word.specs.Pulses.{pulsed}
 use Rattle.agc_word.specs.declared.pulse.Pulse.TheVariants as pulse
@@ -14,11 +16,9 @@ use Rattle.agc_processor.specs.declared.processor.Processor.{Processor}
 use Rattle.agc_processor.specs.declared.processor.Timers.{Timers}
 use Rattle.agc_processor.specs.declared.timer.Timer.{Timer}
 use Rattle.agc_processor.specs.declared.timer.Timer.TheVariants as timer
-use Rattle.agc_processor.specs.Channel.{set_channel_cell, is_on, switch_word, time6_channel, time6_periods}
+use Rattle.agc_processor.specs.Channel.{set_channel_cell, is_on, switch_word, chan13}
 use Rattle.agc_processor.specs.Processor.{◌▷◌, poke}
 use Rattle.agc_processor.specs.Interrupt.{request}
-use Rattle.agc_processor.specs.Period.{pulses_at, timer_period, time1_first}
-use Rattle.agc_processor.specs.Period.{time3_first, time4_first, time5_first}
 
 -- the name of a timer, which is that of its counter
 abbrev pub timer_name : Timer → List ℕ
@@ -27,10 +27,6 @@ timer_name timer.Time3 = codes "TIME3"
 timer_name timer.Time4 = codes "TIME4"
 timer_name timer.Time5 = codes "TIME5"
 timer_name timer.Time6 = codes "TIME6"
-
--- A timer's next step is due where its first and all that were taken have gone by.
-abbrev pub is_due : ℕ → ℕ → ℕ → Bool
-is_due cycle first taken = nat_le (first + timer_period * taken) (pulses_at cycle)
 
 -- TIME6's is due while it is on and a period has gone by that it has not counted.
 abbrev pub is_time6_due : ℕ → Timers → Number → Bool
@@ -86,7 +82,7 @@ time2_by carry.None p = (p, 1)
 abbrev pub switched_off : Carry → Processor → Processor
 switched_off carry.Out p =
     let off = narrow_number (pattern_of 15 (switch_word p) % 0o40000) in
-    p ▷ set_channel_cell time6_channel off ▷ request rupt.T6rupt
+    p ▷ set_channel_cell chan13 off ▷ request rupt.T6rupt
 switched_off carry.None p = p
 
 -- one more step of a timer is taken

@@ -4,8 +4,8 @@ ghost use Rattle.agc_processor.specs.Channel.{is_on};
 ghost use Rattle.std.specs.Prelude.{◌≡◌, ◌<◌, ◌≤◌, ◌^◌, ◌%◌};
 
 use crate::logic::{and_words, or_words, xor_words};
-use crate::period::{PULSES_IN_CYCLE, SCALER_PERIOD, TIME6_PERIOD};
 use crate::processor::Processor;
+use agc_clock::{scaler, time6_periods};
 use agc_word::{Narrow, Wide, widen};
 
 /// L, which is a channel too.
@@ -67,8 +67,8 @@ impl Processor {
         match h {
             L => widen(self.store.l()),
             Q => self.store.q(),
-            HISCALAR => scaler_word(PULSES_IN_CYCLE * cycle / SCALER_PERIOD / 0o40000),
-            LOSCALAR => scaler_word(PULSES_IN_CYCLE * cycle / SCALER_PERIOD),
+            HISCALAR => scaler_word(scaler(cycle) / 0o40000),
+            LOSCALAR => scaler_word(scaler(cycle)),
             _ => widen(self.channel_cell(h)),
         }
     }
@@ -105,7 +105,7 @@ impl Processor {
         let was_on = self.is_time6_on();
         self.set_channel_cell(CHAN13, word);
         if self.is_time6_on() && !was_on {
-            self.timers.mark = PULSES_IN_CYCLE * cycle / TIME6_PERIOD;
+            self.timers.mark = time6_periods(cycle);
         }
     }
 

@@ -9,7 +9,6 @@ mod effect;
 mod extra;
 mod interrupt;
 mod logic;
-mod period;
 mod processor;
 mod signs;
 mod start;

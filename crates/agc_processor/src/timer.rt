@@ -1,15 +1,14 @@
 //! The five timers: which step is due, and what it does.
-ghost use Rattle.std.specs.Prelude.{◌≡◌, ℕ, ◌<◌, ◌≤◌, ◌^◌, ◌*◌, ◌/◌, nat_lt, true, false};
-ghost use Rattle.agc_processor.specs.Period.{timer_period};
-ghost use Rattle.agc_processor.specs.Channel.{time6_periods};
-ghost use Rattle.agc_processor.specs.Timer.{is_due, timer_name};
+ghost use Rattle.std.specs.Prelude.{◌≡◌};
+ghost use Rattle.agc_processor.specs.Timer.{timer_name};
 
 use crate::channel::CHAN13;
 use crate::interrupt::Rupt;
-use crate::period::{
-    PULSES_IN_CYCLE, TIME1_FIRST, TIME3_FIRST, TIME4_FIRST, TIME5_FIRST, TIME6_PERIOD, TIMER_PERIOD,
-};
 use crate::processor::Processor;
+use agc_clock::{
+    TIME1_FIRST, TIME3_FIRST, TIME4_FIRST, TIME5_FIRST, due_from, step_is_due, time6_due_from,
+    time6_periods,
+};
 use agc_store::place::{TIME1, TIME2, TIME3, TIME4, TIME5, TIME6};
 use agc_word::{Carry, Narrow, Pulse};
 
@@ -36,46 +35,6 @@ impl Timer {
             Timer::Time6 => "TIME6",
         }
     }
-}
-
-/// A step is due: the timer's first and all that were taken have gone by.
-#[inline]
-fn step_is_due(cycle: u64, first: u64, taken: u64) -> bool
-    requires cycle { cycle < 2 ^ 41 }
-    requires first { first ≤ timer_period }
-    ensures { result ≡ is_due cycle first taken }
-{
-    let pulses = PULSES_IN_CYCLE * cycle;
-    pulses >= first && (pulses - first) / TIMER_PERIOD >= taken
-}
-
-/// More steps than any run takes: no cycle is known for the next one.
-const BEYOND_COUNTING: u64 = 1 << 48;
-
-/// The cycle from which a timer's next step is due.
-fn due_from(first: u64, taken: u64) -> u64
-    requires later { 0 < first }
-    requires first { first ≤ timer_period }
-    ensures none { (cycle : ℕ) → cycle < result → is_due cycle first taken ≡ false }
-    ensures due { 0 < result → is_due result first taken ≡ true }
-    ensures known { taken ≤ 2 ^ 48 → 0 < result }
-{
-    if taken > BEYOND_COUNTING {
-        return 0;
-    }
-    (first + TIMER_PERIOD * taken).div_ceil(PULSES_IN_CYCLE)
-}
-
-/// The cycle from which TIME6's next step is due while it is on.
-fn time6_due_from(mark: u64) -> u64
-    ensures none { (cycle : ℕ) → cycle < result → nat_lt mark (time6_periods cycle) ≡ false }
-    ensures due { 0 < result → nat_lt mark (time6_periods result) ≡ true }
-    ensures known { mark ≤ 2 ^ 48 → 0 < result }
-{
-    if mark > BEYOND_COUNTING {
-        return 0;
-    }
-    (TIME6_PERIOD * (mark + 1)).div_ceil(PULSES_IN_CYCLE)
 }
 
 impl Processor {
@@ -127,7 +86,7 @@ impl Processor {
         requires { cycle < 2 ^ 41 }
         ensures { result ≡ is_time6_due cycle self.now.timers (switch_word self.now) }
     {
-        self.is_time6_on() && self.timers.mark < PULSES_IN_CYCLE * cycle / TIME6_PERIOD
+        self.is_time6_on() && self.timers.mark < time6_periods(cycle)
     }
 
     /// The first cycle at which some timer's step is due; 0 where that is beyond counting.

@@ -51,3 +51,30 @@ fn extracodes_by_their_words(rt: HostRuntime) -> Result<(), Fail> {
     }
     Ok(())
 }
+
+/// The cycles that the instruction memos give: TC and TCF one, most orders two, double words and products three, DV six.
+#[test]
+fn orders_have_their_cycles(rt: HostRuntime) {
+    for (order, cycles) in [
+        (Basic::Tc, 1),
+        (Basic::Extend, 1),
+        (Basic::Tcf, 1),
+        (Basic::Ccs, 2),
+        (Basic::Index, 2),
+        (Basic::Resume, 2),
+        (Basic::Das, 3),
+        (Basic::Dxch, 3),
+    ] {
+        equal(&rt, order.row().cycles, cycles);
+    }
+    for (order, cycles) in [
+        (Extracode::Read, 2),
+        (Extracode::Wand, 2),
+        (Extracode::Bzf, 2),
+        (Extracode::Dca, 3),
+        (Extracode::Mp, 3),
+        (Extracode::Dv, 6),
+    ] {
+        equal(&rt, order.row().cycles, cycles);
+    }
+}

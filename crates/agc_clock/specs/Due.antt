@@ -1,0 +1,15 @@
+-- What has gone by where a cycle begins.
+use Rattle.std.specs.Prelude.{ℕ, ◌+◌, ◌*◌, ◌/◌, Bool, nat_le}
+use Rattle.agc_clock.specs.Period.{pulses_at, scaler_period, time6_period, timer_period}
+
+-- A timer's next step is due where its first and all that were taken have gone by.
+abbrev pub is_due : ℕ → ℕ → ℕ → Bool
+is_due cycle first taken = nat_le (first + timer_period * taken) (pulses_at cycle)
+
+-- the periods of TIME6 that have gone by, whether it was on or off
+abbrev pub time6_periods : ℕ → ℕ
+time6_periods cycle = pulses_at cycle / time6_period
+
+-- the periods that the scaler has counted
+abbrev pub scaler : ℕ → ℕ
+scaler cycle = pulses_at cycle / scaler_period
