@@ -4,7 +4,8 @@ ghost use Rattle.agc_names.specs.Names.{as_named, is_place_name, line_named, nam
 ghost use Rattle.agc_source_words.specs.Text.{said_by};
 
 use crate::fault::NameFault;
-use agc_source_words::{Location, has_other_byte, is_name, location_named, next_said};
+use agc_rope_listing::has_other_byte;
+use agc_source_words::{Location, is_name, location_named, next_said};
 
 /// A place and its name, as a line says them.
 #[derive(Clone, Copy)]

@@ -7,7 +7,7 @@ ghost use Rattle.agc_names_file.specs.NamesFile.{AreNames, IsRefused};
 ghost use Rattle.agc_names_file.specs.declared.names_file.NamesRefusal.TheVariants as refusal;
 
 use agc_names::{NameTable, NameTrouble};
-use agc_setup::{InputFile, SCRIPT_BYTES, Unread, read_limited};
+use agc_setup::{InputFile, TEXT_BYTES, Unread, read_limited};
 use std::alloc::Global;
 use std::error::Error;
 use std::io::Read;
@@ -42,14 +42,14 @@ impl fmt::Display for NamesRefusal {
 
 impl Error for NamesRefusal {}
 
-/// Reads a text of names. It is refused where it cannot be read, has more than `SCRIPT_BYTES` bytes or a faulty line, or
+/// Reads a text of names. It is refused where it cannot be read, has more than `TEXT_BYTES` bytes or a faulty line, or
 /// where memory runs out.
 pub fn read_names<R: Read>(alloc: Global, reader: &mut R) -> Result<NameTable, NamesRefusal>
     ensures names { IfOk result
         (λ names. IfSome (R.remaining reader.old) (λ text. AreNames text names)) }
     ensures refused { IfErr result (IsRefused (R.remaining reader.old)) }
 {
-    let text = match read_limited(alloc, reader, SCRIPT_BYTES) {
+    let text = match read_limited(alloc, reader, TEXT_BYTES) {
         Ok(text) => text,
         Err(Unread::CannotRead(_)) => return Err(NamesRefusal::CannotRead),
         Err(Unread::Memory) => return Err(NamesRefusal::Names(NameTrouble::Memory)),

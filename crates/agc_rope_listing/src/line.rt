@@ -42,12 +42,18 @@ pub fn read_line(line: &[u8]) -> Result<Option<Named>, LineFault>
     read_words(line)
 }
 
-/// Whether a byte is no text.
-fn has_other_byte(line: &[u8]) -> bool
+/// Whether a byte of a line is no text.
+pub fn has_other_byte(line: &[u8]) -> bool
     ensures { result ≡ list_any is_no_text line.now }
 {
-    line.iter()
-        .any(|b| *b != b'\t' && (*b < 0x20 || *b >= 0x7F))
+    line.iter().any(|b| is_no_text(*b))
+}
+
+/// Whether a byte is no text: neither a tab nor one of ASCII's that print.
+pub fn is_no_text(byte: u8) -> bool
+    ensures { result ≡ is_no_text byte }
+{
+    byte != b'\t' && (byte < 0x20 || byte >= 0x7F)
 }
 
 #[tactic(auto, unfolding(crate::specs::Line::words_named))]

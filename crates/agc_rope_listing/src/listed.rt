@@ -21,6 +21,9 @@ use agc_store::place::{
 use agc_word::Narrow;
 use std::alloc::{AllocError, Global};
 
+/// Where bank 03 begins, which follows bank 02 in memory.
+const AFTER_BANK_02: usize = 0o6000;
+
 /// The text of the rope in a store: a line `bb,oooo wwwww MNEMONIC operand` for each word that is
 /// not +0, in the order of the banks, of all banks or of one, 00 to 43 octal. A word after EXTEND, or
 /// after INDEX as an extracode, stands as an extracode. `weave` makes a rope with the same words of
@@ -80,15 +83,17 @@ fn push_listed(
     Ok(())
 }
 
-/// Whether nothing leads to a place from the one before.
+/// Whether a bank begins at a place of the rope, 0 to 107777 octal, to which no word before it leads. Bank 03 begins at none:
+/// it follows bank 02 in memory, and an order may lead from the one into the other.
 #[tactic(auto, unfolding(crate::specs::List::begins_anew))]
-fn begins_anew(place: usize) -> bool
+pub fn begins_anew(place: usize) -> bool
     ensures { result ≡ begins_anew place }
 {
-    place % FIXED_BANK_SIZE as usize == 0 && place != 0o6000
+    place % FIXED_BANK_SIZE as usize == 0 && place != AFTER_BANK_02
 }
 
-fn is_asked_for(bank: Option<u8>, place: usize) -> bool
+/// Whether a place of the rope is in the bank that is asked for, where one is.
+pub fn is_asked_for(bank: Option<u8>, place: usize) -> bool
     ensures { result ≡ is_asked_for bank place }
 {
     match bank {

@@ -27,5 +27,5 @@ pub use key::Key;
 pub use line::{EVERY, LONGEST_LINE, MOST_CYCLE_DIGITS, read_cycle};
 pub use script::Script;
 pub use tape::Tape;
-pub use text::{next_line, next_word};
+pub use text::{next_line, next_word, without_return};
 pub use written::push_what;

@@ -29,8 +29,8 @@ pub fn next_word(text: &[u8]) -> Option<(&[u8], &[u8])>
     Some((&text[..end], &text[end..]))
 }
 
-/// The line without one carriage return at its end.
-fn without_return(line: &[u8]) -> &[u8]
+/// A line without one carriage return at its end.
+pub fn without_return(line: &[u8]) -> &[u8]
     ensures { result.now ≡ strip_carriage_return line.now }
 {
     match line {

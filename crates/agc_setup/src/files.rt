@@ -10,7 +10,7 @@ ghost use Rattle.agc_setup.specs.Steps.{IsTold, refusal_in};
 ghost use Rattle.agc_setup.specs.Keys.{keys_of};
 ghost use Rattle.agc_setup.specs.declared.refusal.Refusal.TheVariants as refusal;
 
-use crate::input::{KEY_BYTES, ROPE_BYTES, SCRIPT_BYTES, Unread, read_limited};
+use crate::input::{KEY_BYTES, ROPE_BYTES, TEXT_BYTES, Unread, read_limited};
 use crate::keys::keys_of;
 use crate::refusal::Refusal;
 use agc_script::{Key, Script};
@@ -51,7 +51,7 @@ fn rope_of(alloc: Global, form: RopeForm, bytes: &[u8]) -> Result<Rope, Refusal>
     }
 }
 
-/// Reads a script file. It is refused where it cannot be read, has more than `SCRIPT_BYTES` bytes or a
+/// Reads a script file. It is refused where it cannot be read, has more than `TEXT_BYTES` bytes or a
 /// faulty line, or where memory runs out.
 pub fn read_script<S: Read>(alloc: Global, reader: &mut S) -> Result<Script, Refusal>
     ensures events { IfOk result
@@ -62,7 +62,7 @@ pub fn read_script<S: Read>(alloc: Global, reader: &mut S) -> Result<Script, Ref
     ensures refused { IfErr result
         (λ r. IfSome (S.remaining reader.old) (λ file. IsTold (script_steps file) r)) }
 {
-    let bytes = match read_limited(alloc, reader, SCRIPT_BYTES) {
+    let bytes = match read_limited(alloc, reader, TEXT_BYTES) {
         Ok(bytes) => bytes,
         Err(Unread::CannotRead(fault)) => return Err(Refusal::CannotReadScript(fault)),
         Err(Unread::Memory) => return Err(Refusal::Memory),

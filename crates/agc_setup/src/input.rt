@@ -9,8 +9,8 @@ use std::io::{self, ErrorKind, Read};
 /// The most bytes that a rope file may have.
 pub const ROPE_BYTES: usize = 1_048_576;
 
-/// The most bytes that a script file may have.
-pub const SCRIPT_BYTES: usize = 16_777_216;
+/// The most bytes that a script file may have, and so a source and a text of names.
+pub const TEXT_BYTES: usize = 16_777_216;
 
 /// The most bytes that a text of live keys may have.
 pub const KEY_BYTES: usize = 65_536;

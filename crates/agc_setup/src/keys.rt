@@ -15,9 +15,9 @@ pub fn keys_of(alloc: Global, text: &[u8]) -> Result<Option<Vec<Key>>, AllocErro
     all_there(alloc, found.as_slice())
 }
 
-/// The key of each name, where it is a key's.
+/// The key of each name of a text, where it is a key's.
 #[tactic(auto, unfolding(crate::specs::Keys::names_in))]
-fn named_keys(alloc: Global, text: &[u8]) -> Result<Vec<Option<Key>>, AllocError>
+pub fn named_keys(alloc: Global, text: &[u8]) -> Result<Vec<Option<Key>>, AllocError>
     ensures { IfOk result (λ found. found.items ≡ map key_named (names_in text.now)) }
 {
     text.split(|b| is_white(*b))
@@ -40,7 +40,8 @@ fn all_there(alloc: Global, found: &[Option<Key>]) -> Result<Option<Vec<Key>>, A
     Ok(Some(keys))
 }
 
-fn is_white(b: u8) -> bool
+/// Whether a byte stands between the names of a text of keys: a space, a tab, a carriage return or a line feed.
+pub fn is_white(b: u8) -> bool
     ensures { result ≡ is_white b }
 {
     b == b' ' || b == b'\t' || b == b'\r' || b == b'\n'

@@ -8,6 +8,7 @@ mod refusal;
 mod start;
 
 pub use files::{read_keys, read_rope, read_script};
-pub use input::{InputFile, KEY_BYTES, ROPE_BYTES, ReadFault, SCRIPT_BYTES, Unread, read_limited};
+pub use input::{InputFile, KEY_BYTES, ROPE_BYTES, ReadFault, TEXT_BYTES, Unread, read_limited};
+pub use keys::{is_white, named_keys};
 pub use refusal::Refusal;
 pub use start::{Prepared, prepare, start_machine};

@@ -19,10 +19,10 @@ ghost use Rattle.agc_source_words.specs.declared.fault.SourceTrouble.TheVariants
 
 use crate::cursor::Cursor;
 use crate::shape::{Shape, cursor_after, shape_of};
-use agc_rope_listing::{LineFault, read_line};
+use agc_rope_listing::{LineFault, has_other_byte, read_line};
 use agc_script::next_line;
 use agc_source_words::{
-    Location, Names, SourceFault, SourceTrouble, cut_label, has_other_byte, is_listed, is_name,
+    Location, Names, SourceFault, SourceTrouble, cut_label, is_listed, is_name,
 };
 use std::alloc::{AllocError, Global};
 

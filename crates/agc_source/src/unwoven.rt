@@ -16,7 +16,9 @@ ghost use Rattle.agc_source.specs.Unwoven.{
   word_said,
 };
 
-use agc_rope_listing::{Place, leads_extracode, listed_address, push_order, push_place};
+use agc_rope_listing::{
+    Place, begins_anew, is_asked_for, leads_extracode, listed_address, push_order, push_place,
+};
 use agc_store::Store;
 use agc_store::place::{FIXED_BANK_SIZE, FIXED_WORDS, bank_of};
 use agc_word::Narrow;
@@ -75,7 +77,6 @@ fn push_places(
 }
 
 /// How the line of the next place is read.
-#[tactic(auto, unfolding(agc_rope_listing::specs::List::begins_anew))]
 fn read_next(read: Read, place: usize, word: Narrow) -> Read
     requires { place < fixed_words }
     ensures follows { result.follows
@@ -90,7 +91,7 @@ fn read_next(read: Read, place: usize, word: Narrow) -> Read
     Read {
         follows: same_bank && word.bits() != 0,
         wanted: leads_extracode(read.wanted, word) && same_bank,
-        extracode: leads_extracode(read.extracode, word) && (same_bank || next == 0o6000),
+        extracode: leads_extracode(read.extracode, word) && !begins_anew(next),
     }
 }
 
@@ -151,15 +152,5 @@ fn push_word_said(text: &mut String, read: Read, word: Narrow) -> Result<(), All
         push_order(text, read.extracode, word)
     } else {
         write!(text, "OCT {word}")
-    }
-}
-
-/// Whether a place is in the bank that is asked for, where one is.
-fn is_asked_for(bank: Option<u8>, place: usize) -> bool
-    ensures { result ≡ is_asked_for bank place }
-{
-    match bank {
-        Some(bank) => place / FIXED_BANK_SIZE as usize == usize::from(bank),
-        None => true,
     }
 }

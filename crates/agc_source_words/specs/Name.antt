@@ -4,6 +4,10 @@ use Rattle.std.specs.Str.{bytes_eq}
 use Rattle.std.specs.BTreeMap.{get_by}
 use Rattle.std.specs.Cmp.Lexicographic.{slice_cmp}
 use Rattle.std.specs.Ordering.{nat_cmp}
+use Rattle.agc_store.specs.Places.{a_cell, l_cell, q_cell, eb_cell, fb_cell, z_cell, bb_cell, zero_cell}
+use Rattle.agc_store.specs.Places.{zrupt_cell, brupt_cell, cyr_cell, sr_cell, cyl_cell, edop_cell}
+use Rattle.agc_store.specs.Places.{time1_cell, time2_cell, time3_cell, time4_cell, time5_cell}
+use Rattle.agc_store.specs.Places.{time6_cell, inlink_cell}
 use Rattle.agc_source_words.specs.declared.names.Names.{Names}
 use Rattle.agc_source_words.specs.declared.location.Location.{Location}
 use Rattle.agc_source_words.specs.declared.location.Location.TheVariants as location
@@ -47,37 +51,37 @@ register_name register.Rnrad = codes "RNRAD"
 
 -- their cells
 unfoldable pub register_cell : Register → ℕ
-register_cell register.A = 0o0
-register_cell register.L = 0o1
-register_cell register.Q = 0o2
-register_cell register.Ebank = 0o3
-register_cell register.Fbank = 0o4
-register_cell register.Z = 0o5
-register_cell register.Bbank = 0o6
-register_cell register.Zero = 0o7
+register_cell register.A = a_cell
+register_cell register.L = l_cell
+register_cell register.Q = q_cell
+register_cell register.Ebank = eb_cell
+register_cell register.Fbank = fb_cell
+register_cell register.Z = z_cell
+register_cell register.Bbank = bb_cell
+register_cell register.Zero = zero_cell
 register_cell register.Arupt = 0o10
 register_cell register.Lrupt = 0o11
 register_cell register.Qrupt = 0o12
-register_cell register.Zrupt = 0o15
+register_cell register.Zrupt = zrupt_cell
 register_cell register.Bbrupt = 0o16
-register_cell register.Brupt = 0o17
-register_cell register.Cyr = 0o20
-register_cell register.Sr = 0o21
-register_cell register.Cyl = 0o22
-register_cell register.Edop = 0o23
-register_cell register.Time2 = 0o24
-register_cell register.Time1 = 0o25
-register_cell register.Time3 = 0o26
-register_cell register.Time4 = 0o27
-register_cell register.Time5 = 0o30
-register_cell register.Time6 = 0o31
+register_cell register.Brupt = brupt_cell
+register_cell register.Cyr = cyr_cell
+register_cell register.Sr = sr_cell
+register_cell register.Cyl = cyl_cell
+register_cell register.Edop = edop_cell
+register_cell register.Time2 = time2_cell
+register_cell register.Time1 = time1_cell
+register_cell register.Time3 = time3_cell
+register_cell register.Time4 = time4_cell
+register_cell register.Time5 = time5_cell
+register_cell register.Time6 = time6_cell
 register_cell register.Cdux = 0o32
 register_cell register.Cduy = 0o33
 register_cell register.Cduz = 0o34
 register_cell register.Pipax = 0o37
 register_cell register.Pipay = 0o40
 register_cell register.Pipaz = 0o41
-register_cell register.Inlink = 0o45
+register_cell register.Inlink = inlink_cell
 register_cell register.Rnrad = 0o46
 
 unfoldable pub all_registers : List Register

@@ -19,4 +19,4 @@ pub use mnemonic::{Directive, basic_named, extracode_named, is_order};
 pub use names::Names;
 pub use number::{Signed, decimal_word, octal_word, offset_named, signed_number};
 pub use row::{basic_word, extracode_word};
-pub use text::{cut_label, has_other_byte, is_listed, is_name, next_said, only_word};
+pub use text::{cut_label, is_listed, is_name, next_said, only_word};

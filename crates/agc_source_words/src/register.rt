@@ -2,6 +2,8 @@
 ghost use Rattle.std.specs.Prelude.{◌≡◌, ◌<◌};
 ghost use Rattle.agc_source_words.specs.Name.{register_cell, register_name, register_named};
 
+use agc_store::place;
+
 /// A cell with a name of its own.
 #[derive(Clone, Copy, Debug, PartialEq, Eq)]
 pub(crate) enum Register {
@@ -132,39 +134,39 @@ impl Register {
         ensures cell { result ≡ register_cell self }
         ensures range { result < 0o4000 }
     {
-        match self {
-            Register::A => 0o0,
-            Register::L => 0o1,
-            Register::Q => 0o2,
-            Register::Ebank => 0o3,
-            Register::Fbank => 0o4,
-            Register::Z => 0o5,
-            Register::Bbank => 0o6,
-            Register::Zero => 0o7,
+        u32::from(match self {
+            Register::A => place::A,
+            Register::L => place::L,
+            Register::Q => place::Q,
+            Register::Ebank => place::EB,
+            Register::Fbank => place::FB,
+            Register::Z => place::Z,
+            Register::Bbank => place::BB,
+            Register::Zero => place::ZERO,
             Register::Arupt => 0o10,
             Register::Lrupt => 0o11,
             Register::Qrupt => 0o12,
-            Register::Zrupt => 0o15,
+            Register::Zrupt => place::ZRUPT,
             Register::Bbrupt => 0o16,
-            Register::Brupt => 0o17,
-            Register::Cyr => 0o20,
-            Register::Sr => 0o21,
-            Register::Cyl => 0o22,
-            Register::Edop => 0o23,
-            Register::Time2 => 0o24,
-            Register::Time1 => 0o25,
-            Register::Time3 => 0o26,
-            Register::Time4 => 0o27,
-            Register::Time5 => 0o30,
-            Register::Time6 => 0o31,
+            Register::Brupt => place::BRUPT,
+            Register::Cyr => place::CYR,
+            Register::Sr => place::SR,
+            Register::Cyl => place::CYL,
+            Register::Edop => place::EDOP,
+            Register::Time2 => place::TIME2,
+            Register::Time1 => place::TIME1,
+            Register::Time3 => place::TIME3,
+            Register::Time4 => place::TIME4,
+            Register::Time5 => place::TIME5,
+            Register::Time6 => place::TIME6,
             Register::Cdux => 0o32,
             Register::Cduy => 0o33,
             Register::Cduz => 0o34,
             Register::Pipax => 0o37,
             Register::Pipay => 0o40,
             Register::Pipaz => 0o41,
-            Register::Inlink => 0o45,
+            Register::Inlink => place::INLINK,
             Register::Rnrad => 0o46,
-        }
+        })
     }
 }

@@ -2,7 +2,7 @@
 ghost use Rattle.std.specs.Prelude.{◌≡◌, [], ◌∷◌, MatchOption, option_map};
 ghost use Rattle.std.specs.List.{list_any};
 ghost use Rattle.agc_word.specs.Numeral.{is_digit};
-ghost use Rattle.agc_rope_listing.specs.Line.{is_comma, is_no_text};
+ghost use Rattle.agc_rope_listing.specs.Line.{is_comma};
 ghost use Rattle.agc_source_words.specs.Text.{
   are_listed,
   body_of,
@@ -107,12 +107,4 @@ fn has_other_than_numbers(word: &[u8]) -> bool
 {
     word.iter()
         .any(|b| !(is_decimal(*b) || (*b == b'+' || *b == b'-')))
-}
-
-/// Whether a byte of a line is no text: neither a tab nor one of ASCII's that print.
-pub fn has_other_byte(line: &[u8]) -> bool
-    ensures { result ≡ list_any is_no_text line.now }
-{
-    line.iter()
-        .any(|b| *b != b'\t' && (*b < 0x20 || *b >= 0x7F))
 }
