@@ -1,92 +1,56 @@
 -- The command line: what the program takes, and what the words of a call ask for.
-use Rattle.std.specs.Prelude.{◌≡◌, ◌≢◌, ℕ, Bool, true, false, List, [], ◌∷◌, map, fold, codes}
+use Rattle.std.specs.Prelude.{◌≡◌, ◌≢◌, ℕ, Bool, true, false, List, [], ◌∷◌, ◌++◌, fold, codes}
 use Rattle.std.specs.Prelude.{Option, Some, None, option_and_then, option_map, unwrap_or}
-use Rattle.std.specs.Prelude.{◌++◌, if◌then◌else◌, string_bytes}
-use Rattle.std.specs.Borrow.{Bor}
-use Rattle.std.specs.Fmt.{decimal}
-use Rattle.std.specs.Str.{bytes_eq}
-use Rattle.std.specs.Str.Parse.{digits_value, without_leading_plus}
-use Rattle.std.specs.declared.string.String.{String}
-use Rattle.std.specs.declared.alloc.Global.{Global}
-use Rattle.clap.specs.ValueTests.{accepts}
+use Rattle.std.specs.Prelude.{string_bytes}
 use Rattle.clap.specs.Words.{App, IsAmong, Row, Rule, Text, fault_of, first_of, matches_of, new_app}
-use Rattle.clap.specs.Words.{new_rule, one_of, with_rule}
-use Rattle.clap.specs.declared.builder.ArgAction.TheVariants.{SetTrue}
-use Rattle.clap.specs.declared.builder.value_parser.ValueParser.{ValueParser}
-use Rattle.clap.specs.declared.builder.value_parser.ValueParser.TheVariants as parser
+use Rattle.clap.specs.Words.{one_of, with_rule}
 use Rattle.clap.specs.declared.error.kind.ErrorKind.{ErrorKind}
-use Rattle.clap.specs.declared.error.kind.ErrorKind.TheVariants.{DisplayHelp, OutOfMemory}
-use Rattle.agc_store.specs.declared.rope_file.RopeForm.{RopeForm}
+use Rattle.clap.specs.declared.error.kind.ErrorKind.TheVariants.{DisplayHelp}
 use Rattle.agc_store.specs.declared.rope_file.RopeForm.TheVariants as form
-use Rattle.agc_args.specs.declared.args.ArgsFault.{ArgsFault}
-use Rattle.agc_args.specs.declared.args.ArgsFault.TheVariants as fault
+use Rattle.agc_command_line.specs.Mistakes.{not_text_told}
+use Rattle.agc_command_line.specs.Parameters.{IsFormOption, file_parameter, flag_option}
+use Rattle.agc_command_line.specs.Parameters.{number_option, value_option}
+use Rattle.agc_command_line.specs.Values.{form_named, number_written, text_given}
+use Rattle.agc_options.specs.declared.fault.ArgsFault.{ArgsFault}
+use Rattle.agc_options.specs.declared.fault.ArgsFault.TheVariants as fault
 use Rattle.agc_options.specs.declared.options.Options.{Options}
 
--- a file: a word of its own, which must be given
-abbrev pub file_parameter : Text → Rule
-file_parameter name = record (new_rule name) { value_names = 1; required = true }
+-- the files of a run, and its limit, which must be given
+abbrev pub run_parameters : List Rule
+run_parameters =
+    file_parameter (codes "rope")
+    ∷ file_parameter (codes "script")
+    ∷ record (number_option (codes "limit")) { required = true }
+    ∷ []
 
--- an option with a value: `--name value` or `--name=value`
-abbrev pub value_option : Text → Rule
-value_option name = record (new_rule name) { long = Some name; value_names = 1 }
+-- what is printed of a run, and how many writes wait for that
+abbrev pub display_parameters : List Rule
+display_parameters =
+    record (number_option (codes "slots")) { defaults = codes "256" ∷ [] }
+    ∷ value_option (codes "watch")
+    ∷ flag_option (codes "log")
+    ∷ []
 
--- decimal digits that write a number below 2^64, where a plus may stand first
-abbrev pub numbers : ValueParser
-numbers = parser.Unsigned 0 18446744073709551615
+-- the layout of the rope, and the order before which a run stops
+abbrev pub layout_parameters : Rule → List Rule
+layout_parameters form = form ∷ value_option (codes "until") ∷ []
 
--- an option whose value is such a number
-abbrev pub number_option : Text → Rule
-number_option name = record (value_option name) { parser = Some numbers }
-
--- an option with no value
-abbrev pub flag_option : Text → Rule
-flag_option name = record (new_rule name) { long = Some name; action = Some SetTrue }
-
--- the option whose value is one of these names
-abbrev pub names_option : Bor (List (Bor Text)) → Rule
-names_option forms =
-    record (value_option (codes "form")) {
-      defaults = codes "classic" ∷ [];
-      parser = Some (parser.Names forms);
-    }
-
--- the option that names the form of the rope file
-abbrev pub IsFormOption : Rule → Type 0
-IsFormOption rule = (forms : Bor (List (Bor Text)))
-    × (map (λ name. name.now) forms.now ≡ codes "classic" ∷ codes "parity" ∷ [])
-    × (rule ≡ names_option forms)
+-- the live keys
+abbrev pub live_parameters : List Rule
+live_parameters =
+    flag_option (codes "live")
+    ∷ record (number_option (codes "spacing")) { defaults = codes "8533" ∷ [] }
+    ∷ []
 
 -- What the program takes: two files, and eight options, of which `--limit` must be given. `form` is
 -- the option that names the form.
 unfoldable pub command_line : Rule → App
 command_line form = fold with_rule (new_app (codes "agc"))
-    (file_parameter (codes "rope")
-    ∷ file_parameter (codes "script")
-    ∷ record (number_option (codes "limit")) { required = true }
-    ∷ record (number_option (codes "slots")) { defaults = codes "256" ∷ [] }
-    ∷ value_option (codes "watch")
-    ∷ flag_option (codes "log")
-    ∷ form
-    ∷ value_option (codes "until")
-    ∷ flag_option (codes "live")
-    ∷ record (number_option (codes "spacing")) { defaults = codes "8533" ∷ [] }
-    ∷ [])
+    (run_parameters ++ display_parameters ++ layout_parameters form ++ live_parameters)
 
 -- the program's command
 abbrev pub IsCommandLine : App → Type 0
 IsCommandLine app = (form : Rule) × IsFormOption form × (app ≡ command_line form)
-
--- the number that a text writes
-abbrev pub number_written : Text → Option ℕ
-number_written text =
-    if accepts false numbers text then Some (digits_value 10 (without_leading_plus text)) else None
-
--- the form that a name names: any but `parity` names the classic one
-abbrev pub form_named : Text → RopeForm
-form_named name = if bytes_eq name (codes "parity") then form.Parity else form.Classic
-
-abbrev pub text_given : Option (String Global) → Option Text
-text_given text = option_map (λ t. string_bytes t) text
 
 -- a flag is set where its value is `true`, and not where it is `false` or there is none
 abbrev pub IsFlag : Option Text → Bool → Type 0
@@ -116,13 +80,6 @@ AreAskedBy words options =
     (app : App) × IsCommandLine app × (fault_of app words ≡ [])
     × AsksFor (matches_of app words) options
 
--- how a kind of error is told to the user: a call for help by the text of help, the rest as a
--- mistake
-abbrev pub Tells : ErrorKind → ArgsFault → Type 0
-Tells kind (fault.Help text) = kind ≡ DisplayHelp
-Tells kind (fault.Command text) = (kind ≢ DisplayHelp) × (kind ≢ OutOfMemory)
-Tells kind fault.Memory = Unit {0}
-
 -- why the words give no options: they call for help, they are mistaken, or there is no memory
 abbrev pub IsFaultOf : List Text → ArgsFault → Type 0
 IsFaultOf words (fault.Help text) =
@@ -131,12 +88,6 @@ IsFaultOf words (fault.Command text) =
     (app : App) × IsCommandLine app × (kind : ErrorKind) × (kind ≢ DisplayHelp)
     × IsAmong kind (fault_of app words)
 IsFaultOf words fault.Memory = Unit {0}
-
--- what is said of a word that is not text: which one it is, and the program's usage
-abbrev pub not_text_told : ℕ → Text → Text
-not_text_told number usage =
-    ((codes "error: word " ++ decimal number ++ codes " is not text\n\n") ++ usage)
-    ++ codes "\n\nFor more information, try '--help'.\n"
 
 -- a word that is not text is told as a mistake in the words, or there is no memory
 abbrev pub IsNotText : ℕ → ArgsFault → Type 0

@@ -2,12 +2,6 @@
 #![tactic(auto)]
 
 mod args;
-mod ending;
-mod words;
+mod command;
 
-pub use args::{
-    ArgsFault, DEFAULT_SLOTS, DEFAULT_SPACING, fault_of, form_of, form_option, limit_of,
-    limit_option, mistaken_word, not_text, parse_args, path_of, rope_file, script_file,
-};
-pub use ending::{MISUSED, end_mistaken, stand_ins};
-pub use words::{WordsFault, options, words_of};
+pub use args::{not_text, options, parse_args};

@@ -6,6 +6,9 @@ use agc_shown::By;
 use agc_store::RopeForm;
 use agc_trace::Selection;
 
+/// The name by which the program speaks of itself.
+pub const NAME: &str = "agc-study";
+
 /// What is asked for.
 #[derive(Debug, Drop)]
 pub enum Asked {

@@ -1,15 +1,9 @@
-//! The command line of `agc-study`: from its words to what they ask for.
+//! What `agc-study` is asked for, as data: files, and what of them is wanted.
 #![tactic(auto)]
 
 mod asked;
-mod counted;
-mod questions;
-mod shown;
-mod watched;
-mod words;
 
 pub use asked::{
-    Asked, ByShown, CheckedRun, Checking, Comparing, Counting, Filming, Listing, Tracing, Watching,
-    Weaving,
+    Asked, ByShown, CheckedRun, Checking, Comparing, Counting, Filming, Listing, NAME, Tracing,
+    Watching, Weaving,
 };
-pub use words::{NAME, asked_by, asked_of};

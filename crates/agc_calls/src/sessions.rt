@@ -1,8 +1,8 @@
 //! The calls that read a command line and run a session.
 use crate::call::Call;
 use crate::report::{Attempt, answered, begin, keeps, no_input, refused, wrong};
-use agc_args::{ArgsFault, parse_args};
-use agc_options::{DONE, Options, REFUSED};
+use agc_args::parse_args;
+use agc_options::{ArgsFault, DONE, Options, REFUSED};
 use agc_pipe::Open;
 use agc_session::session;
 use agc_store::RopeForm;

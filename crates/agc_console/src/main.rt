@@ -4,12 +4,11 @@
 mod trouble;
 mod words;
 
-use agc_args::{ArgsFault, end_mistaken, stand_ins};
 use agc_dialogue::{ConverseFault, converse};
 use agc_front::{asked_of, sitting_for};
 use agc_names::NameTable;
 use agc_names_file::names_at;
-use agc_options::{DONE, REFUSED, UNWRITTEN, status_of};
+use agc_options::{ArgsFault, DONE, REFUSED, UNWRITTEN, end_mistaken, stand_ins, status_of};
 use agc_setup::Refusal;
 use agc_sitting::Sitting;
 use std::io::{Read, Write};

@@ -1,6 +1,6 @@
 //! The words of the command line: what the console is asked for.
-use agc_args::{form_option, rope_file, script_file};
-use agc_front::{Asked, Start, limit_option, names_option, start_in, text_in};
+use agc_command_line::{form_option, rope_file, script_file, text_of};
+use agc_front::{Asked, Start, limit_option, names_option, start_in};
 use clap::{ArgMatches, Command};
 use std::alloc::{AllocError, Global};
 
@@ -29,7 +29,7 @@ impl Asked for Console {
 
     fn asked_in(alloc: Global, matches: &ArgMatches<'_>) -> Result<Console, AllocError> {
         let start = start_in(alloc, matches)?;
-        let names = text_in(alloc, matches, "names")?;
+        let names = text_of(alloc, matches, "names")?;
         Ok(Console { start, names })
     }
 }

@@ -7,10 +7,11 @@ mod session;
 mod trouble;
 mod words;
 
-use agc_args::{ArgsFault, MISUSED, end_mistaken, stand_ins};
 use agc_executive::WatchSpec;
 use agc_front::{asked_of, sitting_for};
-use agc_options::{DONE, REFUSED, UNWRITTEN, status_of};
+use agc_options::{
+    ArgsFault, DONE, MISUSED, REFUSED, UNWRITTEN, end_mistaken, stand_ins, status_of,
+};
 use agc_picture::Ink;
 use agc_seat::Seat;
 use agc_setup::Refusal;

@@ -1,6 +1,6 @@
 //! The words of the command line: what is sat before.
-use agc_args::{form_option, rope_file, script_file};
-use agc_front::{Asked, Start, limit_option, start_in, text_in};
+use agc_command_line::{form_option, rope_file, script_file, text_of};
+use agc_front::{Asked, Start, limit_option, start_in};
 use agc_seat::Speed;
 use clap::{Arg, ArgAction, ArgMatches, Command};
 use std::alloc::{AllocError, Global};
@@ -46,9 +46,9 @@ impl Asked for Dsky {
         Ok(Dsky {
             start: start_in(alloc, matches)?,
             speed: speed_of(matches),
-            save: text_in(alloc, matches, "save")?,
+            save: text_of(alloc, matches, "save")?,
             force: matches.get_flag("force"),
-            watch: text_in(alloc, matches, "watch")?,
+            watch: text_of(alloc, matches, "watch")?,
         })
     }
 }

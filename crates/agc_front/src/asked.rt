@@ -1,5 +1,6 @@
 //! What the words of a command line ask for.
-use agc_args::{ArgsFault, WordsFault, fault_of, mistaken_word, words_of};
+use agc_command_line::{WordsFault, fault_of, mistaken_word, words_of};
+use agc_options::ArgsFault;
 use clap::{Arg, ArgMatches, Command};
 use std::alloc::{AllocError, Global};
 use std::rt::Env;

@@ -1,7 +1,7 @@
 //! What a sitting begins with: its files and its limit.
 ghost use Rattle.std.specs.Prelude.{◌≡◌, IfErr};
 
-use agc_args::{form_of, limit_of, path_of};
+use agc_command_line::{form_of, number_of, path_of, text_of};
 use agc_script::Script;
 use agc_setup::{InputFile, Refusal, read_rope, read_script};
 use agc_sitting::{BeginFault, Sitting};
@@ -26,7 +26,7 @@ pub struct Start {
 
 /// The limit of a sitting: the last cycle of all where none is named.
 pub fn limit_option<'a>(alloc: Global) -> Arg<'a> {
-    agc_args::limit_option(alloc)
+    agc_command_line::limit_option(alloc)
         .required(false)
         .default_value("1000000000000")
 }
@@ -35,22 +35,10 @@ pub fn limit_option<'a>(alloc: Global) -> Arg<'a> {
 pub fn start_in(alloc: Global, matches: &ArgMatches<'_>) -> Result<Start, AllocError> {
     Ok(Start {
         rope: path_of(alloc, matches, "rope")?,
-        script: text_in(alloc, matches, "script")?,
-        limit: limit_of(matches),
+        script: text_of(alloc, matches, "script")?,
+        limit: number_of(matches, "limit", 0),
         form: form_of(matches),
     })
-}
-
-/// The text that a word or an option names, where there is one.
-pub fn text_in(
-    alloc: Global,
-    matches: &ArgMatches<'_>,
-    id: &str,
-) -> Result<Option<String>, AllocError> {
-    match matches.get_str(id) {
-        Some(text) => Ok(Some(String::from_str(alloc, text)?)),
-        None => Ok(None),
-    }
 }
 
 /// The sitting at the start of time. The rope is looked at first, then the script, then the limit.

@@ -3,8 +3,8 @@ use Rattle.std.proofs.Common.{◌≡◌, List, [], ◌∷◌, ◌++◌, string_b
 use Rattle.std.specs.Prelude.{ℕ, Option, Ok, Err}
 use Rattle.std.specs.declared.alloc.Global.{Global}
 use Rattle.std.specs.declared.string.String.{String}
-use Rattle.agc_args.specs.declared.args.ArgsFault.{ArgsFault}
-use Rattle.agc_args.specs.declared.args.ArgsFault.TheVariants as fault
+use Rattle.agc_options.specs.declared.fault.ArgsFault.{ArgsFault}
+use Rattle.agc_options.specs.declared.fault.ArgsFault.TheVariants as fault
 use Rattle.agc_names.specs.Names.{Named}
 use Rattle.agc_places.specs.declared.places.Places.{Places}
 use Rattle.agc_places.specs.declared.places.PlacesFault.{PlacesFault}

@@ -12,9 +12,9 @@ ghost use Rattle.agc_results.specs.Placed.{
 };
 
 use crate::until::name_until;
-use agc_args::ArgsFault;
 use agc_asked::Tracing;
 use agc_names::NameTable;
+use agc_options::ArgsFault;
 use agc_places::{Places, PlacesFault};
 use std::alloc::{AllocError, Global};
 

@@ -6,11 +6,11 @@ ghost use Rattle.std.specs.Prelude.{◌≡◌, ◌⊎◌, IfOk, IfErr, codes};
 ghost use Rattle.std.specs.Io.KnownBytes.{Appends, Keeps};
 ghost use Rattle.agc_setup.specs.Refusal.{refusal_line};
 ghost use Rattle.agc_setup.specs.declared.refusal.Refusal.{Refusal};
-ghost use Rattle.agc_args.specs.Ending.{EndsMistaken};
+ghost use Rattle.agc_options.specs.Ending.{EndsMistaken};
 
-use agc_args::{ArgsFault, end_mistaken, options, stand_ins};
+use agc_args::options;
 use agc_gate::{Gate, Telling};
-use agc_options::{Options, REFUSED};
+use agc_options::{ArgsFault, Options, REFUSED, end_mistaken, stand_ins};
 use agc_progress::Ticker;
 use agc_session::session;
 use agc_setup::InputFile;

@@ -1,7 +1,7 @@
 -- How the program ends: its status, and on which stream something stands then.
 use Rattle.std.specs.Prelude.{◌≡◌, ℕ, ◌<◌, List, Option, Result, Ok}
 use Rattle.std.specs.Io.KnownBytes.{Keeps}
-use Rattle.agc_args.specs.declared.args.ArgsFault.{ArgsFault}
+use Rattle.agc_options.specs.declared.fault.ArgsFault.{ArgsFault}
 use Rattle.agc_asked.specs.declared.asked.Asked.{Asked}
 use Rattle.agc_asked.specs.declared.asked.Asked.TheVariants as asked
 

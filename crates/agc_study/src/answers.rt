@@ -1,7 +1,7 @@
 //! What is asked for, answered: on standard output, or in a line on standard error.
 ghost use Rattle.std.specs.Prelude.{◌≡◌, ◌<◌, IfErr, Ok, codes};
 ghost use Rattle.std.specs.Io.KnownBytes.{Keeps};
-ghost use Rattle.agc_args.specs.Ending.{EndsMistaken};
+ghost use Rattle.agc_options.specs.Ending.{EndsMistaken};
 ghost use Rattle.agc_study.specs.Ended.{IsEnded, LooksForFaults};
 
 use crate::check_told::check_to;
@@ -12,8 +12,8 @@ use crate::ropes_told::weave_to;
 use crate::runs_told::{compare_to, trace_to};
 use crate::sources_told::list_as_asked;
 use crate::unreadable::remark_unreadable;
-use agc_args::{ArgsFault, end_mistaken};
 use agc_asked::{Asked, NAME};
+use agc_options::{ArgsFault, end_mistaken};
 use agc_progress::Shown;
 use agc_results::TROUBLE;
 use std::io::Write;

@@ -9,13 +9,12 @@ ghost use Rattle.agc_results.specs.Started.{IsPairRefused};
 ghost use Rattle.agc_results.specs.Traced.{IsTraceWritten};
 ghost use Rattle.agc_results.specs.Trouble.{IsTold};
 
-use agc_args::end_mistaken;
 use agc_asked::{Comparing, NAME, Tracing};
 use agc_compare::SideNames;
 use agc_machine::{Machine, Upcoming};
 use agc_names::NameTable;
 use agc_names_file::names_at;
-use agc_options::{DONE, status_of};
+use agc_options::{DONE, end_mistaken, status_of};
 use agc_progress::Shown;
 use agc_results::{
     TROUBLE, Told, Traced, Trouble, compare_files, name_until, place, remark_service,

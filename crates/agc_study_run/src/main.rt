@@ -4,10 +4,11 @@
 //! they change, `compare` tells where two runs part, and `film` shows the display over their time.
 #![tactic(auto)]
 
-use agc_args::stand_ins;
-use agc_asked::{NAME, asked_of};
+use agc_asked::NAME;
+use agc_options::stand_ins;
 use agc_progress::Ticker;
 use agc_study::{answer, last_cycle};
+use agc_study_words::asked_of;
 use std::process::ExitCode;
 
 fn main(rt: HostRuntime) -> ExitCode {

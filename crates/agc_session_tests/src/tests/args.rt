@@ -1,6 +1,7 @@
 //! Command lines: the worked ones, defaults, and the two forms of an option.
-use agc_args::{ArgsFault, fault_of, not_text, parse_args};
-use agc_options::Options;
+use agc_args::{not_text, parse_args};
+use agc_command_line::fault_of;
+use agc_options::{ArgsFault, Options};
 use agc_store::RopeForm;
 use clap::Command;
 use std::process::Abort;

@@ -1,5 +1,6 @@
 //! Words that are text and words that are not, from a list in the place of the system's.
-use agc_args::{ArgsFault, options};
+use agc_args::options;
+use agc_options::ArgsFault;
 use std::env::FillError;
 use std::process::Abort;
 use std::rt::Env;

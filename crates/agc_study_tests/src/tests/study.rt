@@ -1,11 +1,11 @@
 //! The program on its command lines, over files that are not there; `examples/study` runs it on files.
 mod ends;
 
-use agc_args::ArgsFault;
-use agc_asked::{Asked, Comparing, Filming, Watching, asked_by};
+use agc_asked::{Asked, Comparing, Filming, Watching};
 use agc_compare::SideNames;
 use agc_film::{Part, RunFiles};
 use agc_jobs::Span;
+use agc_options::ArgsFault;
 use agc_progress::Untold;
 use agc_results::{
     Trouble, check_files, check_key_file, check_listing_file, check_with, compare_files,
@@ -16,6 +16,7 @@ use agc_setup::Refusal;
 use agc_source::{SourceFault, SourceTrouble};
 use agc_store::{RopeFault, RopeForm};
 use agc_study::{answer, last_cycle, write_report, write_told};
+use agc_study_words::asked_by;
 use std::process::Abort;
 use std::rt::Files;
 use std::test::Fail;

@@ -2,7 +2,7 @@ use Rattle.std.proofs.Common.{◌∙◌, ℕ, ap, codes}
 use Rattle.std.specs.Prelude.{Option, unwrap_or}
 use Rattle.std.specs.Str.Parse.{ParsesUnsigned, ExplainsUnsignedError, HasUnsignedDigitsIfOk}
 use Rattle.clap.specs.Words.{found_of}
-use Rattle.agc_args.proofs.CommandLine.{number_in_rows}
+use Rattle.agc_command_line.proofs.Matches.{number_in_rows}
 use Rattle.agc_args.proofs.args.slots_of.Goals as goal
 
 pub returns : goal.returns

@@ -1,0 +1,3 @@
+pub mod Mistakes
+pub mod Parameters
+pub mod Values

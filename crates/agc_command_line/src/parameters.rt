@@ -1,0 +1,63 @@
+//! The files and the options that the programs' command lines share.
+ghost use Rattle.std.specs.Prelude.{◌≡◌, true, false, codes};
+ghost use Rattle.clap.specs.Words.{rule_of};
+ghost use Rattle.agc_command_line.specs.Parameters.{IsFormOption, file_parameter, number_option};
+
+use clap::{Arg, value_parser};
+use std::alloc::Global;
+
+static FORMS: [&str; 2] = ["classic", "parity"];
+
+/// The word that names the rope file.
+pub fn rope_file<'a>(alloc: Global) -> Arg<'a>
+    ensures rule { rule_of result ≡ file_parameter (codes "rope") }
+    ensures local { result.global ≡ false }
+{
+    Arg::new(alloc, "rope")
+        .value_name("ROPE")
+        .required(true)
+        .help(
+            "The file of the fixed memory: 16-bit words, the high byte first; - is a file of that name, not standard input",
+        )
+}
+
+/// The word that names the script file.
+pub fn script_file<'a>(alloc: Global) -> Arg<'a>
+    ensures rule { rule_of result ≡ file_parameter (codes "script") }
+    ensures local { result.global ≡ false }
+{
+    Arg::new(alloc, "script")
+        .value_name("SCRIPT")
+        .required(true)
+        .help(
+            "The file of what happens outside: a line an event, in order of their cycles; - is a file of that name, too",
+        )
+}
+
+/// The option that names the cycle at which a run ends at the latest.
+pub fn limit_option<'a>(alloc: Global) -> Arg<'a>
+    ensures rule { rule_of result ≡ record (number_option (codes "limit")) { required = true } }
+    ensures local { result.global ≡ false }
+{
+    Arg::new(alloc, "limit")
+        .long("limit")
+        .value_name("N")
+        .required(true)
+        .value_parser(value_parser!(u64))
+        .help("Stop at this cycle (1,024,000 / 12 = 85,333 a second): decimal, 1 to 1000000000000")
+}
+
+/// The option that names the form of the rope file.
+pub fn form_option<'a>(alloc: Global) -> Arg<'a>
+    ensures rule { IsFormOption (rule_of result) }
+    ensures local { result.global ≡ false }
+{
+    Arg::new(alloc, "form")
+        .long("form")
+        .value_name("FORM")
+        .default_value("classic")
+        .value_parser(FORMS.as_slice())
+        .help(
+            "The layout of the rope file: banks 2, 3, 0, 1, 4 to 43 octal, or 0 to 43 octal with odd parity",
+        )
+}
