@@ -1,6 +1,6 @@
 //! The words of the command line: what is sat before.
-use agc_command_line::{form_option, rope_file, script_file, text_of};
-use agc_front::{Asked, Start, limit_option, start_in};
+use agc_command_line::{script_file, text_of};
+use agc_front::{Asked, Start, start_in, with_start};
 use agc_seat::Speed;
 use clap::{Arg, ArgAction, ArgMatches, Command};
 use std::alloc::{AllocError, Global};
@@ -23,23 +23,14 @@ const SPEEDS: [&str; 5] = ["1", "10", "100", "1000", "max"];
 
 impl Asked for Dsky {
     fn command<'a>(alloc: Global) -> Result<Command<'a>, AllocError> {
-        Command::new(alloc, "agc-dsky")
-            .about(
-                "Sits before the DSKY of an emulated Block II computer that runs a rope: shows it on this terminal, and presses its keys as they are typed.",
-            )
-            .arg(rope_file(alloc))?
-            .arg(script_file(alloc).required(false))?
-            .arg(limit_option(alloc))?
-            .arg(form_option(alloc))?
+        let command = Command::new(alloc, "agc-dsky").about(
+            "Sits before the DSKY of an emulated Block II computer that runs a rope: shows it on this terminal, and presses its keys as they are typed.",
+        );
+        with_start(alloc, command, script_file(alloc).required(false))?
             .arg(speed_option(alloc))?
             .arg(save_option(alloc))?
             .arg(watch_option(alloc))?
-            .arg(
-                Arg::new(alloc, "force")
-                    .long("force")
-                    .action(ArgAction::SetTrue)
-                    .help("Write over the file after --save where it is there already"),
-            )
+            .arg(force_option(alloc))
     }
 
     fn asked_in(alloc: Global, matches: &ArgMatches<'_>) -> Result<Dsky, AllocError> {
@@ -73,6 +64,13 @@ fn save_option<'a>(alloc: Global) -> Arg<'a> {
     Arg::new(alloc, "save").long("save").value_name("FILE").help(
         "Write the script that repeats the session to this file, at the end and where s is typed",
     )
+}
+
+fn force_option<'a>(alloc: Global) -> Arg<'a> {
+    Arg::new(alloc, "force")
+        .long("force")
+        .action(ArgAction::SetTrue)
+        .help("Write over the file after --save where it is there already")
 }
 
 fn watch_option<'a>(alloc: Global) -> Arg<'a> {

@@ -5,4 +5,4 @@ mod asked;
 mod start;
 
 pub use asked::{Asked, asked_by, asked_of, names_option};
-pub use start::{Start, limit_option, sitting_for, start_in};
+pub use start::{Start, sitting_for, start_in, with_start};

@@ -1,12 +1,12 @@
 //! What a sitting begins with: its files and its limit.
 ghost use Rattle.std.specs.Prelude.{◌≡◌, IfErr};
 
-use agc_command_line::{form_of, number_of, path_of, text_of};
+use agc_command_line::{form_of, form_option, number_of, path_of, rope_file, text_of};
 use agc_script::Script;
 use agc_setup::{InputFile, Refusal, read_rope, read_script};
 use agc_sitting::{BeginFault, Sitting};
 use agc_store::RopeForm;
-use clap::{Arg, ArgMatches};
+use clap::{Arg, ArgMatches, Command};
 use std::alloc::{AllocError, Global};
 use std::fs;
 use std::rt::Files;
@@ -24,8 +24,21 @@ pub struct Start {
     pub form: RopeForm,
 }
 
+/// The command with what a sitting begins with: the rope, this word for the script, the limit and the rope's form.
+pub fn with_start<'a>(
+    alloc: Global,
+    command: Command<'a>,
+    script: Arg<'a>,
+) -> Result<Command<'a>, AllocError> {
+    command
+        .arg(rope_file(alloc))?
+        .arg(script)?
+        .arg(limit_option(alloc))?
+        .arg(form_option(alloc))
+}
+
 /// The limit of a sitting: the last cycle of all where none is named.
-pub fn limit_option<'a>(alloc: Global) -> Arg<'a> {
+fn limit_option<'a>(alloc: Global) -> Arg<'a> {
     agc_command_line::limit_option(alloc)
         .required(false)
         .default_value("1000000000000")
