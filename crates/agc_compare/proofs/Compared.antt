@@ -11,13 +11,14 @@ use Rattle.agc_machine.specs.State.{State}
 use Rattle.agc_processor.specs.declared.channel_write.ChannelWrite.{ChannelWrite}
 use Rattle.agc_panel.specs.Face.{panel_of}
 use Rattle.agc_trace.specs.Entry.{FitsLine, FitsWrite}
+use Rattle.agc_shown.specs.Common.{kept}
 use Rattle.agc_machine.specs.Laws.{AreRising}
 use Rattle.agc_machine.proofs.Chain.{run_rises}
 use Rattle.agc_trace.specs.Trace.{trace_of}
 use Rattle.agc_trace.specs.declared.entry.Entry.{Entry}
 use Rattle.agc_compare.specs.Apart.{EndsTold, EndsWith, IsParting}
 use Rattle.agc_compare.specs.Cells.{cells_that_differ}
-use Rattle.agc_compare.specs.Common.{ComesApart, HasParted, TellsEntries, held_left, held_right, kept, one_write, run_after, entry_writes}
+use Rattle.agc_compare.specs.Common.{ComesApart, HasParted, TellsEntries, held_left, held_right, one_write, run_after, entry_writes}
 use Rattle.agc_compare.specs.Compare.{FitsParting, FitsWriteParting, TellsCommon, TellsEnd, TracesPart, cells_at_end, end_of, is_nowhere, is_same}
 use Rattle.agc_compare.specs.declared.cells.CellPair.{CellPair}
 use Rattle.agc_compare.specs.declared.comparison.Comparison.{Comparison}

@@ -1,4 +1,4 @@
-pub mod Kept
+pub mod Nothing
 pub mod Passed
 pub mod Followed
 pub mod Memories

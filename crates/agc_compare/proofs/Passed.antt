@@ -20,7 +20,7 @@ use Rattle.agc_compare.specs.Common.{ComesApart, HasEnded, HasParted, HasPassed,
 use Rattle.agc_compare.specs.declared.common.Common.{Common}
 use Rattle.agc_panel.specs.Face.{panel_of}
 use Rattle.agc_trace.specs.Entry.{FitsLine}
-use Rattle.agc_compare.proofs.Kept.{keep_one}
+use Rattle.agc_shown.proofs.Kept.{keep_one}
 
 -- a run is the write that its first boundary shows, and the run from there
 run_by : (s : State) (r : State × Stepped) → r ≡ boundary None s → Falls s r → run_of s ≡ run_after (one_write (write_shown r.1)) (run_of r.0)

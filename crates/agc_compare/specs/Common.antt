@@ -5,6 +5,7 @@ use Rattle.agc_machine.specs.Run.{Run, run_of}
 use Rattle.agc_machine.specs.State.{State}
 use Rattle.agc_processor.specs.declared.channel_write.ChannelWrite.{ChannelWrite}
 use Rattle.agc_panel.specs.Face.{panel_of}
+use Rattle.agc_shown.specs.Common.{kept}
 use Rattle.agc_trace.specs.Entry.{FitsLine}
 use Rattle.agc_trace.specs.Trace.{trace_of}
 use Rattle.agc_trace.specs.declared.entry.Entry.{Entry}
@@ -23,10 +24,6 @@ entry_writes entries = flat_map (λ entry. one_write entry.write) entries
 -- a run with these writes before its own
 abbrev pub run_after : List ChannelWrite → Run → Run
 run_after writes run = record { writes = writes ++ run.writes; last = run.last }
-
--- how many of the last common boundaries are kept
-abbrev pub kept : ℕ
-kept = 5
 
 -- what is told of the entries that two runs have in common
 pub record TellsEntries (entries : List Entry) (common : Common)

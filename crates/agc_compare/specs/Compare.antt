@@ -8,7 +8,8 @@ use Rattle.agc_machine.specs.State.{State}
 use Rattle.agc_panel.specs.Face.{panel_of}
 use Rattle.agc_trace.specs.Entry.{FitsLine, FitsWrite}
 use Rattle.agc_trace.specs.declared.entry.Entry.{Entry}
-use Rattle.agc_compare.specs.Common.{kept, entry_writes}
+use Rattle.agc_shown.specs.Common.{kept}
+use Rattle.agc_compare.specs.Common.{entry_writes}
 use Rattle.agc_compare.specs.Follower.{PartAfter}
 use Rattle.agc_compare.specs.declared.comparison.Comparison.{Comparison}
 use Rattle.agc_compare.specs.declared.comparison.Parting.{Parting}

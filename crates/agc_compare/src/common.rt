@@ -1,14 +1,15 @@
 //! The boundaries that two runs have in common from their starts.
 ghost use Rattle.std.specs.Prelude.{◌≡◌, [], ◌∷◌, ◌++◌, IfOk};
 ghost use Rattle.circular_buffer.specs.Buffer.{buffer, keep_last};
-ghost use Rattle.agc_compare.specs.Common.{ComesApart, kept};
+ghost use Rattle.agc_shown.specs.Common.{kept};
+ghost use Rattle.agc_compare.specs.Common.{ComesApart};
 
-use crate::count::one_more;
 use crate::same::is_same_entry;
 use agc_machine::Machine;
 use agc_panel::Panel;
 use agc_processor::ChannelWrite;
 use agc_progress::{Progress, tell_at};
+use agc_shown::one_more;
 use agc_trace::{Entry, next_entry};
 use circular_buffer::HeapCircularBuffer;
 use std::alloc::{AllocError, Global};
@@ -94,7 +95,7 @@ impl Common {
     }
 
     /// Takes one more boundary that both runs have, with the write that it shows.
-    #[tactic(auto, using(crate::proofs::Kept::append_nothing))]
+    #[tactic(auto, using(crate::proofs::Nothing::append_nothing))]
     fn take(&mut self, write: Option<ChannelWrite>) -> Result<(), AllocError>
         ensures boundaries { OnOk result (self.new.boundaries ≡ self.old.boundaries + 1) }
         ensures writes { OnOk result

@@ -6,13 +6,12 @@ ghost use Rattle.agc_compare.specs.Common.{one_write};
 ghost use Rattle.agc_machine.specs.Run.{run_of};
 ghost use Rattle.agc_compare.specs.Follower.{IsEnd, WritesTold};
 
-use crate::count::one_more;
-use crate::next::next_write;
 use crate::same::is_same_write;
 use agc_machine::{Machine, Next, Stop};
 use agc_panel::Panel;
 use agc_processor::ChannelWrite;
 use agc_progress::{Progress, tell_at};
+use agc_shown::{next_write, one_more};
 use std::alloc::AllocError;
 
 /// The first channel write that differs. A run that has no such write any more has `None`.
@@ -97,7 +96,7 @@ impl WriteParting {
 }
 
 /// A panel once it has taken a write, where there is one.
-#[tactic(auto, using(crate::proofs::Kept::append_nothing))]
+#[tactic(auto, using(crate::proofs::Nothing::append_nothing))]
 fn panel_with(mut panel: Panel, write: Option<ChannelWrite>) -> Panel
     ensures { (taken : List ChannelWrite) → panel ≡ panel_of taken
         → result ≡ panel_of (taken ++ one_write write) }

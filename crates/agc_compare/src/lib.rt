@@ -4,17 +4,13 @@
 mod cells;
 mod common;
 mod comparison;
-mod count;
 mod follower;
-mod next;
 mod report;
 mod runs;
 mod same;
 
 pub use cells::CellPair;
 pub use comparison::{Comparison, Parting};
-pub use count::one_more;
 pub use follower::{End, WriteParting};
-pub use next::next_write;
 pub use report::{SideNames, push_comparison};
 pub use runs::compare;

@@ -6,12 +6,11 @@ use Rattle.std.proofs.lemmas.List.{length-map, map-append}
 use Rattle.std.proofs.lemmas.List.Elements.{All-append, All-cons, All-nil}
 use Rattle.circular_buffer.specs.Buffer.{Buffer, buffer, keep_last}
 use Rattle.circular_buffer.proofs.Places.{slice_get-append_right}
-use Rattle.agc_compare.specs.Common.{kept}
-use Rattle.agc_compare.proofs.Kept.{keep_one}
+use Rattle.agc_shown.proofs.Kept.{keep_one}
 use Rattle.agc_machine.specs.State.{State}
 use Rattle.agc_panel.specs.Face.{panel_of}
 use Rattle.agc_panel.specs.declared.face.Face.{Face}
-use Rattle.agc_shown.specs.Common.{FitsPair, GoTogether, apart, drift_of, lefts, rights, seen}
+use Rattle.agc_shown.specs.Common.{FitsPair, GoTogether, apart, drift_of, kept, lefts, rights, seen}
 use Rattle.agc_shown.specs.Follower.{HasShown, shown_left}
 use Rattle.agc_shown.specs.Shown.{FitsShown, Look, look_of, looks_of, shown_by}
 use Rattle.agc_shown.specs.declared.by.By.{By}

@@ -5,9 +5,8 @@ use Rattle.std.proofs.Math.Seq.{take-append_seam}
 use Rattle.std.proofs.lemmas.List.{length-map}
 use Rattle.std.proofs.lemmas.List.Elements.{All-drop}
 use Rattle.circular_buffer.specs.Buffer.{Buffer, buffer, keep_last}
-use Rattle.agc_compare.specs.Common.{kept}
 use Rattle.agc_machine.specs.State.{State}
-use Rattle.agc_shown.specs.Common.{FitsPair, GoTogether, ShownPart, drift_of, lefts, pairs_of, rights, seen}
+use Rattle.agc_shown.specs.Common.{FitsPair, GoTogether, ShownPart, drift_of, kept, lefts, pairs_of, rights, seen}
 use Rattle.agc_shown.specs.Compared.{TellsPairs, is_nowhere, pairs_told}
 use Rattle.agc_shown.specs.Shown.{Look, looks_of, shown_by}
 use Rattle.agc_shown.specs.declared.by.By.{By}

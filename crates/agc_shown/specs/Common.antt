@@ -3,7 +3,6 @@ use Rattle.std.specs.Prelude.{◌≡◌, ◌≢◌, ℕ, ◌+◌, max, List, [],
 use Rattle.std.specs.Prelude.{IfSome, slice_get}
 use Rattle.std.specs.Int.{abs_diff}
 use Rattle.circular_buffer.specs.Buffer.{Buffer, buffer, keep_last}
-use Rattle.agc_compare.specs.Common.{kept}
 use Rattle.agc_machine.specs.State.{State}
 use Rattle.agc_shown.specs.Shown.{FitsShown, Look, look_of, looks_of, shown_by}
 use Rattle.agc_shown.specs.declared.by.By.{By}
@@ -13,6 +12,10 @@ use Rattle.agc_shown.specs.declared.comparison.ShownParting.{ShownParting}
 use Rattle.agc_shown.specs.declared.meeting.Meeting.{Meeting}
 use Rattle.agc_shown.specs.declared.meeting.Meeting.TheVariants as meeting
 use Rattle.agc_shown.specs.declared.sight.Shown.{Shown}
+
+-- how many of the last pairs are kept
+abbrev pub kept : ℕ
+kept = 5
 
 -- what the run on the left shows of some pairs, and the one on the right
 abbrev pub lefts : List Pair → List Shown

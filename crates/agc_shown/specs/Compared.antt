@@ -1,8 +1,7 @@
 -- What a comparison of two runs by what shows tells.
 use Rattle.std.specs.Prelude.{◌≡◌, Bool, true, false, All, List, take, Option, Some, None}
 use Rattle.circular_buffer.specs.Buffer.{keep_last}
-use Rattle.agc_compare.specs.Common.{kept}
-use Rattle.agc_shown.specs.Common.{FitsPair, FitsParting, drift_of, pairs_of}
+use Rattle.agc_shown.specs.Common.{FitsPair, FitsParting, drift_of, kept, pairs_of}
 use Rattle.agc_shown.specs.Shown.{looks_of}
 use Rattle.agc_shown.specs.declared.comparison.Pair.{Pair}
 use Rattle.agc_shown.specs.declared.comparison.ShownComparison.{ShownComparison}

@@ -1,14 +1,13 @@
 //! What two runs show alike from their starts.
 ghost use Rattle.std.specs.Prelude.{◌≡◌, [], ◌∷◌, ◌++◌, IfOk};
 ghost use Rattle.circular_buffer.specs.Buffer.{buffer, keep_last};
-ghost use Rattle.agc_compare.specs.Common.{kept};
-ghost use Rattle.agc_shown.specs.Common.{GoTogether};
+ghost use Rattle.agc_shown.specs.Common.{GoTogether, kept};
 
 use crate::by::By;
 use crate::comparison::{Pair, ShownParting};
+use crate::count::one_more;
 use crate::follower::Follower;
 use crate::meeting::{Meeting, meeting_of};
-use agc_compare::one_more;
 use agc_machine::Machine;
 use agc_progress::Progress;
 use circular_buffer::HeapCircularBuffer;

@@ -1,7 +1,7 @@
 //! A run by what it shows, one thing after another.
 use crate::by::By;
+use crate::next::next_write;
 use crate::sight::{Shown, take_write};
-use agc_compare::next_write;
 use agc_machine::{Machine, Next};
 use agc_panel::Panel;
 use agc_progress::{Progress, tell_at};

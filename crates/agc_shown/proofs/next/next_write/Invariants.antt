@@ -1,6 +1,6 @@
 use Rattle.std.proofs.Common.{◌≡◌}
 use Rattle.agc_machine.specs.Run.{boundaries_left, next_of}
-use Rattle.agc_compare.proofs.next.next_write.Given as goal
+use Rattle.agc_shown.proofs.next.next_write.Given as goal
 
 -- the write that is sought is still the next one
 abbrev pub invariant-loop-write : goal.invariant-loop-write

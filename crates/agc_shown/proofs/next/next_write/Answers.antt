@@ -1,6 +1,6 @@
 use Rattle.std.proofs.Common.{◌∙◌}
 use Rattle.agc_machine.proofs.Before.{fewer_after_way, next_after_way, next_at_way_stop, next_at_way_write}
-use Rattle.agc_compare.proofs.next.next_write.Goals as goal
+use Rattle.agc_shown.proofs.next.next_write.Goals as goal
 
 pub returns-in-Wrote : goal.returns-in-Wrote
 returns-in-Wrote g c = record { next = next_at_way_write _ _ _ _ c.in-Wrote.ensures.next ∙ c.loop-write.invariant; channel = c.in-Wrote.ensures.channel }
