@@ -89,7 +89,7 @@ agree_line naming state line lines n said (Ok None) listed is rest =
     ∙ sym (ap as_source (next_said n said line lines None (next_of said line (Ok None) is)))
 agree_line naming state line lines n said (Ok (Some word)) listed is rest = agree_word naming state line lines n said word (is_named word.place said) listed is refl rest
 
-agree_on : (naming : Naming) (state : State) (lines : List (List ℕ)) → list_all (λ line. are_listed (said_by line)) lines ≡ true → AgreeOn naming state lines
+pub agree_on : (naming : Naming) (state : State) (lines : List (List ℕ)) → list_all (λ line. are_listed (said_by line)) lines ≡ true → AgreeOn naming state lines
 unfolding words_from said_from
 agree_on naming state [] h n said = refl
 agree_on naming state (line ∷ lines) h n said =

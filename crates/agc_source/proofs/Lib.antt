@@ -10,3 +10,15 @@ mod Places
 mod Within
 mod LabelWords
 mod ToldNames
+mod OwnWords
+mod Stepped
+mod FileHolds
+mod Held
+mod Fits
+mod Along
+mod OrderShown
+mod OrdersShown
+mod LinesShown
+mod SourceOrders
+mod FaultsStay
+mod FirstFaults

@@ -7,3 +7,5 @@ pub mod NameLines
 pub mod Misnamed
 pub mod Unwoven
 pub mod Laws
+pub mod OrderLines
+pub mod FirstFault

@@ -1,0 +1,76 @@
+-- A way through a source tells the fault of its first faulty line, whatever lines come after it.
+use Rattle.std.specs.Prelude.{◌≡◌, ℕ, zero, suc, ◌+◌, List, [], ◌∷◌, take, Result, Ok, Err}
+use Rattle.std.proofs.Common.{refl, sym, ◌∙◌}
+use Rattle.agc_rope_listing.specs.declared.line.Named.{Named}
+use Rattle.agc_source.specs.Source.{both_said, line_labelled, line_woven, names_from, naming_after, words_from}
+use Rattle.agc_source.specs.declared.cursor.Cursor.{Cursor}
+use Rattle.agc_source.specs.declared.labels.Labelled.{Labelled}
+use Rattle.agc_source.specs.declared.steps.State.{State}
+use Rattle.agc_source.specs.declared.steps.Step.{Step}
+use Rattle.agc_source_words.specs.Name.{Naming}
+use Rattle.agc_source_words.specs.Text.{label_of}
+use Rattle.agc_source_words.specs.declared.fault.SourceFault.{SourceFault}
+use Rattle.agc_source_words.specs.declared.fault.SourceTrouble.{SourceTrouble}
+use Rattle.agc_source_words.specs.declared.fault.SourceTrouble.TheVariants as trouble
+use Rattle.agc_source.proofs.Ways.{next_named, next_woven}
+
+-- a faulty line before others
+pub faulty_name : (n : ℕ) (naming : Naming) (cursor : Cursor) (line : List ℕ) (why : SourceFault) → line_labelled naming cursor line ≡ Err why
+    → (lines : List (List ℕ)) → names_from n naming cursor (line ∷ lines) ≡ Err (trouble.Line n why)
+unfolding names_from
+faulty_name n naming cursor line why e lines = rw (e, names_from) refl
+
+pub faulty_line : (n : ℕ) (naming : Naming) (state : State) (said : List Named) (line : List ℕ) (why : SourceFault) → line_woven naming state line ≡ Err why
+    → (lines : List (List ℕ)) → words_from n naming state said (line ∷ lines) ≡ Err (trouble.Line n why)
+unfolding words_from
+faulty_line n naming state said line why e lines = rw (e, words_from) refl
+
+pub wrong_word : (n : ℕ) (naming : Naming) (state : State) (said : List Named) (line : List ℕ) (step : Step) (why : SourceFault) → line_woven naming state line ≡ Ok step
+    → both_said said step.first step.second ≡ Err why → (lines : List (List ℕ)) → words_from n naming state said (line ∷ lines) ≡ Err (trouble.Line n why)
+unfolding words_from
+wrong_word n naming state said line step why e f lines = rw (e, words_from) (rw f refl)
+
+-- a fault of the first lines is one of all of them
+abbrev NamesStay : List (List ℕ) → Type 0
+NamesStay lines = (upto n : ℕ) (naming : Naming) (cursor : Cursor) (why : SourceTrouble) → names_from n naming cursor (take upto lines) ≡ Err why → names_from n naming cursor lines ≡ Err why
+
+names_stay_by : (upto n : ℕ) (naming : Naming) (cursor : Cursor) (why : SourceTrouble) (line : List ℕ) (lines : List (List ℕ)) (next : Result Labelled SourceFault) → line_labelled naming cursor line ≡ next
+    → NamesStay lines → names_from n naming cursor (line ∷ take upto lines) ≡ Err why → names_from n naming cursor (line ∷ lines) ≡ Err why
+names_stay_by upto n naming cursor why line lines (Err mine) e rest is =
+    faulty_name n naming cursor line mine e lines ∙ sym (faulty_name n naming cursor line mine e (take upto lines)) ∙ is
+names_stay_by upto n naming cursor why line lines (Ok next) e rest is =
+    next_named n naming cursor line lines next e
+    ∙ rest upto (n + 1) (naming_after naming (label_of line) next.place) next.cursor why (sym (next_named n naming cursor line (take upto lines) next e) ∙ is)
+
+pub names_stay : (lines : List (List ℕ)) → NamesStay lines
+unfolding names_from
+names_stay [] zero n naming cursor why is = is
+names_stay [] (suc upto) n naming cursor why is = is
+names_stay (line ∷ lines) zero n naming cursor why is = absurd cc
+names_stay (line ∷ lines) (suc upto) n naming cursor why is = names_stay_by upto n naming cursor why line lines (line_labelled naming cursor line) refl (names_stay lines) is
+
+abbrev WordsStay : Naming → List (List ℕ) → Type 0
+WordsStay naming lines = (upto n : ℕ) (state : State) (said : List Named) (why : SourceTrouble) → words_from n naming state said (take upto lines) ≡ Err why → words_from n naming state said lines ≡ Err why
+
+words_stay_both : (upto n : ℕ) (naming : Naming) (state : State) (said : List Named) (why : SourceTrouble) (line : List ℕ) (lines : List (List ℕ)) (step : Step) (both : Result (List Named) SourceFault)
+    → line_woven naming state line ≡ Ok step → both_said said step.first step.second ≡ both → WordsStay naming lines
+    → words_from n naming state said (line ∷ take upto lines) ≡ Err why → words_from n naming state said (line ∷ lines) ≡ Err why
+words_stay_both upto n naming state said why line lines step (Err mine) e f rest is =
+    wrong_word n naming state said line step mine e f lines ∙ sym (wrong_word n naming state said line step mine e f (take upto lines)) ∙ is
+words_stay_both upto n naming state said why line lines step (Ok more) e f rest is =
+    next_woven n naming state said more line lines step e f
+    ∙ rest upto (n + 1) step.state more why (sym (next_woven n naming state said more line (take upto lines) step e f) ∙ is)
+
+words_stay_by : (upto n : ℕ) (naming : Naming) (state : State) (said : List Named) (why : SourceTrouble) (line : List ℕ) (lines : List (List ℕ)) (woven : Result Step SourceFault) → line_woven naming state line ≡ woven
+    → WordsStay naming lines → words_from n naming state said (line ∷ take upto lines) ≡ Err why → words_from n naming state said (line ∷ lines) ≡ Err why
+words_stay_by upto n naming state said why line lines (Err mine) e rest is =
+    faulty_line n naming state said line mine e lines ∙ sym (faulty_line n naming state said line mine e (take upto lines)) ∙ is
+words_stay_by upto n naming state said why line lines (Ok step) e rest is =
+    words_stay_both upto n naming state said why line lines step (both_said said step.first step.second) e refl rest is
+
+pub words_stay : (naming : Naming) (lines : List (List ℕ)) → WordsStay naming lines
+unfolding words_from
+words_stay naming [] zero n state said why is = is
+words_stay naming [] (suc upto) n state said why is = is
+words_stay naming (line ∷ lines) zero n state said why is = absurd cc
+words_stay naming (line ∷ lines) (suc upto) n state said why is = words_stay_by upto n naming state said why line lines (line_woven naming state line) refl (words_stay naming lines) is

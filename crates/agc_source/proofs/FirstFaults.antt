@@ -1,0 +1,159 @@
+-- The fault that a way through a source tells is the first on it.
+use Rattle.std.specs.Prelude.{◌≡◌, ℕ, suc, ◌+◌, ◌-◌, ◌<◌, true, false, List, [], ◌∷◌, length, take, Result, Ok, Err, IsOk}
+use Rattle.std.proofs.Common.{refl, ap, sym, ◌∙◌, arith, inl, inr}
+use Rattle.agc_script.specs.Text.{lines_of}
+use Rattle.agc_rope_listing.specs.Weave.{said_in}
+use Rattle.agc_rope_listing.specs.declared.line.Named.{Named}
+use Rattle.agc_source.specs.Cursor.{first_cursor}
+use Rattle.agc_source.specs.FirstFault.{IsFirstFault, IsFirstOn, Way, names_way, words_way}
+use Rattle.agc_source.specs.Source.{as_source, both_said, first_state, is_listing, line_labelled, line_woven, names_from, names_in, naming_after, source_in, words_after_names, words_from, words_in}
+use Rattle.agc_source.specs.declared.cursor.Cursor.{Cursor}
+use Rattle.agc_source.specs.declared.labels.Labelled.{Labelled}
+use Rattle.agc_source.specs.declared.steps.State.{State}
+use Rattle.agc_source.specs.declared.steps.Step.{Step}
+use Rattle.agc_source_words.specs.Name.{Naming, own_names}
+use Rattle.agc_source_words.specs.Text.{label_of}
+use Rattle.agc_source_words.specs.declared.fault.SourceFault.{SourceFault}
+use Rattle.agc_source_words.specs.declared.fault.SourceTrouble.{SourceTrouble}
+use Rattle.agc_source_words.specs.declared.fault.SourceTrouble.TheVariants as trouble
+use Rattle.agc_source.proofs.Back.{agree_on}
+use Rattle.agc_source.proofs.FaultsStay.{faulty_line, faulty_name, names_stay, words_stay, wrong_word}
+use Rattle.agc_source.proofs.Ways.{next_named, next_woven}
+
+-- the lines of a way before a fault, of which the first has the number n
+record Cut {A : Type 0} (way : List (List ℕ) → Result A SourceTrouble) (n : ℕ) (lines : List (List ℕ)) (at : ℕ) (why : SourceFault) : Type 0 where
+  before : ℕ
+  number : at ≡ n + before
+  inside : before < length lines
+  plain : IsOk (way (take before lines))
+  faulty : way (take (suc before) lines) ≡ Err (trouble.Line at why)
+
+-- a fault of the first line
+cut_here : {A : Type 0} (way : List (List ℕ) → Result A SourceTrouble) (n : ℕ) (line : List ℕ) (lines : List (List ℕ)) (at : ℕ) (why mine : SourceFault) → IsOk (way [])
+    → ((others : List (List ℕ)) → way (line ∷ others) ≡ Err (trouble.Line n mine)) → way (line ∷ lines) ≡ Err (trouble.Line at why) → Cut way n (line ∷ lines) at why
+cut_here way n line lines at why mine none faulty is =
+    let told : Err (trouble.Line at why) ≡ Err (trouble.Line n mine) = sym is ∙ faulty lines in
+    let number : at ≡ n = cc in
+    let same : mine ≡ why = cc in
+    record {
+      before = 0;
+      number = omega arith;
+      inside = omega arith;
+      plain = none;
+      faulty = faulty [] ∙ sym told;
+    }
+
+-- a fault of a later one
+cut_later : {A : Type 0} (way rest : List (List ℕ) → Result A SourceTrouble) (n : ℕ) (line : List ℕ) (lines : List (List ℕ)) (at : ℕ) (why : SourceFault)
+    → ((others : List (List ℕ)) → way (line ∷ others) ≡ rest others) → Cut rest (n + 1) lines at why → Cut way n (line ∷ lines) at why
+cut_later way rest n line lines at why goes c =
+    record {
+      before = suc c.before;
+      number = omega (arith, c.number);
+      inside = omega (arith, c.inside);
+      plain = rw (goes (take c.before lines)) c.plain;
+      faulty = goes (take (suc c.before) lines) ∙ c.faulty;
+    }
+
+-- the way of the names
+no_names : (n : ℕ) (naming : Naming) (cursor : Cursor) → IsOk (names_from n naming cursor [])
+unfolding names_from
+no_names n naming cursor = refl
+
+abbrev NamesCut : List (List ℕ) → ℕ → SourceFault → Type 0
+NamesCut lines at why = (n : ℕ) (naming : Naming) (cursor : Cursor) → names_from n naming cursor lines ≡ Err (trouble.Line at why) → Cut (names_from n naming cursor) n lines at why
+
+names_by : (at : ℕ) (why : SourceFault) (n : ℕ) (naming : Naming) (cursor : Cursor) (line : List ℕ) (lines : List (List ℕ)) (next : Result Labelled SourceFault) → line_labelled naming cursor line ≡ next
+    → NamesCut lines at why → names_from n naming cursor (line ∷ lines) ≡ Err (trouble.Line at why) → Cut (names_from n naming cursor) n (line ∷ lines) at why
+names_by at why n naming cursor line lines (Err mine) e rest is =
+    cut_here (names_from n naming cursor) n line lines at why mine (no_names n naming cursor) (faulty_name n naming cursor line mine e) is
+names_by at why n naming cursor line lines (Ok next) e rest is =
+    let later = naming_after naming (label_of line) next.place in
+    let goes : (others : List (List ℕ)) → names_from n naming cursor (line ∷ others) ≡ names_from (n + 1) later next.cursor others
+    = λ others. next_named n naming cursor line others next e in
+    cut_later (names_from n naming cursor) (names_from (n + 1) later next.cursor) n line lines at why goes
+    (rest (n + 1) later next.cursor (sym (goes lines) ∙ is))
+
+names_cut : (lines : List (List ℕ)) (at : ℕ) (why : SourceFault) → NamesCut lines at why
+unfolding names_from
+names_cut [] at why n naming cursor is = absurd cc
+names_cut (line ∷ lines) at why n naming cursor is = names_by at why n naming cursor line lines (line_labelled naming cursor line) refl (names_cut lines at why) is
+
+-- the way of the words
+no_words : (n : ℕ) (naming : Naming) (state : State) (said : List Named) → IsOk (words_from n naming state said [])
+unfolding words_from
+no_words n naming state said = refl
+
+abbrev WordsCut : Naming → List (List ℕ) → ℕ → SourceFault → Type 0
+WordsCut naming lines at why = (n : ℕ) (state : State) (said : List Named) → words_from n naming state said lines ≡ Err (trouble.Line at why) → Cut (words_from n naming state said) n lines at why
+
+words_both : (at : ℕ) (why : SourceFault) (n : ℕ) (naming : Naming) (state : State) (said : List Named) (line : List ℕ) (lines : List (List ℕ)) (step : Step) (both : Result (List Named) SourceFault)
+    → line_woven naming state line ≡ Ok step → both_said said step.first step.second ≡ both → WordsCut naming lines at why
+    → words_from n naming state said (line ∷ lines) ≡ Err (trouble.Line at why) → Cut (words_from n naming state said) n (line ∷ lines) at why
+words_both at why n naming state said line lines step (Err mine) e f rest is =
+    cut_here (words_from n naming state said) n line lines at why mine (no_words n naming state said) (wrong_word n naming state said line step mine e f) is
+words_both at why n naming state said line lines step (Ok more) e f rest is =
+    let goes : (others : List (List ℕ)) → words_from n naming state said (line ∷ others) ≡ words_from (n + 1) naming step.state more others
+    = λ others. next_woven n naming state said more line others step e f in
+    cut_later (words_from n naming state said) (words_from (n + 1) naming step.state more) n line lines at why goes
+    (rest (n + 1) step.state more (sym (goes lines) ∙ is))
+
+words_by : (at : ℕ) (why : SourceFault) (n : ℕ) (naming : Naming) (state : State) (said : List Named) (line : List ℕ) (lines : List (List ℕ)) (woven : Result Step SourceFault) → line_woven naming state line ≡ woven
+    → WordsCut naming lines at why → words_from n naming state said (line ∷ lines) ≡ Err (trouble.Line at why) → Cut (words_from n naming state said) n (line ∷ lines) at why
+words_by at why n naming state said line lines (Err mine) e rest is =
+    cut_here (words_from n naming state said) n line lines at why mine (no_words n naming state said) (faulty_line n naming state said line mine e) is
+words_by at why n naming state said line lines (Ok step) e rest is =
+    words_both at why n naming state said line lines step (both_said said step.first step.second) e refl rest is
+
+words_cut : (naming : Naming) (lines : List (List ℕ)) (at : ℕ) (why : SourceFault) → WordsCut naming lines at why
+unfolding words_from
+words_cut naming [] at why n state said is = absurd cc
+words_cut naming (line ∷ lines) at why n state said is = words_by at why n naming state said line lines (line_woven naming state line) refl (words_cut naming lines at why) is
+
+-- with the first line's number 1
+from_one : {A : Type 0} (way : Way A) (lines : List (List ℕ)) (at : ℕ) (why : SourceFault) → Cut way 1 lines at why → IsFirstOn way lines at why
+from_one way lines at why c =
+    let before : at - 1 ≡ c.before = omega (arith, c.number) in
+    let upto : at ≡ suc c.before = omega (arith, c.number) in
+    record {
+      first = omega (arith, c.number);
+      last = omega (arith, c.number, c.inside);
+      before = rw before c.plain;
+      here = ap (λ (n : ℕ). way (take n lines)) upto ∙ c.faulty;
+    }
+
+names_first : (text : List ℕ) (n : ℕ) (why : SourceFault) → names_in text ≡ Err (trouble.Line n why) → IsFirstOn names_way (lines_of text) n why
+unfolding names_in
+names_first text n why is = from_one names_way (lines_of text) n why (names_cut (lines_of text) n why 1 own_names first_cursor is)
+
+words_first : (naming : Naming) (text : List ℕ) (n : ℕ) (why : SourceFault) → words_in naming text ≡ Err (trouble.Line n why) → IsFirstOn (words_way naming) (lines_of text) n why
+unfolding words_in
+words_first naming text n why is = from_one (words_way naming) (lines_of text) n why (words_cut naming (lines_of text) n why 1 first_state [] is)
+
+either_by : (text : List ℕ) (n : ℕ) (why : SourceFault) (names : Result Naming SourceTrouble) → names_in text ≡ names → words_after_names text names ≡ Err (trouble.Line n why) → IsFirstFault text n why
+either_by text n why (Err told) e is =
+    let same : told ≡ trouble.Line n why = cc in
+    inl (names_first text n why (rw same at e))
+either_by text n why (Ok naming) e is = inr (naming, e, words_first naming text n why is)
+
+-- the clauses of the law
+pub source_first : (text : List ℕ) (n : ℕ) (why : SourceFault) → is_listing text ≡ false → source_in text ≡ Err (trouble.Line n why) → IsFirstFault text n why
+unfolding source_in
+source_first text n why listing is =
+    let way : words_after_names text (names_in text) ≡ Err (trouble.Line n why) = rw listing at is in
+    either_by text n why (names_in text) refl way
+
+pub listing_first : (text : List ℕ) (n : ℕ) (why : SourceFault) → is_listing text ≡ true → source_in text ≡ Err (trouble.Line n why) → IsFirstOn (words_way own_names) (lines_of text) n why
+unfolding source_in is_listing words_in said_in
+listing_first text n why listing is =
+    let told : as_source (said_in text) ≡ Err (trouble.Line n why) = rw listing at is in
+    words_first own_names text n why (agree_on own_names first_state (lines_of text) listing 1 [] ∙ told)
+
+pub first_told : (text : List ℕ) (n : ℕ) (why : SourceFault) → is_listing text ≡ false → IsFirstFault text n why → source_in text ≡ Err (trouble.Line n why)
+unfolding source_in names_in words_in
+first_told text n why listing (inl first) =
+    let names : names_in text ≡ Err (trouble.Line n why) = names_stay (lines_of text) n 1 own_names first_cursor (trouble.Line n why) first.here in
+    rw (listing, names) refl
+first_told text n why listing (inr second) =
+    let words : words_in second.0 text ≡ Err (trouble.Line n why) = words_stay second.0 (lines_of text) n 1 first_state [] (trouble.Line n why) second.2.here in
+    rw (listing, second.1) words
