@@ -1,9 +1,7 @@
 -- What the matches of the command line give.
 use Rattle.std.proofs.Common.{◌≡◌, ◌∙◌, ◌⊎◌, Bool, List, [], true, false, refl, sym, ap, ap₂, subst, inl, inr, codes}
 use Rattle.std.specs.Prelude.{Option, None, Some, fold}
-use Rattle.clap.specs.Words.{AddsArg, App, HasMatchesOf, IsAmong, Row, Rule, Text, app_of, fault_of, found_of, is_simple, is_simple_and_free, new_app, one_of, one_text, rows_of, rule_of, with_rule}
-use Rattle.clap.specs.declared.builder.arg.Arg.{Arg}
-use Rattle.clap.specs.declared.builder.command.Command.{Command}
+use Rattle.clap.specs.Words.{App, HasMatchesOf, IsAmong, Row, Rule, Text, fault_of, found_of, is_simple, is_simple_and_free, new_app, one_of, one_text, rows_of, with_rule}
 use Rattle.clap.specs.declared.error.kind.ErrorKind.{ErrorKind}
 use Rattle.clap.specs.declared.error.kind.ErrorKind.TheVariants.{DisplayHelp, OutOfMemory}
 use Rattle.clap.specs.declared.parser.matches.ArgMatches.{ArgMatches}
@@ -40,9 +38,8 @@ flag_in_rows found id set none is_set is_unset = go (one_of id (rows_of found)) 
     )
 
 -- a command with one more parameter
-pub with_parameter : (old new : Command) (parameter : Arg) (app : App) (rule : Rule) → AddsArg old parameter new → parameter.global ≡ false
-    → app_of old ≡ app → rule_of parameter ≡ rule → app_of new ≡ with_rule app rule
-with_parameter old new parameter app rule added local at is = added.shape local ∙ ap₂ with_rule at is
+pub with_parameter : (old new at : App) (is rule : Rule) → new ≡ with_rule old is → old ≡ at → is ≡ rule → new ≡ with_rule at rule
+with_parameter old new at is rule added e f = added ∙ ap₂ with_rule e f
 
 -- the command with all of its parameters
 pub whole_command : (start run display layout whole : App) → start ≡ new_app (codes "agc") → run ≡ fold with_rule start run_parameters

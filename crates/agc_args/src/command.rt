@@ -6,7 +6,7 @@ ghost use Rattle.agc_command_line.specs.Parameters.{value_option};
 ghost use Rattle.agc_args.specs.Args.{IsCommandLine, display_parameters, live_parameters};
 ghost use Rattle.agc_args.specs.Args.{layout_parameters, run_parameters};
 
-use agc_command_line::{form_option, limit_option, rope_file, script_file};
+use agc_command_line::{form_option, limit_option, rope_file, script_file, with_parameter};
 use clap::{Arg, ArgAction, Command, value_parser};
 use std::alloc::{AllocError, Global};
 
@@ -27,20 +27,18 @@ pub(crate) fn command<'a>(alloc: Global) -> Result<Command<'a>, AllocError>
 fn with_run<'a>(alloc: Global, command: Command<'a>) -> Result<Command<'a>, AllocError>
     ensures { IfOk result (λ new. app_of new ≡ fold with_rule (app_of command.entry) run_parameters) }
 {
-    command
-        .arg(rope_file(alloc))?
-        .arg(script_file(alloc))?
-        .arg(limit_option(alloc))
+    let command = with_parameter(command, rope_file(alloc))?;
+    let command = with_parameter(command, script_file(alloc))?;
+    with_parameter(command, limit_option(alloc))
 }
 
 /// The command with what is printed of a run, and over how many slots.
 fn with_display<'a>(alloc: Global, command: Command<'a>) -> Result<Command<'a>, AllocError>
     ensures { IfOk result (λ new. app_of new ≡ fold with_rule (app_of command.entry) display_parameters) }
 {
-    command
-        .arg(slots_option(alloc))?
-        .arg(watch_option(alloc))?
-        .arg(log_option(alloc))
+    let command = with_parameter(command, slots_option(alloc))?;
+    let command = with_parameter(command, watch_option(alloc))?;
+    with_parameter(command, log_option(alloc))
 }
 
 /// The command with the layout of the rope, and the order before which a run stops.
@@ -48,14 +46,16 @@ fn with_layout<'a>(alloc: Global, command: Command<'a>) -> Result<Command<'a>, A
     ensures { IfOk result (λ new. (form : Rule) × IsFormOption form
         × (app_of new ≡ fold with_rule (app_of command.entry) (layout_parameters form))) }
 {
-    command.arg(form_option(alloc))?.arg(until_option(alloc))
+    let command = with_parameter(command, form_option(alloc))?;
+    with_parameter(command, until_option(alloc))
 }
 
 /// The command with the live keys.
 fn with_live<'a>(alloc: Global, command: Command<'a>) -> Result<Command<'a>, AllocError>
     ensures { IfOk result (λ new. app_of new ≡ fold with_rule (app_of command.entry) live_parameters) }
 {
-    command.arg(live_option(alloc))?.arg(spacing_option(alloc))
+    let command = with_parameter(command, live_option(alloc))?;
+    with_parameter(command, spacing_option(alloc))
 }
 
 fn slots_option<'a>(alloc: Global) -> Arg<'a>

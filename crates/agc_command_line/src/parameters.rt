@@ -1,12 +1,24 @@
 //! The files and the options that the programs' command lines share.
-ghost use Rattle.std.specs.Prelude.{◌≡◌, true, false, codes};
-ghost use Rattle.clap.specs.Words.{rule_of};
+ghost use Rattle.std.specs.Prelude.{◌≡◌, true, false, IfOk, codes};
+ghost use Rattle.clap.specs.Words.{app_of, rule_of, with_rule};
 ghost use Rattle.agc_command_line.specs.Parameters.{IsFormOption, file_parameter, number_option};
 
-use clap::{Arg, value_parser};
-use std::alloc::Global;
+use clap::{Arg, Command, value_parser};
+use std::alloc::{AllocError, Global};
 
 static FORMS: [&str; 2] = ["classic", "parity"];
+
+/// The command with one more parameter. Its one clause is all that callers want: what clap says of a command is long, and
+/// the prover carries it along from each parameter to the next.
+pub fn with_parameter<'a>(
+    command: Command<'a>,
+    parameter: Arg<'a>,
+) -> Result<Command<'a>, AllocError>
+    ensures { IfOk result (λ new. parameter.entry.global ≡ false
+        → app_of new ≡ with_rule (app_of command.entry) (rule_of parameter.entry)) }
+{
+    command.arg(parameter)
+}
 
 /// The word that names the rope file.
 pub fn rope_file<'a>(alloc: Global) -> Arg<'a>
