@@ -1,5 +1,5 @@
 //! The words of the command line: what the console is asked for.
-use agc_command_line::{script_file, text_of};
+use agc_command_line::{script_file, text_of, with_parameter};
 use agc_front::{Asked, Start, names_option, start_in, with_start};
 use clap::{ArgMatches, Command};
 use std::alloc::{AllocError, Global};
@@ -19,7 +19,8 @@ impl Asked for Console {
         let command = Command::new(alloc, "agc-console").about(
             "Runs a rope on an emulated Block II computer by commands: a line each on standard input, answered before the next is read. The command help lists them. The script may be /dev/null.",
         );
-        with_start(alloc, command, script_file(alloc))?.arg(names_option(alloc))
+        let command = with_start(alloc, command, script_file(alloc))?;
+        with_parameter(command, names_option(alloc))
     }
 
     fn asked_in(alloc: Global, matches: &ArgMatches<'_>) -> Result<Console, AllocError> {

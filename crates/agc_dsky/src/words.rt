@@ -1,5 +1,5 @@
 //! The words of the command line: what is sat before.
-use agc_command_line::{script_file, text_of};
+use agc_command_line::{script_file, text_of, with_parameter};
 use agc_front::{Asked, Start, start_in, with_start};
 use agc_seat::Speed;
 use clap::{Arg, ArgAction, ArgMatches, Command};
@@ -26,11 +26,11 @@ impl Asked for Dsky {
         let command = Command::new(alloc, "agc-dsky").about(
             "Sits before the DSKY of an emulated Block II computer that runs a rope: shows it on this terminal, and presses its keys as they are typed.",
         );
-        with_start(alloc, command, script_file(alloc).required(false))?
-            .arg(speed_option(alloc))?
-            .arg(save_option(alloc))?
-            .arg(watch_option(alloc))?
-            .arg(force_option(alloc))
+        let command = with_start(alloc, command, script_file(alloc).required(false))?;
+        let command = with_parameter(command, speed_option(alloc))?;
+        let command = with_parameter(command, save_option(alloc))?;
+        let command = with_parameter(command, watch_option(alloc))?;
+        with_parameter(command, force_option(alloc))
     }
 
     fn asked_in(alloc: Global, matches: &ArgMatches<'_>) -> Result<Dsky, AllocError> {

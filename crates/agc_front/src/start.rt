@@ -1,7 +1,9 @@
 //! What a sitting begins with: its files and its limit.
 ghost use Rattle.std.specs.Prelude.{◌≡◌, IfErr};
 
-use agc_command_line::{form_of, form_option, number_of, path_of, rope_file, text_of};
+use agc_command_line::{
+    form_of, form_option, number_of, path_of, rope_file, text_of, with_parameter,
+};
 use agc_script::Script;
 use agc_setup::{InputFile, Refusal, read_rope, read_script};
 use agc_sitting::{BeginFault, Sitting};
@@ -30,11 +32,10 @@ pub fn with_start<'a>(
     command: Command<'a>,
     script: Arg<'a>,
 ) -> Result<Command<'a>, AllocError> {
-    command
-        .arg(rope_file(alloc))?
-        .arg(script)?
-        .arg(limit_option(alloc))?
-        .arg(form_option(alloc))
+    let command = with_parameter(command, rope_file(alloc))?;
+    let command = with_parameter(command, script)?;
+    let command = with_parameter(command, limit_option(alloc))?;
+    with_parameter(command, form_option(alloc))
 }
 
 /// The limit of a sitting: the last cycle of all where none is named.
