@@ -9,3 +9,4 @@ pub mod Selection
 pub mod Service
 pub mod Cut
 pub mod TraceLaws
+pub mod Passing

@@ -10,6 +10,7 @@ ghost use Rattle.agc_trace.specs.Watch.{FitsWatched};
 
 use crate::change::{Change, next_watched, see_named};
 use crate::entry::Entry;
+use crate::passing::pass_unasked;
 use crate::selection::Selection;
 use crate::service::{Service, service_after};
 use crate::tracing::{TraceFault, write_line};
@@ -87,6 +88,7 @@ fn keep_last<P: Progress>(
         }
         service = service_after(selection, service, &entry);
         mark = tell_at(mark, entry.cycle, progress);
+        service = pass_unasked(machine, selection, service, &mut mark, progress);
     }
     Ok(None)
 }

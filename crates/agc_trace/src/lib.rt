@@ -7,6 +7,7 @@ mod last;
 pub mod laws;
 mod line;
 mod named_line;
+mod passing;
 mod selection;
 mod service;
 mod touched;

@@ -56,6 +56,7 @@ pub struct Selection {
 
 impl Selection {
     ghost use Rattle.std.specs.Prelude.{◌≡◌};
+    ghost use Rattle.agc_trace.specs.Passing.{is_met_by};
     ghost use Rattle.agc_trace.specs.Selection.{is_answer, is_selected};
 
     /// The boundary of an entry, which has changed these of the cells that are named, has a line.
@@ -67,6 +68,16 @@ impl Selection {
         self.from <= entry.cycle
             && entry.cycle <= self.to
             && (entry.is_stop() || self.is_answer(entry, changes))
+    }
+
+    /// What happens answers the questions of places, of mnemonics and of channels.
+    #[inline]
+    pub(crate) fn is_met_by(&self, happening: &Upcoming) -> bool
+        ensures { result ≡ is_met_by self.now happening.now }
+    {
+        runs_at_one(self.places.as_slice(), *happening)
+            && is_called_one(self.orders.as_slice(), *happening)
+            && touches_one(self.channels.as_slice(), *happening)
     }
 
     /// The boundary answers every question.

@@ -1,5 +1,5 @@
 //! The service of an interrupt that goes on where a run stops.
-ghost use Rattle.std.specs.Prelude.{◌≡◌};
+ghost use Rattle.std.specs.Prelude.{◌≡◌, if◌then◌else◌, nat_le};
 ghost use Rattle.agc_trace.specs.Service.{served, service_after};
 
 use crate::entry::Entry;
@@ -24,8 +24,22 @@ pub fn service_after(
 ) -> Option<Service>
     ensures { result ≡ service_after selection.now before entry.now }
 {
-    if selection.from <= entry.cycle {
-        served(entry.cycle, entry.happening, before)
+    service_past(selection, before, entry.cycle, &entry.happening)
+}
+
+/// The same by the cycle of the boundary and what happened.
+#[inline]
+pub(crate) fn service_past(
+    selection: &Selection,
+    before: Option<Service>,
+    cycle: u64,
+    happening: &Upcoming,
+) -> Option<Service>
+    ensures { result
+        ≡ (if nat_le selection.now.from cycle then served cycle happening.now before else before) }
+{
+    if selection.from <= cycle {
+        served(cycle, *happening, before)
     } else {
         before
     }

@@ -12,6 +12,7 @@ use crate::change::{Change, next_watched, see_named};
 use crate::entry::Entry;
 use crate::last::write_last;
 use crate::named_line::push_watched_line;
+use crate::passing::pass_unasked;
 use crate::selection::Selection;
 use crate::service::{Service, service_after};
 use agc_machine::{Machine, Stepped};
@@ -109,6 +110,7 @@ fn write_lines<W: Write, P: Progress>(
         }
         service = service_after(selection, service, &entry);
         mark = tell_at(mark, entry.cycle, progress);
+        service = pass_unasked(machine, selection, service, &mut mark, progress);
     }
     Ok(None)
 }
