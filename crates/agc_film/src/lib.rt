@@ -2,7 +2,6 @@
 //! and the page that shows one run or two of them side by side.
 #![tactic(auto)]
 
-mod alike;
 mod frame;
 pub mod laws;
 mod packing;

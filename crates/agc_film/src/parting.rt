@@ -2,8 +2,8 @@
 ghost use Rattle.std.specs.Prelude.{◌≡◌, IfOk};
 ghost use Rattle.agc_film.specs.Parting.{first_difference, is_same_frame};
 
-use crate::alike::show_alike;
 use crate::frame::Frame;
+use agc_panel::show_alike;
 use std::alloc::{AllocError, Global};
 
 /// The cycle at which two films first show different panels; `None` where they never do. Fails where

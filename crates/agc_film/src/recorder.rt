@@ -1,9 +1,8 @@
 //! The frames of a run while it goes on.
 ghost use Rattle.std.specs.Prelude.{◌≡◌, IfOk, OnOk};
 
-use crate::alike::show_alike;
 use crate::frame::Frame;
-use agc_panel::Panel;
+use agc_panel::{Panel, show_alike};
 use agc_processor::ChannelWrite;
 use std::alloc::{AllocError, Global};
 

@@ -1,6 +1,7 @@
 //! The panel of the keyboard unit, made from channel writes: what a reader of the machine sees.
 #![tactic(auto)]
 
+mod alike;
 mod digit;
 mod face;
 mod lamp;
@@ -9,6 +10,7 @@ mod panel;
 mod relay_word;
 mod text;
 
+pub use alike::show_alike;
 pub use digit::Digit;
 pub use face::{Face, Pair, Register};
 pub use lamp::{Lamp, Lamps};

@@ -1,12 +1,11 @@
 //! What shows of a run at one of its channel writes.
 ghost use Rattle.std.specs.Prelude.{◌≡◌, ◌↔◌, [], ◌∷◌, IfOk, IsTrue};
-ghost use Rattle.std.specs.Str.{bytes_eq};
 ghost use Rattle.agc_panel.specs.Face.{face_after};
 ghost use Rattle.agc_panel.specs.Text.{panel_text};
 ghost use Rattle.agc_shown.specs.Shown.{InPrint, OnChannel, changed_panel, look_of, shown_at, word_of};
 
 use crate::by::By;
-use agc_panel::Panel;
+use agc_panel::{Panel, show_alike};
 use agc_processor::ChannelWrite;
 use agc_word::Narrow;
 use std::alloc::{AllocError, Global};
@@ -82,16 +81,6 @@ fn changed_panel(
         cycle,
         sight: Sight::Panel(*after),
     }))
-}
-
-/// Two panels show the same: their texts are the same. Fails where memory runs out.
-fn show_alike(alloc: Global, left: &Panel, right: &Panel) -> Result<bool, AllocError>
-    ensures { IfOk result
-        (λ alike. alike ≡ bytes_eq (panel_text left.now) (panel_text right.now)) }
-{
-    let left_text = left.text(alloc)?;
-    let right_text = right.text(alloc)?;
-    Ok(left_text.as_str() == right_text.as_str())
 }
 
 /// Two sights are alike: the same word on the same channel, or panels that show the same. Fails where memory

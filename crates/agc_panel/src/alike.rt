@@ -3,11 +3,11 @@ ghost use Rattle.std.specs.Prelude.{◌≡◌, IfOk};
 ghost use Rattle.std.specs.Str.{bytes_eq};
 ghost use Rattle.agc_panel.specs.Text.{panel_text};
 
-use agc_panel::Panel;
+use crate::panel::Panel;
 use std::alloc::{AllocError, Global};
 
 /// Two panels show the same: their texts are the same. Fails where memory runs out.
-pub(crate) fn show_alike(alloc: Global, left: &Panel, right: &Panel) -> Result<bool, AllocError>
+pub fn show_alike(alloc: Global, left: &Panel, right: &Panel) -> Result<bool, AllocError>
     ensures { IfOk result
         (λ alike. alike ≡ bytes_eq (panel_text left.now) (panel_text right.now)) }
 {
