@@ -6,7 +6,7 @@ ghost use Rattle.agc_store.specs.Registers.{HoldsRegisters};
 ghost use Rattle.agc_places.specs.Cell.{cell_place, cell_word, same_word};
 
 use agc_rope_listing::Place;
-use agc_store::place::{A, Q};
+use agc_store::place::{A, ERASABLE_BANK_SIZE, ERASABLE_WINDOW, Q};
 use agc_store::{Addr, Store};
 use agc_word::{Wide, widen};
 use std::alloc::AllocError;
@@ -55,10 +55,11 @@ impl Cell {
     {
         let number = self.number();
         let word = store.read(Addr::wrapped(number));
-        if number < 0o1400 {
+        if number < ERASABLE_WINDOW {
             return word;
         }
-        widen(store.cell((number / 0o400) as u8, number % 0o400))
+        let bank = (number / ERASABLE_BANK_SIZE) as u8;
+        widen(store.cell(bank, number % ERASABLE_BANK_SIZE))
     }
 
     /// Its place as traces tell it: up to 1377 octal its address, then its bank and its address in the
@@ -68,12 +69,12 @@ impl Cell {
         ensures range { IsInPrint result }
     {
         let number = self.number;
-        if number < 0o1400 {
+        if number < ERASABLE_WINDOW {
             Place::Plain(number)
         } else {
             Place::Erasable {
-                bank: (number / 0o400) as u8,
-                address: 0o1400 + number % 0o400,
+                bank: (number / ERASABLE_BANK_SIZE) as u8,
+                address: ERASABLE_WINDOW + number % ERASABLE_BANK_SIZE,
             }
         }
     }

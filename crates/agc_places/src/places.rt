@@ -3,6 +3,7 @@ ghost use Rattle.std.specs.Prelude.{◌≡◌, ◌<◌, IfSome, Ok, length, posi
 ghost use Rattle.agc_places.specs.Places.{is_dash, is_stretch, one_place, only_cells, two_places};
 
 use agc_source_words::{Location, location_named};
+use agc_store::place::{ERASABLE_BANK_SIZE, FIXED_BANK_SIZE};
 
 /// The places from a first one to a last one of the same bank, both included.
 #[derive(Clone, Copy, Debug, PartialEq, Eq)]
@@ -122,14 +123,19 @@ pub(crate) fn only_cells(places: Places) -> Result<Places, PlacesFault>
     }
 }
 
+const FIXED_BANK: u32 = FIXED_BANK_SIZE as u32;
+
+const ERASABLE_BANK: u32 = ERASABLE_BANK_SIZE as u32;
+
 /// Two places of one bank, the first not after the last.
 fn is_stretch(first: Location, last: Location) -> bool
     ensures { result ≡ is_stretch first last }
 {
     match (first, last) {
-        (Location::Fixed(first), Location::Fixed(last)) => first / 0o2000 == last / 0o2000
+        (Location::Fixed(first), Location::Fixed(last)) => first / FIXED_BANK == last / FIXED_BANK
             && first <= last,
-        (Location::Erasable(first), Location::Erasable(last)) => first / 0o400 == last / 0o400
+        (Location::Erasable(first), Location::Erasable(last)) => first / ERASABLE_BANK
+            == last / ERASABLE_BANK
             && first <= last,
         _ => false,
     }

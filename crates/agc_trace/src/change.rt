@@ -23,6 +23,7 @@ use agc_places::{Cell, Places, is_same_word, push_cell_word};
 use agc_rope_listing::push_place;
 use agc_source_words::Location;
 use agc_store::Store;
+use agc_store::place::ERASABLE_CELLS;
 use agc_word::Wide;
 use std::alloc::{AllocError, Global};
 
@@ -53,7 +54,7 @@ pub(crate) fn see_named(
     ensures { IfOk result (λ seen. seen.items ≡ map (seen_in store.now) (named_cells several.now)) }
 {
     let mut seen = Vec::new(alloc);
-    for number in 0..0o4000 {
+    for number in 0..ERASABLE_CELLS {
         let is_named = is_named(several, number);
         push_where(&mut seen, is_named, see(Cell::new(number), store))?;
     }

@@ -15,4 +15,4 @@ in_bank m place h r =
 
 pub returns-clause-word : goal.returns-clause-word
 returns-clause-word c =
-    c.widen.ensures.same ∙ c.cell.ensures ∙ in_bank _ _ c.if-number-lt768.false c.read-word.ensures.registers ∙ ap (λ (n : ℕ). cell_at n c.args.store.now.erasable) c.number-number.ensures.cell
+    c.widen.ensures.same ∙ c.cell.ensures ∙ in_bank _ _ c.if-number-lt-ERASABLE_WINDOW.false c.read-word.ensures.registers ∙ ap (λ (n : ℕ). cell_at n c.args.store.now.erasable) c.number-number.ensures.cell
