@@ -1,17 +1,15 @@
 //! What is wrong with a text of live keys, for a person; or how many keys it names.
 ghost use Rattle.std.specs.Prelude.{◌≡◌, ◌++◌, IfOk, OnOk, is_none, is_some, map, string_bytes};
 ghost use Rattle.std.specs.List.{list_any};
-ghost use Rattle.agc_script.specs.Key.{key_named};
-ghost use Rattle.agc_setup.specs.Keys.{all_there, is_white, names_in};
+ghost use Rattle.agc_setup.specs.Keys.{all_there};
 ghost use Rattle.agc_check.specs.KeyReport.{IsKeyReport, are_keys, key_holdings_text};
 
 use crate::remarks::{is_pro, push_no_key, push_quoted};
 use crate::reports::Report;
+use crate::shown::SHOWN_BYTES;
 use agc_script::Key;
+use agc_setup::{is_white, named_keys};
 use std::alloc::{AllocError, Global};
-
-/// The most bytes of a word that are shown.
-const SHOWN_BYTES: usize = 120;
 
 /// Looks at a text of live keys. The text tells how many keys it names, or the first word that is no key's,
 /// and what is wanted. Fails where memory runs out.
@@ -20,7 +18,7 @@ pub fn check_keys(alloc: Global, file: &[u8]) -> Result<Report, AllocError>
     ensures sound { IfOk result (λ report. report.is_sound ≡ are_keys file.now) }
     ensures text { IfOk result (λ report. IsKeyReport file.now (string_bytes report.text)) }
 {
-    let found = found_keys(alloc, file)?;
+    let found = named_keys(alloc, file)?;
     let mut text = String::new(alloc);
     let is_sound = are_all_there(found.as_slice());
     if is_sound {
@@ -31,17 +29,6 @@ pub fn check_keys(alloc: Global, file: &[u8]) -> Result<Report, AllocError>
         text.push_str(remark.as_str())?;
     }
     Ok(Report { text, is_sound })
-}
-
-/// The key of each name, where it is a key's.
-#[tactic(auto, unfolding(agc_setup::specs::Keys::names_in))]
-fn found_keys(alloc: Global, file: &[u8]) -> Result<Vec<Option<Key>>, AllocError>
-    ensures { IfOk result (λ found. found.items ≡ map key_named (names_in file.now)) }
-{
-    file.split(|b| is_white(*b))
-        .filter(|name| !name.is_empty())
-        .map(|name| Key::from_name(name))
-        .collect(alloc)
 }
 
 /// Whether every name is a key's.
@@ -94,10 +81,4 @@ fn push_bad_key(alloc: Global, text: &mut String, word: &[u8]) -> Result<(), All
         );
     }
     push_no_key(alloc, text, word)
-}
-
-fn is_white(b: u8) -> bool
-    ensures { result ≡ is_white b }
-{
-    b == b' ' || b == b'\t' || b == b'\r' || b == b'\n'
 }

@@ -1,10 +1,9 @@
 //! The lines of a script file, by their numbers.
 ghost use Rattle.std.specs.Prelude.{◌≡◌, ◌-◌, ◌≤◌, length, slice_get, option_map, Some};
 ghost use Rattle.std.specs.List.{slice_split};
-ghost use Rattle.std.specs.Str.Lines.{strip_carriage_return};
 ghost use Rattle.agc_script.specs.Text.{is_line_feed, lines_of};
 
-use agc_script::{EVERY, read_cycle};
+use agc_script::{EVERY, read_cycle, without_return};
 
 /// The line of a number, counted from 1, without its end.
 pub(crate) fn line_at(file: &[u8], number: usize) -> &[u8]
@@ -46,15 +45,5 @@ fn start_of(line: &[u8]) -> Option<u64> {
         read_cycle(words.nth(1)?)
     } else {
         read_cycle(first)
-    }
-}
-
-/// The line without one carriage return at its end.
-fn without_return(line: &[u8]) -> &[u8]
-    ensures { result.now ≡ strip_carriage_return line.now }
-{
-    match line {
-        [start @ .., b'\r'] => start,
-        _ => line,
     }
 }

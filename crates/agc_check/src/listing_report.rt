@@ -8,6 +8,7 @@ use crate::reports::Report;
 use crate::shown::push_line;
 use crate::source_remark::push_unknown_order;
 use agc_rope_listing::LineFault;
+use agc_script::without_return;
 use agc_source::{SourceFault, SourceTrouble, weave_source};
 use agc_store::RopeForm;
 use std::alloc::{AllocError, Global};
@@ -66,8 +67,7 @@ fn remark(
     let mut text = String::new(alloc);
     let mut lines = file.split(|b| *b == b'\n');
     let line = match lines.nth(number.saturating_sub(1)) {
-        Some([start @ .., b'\r']) => start,
-        Some(line) => line,
+        Some(line) => without_return(line),
         None => file,
     };
     text.push_str("    ")?;

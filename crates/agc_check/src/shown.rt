@@ -1,13 +1,13 @@
 //! Bytes of a file in print.
 ghost use Rattle.std.specs.Prelude.{◌≡◌, ◌++◌, codes, OnOk, string_bytes};
 ghost use Rattle.agc_word.specs.Octal.{octal_digits};
-ghost use Rattle.agc_rope_listing.specs.Line.{is_no_text};
 ghost use Rattle.agc_check.specs.Shown.{printable, shown_byte, shown_line};
 
+use agc_rope_listing::is_no_text;
 use std::alloc::AllocError;
 
 /// The most bytes of a line that are shown.
-const SHOWN_BYTES: usize = 120;
+pub(crate) const SHOWN_BYTES: usize = 120;
 
 /// Adds a line of a file: its first 120 bytes, and ` ..` where there are more.
 #[tactic(auto, unfolding(crate::specs::Shown::shown_line))]
@@ -43,13 +43,6 @@ fn push_byte(text: &mut String, byte: u8) -> Result<(), AllocError>
     } else {
         text.push(char::from(byte))
     }
-}
-
-/// Whether a byte is neither a tab nor one that prints in ASCII.
-fn is_no_text(byte: u8) -> bool
-    ensures { result ≡ is_no_text byte }
-{
-    byte != b'\t' && (byte < 0x20 || byte >= 0x7F)
 }
 
 fn push_octal(text: &mut String, byte: u8) -> Result<(), AllocError>

@@ -21,7 +21,9 @@ use crate::counts::Counts;
 use crate::row::{Layout, push_row};
 use crate::tally::Tally;
 use agc_places::Cell;
-use agc_rope_listing::{Place, leads_extracode, listed_address, push_order, push_place};
+use agc_rope_listing::{
+    Place, begins_anew, leads_extracode, listed_address, push_order, push_place,
+};
 use agc_store::Store;
 use agc_store::place::{ERASABLE_CELLS, FIXED_WORDS};
 use agc_word::Narrow;
@@ -139,11 +141,10 @@ fn push_listed(
 }
 
 /// Whether the word at a place is an extracode, where the word before it leads to one.
-#[tactic(auto, unfolding(agc_rope_listing::specs::List::begins_anew))]
 fn leads_on(leads: bool, place: usize) -> bool
     ensures { result ≡ (leads && not (begins_anew place)) }
 {
-    leads && (place % 0o2000 != 0 || place == 0o6000)
+    leads && !begins_anew(place)
 }
 
 /// The fixed word at a place.

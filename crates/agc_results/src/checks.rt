@@ -8,7 +8,7 @@ ghost use Rattle.agc_results.specs.declared.trouble.Trouble.TheVariants as told;
 
 use crate::trouble::Trouble;
 use agc_check::{Report, check, check_keys, check_listing};
-use agc_setup::{KEY_BYTES, ROPE_BYTES, Refusal, SCRIPT_BYTES, Unread, read_limited};
+use agc_setup::{KEY_BYTES, ROPE_BYTES, Refusal, TEXT_BYTES, Unread, read_limited};
 use agc_store::RopeForm;
 use std::alloc::Global;
 use std::io::Read;
@@ -31,7 +31,7 @@ pub fn check_files<R: Read, S: Read>(
         }
         Err(Unread::Memory) => return Err(Trouble::Refused(Refusal::Memory)),
     };
-    let script = match read_limited(alloc, script, SCRIPT_BYTES) {
+    let script = match read_limited(alloc, script, TEXT_BYTES) {
         Ok(bytes) => bytes,
         Err(Unread::CannotRead(fault)) => {
             return Err(Trouble::Refused(Refusal::CannotReadScript(fault)));
@@ -111,7 +111,7 @@ pub fn check_listing_file<L: Read>(alloc: Global, listing: &mut L) -> Result<Rep
         (λ text. IsListingChecked text report)) }
     ensures refused { IfErr result IsListingUnchecked }
 {
-    let bytes = match read_limited(alloc, listing, SCRIPT_BYTES) {
+    let bytes = match read_limited(alloc, listing, TEXT_BYTES) {
         Ok(bytes) => bytes,
         Err(Unread::CannotRead(_)) => return Err(Trouble::CannotReadText),
         Err(Unread::Memory) => return Err(Trouble::Refused(Refusal::Memory)),

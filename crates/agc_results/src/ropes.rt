@@ -13,7 +13,7 @@ ghost use Rattle.agc_results.specs.declared.trouble.Trouble.TheVariants as told;
 
 use crate::trouble::Trouble;
 use agc_rope_listing::{files_say_rope_words, list, push_order};
-use agc_setup::{Refusal, SCRIPT_BYTES, Unread, read_limited, read_rope};
+use agc_setup::{Refusal, TEXT_BYTES, Unread, read_limited, read_rope};
 use agc_source::{Misnamed, SourceTrouble, first_misnamed, rope_source, weave_source};
 use agc_store::{RopeForm, Store};
 use agc_word::read_octal;
@@ -99,13 +99,13 @@ pub struct Woven {
 }
 
 /// The rope file that a text file weaves to. It is refused where it cannot be read, has more than
-/// `SCRIPT_BYTES` bytes or a faulty line, or where memory runs out.
+/// `TEXT_BYTES` bytes or a faulty line, or where memory runs out.
 pub fn weave_text<R: Read>(alloc: Global, form: RopeForm, reader: &mut R) -> Result<Woven, Trouble>
     ensures woven { IfOk result (λ woven. IfSome (R.remaining reader.old)
         (λ text. IsWoven form text woven)) }
     ensures refused { IfErr result (IsWeaveRefused (R.remaining reader.old)) }
 {
-    let text = match read_limited(alloc, reader, SCRIPT_BYTES) {
+    let text = match read_limited(alloc, reader, TEXT_BYTES) {
         Ok(text) => text,
         Err(Unread::CannotRead(_)) => return Err(Trouble::CannotReadText),
         Err(Unread::Memory) => return Err(Trouble::Text(SourceTrouble::Memory)),
