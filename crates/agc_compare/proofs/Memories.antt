@@ -1,10 +1,9 @@
 -- The cells of two memories.
 use Rattle.std.proofs.Common.{◌≡◌, ℕ, ◌+◌, ◌≤◌, ◌<◌, suc, zero, List, [], ◌∷◌, ◌++◌, Bool, true, false, refl, ap, sym, ◌∙◌, subst, inl, inr, arith, add-one}
-use Rattle.std.specs.Prelude.{◌==◌, ◌&&◌, ◌↔◌, All, IsTrue, if◌then◌else◌}
+use Rattle.std.specs.Prelude.{◌↔◌, All, IsTrue, if◌then◌else◌}
 use Rattle.circular_buffer.proofs.Places.{below_or_not}
 use Rattle.std.proofs.lemmas.List.{ext_get_or}
 use Rattle.std.proofs.lemmas.List.Elements.{All-append, All-cons, All-nil}
-use Rattle.std.proofs.lemmas.Bool.{eq-eqb, eqb-true}
 use Rattle.agc_store.specs.Registers.{HoldsRegisters}
 use Rattle.agc_word.specs.Number.{Number}
 use Rattle.agc_store.specs.Memory.{Memory, cell_at, nothing}

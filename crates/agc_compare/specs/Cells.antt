@@ -1,5 +1,5 @@
 -- The erasable cells in which two memories differ.
-use Rattle.std.specs.Prelude.{ℕ, zero, suc, ◌==◌, ◌&&◌, Bool, true, false, not, if◌then◌else◌}
+use Rattle.std.specs.Prelude.{ℕ, zero, suc, if◌then◌else◌}
 use Rattle.std.specs.Prelude.{List, [], ◌∷◌, ◌++◌}
 use Rattle.agc_word.specs.Number.{Number}
 use Rattle.agc_store.specs.Memory.{cell_at}

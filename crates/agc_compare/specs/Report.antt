@@ -1,5 +1,5 @@
 -- A comparison in print, with names of places where they are given.
-use Rattle.std.specs.Prelude.{ℕ, ◌+◌, ◌==◌, if◌then◌else◌}
+use Rattle.std.specs.Prelude.{ℕ, ◌==◌, if◌then◌else◌}
 use Rattle.std.specs.Prelude.{List, [], ◌++◌, codes, length, flat_map, Option, Some, None}
 use Rattle.std.specs.Fmt.{decimal}
 use Rattle.std.specs.List.{zip}
@@ -96,15 +96,11 @@ cell_text cell =
     place_text (cell_place cell.place) ++ codes " " ++ cell_word cell.place cell.left ++ codes " "
     ++ cell_word cell.place cell.right ++ codes "\n"
 
--- the cells that differ, of which there are some
-unfoldable pub some_cells_text : List CellPair → List ℕ
-some_cells_text cells =
-    codes "The cells that differ at the stops:\n" ++ flat_map cell_text cells
-
--- the cells that differ
+-- the cells that differ, under a heading where there are some
 unfoldable pub cells_text : List CellPair → List ℕ
 cells_text cells =
-    if length cells == 0 then [] else some_cells_text cells
+    if length cells == 0 then []
+    else codes "The cells that differ at the stops:\n" ++ flat_map cell_text cells
 
 -- the stop of a run
 unfoldable pub end_text : End → List ℕ

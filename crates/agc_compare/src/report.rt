@@ -18,7 +18,6 @@ ghost use Rattle.agc_compare.specs.Report.{
   parting_text,
   report_of,
   same_text,
-  some_cells_text,
   write_number_text,
   write_parting_text,
   write_text,
@@ -265,7 +264,7 @@ fn push_line_pair(text: &mut String, left: &str, right: &str) -> Result<(), Allo
     writeln!(text, "< {left}\n> {right}")
 }
 
-/// Adds the cells that differ.
+/// Adds the cells that differ, under a heading where there are some.
 #[tactic(auto, unfolding(crate::specs::Report::cells_text))]
 fn push_cells(text: &mut String, cells: &[CellPair]) -> Result<(), AllocError>
     requires { All IsCell cells.now }
@@ -275,21 +274,11 @@ fn push_cells(text: &mut String, cells: &[CellPair]) -> Result<(), AllocError>
     if cells.is_empty() {
         return Ok(());
     }
-    push_some_cells(text, cells)
-}
-
-/// Adds the cells that differ, of which there are some.
-#[tactic(auto, unfolding(crate::specs::Report::some_cells_text))]
-fn push_some_cells(text: &mut String, cells: &[CellPair]) -> Result<(), AllocError>
-    requires { All IsCell cells.now }
-    ensures { OnOk result (string_bytes text.new
-        ≡ string_bytes text.old ++ some_cells_text cells.now) }
-{
     text.push_str("The cells that differ at the stops:\n")?;
     push_each_cell(text, cells)
 }
 
-/// Adds each of some cells.
+/// Adds each cell of some.
 fn push_each_cell(text: &mut String, cells: &[CellPair]) -> Result<(), AllocError>
     requires { All IsCell cells.now }
     ensures { OnOk result (string_bytes text.new
