@@ -13,7 +13,7 @@ unfoldable pub listing_fault_text : ℕ → SourceFault → List ℕ
 listing_fault_text n fault =
     codes "text line " ++ decimal n ++ codes ": " ++ fault_text fault ++ codes "\n"
 
--- `why` shows the line, and of a place and its word tells which word is wrong and what is wanted
+-- `why` shows the line, and which of its words is wrong
 abbrev pub listing_told : {Said : Type 0} → Result Said SourceTrouble → List ℕ → List ℕ
 listing_told (Ok said) why = codes "text: no fault\n"
 listing_told (Err (trouble.Line n fault)) why = listing_fault_text n fault ++ why

@@ -6,10 +6,11 @@ ghost use Rattle.agc_check.specs.ListingReport.{IsListingReport, listing_fault_t
 use crate::remarks::{push_quoted, words_of};
 use crate::reports::Report;
 use crate::shown::push_line;
-use crate::source_remark::push_unknown_order;
+use crate::source_remark::push_source_why;
 use agc_rope_listing::LineFault;
 use agc_script::without_return;
 use agc_source::{SourceFault, SourceTrouble, weave_source};
+use agc_source_words::is_listed;
 use agc_store::RopeForm;
 use std::alloc::{AllocError, Global};
 
@@ -57,7 +58,7 @@ fn push_listing_fault(
     text.push_str("\n")
 }
 
-/// The faulty line, and below that of a place and its word the word that is wrong and what is wanted.
+/// The faulty line, and below it the word that is wrong and what is wanted.
 fn remark(
     alloc: Global,
     file: &[u8],
@@ -72,18 +73,13 @@ fn remark(
     };
     text.push_str("    ")?;
     push_line(&mut text, line)?;
-    text.push_str("\n")?;
+    text.push_str("\n    ")?;
     match fault {
-        SourceFault::Listed(fault) => {
-            text.push_str("    ")?;
+        SourceFault::Listed(fault) if fault != LineFault::NamedTwice || is_listed(line) => {
             let words = words_of(alloc, line)?;
             push_why(&mut text, fault, words.as_slice())?;
         }
-        SourceFault::UnknownOrder => {
-            text.push_str("    ")?;
-            push_unknown_order(alloc, &mut text, line)?;
-        }
-        _ => {}
+        fault => push_source_why(alloc, &mut text, file, line, fault)?,
     }
     Ok(text)
 }

@@ -153,9 +153,9 @@ fn push_unknown(alloc: Global, text: &mut String, words: &[&[u8]]) -> Result<(),
         );
     }
     let Some(command) = Command::from_name(words[place]) else {
-        let names: Vec<&'static str> = Command::ALL
+        let names: Vec<&'static [u8]> = Command::ALL
             .iter()
-            .map(|command| command.name())
+            .map(|command| command.name().as_bytes())
             .collect(alloc)?;
         return push_nearest(alloc, text, words[place], "command", names.as_slice());
     };
@@ -212,16 +212,16 @@ fn push_unknown_name(
             push_no_key(alloc, text, word)
         }
         Command::Pro => {
-            let names: Vec<&'static str> = DIRECTIONS
+            let names: Vec<&'static [u8]> = DIRECTIONS
                 .iter()
-                .map(|down| direction_name(*down))
+                .map(|down| direction_name(*down).as_bytes())
                 .collect(alloc)?;
             push_nearest(alloc, text, word, "direction of PRO", names.as_slice())
         }
         Command::Pulse => {
-            let names: Vec<&'static str> = PULSES
+            let names: Vec<&'static [u8]> = PULSES
                 .iter()
-                .map(|kind| pulse_name(*kind))
+                .map(|kind| pulse_name(*kind).as_bytes())
                 .collect(alloc)?;
             push_nearest(alloc, text, word, "kind of pulse", names.as_slice())
         }
@@ -234,7 +234,10 @@ fn push_unknown_name(
 
 /// Tells that a word is no key's name, and the nearest one.
 pub(crate) fn push_no_key(alloc: Global, text: &mut String, word: &[u8]) -> Result<(), AllocError> {
-    let names: Vec<&'static str> = Key::ALL.iter().map(|key| key.name()).collect(alloc)?;
+    let names: Vec<&'static [u8]> = Key::ALL
+        .iter()
+        .map(|key| key.name().as_bytes())
+        .collect(alloc)?;
     push_nearest(alloc, text, word, "key", names.as_slice())
 }
 
@@ -250,14 +253,16 @@ pub(crate) fn push_nearest(
     text: &mut String,
     word: &[u8],
     what: &str,
-    names: &[&'static str],
+    names: &[&[u8]],
 ) -> Result<(), AllocError> {
     push_quoted(text, word)?;
     if names.is_empty() {
         return writeln!(text, " is no {what}");
     }
     let name = nearest(alloc, word, names)?;
-    writeln!(text, " is no {what}; the nearest is `{name}`")
+    write!(text, " is no {what}; the nearest is ")?;
+    push_quoted(text, name)?;
+    text.push_str("\n")
 }
 
 fn push_bad_number(text: &mut String, words: &[&[u8]]) -> Result<(), AllocError> {

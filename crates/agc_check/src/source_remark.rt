@@ -1,36 +1,167 @@
-//! What is wrong with the order of a source's line, for a person.
-use crate::remarks::push_nearest;
+//! The word at fault in a line of a source, for a person: the name in its first column, its order, or its operand.
+use crate::remarks::{push_nearest, push_quoted, words_of};
+use crate::shown::push_bytes;
 use agc_order::{Basic, Extracode};
-use agc_source_words::{Directive, cut_label, next_said};
+use agc_script::without_return;
+use agc_source::SourceFault;
+use agc_source_words::{Directive, Names, cut_label, is_listed, is_name, next_said};
 use std::alloc::{AllocError, Global};
 
-/// Adds that the order of a line is none, and the nearest order or directive.
-pub(crate) fn push_unknown_order(
+/// Adds which word of a source's line is at fault, and what it is beside or near.
+pub(crate) fn push_source_why(
     alloc: Global,
     text: &mut String,
+    file: &[u8],
     line: &[u8],
+    fault: SourceFault,
 ) -> Result<(), AllocError> {
-    let (_, body) = cut_label(line);
-    match next_said(body) {
-        Some((word, _)) => {
-            let names = orders_and_directives(alloc)?;
-            push_nearest(alloc, text, word, "order or directive", names.as_slice())
-        }
-        None => text.push_str("the order is missing: it stands after the name\n"),
+    let (label, body) = cut_label(line);
+    let Some((order, operand)) = next_said(body) else {
+        return text.push_str("the order is missing: it stands after the name\n");
+    };
+    match fault {
+        SourceFault::NameTwice => push_taken(alloc, text, file, label.unwrap_or(order)),
+        SourceFault::BadName | SourceFault::MisplacedName => push_label(text, label, order),
+        SourceFault::UnknownOrder => push_no_order(alloc, text, order),
+        SourceFault::UnknownName => push_no_name(alloc, text, file, operand),
+        SourceFault::ExtracodeAlone => push_order(text, order, "an extracode"),
+        SourceFault::BasicAfterExtend => push_order(text, order, "no extracode"),
+        SourceFault::Full => push_order(text, order, "past the last place"),
+        SourceFault::WrongMemory => push_order(text, order, "in the other memory"),
+        SourceFault::Listed(_) => push_order(text, order, "at a place that has a word already"),
+        SourceFault::BadOperand
+        | SourceFault::NoSuchPlace
+        | SourceFault::ErasableWanted
+        | SourceFault::FixedWanted
+        | SourceFault::ChannelWanted
+        | SourceFault::AnotherBank
+        | SourceFault::OtherOrder
+        | SourceFault::BadPlace
+        | SourceFault::BadNumber => push_operand(alloc, text, order, operand),
     }
 }
 
+/// Adds what stands in the first column, before the order or directive.
+fn push_label(text: &mut String, label: Option<&[u8]>, order: &[u8]) -> Result<(), AllocError> {
+    match label {
+        Some(label) => push_quoted(text, label)?,
+        None => text.push_str("no name")?,
+    }
+    text.push_str(" stands before ")?;
+    push_quoted(text, order)?;
+    text.push_str("\n")
+}
+
+/// Adds whose a name is already: the computer's own, or an earlier line's.
+fn push_taken(
+    alloc: Global,
+    text: &mut String,
+    file: &[u8],
+    name: &[u8],
+) -> Result<(), AllocError> {
+    push_quoted(text, name)?;
+    if Names::new(alloc).get(name).is_some() {
+        return text.push_str(" is one of the computer's own names\n");
+    }
+    let lines = file.split(|b| *b == b'\n');
+    let number = lines.take_while(|line| name_of(line) != Some(name)).count() + 1;
+    writeln!(text, " is the name of line {number}")
+}
+
+/// Adds that the order of a line is none, and the nearest order or directive.
+fn push_no_order(alloc: Global, text: &mut String, order: &[u8]) -> Result<(), AllocError> {
+    let names = orders_and_directives(alloc)?;
+    push_nearest(alloc, text, order, "order or directive", names.as_slice())
+}
+
 /// All that a line may begin with behind its name.
-fn orders_and_directives(alloc: Global) -> Result<Vec<&'static str>, AllocError> {
+fn orders_and_directives(alloc: Global) -> Result<Vec<&'static [u8]>, AllocError> {
     let mut names = Vec::new(alloc);
     for order in Basic::ALL {
-        names.push(order.row().mnemonic)?;
+        names.push(order.row().mnemonic.as_bytes())?;
     }
     for order in Extracode::ALL {
-        names.push(order.row().mnemonic)?;
+        names.push(order.row().mnemonic.as_bytes())?;
     }
     for directive in Directive::ALL {
-        names.push(directive.name())?;
+        names.push(directive.name().as_bytes())?;
     }
     Ok(names)
+}
+
+/// Adds that an operand's name is no line's, and the nearest one that is.
+fn push_no_name(
+    alloc: Global,
+    text: &mut String,
+    file: &[u8],
+    operand: &[u8],
+) -> Result<(), AllocError> {
+    let (name, _) = next_said(operand).unwrap_or((operand, operand));
+    let names = names_of(alloc, file)?;
+    push_nearest(alloc, text, name, "name of a line", names.as_slice())
+}
+
+/// The names of a source's lines, in their order.
+fn names_of(alloc: Global, file: &[u8]) -> Result<Vec<&[u8]>, AllocError> {
+    let mut names = Vec::new(alloc);
+    for line in file.split(|b| *b == b'\n') {
+        if let Some(name) = name_of(line) {
+            names.push(name)?;
+        }
+    }
+    Ok(names)
+}
+
+/// The name in the first column of a source's line.
+fn name_of(line: &[u8]) -> Option<&[u8]> {
+    let line = without_return(line);
+    if is_listed(line) {
+        return None;
+    }
+    let (label, _) = cut_label(line);
+    label.filter(|label| is_name(label))
+}
+
+/// Adds what an order or directive is.
+fn push_order(text: &mut String, order: &[u8], what: &str) -> Result<(), AllocError> {
+    push_quoted(text, order)?;
+    writeln!(text, " is {what}")
+}
+
+/// Adds the words that stand after an order or directive.
+fn push_operand(
+    alloc: Global,
+    text: &mut String,
+    order: &[u8],
+    operand: &[u8],
+) -> Result<(), AllocError> {
+    let words = words_of(alloc, operand)?;
+    let said: Vec<&[u8]> = words
+        .iter()
+        .copied()
+        .take_while(|word| !is_comment(word))
+        .collect(alloc)?;
+    push_words(text, said.as_slice())?;
+    text.push_str(" stands after ")?;
+    push_quoted(text, order)?;
+    text.push_str("\n")
+}
+
+fn is_comment(word: &[u8]) -> bool {
+    matches!(word, [b'#', ..])
+}
+
+/// Adds the words of an operand, a space between two.
+fn push_words(text: &mut String, words: &[&[u8]]) -> Result<(), AllocError> {
+    if words.is_empty() {
+        return text.push_str("no operand");
+    }
+    text.push_str("`")?;
+    for (place, word) in words.iter().enumerate() {
+        if place > 0 {
+            text.push_str(" ")?;
+        }
+        push_bytes(text, word)?;
+    }
+    text.push_str("`")
 }

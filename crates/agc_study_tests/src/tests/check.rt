@@ -342,13 +342,13 @@ fn what_they_hold(rt: HostRuntime) -> Result<(), Fail> {
 
 #[test]
 fn nearest_names(rt: HostRuntime) -> Result<(), Fail> {
-    let names = ["VERB", "NOUN", "CLR"];
+    let names = [b"VERB".as_slice(), b"NOUN".as_slice(), b"CLR".as_slice()];
     for (word, name) in [
-        (b"verb".as_slice(), "VERB"),
-        (b"NUN".as_slice(), "NOUN"),
-        (b"CLEAR".as_slice(), "CLR"),
+        (b"verb".as_slice(), names[0]),
+        (b"NUN".as_slice(), names[1]),
+        (b"CLEAR".as_slice(), names[2]),
         // two edits from each of the first two: the first one is told
-        (b"VOUB".as_slice(), "VERB"),
+        (b"VOUB".as_slice(), names[0]),
     ] {
         let found = nearest(rt.alloc(), word, names.as_slice())
             .ok()
@@ -411,7 +411,7 @@ fn listings(rt: HostRuntime) -> Result<(), Fail> {
         (b"START CA PROG\nPROG OCT 54171", "text: no fault\n"),
         (
             b"START CA PROG\n",
-            "text line 1: no line has this name\n    START CA PROG\n",
+            "text line 1: no line has this name\n    START CA PROG\n    `PROG` is no name of a line; the nearest is `START`\n",
         ),
         (
             b"START CAA 4000 # one\n",
@@ -453,4 +453,158 @@ fn listings(rt: HostRuntime) -> Result<(), Fail> {
         assert_eq!(rt; report.is_sound, told == "text: no fault\n");
     }
     Ok(())
+}
+
+/// Looks that this is told of the last line of each of these sources: a sentence, and the word at fault.
+fn points(rt: &(impl AllocGlobal + Abort), sources: &[(&str, &str, &str)]) {
+    for (source, sentence, word) in sources {
+        let line = source.lines().last().unwrap_or("");
+        let number = source.lines().count();
+        let wanted = format!(in rt.alloc();
+            "text line {number}: {sentence}\n    {line}\n    {word}\n"
+        ).ok()
+            .expect(rt, "memory");
+        let report = check_listing(rt.alloc(), source.as_bytes())
+            .ok()
+            .expect(rt, "memory");
+        assert_eq!(rt; report.text.as_str(), wanted.as_str());
+        assert!(rt; !report.is_sound);
+    }
+}
+
+#[test]
+fn names_of_sources_at_fault(rt: HostRuntime) {
+    points(
+        &rt,
+        &[
+            (
+                "+1 OCT 1",
+                "a name has up to eight characters, one that is of no number, and no comma",
+                "`+1` stands before `OCT`",
+            ),
+            (
+                "A OCT 1",
+                "this name is taken",
+                "`A` is one of the computer's own names",
+            ),
+            (
+                "# x\nX OCT 1\n OCT 2\nX OCT 3",
+                "this name is taken",
+                "`X` is the name of line 2",
+            ),
+            (
+                " = 4000",
+                "= and EQUALS want a name in the first column, SETLOC and BANK want none",
+                "no name stands before `=`",
+            ),
+            (
+                "X BANK 4",
+                "= and EQUALS want a name in the first column, SETLOC and BANK want none",
+                "`X` stands before `BANK`",
+            ),
+            (
+                "KEYIN OCT 1\n CA KEYNI # a key",
+                "no line has this name",
+                "`KEYNI` is no name of a line; the nearest is `KEYIN`",
+            ),
+            (
+                " CA KEYIN",
+                "no line has this name",
+                "`KEYIN` is no name of a line",
+            ),
+        ],
+    );
+}
+
+#[test]
+fn orders_of_sources_at_fault(rt: HostRuntime) {
+    points(
+        &rt,
+        &[
+            (
+                " MP 0",
+                "this order is an extracode: EXTEND is wanted before it",
+                "`MP` is an extracode",
+            ),
+            (
+                " EXTEND\nX TCF 4000",
+                "after EXTEND, or INDEX as an extracode, this order is none",
+                "`TCF` is no extracode",
+            ),
+            (
+                " SETLOC 7777\n OCT 1\nX OCT 2",
+                "no room is left here",
+                "`OCT` is past the last place",
+            ),
+            (
+                " SETLOC E0,0100\n OCT 1",
+                "words stand in fixed memory, and ERASE in erasable memory",
+                "`OCT` is in the other memory",
+            ),
+            (
+                "4000 00001\n CA 0",
+                "NamedTwice",
+                "`CA` is at a place that has a word already",
+            ),
+        ],
+    );
+}
+
+#[test]
+fn operands_of_sources_at_fault(rt: HostRuntime) {
+    points(
+        &rt,
+        &[
+            (
+                " CA # nothing",
+                "the operand is missing, not wanted, or of another form",
+                "no operand stands after `CA`",
+            ),
+            (
+                "X CA 0 +1 2 # three",
+                "the operand is missing, not wanted, or of another form",
+                "`0 +1 2` stands after `CA`",
+            ),
+            (
+                " CA 4000 +5000",
+                "there is no such place",
+                "`4000 +5000` stands after `CA`",
+            ),
+            (
+                " TS 4000",
+                "this order takes an address of erasable memory, 0 to 1777",
+                "`4000` stands after `TS`",
+            ),
+            (
+                " TCF 100",
+                "a place of fixed memory is wanted",
+                "`100` stands after `TCF`",
+            ),
+            (
+                " EXTEND\n READ 1000",
+                "this order takes a channel, 0 to 777",
+                "`1000` stands after `READ`",
+            ),
+            (
+                " SETLOC 04,2000\nX OCT 1\n SETLOC 05,2000\n CA X",
+                "this place is in another bank",
+                "`X` stands after `CA`",
+            ),
+            (
+                " TC 3",
+                "the word of this order with this address is another order",
+                "`3` stands after `TC`",
+            ),
+            (
+                " SETLOC 9",
+                "this is no place or bank: bb,oooo or En,oooo or an address that needs no bank",
+                "`9` stands after `SETLOC`",
+            ),
+            (
+                " DEC 16384",
+                "this is no number of the form that is wanted here",
+                "`16384` stands after `DEC`",
+            ),
+        ],
+    );
 }
