@@ -15,37 +15,37 @@ use Rattle.agc_setup.proofs.Told.{none_in_both, told_first, told_later}
 use Rattle.agc_setup.specs.Steps.{ComesOf}
 use Rattle.agc_setup.specs.Files.{events_in, rope_steps, script_steps}
 use Rattle.agc_setup.specs.Options.{said_by}
-use Rattle.agc_setup.specs.Prepare.{start_steps}
 use Rattle.agc_setup.specs.Steps.{IsTold, refusal_in}
 use Rattle.agc_setup.specs.declared.refusal.Refusal.{Refusal}
 use Rattle.agc_setup.specs.declared.refusal.Refusal.TheVariants as refusal
-use Rattle.agc_results.specs.Started.{IsAccepted, IsRefused, IsStarted, starting_steps}
+use Rattle.agc_results.specs.Started.{IsAccepted, IsRefused, IsStarted, starting_steps, watched_steps}
+use Rattle.agc_results.specs.declared.runs.Start.{Start}
 
-module _ (form : RopeForm) (until : Option (String Global)) (limit : ℕ) where
+module _ (form : RopeForm) (until watch : Option (String Global)) (limit : ℕ) where
   pub rope_refused : (rope script : Option (List ℕ)) (r : Refusal) → IfSome rope (λ file. IsTold (rope_steps form file) r)
-      → IsRefused form until limit rope script r
+      → IsRefused form until watch limit rope script r
   unfolding starting_steps
   rope_refused None script r h = tt
   rope_refused (Some rope) None r h = tt
-  rope_refused (Some rope) (Some script) r h = told_first (rope_steps form rope) (script_steps script ++ start_steps until limit) r h
+  rope_refused (Some rope) (Some script) r h = told_first (rope_steps form rope) (script_steps script ++ watched_steps until watch limit) r h
 
-  pub memory_refused : (rope script : Option (List ℕ)) → IsRefused form until limit rope script refusal.Memory
+  pub memory_refused : (rope script : Option (List ℕ)) → IsRefused form until watch limit rope script refusal.Memory
   memory_refused rope script = rope_refused rope script refusal.Memory (rope_known_memory form rope)
 
   -- of a machine that was started nothing is refused
-  pub started_accepted : (rope script : Option (List ℕ)) (machine : State) → IsStarted form until limit rope script machine
-      → IsAccepted form until limit rope script
+  pub started_accepted : (rope script : Option (List ℕ)) (machine : State) → IsStarted form until watch limit rope script machine
+      → IsAccepted form until watch limit rope script
   started_accepted None script machine h = tt
   started_accepted (Some rope) None machine h = tt
   started_accepted (Some rope) (Some script) machine h = h.accepted
 
   pub script_refused : (rope script : Option (List ℕ)) (r : Refusal) → IfSome rope (λ file. refusal_in (rope_steps form file) ≡ None)
-      → IfSome script (λ file. IsTold (script_steps file) r) → IsRefused form until limit rope script r
+      → IfSome script (λ file. IsTold (script_steps file) r) → IsRefused form until watch limit rope script r
   unfolding starting_steps
   script_refused None script r sound h = tt
   script_refused (Some rope) None r sound h = tt
   script_refused (Some rope) (Some script) r sound h =
-      told_later (rope_steps form rope) (script_steps script ++ start_steps until limit) r sound (told_first (script_steps script) (start_steps until limit) r h)
+      told_later (rope_steps form rope) (script_steps script ++ watched_steps until watch limit) r sound (told_first (script_steps script) (watched_steps until watch limit) r h)
 
   -- of files that are sound
 
@@ -54,39 +54,39 @@ module _ (form : RopeForm) (until : Option (String Global)) (limit : ℕ) where
     IsStart machine = machine ≡ start_state words events limit (said_by stop_address_of until)
 
     start_refused : (rope script : Option (List ℕ)) (r : Refusal) → IfSome rope (λ file. refusal_in (rope_steps form file) ≡ None)
-        → IfSome script (λ file. refusal_in (script_steps file) ≡ None) → IsTold (start_steps until limit) r → IsRefused form until limit rope script r
+        → IfSome script (λ file. refusal_in (script_steps file) ≡ None) → IsTold (watched_steps until watch limit) r → IsRefused form until watch limit rope script r
     unfolding starting_steps
     start_refused None script r sound_rope sound_script h = tt
     start_refused (Some rope) None r sound_rope sound_script h = tt
     start_refused (Some rope) (Some script) r sound_rope sound_script h =
-        told_later (rope_steps form rope) (script_steps script ++ start_steps until limit) r sound_rope
-        (told_later (script_steps script) (start_steps until limit) r sound_script h)
+        told_later (rope_steps form rope) (script_steps script ++ watched_steps until watch limit) r sound_rope
+        (told_later (script_steps script) (watched_steps until watch limit) r sound_script h)
 
-    start : (rope script : Option (List ℕ)) (machine : State) → IfSome rope (λ file. words ≡ rope_words form file)
+    is_started : (rope script : Option (List ℕ)) (machine : State) → IfSome rope (λ file. words ≡ rope_words form file)
         → IfSome rope (λ file. refusal_in (rope_steps form file) ≡ None) → IfSome script (λ file. events ≡ events_in (script_of file))
-        → IfSome script (λ file. refusal_in (script_steps file) ≡ None) → refusal_in (start_steps until limit) ≡ None → IsStart machine
-        → IsStarted form until limit rope script machine
+        → IfSome script (λ file. refusal_in (script_steps file) ≡ None) → refusal_in (watched_steps until watch limit) ≡ None → IsStart machine
+        → IsStarted form until watch limit rope script machine
     unfolding starting_steps
-    start None script machine w a e b none is = tt
-    start (Some rope) None machine w a e b none is = tt
-    start (Some rope) (Some script) machine w a e b none is = record {
+    is_started None script machine w a e b none is = tt
+    is_started (Some rope) None machine w a e b none is = tt
+    is_started (Some rope) (Some script) machine w a e b none is = record {
       accepted =
-          none_in_both (rope_steps form rope) (script_steps script ++ start_steps until limit) a
-          (none_in_both (script_steps script) (start_steps until limit) b none);
+          none_in_both (rope_steps form rope) (script_steps script ++ watched_steps until watch limit) a
+          (none_in_both (script_steps script) (watched_steps until watch limit) b none);
       start =
           is ∙ ap (λ all. start_state all events limit (said_by stop_address_of until)) w
           ∙ ap (λ all. start_state (rope_words form rope) all limit (said_by stop_address_of until)) e;
     }
 
-    pub all_started : (rope script : Option (List ℕ)) (result : Result State Refusal) → IfSome rope (λ file. words ≡ rope_words form file)
+    pub all_started : (rope script : Option (List ℕ)) (result : Result Start Refusal) → IfSome rope (λ file. words ≡ rope_words form file)
         → IfSome rope (λ file. refusal_in (rope_steps form file) ≡ None) → IfSome script (λ file. events ≡ events_in (script_of file))
-        → IfSome script (λ file. refusal_in (script_steps file) ≡ None) → ComesOf (start_steps until limit) IsStart result
-        → IfOk result (IsStarted form until limit rope script)
-    all_started rope script (Ok machine) w a e b h = start rope script machine w a e b h.0 h.1
+        → IfSome script (λ file. refusal_in (script_steps file) ≡ None) → ComesOf (watched_steps until watch limit) (λ start. IsStart start.machine) result
+        → IfOk result (λ start. IsStarted form until watch limit rope script start.machine)
+    all_started rope script (Ok start) w a e b h = is_started rope script start.machine w a e b h.0 h.1
     all_started rope script (Err r) w a e b h = tt
 
-    pub all_refused : (rope script : Option (List ℕ)) (result : Result State Refusal) → IfSome rope (λ file. refusal_in (rope_steps form file) ≡ None)
-        → IfSome script (λ file. refusal_in (script_steps file) ≡ None) → ComesOf (start_steps until limit) IsStart result
-        → IfErr result (IsRefused form until limit rope script)
-    all_refused rope script (Ok machine) a b h = tt
+    pub all_refused : (rope script : Option (List ℕ)) (result : Result Start Refusal) → IfSome rope (λ file. refusal_in (rope_steps form file) ≡ None)
+        → IfSome script (λ file. refusal_in (script_steps file) ≡ None) → ComesOf (watched_steps until watch limit) (λ start. IsStart start.machine) result
+        → IfErr result (IsRefused form until watch limit rope script)
+    all_refused rope script (Ok start) a b h = tt
     all_refused rope script (Err r) a b h = start_refused rope script r a b h

@@ -63,8 +63,8 @@ pub record IsCompared (names : Names) (asked : Comparing)
     (left_rope left_script right_rope right_script : Option (List ℕ)) (told : Told) : Type 0 where
   pub left : State
   pub right : State
-  pub left_start : IsStarted asked.form asked.until asked.limit left_rope left_script left
-  pub right_start : IsStarted asked.form asked.until asked.limit right_rope right_script right
+  pub left_start : IsStarted asked.form asked.until None asked.limit left_rope left_script left
+  pub right_start : IsStarted asked.form asked.until None asked.limit right_rope right_script right
   pub tells : IsToldAs names asked.shown left right told
 
 -- what is told was written, and the runs are the same or not

@@ -1,5 +1,5 @@
 -- What is counted of the run of a rope and a script, in print.
-use Rattle.std.specs.Prelude.{◌≡◌, ℕ, List, Option, string_bytes}
+use Rattle.std.specs.Prelude.{◌≡◌, ℕ, List, Option, None, string_bytes}
 use Rattle.std.specs.Io.KnownBytes.{Appends}
 use Rattle.std.specs.declared.alloc.Global.{Global}
 use Rattle.std.specs.declared.string.String.{String}
@@ -20,7 +20,7 @@ counted_text asked machine =
 pub record IsCounted (asked : Counting) (rope script : Option (List ℕ)) (text : String Global)
     : Type 0 where
   pub machine : State
-  pub start : IsStarted asked.form asked.until asked.limit rope script machine
+  pub start : IsStarted asked.form asked.until None asked.limit rope script machine
   pub text_is : string_bytes text ≡ counted_text asked machine
 
 -- this text was written

@@ -1,5 +1,5 @@
 -- The page that shows the runs of a rope and a script, or of two of each.
-use Rattle.std.specs.Prelude.{◌≡◌, ◌⊎◌, ℕ, List, Option, Some, None, string_bytes}
+use Rattle.std.specs.Prelude.{◌≡◌, ℕ, List, Option, Some, None, string_bytes}
 use Rattle.std.specs.Io.KnownBytes.{Appends}
 use Rattle.std.specs.declared.alloc.Global.{Global}
 use Rattle.std.specs.declared.string.String.{String}
@@ -14,11 +14,9 @@ use Rattle.agc_film.specs.declared.part.Part.{Part}
 use Rattle.agc_film.specs.declared.reel.Reel.{Reel}
 use Rattle.agc_film.specs.declared.title.RunFiles.{RunFiles}
 use Rattle.agc_setup.specs.declared.refusal.Refusal.{Refusal}
-use Rattle.agc_results.specs.Started.{IsAccepted, IsRefused, IsStartedOf}
-use Rattle.agc_results.specs.Trouble.{other_trouble}
-use Rattle.agc_results.specs.Watched.{IsWatchable, watch_refusal}
+use Rattle.agc_results.specs.Started.{IsPairRefused, IsRefused, IsStartedOf}
+use Rattle.agc_results.specs.Watched.{IsWatchable}
 use Rattle.agc_results.specs.declared.trouble.Trouble.{Trouble}
-use Rattle.agc_results.specs.declared.trouble.Trouble.TheVariants as trouble
 use Rattle.agc_asked.specs.declared.asked.Filming.{Filming}
 
 -- the tables over a part of a run: none where --watch gives no text, else those that stand where its text says
@@ -32,7 +30,7 @@ ShowsTables (Some watch) part machine tables =
 pub record IsFilmedOf (form : RopeForm) (until watch : Option (String Global)) (limit : ℕ)
     (part : Part) (rope script : List ℕ) (reel : Reel) : Type 0 where
   pub machine : State
-  pub start : IsStartedOf form until limit rope script machine
+  pub start : IsStartedOf form until watch limit rope script machine
   pub shows : IsReelOf part machine reel
   pub tables : ShowsTables watch part machine reel.tables
 
@@ -43,30 +41,17 @@ IsFilmed asked (Some rope) None reel = Unit {0}
 IsFilmed asked (Some rope) (Some script) reel =
     IsFilmedOf asked.form asked.until asked.watch asked.limit asked.part rope script reel
 
--- what is refused of the text of --watch, where there is one
-abbrev pub unwatched : Option (String Global) → Option Refusal
-unwatched None = None
-unwatched (Some watch) = watch_refusal (string_bytes watch)
-
--- nothing is refused of the files, nor of that text
-abbrev pub IsFilmable : Filming → Option (List ℕ) → Option (List ℕ) → Type 0
-IsFilmable asked rope script =
-    IsAccepted asked.form asked.until asked.limit rope script × (unwatched asked.watch ≡ None)
-
--- what may be refused: of the files, or where nothing is refused of these that text
+-- what may be refused: of the files, or of the tables
 abbrev pub IsFilmRefused : Filming → Option (List ℕ) → Option (List ℕ) → Refusal → Type 0
 IsFilmRefused asked rope script r =
-    IsRefused asked.form asked.until asked.limit rope script r
-    ⊎ (IsAccepted asked.form asked.until asked.limit rope script × (unwatched asked.watch ≡ Some r))
+    IsRefused asked.form asked.until asked.watch asked.limit rope script r
 
--- What may be told of two runs: what is refused of the one on the left, or where nothing is refused of it what is of the
--- one on the right, told as the other's.
+-- the same of two runs
 abbrev pub IsFilmPairRefused : Filming → Option (List ℕ) → Option (List ℕ)
     → Option (List ℕ) → Option (List ℕ) → Trouble → Type 0
 IsFilmPairRefused asked left_rope left_script right_rope right_script t =
-    ((r : Refusal) × (t ≡ trouble.Refused r) × IsFilmRefused asked left_rope left_script r)
-    ⊎ (IsFilmable asked left_rope left_script × (r : Refusal) × (t ≡ other_trouble r)
-    × IsFilmRefused asked right_rope right_script r)
+    IsPairRefused asked.form asked.until asked.watch asked.limit
+    left_rope left_script right_rope right_script t
 
 -- the page of one run: its constant head, script of the tables and tail, and the run
 pub record IsFilm (head script_of_tables tail : List ℕ) (asked : Filming) (rope script : Option (List ℕ))

@@ -1,5 +1,5 @@
 -- What `trace` writes of the run of a rope and a script, and how it fails.
-use Rattle.std.specs.Prelude.{◌≡◌, ◌⊎◌, ℕ, List, ◌++◌, Option, codes}
+use Rattle.std.specs.Prelude.{◌≡◌, ◌⊎◌, ℕ, List, ◌++◌, Option, None, codes}
 use Rattle.std.specs.Fmt.{decimal}
 use Rattle.std.specs.Io.KnownBytes.{Appends, Keeps}
 use Rattle.agc_processor.specs.Interrupt.{rupt_name}
@@ -23,7 +23,7 @@ use Rattle.agc_results.specs.declared.trouble.Trouble.TheVariants as trouble
 pub record IsTraced (asked : Tracing) (names : Option (List Named))
     (rope script before after : Option (List ℕ)) (service : Option Service) : Type 0 where
   pub machine : State
-  pub start : IsStarted asked.form asked.until asked.limit rope script machine
+  pub start : IsStarted asked.form asked.until None asked.limit rope script machine
   pub lines : Appends before after (selected_lines names asked.selection (watch_for asked.selection machine))
   pub left : service ≡ service_left asked.selection (trace_of machine)
 
@@ -37,14 +37,14 @@ pub record IsTraceWritten (asked : Tracing) (names : Option (List Named))
 pub record IsCutOff (asked : Tracing) (names : Option (List Named))
     (rope script before after : Option (List ℕ)) (why : TraceFault) : Type 0 where
   pub machine : State
-  pub start : IsStarted asked.form asked.until asked.limit rope script machine
+  pub start : IsStarted asked.form asked.until None asked.limit rope script machine
   pub cut : IsCut why before after (selected_lines names asked.selection (watch_for asked.selection machine))
 
 -- why no whole trace was written: a refusal, before anything was, or the lines were cut off
 abbrev pub IsUntraced : Tracing → Option (List Named) → Option (List ℕ) → Option (List ℕ)
     → Option (List ℕ) → Option (List ℕ) → Untraced → Type 0
 IsUntraced asked names rope script before after (untraced.Refused r) =
-    IsRefused asked.form asked.until asked.limit rope script r × Keeps before after
+    IsRefused asked.form asked.until None asked.limit rope script r × Keeps before after
 IsUntraced asked names rope script before after (untraced.Cut why) =
     IsCutOff asked names rope script before after why
 

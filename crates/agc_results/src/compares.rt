@@ -1,5 +1,5 @@
 //! Two ropes and two scripts to what is told of their runs.
-ghost use Rattle.std.specs.Prelude.{◌≡◌, IfErr, IfOk, string_bytes};
+ghost use Rattle.std.specs.Prelude.{◌≡◌, IfErr, IfOk, None, string_bytes};
 ghost use Rattle.agc_compare.specs.SideNames.{both_names};
 ghost use Rattle.agc_shown.specs.Compared.{FitsLines};
 ghost use Rattle.agc_results.specs.Compared.{IsCompared, IsShownToldOf, IsToldAs, IsToldOf, shown_text_of};
@@ -40,7 +40,7 @@ pub fn compare_files<R: Read, S: Read, T: Read, U: Read, P: Progress>(
     ensures compared { IfOk result (IsCompared (both_names names.entry) asked.now
         (R.remaining left_rope.old) (S.remaining left_script.old)
         (T.remaining right_rope.old) (U.remaining right_script.old)) }
-    ensures refused { IfErr result (IsPairRefused asked.now.form asked.now.until asked.now.limit
+    ensures refused { IfErr result (IsPairRefused asked.now.form asked.now.until None asked.now.limit
         (R.remaining left_rope.old) (S.remaining left_script.old)
         (T.remaining right_rope.old) (U.remaining right_script.old)) }
 {

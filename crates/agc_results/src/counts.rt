@@ -1,5 +1,5 @@
 //! A rope and a script to what is counted of their run.
-ghost use Rattle.std.specs.Prelude.{◌≡◌, IfErr, IfOk, string_bytes};
+ghost use Rattle.std.specs.Prelude.{◌≡◌, IfErr, IfOk, None, string_bytes};
 ghost use Rattle.agc_results.specs.Counted.{IsCounted, counted_text};
 ghost use Rattle.agc_results.specs.Started.{IsRefused};
 
@@ -23,7 +23,7 @@ pub fn count_files<R: Read, S: Read, P: Progress>(
 ) -> Result<String, Refusal>
     ensures counted { IfOk result
         (IsCounted asked.now (R.remaining rope.old) (S.remaining script.old)) }
-    ensures refused { IfErr result (IsRefused asked.now.form asked.now.until asked.now.limit
+    ensures refused { IfErr result (IsRefused asked.now.form asked.now.until None asked.now.limit
         (R.remaining rope.old) (S.remaining script.old)) }
 {
     let (form, limit) = (asked.form, asked.limit);

@@ -1,10 +1,9 @@
 //! Ropes and scripts to the page that shows their runs.
-ghost use Rattle.std.specs.Prelude.{◌≡◌, IfErr, IfOk, None};
-ghost use Rattle.agc_results.specs.Filmed.{IsFilm, IsFilmPair, IsFilmPairRefused, IsFilmRefused, IsFilmed, unwatched};
+ghost use Rattle.std.specs.Prelude.{IfErr, IfOk};
+ghost use Rattle.agc_results.specs.Filmed.{IsFilm, IsFilmPair, IsFilmPairRefused, IsFilmRefused, IsFilmed};
 
-use crate::runs::read_machine;
+use crate::runs::read_start;
 use crate::trouble::Trouble;
-use crate::watches::watched_spec;
 use agc_asked::Filming;
 use agc_film::{Reel, RunFiles, film, film_watched, push_film, push_film_pair};
 use agc_page::{HEAD, TABLES, TAIL};
@@ -22,7 +21,8 @@ pub struct FilmPage {
 }
 
 /// Reads a rope and a script, and makes the page that shows their run. The refusal is the first that applies
-/// of the rope, the script, the limit, the text of `--until` and that of `--watch`, or want of memory.
+/// of the rope, the script, the limit, the text of `--watch`, that of `--until` and the places of the tables, or want of
+/// memory.
 pub fn film_files<R: Read, S: Read, P: Progress>(
     alloc: Global,
     asked: &Filming,
@@ -84,18 +84,15 @@ fn read_reel<R: Read, S: Read, P: Progress>(
 ) -> Result<Reel, Refusal>
     ensures filmed { IfOk result
         (IsFilmed asked.now (R.remaining rope.old) (S.remaining script.old)) }
-    ensures watched { IfOk result (λ _. unwatched asked.now.watch ≡ None) }
     ensures refused { IfErr result (IsFilmRefused asked.now
         (R.remaining rope.old) (S.remaining script.old)) }
 {
     let (form, limit) = (asked.form, asked.limit);
-    let mut machine = read_machine(alloc, form, limit, &asked.until, rope, script)?;
-    let Some(watch) = &asked.watch else {
-        return Ok(film(alloc, &mut machine, asked.part, progress)?);
-    };
-    let spec = match watched_spec(watch.as_str()) {
-        Ok(spec) => spec,
-        Err(refusal) => return Err(refusal),
-    };
-    Ok(film_watched(alloc, &mut machine, asked.part, &spec, progress)?)
+    let watch = asked.watch.as_ref();
+    let start = read_start(alloc, form, limit, &asked.until, watch, rope, script)?;
+    let mut machine = start.machine;
+    match start.tables {
+        Some(spec) => Ok(film_watched(alloc, &mut machine, asked.part, &spec, progress)?),
+        None => Ok(film(alloc, &mut machine, asked.part, progress)?),
+    }
 }

@@ -15,7 +15,7 @@ use Rattle.agc_session.specs.Entry.{IsAnswered, IsKeysReport, IsReported, IsRepo
 use Rattle.agc_setup.specs.Steps.{ComesOf}
 use Rattle.agc_setup.specs.Files.{Files, events_in, files_of, given_files, keys_steps, keys_steps_where, rope_steps, script_steps}
 use Rattle.agc_setup.specs.Options.{said_by}
-use Rattle.agc_setup.specs.Prepare.{machine_steps, run_steps}
+use Rattle.agc_setup.specs.Prepare.{run_steps, start_steps}
 use Rattle.agc_setup.specs.Steps.{IsTold, refusal_in}
 use Rattle.agc_setup.specs.Keys.{keys_of}
 use Rattle.agc_machine.specs.StopAddress.{stop_address_of}
@@ -30,7 +30,7 @@ use Rattle.agc_session.proofs.Refused.{at_last, at_memory, at_tables, keys_are_r
 
 module _ (options : Options) (words : List Number) (events : List Event) (machine : State)
     (made : machine ≡ start_state words events options.limit (said_by stop_address_of options.until))
-    (checked : refusal_in (machine_steps options) ≡ None) where
+    (checked : refusal_in (start_steps options.until options.watch options.limit) ≡ None) where
   machine_made : (rope script keys : List ℕ) → words ≡ rope_words options.form rope → events ≡ events_in (script_of script)
       → machine ≡ machine_of options (record { rope = rope; script = script; keys = keys })
   unfolding machine_of

@@ -8,7 +8,7 @@ use Rattle.agc_session.specs.Entry.{session_steps}
 use Rattle.agc_setup.specs.Steps.{ComesOf}
 use Rattle.agc_setup.specs.Files.{Files, files_of, keys_read, rope_steps, script_steps, keys_steps_where}
 use Rattle.agc_setup.specs.Options.{said_by}
-use Rattle.agc_setup.specs.Prepare.{machine_steps, run_steps, slots_refusal, spacing_refusal, tables_refusal}
+use Rattle.agc_setup.specs.Prepare.{run_steps, slots_refusal, spacing_refusal, start_steps, tables_refusal}
 use Rattle.agc_setup.specs.Steps.{Step, looks, asks, IsTold, refusal_in}
 use Rattle.agc_options.specs.declared.options.Options.{Options}
 use Rattle.agc_setup.specs.declared.refusal.Refusal.{Refusal}
@@ -46,7 +46,7 @@ module _ (options : Options) (files : Files) where
   next = script_steps files.script
 
   abbrev then : List Step
-  then = machine_steps options
+  then = start_steps options.until options.watch options.limit
 
   abbrev last : List Step
   last = keys_steps_where options.live files.keys ++ run_steps options
@@ -110,12 +110,12 @@ module _ (options : Options) where
   script_known (Some a) (Some b) (Some c) r k h = at_script options _ r k h
 
   pub machine_known : (rope script keys : Option (List ℕ)) (r : Refusal) → IfSome rope (λ file. refusal_in (rope_steps options.form file) ≡ None)
-      → IfSome script (λ file. refusal_in (script_steps file) ≡ None) → refusal_in (machine_steps options) ≡ Some r
+      → IfSome script (λ file. refusal_in (script_steps file) ≡ None) → refusal_in (start_steps options.until options.watch options.limit) ≡ Some r
       → IfSome (files_of rope script keys) (λ files. IsTold (session_steps options files) r)
   machine_known None script keys r k l h = tt
   machine_known (Some a) None keys r k l h = tt
   machine_known (Some a) (Some b) None r k l h = tt
-  machine_known (Some a) (Some b) (Some c) r k l h = at_machine options _ r k l (told_found (machine_steps options) r h)
+  machine_known (Some a) (Some b) (Some c) r k l h = at_machine options _ r k l (told_found (start_steps options.until options.watch options.limit) r h)
 
   pub keys_are_read : (keys : Option (List ℕ)) → options.live ≡ true → keys_read options.live keys ≡ keys
   keys_are_read keys live = rw live refl

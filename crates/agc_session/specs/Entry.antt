@@ -13,7 +13,7 @@ use Rattle.agc_machine.specs.StopAddress.{stop_address_of}
 use Rattle.agc_setup.specs.Files.{Files, events_in, keys_steps_where, rope_steps, script_steps}
 use Rattle.agc_setup.specs.Keys.{keys_of}
 use Rattle.agc_setup.specs.Options.{said_by}
-use Rattle.agc_setup.specs.Prepare.{machine_steps, run_steps}
+use Rattle.agc_setup.specs.Prepare.{run_steps, start_steps}
 use Rattle.agc_pipe.specs.declared.shown.ShowFault.{ShowFault}
 use Rattle.agc_pipe.specs.declared.shown.ShowFault.TheVariants as show
 use Rattle.agc_session.specs.Print.{report_text}
@@ -29,7 +29,7 @@ unfoldable pub session_steps : Options → Files → List Step
 session_steps options files =
     rope_steps options.form files.rope
     ++ (script_steps files.script
-    ++ (machine_steps options
+    ++ (start_steps options.until options.watch options.limit
     ++ (keys_steps_where options.live files.keys
     ++ run_steps options)))
 

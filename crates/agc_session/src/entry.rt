@@ -108,7 +108,8 @@ fn report<H: Threads + Wait + Sync, R: Read, S: Read, K: Read, G: Gate + Sync>(
 {
     let rope = read_rope(alloc, options.form, rope)?;
     let script = read_script(alloc, script)?;
-    let prepared = prepare(options, rope, script)?;
+    let watch = options.watch.as_ref();
+    let prepared = prepare(rope, script, options.limit, &options.until, watch)?;
     if options.live {
         live_report(rt, alloc, options, prepared, keys, gate)
     } else {

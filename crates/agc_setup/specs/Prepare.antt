@@ -21,23 +21,21 @@ limit_refusal cycles =
     else if nat_lt 1000000000000 cycles then Some (refusal.Limit limit.TooLarge)
     else None
 
-unfoldable pub watch_spec_refusal : Options → Option Refusal
-watch_spec_refusal options = refused_if (says_nothing spec_of options.watch) refusal.BadWatchSpec
+-- the text of watched tables says some, where it is given
+unfoldable pub watch_spec_refusal : Option (String Global) → Option Refusal
+watch_spec_refusal watch = refused_if (says_nothing spec_of watch) refusal.BadWatchSpec
 
 -- the text of a stop address says one, where it is given
 unfoldable pub until_refusal : Option (String Global) → Option Refusal
 until_refusal until = refused_if (says_nothing stop_address_of until) refusal.BadUntilSpec
 
-unfoldable pub machine_steps : Options → List Step
-machine_steps options =
-    looks (limit_refusal options.limit)
-    ∷ looks (watch_spec_refusal options)
-    ∷ looks (until_refusal options.until)
+-- the steps to a machine, and to the tables that are watched where a text says some
+unfoldable pub start_steps : Option (String Global) → Option (String Global) → ℕ → List Step
+start_steps until watch limit =
+    looks (limit_refusal limit)
+    ∷ looks (watch_spec_refusal watch)
+    ∷ looks (until_refusal until)
     ∷ []
-
--- the steps to a machine where no tables are watched
-unfoldable pub start_steps : Option (String Global) → ℕ → List Step
-start_steps until limit = looks (limit_refusal limit) ∷ looks (until_refusal until) ∷ []
 
 -- a ring has 1 to 65,536 slots
 unfoldable pub slots_refusal : ℕ → Option Refusal

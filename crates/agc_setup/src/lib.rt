@@ -11,4 +11,4 @@ pub use files::{read_keys, read_rope, read_script};
 pub use input::{InputFile, KEY_BYTES, ROPE_BYTES, ReadFault, TEXT_BYTES, Unread, read_limited};
 pub use keys::{is_white, named_keys};
 pub use refusal::Refusal;
-pub use start::{Prepared, prepare, start_machine};
+pub use start::{Prepared, prepare};

@@ -1,17 +1,16 @@
 //! Before the run: the options are looked at, one after another, and the machine is made.
-ghost use Rattle.std.specs.Prelude.{◌≡◌, false, IfOk, MatchResult, None, Some};
+ghost use Rattle.std.specs.Prelude.{◌≡◌, false, IfOk, MatchResult, None, Some, option_copied};
 ghost use Rattle.agc_machine.specs.State.{start_state};
 ghost use Rattle.agc_executive.specs.WatchSpec.{spec_of};
 ghost use Rattle.agc_setup.specs.Options.{said_by};
-ghost use Rattle.agc_setup.specs.Prepare.{limit_refusal, machine_steps, start_steps, until_refusal};
+ghost use Rattle.agc_setup.specs.Prepare.{limit_refusal, start_steps, until_refusal};
 ghost use Rattle.agc_setup.specs.Prepare.{watch_spec_refusal};
-ghost use Rattle.agc_setup.specs.Steps.{ComesOf, refusal_in};
+ghost use Rattle.agc_setup.specs.Steps.{refusal_in};
 ghost use Rattle.agc_machine.specs.StopAddress.{stop_address_of};
 
 use crate::refusal::Refusal;
 use agc_executive::WatchSpec;
 use agc_machine::{Machine, StopAddress};
-use agc_options::Options;
 use agc_script::Script;
 use agc_store::Rope;
 
@@ -23,39 +22,32 @@ pub struct Prepared {
     pub watch: Option<WatchSpec>,
 }
 
-/// Makes the machine that the options ask for.
-#[tactic(auto, unfolding(crate::specs::Prepare::machine_steps, agc_machine::specs::State::start_state))]
-pub fn prepare(options: &Options, rope: Rope, script: Script) -> Result<Prepared, Refusal>
-    ensures checked { MatchResult result (λ _. refusal_in (machine_steps options.now) ≡ None)
-        (λ refusal. refusal_in (machine_steps options.now) ≡ Some refusal) }
-    ensures machine { IfOk result (λ prepared. prepared.machine
-        ≡ start_state rope script options.now.limit (said_by stop_address_of options.now.until)) }
-    ensures watch { IfOk result (λ prepared. prepared.watch ≡ said_by spec_of options.now.watch) }
-    ensures fresh { IfOk result (λ prepared. prepared.machine.begun ≡ false) }
-{
-    let machine = limited_machine(rope, script, options.limit)?;
-    let watch = watch_spec(options)?;
-    let until = stop_address(&options.until)?;
-    Ok(Prepared {
-        machine: with_until(machine, until),
-        watch,
-    })
-}
-
-/// Makes the machine of a run that only its limit and its stop address say more of: the limit is looked at first.
+/// Makes the machine of a run, and tells the tables that are watched in it. The refusal is the first that applies of the
+/// limit, the text of `--watch` and that of `--until`.
 #[tactic(auto, unfolding(crate::specs::Prepare::start_steps, agc_machine::specs::State::start_state))]
-pub fn start_machine(
+pub fn prepare(
     rope: Rope,
     script: Script,
     limit: u64,
     until: &Option<String>,
-) -> Result<Machine, Refusal>
-    ensures { ComesOf (start_steps until.now limit) (λ machine. machine
-        ≡ start_state rope script limit (said_by stop_address_of until.now)) result }
+    watch: Option<&String>,
+) -> Result<Prepared, Refusal>
+    ensures checked { MatchResult result
+        (λ _. refusal_in (start_steps until.now (option_copied watch.entry) limit) ≡ None)
+        (λ refusal. refusal_in (start_steps until.now (option_copied watch.entry) limit) ≡ Some refusal) }
+    ensures machine { IfOk result (λ prepared. prepared.machine
+        ≡ start_state rope script limit (said_by stop_address_of until.now)) }
+    ensures watch { IfOk result
+        (λ prepared. prepared.watch ≡ said_by spec_of (option_copied watch.entry)) }
+    ensures fresh { IfOk result (λ prepared. prepared.machine.begun ≡ false) }
 {
     let machine = limited_machine(rope, script, limit)?;
+    let watch = watch_spec(watch)?;
     let until = stop_address(until)?;
-    Ok(with_until(machine, until))
+    Ok(Prepared {
+        machine: with_until(machine, until),
+        watch,
+    })
 }
 
 #[tactic(auto, unfolding(crate::specs::Prepare::limit_refusal))]
@@ -71,12 +63,12 @@ fn limited_machine(rope: Rope, script: Script, limit: u64) -> Result<Machine, Re
 }
 
 #[tactic(auto, unfolding(crate::specs::Prepare::watch_spec_refusal))]
-fn watch_spec(options: &Options) -> Result<Option<WatchSpec>, Refusal>
-    ensures checked { MatchResult result (λ _. watch_spec_refusal options.now ≡ None)
-        (λ refusal. watch_spec_refusal options.now ≡ Some refusal) }
-    ensures said { IfOk result (λ spec. spec ≡ said_by spec_of options.now.watch) }
+fn watch_spec(watch: Option<&String>) -> Result<Option<WatchSpec>, Refusal>
+    ensures checked { MatchResult result (λ _. watch_spec_refusal (option_copied watch.entry) ≡ None)
+        (λ refusal. watch_spec_refusal (option_copied watch.entry) ≡ Some refusal) }
+    ensures said { IfOk result (λ spec. spec ≡ said_by spec_of (option_copied watch.entry)) }
 {
-    let Some(text) = &options.watch else {
+    let Some(text) = watch else {
         return Ok(None);
     };
     match WatchSpec::read(text.as_str()) {

@@ -1,5 +1,5 @@
 //! What is counted of a run, written.
-ghost use Rattle.std.specs.Prelude.{◌≡◌, ◌≢◌, ◌⊎◌};
+ghost use Rattle.std.specs.Prelude.{◌≡◌, ◌≢◌, ◌⊎◌, None};
 ghost use Rattle.std.specs.Io.KnownBytes.{Appends};
 ghost use Rattle.agc_setup.specs.declared.refusal.Refusal.{Refusal};
 ghost use Rattle.agc_results.specs.Counted.{IsCountWritten};
@@ -62,7 +62,7 @@ fn write_count<R: Read, S: Read, W: Write, E: Write, P: Shown>(
         (R.remaining rope.old) (S.remaining script.old)
         (W.contents out.old) (W.contents out.new) }
     ensures refused { result ≡ 2 → (r : Refusal) × IsRefused
-        asked.now.form asked.now.until asked.now.limit
+        asked.now.form asked.now.until None asked.now.limit
         (R.remaining rope.old) (S.remaining script.old) r
         × Appends (E.contents err.old) (E.contents err.new) (trouble_line (told.Refused r)) }
 {

@@ -1,5 +1,5 @@
 //! What is told of runs, written: a trace, a comparison.
-ghost use Rattle.std.specs.Prelude.{◌≡◌, ◌≢◌, ◌⊎◌, true, false};
+ghost use Rattle.std.specs.Prelude.{◌≡◌, ◌≢◌, ◌⊎◌, None, true, false};
 ghost use Rattle.std.specs.Option.{option_or};
 ghost use Rattle.std.specs.Io.KnownBytes.{Keeps};
 ghost use Rattle.agc_compare.specs.SideNames.{both_names};
@@ -204,7 +204,7 @@ fn write_comparison<R: Read, S: Read, T: Read, U: Read, W: Write, E: Write, P: S
         (T.remaining other_rope.old) (U.remaining other_script.old) false
         (W.contents out.old) (W.contents out.new) }
     ensures refused { result ≡ 2 → IsTold (IsPairRefused
-        asked.now.form asked.now.until asked.now.limit
+        asked.now.form asked.now.until None asked.now.limit
         (R.remaining rope.old) (S.remaining script.old)
         (T.remaining other_rope.old) (U.remaining other_script.old))
         (E.contents err.old) (E.contents err.new) }

@@ -17,6 +17,7 @@ use agc_source::{SourceFault, SourceTrouble};
 use agc_store::{RopeFault, RopeForm};
 use agc_study::{answer, last_cycle, write_report, write_told};
 use agc_study_words::asked_by;
+use std::alloc::Global;
 use std::process::Abort;
 use std::rt::Files;
 use std::test::Fail;
@@ -433,6 +434,19 @@ fn runs_are_filmed(rt: HostRuntime) -> Result<(), Fail> {
     Ok(())
 }
 
+/// What is asked for of the tables of a run at its tenth cycle.
+fn watching(alloc: Global, watch: &str) -> Result<Watching, Fail> {
+    Ok(Watching {
+        rope: String::new(alloc),
+        script: String::new(alloc),
+        form: RopeForm::Classic,
+        limit: 10,
+        until: None,
+        watch: String::from_str(alloc, watch)?,
+        span: Span { from: 10, to: 10 },
+    })
+}
+
 /// Where a run's tables are asked for, the text of `--watch` is looked at after the files.
 #[test]
 fn tables_are_watched(rt: HostRuntime) -> Result<(), Fail> {
@@ -451,15 +465,7 @@ fn tables_are_watched(rt: HostRuntime) -> Result<(), Fail> {
         (&[], "7,0,0,7,0,7", "agc-study: rope: Empty\n"),
         (&[0x30, 0x00], "7,0,0,7,0,7,0", ""),
     ] {
-        let asked = Watching {
-            rope: String::new(alloc),
-            script: String::new(alloc),
-            form: RopeForm::Classic,
-            limit: 10,
-            until: None,
-            watch: String::from_str(alloc, watch)?,
-            span: Span { from: 10, to: 10 },
-        };
+        let asked = watching(alloc, watch)?;
         let mut rope: &[u8] = rope;
         let mut script: &[u8] = b"";
         let mut out = Vec::new(alloc);
@@ -474,6 +480,30 @@ fn tables_are_watched(rt: HostRuntime) -> Result<(), Fail> {
                 assert!(rt; out.is_empty());
             }
         }
+        assert!(rt; err.as_slice() == told.as_bytes());
+    }
+    Ok(())
+}
+
+/// As in `agc` the text of `--watch` is looked at before that of `--until`, and after both where its tables stand.
+#[test]
+fn the_text_of_watch_is_told_before_that_of_until(rt: HostRuntime) -> Result<(), Fail> {
+    let alloc = rt.alloc();
+    for (watch, told) in [
+        ("7,0,0,7,0,7", "agc-study: watch: BadSpec\n"),
+        ("7,0,0,7,0,7,400", "agc-study: until: BadSpec\n"),
+    ] {
+        let mut asked = watching(alloc, watch)?;
+        asked.until = Some(String::from_str(alloc, "7")?);
+        let mut rope: &[u8] = &[0x30, 0x00];
+        let mut script: &[u8] = b"";
+        let mut out = Vec::new(alloc);
+        let mut err = Vec::new(alloc);
+        let watched = watch_files(alloc, &asked, &mut rope, &mut script, &mut out, &mut Untold);
+        if let Err(untraced) = watched {
+            assert_eq!(rt; status_of_untraced(untraced, &mut err), 2);
+        }
+        assert!(rt; out.is_empty());
         assert!(rt; err.as_slice() == told.as_bytes());
     }
     Ok(())

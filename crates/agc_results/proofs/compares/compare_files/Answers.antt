@@ -1,4 +1,4 @@
-use Rattle.std.proofs.Common.{inl, inr}
+use Rattle.std.proofs.Common.{None, inl, inr}
 use Rattle.std.proofs.lemmas.Result.{err_from_is_err_and}
 use Rattle.agc_results.proofs.Starts.{memory_refused, started_accepted}
 use Rattle.agc_results.proofs.compares.compare_files.Goals as goal
@@ -20,10 +20,10 @@ returns-in_err-left-clause-refused g c =
 pub returns-in-Err-clause-refused : goal.returns-in-Err-clause-refused
 returns-in-Err-clause-refused g c =
     let asked = c.args.asked.now in
-    let accepted = started_accepted asked.form asked.until asked.limit _ _ c.in_ok-left.left c.in_ok-left.ensures.started in
+    let accepted = started_accepted asked.form asked.until None asked.limit _ _ c.in_ok-left.left c.in_ok-left.ensures.started in
     inr (accepted, _, c.of_other_run.ensures, c.in-Err.ensures.refused)
 
 pub returns-clause-refused : goal.returns-clause-refused
 returns-clause-refused g c =
     let asked = c.args.asked.now in
-    inl (_, cc, memory_refused asked.form asked.until asked.limit _ _)
+    inl (_, cc, memory_refused asked.form asked.until None asked.limit _ _)

@@ -16,9 +16,9 @@ returns-in-Ok-push_film_pair-clause-film g c = record {
 pub returns-clause-refused : goal.returns-clause-refused
 returns-clause-refused g c =
     let asked = c.args.asked.now in
-    inl (refusal.Memory, cc, inl (memory_refused asked.form asked.until asked.limit _ _))
+    inl (refusal.Memory, cc, memory_refused asked.form asked.until asked.watch asked.limit _ _)
 
 pub returns-in-Err-clause-refused : goal.returns-in-Err-clause-refused
 returns-in-Err-clause-refused g c =
     let accepted = filmed_accepted c.args.asked.now _ _ c.in_ok-left.left c.in_ok-left.ensures.filmed in
-    inr ((accepted, c.in_ok-left.ensures.watched), c.in-Err.refusal, c.of_other_run.ensures, c.in-Err.ensures.refused)
+    inr (accepted, c.in-Err.refusal, c.of_other_run.ensures, c.in-Err.ensures.refused)

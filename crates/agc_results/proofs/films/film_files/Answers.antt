@@ -1,4 +1,3 @@
-use Rattle.std.proofs.Common.{inl}
 use Rattle.std.proofs.lemmas.Result.{err_from_is_err_and}
 use Rattle.agc_results.proofs.Starts.{memory_refused}
 use Rattle.agc_results.proofs.films.film_files.Goals as goal
@@ -14,4 +13,4 @@ pub returns-in_err-push_film-clause-refused : goal.returns-in_err-push_film-clau
 returns-in_err-push_film-clause-refused g c =
     let asked = c.args.asked.now in
     let p = err_from_is_err_and c.from_residual-in_err-push_film.result c.from_residual-in_err-push_film.ensures.1 in
-    rw (p.1, p.2) (inl (memory_refused asked.form asked.until asked.limit _ _))
+    rw (p.1, p.2) (memory_refused asked.form asked.until asked.watch asked.limit _ _)
