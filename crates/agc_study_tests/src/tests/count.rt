@@ -1,12 +1,8 @@
 //! Counts of a small program, worked out by hand.
+use super::machine_of;
 use agc_count::{Counts, Layout, Span, Tally, count, push_count};
-use agc_machine::Machine;
 use agc_progress::Untold;
-use agc_script::Script;
-use agc_store::Rope;
-use agc_test_kit::rope_file;
 use std::process::Abort;
-use std::test::Fail;
 
 /// Writes one word, and waits.
 static WRITES: &str = "
@@ -28,27 +24,35 @@ static READS: &str = "
 4010 00002
 ";
 
-/// CA 4004, EXTEND, WRITE 10 and TCF 4003 from 0, 2, 3 and 5 on; the limit stops at 10.
-fn machine_of(rt: &(impl AllocGlobal + Abort), words: &str) -> Result<Machine, Fail> {
-    let bytes = rope_file(rt.alloc(), words)?;
-    let rope = Rope::read(rt.alloc(), bytes.as_slice())?;
-    let script = Script::parse(rt.alloc(), b"")?;
-    Ok(
-        Machine::new(rope, script, 10)
-            .ok()
-            .expect(rt, "the limit is in range"),
-    )
+/// What is counted of a run of a listing up to 10, in a span of cycles.
+fn counted(rt: &(impl AllocGlobal + Abort), listing: &str, from: u64, to: u64) -> Counts {
+    let mut machine = machine_of(rt, listing, "", 10);
+    count(rt.alloc(), &mut machine, Span { from, to }, &mut Untold)
+        .ok()
+        .expect(rt, "memory")
 }
 
-fn counted(rt: &(impl AllocGlobal + Abort), from: u64, to: u64) -> Result<Counts, Fail> {
-    let mut machine = machine_of(rt, WRITES)?;
-    Ok(count(rt.alloc(), &mut machine, Span { from, to }, &mut Untold)?)
+/// The same in print.
+fn printed(
+    rt: &(impl AllocGlobal + Abort),
+    layout: Layout,
+    listing: &str,
+    from: u64,
+    to: u64,
+) -> String {
+    let counts = counted(rt, listing, from, to);
+    let machine = machine_of(rt, listing, "", 10);
+    let mut text = String::new(rt.alloc());
+    push_count(&mut text, layout, false, &counts, machine.store())
+        .ok()
+        .expect(rt, "memory");
+    text
 }
 
 /// Every word of a whole run.
 #[test]
-fn words_of_a_run(rt: HostRuntime) -> Result<(), Fail> {
-    let counts = counted(&rt, 0, u64::MAX)?;
+fn words_of_a_run(rt: HostRuntime) {
+    let counts = counted(&rt, WRITES, 0, u64::MAX);
     assert_eq!(rt;
         counts.fixed.at(0o4000),
         Tally {
@@ -80,16 +84,12 @@ fn words_of_a_run(rt: HostRuntime) -> Result<(), Fail> {
         }
     );
     assert_eq!(rt; counts.erasable.len(), 0o4000);
-    Ok(())
 }
 
 /// A part of the run, in print.
 #[test]
-fn a_part_in_print(rt: HostRuntime) -> Result<(), Fail> {
-    let counts = counted(&rt, 3, 5)?;
-    let machine = machine_of(&rt, WRITES)?;
-    let mut text = String::new(rt.alloc());
-    push_count(&mut text, Layout::Csv, false, &counts, machine.store())?;
+fn a_part_in_print(rt: HostRuntime) {
+    let text = printed(&rt, Layout::Csv, WRITES, 3, 5);
     assert_eq!(rt;
         text.as_str(),
         "kind,name,order,times,cycles,data
@@ -107,20 +107,12 @@ word,\"02,4002\",01010 WRITE 010,1,2,0
 word,\"02,4003\",14003 TCF 4003,1,1,0
 "
     );
-    Ok(())
 }
 
 /// Code, data and dead words of a rope, in print: DCA reads two words, INCR a cell, and TS reads none.
 #[test]
-fn words_that_are_read(rt: HostRuntime) -> Result<(), Fail> {
-    let mut machine = machine_of(&rt, READS)?;
-    let whole = Span {
-        from: 0,
-        to: u64::MAX,
-    };
-    let counts = count(rt.alloc(), &mut machine, whole, &mut Untold)?;
-    let mut text = String::new(rt.alloc());
-    push_count(&mut text, Layout::Columns, false, &counts, machine.store())?;
+fn words_that_are_read(rt: HostRuntime) {
+    let text = printed(&rt, Layout::Columns, READS, 0, u64::MAX);
     assert!(rt;
         text.as_str().ends_with(
             "             0               0             1  word 0100
@@ -134,5 +126,4 @@ fn words_that_are_read(rt: HostRuntime) -> Result<(), Fail> {
 "
         )
     );
-    Ok(())
 }

@@ -1,13 +1,9 @@
 //! The changes of the tables in a small program's run, worked out by hand.
+use super::machine_of;
 use agc_executive::WatchSpec;
 use agc_jobs::{Span, write_changes};
-use agc_machine::Machine;
 use agc_progress::Untold;
-use agc_script::Script;
-use agc_store::Rope;
-use agc_test_kit::rope_file;
 use std::process::Abort;
-use std::test::Fail;
 
 /// Writes 144 octal to a cell, and waits: CA, TS and TCF from 0, 2 and 4 on.
 static WRITES: &str = "
@@ -18,28 +14,22 @@ static WRITES: &str = "
 ";
 
 /// What is told of the run up to 10, with no core set, LST1 at the cell and LST2 where nothing is written.
-fn told(rt: &(impl AllocGlobal + Abort), from: u64, to: u64) -> Result<Vec<u8>, Fail> {
-    let alloc = rt.alloc();
-    let bytes = rope_file(alloc, WRITES)?;
-    let rope = Rope::read(alloc, bytes.as_slice())?;
-    let script = Script::parse(alloc, b"7 poke 7 2 00001")?;
-    let mut machine = Machine::new(rope, script, 10)
-        .ok()
-        .expect(rt, "the limit is in range");
-    let spec = WatchSpec::read("7,0,0,0,100,7,0").ok_or("a spec")?;
-    let spec = spec.checked().ok().ok_or("tables")?;
-    let mut out = Vec::new(alloc);
+fn told(rt: &(impl AllocGlobal + Abort), from: u64, to: u64) -> Vec<u8> {
+    let mut machine = machine_of(rt, WRITES, "7 poke 7 2 00001", 10);
+    let spec = WatchSpec::read("7,0,0,0,100,7,0").expect(rt, "a spec");
+    let spec = spec.checked().ok().expect(rt, "tables");
+    let mut out = Vec::new(rt.alloc());
     let span = Span { from, to };
-    write_changes(alloc, &mut machine, span, &spec, &mut out, &mut Untold)
+    write_changes(rt.alloc(), &mut machine, span, &spec, &mut out, &mut Untold)
         .ok()
-        .ok_or("lines")?;
-    Ok(out)
+        .expect(rt, "lines");
+    out
 }
 
 /// All lines first, then that of the cell at the cycle after TS, and that of the word that the script pokes.
 #[test]
-fn changes_of_a_run(rt: HostRuntime) -> Result<(), Fail> {
-    let told = told(&rt, 0, u64::MAX)?;
+fn changes_of_a_run(rt: HostRuntime) {
+    let told = told(&rt, 0, u64::MAX);
     assert!(rt;
         told.as_slice()
             == b"0 LST1 00000 00000 00000 00000 00000 00000 00000 00000
@@ -57,13 +47,12 @@ fn changes_of_a_run(rt: HostRuntime) -> Result<(), Fail> {
 "
                 .as_slice()
     );
-    Ok(())
 }
 
 /// A part of it: all lines in the first state from 3 on, and nothing past 6.
 #[test]
-fn changes_of_a_part(rt: HostRuntime) -> Result<(), Fail> {
-    let told = told(&rt, 3, 6)?;
+fn changes_of_a_part(rt: HostRuntime) {
+    let told = told(&rt, 3, 6);
     assert!(rt;
         told.as_slice()
             == b"4 LST1 00144 00000 00000 00000 00000 00000 00000 00000
@@ -79,5 +68,4 @@ fn changes_of_a_part(rt: HostRuntime) -> Result<(), Fail> {
 "
                 .as_slice()
     );
-    Ok(())
 }

@@ -1,32 +1,13 @@
 //! Traces of small programs, worked out by hand.
-use agc_machine::Machine;
+use super::machine_of;
 use agc_places::{Places, PlacesFault};
 use agc_processor::Rupt;
 use agc_progress::Untold;
-use agc_script::Script;
 use agc_source_words::{Location, location_at};
-use agc_store::{Addr, Rope};
-use agc_test_kit::rope_file;
+use agc_store::Addr;
 use agc_trace::{Only, Selection, Service, trace};
 use std::process::Abort;
 use std::test::Fail;
-
-/// The machine of a listing and a script at the start of its run.
-fn machine_of(
-    rt: &(impl AllocGlobal + Abort),
-    listing: &str,
-    script: &str,
-    limit: u64,
-) -> Result<Machine, Fail> {
-    let bytes = rope_file(rt.alloc(), listing)?;
-    let rope = Rope::read(rt.alloc(), bytes.as_slice())?;
-    let script = Script::parse(rt.alloc(), script.as_bytes())?;
-    Ok(
-        Machine::new(rope, script, limit)
-            .ok()
-            .expect(rt, "the limit is in range"),
-    )
-}
 
 /// What is selected of the trace of a run of a listing.
 fn traced(
@@ -35,18 +16,36 @@ fn traced(
     script: &str,
     limit: u64,
     selection: &Selection,
-) -> Result<String, Fail> {
-    let mut machine = machine_of(rt, listing, script, limit)?;
+) -> String {
+    let mut machine = machine_of(rt, listing, script, limit);
     let mut out = Vec::new(rt.alloc());
-    trace(
+    let told = trace(
         rt.alloc(),
         &mut machine,
         selection,
         &None,
         &mut out,
         &mut Untold,
-    )?;
-    Ok(String::from_utf8(out).ok().expect(rt, "a text"))
+    );
+    assert!(rt; told.is_ok());
+    String::from_utf8(out).ok().expect(rt, "a text")
+}
+
+/// Looks that these are the lines of what is selected of the trace of a run of a listing.
+fn shows(
+    rt: &(impl AllocGlobal + Abort),
+    listing: &str,
+    script: &str,
+    limit: u64,
+    selection: &Selection,
+    lines: &[&str],
+) {
+    let text = traced(rt, listing, script, limit, selection);
+    let mut told = text.as_str().lines();
+    for line in lines {
+        assert_eq!(rt; told.next(), Some(*line));
+    }
+    assert_eq!(rt; told.next(), None);
 }
 
 fn between(rt: &impl AllocGlobal, from: u64, to: u64, only: Option<Only>) -> Selection {
@@ -62,6 +61,18 @@ fn between(rt: &impl AllocGlobal, from: u64, to: u64, only: Option<Only>) -> Sel
     }
 }
 
+/// Asks for the orders of a mnemonic too.
+fn ask_for_order(rt: &(impl AllocGlobal + Abort), selection: &mut Selection, name: &str) {
+    let name = name.to_string(rt.alloc()).ok().expect(rt, "memory");
+    selection.orders.push(name).ok().expect(rt, "memory");
+}
+
+/// Asks for cells too.
+fn ask_for_cells(rt: &(impl AllocGlobal + Abort), selection: &mut Selection, text: &str) {
+    let cells = Places::of_cells(text.as_bytes()).ok().expect(rt, "cells");
+    selection.cells.push(cells).ok().expect(rt, "memory");
+}
+
 /// Writes one word, and waits.
 static TEN_BYTES: &str = "
 4000 34004 CA 4004
@@ -73,120 +84,103 @@ static TEN_BYTES: &str = "
 
 /// CA 4004, EXTEND, WRITE 10 and TCF 4003 from 0, 2, 3 and 5 on; the limit stops at 10.
 #[test]
-fn ten_bytes(rt: HostRuntime) -> Result<(), Fail> {
-    let text = traced(&rt, TEN_BYTES, "", 10, &between(&rt, 0, 10, None))?;
-    let mut lines = text.as_str().lines();
-    for line in [
-        "0 4000 34004 CA 4004 | A 154171 L 00000 Q 000000 Z 4002 EB 0 FB 00",
-        "2 4001 00006 EXTEND | A 154171 L 00000 Q 000000 Z 4003 EB 0 FB 00",
-        "3 4002 01010 WRITE 010 > 010 54171 | A 154171 L 00000 Q 000000 Z 4004 EB 0 FB 00",
-        "5 4003 14003 TCF 4003 | A 154171 L 00000 Q 000000 Z 4004 EB 0 FB 00",
-        "6 4003 14003 TCF 4003 | A 154171 L 00000 Q 000000 Z 4004 EB 0 FB 00",
-        "7 4003 14003 TCF 4003 | A 154171 L 00000 Q 000000 Z 4004 EB 0 FB 00",
-        "8 4003 14003 TCF 4003 | A 154171 L 00000 Q 000000 Z 4004 EB 0 FB 00",
-        "9 4003 14003 TCF 4003 | A 154171 L 00000 Q 000000 Z 4004 EB 0 FB 00",
-        "10 - stop Limit | A 154171 L 00000 Q 000000 Z 4004 EB 0 FB 00",
-    ] {
-        assert_eq!(rt; lines.next(), Some(line));
-    }
-    assert_eq!(rt; lines.next(), None);
-    Ok(())
+fn ten_bytes(rt: HostRuntime) {
+    shows(
+        &rt,
+        TEN_BYTES,
+        "",
+        10,
+        &between(&rt, 0, 10, None),
+        &[
+            "0 4000 34004 CA 4004 | A 154171 L 00000 Q 000000 Z 4002 EB 0 FB 00",
+            "2 4001 00006 EXTEND | A 154171 L 00000 Q 000000 Z 4003 EB 0 FB 00",
+            "3 4002 01010 WRITE 010 > 010 54171 | A 154171 L 00000 Q 000000 Z 4004 EB 0 FB 00",
+            "5 4003 14003 TCF 4003 | A 154171 L 00000 Q 000000 Z 4004 EB 0 FB 00",
+            "6 4003 14003 TCF 4003 | A 154171 L 00000 Q 000000 Z 4004 EB 0 FB 00",
+            "7 4003 14003 TCF 4003 | A 154171 L 00000 Q 000000 Z 4004 EB 0 FB 00",
+            "8 4003 14003 TCF 4003 | A 154171 L 00000 Q 000000 Z 4004 EB 0 FB 00",
+            "9 4003 14003 TCF 4003 | A 154171 L 00000 Q 000000 Z 4004 EB 0 FB 00",
+            "10 - stop Limit | A 154171 L 00000 Q 000000 Z 4004 EB 0 FB 00",
+        ],
+    );
 }
 
 /// Of the same run the order that writes, and the orders that jump; the stop stands with both.
 #[test]
-fn writes_and_jumps(rt: HostRuntime) -> Result<(), Fail> {
-    let text = traced(
+fn writes_and_jumps(rt: HostRuntime) {
+    shows(
         &rt,
         TEN_BYTES,
         "",
         10,
         &between(&rt, 0, 10, Some(Only::Writes)),
-    )?;
-    assert_eq!(rt;
-        text.as_str(),
-        "3 4002 01010 WRITE 010 > 010 54171 | A 154171 L 00000 Q 000000 Z 4004 EB 0 FB 00\n10 - stop Limit | A 154171 L 00000 Q 000000 Z 4004 EB 0 FB 00\n"
+        &[
+            "3 4002 01010 WRITE 010 > 010 54171 | A 154171 L 00000 Q 000000 Z 4004 EB 0 FB 00",
+            "10 - stop Limit | A 154171 L 00000 Q 000000 Z 4004 EB 0 FB 00",
+        ],
     );
-    let text = traced(
+    shows(
         &rt,
         TEN_BYTES,
         "",
         10,
         &between(&rt, 0, 6, Some(Only::Jumps)),
-    )?;
-    assert_eq!(rt;
-        text.as_str(),
-        "5 4003 14003 TCF 4003 | A 154171 L 00000 Q 000000 Z 4004 EB 0 FB 00\n6 4003 14003 TCF 4003 | A 154171 L 00000 Q 000000 Z 4004 EB 0 FB 00\n"
+        &[
+            "5 4003 14003 TCF 4003 | A 154171 L 00000 Q 000000 Z 4004 EB 0 FB 00",
+            "6 4003 14003 TCF 4003 | A 154171 L 00000 Q 000000 Z 4004 EB 0 FB 00",
+        ],
     );
-    Ok(())
 }
 
 /// Of the same run the orders at two places, and then those of them that are called EXTEND. The places are named by
 /// their bank, where the lines have four digits.
 #[test]
-fn orders_at_places(rt: HostRuntime) -> Result<(), Fail> {
-    let extend = "2 4001 00006 EXTEND | A 154171 L 00000 Q 000000 Z 4003 EB 0 FB 00\n";
-    let write =
-        "3 4002 01010 WRITE 010 > 010 54171 | A 154171 L 00000 Q 000000 Z 4004 EB 0 FB 00\n";
-    let stop = "10 - stop Limit | A 154171 L 00000 Q 000000 Z 4004 EB 0 FB 00\n";
+fn orders_at_places(rt: HostRuntime) {
+    let extend = "2 4001 00006 EXTEND | A 154171 L 00000 Q 000000 Z 4003 EB 0 FB 00";
+    let write = "3 4002 01010 WRITE 010 > 010 54171 | A 154171 L 00000 Q 000000 Z 4004 EB 0 FB 00";
+    let stop = "10 - stop Limit | A 154171 L 00000 Q 000000 Z 4004 EB 0 FB 00";
     let mut selection = between(&rt, 0, 10, None);
-    let places = Places::named(b"02,4001-4002").ok().ok_or("places")?;
-    selection.places.push(places)?;
-    let text = traced(&rt, TEN_BYTES, "", 10, &selection)?;
-    let wanted = format!(in rt.alloc(); "{extend}{write}{stop}")?;
-    assert_eq!(rt; text.as_str(), wanted.as_str());
-    selection.orders.push("TCF".to_string(rt.alloc())?)?;
-    let text = traced(&rt, TEN_BYTES, "", 10, &selection)?;
-    assert_eq!(rt; text.as_str(), stop);
-    selection.orders.push("EXTEND".to_string(rt.alloc())?)?;
-    let text = traced(&rt, TEN_BYTES, "", 10, &selection)?;
-    let wanted = format!(in rt.alloc(); "{extend}{stop}")?;
-    assert_eq!(rt; text.as_str(), wanted.as_str());
-    Ok(())
+    let places = Places::named(b"02,4001-4002").ok().expect(&rt, "places");
+    selection.places.push(places).ok().expect(&rt, "memory");
+    shows(&rt, TEN_BYTES, "", 10, &selection, &[extend, write, stop]);
+    ask_for_order(&rt, &mut selection, "TCF");
+    shows(&rt, TEN_BYTES, "", 10, &selection, &[stop]);
+    ask_for_order(&rt, &mut selection, "EXTEND");
+    shows(&rt, TEN_BYTES, "", 10, &selection, &[extend, stop]);
 }
 
 /// Of the same run the order that writes to channel 10. Nothing reads or writes channel 11, or channel 4, as CA 4004 and
 /// TCF 4003 would if their last digits were a channel's.
 #[test]
-fn orders_at_a_channel(rt: HostRuntime) -> Result<(), Fail> {
-    let stop = "10 - stop Limit | A 154171 L 00000 Q 000000 Z 4004 EB 0 FB 00\n";
+fn orders_at_a_channel(rt: HostRuntime) {
+    let write = "3 4002 01010 WRITE 010 > 010 54171 | A 154171 L 00000 Q 000000 Z 4004 EB 0 FB 00";
+    let stop = "10 - stop Limit | A 154171 L 00000 Q 000000 Z 4004 EB 0 FB 00";
     let mut selection = between(&rt, 0, 10, None);
-    selection.channels.push(0o11)?;
-    selection.channels.push(0o4)?;
-    let text = traced(&rt, TEN_BYTES, "", 10, &selection)?;
-    assert_eq!(rt; text.as_str(), stop);
-    selection.channels.push(0o10)?;
-    let text = traced(&rt, TEN_BYTES, "", 10, &selection)?;
-    assert_eq!(rt;
-        text.as_str(),
-        "3 4002 01010 WRITE 010 > 010 54171 | A 154171 L 00000 Q 000000 Z 4004 EB 0 FB 00\n10 - stop Limit | A 154171 L 00000 Q 000000 Z 4004 EB 0 FB 00\n"
-    );
-    Ok(())
+    selection.channels.push(0o11).ok().expect(&rt, "memory");
+    selection.channels.push(0o4).ok().expect(&rt, "memory");
+    shows(&rt, TEN_BYTES, "", 10, &selection, &[stop]);
+    selection.channels.push(0o10).ok().expect(&rt, "memory");
+    shows(&rt, TEN_BYTES, "", 10, &selection, &[write, stop]);
 }
 
 /// Of the same run the last lines: of all, of the orders that write, and of a range that ends before the stop.
 #[test]
-fn last_lines(rt: HostRuntime) -> Result<(), Fail> {
-    let two =
-        "9 4003 14003 TCF 4003 | A 154171 L 00000 Q 000000 Z 4004 EB 0 FB 00\n10 - stop Limit | A 154171 L 00000 Q 000000 Z 4004 EB 0 FB 00\n";
-    let stop = "10 - stop Limit | A 154171 L 00000 Q 000000 Z 4004 EB 0 FB 00\n";
-    let write =
-        "3 4002 01010 WRITE 010 > 010 54171 | A 154171 L 00000 Q 000000 Z 4004 EB 0 FB 00\n";
-    for (to, only, last, wanted) in [
-        (10, None, 2, two),
-        (10, None, 1, stop),
-        (10, None, 0, ""),
-        (10, Some(Only::Writes), 1, stop),
-        (9, Some(Only::Writes), 1, write),
-        (9, Some(Only::Writes), 9, write),
-        (3, None, 1, write),
-    ] {
+fn last_lines(rt: HostRuntime) {
+    let before = "9 4003 14003 TCF 4003 | A 154171 L 00000 Q 000000 Z 4004 EB 0 FB 00";
+    let stop = "10 - stop Limit | A 154171 L 00000 Q 000000 Z 4004 EB 0 FB 00";
+    let write = "3 4002 01010 WRITE 010 > 010 54171 | A 154171 L 00000 Q 000000 Z 4004 EB 0 FB 00";
+    let last = |to, only, last, lines: &[&str]| {
         let mut selection = between(&rt, 0, to, only);
         selection.last = Some(last);
-        let text = traced(&rt, TEN_BYTES, "", 10, &selection)?;
-        assert_eq!(rt; text.as_str(), wanted, "{to} {last}");
-    }
-    Ok(())
+        shows(&rt, TEN_BYTES, "", 10, &selection, lines);
+    };
+    last(10, None, 2, &[before, stop]);
+    last(10, None, 1, &[stop]);
+    last(10, None, 0, &[]);
+    last(10, Some(Only::Writes), 1, &[stop]);
+    last(9, Some(Only::Writes), 1, &[write]);
+    last(9, Some(Only::Writes), 9, &[write]);
+    last(3, None, 1, &[write]);
 }
 
 /// The places that texts name: 2000 octal times its bank and the offset, or of a cell 400 times.
@@ -273,35 +267,34 @@ static CHANGES: &str = "
 /// CA 4004, TS 0100 and INCR 0100 from 0, 2 and 4 on, two cycles each; the script writes E3,1400 twice at 7, the second
 /// time the same word. A has sixteen bits.
 #[test]
-fn who_wrote_a_cell(rt: HostRuntime) -> Result<(), Fail> {
+fn who_wrote_a_cell(rt: HostRuntime) {
     let load =
-        "0 4000 34004 CA 4004 | A 000007 L 00000 Q 000000 Z 4002 EB 0 FB 00 | 0000 000000 to 000007\n";
+        "0 4000 34004 CA 4004 | A 000007 L 00000 Q 000000 Z 4002 EB 0 FB 00 | 0000 000000 to 000007";
     let store =
-        "2 4001 54100 TS 0100 | A 000007 L 00000 Q 000000 Z 4003 EB 0 FB 00 | 0100 00000 to 00007\n";
+        "2 4001 54100 TS 0100 | A 000007 L 00000 Q 000000 Z 4003 EB 0 FB 00 | 0100 00000 to 00007";
     let add =
-        "4 4002 24100 INCR 0100 | A 000007 L 00000 Q 000000 Z 4004 EB 0 FB 00 | 0100 00007 to 00010\n";
+        "4 4002 24100 INCR 0100 | A 000007 L 00000 Q 000000 Z 4004 EB 0 FB 00 | 0100 00007 to 00010";
     let poke =
-        "7 - event poke 3 0 00005 | A 000007 L 00000 Q 000000 Z 4004 EB 0 FB 00 | E3,1400 00000 to 00005\n";
-    let stop = "9 - stop Limit | A 000007 L 00000 Q 000000 Z 4004 EB 0 FB 00\n";
+        "7 - event poke 3 0 00005 | A 000007 L 00000 Q 000000 Z 4004 EB 0 FB 00 | E3,1400 00000 to 00005";
+    let stop = "9 - stop Limit | A 000007 L 00000 Q 000000 Z 4004 EB 0 FB 00";
     let script = "7 poke 3 0 5\n7 poke 3 0 5\n";
     let mut selection = between(&rt, 0, 9, None);
-    for text in ["E3,1400", "0000", "0077-0101"] {
-        let cells = Places::of_cells(text.as_bytes()).ok().ok_or("cells")?;
-        selection.cells.push(cells)?;
-    }
-    let text = traced(&rt, CHANGES, script, 9, &selection)?;
-    let wanted = format!(in rt.alloc(); "{load}{store}{add}{poke}{stop}")?;
-    assert_eq!(rt; text.as_str(), wanted.as_str());
+    ask_for_cells(&rt, &mut selection, "E3,1400");
+    ask_for_cells(&rt, &mut selection, "0000");
+    ask_for_cells(&rt, &mut selection, "0077-0101");
+    shows(
+        &rt,
+        CHANGES,
+        script,
+        9,
+        &selection,
+        &[load, store, add, poke, stop],
+    );
     selection.last = Some(2);
-    let text = traced(&rt, CHANGES, script, 9, &selection)?;
-    let wanted = format!(in rt.alloc(); "{poke}{stop}")?;
-    assert_eq!(rt; text.as_str(), wanted.as_str());
+    shows(&rt, CHANGES, script, 9, &selection, &[poke, stop]);
     selection.last = None;
-    selection.orders.push("INCR".to_string(rt.alloc())?)?;
-    let text = traced(&rt, CHANGES, script, 9, &selection)?;
-    let wanted = format!(in rt.alloc(); "{add}{stop}")?;
-    assert_eq!(rt; text.as_str(), wanted.as_str());
-    Ok(())
+    ask_for_order(&rt, &mut selection, "INCR");
+    shows(&rt, CHANGES, script, 9, &selection, &[add, stop]);
 }
 
 #[test]
@@ -322,24 +315,19 @@ static KEY: &str = "
 
 /// The key comes at 2, its interrupt is taken there, and RESUME runs from 5 on; the limit stops at 8.
 #[test]
-fn interrupts(rt: HostRuntime) -> Result<(), Fail> {
-    let text = traced(
+fn interrupts(rt: HostRuntime) {
+    shows(
         &rt,
         KEY,
         "2 key VERB\n",
         8,
         &between(&rt, 0, 8, Some(Only::Interrupts)),
-    )?;
-    let mut lines = text.as_str().lines();
-    for line in [
-        "2 - interrupt KEYRUPT1 | A 000000 L 00000 Q 000000 Z 4025 EB 0 FB 00",
-        "5 4024 50017 RESUME | A 000000 L 00000 Q 000000 Z 4001 EB 0 FB 00",
-        "8 - stop Limit | A 000000 L 00000 Q 000000 Z 4001 EB 0 FB 00",
-    ] {
-        assert_eq!(rt; lines.next(), Some(line));
-    }
-    assert_eq!(rt; lines.next(), None);
-    Ok(())
+        &[
+            "2 - interrupt KEYRUPT1 | A 000000 L 00000 Q 000000 Z 4025 EB 0 FB 00",
+            "5 4024 50017 RESUME | A 000000 L 00000 Q 000000 Z 4001 EB 0 FB 00",
+            "8 - stop Limit | A 000000 L 00000 Q 000000 Z 4001 EB 0 FB 00",
+        ],
+    );
 }
 
 /// Waits, goes back from a key at once, and never from one of the second keyboard.
@@ -349,11 +337,31 @@ static TWO_KEYS: &str = "
 4030 14030 TCF 4030
 ";
 
+/// The service that the trace of a run of both keys tells of at its end.
+fn service_left(
+    rt: &(impl AllocGlobal + Abort),
+    limit: u64,
+    selection: &Selection,
+) -> Option<Service> {
+    let mut machine = machine_of(rt, TWO_KEYS, "2 key VERB\n3 raise 6\n", limit);
+    let mut out = Vec::new(rt.alloc());
+    trace(
+        rt.alloc(),
+        &mut machine,
+        selection,
+        &None,
+        &mut out,
+        &mut Untold,
+    )
+    .ok()
+    .expect(rt, "memory")
+}
+
 /// Interrupts that were taken, and not ended. KEYRUPT1 is taken at 2 and ended by the RESUME that begins at 5; KEYRUPT2,
 /// asked for meanwhile, is taken at 7, and serves from 10 on. A range that ends before the stop, or begins after the
 /// interrupt, tells of no service.
 #[test]
-fn services_at_the_stop(rt: HostRuntime) -> Result<(), Fail> {
+fn services_at_the_stop(rt: HostRuntime) {
     let first = Service {
         rupt: Rupt::Keyrupt1,
         cycle: 2,
@@ -378,20 +386,9 @@ fn services_at_the_stop(rt: HostRuntime) -> Result<(), Fail> {
         (20, 21, u64::MAX, None, None),
         (20, 5, 3, None, None),
     ] {
-        let mut machine = machine_of(&rt, TWO_KEYS, "2 key VERB\n3 raise 6\n", limit)?;
-        let mut out = Vec::new(rt.alloc());
-        let selection = between(&rt, from, to, only);
-        let told = trace(
-            rt.alloc(),
-            &mut machine,
-            &selection,
-            &None,
-            &mut out,
-            &mut Untold,
-        )?;
+        let told = service_left(&rt, limit, &between(&rt, from, to, only));
         assert_eq!(rt; told, left, "{limit} {from} {to}");
     }
-    Ok(())
 }
 
 /// Waits without interrupts.
@@ -402,22 +399,15 @@ static WAITS: &str = "
 
 /// A range far from the start, and one that ends long before the stop. After the stop there is no line.
 #[test]
-fn far_ranges(rt: HostRuntime) -> Result<(), Fail> {
-    let last = "3000000 - stop Limit | A 000000 L 00000 Q 000000 Z 4002 EB 0 FB 00\n";
-    let text = traced(
-        &rt,
-        WAITS,
-        "",
-        3_000_000,
-        &between(&rt, 3_000_000, u64::MAX, None),
-    )?;
-    assert_eq!(rt; text.as_str(), last);
-    let first = "0 4000 00004 INHINT | A 000000 L 00000 Q 000000 Z 4002 EB 0 FB 00\n";
-    let text = traced(&rt, WAITS, "", 1_000_000_000_000, &between(&rt, 0, 0, None))?;
-    assert_eq!(rt; text.as_str(), first);
-    let text = traced(&rt, WAITS, "", 10, &between(&rt, 11, u64::MAX, None))?;
-    assert_eq!(rt; text.as_str(), "");
-    Ok(())
+fn far_ranges(rt: HostRuntime) {
+    let last = "3000000 - stop Limit | A 000000 L 00000 Q 000000 Z 4002 EB 0 FB 00";
+    let far = between(&rt, 3_000_000, u64::MAX, None);
+    shows(&rt, WAITS, "", 3_000_000, &far, &[last]);
+    let first = "0 4000 00004 INHINT | A 000000 L 00000 Q 000000 Z 4002 EB 0 FB 00";
+    let at_start = between(&rt, 0, 0, None);
+    shows(&rt, WAITS, "", 1_000_000_000_000, &at_start, &[first]);
+    let past_the_stop = between(&rt, 11, u64::MAX, None);
+    shows(&rt, WAITS, "", 10, &past_the_stop, &[]);
 }
 
 /// Waits, and serves each of the ten interrupts by going back at once.
@@ -517,7 +507,7 @@ fn all_that_happens(rt: HostRuntime) -> Result<(), Fail> {
         EVERYTHING,
         860,
         &between(&rt, 0, 860, None),
-    )?;
+    );
     let mut lines = text.as_str().lines().filter(|line| line.contains(" - "));
     for (happening, z) in &HAPPENINGS {
         let line = format!(in rt.alloc();
