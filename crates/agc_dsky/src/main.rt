@@ -150,10 +150,9 @@ where
             return (session, Ended::Gone);
         };
         for byte in buffer.iter().copied().take(count) {
-            let (next, wish) = session.take(rt.alloc(), rt, byte);
-            session = next;
-            match wish {
+            match session.take(rt, byte) {
                 Wish::None => {}
+                Wish::Back => session = session.back(rt.alloc(), rt),
                 Wish::Save => {
                     let remark = save_now(rt, &session.seat, asked);
                     session.say(remark);
@@ -163,14 +162,20 @@ where
         }
         session.go_on(rt);
         session = session.look_inside(rt.alloc());
-        match session.draw(rt.alloc(), rt, out) {
-            Ok(()) => {}
-            Err(DrawFault::Write) => return (session, Ended::Gone),
-            Err(DrawFault::Memory) => return (session, Ended::Memory),
+        if let Err(fault) = session.draw(rt.alloc(), rt, out) {
+            return (session, ended_by(fault));
         }
         rest(rt);
     }
     (session, Ended::Quit)
+}
+
+/// How a session ends that cannot be drawn.
+fn ended_by(fault: DrawFault) -> Ended {
+    match fault {
+        DrawFault::Write => Ended::Gone,
+        DrawFault::Memory => Ended::Memory,
+    }
 }
 
 /// Saves the script while the session goes on, and returns what is to be said of it.

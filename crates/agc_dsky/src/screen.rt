@@ -109,41 +109,50 @@ impl Screen {
         let mut frame = String::new(alloc);
         if self.columns < COLUMNS || self.lines < SMALL_LINES {
             push_too_small(&mut frame)?;
-            return Ok(frame);
+        } else {
+            let picture = self.picture(alloc, seat, shown)?;
+            self.push_frame(&mut frame, &picture, seat, shown)?;
         }
-        let picture = self.picture(alloc, seat, shown)?;
+        Ok(frame)
+    }
+
+    /// Adds a picture, as much of it as there is room for, and the two lines below it.
+    fn push_frame(
+        &self,
+        frame: &mut String,
+        picture: &str,
+        seat: &Seat,
+        shown: Shown<'_>,
+    ) -> Result<(), AllocError> {
         frame.push_str("\x1b[H")?;
         let room = self.lines.saturating_sub(BELOW) as usize;
-        let left = push_lines(&mut frame, &picture, room)?;
-        push_time(&mut frame, seat, shown)?;
+        let left = push_lines(frame, picture, room)?;
+        push_time(frame, seat, shown)?;
         frame.push_str(LINE_END)?;
-        self.push_last_line(&mut frame, shown.remark, left)?;
-        frame.push_str("\x1b[K\x1b[J")?;
-        Ok(frame)
+        self.push_last_line(frame, shown.remark, left)?;
+        frame.push_str("\x1b[K\x1b[J")
     }
 
     /// The lines of the picture, and after them those of the insides and of the tables where they are shown.
     fn picture(&self, alloc: Global, seat: &Seat, shown: Shown<'_>) -> Result<String, AllocError> {
         let mut picture = String::new(alloc);
-        let view = View {
+        push_picture(&mut picture, self.view(shown), seat.sitting())?;
+        let tables = tables_of(alloc, seat, shown)?;
+        let most = self.boundaries(seat, shown, tables.lines().count());
+        let insides = insides_of(alloc, seat, shown, most)?;
+        self.push_cut(&mut picture, &insides)?;
+        self.push_cut(&mut picture, &tables)?;
+        Ok(picture)
+    }
+
+    /// How the picture is drawn.
+    fn view(&self, shown: Shown<'_>) -> View {
+        View {
             size: self.size(shown.is_inside || shown.tables.is_some()),
             ink: self.ink,
             is_dark: (shown.micros / FLASH_HALF) % 2 == 1,
             pressed: shown.pressed,
-        };
-        push_picture(&mut picture, view, seat.sitting())?;
-        let mut tables = String::new(alloc);
-        if let Some(spec) = shown.tables {
-            push_tables(alloc, &mut tables, seat.sitting(), spec)?;
         }
-        let mut insides = String::new(alloc);
-        if shown.is_inside {
-            let most = self.boundaries(seat, shown, tables.lines().count());
-            push_insides(alloc, &mut insides, seat.recent(), most, seat.sitting())?;
-        }
-        self.push_cut(&mut picture, &insides)?;
-        self.push_cut(&mut picture, &tables)?;
-        Ok(picture)
     }
 
     /// Adds lines, each cut off before the last column, in which the end of the line erases what stands.
@@ -232,6 +241,29 @@ fn send<W: Write>(out: &mut W, text: &str) -> Result<(), DrawFault> {
         return Err(DrawFault::Write);
     }
     Ok(())
+}
+
+/// The lines of the tables, none where they are not shown.
+fn tables_of(alloc: Global, seat: &Seat, shown: Shown<'_>) -> Result<String, AllocError> {
+    let mut tables = String::new(alloc);
+    if let Some(spec) = shown.tables {
+        push_tables(alloc, &mut tables, seat.sitting(), spec)?;
+    }
+    Ok(tables)
+}
+
+/// The lines of the insides with so many of the last boundaries at most, none where they are not shown.
+fn insides_of(
+    alloc: Global,
+    seat: &Seat,
+    shown: Shown<'_>,
+    most: usize,
+) -> Result<String, AllocError> {
+    let mut insides = String::new(alloc);
+    if shown.is_inside {
+        push_insides(alloc, &mut insides, seat.recent(), most, seat.sitting())?;
+    }
+    Ok(insides)
 }
 
 fn push_too_small(frame: &mut String) -> Result<(), AllocError> {

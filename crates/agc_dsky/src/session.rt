@@ -63,6 +63,8 @@ pub struct Session {
 #[derive(Clone, Copy, Debug, PartialEq, Eq)]
 pub enum Wish {
     None,
+    /// Go back a little.
+    Back,
     Save,
     Quit,
 }
@@ -100,31 +102,34 @@ impl Session {
         self.remark = remark;
     }
 
-    /// Takes a byte that was typed. Returns the session, and what is to be done outside of it.
-    pub fn take<C: Clock>(mut self, alloc: Global, clock: &C, byte: u8) -> (Session, Wish) {
-        let Some(typed) = self.decoder.take(byte) else {
-            return (self, Wish::None);
-        };
-        if let Typed::Size { lines, columns } = typed {
-            self.screen.resize(lines, columns);
-            return (self, Wish::None);
+    /// Takes a byte that was typed. Returns what is to be done outside of the session.
+    pub fn take<C: Clock>(&mut self, clock: &C, byte: u8) -> Wish {
+        match self.decoder.take(byte) {
+            None => Wish::None,
+            Some(Typed::Size { lines, columns }) => {
+                self.screen.resize(lines, columns);
+                Wish::None
+            }
+            Some(typed) => {
+                self.remark = "";
+                self.heed(clock, typed)
+            }
         }
-        self.remark = "";
+    }
+
+    /// Does what was typed.
+    fn heed<C: Clock>(&mut self, clock: &C, typed: Typed) -> Wish {
         match typed {
             Typed::Quit => {
                 self.press_now();
-                return (self, Wish::Quit);
+                return Wish::Quit;
             }
             Typed::Save => {
                 self.press_now();
-                return (self, Wish::Save);
+                return Wish::Save;
             }
-            Typed::Back => return (self.back(alloc, clock), Wish::None),
-            Typed::Key(cap) => {
-                if self.seat.type_key(cap).is_err() {
-                    self.remark = "no memory for this key";
-                }
-            }
+            Typed::Back => return Wish::Back,
+            Typed::Key(cap) => self.type_key(cap),
             Typed::Pause => self.pause_or_go_on(),
             Typed::Step => self.step(),
             Typed::Faster => self.pace.go_faster(),
@@ -134,7 +139,14 @@ impl Session {
             Typed::Size { .. } => {}
         }
         self.begin_pace(clock);
-        (self, Wish::None)
+        Wish::None
+    }
+
+    /// A key waits to be pressed.
+    fn type_key(&mut self, cap: Cap) {
+        if self.seat.type_key(cap).is_err() {
+            self.remark = "no memory for this key";
+        }
     }
 
     /// The key that may go down at the present cycle goes down.
@@ -186,7 +198,7 @@ impl Session {
     }
 
     /// Back by a second, or by a tenth where the time has stopped.
-    fn back<C: Clock>(self, alloc: Global, clock: &C) -> Session {
+    pub fn back<C: Clock>(self, alloc: Global, clock: &C) -> Session {
         let Session {
             seat,
             screen,
