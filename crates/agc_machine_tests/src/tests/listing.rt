@@ -1,74 +1,85 @@
 //! Listings and the files that they make.
+use super::{equal, equal_at};
 use agc_test_kit::{
     DIVISION, EDRUPT, IDLE, KEYED_WRITES, ListingFault, RELAY_WORD, WRITES, rope_file,
 };
 use std::process::Abort;
-use std::test::Fail;
+
+/// The file of a listing.
+fn file(rt: &(impl AllocGlobal + Abort), listing: &str) -> Vec<u8> {
+    rope_file(rt.alloc(), listing)
+        .ok()
+        .expect(rt, "a rope file")
+}
+
+/// Looks that these are the bytes of a listing's file.
+fn makes(rt: &(impl AllocGlobal + Abort), listing: &str, bytes: &[u8]) {
+    equal_at(rt, listing, file(rt, listing).as_slice(), bytes);
+}
+
+/// Looks that the file of a listing has so many bytes, of which the last is 2.
+fn makes_as_many(rt: &(impl AllocGlobal + Abort), listing: &str, len: usize) {
+    let bytes = file(rt, listing);
+    equal_at(rt, listing, bytes.len(), len);
+    equal_at(rt, listing, bytes.as_slice().last(), Some(&2));
+}
 
 fn refuses(rt: &(impl AllocGlobal + Abort), listing: &str, fault: ListingFault) {
     let made = rope_file(rt.alloc(), listing);
-    assert_eq!(rt; made.err(), Some(fault), "{listing}");
+    equal_at(rt, listing, made.err(), Some(fault));
 }
 
 #[test]
-fn programs(rt: HostRuntime) -> Result<(), Fail> {
-    let idle = rope_file(rt.alloc(), IDLE)?;
-    assert!(rt; idle.as_slice() == [0x30, 0x00].as_slice());
-    let writes = rope_file(rt.alloc(), WRITES)?;
-    assert!(rt; writes.as_slice() == [0x00, 0x0C, 0x04, 0x10, 0x30, 0x00].as_slice());
-    let division = rope_file(rt.alloc(), DIVISION)?;
-    let want = [
-        0x70, 0x0E, 0x00, 0x0C, 0x04, 0x10, 0x00, 0x0C, 0x20, 0x80, 0, 0, 0, 0, 0, 4,
-    ];
-    assert!(rt; division.as_slice() == want.as_slice());
-    let relay_word = rope_file(rt.alloc(), RELAY_WORD)?;
-    let want = [0x70, 0x08, 0x00, 0x0C, 0x04, 0x10, 0x30, 0x06, 0xB0, 0xF2];
-    assert!(rt; relay_word.as_slice() == want.as_slice());
-    let edrupt = rope_file(rt.alloc(), EDRUPT)?;
-    let want = [0x00, 0x0C, 0x04, 0x10, 0x00, 0x0C, 0x1C, 0x00];
-    assert!(rt; edrupt.as_slice() == want.as_slice());
-    Ok(())
+fn programs(rt: HostRuntime) {
+    makes(&rt, IDLE, &[0x30, 0x00]);
+    makes(&rt, WRITES, &[0x00, 0x0C, 0x04, 0x10, 0x30, 0x00]);
+    makes(
+        &rt,
+        DIVISION,
+        &[
+            0x70, 0x0E, 0x00, 0x0C, 0x04, 0x10, 0x00, 0x0C, 0x20, 0x80, 0, 0, 0, 0, 0, 4,
+        ],
+    );
+    makes(
+        &rt,
+        RELAY_WORD,
+        &[0x70, 0x08, 0x00, 0x0C, 0x04, 0x10, 0x30, 0x06, 0xB0, 0xF2],
+    );
+    makes(
+        &rt,
+        EDRUPT,
+        &[0x00, 0x0C, 0x04, 0x10, 0x00, 0x0C, 0x1C, 0x00],
+    );
 }
 
 /// The writes, and RESUME as the word after twenty.
 #[test]
-fn keyed_writes(rt: HostRuntime) -> Result<(), Fail> {
-    let bytes = rope_file(rt.alloc(), KEYED_WRITES)?;
-    let writes = rope_file(rt.alloc(), WRITES)?;
-    assert_eq!(rt; bytes.len(), 42);
-    assert_eq!(rt; bytes.as_slice().get(..6), Some(writes.as_slice()));
-    assert!(rt; bytes.as_slice()[6..40].iter().all(|byte| *byte == 0));
-    assert_eq!(rt; bytes.as_slice().get(40..), Some([0xA0, 0x1E].as_slice()));
-    Ok(())
+fn keyed_writes(rt: HostRuntime) {
+    let mut bytes = file(&rt, WRITES);
+    equal(&rt, bytes.len(), 6);
+    assert!(rt; bytes.resize(40, 0).is_ok());
+    assert!(rt; bytes.extend_from_slice(&[0xA0, 0x1E]).is_ok());
+    makes(&rt, KEYED_WRITES, &bytes);
 }
 
 /// The banks stand in the classic order, and an address of the banks 02 and 03 needs no bank.
 #[test]
-fn banks(rt: HostRuntime) -> Result<(), Fail> {
-    for (line, len) in [
-        ("4000 00001", 2),
-        ("02,2000 00001", 2),
-        ("7777 00001", 4096),
-        ("03,3777 00001", 4096),
-        ("00,2000 00001", 4098),
-        ("01,3777 00001", 8192),
-        ("04,2000 00001", 8194),
-        ("43,3777 00001", 73728),
-    ] {
-        let bytes = rope_file(rt.alloc(), line)?;
-        assert_eq!(rt; bytes.len(), len, "{line}");
-        assert_eq!(rt; bytes.as_slice().last(), Some(&2), "{line}");
-    }
-    Ok(())
+fn banks(rt: HostRuntime) {
+    makes_as_many(&rt, "4000 00001", 2);
+    makes_as_many(&rt, "02,2000 00001", 2);
+    makes_as_many(&rt, "7777 00001", 4096);
+    makes_as_many(&rt, "03,3777 00001", 4096);
+    makes_as_many(&rt, "00,2000 00001", 4098);
+    makes_as_many(&rt, "01,3777 00001", 8192);
+    makes_as_many(&rt, "04,2000 00001", 8194);
+    makes_as_many(&rt, "43,3777 00001", 73728);
 }
 
 #[test]
-fn lines_for_readers(rt: HostRuntime) -> Result<(), Fail> {
+fn lines_for_readers(rt: HostRuntime) {
     let listing =
         "; two words, of which the later line holds\n\n4001 00002 after\n4000 77777\n4001 00003";
-    let bytes = rope_file(rt.alloc(), listing)?;
-    assert!(rt; bytes.as_slice() == [0xFF, 0xFE, 0x00, 0x06].as_slice());
-    Ok(())
+    makes(&rt, listing, &[0xFF, 0xFE, 0x00, 0x06]);
 }
 
 #[test]

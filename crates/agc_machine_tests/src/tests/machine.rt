@@ -4,46 +4,34 @@ mod runs;
 mod timing;
 mod upcoming;
 
-use super::equal;
+use super::{equal, equal_at, parse, rope};
 use agc_machine::{Machine, Next, Stepped, Stop};
 use agc_script::Script;
-use agc_store::{Addr, Rope};
-use agc_test_kit::rope_file;
+use agc_store::Addr;
 use std::process::Abort;
-use std::test::Fail;
-
-/// The rope of this listing, with +0 between its words.
-fn rope(rt: &impl AllocGlobal, listing: &str) -> Result<Rope, Fail> {
-    let bytes = rope_file(rt.alloc(), listing)?;
-    Ok(Rope::read(rt.alloc(), bytes.as_slice())?)
-}
 
 /// The machine at the start of a run of this listing.
-fn machine(
+fn machine(rt: &(impl AllocGlobal + Abort), listing: &str, script: &str, limit: u64) -> Machine {
+    machine_of(rt, listing, parse(rt, script.as_bytes()), limit)
+}
+
+/// The same with a script that was read or made.
+fn machine_of(
     rt: &(impl AllocGlobal + Abort),
     listing: &str,
-    script: &str,
+    script: Script,
     limit: u64,
-) -> Result<Machine, Fail> {
-    let rope = rope(rt, listing)?;
-    let script = Script::parse(rt.alloc(), script.as_bytes())?;
-    Ok(
-        Machine::new(rope, script, limit)
-            .ok()
-            .expect(rt, "the limit is in range"),
-    )
+) -> Machine {
+    Machine::new(rope(rt, listing), script, limit)
+        .ok()
+        .expect(rt, "the limit is in range")
 }
 
 /// The machine where such a run has stopped at its very limit, without a channel write.
-fn run(
-    rt: &(impl AllocGlobal + Abort),
-    listing: &str,
-    script: &str,
-    limit: u64,
-) -> Result<Machine, Fail> {
-    let mut machine = machine(rt, listing, script, limit)?;
+fn run(rt: &(impl AllocGlobal + Abort), listing: &str, script: &str, limit: u64) -> Machine {
+    let mut machine = machine(rt, listing, script, limit);
     stopped(rt, &mut machine, Stop::Limit, limit);
-    Ok(machine)
+    machine
 }
 
 /// The pattern of a cell of erasable bank 0.

@@ -2,10 +2,9 @@
 use super::equal;
 use agc_order::{Basic, Extracode};
 use agc_word::Narrow;
-use std::test::Fail;
 
 #[test]
-fn basic_orders_by_their_words(rt: HostRuntime) -> Result<(), Fail> {
+fn basic_orders_by_their_words(rt: HostRuntime) {
     for (word, order) in [
         (0o00003, Basic::Relint),
         (0o00004, Basic::Inhint),
@@ -26,11 +25,10 @@ fn basic_orders_by_their_words(rt: HostRuntime) -> Result<(), Fail> {
             order,
         );
     }
-    Ok(())
 }
 
 #[test]
-fn extracodes_by_their_words(rt: HostRuntime) -> Result<(), Fail> {
+fn extracodes_by_their_words(rt: HostRuntime) {
     for (word, order) in [
         (0o00015, Extracode::Read),
         (0o01010, Extracode::Write),
@@ -49,7 +47,6 @@ fn extracodes_by_their_words(rt: HostRuntime) -> Result<(), Fail> {
             order,
         );
     }
-    Ok(())
 }
 
 /// The cycles that the instruction memos give: TC and TCF one, most orders two, double words and products three, DV six.

@@ -1,17 +1,15 @@
 //! Each public call once, by values worked out by hand. The numbers are octal, but for cycles.
 mod orders;
 
-use super::equal;
+use super::{equal, equal_at, rope};
 use agc_processor::{Halt, Processor, Ran, Rupt, Timer, WRITE_MCT};
-use agc_store::Rope;
-use agc_test_kit::{IDLE, rope_file};
+use agc_test_kit::IDLE;
 use agc_word::{Carry, Narrow, Pulse};
-use std::test::Fail;
+use std::process::Abort;
 
 /// The processor at the start of a run of this listing.
-fn processor_with(rt: &impl AllocGlobal, listing: &str) -> Result<Processor, Fail> {
-    let bytes = rope_file(rt.alloc(), listing)?;
-    Ok(Processor::new(Rope::read(rt.alloc(), bytes.as_slice())?))
+fn processor_with(rt: &(impl AllocGlobal + Abort), listing: &str) -> Processor {
+    Processor::new(rope(rt, listing))
 }
 
 /// Orders run one after another, as long as fewer cycles than these have gone by.
@@ -47,13 +45,13 @@ fn registers(processor: &Processor) -> [u16; 4] {
 
 /// The word at 4003 shows in channel 10.
 #[test]
-fn orders_run(rt: HostRuntime) -> Result<(), Fail> {
+fn orders_run(rt: HostRuntime) {
     let listing = "
 4000 34003 CA 4003
 4001 00006 EXTEND
 4002 01010 WRITE 10
 4003 12345";
-    let mut processor = processor_with(&rt, listing)?;
+    let mut processor = processor_with(&rt, listing);
     equal(&rt, processor.run(0), Ran::Quiet(2));
     equal(&rt, processor.run(2), Ran::Quiet(1));
     equal(
@@ -62,43 +60,39 @@ fn orders_run(rt: HostRuntime) -> Result<(), Fail> {
         Ran::Wrote(0o10, Narrow::with_bits(0o12345)),
     );
     equal(&rt, processor.channel(5, 0o10).bits(), 0o012345);
-    Ok(())
 }
 
 /// DV A with +0 in A, and EDRUPT.
 #[test]
-fn orders_halt(rt: HostRuntime) -> Result<(), Fail> {
-    for (listing, halt) in [
-        (
-            "4000 00006 EXTEND\n4001 10000 DV A",
-            Halt::DivisionUndefined,
-        ),
-        ("4000 00006 EXTEND\n4001 07000 EDRUPT", Halt::Edrupt),
-    ] {
-        let mut processor = processor_with(&rt, listing)?;
-        equal(&rt, processor.run(0), Ran::Quiet(1));
-        equal(&rt, processor.run(1), Ran::Halted(halt));
-    }
-    Ok(())
+fn orders_halt(rt: HostRuntime) {
+    let division = "4000 00006 EXTEND\n4001 10000 DV A";
+    halts(&rt, division, Halt::DivisionUndefined);
+    halts(&rt, "4000 00006 EXTEND\n4001 07000 EDRUPT", Halt::Edrupt);
+}
+
+/// The second order halts.
+fn halts(rt: &(impl AllocGlobal + Abort), listing: &str, halt: Halt) {
+    let mut processor = processor_with(rt, listing);
+    equal_at(rt, listing, processor.run(0), Ran::Quiet(1));
+    equal_at(rt, listing, processor.run(1), Ran::Halted(halt));
 }
 
 /// TIME5 is due first, after 5120 pulses, 12 a cycle: at 427.
 #[test]
-fn timers_step(rt: HostRuntime) -> Result<(), Fail> {
-    let mut processor = processor_with(&rt, IDLE)?;
+fn timers_step(rt: HostRuntime) {
+    let mut processor = processor_with(&rt, IDLE);
     equal(&rt, processor.timers_calm_until(), 427);
     equal(&rt, processor.due_timer(426), None);
     let due = processor.due_timer(427).expect(&rt, "a timer is due");
     equal(&rt, due, Timer::Time5);
     equal(&rt, processor.step_timer(due), 1);
     equal(&rt, processor.store.cell(0, 0o30).bits(), 0o00001);
-    Ok(())
 }
 
 /// The vector of KEYRUPT1 is 4024; an interrupt takes 3 cycles.
 #[test]
-fn interrupt_is_taken(rt: HostRuntime) -> Result<(), Fail> {
-    let mut processor = processor_with(&rt, IDLE)?;
+fn interrupt_is_taken(rt: HostRuntime) {
+    let mut processor = processor_with(&rt, IDLE);
     processor.request(Rupt::Keyrupt1);
     assert!(rt; processor.is_requested());
     equal(&rt, processor.pending(), Some(Rupt::Keyrupt1));
@@ -107,18 +101,16 @@ fn interrupt_is_taken(rt: HostRuntime) -> Result<(), Fail> {
     equal(&rt, processor.store.cell(0, 0o15).bits(), 0o04001);
     assert!(rt; !processor.is_requested());
     equal(&rt, processor.pending(), None);
-    Ok(())
 }
 
 /// Channel 7 keeps bits 7 to 5, of which bit 7 is the superbank; a PINC of 37777 carries.
 #[test]
-fn comes_from_outside(rt: HostRuntime) -> Result<(), Fail> {
-    let mut processor = processor_with(&rt, IDLE)?;
+fn comes_from_outside(rt: HostRuntime) {
+    let mut processor = processor_with(&rt, IDLE);
     processor.set_channel(0, 7, Narrow::with_bits(0o77777));
     equal(&rt, processor.channel(0, 7).bits(), 0o000160);
     assert!(rt; processor.store.superbank());
     processor.store.poke(0, 0o25, Narrow::with_bits(0o37777));
     equal(&rt, processor.pulse(0o25, Pulse::Pinc), Carry::Out);
     equal(&rt, processor.store.cell(0, 0o25).bits(), 0o00000);
-    Ok(())
 }

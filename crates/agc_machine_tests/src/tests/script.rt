@@ -8,14 +8,10 @@ mod lines;
 mod merges;
 mod written;
 
-use super::equal;
+use super::{equal, equal_at, parse};
 use agc_script::{Event, FaultKind, Key, LAST_CYCLE, MOST_EVENTS, Script, ScriptFault, Tape, What};
 use agc_word::{Narrow, Pulse};
 use std::process::Abort;
-
-fn parse(rt: &(impl Abort + AllocGlobal), file: &[u8]) -> Script {
-    Script::parse(rt.alloc(), file).expect(rt, "a script")
-}
 
 /// The events of a script, one after another.
 fn listed(rt: &(impl Abort + AllocGlobal), script: &Script) -> Vec<Event> {
@@ -31,29 +27,34 @@ fn fault(rt: &(impl Abort + AllocGlobal), file: &[u8]) -> Option<ScriptFault> {
     Script::parse(rt.alloc(), file).err()
 }
 
+/// Looks that a script has these events.
+fn has(rt: &(impl Abort + AllocGlobal), script: &Script, events: &[Event]) {
+    equal(rt, listed(rt, script).as_slice(), events);
+}
+
+/// Looks that a file is a script of these events.
+fn lists(rt: &(impl Abort + AllocGlobal), file: &[u8], events: &[Event]) {
+    equal_at(rt, file, listed(rt, &parse(rt, file)).as_slice(), events);
+}
+
+fn event(cycle: u64, what: What) -> Event {
+    Event { cycle, what }
+}
+
 fn raise(cycle: u64, number: u8) -> Event {
-    Event {
-        cycle,
-        what: What::Raise(number),
-    }
+    event(cycle, What::Raise(number))
 }
 
 fn key(cycle: u64, key: Key) -> Event {
-    Event {
-        cycle,
-        what: What::Key(key),
-    }
+    event(cycle, What::Key(key))
 }
 
 /// Looks that each of these files is refused at this line with this kind.
 fn refuses(rt: &(impl Abort + AllocGlobal), faults: &[(&[u8], usize, FaultKind)]) {
     for (file, line, kind) in faults {
         let (line, kind) = (*line, *kind);
-        assert_eq!(rt;
-            fault(rt, file),
-            Some(ScriptFault { line, kind }),
-            "{file:?}"
-        );
+        let wanted = Some(ScriptFault { line, kind });
+        equal_at(rt, *file, fault(rt, file), wanted);
     }
 }
 
@@ -61,19 +62,25 @@ fn refuses(rt: &(impl Abort + AllocGlobal), faults: &[(&[u8], usize, FaultKind)]
 /// alone.
 fn refuses_each(rt: &(impl Abort + AllocGlobal), kind: FaultKind, lines: &[u8]) {
     for line in lines.split(|b| *b == b';') {
-        assert_eq!(rt;
-            fault(rt, line),
-            Some(ScriptFault { line: 1, kind }),
-            "{line:?}"
-        );
+        let wanted = Some(ScriptFault { line: 1, kind });
+        equal_at(rt, line, fault(rt, line), wanted);
     }
 }
 
 /// Looks that each of these files is accepted.
 fn accepts(rt: &(impl Abort + AllocGlobal), files: &[&[u8]]) {
     for file in files {
-        assert_eq!(rt; fault(rt, file), None, "{file:?}");
+        equal_at(rt, *file, fault(rt, file), None);
     }
+}
+
+/// Parts of a file in one.
+fn joined(rt: &(impl Abort + AllocGlobal), parts: &[&[u8]]) -> Vec<u8> {
+    let mut file = Vec::new(rt.alloc());
+    for part in parts {
+        assert!(rt; file.extend_from_slice(part).is_ok());
+    }
+    file
 }
 
 /// A file with one line so often.

@@ -1,21 +1,19 @@
 //! Worked examples of ropes, banks and registers, with the values that the machine's rules give.
 ghost use Rattle.std.specs.Prelude.{◌≡◌, ◌<◌};
 
-use super::equal;
+use super::{equal, equal_at};
 use agc_store::place::{A, BB, CYL, CYR, EB, EDOP, FB, L, Q, SR, Z, ZERO};
 use agc_store::{Addr, Rope, RopeFault, RopeForm, Store};
 use agc_word::{Narrow, Wide};
-use std::alloc::{AllocError, Global};
 use std::process::Abort;
-use std::test::Fail;
 
 /// The banks in the order in which a classic file holds them.
 const FIRST_BANKS: [usize; 4] = [2, 3, 0, 1];
 
 /// A file of so many bytes, in which each word differs from the next: word j is j plus 1, by the
 /// fifteen bits on its left.
-fn counting_file(alloc: Global, len: usize) -> Result<Vec<u8>, AllocError> {
-    let mut bytes = Vec::with_capacity(alloc, len)?;
+fn counting_file(rt: &(impl AllocGlobal + Abort), len: usize) -> Vec<u8> {
+    let mut bytes = Vec::new(rt.alloc());
     for place in 0..len {
         let word = (place / 2 % 32767 + 1) * 2;
         let byte = if place % 2 == 0 {
@@ -23,37 +21,60 @@ fn counting_file(alloc: Global, len: usize) -> Result<Vec<u8>, AllocError> {
         } else {
             word % 256
         };
-        bytes.push((byte % 256) as u8)?;
+        assert!(rt; bytes.push((byte % 256) as u8).is_ok());
     }
-    Ok(bytes)
+    bytes
 }
 
-/// A classic file of all 36 banks in which the first word of each bank is the bank's number.
-fn banks_file(alloc: Global) -> Result<Vec<u8>, AllocError> {
-    let mut bytes = Vec::with_capacity(alloc, 73728)?;
+/// A memory with all 36 banks, in which the first word of each bank is the bank's number.
+fn store_of_banks(rt: &(impl AllocGlobal + Abort)) -> Store {
+    let mut bytes = Vec::new(rt.alloc());
     for index in 0..36 {
         let bank = if index < 4 { FIRST_BANKS[index] } else { index };
-        bytes.push(0)?;
-        bytes.push((2 * bank) as u8)?;
-        for _ in 0..2046 {
-            bytes.push(0)?;
-        }
+        assert!(rt; bytes.extend_from_slice(&[0, (2 * bank) as u8]).is_ok());
+        assert!(rt; bytes.resize(2048 * (index + 1), 0).is_ok());
     }
-    Ok(bytes)
+    store_of(rt, &bytes)
 }
 
 /// A file of so many equal words.
-fn repeated(alloc: Global, word: [u8; 2], words: usize) -> Result<Vec<u8>, AllocError> {
-    let mut bytes = Vec::new(alloc);
+fn repeated(rt: &(impl AllocGlobal + Abort), word: [u8; 2], words: usize) -> Vec<u8> {
+    let mut bytes = Vec::new(rt.alloc());
     for _ in 0..words {
-        bytes.extend_from_slice(&word)?;
+        append(rt, &mut bytes, &word);
     }
-    Ok(bytes)
+    bytes
+}
+
+fn append(rt: &impl Abort, file: &mut Vec<u8>, bytes: &[u8]) {
+    assert!(rt; file.extend_from_slice(bytes).is_ok());
+}
+
+/// The memory with the rope of a classic file.
+fn store_of(rt: &(impl AllocGlobal + Abort), bytes: &[u8]) -> Store {
+    Store::new(Rope::read(rt.alloc(), bytes).ok().expect(rt, "a rope"))
+}
+
+fn empty_store(rt: &(impl AllocGlobal + Abort)) -> Store {
+    store_of(rt, &[0, 0])
+}
+
+/// The fault of a classic file.
+fn fault(rt: &impl AllocGlobal, bytes: &[u8]) -> Option<RopeFault> {
+    Rope::read(rt.alloc(), bytes).err()
 }
 
 /// The fault of a file in the form with parity.
-fn parity_fault(alloc: Global, bytes: &[u8]) -> Option<RopeFault> {
-    Rope::read_as(alloc, RopeForm::Parity, bytes).err()
+fn parity_fault(rt: &impl AllocGlobal, bytes: &[u8]) -> Option<RopeFault> {
+    Rope::read_as(rt.alloc(), RopeForm::Parity, bytes).err()
+}
+
+/// Looks that the file of one word in the form with parity has this word.
+fn reads_with_parity(rt: &(impl AllocGlobal + Abort), bytes: [u8; 2], word: u16) {
+    let rope = Rope::read_as(rt.alloc(), RopeForm::Parity, &bytes)
+        .ok()
+        .expect(rt, "a rope");
+    equal(rt, Store::new(rope).fixed(0, 0).bits(), word);
 }
 
 fn at(number: u16) -> Addr
@@ -69,14 +90,10 @@ fn word(bits: u16) -> Narrow
     Narrow::with_bits(bits)
 }
 
-fn empty_store(alloc: Global) -> Result<Store, RopeFault> {
-    Ok(Store::new(Rope::read(alloc, &[0, 0])?))
-}
-
 #[test]
-fn rope_sizes(rt: HostRuntime) -> Result<(), Fail> {
-    let long = counting_file(rt.alloc(), 73730)?;
-    for (len, fault) in [
+fn rope_sizes(rt: HostRuntime) {
+    let long = counting_file(&rt, 73730);
+    for (len, wanted) in [
         (0, Some(RopeFault::Empty)),
         (2, None),
         (3, Some(RopeFault::OddLength)),
@@ -85,66 +102,69 @@ fn rope_sizes(rt: HostRuntime) -> Result<(), Fail> {
         (73730, Some(RopeFault::TooLong)),
     ] {
         assert!(rt; len <= long.len());
-        assert_eq!(rt;
-            Rope::read(rt.alloc(), &long[..len]).err(),
-            fault,
-            "{len} bytes"
-        );
+        equal_at(&rt, len, fault(&rt, &long[..len]), wanted);
     }
-    let full = counting_file(rt.alloc(), 73728)?;
-    let store = Store::new(Rope::read(rt.alloc(), &full)?);
-    equal(&rt, store.fixed(0o02, 0), word(1));
-    equal(&rt, store.fixed(0o00, 0), word(4096 / 2 + 1));
-    equal(&rt, store.fixed(0o04, 0), word(8192 / 2 + 1));
-    Ok(())
+    check_banks(&rt, &store_of(&rt, &counting_file(&rt, 73728)));
+}
+
+/// The first words of the banks 02, 00 and 04.
+fn check_banks(rt: &impl Abort, store: &Store) {
+    equal(rt, store.fixed(0o02, 0), word(1));
+    equal(rt, store.fixed(0o00, 0), word(4096 / 2 + 1));
+    equal(rt, store.fixed(0o04, 0), word(8192 / 2 + 1));
 }
 
 #[test]
-fn rope_prefixes(rt: HostRuntime) -> Result<(), Fail> {
-    let full = counting_file(rt.alloc(), 73728)?;
+fn rope_prefixes(rt: HostRuntime) {
+    let full = counting_file(&rt, 73728);
     for len in 0..4101 {
-        assert!(rt; len <= full.len());
-        check_prefix(&rt, rt.alloc(), &full[..len])?;
+        check_prefix(&rt, &full, len);
     }
     for bank in 1..37 {
         for len in 2048 * bank - 1..2048 * bank + 2 {
             if len <= full.len() {
-                check_prefix(&rt, rt.alloc(), &full[..len])?;
+                check_prefix(&rt, &full, len);
             }
         }
     }
-    Ok(())
 }
 
-/// A prefix is refused where it is empty or odd; else its words stand in the classic order, and
-/// +0 past its end.
-fn check_prefix(rt: &impl Abort, alloc: Global, bytes: &[u8]) -> Result<(), Fail> {
-    let rope = match Rope::read(alloc, bytes) {
-        Ok(rope) => rope,
-        Err(fault) => {
-            let want = if bytes.is_empty() {
-                RopeFault::Empty
-            } else {
-                RopeFault::OddLength
-            };
-            assert_eq!(rt; fault, want, "{} bytes", bytes.len());
-            assert!(rt; bytes.is_empty() || bytes.len() % 2 == 1);
-            return Ok(());
+/// The prefix of so many bytes is refused where it is empty or odd; else its words stand in the
+/// classic order, and +0 past its end.
+fn check_prefix(rt: &(impl AllocGlobal + Abort), file: &[u8], len: usize) {
+    assert!(rt; len <= file.len());
+    match Rope::read(rt.alloc(), &file[..len]) {
+        Ok(rope) => {
+            equal_at(rt, len, None, fault_of_length(len));
+            check_last_word(rt, &Store::new(rope), len / 2);
         }
-    };
-    assert!(rt; !bytes.is_empty() && bytes.len() % 2 == 0);
-    let store = Store::new(rope);
-    let last = bytes.len() / 2 - 1;
-    assert_eq!(rt;
-        file_word(rt, &store, last),
-        (last % 32767 + 1) as u16,
-        "{} bytes",
-        bytes.len()
-    );
-    if last + 1 < 36864 {
-        assert_eq!(rt; file_word(rt, &store, last + 1), 0, "{} bytes", bytes.len());
+        Err(fault) => equal_at(rt, len, Some(fault), fault_of_length(len)),
     }
-    Ok(())
+}
+
+fn fault_of_length(len: usize) -> Option<RopeFault> {
+    if len == 0 {
+        return Some(RopeFault::Empty);
+    }
+    if len % 2 == 1 {
+        return Some(RopeFault::OddLength);
+    }
+    None
+}
+
+/// The last of so many words has its number, and +0 follows.
+fn check_last_word(rt: &impl Abort, store: &Store, words: usize) {
+    assert!(rt; words > 0);
+    let last = words - 1;
+    equal_at(
+        rt,
+        words,
+        file_word(rt, store, last),
+        (last % 32767 + 1) as u16,
+    );
+    if words < 36864 {
+        equal_at(rt, words, file_word(rt, store, words), 0);
+    }
 }
 
 /// The pattern of the fixed word that stands at a word of a classic file.
@@ -156,50 +176,39 @@ fn file_word(rt: &impl Abort, store: &Store, index: usize) -> u16 {
 }
 
 #[test]
-fn parity_words(rt: HostRuntime) -> Result<(), Fail> {
-    for (bytes, first) in [
-        ([0x00, 0x01], 0),
-        ([0x30, 0x01], 0o14000),
-        ([0x00, 0x00], 0),
-    ] {
-        let store = Store::new(Rope::read_as(rt.alloc(), RopeForm::Parity, &bytes)?);
-        equal(&rt, store.fixed(0, 0).bits(), first);
-    }
+fn parity_words(rt: HostRuntime) {
+    reads_with_parity(&rt, [0x00, 0x01], 0);
+    reads_with_parity(&rt, [0x30, 0x01], 0o14000);
+    reads_with_parity(&rt, [0x00, 0x00], 0);
     let wrong = RopeFault::Parity { bank: 0, offset: 0 };
-    equal(&rt, parity_fault(rt.alloc(), &[0x30, 0x00]), Some(wrong));
+    equal(&rt, parity_fault(&rt, &[0x30, 0x00]), Some(wrong));
     equal(
         &rt,
-        parity_fault(rt.alloc(), &[0, 0, 1]),
+        parity_fault(&rt, &[0, 0, 1]),
         Some(RopeFault::OddLength),
     );
-    let zeros = repeated(rt.alloc(), [0, 0], 36865)?;
-    equal(
-        &rt,
-        parity_fault(rt.alloc(), &zeros),
-        Some(RopeFault::TooLong),
-    );
-    let ones = repeated(rt.alloc(), [0, 1], 36864)?;
-    equal(&rt, parity_fault(rt.alloc(), &ones), None);
-    Ok(())
+    let zeros = repeated(&rt, [0, 0], 36865);
+    equal(&rt, parity_fault(&rt, &zeros), Some(RopeFault::TooLong));
+    let ones = repeated(&rt, [0, 1], 36864);
+    equal(&rt, parity_fault(&rt, &ones), None);
 }
 
 #[test]
-fn parity_fault_place(rt: HostRuntime) -> Result<(), Fail> {
-    let mut bytes = repeated(rt.alloc(), [0, 1], 1024)?;
-    bytes.extend_from_slice(&[0x00, 0x00, 0x30, 0x00])?;
+fn parity_fault_place(rt: HostRuntime) {
+    let mut bytes = repeated(&rt, [0, 1], 1024);
+    append(&rt, &mut bytes, &[0x00, 0x00, 0x30, 0x00]);
     let wrong = Some(RopeFault::Parity { bank: 1, offset: 1 });
-    equal(&rt, parity_fault(rt.alloc(), &bytes), wrong);
+    equal(&rt, parity_fault(&rt, &bytes), wrong);
 
     // A second bad word does not change the place, and the classic form has no parity.
-    bytes.extend_from_slice(&[0x30, 0x00])?;
-    equal(&rt, parity_fault(rt.alloc(), &bytes), wrong);
-    assert!(rt; Rope::read(rt.alloc(), &bytes).is_ok());
-    Ok(())
+    append(&rt, &mut bytes, &[0x30, 0x00]);
+    equal(&rt, parity_fault(&rt, &bytes), wrong);
+    equal(&rt, fault(&rt, &bytes), None);
 }
 
 #[test]
-fn editing_registers(rt: HostRuntime) -> Result<(), Fail> {
-    let mut store = empty_store(rt.alloc())?;
+fn editing_registers(rt: HostRuntime) {
+    let mut store = empty_store(&rt);
     store.write(at(CYR), Wide::from_bits(1));
     store.write(at(SR), Wide::from_bits(1));
     store.write(at(CYL), Wide::from_bits(1));
@@ -217,29 +226,14 @@ fn editing_registers(rt: HostRuntime) -> Result<(), Fail> {
     equal(&rt, store.read(at(CYL)).bits(), 0o000004);
     store.poke(0, EDOP, word(0o77777));
     equal(&rt, store.cell(0, EDOP).bits(), 0o77777);
-    Ok(())
 }
 
 #[test]
-fn fixed_banks_and_superbank(rt: HostRuntime) -> Result<(), Fail> {
-    let file = banks_file(rt.alloc())?;
-    let mut store = Store::new(Rope::read(rt.alloc(), &file)?);
-    for (fb, off, on) in [
-        (0o160000, 0o30, 0o40),
-        (0o156000, 0o27, 0o27),
-        (0o170000, 0o34, 0),
-    ] {
-        store.write(at(FB), Wide::from_bits(fb));
-        store.set_superbank(false);
-        assert_eq!(rt; store.fetch(at(0o2000)).bits(), off, "FB {fb:o}");
-        store.set_superbank(true);
-        assert!(rt; store.superbank());
-        assert_eq!(rt;
-            store.fetch(at(0o2000)).bits(),
-            on,
-            "FB {fb:o}, superbank on"
-        );
-    }
+fn fixed_banks_and_superbank(rt: HostRuntime) {
+    let mut store = store_of_banks(&rt);
+    selects(&rt, &mut store, 0o160000, 0o30, 0o40);
+    selects(&rt, &mut store, 0o156000, 0o27, 0o27);
+    selects(&rt, &mut store, 0o170000, 0o34, 0);
     equal(&rt, store.selected_bank(), 0o44);
     store.write(at(BB), Wide::from_bits(0o160005));
     equal(&rt, store.read(at(FB)).bits(), 0o160000);
@@ -247,29 +241,39 @@ fn fixed_banks_and_superbank(rt: HostRuntime) -> Result<(), Fail> {
     equal(&rt, store.read(at(BB)).bits(), 0o160005);
     equal(&rt, store.fetch(at(0o4000)).bits(), 0o02);
     equal(&rt, store.fetch(at(0o6000)).bits(), 0o03);
-    Ok(())
+}
+
+/// FB brings one bank into the window while the superbank is off, and one while it is on.
+fn selects(rt: &impl Abort, store: &mut Store, fb: u16, off: u16, on: u16) {
+    store.write(at(FB), Wide::from_bits(fb));
+    store.set_superbank(false);
+    equal_at(rt, (fb, "off"), store.fetch(at(0o2000)).bits(), off);
+    store.set_superbank(true);
+    assert!(rt; store.superbank());
+    equal_at(rt, (fb, "on"), store.fetch(at(0o2000)).bits(), on);
 }
 
 #[test]
-fn a_jump_fetches_and_counts_on(rt: HostRuntime) -> Result<(), Fail> {
-    let file = banks_file(rt.alloc())?;
-    let mut store = Store::new(Rope::read(rt.alloc(), &file)?);
-    equal(&rt, store.fetch_at(at(0o6000)).bits(), 0o03);
-    equal(&rt, store.z(), at(0o6001));
-    equal(&rt, store.fetch_at(at(0o2000)).bits(), 0o00);
-    equal(&rt, store.z(), at(0o2001));
-    assert_eq!(rt;
-        store.fetch_at(at(5)).bits(),
-        0o00005,
-        "Z shows where the jump went"
-    );
-    equal(&rt, store.z(), at(6));
-    Ok(())
+fn a_jump_fetches_and_counts_on(rt: HostRuntime) {
+    let mut store = store_of_banks(&rt);
+    jumps(&rt, &mut store, 0o6000, 0o03);
+    jumps(&rt, &mut store, 0o2000, 0o00);
+
+    // Z shows where the jump went.
+    jumps(&rt, &mut store, 5, 0o00005);
+}
+
+/// A jump to an address fetches this word, and Z is one beyond.
+fn jumps(rt: &impl Abort, store: &mut Store, address: u16, fetched: u16)
+    requires { address < 4095 }
+{
+    equal_at(rt, address, store.fetch_at(at(address)).bits(), fetched);
+    equal_at(rt, address, store.z(), at(address + 1));
 }
 
 #[test]
-fn kept_erasable_bank(rt: HostRuntime) -> Result<(), Fail> {
-    let mut store = empty_store(rt.alloc())?;
+fn kept_erasable_bank(rt: HostRuntime) {
+    let mut store = empty_store(&rt);
     equal(&rt, store.named_cell(at(0o1403)), Some(3));
     store.write(at(0o1403), Wide::from_bits(0o002400));
     store.write(at(0o1400), Wide::from_bits(0o000007));
@@ -282,12 +286,11 @@ fn kept_erasable_bank(rt: HostRuntime) -> Result<(), Fail> {
     equal(&rt, store.erasable_bank(), 5);
     equal(&rt, store.named_cell(at(0o1400)), Some(5 * 0o400));
     equal(&rt, store.named_cell(at(0o2000)), None);
-    Ok(())
 }
 
 #[test]
-fn registers_keep_their_bits(rt: HostRuntime) -> Result<(), Fail> {
-    let mut store = empty_store(rt.alloc())?;
+fn registers_keep_their_bits(rt: HostRuntime) {
+    let mut store = empty_store(&rt);
     store.set_a(Wide::from_bits(0o040001));
     store.set_q(Wide::from_bits(0o137776));
     store.set_l(word(0o12345));
@@ -296,24 +299,23 @@ fn registers_keep_their_bits(rt: HostRuntime) -> Result<(), Fail> {
     equal(&rt, store.q().bits(), 0o137776);
     equal(&rt, store.l().bits(), 0o12345);
     equal(&rt, store.z().bits(), 0o7777);
-    assert_eq!(rt;
-        store.fetch(at(A)).bits(),
-        0o00001,
-        "the overflow is corrected"
-    );
+    // The overflow is corrected.
+    equal(&rt, store.fetch(at(A)).bits(), 0o00001);
     equal(&rt, store.cell(0, Q).bits(), 0o77776);
-    for (cell, kept) in [
-        (L, 0o177777),
-        (EB, 0o003400),
-        (FB, 0o176000),
-        (Z, 0o007777),
-        (ZERO, 0),
-    ] {
-        store.write(at(cell), Wide::from_bits(0o177777));
-        assert_eq!(rt; store.read(at(cell)).bits(), kept, "register {cell:o}");
-    }
+    keeps(&rt, &mut store, L, 0o177777);
+    keeps(&rt, &mut store, EB, 0o003400);
+    keeps(&rt, &mut store, FB, 0o176000);
+    keeps(&rt, &mut store, Z, 0o007777);
+    keeps(&rt, &mut store, ZERO, 0);
     equal(&rt, store.read(at(BB)).bits(), 0o176007);
-    Ok(())
+}
+
+/// Of a word with every bit a register keeps these.
+fn keeps(rt: &impl Abort, store: &mut Store, register: u16, kept: u16)
+    requires { register < 8 }
+{
+    store.write(at(register), Wide::from_bits(0o177777));
+    equal_at(rt, register, store.read(at(register)).bits(), kept);
 }
 
 #[test]

@@ -1,5 +1,5 @@
 //! Worked values, in octal: what the definitions are to mean.
-use super::equal;
+use super::{equal, equal_at};
 use agc_word::{
     Carry, Edit, Narrow, Over, Pulse, Wide, and, complement, dabs, modular_difference, or, product,
     quotient, read_decimal, read_octal, sum, widen, xor,
@@ -25,7 +25,7 @@ fn patterns(rt: HostRuntime) {
     ] {
         let word = narrow(&rt, bits);
         equal(&rt, word.bits(), bits);
-        assert_eq!(rt; widen(word).bits(), widened, "widen of {word}");
+        equal_at(&rt, bits, widen(word).bits(), widened);
     }
 }
 
@@ -37,11 +37,7 @@ fn zero_sums(rt: HostRuntime) {
         (0o177777, 0o177777, 0o177777),
         (0o000000, 0o000000, 0o000000),
     ] {
-        assert_eq!(rt;
-            sum(wide(x), wide(y)).bits(),
-            total,
-            "sum of {x:06o} and {y:06o}"
-        );
+        equal_at(&rt, (x, y), sum(wide(x), wide(y)).bits(), total);
     }
 }
 
@@ -57,8 +53,8 @@ fn overflow_correction(rt: HostRuntime) {
         (0o140000, 0o40000, Over::None),
     ] {
         let word = wide(bits);
-        assert_eq!(rt; word.narrow().bits(), stored, "narrow of {word}");
-        assert_eq!(rt; word.over(), over, "over of {word}");
+        equal_at(&rt, bits, word.narrow().bits(), stored);
+        equal_at(&rt, bits, word.over(), over);
     }
 }
 
@@ -74,8 +70,8 @@ fn complements_and_diminished_values(rt: HostRuntime) {
         (0o100000, 0o077777, 0o077776),
     ] {
         let word = wide(bits);
-        assert_eq!(rt; complement(word).bits(), other, "complement of {word}");
-        assert_eq!(rt; dabs(word).bits(), less, "dabs of {word}");
+        equal_at(&rt, bits, complement(word).bits(), other);
+        equal_at(&rt, bits, dabs(word).bits(), less);
     }
 }
 
@@ -89,8 +85,7 @@ fn products(rt: HostRuntime) {
         (0o77775, 0o00003, 0o77777, 0o77771),
     ] {
         let (high, low) = product(narrow(&rt, a), narrow(&rt, k));
-        assert_eq!(rt; high.bits(), upper, "upper word of {a:05o} by {k:05o}");
-        assert_eq!(rt; low.bits(), lower, "lower word of {a:05o} by {k:05o}");
+        equal_at(&rt, (a, k), (high.bits(), low.bits()), (upper, lower));
     }
 }
 
@@ -110,7 +105,7 @@ fn quotients(rt: HostRuntime) {
             Some((whole, rest)) => Some((whole.bits(), rest.bits())),
             None => None,
         };
-        assert_eq!(rt; got, pair, "{a:05o} {l:05o} by {k:05o}");
+        equal_at(&rt, (a, l, k), got, pair);
     }
 }
 
@@ -125,7 +120,7 @@ fn modular_differences(rt: HostRuntime) {
         (0o37777, 0o00000, 0o037777),
     ] {
         let word = modular_difference(narrow(&rt, a), narrow(&rt, k));
-        assert_eq!(rt; word.bits(), way, "{a:05o} from {k:05o}");
+        equal_at(&rt, (a, k), word.bits(), way);
     }
 }
 
@@ -143,12 +138,14 @@ fn editing_registers(rt: HostRuntime) {
         (Edit::Edop, 0o77777, 0o00177),
         (Edit::Edop, 0o40177, 0o00000),
     ] {
-        assert_eq!(rt;
-            narrow(&rt, bits).edit(how).bits(),
-            edited,
-            "{how:?} of {bits:05o}"
-        );
+        equal_at(&rt, (how, bits), narrow(&rt, bits).edit(how).bits(), edited);
     }
+}
+
+/// A pulse makes this of a word, and carries or not.
+fn pulses(rt: &impl Abort, kind: Pulse, bits: u16, stepped: u16, carry: Carry) {
+    let (word, out) = narrow(rt, bits).pulse(kind);
+    equal_at(rt, (kind, bits), (word.bits(), out), (stepped, carry));
 }
 
 #[test]
@@ -166,9 +163,7 @@ fn counting_pulses(rt: HostRuntime) {
         (Pulse::Dinc, 0o00005, 0o00004, Carry::None),
         (Pulse::Dinc, 0o77772, 0o77773, Carry::None),
     ] {
-        let (word, out) = narrow(&rt, bits).pulse(kind);
-        assert_eq!(rt; word.bits(), stepped, "{kind:?} of {bits:05o}");
-        assert_eq!(rt; out, carry, "carry of {kind:?} of {bits:05o}");
+        pulses(&rt, kind, bits, stepped, carry);
     }
 }
 
@@ -184,9 +179,7 @@ fn angle_and_shift_pulses(rt: HostRuntime) {
         (Pulse::Shanc, 0o40000, 0o00001, Carry::Out),
         (Pulse::Shanc, 0o20000, 0o40001, Carry::None),
     ] {
-        let (word, out) = narrow(&rt, bits).pulse(kind);
-        assert_eq!(rt; word.bits(), stepped, "{kind:?} of {bits:05o}");
-        assert_eq!(rt; out, carry, "carry of {kind:?} of {bits:05o}");
+        pulses(&rt, kind, bits, stepped, carry);
     }
 }
 
@@ -212,10 +205,14 @@ fn signs_bits_and_text(rt: HostRuntime) {
     assert!(rt; narrow(&rt, 0o77777) == Narrow::MINUS_ZERO);
     assert!(rt; wide(0) == Wide::default());
     assert!(rt; wide(0o177777) == Wide::MINUS_ZERO);
-    let text = format!(in rt.alloc(); "{} {}", narrow(&rt, 5), wide(0o177776)).expect(
-        &rt, "memory",
-    );
+    let text = text_of(&rt, narrow(&rt, 5), wide(0o177776));
     equal(&rt, text.as_str(), "00005 177776");
+}
+
+fn text_of(rt: &(impl AllocGlobal + Abort), narrow: Narrow, wide: Wide) -> String {
+    format!(in rt.alloc(); "{narrow} {wide}")
+        .ok()
+        .expect(rt, "memory")
 }
 
 #[test]
@@ -230,8 +227,8 @@ fn numerals(rt: HostRuntime) {
         ("+7", None, None),
         ("7 ", None, None),
     ] {
-        assert_eq!(rt; read_octal(3, text.as_bytes()), octal, "octal {text}");
-        assert_eq!(rt; read_decimal(3, text.as_bytes()), decimal, "decimal {text}");
+        equal_at(&rt, text, read_octal(3, text.as_bytes()), octal);
+        equal_at(&rt, text, read_decimal(3, text.as_bytes()), decimal);
     }
     let last = b"7777777777777777777";
     equal(&rt, read_octal(19, last), Some((1 << 57) - 1));

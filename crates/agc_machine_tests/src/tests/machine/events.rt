@@ -3,27 +3,25 @@ use super::*;
 use agc_script::{Key, Tape, What};
 use agc_test_kit::IDLE;
 use agc_word::Pulse;
-use std::test::Fail;
 
 /// KEYRUPT1 is taken at cycle 0 before INHINT runs; RESUME at 3, INHINT at 5, TCF 4001 from 6 on.
 #[test]
-fn key_interrupt(rt: HostRuntime) -> Result<(), Fail> {
+fn key_interrupt(rt: HostRuntime) {
     let listing = "
 4000 00004 INHINT
 4001 14001 TCF 4001
 4024 50017 RESUME";
-    let machine = run(&rt, listing, "0 key VERB", 10)?;
+    let machine = run(&rt, listing, "0 key VERB", 10);
     equal(&rt, cell(&machine, 0o15), 0o04001);
     equal(&rt, cell(&machine, 0o17), 0o00004);
     equal(&rt, channel(&machine, 0o15), 0o00021);
-    Ok(())
 }
 
 /// A live key is taken at once, at cycle 0, and its interrupt (3 cycles) follows. No key is wanted
 /// while an event is due, nor at the limit.
 #[test]
-fn live_key(rt: HostRuntime) -> Result<(), Fail> {
-    let mut machine = machine(&rt, IDLE, "0 pro down", 3)?;
+fn live_key(rt: HostRuntime) {
+    let mut machine = machine(&rt, IDLE, "0 pro down", 3);
     equal(&rt, machine.wants_key(), false);
     quiet(&rt, &mut machine);
     assert!(rt; machine.wants_key());
@@ -37,15 +35,14 @@ fn live_key(rt: HostRuntime) -> Result<(), Fail> {
     equal(&rt, (machine.cycle(), cell(&machine, 0o15)), (3, 0o04001));
     equal(&rt, machine.wants_key(), false);
     equal(&rt, machine.step(None), Stepped::Stopped(Stop::Limit));
-    Ok(())
 }
 
 /// What is given happens at once, as an event of the present cycle: PRO clears bit 14 of channel 32, and
 /// takes no cycle, nor does a request; a pulse counts its cell up and takes one.
 #[test]
 #[tactic(auto, unfolding(agc_script::specs::Event::IsWhatInRange))]
-fn given_events_happen_at_once(rt: HostRuntime) -> Result<(), Fail> {
-    let mut machine = machine(&rt, IDLE, "", 10)?;
+fn given_events_happen_at_once(rt: HostRuntime) {
+    let mut machine = machine(&rt, IDLE, "", 10);
     assert!(rt; machine.wants_key());
     machine.give(What::Pro(true));
     equal(
@@ -61,27 +58,24 @@ fn given_events_happen_at_once(rt: HostRuntime) -> Result<(), Fail> {
     machine.give(What::Pulse { counter, kind });
     equal(&rt, (machine.cycle(), cell(&machine, 0o40)), (1, 0o00001));
     assert!(rt; machine.wants_key());
-    Ok(())
 }
 
 /// Another run of the same rope begins at cycle 0 with its own events.
 #[test]
-fn a_machine_begins_anew(rt: HostRuntime) -> Result<(), Fail> {
-    let mut machine = machine(&rt, IDLE, "0 pro down", 5)?;
+fn a_machine_begins_anew(rt: HostRuntime) {
+    let mut machine = machine(&rt, IDLE, "0 pro down", 5);
     stopped(&rt, &mut machine, Stop::Limit, 5);
-    let script = Script::parse(rt.alloc(), b"2 raise 1")?;
-    let anew = machine.anew(script);
+    let anew = machine.anew(parse(&rt, b"2 raise 1"));
     equal(&rt, (anew.cycle(), anew.fresh()), (0, true));
     equal(&rt, channel(&anew, 0o32), 0o77777);
     equal(&rt, anew.events_left().len(), 1);
-    Ok(())
 }
 
 /// The event of cycle 0 is met first. At cycle 4, after four orders of a cycle each, the other one is still
 /// left, and the next boundary meets it.
 #[test]
-fn events_are_left_until_they_are_met(rt: HostRuntime) -> Result<(), Fail> {
-    let mut machine = machine(&rt, IDLE, "0 pro down\n4 pro up\n", 10)?;
+fn events_are_left_until_they_are_met(rt: HostRuntime) {
+    let mut machine = machine(&rt, IDLE, "0 pro down\n4 pro up\n", 10);
     equal(&rt, machine.events_left().len(), 2);
     quiet(&rt, &mut machine);
     for cycle in 0..5 {
@@ -93,28 +87,26 @@ fn events_are_left_until_they_are_met(rt: HostRuntime) -> Result<(), Fail> {
     }
     equal(&rt, machine.cycle(), 4);
     assert!(rt; machine.events_left().is_empty());
-    Ok(())
 }
 
 /// PRO is bit 14 of channel 32, 0 while it is down, and no other bit.
 #[test]
-fn pro_key(rt: HostRuntime) -> Result<(), Fail> {
+fn pro_key(rt: HostRuntime) {
     let script = "0 pro down\n0 pro up\n0 input 32 0\n0 pro up\n";
-    let mut machine = machine(&rt, IDLE, script, 10)?;
+    let mut machine = machine(&rt, IDLE, script, 10);
     for word in [0o57777, 0o77777, 0o00000, 0o20000] {
         quiet(&rt, &mut machine);
         equal(&rt, channel(&machine, 0o32), word);
     }
     equal(&rt, machine.cycle(), 0);
-    Ok(())
 }
 
 /// The shift that carries requests UPRUPT on INLINK (45) alone: RNRAD (46) carries at 0, INLINK at
 /// 10. Pulses take a cycle, so that the service at 4034 begins at 11, and comes into hand at 14.
 #[test]
-fn uprupt_by_a_shift(rt: HostRuntime) -> Result<(), Fail> {
+fn uprupt_by_a_shift(rt: HostRuntime) {
     let script = "0 poke 0 46 40000\n0 pulse 46 shinc\n10 poke 0 45 40001\n10 pulse 45 shanc\n";
-    let fresh = machine(&rt, IDLE, script, 20)?;
+    let fresh = machine(&rt, IDLE, script, 20);
     let mut machine = until(&rt, fresh, 0, 0o4034);
     stopped(&rt, &mut machine, Stop::Reached, 14);
     equal(
@@ -122,29 +114,27 @@ fn uprupt_by_a_shift(rt: HostRuntime) -> Result<(), Fail> {
         [cell(&machine, 0o46), cell(&machine, 0o45)],
         [0o00000, 0o00003],
     );
-    Ok(())
 }
 
 /// CA, EXTEND, WRITE 7 of 37777: the channel keeps bits 7 to 5.
 #[test]
-fn channel_seven_keeps_three_bits(rt: HostRuntime) -> Result<(), Fail> {
+fn channel_seven_keeps_three_bits(rt: HostRuntime) {
     let listing = "
 4000 34004 CA 4004
 4001 00006 EXTEND
 4002 01007 WRITE 7
 4003 14003 TCF 4003
 4004 37777";
-    let mut machine = machine(&rt, listing, "", 10)?;
+    let mut machine = machine(&rt, listing, "", 10);
     wrote(&rt, &mut machine, 3, 0o7, 0o00160);
     equal(&rt, channel(&machine, 7), 0o00160);
     assert!(rt; machine.store().superbank());
-    Ok(())
 }
 
 /// WOR 7 of 00777 leaves all of it in A (TS 100) and its bits 7 to 5 in the channel; WAND 7 of
 /// 00127 leaves 00120 in both. Bit 7 is the superbank.
 #[test]
-fn or_and_and_to_channel_seven(rt: HostRuntime) -> Result<(), Fail> {
+fn or_and_and_to_channel_seven(rt: HostRuntime) {
     let listing = "
 4000 34010 CA 4010
 4001 00006 EXTEND
@@ -156,27 +146,25 @@ fn or_and_and_to_channel_seven(rt: HostRuntime) -> Result<(), Fail> {
 4007 14007 TCF 4007
 4010 00777
 4011 00127";
-    let mut machine = machine(&rt, listing, "", 15)?;
+    let mut machine = machine(&rt, listing, "", 15);
     wrote(&rt, &mut machine, 3, 0o7, 0o00160);
     wrote(&rt, &mut machine, 10, 0o7, 0o00120);
     stopped(&rt, &mut machine, Stop::Limit, 15);
     equal(&rt, cell(&machine, 0o100), 0o00777);
     equal(&rt, machine.store().a().bits(), 0o000120);
     assert!(rt; machine.store().superbank());
-    Ok(())
 }
 
 /// A script's input switches the superbank too, and is no channel write.
 #[test]
-fn input_switches_the_superbank(rt: HostRuntime) -> Result<(), Fail> {
-    let mut machine = machine(&rt, IDLE, "0 input 7 77777\n5 input 7 37\n", 10)?;
+fn input_switches_the_superbank(rt: HostRuntime) {
+    let mut machine = machine(&rt, IDLE, "0 input 7 77777\n5 input 7 37\n", 10);
     quiet(&rt, &mut machine);
     equal(&rt, channel(&machine, 7), 0o00160);
     assert!(rt; machine.store().superbank());
     stopped(&rt, &mut machine, Stop::Limit, 10);
     equal(&rt, channel(&machine, 7), 0o00020);
     assert!(rt; !machine.store().superbank());
-    Ok(())
 }
 
 /// A service of KEYRUPT1 that shows the key's code in channel 10: it begins 3 cycles after the key,
@@ -193,25 +181,27 @@ const ECHO: &str = "
 /// Two live keys, at 5 and at 30, where the script's own key comes first and is overtaken; then the
 /// same run from the script with their tape in it.
 #[test]
-fn live_keys_replay(rt: HostRuntime) -> Result<(), Fail> {
-    let mut live = machine(&rt, ECHO, "30 key 1", 100)?;
+fn live_keys_replay(rt: HostRuntime) {
+    let mut live = machine(&rt, ECHO, "30 key 1", 100);
     press_at(&rt, &mut live, 5, Key::Verb);
     wrote(&rt, &mut live, 13, 0o10, 0o00021);
     press_at(&rt, &mut live, 30, Key::Seven);
     wrote(&rt, &mut live, 38, 0o10, 0o00007);
     stopped(&rt, &mut live, Stop::Limit, 100);
 
-    let mut tape = Tape::new(rt.alloc());
-    tape.push(5, Key::Verb)?;
-    tape.push(30, Key::Seven)?;
-    let script = Script::parse(rt.alloc(), b"30 key 1")?.merge(rt.alloc(), &tape)?;
-    let mut again = Machine::new(rope(&rt, ECHO)?, script, 100)
-        .ok()
-        .expect(&rt, "the limit is in range");
+    let mut again = from_a_tape(&rt);
     wrote(&rt, &mut again, 13, 0o10, 0o00021);
     wrote(&rt, &mut again, 38, 0o10, 0o00007);
     stopped(&rt, &mut again, Stop::Limit, 100);
-    Ok(())
+}
+
+/// The machine at the start of that run from the script with the tape.
+fn from_a_tape(rt: &(impl AllocGlobal + Abort)) -> Machine {
+    let mut tape = Tape::new(rt.alloc());
+    assert!(rt; tape.push(5, Key::Verb).is_ok());
+    assert!(rt; tape.push(30, Key::Seven).is_ok());
+    let script = parse(rt, b"30 key 1").merge(rt.alloc(), &tape);
+    machine_of(rt, ECHO, script.ok().expect(rt, "room"), 100)
 }
 
 /// Goes on to the first boundary from a cycle on at which a key is wanted, and gives the key there.

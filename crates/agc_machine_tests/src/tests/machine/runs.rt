@@ -5,38 +5,33 @@ use agc_processor::ChannelWrite;
 use agc_store::Store;
 use agc_test_kit::{DIVISION, IDLE, RELAY_WORD, WRITES};
 use agc_word::Narrow;
-use std::test::Fail;
 
 /// EXTEND, WRITE 10, TCF 4000, again and again: a write of +0 each four cycles, the first at cycle 1
 /// and the last, after 17 timer steps of one cycle, at 4 * 999 + 1 + 17.
 #[test]
-fn thousand_writes(rt: HostRuntime) -> Result<(), Fail> {
-    let mut machine = machine(&rt, WRITES, "", 4018)?;
-    let mut cycles = Vec::new(rt.alloc());
-    for _ in 0..1000 {
-        cycles.push(next_cycle(&rt, &mut machine, 0o10, 0o00000))?;
+fn thousand_writes(rt: HostRuntime) {
+    let mut machine = machine(&rt, WRITES, "", 4018);
+    wrote(&rt, &mut machine, 1, 0o10, 0o00000);
+    wrote(&rt, &mut machine, 5, 0o10, 0o00000);
+    for _ in 2..999 {
+        next_cycle(&rt, &mut machine, 0o10, 0o00000);
     }
-    equal(&rt, cycles.get(0), Some(&1));
-    equal(&rt, cycles.get(1), Some(&5));
-    equal(&rt, cycles.get(999), Some(&4014));
+    wrote(&rt, &mut machine, 4014, 0o10, 0o00000);
     stopped(&rt, &mut machine, Stop::Limit, 4018);
-    Ok(())
 }
 
 /// DV of 2 by 1: a stop that leaves A, L and the cycle, after the write of A.
 #[test]
-fn undefined_division_stops(rt: HostRuntime) -> Result<(), Fail> {
-    let mut machine = machine(&rt, DIVISION, "0 poke 0 100 1", 100)?;
+fn undefined_division_stops(rt: HostRuntime) {
+    let mut machine = machine(&rt, DIVISION, "0 poke 0 100 1", 100);
     division_stops(&rt, &mut machine);
-    Ok(())
 }
 
 /// The same run under the largest limit.
 #[test]
-fn largest_limit(rt: HostRuntime) -> Result<(), Fail> {
-    let mut machine = machine(&rt, DIVISION, "0 poke 0 100 1", 1_000_000_000_000)?;
+fn largest_limit(rt: HostRuntime) {
+    let mut machine = machine(&rt, DIVISION, "0 poke 0 100 1", 1_000_000_000_000);
     division_stops(&rt, &mut machine);
-    Ok(())
 }
 
 /// One write, then the stop at cycle 6, which stays.
@@ -60,8 +55,8 @@ fn write_at(cycle: u64) -> ChannelWrite {
 /// EXTEND, WRITE 10, TCF 4000 write at the cycles 1 and 5. EXTEND ends at 1, the first write at 3,
 /// TCF at 4 and EXTEND again at 5, which are as far as a way to the cycle 1, 5, 4 and 5 goes.
 #[test]
-fn the_way_to_a_cycle(rt: HostRuntime) -> Result<(), Fail> {
-    let mut machine = machine(&rt, WRITES, "", 7)?;
+fn the_way_to_a_cycle(rt: HostRuntime) {
+    let mut machine = machine(&rt, WRITES, "", 7);
     equal(&rt, machine.next_write_before(1), Stepped::Quiet);
     equal(&rt, machine.cycle(), 1);
     equal(
@@ -89,97 +84,82 @@ fn the_way_to_a_cycle(rt: HostRuntime) -> Result<(), Fail> {
         machine.next_write_before(0),
         Stepped::Stopped(Stop::Limit),
     );
-    Ok(())
 }
 
 /// EXTEND, EDRUPT: the stop is at cycle 1, as EDRUPT takes none.
 #[test]
-fn edrupt_stops(rt: HostRuntime) -> Result<(), Fail> {
+fn edrupt_stops(rt: HostRuntime) {
     let listing = "
 4000 00006 EXTEND
 4001 07000 EDRUPT";
-    let mut machine = machine(&rt, listing, "", 10)?;
+    let mut machine = machine(&rt, listing, "", 10);
     equal(&rt, machine.fresh(), true);
     stopped(&rt, &mut machine, Stop::Edrupt, 1);
     equal(&rt, machine.fresh(), false);
-    Ok(())
 }
 
 /// Limit 1: CA, which takes two cycles, ends past it.
 #[test]
-fn last_order_passes_limit(rt: HostRuntime) -> Result<(), Fail> {
-    let mut machine = machine(&rt, RELAY_WORD, "", 1)?;
+fn last_order_passes_limit(rt: HostRuntime) {
+    let mut machine = machine(&rt, RELAY_WORD, "", 1);
     stopped(&rt, &mut machine, Stop::Limit, 2);
-    Ok(())
 }
 
 #[test]
-fn until_an_order(rt: HostRuntime) -> Result<(), Fail> {
-    let fresh = machine(&rt, RELAY_WORD, "", 10)?;
+fn until_an_order(rt: HostRuntime) {
+    let fresh = machine(&rt, RELAY_WORD, "", 10);
     let mut machine = until(&rt, fresh, 0, 0o4003);
     wrote(&rt, &mut machine, 3, 0o10, 0o54171);
     stopped(&rt, &mut machine, Stop::Reached, 5);
-    Ok(())
 }
 
 /// The order at 4000 is in hand at the start.
 #[test]
-fn until_the_start(rt: HostRuntime) -> Result<(), Fail> {
-    let fresh = machine(&rt, RELAY_WORD, "", 10)?;
+fn until_the_start(rt: HostRuntime) {
+    let fresh = machine(&rt, RELAY_WORD, "", 10);
     let mut machine = until(&rt, fresh, 0, 0o4000);
     stopped(&rt, &mut machine, Stop::Reached, 0);
-    Ok(())
 }
 
 /// TCF 2000 with FB 0: bank 0 agrees with the window, bank 1 does not.
 #[test]
-fn until_a_bank(rt: HostRuntime) -> Result<(), Fail> {
+fn until_a_bank(rt: HostRuntime) {
     for (bank, stop, cycle) in [(0, Stop::Reached, 1), (1, Stop::Limit, 10)] {
-        let fresh = machine(&rt, "4000 12000 TCF 2000", "", 10)?;
+        let fresh = machine(&rt, "4000 12000 TCF 2000", "", 10);
         let mut machine = until(&rt, fresh, bank, 0o2000);
         stopped(&rt, &mut machine, stop, cycle);
     }
-    Ok(())
 }
 
 /// Limit 0 and one above 1,000,000,000,000 are refused; rope and script come back.
 #[test]
-fn limits(rt: HostRuntime) -> Result<(), Fail> {
-    for (limit, fault) in [
-        (0, LimitFault::Zero),
-        (1_000_000_000_001, LimitFault::TooLarge),
-    ] {
-        let rope = rope(&rt, IDLE)?;
-        let script = Script::parse(rt.alloc(), b"0 raise 1")?;
-        match Machine::new(rope, script, limit) {
-            Ok(_) => panic!(rt; "the limit {limit} is accepted"),
-            Err(refused) => assert_refused(&rt, refused, fault),
-        }
-    }
-    Ok(())
+fn limits(rt: HostRuntime) {
+    refuses(&rt, 0, LimitFault::Zero);
+    refuses(&rt, 1_000_000_000_001, LimitFault::TooLarge);
 }
 
-/// The fault, the rope with its first word, and the script of one event.
-fn assert_refused(rt: &impl Abort, refused: Refused, fault: LimitFault) {
+/// A limit is refused for this. The rope comes back with its first word, and the script with its event.
+fn refuses(rt: &(impl AllocGlobal + Abort), limit: u64, wanted: LimitFault) {
+    let made = Machine::new(rope(rt, IDLE), parse(rt, b"0 raise 1"), limit);
+    equal_at(rt, limit, made.is_err(), true);
     let Refused {
-        fault: found,
+        fault,
         rope,
         script,
-    } = refused;
-    equal(rt, found, fault);
+    } = made.err().expect(rt, "a refusal");
+    equal_at(rt, limit, fault, wanted);
     equal(rt, Store::new(rope).fixed(2, 0).bits(), 0o14000);
     equal(rt, script.len(), 1);
 }
 
 /// The largest limit is accepted, and the memory comes out with the rope's words.
 #[test]
-fn machine_gives_its_store(rt: HostRuntime) -> Result<(), Fail> {
-    let machine = machine(&rt, RELAY_WORD, "", 1_000_000_000_000)?;
+fn machine_gives_its_store(rt: HostRuntime) {
+    let machine = machine(&rt, RELAY_WORD, "", 1_000_000_000_000);
     equal(&rt, machine.fresh(), true);
     let store = machine.into_store();
     equal(&rt, store.fixed(2, 4).bits(), 0o54171);
     equal(&rt, store.z().bits(), 0o4001);
-    Ok(())
 }
 
 /// Bank and address are octal numbers, up to 47 and 7777, and nothing else may stand beside them.

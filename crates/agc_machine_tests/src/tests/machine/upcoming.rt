@@ -5,7 +5,10 @@ use agc_processor::{Rupt, Timer};
 use agc_script::{Key, What};
 use agc_test_kit::{IDLE, RELAY_WORD};
 use agc_word::Narrow;
-use std::test::Fail;
+
+fn tells(rt: &impl Abort, machine: &Machine, next: Upcoming) {
+    equal(rt, machine.upcoming(), next);
+}
 
 /// The order in hand at an address of the fixed banks 02 and 03 is told.
 fn order_told(rt: &impl Abort, machine: &Machine, address: u16, word: u16, extracode: bool) {
@@ -27,13 +30,13 @@ fn bank_order_told(
         word: Narrow::with_bits(word % 0o100000),
         extracode,
     };
-    assert_eq!(rt; machine.upcoming(), Upcoming::Order(order));
+    tells(rt, machine, Upcoming::Order(order));
 }
 
 /// CA 4004, EXTEND, WRITE 10 and TCF 4003 from 0, 2, 3 and 5 on; the limit stops at 10.
 #[test]
-fn orders_told(rt: HostRuntime) -> Result<(), Fail> {
-    let mut machine = machine(&rt, RELAY_WORD, "", 10)?;
+fn orders_told(rt: HostRuntime) {
+    let mut machine = machine(&rt, RELAY_WORD, "", 10);
     order_told(&rt, &machine, 0o4000, 0o34004, false);
     quiet(&rt, &mut machine);
     order_told(&rt, &machine, 0o4001, 0o00006, false);
@@ -44,73 +47,69 @@ fn orders_told(rt: HostRuntime) -> Result<(), Fail> {
         order_told(&rt, &machine, 0o4003, 0o14003, false);
         quiet(&rt, &mut machine);
     }
-    assert_eq!(rt; machine.upcoming(), Upcoming::Stop(Stop::Limit));
+    tells(&rt, &machine, Upcoming::Stop(Stop::Limit));
     stopped(&rt, &mut machine, Stop::Limit, 10);
-    assert_eq!(rt; machine.upcoming(), Upcoming::Stop(Stop::Limit));
-    Ok(())
+    tells(&rt, &machine, Upcoming::Stop(Stop::Limit));
 }
 
 /// The key's event and its interrupt come before INHINT; RESUME at 4024 brings INHINT back.
 #[test]
-fn key_and_interrupt_told(rt: HostRuntime) -> Result<(), Fail> {
+fn key_and_interrupt_told(rt: HostRuntime) {
     let listing = "
 4000 00004 INHINT
 4001 14001 TCF 4001
 4024 50017 RESUME";
-    let mut machine = machine(&rt, listing, "0 key VERB", 10)?;
-    assert_eq!(rt; machine.upcoming(), Upcoming::Event(What::Key(Key::Verb)));
+    let mut machine = machine(&rt, listing, "0 key VERB", 10);
+    tells(&rt, &machine, Upcoming::Event(What::Key(Key::Verb)));
     quiet(&rt, &mut machine);
-    assert_eq!(rt; machine.upcoming(), Upcoming::Interrupt(Rupt::Keyrupt1));
+    tells(&rt, &machine, Upcoming::Interrupt(Rupt::Keyrupt1));
     quiet(&rt, &mut machine);
     order_told(&rt, &machine, 0o4024, 0o50017, false);
     quiet(&rt, &mut machine);
     order_told(&rt, &machine, 0o4000, 0o00004, false);
-    Ok(())
 }
 
 /// The first steps: TIME5 at 427, TIME4 at 640, and TIME1 at 854, before TIME3.
 #[test]
-fn timers_told(rt: HostRuntime) -> Result<(), Fail> {
-    let mut machine = machine(&rt, IDLE, "", 900)?;
-    for (cycle, timer) in [
-        (427, Timer::Time5),
-        (640, Timer::Time4),
-        (854, Timer::Time1),
-        (855, Timer::Time3),
-    ] {
-        assert_eq!(rt; machine.next_write_before(cycle), Stepped::Quiet);
-        assert_eq!(rt; machine.upcoming(), Upcoming::Timer(timer));
-    }
-    Ok(())
+fn timers_told(rt: HostRuntime) {
+    let mut machine = machine(&rt, IDLE, "", 900);
+    timer_told(&rt, &mut machine, 427, Timer::Time5);
+    timer_told(&rt, &mut machine, 640, Timer::Time4);
+    timer_told(&rt, &mut machine, 854, Timer::Time1);
+    timer_told(&rt, &mut machine, 855, Timer::Time3);
+}
+
+/// The step of a timer is told, where no write comes before this cycle.
+fn timer_told(rt: &impl Abort, machine: &mut Machine, cycle: u64, timer: Timer) {
+    equal_at(rt, cycle, machine.next_write_before(cycle), Stepped::Quiet);
+    tells(rt, machine, Upcoming::Timer(timer));
 }
 
 /// CA 4003 and TS FB bring bank 04 into the window, and TCF 2000 goes there, where no word is.
 #[test]
-fn switched_bank_told(rt: HostRuntime) -> Result<(), Fail> {
+fn switched_bank_told(rt: HostRuntime) {
     let listing = "
 4000 34003 CA 4003
 4001 54004 TS FB
 4002 12000 TCF 2000
 4003 10000";
-    let mut machine = machine(&rt, listing, "", 10)?;
+    let mut machine = machine(&rt, listing, "", 10);
     for _ in 0..3 {
         quiet(&rt, &mut machine);
     }
     bank_order_told(&rt, &machine, 0o04, 0o2000, 0o00000, false);
-    Ok(())
 }
 
 /// The stop address is reached after the order at 4000, and is told again after the stop.
 #[test]
-fn stop_address_told(rt: HostRuntime) -> Result<(), Fail> {
+fn stop_address_told(rt: HostRuntime) {
     let listing = "
 4000 14001 TCF 4001
 4001 14001 TCF 4001";
-    let fresh = machine(&rt, listing, "", 10)?;
+    let fresh = machine(&rt, listing, "", 10);
     let mut machine = until(&rt, fresh, 0, 0o4001);
     quiet(&rt, &mut machine);
-    assert_eq!(rt; machine.upcoming(), Upcoming::Stop(Stop::Reached));
+    tells(&rt, &machine, Upcoming::Stop(Stop::Reached));
     stopped(&rt, &mut machine, Stop::Reached, 1);
-    assert_eq!(rt; machine.upcoming(), Upcoming::Stop(Stop::Reached));
-    Ok(())
+    tells(&rt, &machine, Upcoming::Stop(Stop::Reached));
 }

@@ -12,51 +12,46 @@ fn commands(rt: HostRuntime) {
 6 raise 010
 7 poke 7 377 40000
 1000000000000 poke 0 10 000000";
-    let script = parse(&rt, file);
-    let whats = [
-        What::Key(Key::Verb),
-        What::Pro(true),
-        What::Pro(false),
-        What::Input {
-            channel: 0o777,
-            value: Narrow::with_bits(0o77777),
-        },
-        What::Pulse {
-            counter: 0o24,
-            kind: Pulse::Pinc,
-        },
-        What::Pulse {
-            counter: 0o60,
-            kind: Pulse::Shanc,
-        },
-        What::Raise(10),
-        What::Poke {
-            bank: 7,
-            offset: 0o377,
-            value: Narrow::with_bits(0o40000),
-        },
-        What::Poke {
-            bank: 0,
-            offset: 0o10,
-            value: Narrow::PLUS_ZERO,
-        },
-    ];
-    assert_eq!(rt; script.len(), 9);
-    for i in 0..8 {
-        let event = script.at(i);
-        assert_eq!(rt; event.cycle, i as u64);
-        assert_eq!(rt; event.what, whats[i]);
-    }
-    assert_eq!(rt; script.at(8).cycle, LAST_CYCLE);
-    assert_eq!(rt; script.at(8).what, whats[8]);
+    let input = What::Input {
+        channel: 0o777,
+        value: Narrow::with_bits(0o77777),
+    };
+    lists(
+        &rt,
+        file,
+        &[
+            key(0, Key::Verb),
+            event(1, What::Pro(true)),
+            event(2, What::Pro(false)),
+            event(3, input),
+            pulse(4, 0o24, Pulse::Pinc),
+            pulse(5, 0o60, Pulse::Shanc),
+            raise(6, 10),
+            poke(7, 7, 0o377, Narrow::with_bits(0o40000)),
+            poke(LAST_CYCLE, 0, 0o10, Narrow::PLUS_ZERO),
+        ],
+    );
+}
+
+fn pulse(cycle: u64, counter: u16, kind: Pulse) -> Event {
+    event(cycle, What::Pulse { counter, kind })
+}
+
+fn poke(cycle: u64, bank: u8, offset: u16, value: Narrow) -> Event {
+    let what = What::Poke {
+        bank,
+        offset,
+        value,
+    };
+    event(cycle, what)
 }
 
 /// All events from the first place on, the last one from its own, and none after it.
 #[test]
 fn events_from_a_place(rt: HostRuntime) {
     let script = parse(&rt, b"1 raise 1\n2 raise 2");
-    assert!(rt; script.rest(0) == [raise(1, 1), raise(2, 2)].as_slice());
-    assert!(rt; script.rest(1) == [raise(2, 2)].as_slice());
+    equal(&rt, script.rest(0), &[raise(1, 1), raise(2, 2)]);
+    equal(&rt, script.rest(1), &[raise(2, 2)]);
     assert!(rt; script.rest(2).is_empty());
     assert!(rt; script.rest(3).is_empty());
 }
@@ -64,19 +59,12 @@ fn events_from_a_place(rt: HostRuntime) {
 /// Each kind of pulse by its name.
 #[test]
 fn pulse_kinds(rt: HostRuntime) {
-    for (line, kind) in [
-        (b"0 pulse 45 pinc".as_slice(), Pulse::Pinc),
-        (b"0 pulse 45 minc".as_slice(), Pulse::Minc),
-        (b"0 pulse 45 pcdu".as_slice(), Pulse::Pcdu),
-        (b"0 pulse 45 mcdu".as_slice(), Pulse::Mcdu),
-        (b"0 pulse 45 shinc".as_slice(), Pulse::Shinc),
-        (b"0 pulse 45 shanc".as_slice(), Pulse::Shanc),
-    ] {
-        let counter = 0o45;
-        let what = What::Pulse { counter, kind };
-        let want = [Event { cycle: 0, what }];
-        assert_eq!(rt; listed(&rt, &parse(&rt, line)).as_slice(), want.as_slice());
-    }
+    lists(&rt, b"0 pulse 45 pinc", &[pulse(0, 0o45, Pulse::Pinc)]);
+    lists(&rt, b"0 pulse 45 minc", &[pulse(0, 0o45, Pulse::Minc)]);
+    lists(&rt, b"0 pulse 45 pcdu", &[pulse(0, 0o45, Pulse::Pcdu)]);
+    lists(&rt, b"0 pulse 45 mcdu", &[pulse(0, 0o45, Pulse::Mcdu)]);
+    lists(&rt, b"0 pulse 45 shinc", &[pulse(0, 0o45, Pulse::Shinc)]);
+    lists(&rt, b"0 pulse 45 shanc", &[pulse(0, 0o45, Pulse::Shanc)]);
 }
 
 /// The first and the last number of each range, and the ones beside them.
@@ -91,13 +79,12 @@ fn ranges(rt: HostRuntime) {
             b"0 poke 0 10 0\n0 poke 0 377 77777\n0 poke 1 0 0\n0 poke 7 377 77777",
         ],
     );
-    for lines in [
-        b"0 input 0 0; 0 input 4 0; 0 input 1000 0; 0 input 5 100000".as_slice(),
-        b"0 pulse 23 pinc; 0 pulse 61 pinc; 0 raise 0; 0 raise 11".as_slice(),
-        b"0 poke 0 7 0; 0 poke 0 400 0; 0 poke 10 0 0; 0 poke 7 400 0; 0 poke 1 0 100000".as_slice(),
-    ] {
-        refuses_each(&rt, FaultKind::OutOfRange, lines);
-    }
+    let inputs = b"0 input 0 0; 0 input 4 0; 0 input 1000 0; 0 input 5 100000";
+    refuses_each(&rt, FaultKind::OutOfRange, inputs);
+    let others = b"0 pulse 23 pinc; 0 pulse 61 pinc; 0 raise 0; 0 raise 11";
+    refuses_each(&rt, FaultKind::OutOfRange, others);
+    let pokes = b"0 poke 0 7 0; 0 poke 0 400 0; 0 poke 10 0 0; 0 poke 7 400 0; 0 poke 1 0 100000";
+    refuses_each(&rt, FaultKind::OutOfRange, pokes);
 }
 
 /// How many digits a number may have, and which bytes are digits.

@@ -3,13 +3,10 @@ use super::*;
 
 #[test]
 fn every_line(rt: HostRuntime) {
-    let script = parse(&rt, b"every 10 5 25 raise 8");
-    let want = [raise(5, 8), raise(15, 8), raise(25, 8)];
-    equal(&rt, listed(&rt, &script).as_slice(), want.as_slice());
-
-    let script = parse(&rt, b"every 10 5 24 raise 8\nevery 1 7 7 raise 9");
-    let want = [raise(5, 8), raise(7, 9), raise(15, 8)];
-    equal(&rt, listed(&rt, &script).as_slice(), want.as_slice());
+    let whole = [raise(5, 8), raise(15, 8), raise(25, 8)];
+    lists(&rt, b"every 10 5 25 raise 8", &whole);
+    let two = [raise(5, 8), raise(7, 9), raise(15, 8)];
+    lists(&rt, b"every 10 5 24 raise 8\nevery 1 7 7 raise 9", &two);
 }
 
 #[test]
@@ -24,11 +21,7 @@ fn every_interleaves(rt: HostRuntime) {
         raise(20, 2),
         raise(30, 8),
     ];
-    equal(
-        &rt,
-        listed(&rt, &parse(&rt, file)).as_slice(),
-        want.as_slice(),
-    );
+    lists(&rt, file, &want);
 }
 
 #[test]

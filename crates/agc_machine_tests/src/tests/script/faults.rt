@@ -52,29 +52,26 @@ fn script_edges(rt: HostRuntime) {
         ],
     );
     accepts(&rt, &[b"1000000000000 raise 1"]);
-    let blanks = repeated(&rt, b" ", 111);
-    for (end, kind) in [
-        (b" \r\n".as_slice(), None),
-        (b"\r\n".as_slice(), None),
-        (b"  \r\n".as_slice(), Some(FaultKind::LineTooLong)),
-        (b" ".as_slice(), None),
-        (b"  ".as_slice(), Some(FaultKind::LineTooLong)),
-        (b" \r".as_slice(), None),
-    ] {
-        let mut file = Vec::new(rt.alloc());
-        assert!(rt; file.extend_from_slice(b"0 raise").is_ok());
-        assert!(rt; file.extend_from_slice(&blanks).is_ok());
-        assert!(rt; file.extend_from_slice(b"1").is_ok());
-        assert!(rt; file.extend_from_slice(end).is_ok());
-        assert_eq!(rt; fault(&rt, &file).map(|fault| fault.kind), kind, "{end:?}");
-    }
+    let too_long = Some(FaultKind::LineTooLong);
+    ends_with(&rt, " \r\n", None);
+    ends_with(&rt, "\r\n", None);
+    ends_with(&rt, "  \r\n", too_long);
+    ends_with(&rt, " ", None);
+    ends_with(&rt, "  ", too_long);
+    ends_with(&rt, " \r", None);
+}
+
+/// Looks that a line of 119 bytes and this end is refused for this, or accepted.
+fn ends_with(rt: &(impl AllocGlobal + Abort), end: &str, kind: Option<FaultKind>) {
+    let blanks = repeated(rt, b" ", 111);
+    let file = joined(rt, &[b"0 raise", &blanks, b"1", end.as_bytes()]);
+    equal_at(rt, end, fault(rt, &file).map(|fault| fault.kind), kind);
 }
 
 /// Of two faults of a line the one that is told: the first in the list of kinds.
 #[test]
 fn first_kind(rt: HostRuntime) {
-    let mut long = repeated(&rt, b"x", 120);
-    assert!(rt; long.push(0xFF).is_ok());
+    let long = joined(&rt, &[&[b'x'; 120], b"\xFF"]);
     refuses(
         &rt,
         &[

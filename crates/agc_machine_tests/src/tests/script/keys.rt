@@ -4,36 +4,35 @@ use super::*;
 #[test]
 fn keys_have_names_and_codes(rt: HostRuntime) {
     for (name, code) in [
-        (b"0".as_slice(), 0o20),
-        (b"1".as_slice(), 0o1),
-        (b"2".as_slice(), 0o2),
-        (b"3".as_slice(), 0o3),
-        (b"4".as_slice(), 0o4),
-        (b"5".as_slice(), 0o5),
-        (b"6".as_slice(), 0o6),
-        (b"7".as_slice(), 0o7),
-        (b"8".as_slice(), 0o10),
-        (b"9".as_slice(), 0o11),
-        (b"VERB".as_slice(), 0o21),
-        (b"NOUN".as_slice(), 0o37),
-        (b"RSET".as_slice(), 0o22),
-        (b"KEYREL".as_slice(), 0o31),
-        (b"+".as_slice(), 0o32),
-        (b"-".as_slice(), 0o33),
-        (b"ENTR".as_slice(), 0o34),
-        (b"CLR".as_slice(), 0o36),
+        ("0", 0o20),
+        ("1", 0o1),
+        ("2", 0o2),
+        ("3", 0o3),
+        ("4", 0o4),
+        ("5", 0o5),
+        ("6", 0o6),
+        ("7", 0o7),
+        ("8", 0o10),
+        ("9", 0o11),
+        ("VERB", 0o21),
+        ("NOUN", 0o37),
+        ("RSET", 0o22),
+        ("KEYREL", 0o31),
+        ("+", 0o32),
+        ("-", 0o33),
+        ("ENTR", 0o34),
+        ("CLR", 0o36),
     ] {
-        let key = Key::from_name(name).expect(&rt, "a key");
-        equal(&rt, key.name().as_bytes(), name);
-        assert_eq!(rt; key.code().bits(), code, "the code of {key:?}");
+        has_code(&rt, name, code);
     }
-    for name in [
-        b"".as_slice(),
-        b"verb".as_slice(),
-        b"VERBS".as_slice(),
-        b"PRO".as_slice(),
-        b"10".as_slice(),
-    ] {
-        assert_eq!(rt; Key::from_name(name), None, "{name:?}");
+    for name in ["", "verb", "VERBS", "PRO", "10"] {
+        equal_at(&rt, name, Key::from_name(name.as_bytes()), None);
     }
+}
+
+/// The key of a name has this code.
+fn has_code(rt: &impl Abort, name: &str, code: u16) {
+    let key = Key::from_name(name.as_bytes()).expect(rt, "a key");
+    equal_at(rt, name, key.name(), name);
+    equal_at(rt, name, key.code().bits(), code);
 }

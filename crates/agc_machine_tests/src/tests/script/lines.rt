@@ -5,19 +5,12 @@ use agc_script::{next_line, next_word};
 #[test]
 fn lines_and_words(rt: HostRuntime) {
     let want = [raise(1, 1), raise(2, 2)];
-    for file in [
-        b"1 raise 1\n2 raise 2".as_slice(),
-        b"1 raise 1\n2 raise 2\n".as_slice(),
-        b"1 raise 1\r\n2 raise 2\r\n".as_slice(),
-        b"1 raise 1\r\n2 raise 2\r".as_slice(),
-        b"\n\t 1\traise \t 1 \n\n# 0 raise 3\n  #\n2 raise 2\t\n\n".as_slice(),
-    ] {
-        assert_eq!(rt;
-            listed(&rt, &parse(&rt, file)).as_slice(),
-            want.as_slice(),
-            "{file:?}"
-        );
-    }
+    lists(&rt, b"1 raise 1\n2 raise 2", &want);
+    lists(&rt, b"1 raise 1\n2 raise 2\n", &want);
+    lists(&rt, b"1 raise 1\r\n2 raise 2\r\n", &want);
+    lists(&rt, b"1 raise 1\r\n2 raise 2\r", &want);
+    let spaced = b"\n\t 1\traise \t 1 \n\n# 0 raise 3\n  #\n2 raise 2\t\n\n";
+    lists(&rt, spaced, &want);
     refuses(
         &rt,
         &[
@@ -55,43 +48,44 @@ fn comments_and_blanks(rt: HostRuntime) {
 /// The first line of a file without its end, and what stands after that.
 #[test]
 fn first_lines(rt: HostRuntime) {
-    let files: [(&[u8], &[u8], &[u8]); 11] = [
-        (b"one\ntwo\n", b"one", b"two\n"),
-        (b"one\n", b"one", b""),
-        (b"one", b"one", b""),
-        (b"one\r\ntwo", b"one", b"two"),
-        (b"one\r", b"one", b""),
-        (b"one\r\r\n", b"one\r", b""),
-        (b"o\rne\ntwo", b"o\rne", b"two"),
-        (b"\n\ntwo", b"", b"\ntwo"),
-        (b"\r\n", b"", b""),
-        (b" \t\ntwo", b" \t", b"two"),
-        (b"# one\n2 key 5", b"# one", b"2 key 5"),
-    ];
-    for (file, line, rest) in files {
-        assert_eq!(rt; next_line(file), Some((line, rest)), "{file:?}");
-    }
+    has_first_line(&rt, b"one\ntwo\n", b"one", b"two\n");
+    has_first_line(&rt, b"one\n", b"one", b"");
+    has_first_line(&rt, b"one", b"one", b"");
+    has_first_line(&rt, b"one\r\ntwo", b"one", b"two");
+    has_first_line(&rt, b"one\r", b"one", b"");
+    has_first_line(&rt, b"one\r\r\n", b"one\r", b"");
+    has_first_line(&rt, b"o\rne\ntwo", b"o\rne", b"two");
+    has_first_line(&rt, b"\n\ntwo", b"", b"\ntwo");
+    has_first_line(&rt, b"\r\n", b"", b"");
+    has_first_line(&rt, b" \t\ntwo", b" \t", b"two");
+    has_first_line(&rt, b"# one\n2 key 5", b"# one", b"2 key 5");
     equal(&rt, next_line(b""), None);
+}
+
+fn has_first_line(rt: &impl Abort, file: &[u8], line: &[u8], rest: &[u8]) {
+    equal_at(rt, file, next_line(file), Some((line, rest)));
 }
 
 /// The first word of a line, and what stands after it: only spaces and tabs divide words.
 #[test]
 fn first_words(rt: HostRuntime) {
-    let lines: [(&[u8], &[u8], &[u8]); 8] = [
-        (b"one two", b"one", b" two"),
-        (b"one\ttwo", b"one", b"\ttwo"),
-        (b" \t one  two ", b"one", b"  two "),
-        (b"one", b"one", b""),
-        (b"one ", b"one", b" "),
-        (b"# one", b"#", b" one"),
-        (b"one#two", b"one#two", b""),
-        (b"one\r\ntwo three", b"one\r\ntwo", b" three"),
-    ];
-    for (line, word, rest) in lines {
-        assert_eq!(rt; next_word(line), Some((word, rest)), "{line:?}");
-    }
-    let blanks: [&[u8]; 3] = [b"", b" ", b"\t \t"];
-    for line in blanks {
-        assert_eq!(rt; next_word(line), None, "{line:?}");
-    }
+    has_first_word(&rt, b"one two", b"one", b" two");
+    has_first_word(&rt, b"one\ttwo", b"one", b"\ttwo");
+    has_first_word(&rt, b" \t one  two ", b"one", b"  two ");
+    has_first_word(&rt, b"one", b"one", b"");
+    has_first_word(&rt, b"one ", b"one", b" ");
+    has_first_word(&rt, b"# one", b"#", b" one");
+    has_first_word(&rt, b"one#two", b"one#two", b"");
+    has_first_word(&rt, b"one\r\ntwo three", b"one\r\ntwo", b" three");
+    has_no_word(&rt, b"");
+    has_no_word(&rt, b" ");
+    has_no_word(&rt, b"\t \t");
+}
+
+fn has_first_word(rt: &impl Abort, line: &[u8], word: &[u8], rest: &[u8]) {
+    equal_at(rt, line, next_word(line), Some((word, rest)));
+}
+
+fn has_no_word(rt: &impl Abort, line: &[u8]) {
+    equal_at(rt, line, next_word(line), None);
 }

@@ -1,6 +1,16 @@
 //! The tape of live keys, and its merge with a script.
 use super::*;
 
+/// The script with the keys of a tape.
+fn merge(rt: &(impl AllocGlobal + Abort), script: &Script, tape: &Tape) -> Script {
+    script.merge(rt.alloc(), tape).ok().expect(rt, "room")
+}
+
+/// Looks that a script with the keys of a tape has these events.
+fn merges(rt: &(impl AllocGlobal + Abort), script: &Script, tape: &Tape, events: &[Event]) {
+    has(rt, &merge(rt, script, tape), events);
+}
+
 #[test]
 fn command_line_tape(rt: HostRuntime) {
     let mut tape = Tape::new(rt.alloc());
@@ -19,21 +29,19 @@ fn command_line_tape(rt: HostRuntime) {
 #[test]
 fn live_keys_replay_merge(rt: HostRuntime) {
     let mut tape = Tape::new(rt.alloc());
-    assert!(rt; tape.push(5, Key::Verb).is_ok());
     let script = parse(&rt, b"5 raise 1\n6 raise 2");
-    let merged = script.merge(rt.alloc(), &tape).expect(&rt, "room");
-    let want = [raise(5, 1), key(5, Key::Verb), raise(6, 2)];
-    equal(&rt, listed(&rt, &merged).as_slice(), want.as_slice());
+    assert!(rt; tape.push(5, Key::Verb).is_ok());
+    let first = [raise(5, 1), key(5, Key::Verb), raise(6, 2)];
+    merges(&rt, &script, &tape, &first);
 
     assert!(rt; tape.push(9, Key::Enter).is_ok());
-    let merged = script.merge(rt.alloc(), &tape).expect(&rt, "room");
-    let want = [
+    let both = [
         raise(5, 1),
         key(5, Key::Verb),
         raise(6, 2),
         key(9, Key::Enter),
     ];
-    equal(&rt, listed(&rt, &merged).as_slice(), want.as_slice());
+    merges(&rt, &script, &tape, &both);
 }
 
 /// Keys before, between and after the events of a script, and without any.
@@ -41,25 +49,22 @@ fn live_keys_replay_merge(rt: HostRuntime) {
 fn keys_between_events(rt: HostRuntime) {
     let mut tape = Tape::new(rt.alloc());
     let nothing = Script::empty(rt.alloc());
-    let merged = nothing.merge(rt.alloc(), &tape).expect(&rt, "room");
-    assert!(rt; merged.is_empty());
+    assert!(rt; merge(&rt, &nothing, &tape).is_empty());
 
     assert!(rt; tape.push(0, Key::Verb).is_ok());
     assert!(rt; tape.push(6, Key::Three).is_ok());
     assert!(rt; tape.push(8, Key::Five).is_ok());
     assert!(rt; tape.push(LAST_CYCLE, Key::Enter).is_ok());
-    let merged = nothing.merge(rt.alloc(), &tape).expect(&rt, "room");
-    let want = [
+    let keys = [
         key(0, Key::Verb),
         key(6, Key::Three),
         key(8, Key::Five),
         key(LAST_CYCLE, Key::Enter),
     ];
-    equal(&rt, listed(&rt, &merged).as_slice(), want.as_slice());
+    merges(&rt, &nothing, &tape, &keys);
 
     let script = parse(&rt, b"1 raise 1\n9 raise 2\n9 raise 3");
-    let merged = script.merge(rt.alloc(), &tape).expect(&rt, "room");
-    let want = [
+    let all = [
         key(0, Key::Verb),
         raise(1, 1),
         key(6, Key::Three),
@@ -68,19 +73,17 @@ fn keys_between_events(rt: HostRuntime) {
         raise(9, 3),
         key(LAST_CYCLE, Key::Enter),
     ];
-    equal(&rt, listed(&rt, &merged).as_slice(), want.as_slice());
+    merges(&rt, &script, &tape, &all);
 }
 
 #[test]
 fn merge_limit(rt: HostRuntime) {
     let full = parse(&rt, b"every 1 0 65535 raise 1");
     let mut tape = Tape::new(rt.alloc());
-    let same = full.merge(rt.alloc(), &tape).expect(&rt, "room");
-    equal(&rt, listed(&rt, &same), listed(&rt, &full));
+    merges(&rt, &full, &tape, listed(&rt, &full).as_slice());
     assert!(rt; tape.push(5, Key::Verb).is_ok());
     let nearly = parse(&rt, b"every 1 0 65534 raise 1");
-    let merged = nearly.merge(rt.alloc(), &tape).expect(&rt, "room");
-    equal(&rt, merged.len(), MOST_EVENTS);
+    equal(&rt, merge(&rt, &nearly, &tape).len(), MOST_EVENTS);
     let (line, kind) = (0, FaultKind::TooMany);
     let refused = full.merge(rt.alloc(), &tape).err();
     equal(&rt, refused, Some(ScriptFault { line, kind }));

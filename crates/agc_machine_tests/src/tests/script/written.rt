@@ -17,11 +17,7 @@ fn each_event_is_a_line(rt: HostRuntime) {
         10 poke 3 100 77777\n11 key 0\n16 key 0\n1000000000000 key +\n";
     equal(&rt, text.as_str(), want);
     let again = parse(&rt, text.as_bytes());
-    equal(
-        &rt,
-        listed(&rt, &again).as_slice(),
-        listed(&rt, &script).as_slice(),
-    );
+    has(&rt, &again, listed(&rt, &script).as_slice());
 }
 
 #[test]
@@ -40,7 +36,7 @@ fn events_are_added_after_the_last(rt: HostRuntime) {
     assert!(rt; script.push(4, What::Key(Key::Verb)).is_ok());
     assert!(rt; script.push(6, What::Raise(1)).is_ok());
     let want = [raise(4, 9), key(4, Key::Verb), raise(6, 1)];
-    equal(&rt, listed(&rt, &script).as_slice(), want.as_slice());
+    has(&rt, &script, &want);
 }
 
 /// Each given event stands after the script's events of its cycle, and those of one cycle keep their
@@ -58,18 +54,14 @@ fn given_events_come_after_those_of_their_cycle(rt: HostRuntime) {
         raise(6, 2),
         raise(9, 5),
     ];
-    equal(&rt, listed(&rt, &joined).as_slice(), want.as_slice());
+    has(&rt, &joined, &want);
 }
 
 #[test]
 fn a_script_before_a_cycle_ends_before_it(rt: HostRuntime) {
     let script = parse(&rt, b"5 raise 1\n6 raise 2\n6 raise 3\n7 raise 4");
     let early = script.before(rt.alloc(), 6).expect(&rt, "memory");
-    equal(
-        &rt,
-        listed(&rt, &early).as_slice(),
-        [raise(5, 1)].as_slice(),
-    );
+    has(&rt, &early, &[raise(5, 1)]);
     let all = script.before(rt.alloc(), 8).expect(&rt, "memory");
     equal(&rt, all.len(), 4);
 }
