@@ -1,4 +1,5 @@
 //! Lines that answer, as a person or a program reads them.
+use super::equal;
 use agc_dialogue::{
     push_came_line, push_cell_lines, push_channel_line, push_end_line, push_error_line,
     push_fault_line, push_next_line, push_registers_line, push_write_line, push_writes_line,
@@ -7,52 +8,66 @@ use agc_machine::{Stop, Upcoming};
 use agc_processor::ChannelWrite;
 use agc_request::{CommandFault, CommandName, push_help};
 use agc_store::{Addr, Rope, Store};
-use agc_word::{Narrow, Wide, widen};
+use agc_word::{Narrow, widen};
+use std::alloc::AllocError;
 use std::process::Abort;
-use std::test::Fail;
 
 /// A memory with A -1, a first word of bank 3 and a last cell.
-fn some_memory(rt: &(impl AllocGlobal + Abort)) -> Result<Store, Fail> {
-    let mut store = Store::new(Rope::read(rt.alloc(), &[0, 0])?);
+fn some_memory(rt: &(impl AllocGlobal + Abort)) -> Store {
+    let rope = Rope::read(rt.alloc(), &[0, 0]).ok().expect(rt, "a rope");
+    let mut store = Store::new(rope);
     store.write(Addr::wrapped(0), widen(Narrow::with_bits(0o77776)));
     store.write(Addr::wrapped(6), widen(Narrow::with_bits(0o14003)));
     store.poke(3, 0, Narrow::with_bits(0o12345));
     store.poke(7, 0o377, Narrow::with_bits(0o54321));
-    Ok(store)
+    store
+}
+
+/// There was memory for a line.
+fn has_room(rt: &impl Abort, pushed: Result<(), AllocError>) {
+    assert!(rt; pushed.is_ok());
 }
 
 #[test]
-fn an_answer_ends_with_the_cycle(rt: HostRuntime) -> Result<(), Fail> {
+fn an_answer_ends_with_the_cycle(rt: HostRuntime) {
     let mut text = String::new(rt.alloc());
-    push_end_line(&mut text, None, 8533)?;
-    push_end_line(&mut text, Some(Stop::DivisionUndefined), 0)?;
-    push_fault_line(&mut text, CommandFault::Usage(CommandName::Back))?;
-    push_fault_line(&mut text, CommandFault::BadChannel)?;
-    push_error_line(&mut text, "memory")?;
+    has_room(&rt, push_end_line(&mut text, None, 8533));
+    has_room(
+        &rt,
+        push_end_line(&mut text, Some(Stop::DivisionUndefined), 0),
+    );
+    has_room(
+        &rt,
+        push_fault_line(&mut text, CommandFault::Usage(CommandName::Back)),
+    );
+    has_room(&rt, push_fault_line(&mut text, CommandFault::BadChannel));
+    has_room(&rt, push_error_line(&mut text, "memory"));
     let wanted = "at 8533
 stop DivisionUndefined at 0
 error: Usage: back C
 error: BadChannel: a channel is octal, 0 to 777
 error: memory
 ";
-    assert_eq!(rt; text.as_str(), wanted);
-    Ok(())
+    equal(&rt, text.as_str(), wanted);
 }
 
 #[test]
-fn writes_and_words_have_their_digits(rt: HostRuntime) -> Result<(), Fail> {
+fn writes_and_words_have_their_digits(rt: HostRuntime) {
     let mut text = String::new(rt.alloc());
     let write = ChannelWrite {
         cycle: 12,
         channel: 0o11,
         value: Narrow::with_bits(0o4000),
     };
-    push_write_line(&mut text, &write)?;
-    push_channel_line(&mut text, 0o777, Narrow::with_bits(0))?;
-    push_writes_line(&mut text, 1)?;
-    push_came_line(&mut text, true)?;
-    push_came_line(&mut text, false)?;
-    push_next_line(&mut text, Upcoming::Stop(Stop::Limit))?;
+    has_room(&rt, push_write_line(&mut text, &write));
+    has_room(
+        &rt,
+        push_channel_line(&mut text, 0o777, Narrow::with_bits(0)),
+    );
+    has_room(&rt, push_writes_line(&mut text, 1));
+    has_room(&rt, push_came_line(&mut text, true));
+    has_room(&rt, push_came_line(&mut text, false));
+    has_room(&rt, push_next_line(&mut text, Upcoming::Stop(Stop::Limit)));
     let wanted = "write 12 011 04000
 channel 777 00000
 writes 1
@@ -60,36 +75,33 @@ came yes
 came no
 next - stop Limit
 ";
-    assert_eq!(rt; text.as_str(), wanted);
-    Ok(())
+    equal(&rt, text.as_str(), wanted);
 }
 
 #[test]
-fn registers_and_cells_are_those_of_the_memory(rt: HostRuntime) -> Result<(), Fail> {
-    let store = some_memory(&rt)?;
+fn registers_and_cells_are_those_of_the_memory(rt: HostRuntime) {
+    let store = some_memory(&rt);
     let mut text = String::new(rt.alloc());
-    push_registers_line(&mut text, &store)?;
-    push_cell_lines(&mut text, &store, 0o1377, 2)?;
-    push_cell_lines(&mut text, &store, 0o3777, 1)?;
-    push_cell_lines(&mut text, &store, 5, 0)?;
+    has_room(&rt, push_registers_line(&mut text, &store));
+    has_room(&rt, push_cell_lines(&mut text, &store, 0o1377, 2));
+    has_room(&rt, push_cell_lines(&mut text, &store, 0o3777, 1));
+    has_room(&rt, push_cell_lines(&mut text, &store, 5, 0));
     let wanted = "A 177776 L 00000 Q 000000 Z 0000 EB 3 FB 06 BB 14003
 cell 1377 00000
 cell E3,1400 12345
 cell E7,1777 54321
 ";
-    assert_eq!(rt; text.as_str(), wanted);
-    Ok(())
+    equal(&rt, text.as_str(), wanted);
 }
 
 #[test]
-fn help_tells_each_command_once(rt: HostRuntime) -> Result<(), Fail> {
+fn help_tells_each_command_once(rt: HostRuntime) {
     let mut text = String::new(rt.alloc());
-    push_help(&mut text)?;
-    assert_eq!(rt; text.as_str().lines().count(), 15);
+    has_room(&rt, push_help(&mut text));
+    equal(&rt, text.as_str().lines().count(), 15);
     assert!(rt;
         text.as_str()
             .contains("\nback C: back to the state before cycle C")
     );
     assert!(rt; text.as_str().contains("\nkey NAME, pro down or up, "));
-    Ok(())
 }

@@ -1,49 +1,51 @@
 //! Whole conversations: the texts were worked by hand from the programs and the cycles of their orders.
+use super::{equal, sitting_of};
 use agc_dialogue::converse;
 use agc_names::NameTable;
-use agc_script::Script;
-use agc_sitting::Sitting;
-use agc_store::Rope;
-use agc_test_kit::{DIVISION, EDRUPT, IDLE, RELAY_WORD, rope_file};
+use agc_test_kit::{DIVISION, EDRUPT, IDLE, RELAY_WORD};
 use std::process::Abort;
-use std::test::Fail;
 
-/// What is answered to a text.
+/// Looks that this is answered to a text.
 fn answers(
     rt: &(impl AllocGlobal + Abort),
     listing: &str,
     script: &str,
     said: &[u8],
-) -> Result<String, Fail> {
-    answers_with(rt, &None, listing, script, said)
+    wanted: &str,
+) {
+    answers_with(rt, &None, listing, script, said, wanted);
 }
 
-/// What is answered to a text, with names.
-#[tactic(auto, unfolding(agc_machine::specs::State::start_state))]
+/// Looks that this is answered to a text, with names.
 fn answers_with(
     rt: &(impl AllocGlobal + Abort),
     names: &Option<NameTable>,
     listing: &str,
     script: &str,
     said: &[u8],
-) -> Result<String, Fail> {
-    let bytes = rope_file(rt.alloc(), listing)?;
-    let rope = Rope::read(rt.alloc(), bytes.as_slice())?;
-    let script = Script::parse(rt.alloc(), script.as_bytes())?;
-    let sitting = Sitting::new(rt.alloc(), rope, script, 1000)
-        .ok()
-        .expect(rt, "the limit is in range");
+    wanted: &str,
+) {
+    let sitting = sitting_of(rt, listing, script, 1000);
     let mut input = said;
     let mut output = Vec::new(rt.alloc());
     let ended = converse(rt.alloc(), sitting, names, &mut input, &mut output);
-    assert_eq!(rt; ended, Ok(()));
-    Ok(String::from_utf8(output).ok().expect(rt, "ASCII"))
+    equal(rt, ended, Ok(()));
+    let text = String::from_utf8(output).ok().expect(rt, "ASCII");
+    equal(rt, text.as_str(), wanted);
+}
+
+/// Parts of a text in one.
+fn joined(rt: &(impl AllocGlobal + Abort), parts: &[&[u8]]) -> Vec<u8> {
+    let mut whole = Vec::new(rt.alloc());
+    for part in parts {
+        assert!(rt; whole.extend_from_slice(part).is_ok());
+    }
+    whole
 }
 
 #[test]
-fn ten_lines_are_answered_in_turn(rt: HostRuntime) -> Result<(), Fail> {
+fn ten_lines_are_answered_in_turn(rt: HostRuntime) {
     let said = b"go to 3\nnext\nstep\nwrites\nkey VERB\n\ngo 10\nscript\nback 3\nwrites\n";
-    let text = answers(&rt, RELAY_WORD, "", said)?;
     let wanted = "at 3
 next 4002 01010 WRITE 010
 at 3
@@ -60,18 +62,12 @@ at 3
 writes 0
 at 3
 ";
-    assert_eq!(rt; text.as_str(), wanted);
-    Ok(())
+    answers(&rt, RELAY_WORD, "", said, wanted);
 }
 
 #[test]
-fn a_run_is_told_until_its_stop(rt: HostRuntime) -> Result<(), Fail> {
-    let text = answers(
-        &rt,
-        EDRUPT,
-        "",
-        b"until write 10\nuntil 4002\ngo 9\ngo 9\nkey VERB\nback 0\n",
-    )?;
+fn a_run_is_told_until_its_stop(rt: HostRuntime) {
+    let said = b"until write 10\nuntil 4002\ngo 9\ngo 9\nkey VERB\nback 0\n";
     let wanted = "write 1 010 00000
 came yes
 at 3
@@ -82,15 +78,13 @@ stop Edrupt at 4
 error: Stopped: the machine takes no event any more
 at 0
 ";
-    assert_eq!(rt; text.as_str(), wanted);
-    Ok(())
+    answers(&rt, EDRUPT, "", said, wanted);
 }
 
 #[test]
-fn what_is_given_comes_after_the_events_that_are_due(rt: HostRuntime) -> Result<(), Fail> {
+fn what_is_given_comes_after_the_events_that_are_due(rt: HostRuntime) {
     let said =
         b"poke 0 100 1\nuntil cell 101 within 3\npoke 0 101 2\ncell 100 2\nscript\ngo to 1000\nkey VERB\n";
-    let text = answers(&rt, IDLE, "0 poke 0 100 7\n", said)?;
     let wanted = "at 0
 came no
 at 3
@@ -105,41 +99,39 @@ at 3
 at 1000
 error: Stopped: the machine takes no event any more
 ";
-    assert_eq!(rt; text.as_str(), wanted);
-    Ok(())
+    answers(&rt, IDLE, "0 poke 0 100 7\n", said, wanted);
 }
 
 #[test]
-fn a_line_of_121_bytes_is_refused_once(rt: HostRuntime) -> Result<(), Fail> {
-    let mut said = Vec::new(rt.alloc());
-    said.extend_from_slice(&[b' '; 121])?;
-    said.extend_from_slice(b"\n")?;
-    said.extend_from_slice(&[b' '; 120])?;
-    said.extend_from_slice(b"\r\n")?;
-    said.extend_from_slice(&[b'x'; 500])?;
-    said.extend_from_slice(b"\r\nquit\nnext\n")?;
-    let text = answers(&rt, DIVISION, "", said.as_slice())?;
+fn a_line_of_121_bytes_is_refused_once(rt: HostRuntime) {
+    let said = joined(
+        &rt,
+        &[
+            &[b' '; 121],
+            b"\n",
+            &[b' '; 120],
+            b"\r\n",
+            &[b'x'; 500],
+            b"\r\nquit\nnext\n",
+        ],
+    );
     let wanted = "error: LineTooLong: a line has at most 120 bytes
 at 0
 error: LineTooLong: a line has at most 120 bytes
 ";
-    assert_eq!(rt; text.as_str(), wanted);
-    Ok(())
+    answers(&rt, DIVISION, "", said.as_slice(), wanted);
 }
 
 #[test]
-fn a_last_line_needs_no_line_feed(rt: HostRuntime) -> Result<(), Fail> {
-    let text = answers(&rt, IDLE, "", b"# nothing\r\ngo 5")?;
-    assert_eq!(rt; text.as_str(), "at 0\nat 5\n");
-    Ok(())
+fn a_last_line_needs_no_line_feed(rt: HostRuntime) {
+    answers(&rt, IDLE, "", b"# nothing\r\ngo 5", "at 0\nat 5\n");
 }
 
 /// The write's order goes by OUT, one word beyond it.
 #[test]
-fn orders_show_the_names_of_their_places(rt: HostRuntime) -> Result<(), Fail> {
+fn orders_show_the_names_of_their_places(rt: HostRuntime) {
     let names = NameTable::read(rt.alloc(), b"4001 OUT\n4003 END\n").ok();
     let said = b"until OUT+1\nnext\nstep\nuntil NONE\nuntil END within 0\n";
-    let text = answers_with(&rt, &names, RELAY_WORD, "", said)?;
     let wanted = "came yes
 at 3
 next 4002 OUT +1       01010 WRITE 010
@@ -150,6 +142,5 @@ error: BadPlace: a place is En,oooo, or an address below 1400, or bb,oooo, or an
 came no
 at 5
 ";
-    assert_eq!(rt; text.as_str(), wanted);
-    Ok(())
+    answers_with(&rt, &names, RELAY_WORD, "", said, wanted);
 }

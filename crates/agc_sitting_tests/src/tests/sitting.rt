@@ -1,115 +1,104 @@
 //! Sittings before small programs, worked out by hand. The numbers are octal, but for cycles.
+use super::{equal, equal_at, has_text, sitting_of};
 use agc_machine::{Stepped, Stop};
-use agc_script::{Key, Script, What};
+use agc_processor::ChannelWrite;
+use agc_script::{Key, What};
 use agc_sitting::{GiveFault, Sitting};
-use agc_store::Rope;
-use agc_test_kit::{IDLE, rope_file};
+use agc_test_kit::IDLE;
+use agc_word::Narrow;
 use std::process::Abort;
-use std::test::Fail;
 
-/// A sitting at the start of time, with a rope of this listing and a script.
-fn sitting(
-    rt: &(impl AllocGlobal + Abort),
-    listing: &str,
-    script: &str,
-    limit: u64,
-) -> Result<Sitting, Fail> {
-    let bytes = rope_file(rt.alloc(), listing)?;
-    let rope = Rope::read(rt.alloc(), bytes.as_slice())?;
-    let script = Script::parse(rt.alloc(), script.as_bytes())?;
-    Ok(
-        Sitting::new(rt.alloc(), rope, script, limit)
-            .ok()
-            .expect(rt, "the limit is in range"),
-    )
+/// The sitting takes a key, or refuses it.
+#[tactic(auto, unfolding(agc_script::specs::Event::IsWhatInRange))]
+fn press(rt: &impl Abort, sitting: &mut Sitting, key: Key, wanted: Result<(), GiveFault>) {
+    equal_at(rt, key, sitting.give(What::Key(key)), wanted);
 }
 
-/// The script that a sitting tells, as text.
-fn told(rt: &(impl AllocGlobal + Abort), sitting: &Sitting) -> String {
-    let mut text = String::new(rt.alloc());
-    let script = sitting.told(rt.alloc()).expect(rt, "memory");
-    script.push_text(&mut text).ok().expect(rt, "memory");
-    text
+/// The sitting goes to a cycle and takes a key there.
+fn press_at(rt: &impl Abort, sitting: &mut Sitting, cycle: u64, key: Key) {
+    sitting.go_to(cycle);
+    press(rt, sitting, key, Ok(()));
+}
+
+/// The sitting tells a script with this text.
+fn tells(rt: &(impl AllocGlobal + Abort), sitting: &Sitting, wanted: &str) {
+    has_text(rt, sitting.told(rt.alloc()), wanted);
+}
+
+/// The sitting has come to this cycle.
+fn is_at(rt: &impl Abort, sitting: &Sitting, cycle: u64) {
+    equal(rt, sitting.machine().cycle(), cycle);
+}
+
+/// The sitting where it was at a cycle.
+fn back(rt: &(impl AllocGlobal + Abort), sitting: Sitting, cycle: u64) -> Sitting {
+    sitting.go_back(rt.alloc(), cycle).ok().expect(rt, "memory")
 }
 
 /// The program jumps on the spot, a cycle a turn. A key at 4 goes behind the script's own event of 4.
 #[test]
 #[tactic(auto, unfolding(agc_script::specs::Event::IsWhatInRange))]
-fn what_is_given_is_told(rt: HostRuntime) -> Result<(), Fail> {
-    let mut sitting = sitting(&rt, IDLE, "4 pro down\n9 pro up\n", 20)?;
+fn what_is_given_is_told(rt: HostRuntime) {
+    let mut sitting = sitting_of(&rt, IDLE, "4 pro down\n9 pro up\n", 20);
     sitting.go_to(4);
-    assert_eq!(rt; sitting.machine().cycle(), 4);
-    assert_eq!(rt;
-        sitting.give(What::Key(Key::Verb)),
-        Err(GiveFault::Unwanted)
-    );
-    assert_eq!(rt; sitting.step(), Stepped::Quiet);
-    assert_eq!(rt; sitting.give(What::Key(Key::Verb)), Ok(()));
-    assert_eq!(rt; sitting.give(What::Raise(9)), Ok(()));
+    is_at(&rt, &sitting, 4);
+    press(&rt, &mut sitting, Key::Verb, Err(GiveFault::Unwanted));
+    equal(&rt, sitting.step(), Stepped::Quiet);
+    press(&rt, &mut sitting, Key::Verb, Ok(()));
+    equal(&rt, sitting.give(What::Raise(9)), Ok(()));
     let want = "4 pro down\n4 key VERB\n4 raise 9\n9 pro up\n";
-    assert_eq!(rt; told(&rt, &sitting).as_str(), want);
+    tells(&rt, &sitting, want);
     sitting.go_to(100);
-    assert_eq!(rt; sitting.step(), Stepped::Stopped(Stop::Limit));
-    assert_eq!(rt; sitting.machine().cycle(), 20);
-    assert_eq!(rt;
-        sitting.give(What::Key(Key::Noun)),
-        Err(GiveFault::Unwanted)
-    );
-    assert_eq!(rt; told(&rt, &sitting).as_str(), want);
-    Ok(())
+    equal(&rt, sitting.step(), Stepped::Stopped(Stop::Limit));
+    is_at(&rt, &sitting, 20);
+    press(&rt, &mut sitting, Key::Noun, Err(GiveFault::Unwanted));
+    tells(&rt, &sitting, want);
 }
 
 /// Going back to 6 keeps the key of 2 and drops the one of 6; what is given again is told again. Going back further
 /// drops what going back has kept before.
 #[test]
-#[tactic(auto, unfolding(agc_script::specs::Event::IsWhatInRange))]
-fn what_was_given_later_is_gone(rt: HostRuntime) -> Result<(), Fail> {
-    let mut sitting = sitting(&rt, IDLE, "", 100)?;
-    sitting.go_to(2);
-    assert_eq!(rt; sitting.give(What::Key(Key::One)), Ok(()));
-    sitting.go_to(6);
-    assert_eq!(rt; sitting.give(What::Key(Key::Two)), Ok(()));
-    sitting.go_to(9);
-    assert_eq!(rt; sitting.give(What::Key(Key::Three)), Ok(()));
-    let whole = told(&rt, &sitting);
-    let mut sitting = sitting.go_back(rt.alloc(), 6).ok().expect(&rt, "memory");
-    assert_eq!(rt; told(&rt, &sitting).as_str(), "2 key 1\n");
-    assert_eq!(rt; sitting.machine().cycle(), 6);
-    assert_eq!(rt; sitting.give(What::Key(Key::Two)), Ok(()));
-    sitting.go_to(9);
-    assert_eq!(rt; sitting.give(What::Key(Key::Three)), Ok(()));
-    assert_eq!(rt; told(&rt, &sitting).as_str(), whole.as_str());
-    let sitting = sitting.go_back(rt.alloc(), 8).ok().expect(&rt, "memory");
-    assert_eq!(rt; told(&rt, &sitting).as_str(), "2 key 1\n6 key 2\n");
-    let sitting = sitting.go_back(rt.alloc(), 2).ok().expect(&rt, "memory");
-    assert_eq!(rt; told(&rt, &sitting).as_str(), "");
-    Ok(())
+fn what_was_given_later_is_gone(rt: HostRuntime) {
+    let mut sitting = sitting_of(&rt, IDLE, "", 100);
+    let whole = "2 key 1\n6 key 2\n9 key 3\n";
+    press_at(&rt, &mut sitting, 2, Key::One);
+    press_at(&rt, &mut sitting, 6, Key::Two);
+    press_at(&rt, &mut sitting, 9, Key::Three);
+    tells(&rt, &sitting, whole);
+    let mut sitting = back(&rt, sitting, 6);
+    tells(&rt, &sitting, "2 key 1\n");
+    is_at(&rt, &sitting, 6);
+    press(&rt, &mut sitting, Key::Two, Ok(()));
+    press_at(&rt, &mut sitting, 9, Key::Three);
+    tells(&rt, &sitting, whole);
+    let sitting = back(&rt, sitting, 8);
+    tells(&rt, &sitting, "2 key 1\n6 key 2\n");
+    let sitting = back(&rt, sitting, 2);
+    tells(&rt, &sitting, "");
 }
 
 /// CA 4004, EXTEND, WRITE 10 of 54005, which shows digits in PROG; then a jump on the spot.
 /// The write comes at cycle 3; going back to the start shows the blank panel again.
 #[test]
-fn the_panel_goes_back_too(rt: HostRuntime) -> Result<(), Fail> {
+fn the_panel_goes_back_too(rt: HostRuntime) {
     let listing = "
 4000 34004 CA 4004
 4001 00006 EXTEND
 4002 01010 WRITE 10
 4003 14003 TCF 4003
 4004 54003";
-    let mut sitting = sitting(&rt, listing, "", 100)?;
+    let mut sitting = sitting_of(&rt, listing, "", 100);
     let blank = sitting.panel().face();
-    let Stepped::Wrote(write) = sitting.go_on(50) else {
-        panic!(rt; "no write came");
+    let write = ChannelWrite {
+        cycle: 3,
+        channel: 0o10,
+        value: Narrow::with_bits(0o54003),
     };
-    assert_eq!(rt;
-        (write.cycle, write.channel, write.value.bits()),
-        (3, 0o10, 0o54003)
-    );
+    equal(&rt, sitting.go_on(50), Stepped::Wrote(write));
     assert!(rt; sitting.panel().face() != blank);
-    assert_eq!(rt; sitting.go_on(50), Stepped::Quiet);
-    assert_eq!(rt; sitting.machine().cycle(), 50);
-    let sitting = sitting.go_back(rt.alloc(), 0).ok().expect(&rt, "memory");
-    assert_eq!(rt; sitting.machine().cycle(), 0);
-    assert!(rt; sitting.panel().face() == blank);
-    Ok(())
+    equal(&rt, sitting.go_on(50), Stepped::Quiet);
+    is_at(&rt, &sitting, 50);
+    let sitting = back(&rt, sitting, 0);
+    is_at(&rt, &sitting, 0);
+    equal(&rt, sitting.panel().face(), blank);
 }
