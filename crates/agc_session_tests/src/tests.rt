@@ -1,4 +1,6 @@
 //! The panel, the ring, command lines and sessions, by values and runs worked out by hand.
+ghost use Rattle.std.specs.Prelude.{◌≡◌, false};
+
 mod args;
 mod gate;
 mod panel;
@@ -8,3 +10,49 @@ mod sessions;
 mod watch_spec;
 mod watcher;
 mod words;
+
+use agc_machine::Machine;
+use agc_script::Script;
+use agc_store::Rope;
+use agc_test_kit::rope_file;
+use std::process::Abort;
+use std::sync::Wait;
+use std::thread::Threads;
+
+/// What runs the sessions of the tests.
+trait Host: AllocGlobal + Abort + Threads + Wait + Sync {}
+
+impl<H: AllocGlobal + Abort + Threads + Wait + Sync> Host for H {}
+
+/// The rope file of a listing. It is had or the test ends, and so are the values of the helpers beside it: a test that
+/// hands failures on takes the prover many times as long.
+fn file_of(rt: &(impl AllocGlobal + Abort), listing: &str) -> Vec<u8> {
+    rope_file(rt.alloc(), listing).expect(rt, "a good listing")
+}
+
+/// The rope of a listing.
+fn rope_of(rt: &(impl AllocGlobal + Abort), listing: &str) -> Rope {
+    let file = file_of(rt, listing);
+    Rope::read(rt.alloc(), file.as_slice()).expect(rt, "a rope")
+}
+
+/// The script of a text.
+fn script_of(rt: &(impl AllocGlobal + Abort), text: &[u8]) -> Script {
+    Script::parse(rt.alloc(), text).expect(rt, "a script")
+}
+
+/// The machine of a listing and a script at the start of a run up to a limit of cycles.
+fn machine_of(rt: &(impl AllocGlobal + Abort), listing: &str, script: Script, limit: u64) -> Machine
+    ensures { result.begun ≡ false }
+{
+    let machine = new_machine(rt, rope_of(rt, listing), script, limit);
+    assert!(rt; machine.fresh());
+    machine
+}
+
+/// The same of a rope. Nothing is promised of it, so that the promise above rests on `fresh` alone.
+fn new_machine(rt: &impl Abort, rope: Rope, script: Script, limit: u64) -> Machine {
+    Machine::new(rope, script, limit)
+        .ok()
+        .expect(rt, "the limit is in range")
+}

@@ -8,11 +8,15 @@ use std::process::Abort;
 
 /// The fault of a command line: `Command`, `Help` or `Memory`, or `Ok`.
 fn outcome(rt: &impl AllocGlobal, words: &[&str]) -> &'static str {
-    match parse_args(rt.alloc(), words) {
-        Ok(_) => "Ok",
-        Err(ArgsFault::Command(_)) => "Command",
-        Err(ArgsFault::Help(_)) => "Help",
-        Err(ArgsFault::Memory) => "Memory",
+    let fault = parse_args(rt.alloc(), words).err();
+    fault.as_ref().map_or("Ok", name_of)
+}
+
+fn name_of(fault: &ArgsFault) -> &'static str {
+    match fault {
+        ArgsFault::Command(_) => "Command",
+        ArgsFault::Help(_) => "Help",
+        ArgsFault::Memory => "Memory",
     }
 }
 
@@ -39,11 +43,7 @@ fn errors_of_clap(rt: HostRuntime) {
 #[test]
 fn command_line(rt: HostRuntime) {
     let plain = parsed(&rt, &["agc", "r", "s", "--limit", "10"]);
-    assert_eq!(rt; (plain.limit, plain.slots, plain.log), (10, 256, false));
-    assert!(rt; plain.rope.as_str() == "r" && plain.script.as_str() == "s");
-    assert!(rt; plain.watch.is_none() && plain.until.is_none());
-    assert_eq!(rt; plain.form, RopeForm::Classic);
-    assert_eq!(rt; (plain.live, plain.spacing), (false, 8533));
+    assert!(rt; has_defaults(&plain), "{plain:?}");
 
     let full = parsed(
         &rt,
@@ -64,15 +64,30 @@ fn command_line(rt: HostRuntime) {
             "--spacing=0",
         ],
     );
-    assert_eq!(rt; (full.limit, full.slots, full.log), (5, 1, true));
-    assert!(rt; full.watch.as_ref().is_some_and(|spec| spec.as_str() == ""));
-    assert!(rt;
-        full.until
+    assert!(rt; has_all(&full), "{full:?}");
+}
+
+/// What that line without options asks for.
+fn has_defaults(plain: &Options) -> bool {
+    (plain.limit, plain.slots, plain.log) == (10, 256, false)
+        && plain.rope.as_str() == "r"
+        && plain.script.as_str() == "s"
+        && plain.watch.is_none()
+        && plain.until.is_none()
+        && plain.form == RopeForm::Classic
+        && (plain.live, plain.spacing) == (false, 8533)
+}
+
+/// What that line with all options asks for.
+fn has_all(full: &Options) -> bool {
+    (full.limit, full.slots, full.log) == (5, 1, true)
+        && full.watch.as_ref().is_some_and(|spec| spec.as_str() == "")
+        && full
+            .until
             .as_ref()
             .is_some_and(|spec| spec.as_str() == "0,1")
-    );
-    assert_eq!(rt; full.form, RopeForm::Parity);
-    assert_eq!(rt; (full.live, full.spacing), (true, 0));
+        && full.form == RopeForm::Parity
+        && (full.live, full.spacing) == (true, 0)
 }
 
 #[test]

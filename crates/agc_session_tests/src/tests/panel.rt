@@ -3,7 +3,6 @@ use agc_panel::Panel;
 use agc_processor::ChannelWrite;
 use agc_word::Narrow;
 use std::process::Abort;
-use std::test::Fail;
 
 /// The lines of digits and signs where none is shown.
 const NO_FIELDS: &str = "PROG __\nVERB __\nNOUN __\nR1 ______\nR2 ______\nR3 ______\n";
@@ -16,67 +15,68 @@ fn write(rt: &impl Abort, channel: u16, bits: u16) -> ChannelWrite {
     }
 }
 
-#[test]
-fn starts_blank(rt: HostRuntime) -> Result<(), Fail> {
-    let panel = Panel::new();
-    assert_eq!(rt;
-        panel.text(rt.alloc())?.as_str(),
-        "PROG __\nVERB __\nNOUN __\nR1 ______\nR2 ______\nR3 ______\nFLASH off\nLAMPS none\n"
-    );
-    assert_eq!(rt; panel.face().flash, false);
-    Ok(())
+/// Looks that a panel shows this.
+fn has_text(rt: &(impl AllocGlobal + Abort), panel: &Panel, wanted: &str) {
+    let text = panel.text(rt.alloc()).expect(rt, "memory");
+    assert_eq!(rt; text.as_str(), wanted);
 }
 
 #[test]
-fn panel_from_relay_words(rt: HostRuntime) -> Result<(), Fail> {
+fn starts_blank(rt: HostRuntime) {
+    let panel = Panel::new();
+    has_text(
+        &rt,
+        &panel,
+        "PROG __\nVERB __\nNOUN __\nR1 ______\nR2 ______\nR3 ______\nFLASH off\nLAMPS none\n",
+    );
+    assert!(rt; !panel.face().flash);
+}
+
+#[test]
+fn panel_from_relay_words(rt: HostRuntime) {
     let mut panel = Panel::new();
     for bits in [0o54171, 0o51563, 0o14777, 0o44040, 0o37265, 0o33265] {
         panel.take(&write(&rt, 0o10, bits));
     }
-    assert_eq!(rt;
-        panel.text(rt.alloc())?.as_str(),
-        "PROG 12\nVERB 37\nNOUN ?_\nR1 +_0000\nR2 _____4\nR3 _9____\nFLASH off\nLAMPS none\n"
+    has_text(
+        &rt,
+        &panel,
+        "PROG 12\nVERB 37\nNOUN ?_\nR1 +_0000\nR2 _____4\nR3 _9____\nFLASH off\nLAMPS none\n",
     );
 
     panel.take(&write(&rt, 0o11, 0o00142));
-    assert_eq!(rt;
-        panel.text(rt.alloc())?.as_str(),
-        "PROG 12\nVERB 37\nNOUN ?_\nR1 +_0000\nR2 _____4\nR3 _9____\nFLASH on\nLAMPS COMP ACTY, OPR ERR\n"
+    has_text(
+        &rt,
+        &panel,
+        "PROG 12\nVERB 37\nNOUN ?_\nR1 +_0000\nR2 _____4\nR3 _9____\nFLASH on\nLAMPS COMP ACTY, OPR ERR\n",
     );
-    Ok(())
 }
 
 #[test]
-fn every_digit_code(rt: HostRuntime) -> Result<(), Fail> {
+fn every_digit_code(rt: HostRuntime) {
     let mut panel = Panel::new();
-    let place = "PROG __\nVERB __\nNOUN __\nR1 _".len();
     let glyphs = b"_??1???????????4???7?0???2?36859";
     for (code, glyph) in (0u16..).zip(glyphs) {
         panel.take(&write(&rt, 0o10, 0o10 * 0o4000 + code % 0o40));
-        let text = panel.text(rt.alloc())?;
-        assert_eq!(rt; text.as_bytes().get(place), Some(glyph), "code {code}");
+        let shown = second_glyph_of_r1(&rt, &panel);
+        assert!(rt; shown == Some(*glyph), "code {code}");
     }
-    Ok(())
 }
 
-/// What a panel shows after one write alone.
-fn shows(
-    rt: &(impl AllocGlobal + Abort),
-    channel: u16,
-    bits: u16,
-    lines: &str,
-    last_lines: &str,
-) -> Result<(), Fail> {
+/// What stands after the sign and the first digit of R1.
+fn second_glyph_of_r1(rt: &(impl AllocGlobal + Abort), panel: &Panel) -> Option<u8> {
+    let text = panel.text(rt.alloc()).expect(rt, "memory");
+    let place = "PROG __\nVERB __\nNOUN __\nR1 _".len();
+    text.as_bytes().get(place).copied()
+}
+
+/// What a panel shows after one write alone: the lines of digits and signs, and the last two.
+fn shows(rt: &(impl AllocGlobal + Abort), channel: u16, bits: u16, lines: &str, last_lines: &str) {
     let mut panel = Panel::new();
     panel.take(&write(rt, channel, bits));
-    let text = panel.text(rt.alloc())?;
-    let (fields, rest) = text
-        .as_str()
-        .split_at_checked(NO_FIELDS.len())
-        .expect(rt, "the text is ASCII");
-    assert_eq!(rt; fields, lines, "{channel:03o} {bits:05o}");
-    assert_eq!(rt; rest, last_lines, "{channel:03o} {bits:05o}");
-    Ok(())
+    let text = panel.text(rt.alloc()).expect(rt, "memory");
+    let rest = text.as_str().strip_prefix(lines);
+    assert!(rt; rest == Some(last_lines), "{channel:03o} {bits:05o} {text}");
 }
 
 /// The relay word of a row with the sign on, a left 1 (code 3) and a right 2 (code 31 octal).
@@ -85,7 +85,7 @@ fn relay_word(row: u16) -> u16 {
 }
 
 #[test]
-fn every_row_alone(rt: HostRuntime) -> Result<(), Fail> {
+fn every_row_alone(rt: HostRuntime) {
     for (row, fields) in [
         (0, NO_FIELDS),
         (
@@ -142,23 +142,17 @@ fn every_row_alone(rt: HostRuntime) -> Result<(), Fail> {
             relay_word(row),
             fields,
             "FLASH off\nLAMPS none\n",
-        )?;
+        );
     }
-    Ok(())
 }
 
 /// What a write that names lamps alone shows.
-fn lamps_show(
-    rt: &(impl AllocGlobal + Abort),
-    channel: u16,
-    bits: u16,
-    last_lines: &str,
-) -> Result<(), Fail> {
-    shows(rt, channel, bits, NO_FIELDS, last_lines)
+fn lamps_show(rt: &(impl AllocGlobal + Abort), channel: u16, bits: u16, last_lines: &str) {
+    shows(rt, channel, bits, NO_FIELDS, last_lines);
 }
 
 #[test]
-fn every_lamp_alone(rt: HostRuntime) -> Result<(), Fail> {
+fn every_lamp_alone(rt: HostRuntime) {
     for (channel, bits, lines) in [
         (0o10, 0o60004, "FLASH off\nLAMPS VEL\n"),
         (0o10, 0o60010, "FLASH off\nLAMPS NO ATT\n"),
@@ -177,13 +171,12 @@ fn every_lamp_alone(rt: HostRuntime) -> Result<(), Fail> {
         (0o11, 0o77600, "FLASH off\nLAMPS none\n"),
         (0o12, 0o77777, "FLASH off\nLAMPS none\n"),
     ] {
-        lamps_show(&rt, channel, bits, lines)?;
+        lamps_show(&rt, channel, bits, lines);
     }
-    Ok(())
 }
 
 #[test]
-fn last_write_of_a_field_shows(rt: HostRuntime) -> Result<(), Fail> {
+fn last_write_of_a_field_shows(rt: HostRuntime) {
     let mut panel = Panel::new();
     // all lamps on, both signs of R1 on, then relay row 6 and channel 11 again, and relay row 12
     // dark
@@ -195,17 +188,18 @@ fn last_write_of_a_field_shows(rt: HostRuntime) -> Result<(), Fail> {
     ] {
         panel.take(&write(&rt, channel, bits));
     }
-    assert_eq!(rt;
-        panel.text(rt.alloc())?.as_str(),
-        "PROG __\nVERB __\nNOUN __\nR1 +_____\nR2 ______\nR3 ______\nFLASH on\nLAMPS COMP ACTY, UPLINK ACTY, NO ATT, TEMP, GIMBAL LOCK, PROG, KEY REL, OPR ERR, TRACKER, ALT, VEL, ISS\n"
+    has_text(
+        &rt,
+        &panel,
+        "PROG __\nVERB __\nNOUN __\nR1 +_____\nR2 ______\nR3 ______\nFLASH on\nLAMPS COMP ACTY, UPLINK ACTY, NO ATT, TEMP, GIMBAL LOCK, PROG, KEY REL, OPR ERR, TRACKER, ALT, VEL, ISS\n",
     );
 
     for (channel, bits) in [(0o10, 0o34000), (0o11, 0o00020), (0o10, 0o60000)] {
         panel.take(&write(&rt, channel, bits));
     }
-    assert_eq!(rt;
-        panel.text(rt.alloc())?.as_str(),
-        "PROG __\nVERB __\nNOUN __\nR1 -_____\nR2 ______\nR3 ______\nFLASH off\nLAMPS KEY REL\n"
+    has_text(
+        &rt,
+        &panel,
+        "PROG __\nVERB __\nNOUN __\nR1 -_____\nR2 ______\nR3 ______\nFLASH off\nLAMPS KEY REL\n",
     );
-    Ok(())
 }

@@ -12,7 +12,6 @@ use agc_processor::ChannelWrite;
 use agc_word::Narrow;
 use arrayvec::ArrayVec;
 use std::process::Abort;
-use std::test::Fail;
 use std::thread;
 
 /// A write of this cycle to channel 10 octal.
@@ -26,81 +25,90 @@ fn write(cycle: u64) -> Item
     })
 }
 
+/// A ring of so many slots.
+fn ring(rt: &(impl AllocGlobal + Abort), slots: usize) -> (Sender, Receiver)
+    ensures ring { result.0.ring ≡ result.1.ring }
+    ensures slots { result.0.slots ≡ slots }
+{
+    link(rt.alloc(), slots).expect(rt, "a ring")
+}
+
+/// This is the item that comes, or none does.
+fn comes(rt: &impl Abort, item: Option<Item>, wanted: Option<Item>) {
+    assert_eq!(rt; item, wanted);
+}
+
 /// Two slots take two items; a third comes back, and items come out in order.
 #[test]
-fn ring_has_its_slots(rt: HostRuntime) -> Result<(), Fail> {
-    let (mut sender, mut receiver) = link(rt.alloc(), 2)?;
-    assert_eq!(rt; sender.capacity(), 2);
-    assert_eq!(rt; sender.try_send(write(1)), Ok(()));
-    assert_eq!(rt; sender.try_send(Item::End), Ok(()));
-    assert_eq!(rt; sender.try_send(write(3)), Err(write(3)));
-    assert_eq!(rt; receiver.try_next(), Some(write(1)));
-    assert_eq!(rt; receiver.try_next(), Some(Item::End));
-    assert_eq!(rt; receiver.try_next(), None);
-    Ok(())
+fn ring_has_its_slots(rt: HostRuntime) {
+    let (mut sender, mut receiver) = ring(&rt, 2);
+    assert!(rt; sender.capacity() == 2);
+    assert!(rt; sender.try_send(write(1)).is_ok());
+    assert!(rt; sender.try_send(Item::End).is_ok());
+    comes(&rt, sender.try_send(write(3)).err(), Some(write(3)));
+    comes(&rt, receiver.try_next(), Some(write(1)));
+    comes(&rt, receiver.try_next(), Some(Item::End));
+    comes(&rt, receiver.try_next(), None);
+}
+
+/// This is the fault of a number of slots.
+fn refuses(rt: &impl Abort, fault: Option<LinkFault>, wanted: LinkFault) {
+    assert_eq!(rt; fault, Some(wanted));
 }
 
 #[test]
-fn limits_and_slots(rt: HostRuntime) -> Result<(), Fail> {
-    assert_eq!(rt; link(rt.alloc(), 0).err(), Some(LinkFault::NoSlots));
-    assert_eq!(rt;
-        link(rt.alloc(), 65_537).err(),
-        Some(LinkFault::TooManySlots)
-    );
-    assert_eq!(rt; link(rt.alloc(), 1)?.0.capacity(), 1);
-    assert_eq!(rt; link(rt.alloc(), 65_536)?.0.capacity(), 65_536);
-    Ok(())
+fn limits_and_slots(rt: HostRuntime) {
+    refuses(&rt, link(rt.alloc(), 0).err(), LinkFault::NoSlots);
+    refuses(&rt, link(rt.alloc(), 65_537).err(), LinkFault::TooManySlots);
+    assert!(rt; ring(&rt, 1).0.capacity() == 1);
+    assert!(rt; ring(&rt, 65_536).0.capacity() == 65_536);
 }
 
 #[test]
-fn slots_and_spacings_are_looked_at(rt: HostRuntime) -> Result<(), Fail> {
-    assert_eq!(rt; Slots::new(0).err(), Some(LinkFault::NoSlots));
-    assert_eq!(rt; Slots::new(65_537).err(), Some(LinkFault::TooManySlots));
-    assert_eq!(rt; Slots::new(65_536)?.count(), 65_536);
-    assert_eq!(rt; Spacing::new(0), None);
-    let spacing = Spacing::new(1).map(|spacing| spacing.cycles());
-    assert_eq!(rt; spacing, Some(1));
-    Ok(())
+fn slots_and_spacings_are_looked_at(rt: HostRuntime) {
+    refuses(&rt, Slots::new(0).err(), LinkFault::NoSlots);
+    refuses(&rt, Slots::new(65_537).err(), LinkFault::TooManySlots);
+    assert!(rt; Slots::new(65_536).is_ok_and(|slots| slots.count() == 65_536));
+    assert!(rt; Spacing::new(0).is_none());
+    assert!(rt; Spacing::new(1).is_some_and(|spacing| spacing.cycles() == 1));
 }
 
 /// A block of 64 goes through whole, and at once.
 #[test]
-fn a_full_block_is_taken_at_once(rt: HostRuntime) -> Result<(), Fail> {
-    let (mut sender, mut receiver) = link(rt.alloc(), 64)?;
+fn a_full_block_is_taken_at_once(rt: HostRuntime) {
+    let (mut sender, mut receiver) = ring(&rt, 64);
     assert!(rt; sender.send_block(&[write(1); 64]));
     let mut block = ArrayVec::<Item, 64>::new();
-    assert_eq!(rt; receiver.next_block(&mut block), 64);
+    assert!(rt; receiver.next_block(&mut block) == 64);
     assert!(rt; block.as_slice() == [write(1); 64].as_slice());
-    Ok(())
 }
 
 /// In four slots of which two are taken, a block of three does not fit and a block of two does. A
 /// block with room for two takes two of the four, and a full one none.
 #[test]
-fn blocks_fit_or_wait(rt: HostRuntime) -> Result<(), Fail> {
-    let (mut sender, mut receiver) = link(rt.alloc(), 4)?;
+fn blocks_fit_or_wait(rt: HostRuntime) {
+    let (mut sender, mut receiver) = ring(&rt, 4);
     assert!(rt; sender.send_block(&[write(1), write(2)]));
     assert!(rt; !sender.send_block(&[write(3), write(4), write(5)]));
     assert!(rt; sender.send_block(&[write(3), Item::End]));
 
     let mut block = ArrayVec::<Item, 64>::new();
     assert!(rt; block.try_extend_from_slice(&[Item::End; 62]).is_ok());
-    assert_eq!(rt; receiver.next_block(&mut block), 2);
-    assert_eq!(rt; block.get(61).copied(), Some(Item::End));
-    assert_eq!(rt; block.get(62).copied(), Some(write(1)));
-    assert_eq!(rt; block.get(63).copied(), Some(write(2)));
-    assert_eq!(rt; receiver.next_block(&mut block), 0);
+    assert!(rt; receiver.next_block(&mut block) == 2);
+    comes(&rt, block.get(61).copied(), Some(Item::End));
+    comes(&rt, block.get(62).copied(), Some(write(1)));
+    comes(&rt, block.get(63).copied(), Some(write(2)));
+    assert!(rt; receiver.next_block(&mut block) == 0);
     let mut rest = rejoin(sender, receiver);
-    assert_eq!(rt; rest.next(), Some(write(3)));
-    assert_eq!(rt; rest.next(), Some(Item::End));
-    assert_eq!(rt; rest.next(), None);
-    Ok(())
+    comes(&rt, rest.next(), Some(write(3)));
+    comes(&rt, rest.next(), Some(Item::End));
+    comes(&rt, rest.next(), None);
 }
 
 /// Of five items that one thread sends another takes three; the other two are left.
 #[test]
-fn rest_after_rejoin(rt: HostRuntime) -> Result<(), Fail> {
-    let (sender, receiver) = link(rt.alloc(), 8)?;
+fn rest_after_rejoin(rt: HostRuntime) {
+    let (sender, receiver) = ring(&rt, 8);
     let (sender, receiver) = thread::join(
         &rt,
         move || -> Sender
@@ -111,10 +119,9 @@ fn rest_after_rejoin(rt: HostRuntime) -> Result<(), Fail> {
         { take_three(&rt, receiver) },
     );
     let mut rest = rejoin(sender, receiver);
-    assert_eq!(rt; rest.next(), Some(write(4)));
-    assert_eq!(rt; rest.next(), Some(write(5)));
-    assert_eq!(rt; rest.next(), None);
-    Ok(())
+    comes(&rt, rest.next(), Some(write(4)));
+    comes(&rt, rest.next(), Some(write(5)));
+    comes(&rt, rest.next(), None);
 }
 
 /// How often a thread of a test tries again before the test has failed.
@@ -145,7 +152,7 @@ fn take_three(rt: &impl Abort, mut receiver: Receiver) -> Receiver
     ensures { result.ring ≡ receiver.ring }
 {
     for cycle in 1..4 {
-        assert_eq!(rt; take(rt, &mut receiver), write(cycle));
+        comes(rt, Some(take(rt, &mut receiver)), Some(write(cycle)));
     }
     receiver
 }

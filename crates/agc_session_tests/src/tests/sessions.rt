@@ -11,19 +11,14 @@ mod threads;
 mod unread;
 mod until;
 
+use super::{Host, file_of};
 use agc_args::parse_args;
 use agc_options::{DONE, Options, REFUSED};
 use agc_pipe::{Gate, Open};
 use agc_session::session;
-use agc_test_kit::{DIVISION, EDRUPT, IDLE, KEYED_WRITES, RELAY_WORD, WRITES, rope_file};
+use agc_test_kit::{DIVISION, EDRUPT, IDLE, KEYED_WRITES, RELAY_WORD, WRITES};
+use std::io::{Read, Write};
 use std::process::Abort;
-use std::sync::Wait;
-use std::thread::Threads;
-
-/// What runs the sessions of the tests.
-trait Host: AllocGlobal + Abort + Threads + Wait + Sync {}
-
-impl<H: AllocGlobal + Abort + Threads + Wait + Sync> Host for H {}
 
 /// The panel's lines after `PROG ..`, where no write names their fields.
 const REST: &str = "VERB __
@@ -44,6 +39,9 @@ const DIVIDED: &str = "DivisionUndefined CYCLE 6 WRITES 1\n3 010 00002\n";
 /// The lines of EDRUPT after `STOP `, with the log.
 const EDRUPTED: &str = "Edrupt CYCLE 4 WRITES 1\n1 010 00000\n";
 
+/// What the idle loop of ten cycles prints after `STOP `.
+const IDLED: &str = "Limit CYCLE 10 WRITES 0\n";
+
 /// What a session has for a rope: the words of a listing, or a file as it stands.
 #[derive(Clone, Copy)]
 enum GivenRope<'a> {
@@ -51,9 +49,20 @@ enum GivenRope<'a> {
     File(&'a [u8]),
 }
 
-/// The rope file of a listing.
-fn file_of(rt: &(impl AllocGlobal + Abort), listing: &str) -> Vec<u8> {
-    rope_file(rt.alloc(), listing).expect(rt, "a good listing")
+/// The bytes of a rope in the parity form, where the banks 00 and 01 stand first: TCF 4000 is the word
+/// after their 2048.
+fn parity_rope(rt: &(impl AllocGlobal + Abort)) -> Vec<u8> {
+    let mut rope = Vec::new(rt.alloc());
+    for _ in 0..2048 {
+        rope.extend_from_slice(&[0x00, 0x01]).expect(rt, "memory");
+    }
+    rope.extend_from_slice(&[0x30, 0x01]).expect(rt, "memory");
+    rope
+}
+
+/// A byte so many times.
+fn many(rt: &(impl AllocGlobal + Abort), byte: u8, times: usize) -> Vec<u8> {
+    vec![in rt.alloc(); byte; times].expect(rt, "memory")
 }
 
 /// A session: the words after `agc rope script`, its rope, and the bytes of its other files.
@@ -83,6 +92,11 @@ fn on_file<'a>(line: &'a str, file: &'a [u8], script: &'a [u8]) -> Asked<'a> {
         script,
         keys: b"",
     }
+}
+
+/// An idle run of ten cycles on a script.
+fn idle_on(script: &[u8]) -> Asked<'_> {
+    without_keys("--limit 10", IDLE, script)
 }
 
 /// How a session ended: its status, and what it wrote to each stream.
@@ -117,17 +131,29 @@ fn run_gated<G: Gate + Sync>(rt: &impl Host, asked: Asked<'_>, gate: &G) -> Ende
 
 /// The same on the bytes of its rope.
 fn run_on<G: Gate + Sync>(rt: &impl Host, asked: Asked<'_>, mut rope: &[u8], gate: &G) -> Ended {
-    let options = options(rt, asked.line);
     let (mut script, mut keys) = (asked.script, asked.keys);
+    run_files(rt, asked.line, &mut rope, &mut script, &mut keys, gate)
+}
+
+/// Runs a session on these files through a gate.
+fn run_files<P: Read, S: Read, K: Read, G: Gate + Sync>(
+    rt: &impl Host,
+    line: &str,
+    rope: &mut P,
+    script: &mut S,
+    keys: &mut K,
+    gate: &G,
+) -> Ended {
     let mut out = Vec::new(rt.alloc());
     let mut err = Vec::new(rt.alloc());
+    let options = options(rt, line);
     let status = session(
-        &rt,
+        rt,
         rt.alloc(),
         &options,
-        &mut rope,
-        &mut script,
-        &mut keys,
+        rope,
+        script,
+        keys,
         gate,
         &mut out,
         &mut err,
@@ -135,19 +161,34 @@ fn run_on<G: Gate + Sync>(rt: &impl Host, asked: Asked<'_>, mut rope: &[u8], gat
     Ended { status, out, err }
 }
 
+/// The status of a session on a listing with empty files, which writes to these two streams.
+fn status_of<W: Write, E: Write>(
+    rt: &impl Host,
+    line: &str,
+    listing: &str,
+    out: &mut W,
+    err: &mut E,
+) -> u8 {
+    let file = file_of(rt, listing);
+    let options = options(rt, line);
+    let (mut rope, mut script, mut keys): (&[u8], &[u8], &[u8]) = (file.as_slice(), b"", b"");
+    session(
+        rt,
+        rt.alloc(),
+        &options,
+        &mut rope,
+        &mut script,
+        &mut keys,
+        &Open,
+        out,
+        err,
+    )
+}
+
 /// Runs a session over memory and looks at its status and at what it wrote.
 fn ends(rt: &impl Host, asked: Asked<'_>, status: u8, out: &str, err: &str) {
     let ended = run_gated(rt, asked, &Open);
-    let line = asked.line;
-    assert_eq!(rt; ended.status, status, "{line}");
-    assert!(rt;
-        ended.out.as_slice() == out.as_bytes(),
-        "{line}: another output"
-    );
-    assert!(rt;
-        ended.err.as_slice() == err.as_bytes(),
-        "{line}: another error"
-    );
+    has_ended(rt, asked.line, &ended, status, out, err);
 }
 
 /// The same for a run that stops: PROG's digits, the stop's line after `STOP ` and what follows.
@@ -160,4 +201,36 @@ fn stops(rt: &impl Host, asked: Asked<'_>, prog: &str, after: &str) {
 fn refuses(rt: &impl Host, asked: Asked<'_>, err: &str) {
     let err = format!(in rt.alloc(); "agc: {err}\n").expect(rt, "memory");
     ends(rt, asked, REFUSED, "", err.as_str());
+}
+
+/// Looks at the status of a session and at what it wrote.
+fn has_ended(rt: &impl Abort, line: &str, ended: &Ended, status: u8, out: &str, err: &str) {
+    assert_eq!(rt; ended.status, status, "{line}");
+    assert!(rt;
+        ended.out.as_slice() == out.as_bytes(),
+        "{line}: another output"
+    );
+    assert!(rt;
+        ended.err.as_slice() == err.as_bytes(),
+        "{line}: another error"
+    );
+}
+
+/// Looks that a session has ended with this line of a refusal, or with a text where there is none.
+fn is_told(rt: &impl Abort, ended: &Ended, told: &str) {
+    let status = if told.is_empty() { DONE } else { REFUSED };
+    assert!(rt; ended.err.as_slice() == told.as_bytes(), "{told}");
+    assert!(rt; ended.status == status, "{told}");
+    assert!(rt; ended.out.is_empty() != told.is_empty());
+}
+
+/// The text of a session that has ended at a stop, and wrote no error.
+fn text_of(rt: &impl Abort, line: &str, ended: Ended) -> String {
+    assert!(rt; ended.status == DONE && ended.err.is_empty(), "{line}");
+    String::from_utf8(ended.out).ok().expect(rt, "a text")
+}
+
+/// Looks that this is the line at a place of a text.
+fn has_line(rt: &impl Abort, text: &str, place: usize, line: &str) {
+    assert_eq!(rt; text.lines().nth(place), Some(line));
 }

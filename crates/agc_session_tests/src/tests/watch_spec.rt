@@ -12,13 +12,10 @@ fn reads_seven_octal_numbers(rt: HostRuntime) {
         lst2_bank: 1,
         lst2_offset: 0o200,
     };
-    assert_eq!(rt; WatchSpec::read("1,0,2,1,100,1,200"), Some(spec));
-    assert_eq!(rt;
-        WatchSpec::read("000001,000000,2,1,000100,01,200"),
-        Some(spec)
-    );
+    assert!(rt; WatchSpec::read("1,0,2,1,100,1,200") == Some(spec));
+    assert!(rt; WatchSpec::read("000001,000000,2,1,000100,01,200") == Some(spec));
     let largest = WatchSpec::read("0,0,777777,0,0,0,777777");
-    assert_eq!(rt; largest.map(|spec| spec.sets), Some(0o777777));
+    assert!(rt; largest.is_some_and(|spec| spec.sets == 0o777777));
 }
 
 #[test]
@@ -38,6 +35,6 @@ fn reads_no_other_text(rt: HostRuntime) {
         "1, 0,2,1,100,1,200",
         "1,0,2,1,100,1,200\n",
     ] {
-        assert_eq!(rt; WatchSpec::read(text), None, "{text}");
+        assert!(rt; WatchSpec::read(text).is_none(), "{text}");
     }
 }

@@ -1,10 +1,10 @@
 //! The watcher over known cells: the worked tables, the registers, the edges of erasable memory.
+use super::rope_of;
 use agc_executive::{CoreSet, Job, JobPriority, Table, Tables, WatchFault, WatchSpec, watch};
-use agc_store::{Addr, Rope, Store};
-use agc_test_kit::{IDLE, rope_file};
+use agc_store::{Addr, Store};
+use agc_test_kit::IDLE;
 use agc_word::{Narrow, Wide};
 use std::process::Abort;
-use std::test::Fail;
 
 /// LST1 and LST2 where every cell is +0.
 const NO_TIMES: &str = "LST1 00000 00000 00000 00000 00000 00000 00000 00000
@@ -21,8 +21,7 @@ LST2 8 00000 00000
 
 /// A memory where every cell is +0.
 fn cleared(rt: &(impl AllocGlobal + Abort)) -> Store {
-    let bytes = rope_file(rt.alloc(), IDLE).expect(rt, "a listing of one word");
-    Store::new(Rope::read(rt.alloc(), bytes.as_slice()).expect(rt, "a rope of one word"))
+    Store::new(rope_of(rt, IDLE))
 }
 
 fn word(rt: &impl Abort, bits: u16) -> Narrow {
@@ -38,33 +37,35 @@ fn fault_where(rt: &(impl AllocGlobal + Abort), text: &str) -> Option<WatchFault
     watch(rt.alloc(), &cleared(rt), &spec(rt, text)).err()
 }
 
+/// Looks that the watcher's text of a memory is these lines of sets, and no times.
+fn has_sets(rt: &(impl AllocGlobal + Abort), store: &Store, places: &str, sets: &str) {
+    let text = watch(rt.alloc(), store, &spec(rt, places)).expect(rt, "a text");
+    assert_eq!(rt; text.as_str().strip_prefix(sets), Some(NO_TIMES));
+}
+
+/// Looks that this is the fault of watching a cleared memory, or that there is none.
+fn has_fault(rt: &(impl AllocGlobal + Abort), places: &str, fault: Option<WatchFault>) {
+    assert_eq!(rt; fault_where(rt, places), fault, "{places}");
+}
+
 #[test]
-fn watcher_tables(rt: HostRuntime) -> Result<(), Fail> {
+fn watcher_tables(rt: HostRuntime) {
     let mut store = cleared(&rt);
     store.poke(1, 0o13, word(&rt, 0o77777));
     store.poke(1, 0o24, word(&rt, 0o02345));
     store.poke(1, 0o25, word(&rt, 0o60102));
     store.poke(1, 0o27, word(&rt, 0o20000));
-    let places = spec(&rt, "1,0,2,1,100,1,200");
-    let text = watch(rt.alloc(), &store, &places)?;
     let ready = "SET 0 FREE\nSET 1 READY 20 LOC 02345 BANKSET 60102\n";
-    assert_eq!(rt; text.as_str().strip_prefix(ready), Some(NO_TIMES));
+    has_sets(&rt, &store, "1,0,2,1,100,1,200", ready);
 
     store.poke(1, 0o27, word(&rt, 0o57777));
-    let text = watch(rt.alloc(), &store, &places)?;
     let asleep = "SET 0 FREE\nSET 1 ASLEEP 20 LOC 02345 BANKSET 60102\n";
-    assert_eq!(rt; text.as_str().strip_prefix(asleep), Some(NO_TIMES));
+    has_sets(&rt, &store, "1,0,2,1,100,1,200", asleep);
 
-    assert_eq!(rt;
-        fault_where(&rt, "1,0,21,1,100,1,200"),
-        Some(WatchFault::TooManySets)
-    );
-    assert_eq!(rt;
-        fault_where(&rt, "1,0,2,1,100,7,357"),
-        Some(WatchFault::OutOfErasable { table: Table::Lst2 })
-    );
-    assert_eq!(rt; fault_where(&rt, "1,0,2,1,100,7,356"), None);
-    Ok(())
+    let lst2 = Some(WatchFault::OutOfErasable { table: Table::Lst2 });
+    has_fault(&rt, "1,0,21,1,100,1,200", Some(WatchFault::TooManySets));
+    has_fault(&rt, "1,0,2,1,100,7,357", lst2);
+    has_fault(&rt, "1,0,2,1,100,7,356", None);
 }
 
 #[test]
@@ -84,42 +85,46 @@ fn tables_are_values(rt: HostRuntime) {
         loc: word(&rt, 0o02345),
         bankset: word(&rt, 0o60102),
     };
-    assert_eq!(rt; tables.core_sets().len(), 2);
-    assert_eq!(rt; tables.core_sets().first(), Some(&CoreSet::Free));
-    assert_eq!(rt; tables.core_sets().last(), Some(&CoreSet::Asleep(sleeping)));
-    assert_eq!(rt; tables.lst1().get(1), Some(&word(&rt, 0o77770)));
-    assert_eq!(rt;
-        tables.lst2().last().map(|task| task.bbcon),
-        Some(word(&rt, 0o00067))
+    let sets = [CoreSet::Free, CoreSet::Asleep(sleeping)];
+    assert!(rt; tables.core_sets() == sets.as_slice());
+    assert!(rt;
+        tables
+            .lst1()
+            .get(1)
+            .is_some_and(|time| time.bits() == 0o77770)
+    );
+    assert!(rt;
+        tables
+            .lst2()
+            .last()
+            .is_some_and(|task| task.bbcon.bits() == 0o00067)
     );
 }
 
 #[test]
 fn priority_of_a_word(rt: HostRuntime) {
-    assert_eq!(rt; JobPriority(word(&rt, 0o20000)).number(), 0o20);
-    assert_eq!(rt; JobPriority(word(&rt, 0o57777)).number(), 0o20);
+    assert!(rt; JobPriority(word(&rt, 0o20000)).number() == 0o20);
+    assert!(rt; JobPriority(word(&rt, 0o57777)).number() == 0o20);
 }
 
 #[test]
-fn watch_without_sets(rt: HostRuntime) -> Result<(), Fail> {
-    let text = watch(rt.alloc(), &cleared(&rt), &spec(&rt, "0,0,0,1,0,1,10"))?;
-    assert_eq!(rt; text.as_str(), NO_TIMES);
-    Ok(())
+fn watch_without_sets(rt: HostRuntime) {
+    has_sets(&rt, &cleared(&rt), "0,0,0,1,0,1,10", "");
 }
 
 #[test]
 fn watch_out_of_erasable(rt: HostRuntime) {
     let core = Some(WatchFault::OutOfErasable { table: Table::Core });
-    assert_eq!(rt; fault_where(&rt, "7,377,1,1,0,1,0"), core);
-    assert_eq!(rt; fault_where(&rt, "7,377,21,1,0,1,0"), core);
+    has_fault(&rt, "7,377,1,1,0,1,0", core);
+    has_fault(&rt, "7,377,21,1,0,1,0", core);
     let lst1 = Some(WatchFault::OutOfErasable { table: Table::Lst1 });
-    assert_eq!(rt; fault_where(&rt, "0,0,21,7,377,10,0"), lst1);
+    has_fault(&rt, "0,0,21,7,377,10,0", lst1);
 }
 
 /// At each of these places this fault comes first, or there is none.
 fn each_has(rt: &(impl AllocGlobal + Abort), places: &[&str], fault: Option<WatchFault>) {
     for place in places {
-        assert_eq!(rt; fault_where(rt, place), fault, "{place}");
+        has_fault(rt, place, fault);
     }
 }
 
@@ -158,19 +163,19 @@ fn counts_no_sets_beyond_a_number(rt: HostRuntime) {
 }
 
 #[test]
-fn registers_show_as_narrow_words(rt: HostRuntime) -> Result<(), Fail> {
+fn registers_show_as_narrow_words(rt: HostRuntime) {
     let mut store = cleared(&rt);
-    let written = [(0, 0o100000), (2, 0o137777), (6, 0o160005)];
-    for (register, bits) in written {
-        let address = Addr::new(register).expect(&rt, "a register");
-        assert!(rt; register < 1024);
-        store.write(address, Wide::from_bits(bits));
-    }
-    let text = watch(rt.alloc(), &store, &spec(&rt, "0,0,0,0,0,1,0"))?;
-    let (line, _) = text.as_str().split_once('\n').expect(&rt, "a line");
-    assert_eq!(rt;
-        line,
-        "LST1 40000 00000 77777 02400 60000 00000 60005 00000"
-    );
-    Ok(())
+    write(&rt, &mut store, 0, 0o100000);
+    write(&rt, &mut store, 2, 0o137777);
+    write(&rt, &mut store, 6, 0o160005);
+    let text = watch(rt.alloc(), &store, &spec(&rt, "0,0,0,0,0,1,0")).expect(&rt, "a text");
+    let line = text.as_str().lines().next();
+    assert!(rt; line == Some("LST1 40000 00000 77777 02400 60000 00000 60005 00000"));
+}
+
+/// Writes to a register.
+fn write(rt: &impl Abort, store: &mut Store, register: u16, bits: u16) {
+    let address = Addr::new(register).expect(rt, "a register");
+    assert!(rt; register < 1024);
+    store.write(address, Wide::from_bits(bits));
 }

@@ -1,15 +1,12 @@
 //! How far a run has come is told to the gate while it goes on.
-ghost use Rattle.std.specs.Prelude.{◌≡◌, false, IfOk};
+ghost use Rattle.std.specs.Prelude.{◌≡◌, false};
 
+use super::super::{Host, machine_of, script_of};
 use agc_gate::Telling;
 use agc_machine::Machine;
 use agc_pipe::{run_live, run_shown};
 use agc_progress::{Progress, Shown};
-use agc_script::Script;
-use agc_store::Rope;
-use agc_test_kit::rope_file;
 use std::process::Abort;
-use std::test::Fail;
 
 const LIMIT: u64 = 2_500_000;
 
@@ -18,6 +15,15 @@ const LIMIT: u64 = 2_500_000;
 struct Told {
     cycles: Vec<u64>,
     wiped: u32,
+}
+
+impl Told {
+    /// Whether the cycle at this place is one of the 1,024 from as many millions on.
+    fn is_soon_after_millions(&self, place: usize) -> bool {
+        self.cycles.get(place).is_some_and(|cycle| {
+            cycle / 1_000_000 == place as u64 && cycle % 1_000_000 < 1_024
+        })
+    }
 }
 
 impl Progress for Told {
@@ -34,17 +40,10 @@ impl Shown for Told {
 }
 
 /// TCF 4000 for ever, at its start.
-fn machine(rt: &(impl AllocGlobal + Abort)) -> Result<Machine, Fail>
-    ensures { IfOk result (λ machine. machine.begun ≡ false) }
+fn endless(rt: &(impl AllocGlobal + Abort)) -> Machine
+    ensures { result.begun ≡ false }
 {
-    let rope = rope_file(rt.alloc(), "4000 14000 TCF 4000")?;
-    let rope = Rope::read(rt.alloc(), rope.as_slice())?;
-    let script = Script::parse(rt.alloc(), b"")?;
-    let machine = Machine::new(rope, script, LIMIT)
-        .ok()
-        .expect(rt, "the limit is in range");
-    assert!(rt; machine.fresh());
-    Ok(machine)
+    machine_of(rt, "4000 14000 TCF 4000", script_of(rt, b""), LIMIT)
 }
 
 fn telling(rt: &impl AllocGlobal, is_told: bool) -> Telling<Told> {
@@ -55,39 +54,35 @@ fn telling(rt: &impl AllocGlobal, is_told: bool) -> Telling<Told> {
     Telling::new(told, is_told)
 }
 
+/// What that run tells.
+fn told_of(rt: &impl Host, is_told: bool) -> Told {
+    let gate = telling(rt, is_told);
+    assert!(rt; run_shown(rt, rt.alloc(), endless(rt), 1, &gate).is_ok());
+    gate.into_inner()
+}
+
 /// Orders of one cycle: it is told after the first, and then a million cycles later each time.
 #[test]
-fn a_run_tells_how_far_it_has_come(rt: HostRuntime) -> Result<(), Fail> {
-    let gate = telling(&rt, true);
-    let machine = machine(&rt)?;
-    assert!(rt; run_shown(&rt, rt.alloc(), machine, 1, &gate).is_ok());
-    let told = gate.into_inner();
+fn a_run_tells_how_far_it_has_come(rt: HostRuntime) {
+    let told = told_of(&rt, true);
     assert!(rt; told.cycles.as_slice() == [1, 1_000_001, 2_000_001].as_slice());
-    assert_eq!(rt; told.wiped, 1);
-    Ok(())
+    assert!(rt; told.wiped == 1);
 }
 
 #[test]
-fn a_run_is_not_told_to_who_would_not_know(rt: HostRuntime) -> Result<(), Fail> {
-    let gate = telling(&rt, false);
-    let machine = machine(&rt)?;
-    assert!(rt; run_shown(&rt, rt.alloc(), machine, 1, &gate).is_ok());
-    assert!(rt; gate.into_inner().cycles.is_empty());
-    Ok(())
+fn a_run_is_not_told_to_who_would_not_know(rt: HostRuntime) {
+    assert!(rt; told_of(&rt, false).cycles.is_empty());
 }
 
 /// With live keys it is told where the machine looks for a key, every 256 cycles.
 #[test]
-fn a_live_run_tells_how_far_it_has_come(rt: HostRuntime) -> Result<(), Fail> {
+fn a_live_run_tells_how_far_it_has_come(rt: HostRuntime) {
     let gate = telling(&rt, true);
-    let machine = machine(&rt)?;
-    let live = run_live(&rt, rt.alloc(), machine, Vec::new(rt.alloc()), 1, 1, &gate);
+    let no_keys = Vec::new(rt.alloc());
+    let live = run_live(&rt, rt.alloc(), endless(&rt), no_keys, 1, 1, &gate);
     assert!(rt; live.is_ok());
     let told = gate.into_inner();
-    let millions = |cycle: &u64| (cycle / 1_000_000, cycle % 1_000_000 < 1_024);
-    assert_eq!(rt; told.cycles.get(0).map(millions), Some((0, true)));
-    assert_eq!(rt; told.cycles.get(1).map(millions), Some((1, true)));
-    assert_eq!(rt; told.cycles.get(2).map(millions), Some((2, true)));
-    assert_eq!(rt; (told.cycles.len(), told.wiped), (3, 1));
-    Ok(())
+    assert!(rt; (told.cycles.len(), told.wiped) == (3, 1));
+    assert!(rt; told.is_soon_after_millions(0) && told.is_soon_after_millions(1));
+    assert!(rt; told.is_soon_after_millions(2));
 }

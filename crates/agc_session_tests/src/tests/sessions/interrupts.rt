@@ -2,7 +2,6 @@
 //! The script requests KEYRUPT2 (4030) at the very boundary. Its service shows itself by a WRITE of A
 //! to channel 12 a cycle after its first order begins; ZRUPT (15) and BRUPT (17) say where it came in.
 use super::memory::{Run, leaves};
-use std::test::Fail;
 
 /// EXTEND ends at 1, and the service runs up to 8 where it is taken at once.
 const AFTER_EXTEND: &str = "
@@ -16,7 +15,7 @@ const AFTER_EXTEND: &str = "
 /// At cycle 0 nothing holds the interrupt: it takes 3 cycles and its service 5, then EXTEND and WRITE
 /// run.
 #[test]
-fn interrupt_before_extend(rt: HostRuntime) -> Result<(), Fail> {
+fn interrupt_before_extend(rt: HostRuntime) {
     let run = Run {
         listing: AFTER_EXTEND,
         script: "0 raise 6",
@@ -26,13 +25,13 @@ fn interrupt_before_extend(rt: HostRuntime) -> Result<(), Fail> {
         from: "15",
         pairs: &["04001 00000", "00006 00000"],
     };
-    leaves(&rt, run)
+    leaves(&rt, run);
 }
 
 /// At cycle 1 EXTEND holds it: WRITE 10 runs from 1 to 3, the interrupt is taken from 3 to 6, and its
 /// service writes at 7.
 #[test]
-fn interrupt_waits_after_extend(rt: HostRuntime) -> Result<(), Fail> {
+fn interrupt_waits_after_extend(rt: HostRuntime) {
     let run = Run {
         listing: AFTER_EXTEND,
         script: "1 raise 6",
@@ -42,13 +41,13 @@ fn interrupt_waits_after_extend(rt: HostRuntime) -> Result<(), Fail> {
         from: "15",
         pairs: &["04003 00000", "14002 00000"],
     };
-    leaves(&rt, run)
+    leaves(&rt, run);
 }
 
 /// At cycle 2 INDEX holds it: TCF 4002, which INDEX made TCF 4005, runs to 3, the interrupt is taken
 /// from 3 to 6, and its service writes at 7.
 #[test]
-fn interrupt_waits_after_index(rt: HostRuntime) -> Result<(), Fail> {
+fn interrupt_waits_after_index(rt: HostRuntime) {
     let run = Run {
         listing: "
 4000 50100 INDEX 100
@@ -65,13 +64,13 @@ fn interrupt_waits_after_index(rt: HostRuntime) -> Result<(), Fail> {
         from: "15",
         pairs: &["04006 00000", "14005 00000"],
     };
-    leaves(&rt, run)
+    leaves(&rt, run);
 }
 
 /// At cycle 1 EXTEND holds it and at 3 the INDEX of the extracodes, which makes WRITE 10 of WRITE 0:
 /// that runs from 3 to 5, the interrupt is taken from 5 to 8, and its service writes at 9.
 #[test]
-fn interrupt_waits_after_the_index_of_extracodes(rt: HostRuntime) -> Result<(), Fail> {
+fn interrupt_waits_after_the_index_of_extracodes(rt: HostRuntime) {
     for script in ["1 raise 6", "3 raise 6"] {
         let run = Run {
             listing: "
@@ -90,15 +89,14 @@ fn interrupt_waits_after_the_index_of_extracodes(rt: HostRuntime) -> Result<(), 
             from: "15",
             pairs: &["04004 00000", "14003 00000"],
         };
-        leaves(&rt, run)?;
+        leaves(&rt, run);
     }
-    Ok(())
 }
 
 /// AD ends at 4 with overflow in A, which TCF leaves and TS takes away at 7, leaving out one order:
 /// the interrupt is taken from 7 to 10, and its service writes the +1 of the overflow at 11.
 #[test]
-fn interrupt_waits_for_plus_overflow(rt: HostRuntime) -> Result<(), Fail> {
+fn interrupt_waits_for_plus_overflow(rt: HostRuntime) {
     let run = Run {
         listing: "
 4000 34006 CA 4006
@@ -119,12 +117,12 @@ fn interrupt_waits_for_plus_overflow(rt: HostRuntime) -> Result<(), Fail> {
         from: "15",
         pairs: &["04006 00000", "14005 00000"],
     };
-    leaves(&rt, run)
+    leaves(&rt, run);
 }
 
 /// The same with 40000 and -1, whose overflow is minus.
 #[test]
-fn interrupt_waits_for_minus_overflow(rt: HostRuntime) -> Result<(), Fail> {
+fn interrupt_waits_for_minus_overflow(rt: HostRuntime) {
     let run = Run {
         listing: "
 4000 34006 CA 4006
@@ -145,5 +143,5 @@ fn interrupt_waits_for_minus_overflow(rt: HostRuntime) -> Result<(), Fail> {
         from: "15",
         pairs: &["04006 00000", "14005 00000"],
     };
-    leaves(&rt, run)
+    leaves(&rt, run);
 }

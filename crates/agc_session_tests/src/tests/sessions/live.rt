@@ -2,8 +2,6 @@
 use super::streams::Source;
 use super::*;
 use agc_test_kit::{KeysMeet, Slow};
-use std::alloc::Global;
-use std::test::Fail;
 
 /// How often the keyboard's gate looks for what must come.
 const TURNS: u32 = 1_000_000;
@@ -19,71 +17,55 @@ fn relayed<'a>(line: &'a str, keys: &'a [u8]) -> Asked<'a> {
 }
 
 #[test]
-fn live_session(rt: HostRuntime) -> Result<(), Fail> {
+fn live_session(rt: HostRuntime) {
+    let (line, logged) = ("--limit 10 --live", "--limit 10 --log --live");
     let after = "Limit CYCLE 10 WRITES 1\n3 010 54171\nREST 0\n";
-    stops(&rt, relayed("--limit 10 --log --live", b""), "12", after);
-    refuses(
-        &rt,
-        relayed("--limit 10 --live", b"VERB FOO"),
-        "keys: BadKey",
-    );
-    refuses(
-        &rt,
-        relayed("--limit 10 --live --spacing 0", b"VERB"),
-        "spacing",
-    );
-    refuses(
-        &rt,
-        relayed("--limit 10 --live --spacing 0 --slots 0", b"VERB"),
-        "slots",
-    );
-    let mut spaces = vec![in rt.alloc(); b' '; 65_536]?;
-    stops(
-        &rt,
-        relayed("--limit 10 --log --live", spaces.as_slice()),
-        "12",
-        after,
-    );
-    spaces.push(b' ')?;
-    refuses(
-        &rt,
-        relayed("--limit 10 --live", spaces.as_slice()),
-        "cannot read keys",
-    );
-    Ok(())
+    stops(&rt, relayed(logged, b""), "12", after);
+    refuses(&rt, relayed(line, b"VERB FOO"), "keys: BadKey");
+    let unspaced = "--limit 10 --live --spacing 0";
+    refuses(&rt, relayed(unspaced, b"VERB"), "spacing");
+    let without_slots = "--limit 10 --live --spacing 0 --slots 0";
+    refuses(&rt, relayed(without_slots, b"VERB"), "slots");
+    let mut spaces = many(&rt, b' ', 65_536);
+    stops(&rt, relayed(logged, spaces.as_slice()), "12", after);
+    spaces.push(b' ').expect(&rt, "memory");
+    refuses(&rt, relayed(line, spaces.as_slice()), "cannot read keys");
 }
 
 /// The key text is looked at after the specs and before the slots, and the spacing before the
 /// tables.
 #[test]
 fn keys_come_in_their_place(rt: HostRuntime) {
-    let bad = "--live --spacing 0 --slots 0 --watch 10,0,0,0,0,0,0";
-    for (line, keys, err) in [
-        ("--limit 0", "FOO", "limit: Zero"),
-        ("--limit 1 --until 1", "FOO", "until: BadSpec"),
-        ("--limit 1", "FOO", "keys: BadKey"),
-        ("--limit 1", "", "slots"),
-    ] {
-        let line = format!(in rt.alloc(); "{line} {bad}").expect(&rt, "memory");
-        refuses(&rt, relayed(line.as_str(), keys.as_bytes()), err);
-    }
+    refuses_badly(&rt, "--limit 0", b"FOO", "limit: Zero");
+    refuses_badly(&rt, "--limit 1 --until 1", b"FOO", "until: BadSpec");
+    refuses_badly(&rt, "--limit 1", b"FOO", "keys: BadKey");
+    refuses_badly(&rt, "--limit 1", b"", "slots");
     let line = "--limit 1 --live --spacing 0 --watch 10,0,0,0,0,0,0";
     refuses(&rt, relayed(line, b""), "spacing");
     let line = "--limit 1 --live --watch 10,0,0,0,0,0,0";
     refuses(&rt, relayed(line, b""), "watch: OutOfErasable");
 }
 
+/// A refusal where the spacing, the slots and the tables are bad too.
+fn refuses_badly(rt: &impl Host, line: &str, keys: &[u8], err: &str) {
+    let line = format!(in rt.alloc();
+        "{line} --live --spacing 0 --slots 0 --watch 10,0,0,0,0,0,0"
+    ).expect(rt, "memory");
+    refuses(rt, relayed(line.as_str(), keys), err);
+}
+
 /// Names of keys are divided by spaces, tabs, carriage returns and line feeds, and by nothing else.
 /// Of the 18 keys a run of one cycle takes the first, at its start, or none.
 #[test]
-fn key_names(rt: HostRuntime) -> Result<(), Fail> {
+fn key_names(rt: HostRuntime) {
+    let line = "--limit 1 --live";
     let keys = b"0 1\t2\r3\n4 5  6\t\t7\r\n8 9 VERB NOUN RSET KEYREL + - ENTR CLR\n";
-    let ended = run_gated(&rt, relayed("--limit 1 --live", keys), &Open);
-    assert_eq!(rt; ended.status, DONE);
-    let text = String::from_utf8(ended.out)?;
-    let Apart { tape, left, .. } = taken_apart(rt.alloc(), text.as_str())?;
-    let none = tape.is_empty() && left == 18;
-    assert!(rt; none || tape.as_str() == "0 key 0\n" && left == 17);
+    let ended = run_gated(&rt, relayed(line, keys), &Open);
+    let text = text_of(&rt, line, ended);
+    assert!(rt;
+        is_first_or_none(&taken_apart(&rt, text.as_str())),
+        "{text}"
+    );
     for keys in [
         "verb",
         "VERBNOUN",
@@ -93,47 +75,31 @@ fn key_names(rt: HostRuntime) -> Result<(), Fail> {
         "VERB\x0c",
         "V ERB",
     ] {
-        refuses(
-            &rt,
-            relayed("--limit 1 --live", keys.as_bytes()),
-            "keys: BadKey",
-        );
+        refuses(&rt, relayed(line, keys.as_bytes()), "keys: BadKey");
     }
-    Ok(())
+}
+
+/// The first of 18 keys is taken at the start, or none is.
+fn is_first_or_none(apart: &Apart) -> bool {
+    let tape = apart.tape.as_str();
+    tape == "" && apart.left == 18 || tape == "0 key 0\n" && apart.left == 17
 }
 
 /// Without live keys the key text is not read, and the spacing is no matter.
 #[test]
 fn keys_are_not_read(rt: HostRuntime) {
-    for (line, status, told) in [
-        ("--limit 10 --spacing 0", DONE, ""),
-        ("--limit 10 --live", REFUSED, "agc: cannot read keys\n"),
-        (
-            "--limit 10 --live --until 1",
-            REFUSED,
-            "agc: until: BadSpec\n",
-        ),
-    ] {
-        let options = options(&rt, line);
-        let file = file_of(&rt, IDLE);
-        let (mut rope, mut script): (&[u8], &[u8]) = (file.as_slice(), b"");
-        let mut keys = Source::new(b"FOO", 4, 1);
-        let mut out = Vec::new(rt.alloc());
-        let mut err = Vec::new(rt.alloc());
-        let ended = session(
-            &rt,
-            rt.alloc(),
-            &options,
-            &mut rope,
-            &mut script,
-            &mut keys,
-            &Open,
-            &mut out,
-            &mut err,
-        );
-        assert_eq!(rt; ended, status, "{line}");
-        assert!(rt; err.as_slice() == told.as_bytes(), "{line}");
-    }
+    ends_unread(&rt, "--limit 10 --spacing 0", "");
+    ends_unread(&rt, "--limit 10 --live", "agc: cannot read keys\n");
+    ends_unread(&rt, "--limit 10 --live --until 1", "agc: until: BadSpec\n");
+}
+
+/// A session whose keys cannot be read ends with this line of a refusal, or without one.
+fn ends_unread(rt: &impl Host, line: &str, told: &str) {
+    let file = file_of(rt, IDLE);
+    let (mut rope, mut script): (&[u8], &[u8]) = (file.as_slice(), b"");
+    let mut keys = Source::new(b"FOO", 4, 1);
+    let ended = run_files(rt, line, &mut rope, &mut script, &mut keys, &Open);
+    is_told(rt, &ended, told);
 }
 
 /// The watcher's text stands after the keys left.
@@ -141,15 +107,10 @@ fn keys_are_not_read(rt: HostRuntime) {
 fn keys_before_tables(rt: HostRuntime) {
     let line = "--limit 10 --live --watch 0,0,0,1,0,1,10";
     let ended = run_gated(&rt, relayed(line, b""), &Open);
-    let text = String::from_utf8(ended.out).ok().expect(&rt, "text");
-    assert_eq!(rt; ended.status, DONE);
-    assert_eq!(rt; text.as_str().lines().nth(9), Some("REST 0"));
-    assert!(rt;
-        text.as_str()
-            .lines()
-            .nth(10)
-            .is_some_and(|line| line.starts_with("LST1 "))
-    );
+    let text = text_of(&rt, line, ended);
+    has_line(&rt, text.as_str(), 9, "REST 0");
+    let tables = text.as_str().lines().nth(10);
+    assert!(rt; tables.is_some_and(|line| line.starts_with("LST1 ")));
 }
 
 /// The text of a live run, taken apart: the lines of the tape, the number of the keys left, and all
@@ -161,35 +122,36 @@ struct Apart {
     shown: String,
 }
 
-fn taken_apart(alloc: Global, text: &str) -> Result<Apart, Fail> {
-    let mut tape = String::new(alloc);
-    let mut shown = String::new(alloc);
-    let mut left = usize::MAX;
+fn taken_apart(rt: &(impl AllocGlobal + Abort), text: &str) -> Apart {
+    let mut apart = Apart {
+        tape: String::new(rt.alloc()),
+        left: usize::MAX,
+        shown: String::new(rt.alloc()),
+    };
     for line in text.lines() {
         if let Some(number) = line.strip_prefix("REST ") {
-            left = number.parse::<usize>().unwrap_or(usize::MAX);
+            apart.left = number.parse::<usize>().unwrap_or(usize::MAX);
         } else if line.contains(" key ") {
-            tape.push_str(line)?;
-            tape.push('\n')?;
+            push_line(rt, &mut apart.tape, line);
         } else {
-            shown.push_str(line)?;
-            shown.push('\n')?;
+            push_line(rt, &mut apart.shown, line);
         }
     }
-    Ok(Apart { tape, left, shown })
+    apart
+}
+
+/// Adds a line to a text.
+fn push_line(rt: &impl Abort, text: &mut String, line: &str) {
+    text.push_str(line).expect(rt, "memory");
+    text.push('\n').expect(rt, "memory");
 }
 
 /// Each line of a tape has its key in order, at a cycle so far above the last one.
 fn is_tape(tape: &str, spacing: u64) -> bool {
     let mut least = 0;
     for (line, name) in tape.lines().zip(["VERB", "3", "5"]) {
-        let Some((cycle, key)) = line.split_once(" key ") else {
-            return false;
-        };
-        let Ok(cycle) = cycle.parse::<u64>() else {
-            return false;
-        };
-        if key != name || cycle < least || cycle >= 100_000 {
+        let cycle = cycle_of_key(line, name).unwrap_or(u64::MAX);
+        if cycle < least || cycle >= 100_000 {
             return false;
         }
         least = cycle.saturating_add(spacing);
@@ -197,54 +159,62 @@ fn is_tape(tape: &str, spacing: u64) -> bool {
     true
 }
 
+/// The cycle of a tape's line, if the key is this one.
+fn cycle_of_key(line: &str, name: &str) -> Option<u64> {
+    let cycle = line.strip_suffix(name)?.strip_suffix(" key ")?;
+    cycle.parse::<u64>().ok()
+}
+
 /// Presses VERB, 3 and 5 while the writes run, and looks at the lines of the tape and of the keys
-/// left: the keys are in order, and none is lost. Then plays the run again: the tape's lines are
-/// lines of a script, and the text of the plain run is the same but for them. Returns how many keys
+/// left: the keys are in order, and none is lost. Then plays the run again. Returns how many keys
 /// were taken.
-fn pressed<G: Gate + Sync>(rt: &impl Host, spacing: u64, gate: &G) -> Result<usize, Fail> {
-    let line = format!(in rt.alloc(); "--limit 100000 --log --live --spacing {spacing}")?;
-    let asked_live = Asked {
+fn pressed<G: Gate + Sync>(rt: &impl Host, spacing: u64, gate: &G) -> usize {
+    let apart = taken_apart(rt, text_of_pressed(rt, spacing, gate).as_str());
+    let tape = apart.tape.as_str();
+    let taken = tape.lines().count();
+    assert!(rt; is_tape(tape, spacing), "{tape}");
+    assert!(rt; taken.saturating_add(apart.left) == 3);
+    plays_again(rt, tape, apart.shown.as_str());
+    taken
+}
+
+/// The text of that run.
+fn text_of_pressed<G: Gate + Sync>(rt: &impl Host, spacing: u64, gate: &G) -> String {
+    let line = format!(in rt.alloc(); "--limit 100000 --log --live --spacing {spacing}").expect(
+        rt, "memory",
+    );
+    let asked = Asked {
         line: line.as_str(),
         rope: GivenRope::Listing(KEYED_WRITES),
         script: b"",
         keys: b"VERB 3 5\n",
     };
-    let ended = run_gated(rt, asked_live, gate);
-    assert_eq!(rt; ended.status, DONE);
-    assert!(rt; ended.err.is_empty());
-    let text = String::from_utf8(ended.out)?;
-    let Apart { tape, left, shown } = taken_apart(rt.alloc(), text.as_str())?;
-    let taken = tape.as_str().lines().count();
-    assert!(rt; is_tape(tape.as_str(), spacing), "{tape}");
-    assert_eq!(rt; taken.saturating_add(left), 3);
+    let ended = run_gated(rt, asked, gate);
+    text_of(rt, line.as_str(), ended)
+}
 
-    let plain = without_keys("--limit 100000 --log", KEYED_WRITES, tape.as_bytes());
-    let again = run_gated(rt, plain, &Open);
-    assert_eq!(rt; again.status, DONE);
+/// The tape's lines are lines of a script, and the text of the plain run is the same but for them.
+fn plays_again(rt: &impl Host, tape: &str, shown: &str) {
+    let line = "--limit 100000 --log";
+    let again = run_gated(rt, without_keys(line, KEYED_WRITES, tape.as_bytes()), &Open);
+    assert!(rt; again.status == DONE);
     assert!(rt; again.out.as_slice() == shown.as_bytes(), "another run");
-    Ok(taken)
 }
 
 #[test]
-fn live_keys_replay(rt: HostRuntime) -> Result<(), Fail> {
+fn live_keys_replay(rt: HostRuntime) {
     for spacing in [8533, 1] {
-        pressed(&rt, spacing, &Open)?;
+        pressed(&rt, spacing, &Open);
         let gate = KeysMeet::new(TURNS);
-        assert_eq!(rt; pressed(&rt, spacing, &gate)?, 3);
+        assert_eq!(rt; pressed(&rt, spacing, &gate), 3);
         assert!(rt; gate.machine_met.is_up() && gate.display_met.is_up());
     }
-    Ok(())
 }
 
 /// However slow the threads are, no key is lost, and the tape plays the run again.
 #[test]
-fn slow_keyboards(rt: HostRuntime) -> Result<(), Fail> {
-    for gate in [
-        Slow::machine(1000),
-        Slow::display(1000),
-        Slow::keys(100_000),
-    ] {
-        pressed(&rt, 8533, &gate)?;
-    }
-    Ok(())
+fn slow_keyboards(rt: HostRuntime) {
+    pressed(&rt, 8533, &Slow::machine(1000));
+    pressed(&rt, 8533, &Slow::display(1000));
+    pressed(&rt, 8533, &Slow::keys(100_000));
 }

@@ -1,6 +1,5 @@
 //! What a run leaves in the memory, as the watcher prints it.
 use super::*;
-use std::test::Fail;
 
 /// A run of a rope's listing with a script, and what it leaves.
 #[derive(Clone, Copy)]
@@ -21,14 +20,29 @@ pub struct Run<'a> {
 
 /// Runs it as a session and looks at the whole text: the panel stays blank, LST1 is the registers and
 /// LST2 begins with these pairs.
-pub fn leaves(rt: &impl Host, run: Run<'_>) -> Result<(), Fail> {
-    let line = format!(in rt.alloc(); "{} --watch 0,0,0,0,0,0,{}", run.line, run.from)?;
-    let mut after = format!(in rt.alloc(); "{}LST1 {}\n", run.after, run.registers)?;
-    for k in 0..9 {
-        let pair = run.pairs.get(k).copied().unwrap_or("00000 00000");
-        after.push_str(format!(in rt.alloc(); "LST2 {k} {pair}\n")?.as_str())?;
-    }
+pub fn leaves(rt: &impl Host, run: Run<'_>) {
+    let line = format!(in rt.alloc(); "{} --watch 0,0,0,0,0,0,{}", run.line, run.from).expect(
+        rt, "memory",
+    );
+    let after = lines_after(rt, run);
     let asked = without_keys(line.as_str(), run.listing, run.script.as_bytes());
     stops(rt, asked, "__", after.as_str());
-    Ok(())
+}
+
+/// Its text after `STOP `.
+fn lines_after(rt: &(impl AllocGlobal + Abort), run: Run<'_>) -> String {
+    let mut after = format!(in rt.alloc(); "{}LST1 {}\n", run.after, run.registers).expect(
+        rt, "memory",
+    );
+    for k in 0..9 {
+        let pair = run.pairs.get(k).copied().unwrap_or("00000 00000");
+        push_pair(rt, &mut after, k, pair);
+    }
+    after
+}
+
+/// Adds the line of a pair of LST2.
+fn push_pair(rt: &(impl AllocGlobal + Abort), text: &mut String, k: usize, pair: &str) {
+    let line = format!(in rt.alloc(); "LST2 {k} {pair}\n").expect(rt, "memory");
+    text.push_str(line.as_str()).expect(rt, "memory");
 }

@@ -1,11 +1,10 @@
 //! Programs of a few orders, from their script to the stop: what they leave in registers and cells.
 use super::memory::{Run, leaves};
-use std::test::Fail;
 
 /// CA, AD and TS take 6 cycles. 37777 + 1 has overflow: TS stores +0 in the cell, leaves +1 in A and
 /// leaves out one order.
 #[test]
-fn ts_skips_on_overflow(rt: HostRuntime) -> Result<(), Fail> {
+fn ts_skips_on_overflow(rt: HostRuntime) {
     let run = Run {
         listing: "
 4000 34006 CA 4006
@@ -22,12 +21,12 @@ fn ts_skips_on_overflow(rt: HostRuntime) -> Result<(), Fail> {
         from: "100",
         pairs: &["00000 00000"],
     };
-    leaves(&rt, run)
+    leaves(&rt, run);
 }
 
 /// The sum of +1 and -1 is -0, so that CCS leaves +0 in A and leaves out three orders.
 #[test]
-fn zero_sums_and_ccs(rt: HostRuntime) -> Result<(), Fail> {
+fn zero_sums_and_ccs(rt: HostRuntime) {
     let run = Run {
         listing: "
 4000 34007 CA 4007
@@ -46,12 +45,12 @@ fn zero_sums_and_ccs(rt: HostRuntime) -> Result<(), Fail> {
         from: "100",
         pairs: &[],
     };
-    leaves(&rt, run)
+    leaves(&rt, run);
 }
 
 /// TC 4010 sets Q to 04001, which TC Q runs as TC 4001. That sets Q to the address after Q itself.
 #[test]
-fn tc_through_q(rt: HostRuntime) -> Result<(), Fail> {
+fn tc_through_q(rt: HostRuntime) {
     let run = Run {
         listing: "
 4000 04010 TC 4010
@@ -64,13 +63,13 @@ fn tc_through_q(rt: HostRuntime) -> Result<(), Fail> {
         from: "100",
         pairs: &[],
     };
-    leaves(&rt, run)
+    leaves(&rt, run);
 }
 
 /// DCA gets 37777 37777, to which DAS adds the cells' 00000 00001: an overflow out of both words,
 /// which A keeps as +1.
 #[test]
-fn double_add(rt: HostRuntime) -> Result<(), Fail> {
+fn double_add(rt: HostRuntime) {
     let run = Run {
         listing: "
 4000 00006 EXTEND
@@ -86,12 +85,12 @@ fn double_add(rt: HostRuntime) -> Result<(), Fail> {
         from: "100",
         pairs: &["00000 00000"],
     };
-    leaves(&rt, run)
+    leaves(&rt, run);
 }
 
 /// DIM of +1 gives -0; MSU of +0 and 00001 gives -1.
 #[test]
-fn dim_and_modular_difference(rt: HostRuntime) -> Result<(), Fail> {
+fn dim_and_modular_difference(rt: HostRuntime) {
     let run = Run {
         listing: "
 4000 00006 EXTEND
@@ -107,5 +106,5 @@ fn dim_and_modular_difference(rt: HostRuntime) -> Result<(), Fail> {
         from: "100",
         pairs: &["77777 00001", "77776 00000"],
     };
-    leaves(&rt, run)
+    leaves(&rt, run);
 }

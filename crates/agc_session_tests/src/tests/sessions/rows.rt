@@ -1,6 +1,5 @@
 //! The worked runs, and every refusal in its place.
 use super::*;
-use std::test::Fail;
 
 /// LST1 and LST2 where every cell is +0.
 const NO_TIMES: &str = "LST1 00000 00000 00000 00000 00000 00000 00000 00000
@@ -17,12 +16,7 @@ LST2 8 00000 00000
 
 #[test]
 fn idle_loop(rt: HostRuntime) {
-    stops(
-        &rt,
-        without_keys("--limit 10", IDLE, b""),
-        "__",
-        "Limit CYCLE 10 WRITES 0\n",
-    );
+    stops(&rt, without_keys("--limit 10", IDLE, b""), "__", IDLED);
 }
 
 #[test]
@@ -77,28 +71,23 @@ fn last_order_passes_limit(rt: HostRuntime) {
 }
 
 #[test]
-fn watch_without_sets(rt: HostRuntime) -> Result<(), Fail> {
-    let after = format!(in rt.alloc(); "Limit CYCLE 10 WRITES 0\n{NO_TIMES}")?;
+fn watch_without_sets(rt: HostRuntime) {
+    let after = format!(in rt.alloc(); "{IDLED}{NO_TIMES}").expect(&rt, "memory");
     stops(
         &rt,
         without_keys("--limit 10 --watch 0,0,0,1,0,1,10", IDLE, b""),
         "__",
         after.as_str(),
     );
-    Ok(())
 }
 
 #[test]
 fn watch_out_of_erasable(rt: HostRuntime) {
-    for sets in ["1", "21"] {
-        let line = format!(in rt.alloc(); "--limit 10 --watch 7,377,{sets},1,0,1,0").expect(
-            &rt, "memory",
-        );
-        refuses(
-            &rt,
-            without_keys(line.as_str(), IDLE, b""),
-            "watch: OutOfErasable",
-        );
+    for line in [
+        "--limit 10 --watch 7,377,1,1,0,1,0",
+        "--limit 10 --watch 7,377,21,1,0,1,0",
+    ] {
+        refuses(&rt, without_keys(line, IDLE, b""), "watch: OutOfErasable");
     }
 }
 
@@ -155,23 +144,21 @@ fn command_line_refusals(rt: HostRuntime) {
 /// Each line has all faults of the lines after it, so that the order shows.
 #[test]
 fn first_refusal_decides(rt: HostRuntime) {
-    let bad = "--watch 1 --until 1 --slots 0";
-    let all = format!(in rt.alloc(); "--limit 0 {bad}").expect(&rt, "memory");
-    refuses(&rt, on_file(all.as_str(), b"", b"x"), "rope: Empty");
-    refuses(&rt, on_file(all.as_str(), b"1", b"x"), "rope: OddLength");
+    let all = "--limit 0 --watch 1 --until 1 --slots 0";
+    refuses(&rt, on_file(all, b"", b"x"), "rope: Empty");
+    refuses(&rt, on_file(all, b"1", b"x"), "rope: OddLength");
+    let script = b"\nx";
     refuses(
         &rt,
-        without_keys(all.as_str(), IDLE, b"\nx"),
+        without_keys(all, IDLE, script),
         "script line 2: BadCycle",
     );
-    refuses(&rt, without_keys(all.as_str(), IDLE, b""), "limit: Zero");
-    let large = format!(in rt.alloc(); "--limit 1000000000001 {bad}").expect(&rt, "memory");
-    refuses(
-        &rt,
-        without_keys(large.as_str(), IDLE, b""),
-        "limit: TooLarge",
-    );
     for (line, err) in [
+        (all, "limit: Zero"),
+        (
+            "--limit 1000000000001 --watch 1 --until 1 --slots 0",
+            "limit: TooLarge",
+        ),
         ("--limit 1 --watch 1 --until 1 --slots 0", "watch: BadSpec"),
         (
             "--limit 1 --watch 10,0,0,0,0,0,0 --until 1 --slots 0",
@@ -195,23 +182,12 @@ fn first_refusal_decides(rt: HostRuntime) {
     }
 }
 
-/// In the parity form the banks 00 and 01 stand first: TCF 4000 is the word after their 2048.
 #[test]
-fn parity_session(rt: HostRuntime) -> Result<(), Fail> {
-    let mut rope = Vec::new(rt.alloc());
-    for _ in 0..2048 {
-        rope.extend_from_slice(&[0x00, 0x01])?;
-    }
-    rope.extend_from_slice(&[0x30, 0x01])?;
+fn parity_session(rt: HostRuntime) {
+    let rope = parity_rope(&rt);
     let line = "--limit 10 --form parity";
-    stops(
-        &rt,
-        on_file(line, rope.as_slice(), b""),
-        "__",
-        "Limit CYCLE 10 WRITES 0\n",
-    );
+    stops(&rt, on_file(line, rope.as_slice(), b""), "__", IDLED);
     refuses(&rt, without_keys(line, IDLE, b""), "rope: Parity");
-    Ok(())
 }
 
 /// Waits, and writes +0 to channel 10 at each DOWNRUPT.
@@ -240,35 +216,26 @@ fn every_downrupt(rt: HostRuntime) {
     );
 }
 
-#[test]
-fn script_edges(rt: HostRuntime) -> Result<(), Fail> {
-    for (blanks, told) in [(111, None), (112, Some("script line 1: LineTooLong"))] {
-        let mut script = Vec::new(rt.alloc());
-        script.extend_from_slice(b"0 raise 1")?;
-        for _ in 0..blanks {
-            script.push(b' ')?;
-        }
-        script.extend_from_slice(b"\r\n")?;
-        match told {
-            Some(err) => refuses(
-                &rt,
-                without_keys("--limit 10", IDLE, script.as_slice()),
-                err,
-            ),
-            None => stops(
-                &rt,
-                without_keys("--limit 10", IDLE, script.as_slice()),
-                "__",
-                "Limit CYCLE 10 WRITES 0\n",
-            ),
-        }
+/// A script of one event with so many blanks after it.
+fn padded(rt: &(impl AllocGlobal + Abort), blanks: usize) -> Vec<u8> {
+    let mut script = Vec::new(rt.alloc());
+    script.extend_from_slice(b"0 raise 1").expect(rt, "memory");
+    for _ in 0..blanks {
+        script.push(b' ').expect(rt, "memory");
     }
-    stops(
+    script.extend_from_slice(b"\r\n").expect(rt, "memory");
+    script
+}
+
+#[test]
+fn script_edges(rt: HostRuntime) {
+    stops(&rt, idle_on(padded(&rt, 111).as_slice()), "__", IDLED);
+    refuses(
         &rt,
-        without_keys("--limit 10", IDLE, b"1000000000000 raise 1"),
-        "__",
-        "Limit CYCLE 10 WRITES 0\n",
+        idle_on(padded(&rt, 112).as_slice()),
+        "script line 1: LineTooLong",
     );
+    stops(&rt, idle_on(b"1000000000000 raise 1"), "__", IDLED);
     for (script, err) in [
         ("1000000000001 raise 1", "script line 1: BadCycle"),
         ("0", "script line 1: UnknownWord"),
@@ -278,11 +245,6 @@ fn script_edges(rt: HostRuntime) -> Result<(), Fail> {
         ("0 poke 9 400 1", "script line 1: BadNumber"),
         ("5 key 1\n4 key 2", "script line 2: OutOfOrder"),
     ] {
-        refuses(
-            &rt,
-            without_keys("--limit 10", IDLE, script.as_bytes()),
-            err,
-        );
+        refuses(&rt, idle_on(script.as_bytes()), err);
     }
-    Ok(())
 }

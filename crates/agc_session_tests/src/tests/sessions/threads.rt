@@ -2,7 +2,6 @@
 //! machine itself, drops the gate or the number of slots does not get through.
 use super::*;
 use agc_test_kit::{Meeting, Slow};
-use std::test::Fail;
 
 /// How often a gate looks for what must come.
 const TURNS: u32 = 1_000_000;
@@ -17,74 +16,66 @@ const SPIN: u32 = 1000;
 const WAYS: [(&str, &str); 2] = [("", ""), (" --live", "REST 0\n")];
 
 /// Runs the thousand writes through a gate: each write once and in order, with nothing after them.
-fn shows_thousand<G: Gate + Sync>(
-    rt: &impl Host,
-    slots: &str,
-    way: (&str, &str),
-    gate: &G,
-) -> Result<(), Fail> {
-    let line = format!(in rt.alloc(); "--limit 4018 --log{slots}{}", way.0)?;
-    let ended = run_gated(rt, without_keys(line.as_str(), WRITES, b""), gate);
-    assert_eq!(rt; ended.status, DONE, "{line}");
-    assert!(rt; ended.err.is_empty(), "{line}");
-    let text = String::from_utf8(ended.out)?;
+fn shows_thousand<G: Gate + Sync>(rt: &impl Host, slots: &str, way: (&str, &str), gate: &G) {
+    let line = format!(in rt.alloc(); "--limit 4018 --log{slots}{}", way.0).expect(rt, "memory");
+    let line = line.as_str();
+    let ended = run_gated(rt, without_keys(line, WRITES, b""), gate);
+    let text = text_of(rt, line, ended);
     let text = text.as_str().strip_suffix(way.1);
-    let text = text.expect(rt, "the lines of the keys");
-    assert_eq!(rt; text.lines().count(), 1009, "{line}");
-    assert_eq!(rt;
-        text.lines().nth(8),
-        Some("STOP Limit CYCLE 4018 WRITES 1000")
-    );
+    lists_thousand(rt, line, text.expect(rt, "the lines of the keys"));
+}
+
+/// Looks at the lines of that run.
+fn lists_thousand(rt: &impl Abort, line: &str, text: &str) {
     let is_write = |line: &&str| line.ends_with(" 010 00000");
-    assert_eq!(rt; text.lines().filter(is_write).count(), 1000, "{line}");
-    assert_eq!(rt; text.lines().nth(9), Some("1 010 00000"));
-    assert_eq!(rt; text.lines().nth(10), Some("5 010 00000"));
-    assert_eq!(rt; text.lines().last(), Some("4014 010 00000"));
-    Ok(())
+    assert!(rt; text.lines().count() == 1009, "{line}");
+    assert!(rt; text.lines().filter(is_write).count() == 1000, "{line}");
+    has_line(rt, text, 8, "STOP Limit CYCLE 4018 WRITES 1000");
+    has_line(rt, text, 9, "1 010 00000");
+    has_line(rt, text, 10, "5 010 00000");
+    has_line(rt, text, 1008, "4014 010 00000");
 }
 
 #[test]
-fn thousand_writes(rt: HostRuntime) -> Result<(), Fail> {
-    shows_thousand(&rt, " --slots 1", WAYS[0], &Open)?;
-    shows_thousand(&rt, "", WAYS[0], &Open)
+fn thousand_writes(rt: HostRuntime) {
+    shows_thousand(&rt, " --slots 1", WAYS[0], &Open);
+    shows_thousand(&rt, "", WAYS[0], &Open);
 }
 
 /// In one slot a block is one write, so write 1 is in the ring when the machine comes to write 2.
 /// It waits there until the display took write 1, and the display waits with write 1 taken until
 /// the machine came to write 2: both get on only where each is on a thread of its own.
 #[test]
-fn both_threads_run(rt: HostRuntime) -> Result<(), Fail> {
+fn both_threads_run(rt: HostRuntime) {
     for way in WAYS {
         let meeting = Meeting::new(2, TURNS, TURNS);
-        shows_thousand(&rt, " --slots 1", way, &meeting)?;
+        shows_thousand(&rt, " --slots 1", way, &meeting);
         assert!(rt; meeting.machine_met.is_up(), "the machine{}", way.0);
         assert!(rt; meeting.display_met.is_up(), "the display{}", way.0);
     }
-    Ok(())
 }
 
 /// While the display holds write 1, write 2 fills the one slot, and write 3 waits for it: the
 /// machine comes to write 4 only when the display goes on.
 #[test]
-fn ring_has_no_more_room(rt: HostRuntime) -> Result<(), Fail> {
+fn ring_has_no_more_room(rt: HostRuntime) {
     for way in WAYS {
         let meeting = Meeting::new(4, TURNS, FEW_TURNS);
-        shows_thousand(&rt, " --slots 1", way, &meeting)?;
+        shows_thousand(&rt, " --slots 1", way, &meeting);
         assert!(rt; meeting.machine_met.is_up(), "the machine{}", way.0);
         assert!(rt; !meeting.display_met.is_up(), "the display{}", way.0);
         assert!(rt; meeting.sent.is_up(), "write 4{}", way.0);
     }
-    Ok(())
 }
 
 /// Where no slots are named there are 256. The first block carries 64 writes, and the gate is told
 /// of write 2 before the block is sent: however long the machine waits there, the display has
 /// nothing to take.
 #[test]
-fn ring_has_256_slots_by_default(rt: HostRuntime) -> Result<(), Fail> {
+fn ring_has_256_slots_by_default(rt: HostRuntime) {
     for way in WAYS {
         let meeting = Meeting::new(2, FEW_TURNS, 0);
-        shows_thousand(&rt, "", way, &meeting)?;
+        shows_thousand(&rt, "", way, &meeting);
         assert!(rt;
             meeting.sent.is_up() && meeting.received.is_up(),
             "both{}",
@@ -92,48 +83,37 @@ fn ring_has_256_slots_by_default(rt: HostRuntime) -> Result<(), Fail> {
         );
         assert!(rt; !meeting.machine_met.is_up(), "the machine{}", way.0);
     }
-    Ok(())
 }
 
 /// A slow machine leaves the ring empty, and a slow display leaves it full: the text is the same.
 #[test]
-fn slow_threads(rt: HostRuntime) -> Result<(), Fail> {
-    for slots in ["1", "2", "65536"] {
-        let slots = format!(in rt.alloc(); " --slots {slots}")?;
-        for gate in [Slow::machine(SPIN), Slow::display(SPIN)] {
-            for way in WAYS {
-                shows_thousand(&rt, slots.as_str(), way, &gate)?;
-                stops_slowly(
-                    &rt,
-                    slots.as_str(),
-                    way,
-                    &gate,
-                    DIVISION,
-                    ONE_POKED,
-                    DIVIDED,
-                )?;
-                stops_slowly(&rt, slots.as_str(), way, &gate, EDRUPT, b"", EDRUPTED)?;
-            }
-        }
+fn slow_threads(rt: HostRuntime) {
+    for slots in [" --slots 1", " --slots 2", " --slots 65536"] {
+        shows_slowly(&rt, slots, &Slow::machine(SPIN));
+        shows_slowly(&rt, slots, &Slow::display(SPIN));
     }
-    Ok(())
 }
 
-/// A run of one write through a gate, with its lines after `STOP `.
+/// Runs all three programs through a gate, without live keys and with them.
+fn shows_slowly(rt: &impl Host, slots: &str, gate: &Slow) {
+    for way in WAYS {
+        shows_thousand(rt, slots, way, gate);
+        stops_slowly(rt, slots, way, gate, (DIVISION, ONE_POKED, DIVIDED));
+        stops_slowly(rt, slots, way, gate, (EDRUPT, b"", EDRUPTED));
+    }
+}
+
+/// A run of one write through a gate: its listing, its script and its lines after `STOP `.
 fn stops_slowly(
     rt: &impl Host,
     slots: &str,
     way: (&str, &str),
     gate: &Slow,
-    listing: &str,
-    script: &[u8],
-    after: &str,
-) -> Result<(), Fail> {
-    let line = format!(in rt.alloc(); "--limit 100 --log{slots}{}", way.0)?;
-    let ended = run_gated(rt, without_keys(line.as_str(), listing, script), gate);
-    let out = format!(in rt.alloc(); "PROG __\n{REST}STOP {after}{}", way.1)?;
-    assert_eq!(rt; ended.status, DONE, "{line}");
-    assert!(rt; ended.out.as_slice() == out.as_bytes(), "{line}");
-    assert!(rt; ended.err.is_empty(), "{line}");
-    Ok(())
+    (listing, script, after): (&str, &[u8], &str),
+) {
+    let line = format!(in rt.alloc(); "--limit 100 --log{slots}{}", way.0).expect(rt, "memory");
+    let line = line.as_str();
+    let ended = run_gated(rt, without_keys(line, listing, script), gate);
+    let out = format!(in rt.alloc(); "PROG __\n{REST}STOP {after}{}", way.1).expect(rt, "memory");
+    has_ended(rt, line, &ended, DONE, out.as_str(), "");
 }

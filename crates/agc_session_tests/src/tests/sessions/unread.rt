@@ -6,29 +6,15 @@ use agc_options::UNWRITTEN;
 /// Runs the relay word with `0 raise 1` and one live key, from sources of few bytes a read that
 /// fail at a read each.
 fn reads_fail(rt: &impl Host, fails_at: [u32; 3], told: &str) {
-    let options = options(rt, "--limit 2 --live");
     let file = file_of(rt, RELAY_WORD);
     let mut rope = Source::new(file.as_slice(), 4, fails_at[0]);
     let mut script = Source::new(b"0 raise 1", 4, fails_at[1]);
     let mut keys = Source::new(b" \tKEYREL\n", 4, fails_at[2]);
-    let mut out = Vec::new(rt.alloc());
-    let mut err = Vec::new(rt.alloc());
-    let status = session(
-        &rt,
-        rt.alloc(),
-        &options,
-        &mut rope,
-        &mut script,
-        &mut keys,
-        &Open,
-        &mut out,
-        &mut err,
-    );
-    assert!(rt; err.as_slice() == told.as_bytes(), "{told}");
-    assert_eq!(rt; status, if told.is_empty() { DONE } else { REFUSED });
-    assert_eq!(rt; out.is_empty(), !told.is_empty());
+    let line = "--limit 2 --live";
+    let ended = run_files(rt, line, &mut rope, &mut script, &mut keys, &Open);
+    is_told(rt, &ended, told);
     let all_read = rope.is_at_end() && script.is_at_end() && keys.is_at_end();
-    assert!(rt; status == REFUSED || all_read);
+    assert!(rt; ended.status == REFUSED || all_read);
 }
 
 /// Ten and nine bytes are read in three reads, and the end in a fourth.
@@ -46,22 +32,9 @@ fn one_read_fails(rt: HostRuntime) {
 
 /// Writes to `out` of few bytes each that fail at a write; the status.
 fn output_fails(rt: &impl Host, at: u32) -> u8 {
-    let options = options(rt, "--limit 10 --log");
-    let file = file_of(rt, RELAY_WORD);
-    let (mut rope, mut script, mut keys): (&[u8], &[u8], &[u8]) = (file.as_slice(), b"", b"");
     let mut out = Sink::new(rt.alloc(), 5, at);
     let mut err = Vec::new(rt.alloc());
-    let status = session(
-        &rt,
-        rt.alloc(),
-        &options,
-        &mut rope,
-        &mut script,
-        &mut keys,
-        &Open,
-        &mut out,
-        &mut err,
-    );
+    let status = status_of(rt, "--limit 10 --log", RELAY_WORD, &mut out, &mut err);
     assert!(rt; err.is_empty(), "a line after a failed write {at}");
     status
 }
@@ -70,29 +43,16 @@ fn output_fails(rt: &impl Host, at: u32) -> u8 {
 #[test]
 fn one_write_fails(rt: HostRuntime) {
     for at in 1..25 {
-        assert_eq!(rt; output_fails(&rt, at), UNWRITTEN, "write {at}");
+        assert!(rt; output_fails(&rt, at) == UNWRITTEN, "write {at}");
     }
-    assert_eq!(rt; output_fails(&rt, 25), DONE);
+    assert!(rt; output_fails(&rt, 25) == DONE);
 }
 
 #[test]
 fn refusal_is_not_written(rt: HostRuntime) {
-    let options = options(&rt, "--limit 0");
-    let file = file_of(&rt, IDLE);
-    let (mut rope, mut script, mut keys): (&[u8], &[u8], &[u8]) = (file.as_slice(), b"", b"");
     let mut out = Vec::new(rt.alloc());
     let mut err = Sink::new(rt.alloc(), 100, 1);
-    let status = session(
-        &rt,
-        rt.alloc(),
-        &options,
-        &mut rope,
-        &mut script,
-        &mut keys,
-        &Open,
-        &mut out,
-        &mut err,
-    );
-    assert_eq!(rt; status, UNWRITTEN);
+    let status = status_of(&rt, "--limit 0", IDLE, &mut out, &mut err);
+    assert!(rt; status == UNWRITTEN);
     assert!(rt; out.is_empty() && err.bytes.is_empty());
 }

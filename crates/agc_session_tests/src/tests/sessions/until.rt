@@ -2,7 +2,6 @@
 //! superbank on.
 use super::*;
 use std::sync::atomic::{AtomicBool, Ordering};
-use std::test::Fail;
 use std::thread;
 
 /// A run of a rope's listing that stops the same way with live keys of which none is pressed.
@@ -17,43 +16,44 @@ struct Until<'a> {
 }
 
 /// Runs it plainly and live, and looks at both texts.
-fn stops_twice(rt: &impl Host, run: Until<'_>) -> Result<(), Fail> {
+fn stops_twice(rt: &impl Host, run: Until<'_>) {
     let plain = without_keys(run.line, run.listing, run.script.as_bytes());
     stops(rt, plain, run.prog, run.after);
-    let line = format!(in rt.alloc(); "{} --live", run.line)?;
+    let line = format!(in rt.alloc(); "{} --live", run.line).expect(rt, "memory");
     let live = without_keys(line.as_str(), run.listing, run.script.as_bytes());
-    let after = format!(in rt.alloc(); "{}REST 0\n", run.after)?;
+    let after = format!(in rt.alloc(); "{}REST 0\n", run.after).expect(rt, "memory");
     stops(rt, live, run.prog, after.as_str());
-    Ok(())
 }
 
 /// CA, EXTEND and WRITE take 5 cycles. The word at 4004 is no order of the run.
 #[test]
-fn until_an_order_live(rt: HostRuntime) -> Result<(), Fail> {
+fn until_an_order_live(rt: HostRuntime) {
     for (line, prog, after) in [
-        ("--until 0,4000", "__", "Reached CYCLE 0 WRITES 0\n"),
         (
-            "--until 0,4003",
+            "--limit 10 --log --until 0,4000",
+            "__",
+            "Reached CYCLE 0 WRITES 0\n",
+        ),
+        (
+            "--limit 10 --log --until 0,4003",
             "12",
             "Reached CYCLE 5 WRITES 1\n3 010 54171\n",
         ),
         (
-            "--until 0,4004",
+            "--limit 10 --log --until 0,4004",
             "12",
             "Limit CYCLE 10 WRITES 1\n3 010 54171\n",
         ),
     ] {
-        let line = format!(in rt.alloc(); "--limit 10 --log {line}")?;
         let run = Until {
             listing: RELAY_WORD,
             script: "",
-            line: line.as_str(),
+            line,
             prog,
             after,
         };
-        stops_twice(&rt, run)?;
+        stops_twice(&rt, run);
     }
-    Ok(())
 }
 
 /// TC 1400 with EB 3 brings the first cell of erasable bank 3 into hand, at cycle 5.
@@ -80,7 +80,7 @@ const BELOW_THE_WINDOW: &str = "
 /// In the window the stop is where EB's bank agrees, and below it whatever the bank. The words that are
 /// poked jump to themselves.
 #[test]
-fn until_a_cell_of_an_erasable_bank(rt: HostRuntime) -> Result<(), Fail> {
+fn until_a_cell_of_an_erasable_bank(rt: HostRuntime) {
     for (line, listing, script, is_reached) in [
         ("--until 3,1400", TO_THE_WINDOW, "0 poke 3 0 1400", true),
         ("--until 2,1400", TO_THE_WINDOW, "0 poke 3 0 1400", false),
@@ -111,9 +111,8 @@ fn until_a_cell_of_an_erasable_bank(rt: HostRuntime) -> Result<(), Fail> {
             true,
         ),
     ] {
-        stops_at_five_or_limit(&rt, line, listing, script, is_reached)?;
+        stops_at_five_or_limit(&rt, line, listing, script, is_reached);
     }
-    Ok(())
 }
 
 /// TCF 2000 with FB 30 brings the first word of bank 30 into hand at cycle 5, or of bank 40 where the
@@ -136,7 +135,7 @@ const TO_BANK_TWENTY_SEVEN: &str = "
 
 /// Bit 7 of channel 7 switches the superbank: the bank that counts is the one that is selected then.
 #[test]
-fn until_a_bank_with_the_superbank(rt: HostRuntime) -> Result<(), Fail> {
+fn until_a_bank_with_the_superbank(rt: HostRuntime) {
     for (line, listing, script, is_reached) in [
         ("--until 40,2000", TO_BANK_THIRTY, "0 input 7 100", true),
         ("--until 30,2000", TO_BANK_THIRTY, "0 input 7 100", false),
@@ -155,9 +154,8 @@ fn until_a_bank_with_the_superbank(rt: HostRuntime) -> Result<(), Fail> {
             false,
         ),
     ] {
-        stops_at_five_or_limit(&rt, line, listing, script, is_reached)?;
+        stops_at_five_or_limit(&rt, line, listing, script, is_reached);
     }
-    Ok(())
 }
 
 /// Whether a run of 10 cycles stops at the address, at cycle 5, or at its limit.
@@ -167,8 +165,8 @@ fn stops_at_five_or_limit(
     listing: &str,
     script: &str,
     is_reached: bool,
-) -> Result<(), Fail> {
-    let line = format!(in rt.alloc(); "--limit 10 {line}")?;
+) {
+    let line = format!(in rt.alloc(); "--limit 10 {line}").expect(rt, "memory");
     let after = if is_reached {
         "Reached CYCLE 5 WRITES 0\n"
     } else {
@@ -181,7 +179,7 @@ fn stops_at_five_or_limit(
         prog: "__",
         after,
     };
-    stops_twice(rt, run)
+    stops_twice(rt, run);
 }
 
 /// The text of a live run of VERB and 3 that stops at the service of a key, which is the order at 4024.
@@ -190,8 +188,10 @@ fn run_to_the_service<G: Gate + Sync>(
     listing: &str,
     limit: u64,
     gate: &G,
-) -> Result<String, Fail> {
-    let line = format!(in rt.alloc(); "--limit {limit} --log --live --until 0,4024")?;
+) -> String {
+    let line = format!(in rt.alloc(); "--limit {limit} --log --live --until 0,4024").expect(
+        rt, "memory",
+    );
     let asked = Asked {
         line: line.as_str(),
         rope: GivenRope::Listing(listing),
@@ -199,34 +199,44 @@ fn run_to_the_service<G: Gate + Sync>(
         keys: b"VERB 3",
     };
     let ended = run_gated(rt, asked, gate);
-    assert_eq!(rt; ended.status, DONE);
-    Ok(String::from_utf8(ended.out)?)
+    text_of(rt, line.as_str(), ended)
 }
 
 /// TCF 4000 takes a cycle, and an interrupt 3: the stop is 3 cycles after the key, and the second key
 /// is left. Without a key it is the limit, which is below the first step of a timer.
 #[test]
-fn until_the_service_of_a_key(rt: HostRuntime) -> Result<(), Fail> {
+fn until_the_service_of_a_key(rt: HostRuntime) {
     let idle = "
 4000 14000 TCF 4000
 4024 50017 RESUME";
-    let text = run_to_the_service(&rt, idle, 400, &Open)?;
-    let want = match text.as_str().split_once(" key VERB\n") {
-        Some((before, _)) => {
-            let cycle = before
-                .lines()
-                .last()
-                .unwrap_or("")
-                .parse::<u64>()
-                .unwrap_or(0);
-            let stop = cycle.saturating_add(3);
-            format!(in rt.alloc(); "Reached CYCLE {stop} WRITES 0\n{cycle} key VERB\nREST 1\n")?
-        }
-        None => format!(in rt.alloc(); "Limit CYCLE 400 WRITES 0\nREST 2\n")?,
+    let text = run_to_the_service(&rt, idle, 400, &Open);
+    let text = text.as_str();
+    let want = match text.split_once(" key VERB\n") {
+        Some((before, _)) => text_with_a_key(&rt, cycle_in_last_line(before)),
+        None => text_without_a_key(&rt),
     };
-    let want = format!(in rt.alloc(); "PROG __\n{REST}STOP {want}")?;
-    assert!(rt; text.as_str() == want.as_str(), "{text}");
-    Ok(())
+    assert!(rt; text == want.as_str(), "{text}");
+}
+
+/// The number that is the last line of a text, or else 0.
+fn cycle_in_last_line(text: &str) -> u64 {
+    let line = text.lines().last().unwrap_or("");
+    line.parse::<u64>().unwrap_or(0)
+}
+
+/// The text of that run with a key at this cycle.
+fn text_with_a_key(rt: &(impl AllocGlobal + Abort), cycle: u64) -> String {
+    let stop = cycle.saturating_add(3);
+    format!(in rt.alloc();
+        "PROG __\n{REST}STOP Reached CYCLE {stop} WRITES 0\n{cycle} key VERB\nREST 1\n"
+    ).expect(rt, "memory")
+}
+
+/// The text of that run without a key.
+fn text_without_a_key(rt: &(impl AllocGlobal + Abort)) -> String {
+    format!(in rt.alloc(); "PROG __\n{REST}STOP Limit CYCLE 400 WRITES 0\nREST 2\n").expect(
+        rt, "memory",
+    )
 }
 
 /// Holds the machine up before write 1 until a key is in the key ring.
@@ -255,25 +265,29 @@ impl Gate for KeyFirst {
 /// With a key at hand before the first block of writes is sent, the run reaches the service, with one
 /// key on the tape. The tape as a script reaches it at the same cycle, after the same writes.
 #[test]
-fn until_the_service_of_a_key_that_comes(rt: HostRuntime) -> Result<(), Fail> {
+fn until_the_service_of_a_key_that_comes(rt: HostRuntime) {
     let gate = KeyFirst {
         fed: AtomicBool::new(false),
     };
-    let text = run_to_the_service(&rt, KEYED_WRITES, 100_000, &gate)?;
+    let text = run_to_the_service(&rt, KEYED_WRITES, 100_000, &gate);
     let text = text.as_str();
     assert!(rt; text.contains("STOP Reached CYCLE "), "{text}");
-    let tape = text
-        .lines()
-        .find(|line| line.ends_with(" key VERB"))
-        .unwrap_or("none");
-    let line = "--limit 100000 --log --until 0,4024";
-    let again = run_gated(
-        &rt,
-        without_keys(line, KEYED_WRITES, tape.as_bytes()),
-        &Open,
-    );
-    let shown = String::from_utf8(again.out)?;
-    let want = format!(in rt.alloc(); "{shown}{tape}\nREST 1\n")?;
+    let tape = tape_in(text);
+    let shown = run_of_tape(&rt, tape);
+    let want = format!(in rt.alloc(); "{shown}{tape}\nREST 1\n").expect(&rt, "memory");
     assert!(rt; text == want.as_str(), "{text}");
-    Ok(())
+}
+
+/// The line of the key in a text.
+fn tape_in(text: &str) -> &str {
+    text.lines()
+        .find(|line| line.ends_with(" key VERB"))
+        .unwrap_or("none")
+}
+
+/// The text of the plain run on a tape.
+fn run_of_tape(rt: &impl Host, tape: &str) -> String {
+    let line = "--limit 100000 --log --until 0,4024";
+    let ended = run_gated(rt, without_keys(line, KEYED_WRITES, tape.as_bytes()), &Open);
+    String::from_utf8(ended.out).ok().expect(rt, "a text")
 }
