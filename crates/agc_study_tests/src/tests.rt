@@ -16,21 +16,77 @@ use agc_machine::Machine;
 use agc_script::Script;
 use agc_store::Rope;
 use agc_test_kit::rope_file;
+use agc_trace::{Only, Selection};
+use std::fmt::Debug;
 use std::process::Abort;
 
-/// The machine of a listing and a script at the start of a run up to a limit of cycles. It is had or the test ends, and so
-/// are the values of the helpers beside it: a test that hands failures on takes the prover many times as long.
-fn machine_of(rt: &(impl AllocGlobal + Abort), listing: &str, script: &str, limit: u64) -> Machine {
+// What the tests want is had or the test ends, and a row of a test is one call: a test that hands failures on, or
+// asserts much by itself beside values that are dropped, takes the prover many times as long.
+
+/// The rope of a listing.
+fn rope_of(rt: &(impl AllocGlobal + Abort), listing: &str) -> Rope {
     let bytes = rope_file(rt.alloc(), listing)
         .ok()
         .expect(rt, "a rope file");
-    let rope = Rope::read(rt.alloc(), bytes.as_slice())
+    Rope::read(rt.alloc(), bytes.as_slice())
         .ok()
-        .expect(rt, "a rope");
+        .expect(rt, "a rope")
+}
+
+/// The machine of a listing and a script at the start of a run up to a limit of cycles.
+fn machine_of(rt: &(impl AllocGlobal + Abort), listing: &str, script: &str, limit: u64) -> Machine {
     let script = Script::parse(rt.alloc(), script.as_bytes())
         .ok()
         .expect(rt, "a script");
-    Machine::new(rope, script, limit)
+    Machine::new(rope_of(rt, listing), script, limit)
         .ok()
         .expect(rt, "the limit is in range")
+}
+
+/// What is selected of a trace: some or all of its lines in a range of cycles.
+fn between(rt: &impl AllocGlobal, from: u64, to: u64, only: Option<Only>) -> Selection {
+    Selection {
+        from,
+        to,
+        only,
+        places: Vec::new(rt.alloc()),
+        orders: Vec::new(rt.alloc()),
+        channels: Vec::new(rt.alloc()),
+        cells: Vec::new(rt.alloc()),
+        last: None,
+    }
+}
+
+/// A text of its own.
+fn owned(rt: &(impl AllocGlobal + Abort), text: &str) -> String {
+    String::from_str(rt.alloc(), text).ok().expect(rt, "memory")
+}
+
+/// So many times this byte.
+fn repeated(rt: &(impl AllocGlobal + Abort), byte: u8, times: usize) -> Vec<u8> {
+    vec![in rt.alloc(); byte; times].ok().expect(rt, "memory")
+}
+
+/// These texts, one after another.
+fn joined(rt: &(impl AllocGlobal + Abort), texts: &[&str]) -> String {
+    texts.concat(rt.alloc()).ok().expect(rt, "memory")
+}
+
+/// Looks that both are the same, in the row that this names.
+fn same<T: PartialEq + Debug + Drop>(rt: &impl Abort, told: T, wanted: T, row: &str) {
+    assert_eq!(rt; told, wanted, "{row}");
+}
+
+/// Looks that this holds, in the row that this names.
+fn holds(rt: &impl Abort, it: bool, row: &str) {
+    assert!(rt; it, "{row}");
+}
+
+/// Looks that these are the lines of a text.
+fn has_lines(rt: &impl Abort, text: &str, lines: &[&str]) {
+    let mut told = text.lines();
+    for line in lines {
+        assert_eq!(rt; told.next(), Some(*line));
+    }
+    assert_eq!(rt; told.next(), None);
 }

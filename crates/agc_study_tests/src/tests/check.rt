@@ -1,6 +1,7 @@
 //! What is told of files, worked by hand.
 mod grammar;
 
+use super::{joined, repeated, same};
 use agc_check::{
     Report, RopeHoldings, ScriptHoldings, Span, check, check_keys, check_listing, holdings_of_rope,
     holdings_of_script, nearest,
@@ -9,7 +10,6 @@ use agc_rope_listing::weave;
 use agc_script::Script;
 use agc_store::{Rope, RopeForm};
 use std::process::Abort;
-use std::test::Fail;
 
 /// CA 4004 and EXTEND at 4000 and 4001.
 static ROPE: [u8; 4] = [0x70, 0x08, 0x00, 0x0C];
@@ -25,15 +25,23 @@ fn report(rt: &(impl AllocGlobal + Abort), form: RopeForm, rope: &[u8], script: 
         .expect(rt, "memory")
 }
 
-/// Looks that this is told of a script beside a sound rope, and of the rope what it holds.
+/// Looks that a report has this text, and whether it finds no fault.
+fn reads(rt: &impl Abort, report: &Report, text: &str, is_sound: bool) {
+    assert_eq!(rt; report.text.as_str(), text);
+    assert_eq!(rt; report.is_sound, is_sound, "{text}");
+}
+
+/// Looks that this is told of a script beside a sound rope, after what the rope holds.
+fn told(rt: &(impl AllocGlobal + Abort), script: &[u8], text: &str, is_sound: bool) {
+    let report = report(rt, RopeForm::Classic, ROPE.as_slice(), script);
+    let wanted = joined(rt, &[HOLDS, text]);
+    reads(rt, &report, wanted.as_str(), is_sound);
+}
+
+/// Looks that this is told of each of these scripts.
 fn tells(rt: &(impl AllocGlobal + Abort), scripts: &[(&[u8], &str)]) {
-    for (script, told) in scripts {
-        let report = report(rt, RopeForm::Classic, ROPE.as_slice(), script);
-        let mut wanted = String::new(rt.alloc());
-        wanted.push_str(HOLDS).expect(rt, "memory");
-        wanted.push_str(told).expect(rt, "memory");
-        assert_eq!(rt; report.text.as_str(), wanted.as_str());
-        assert_eq!(rt; report.is_sound, told.starts_with("script: "));
+    for (script, text) in scripts {
+        told(rt, script, text, text.starts_with("script: "));
     }
 }
 
@@ -231,27 +239,29 @@ fn numbers_after_every(rt: HostRuntime) {
 }
 
 #[test]
-fn a_long_line_is_cut(rt: HostRuntime) -> Result<(), Fail> {
-    let mut script = Vec::new(rt.alloc());
-    script.resize(121, b'x').ok().ok_or("memory")?;
-    let told = report(&rt, RopeForm::Classic, ROPE.as_slice(), script.as_slice());
-    let mut wanted = format!(in rt.alloc(); "{HOLDS}script line 1: LineTooLong\n    ")?;
-    for _ in 0..120 {
-        wanted.push_str("x").ok().ok_or("memory")?;
-    }
-    wanted
-        .push_str(" ..\n    the line has 121 bytes, and 120 are the most\n")
-        .ok()
-        .ok_or("memory")?;
-    assert_eq!(rt; told.text.as_str(), wanted.as_str());
-    Ok(())
+fn a_long_line_is_cut(rt: HostRuntime) {
+    let script = repeated(&rt, b'x', 121);
+    let cut = joined(&rt, ["x"; 120].as_slice());
+    let text = joined(
+        &rt,
+        &[
+            "script line 1: LineTooLong\n    ",
+            cut.as_str(),
+            " ..\n    the line has 121 bytes, and 120 are the most\n",
+        ],
+    );
+    told(&rt, script.as_slice(), text.as_str(), false);
+}
+
+/// Looks that a rope is refused with this text, beside a script without events.
+fn refuses(rt: &(impl AllocGlobal + Abort), form: RopeForm, rope: &[u8], text: &str) {
+    reads(rt, &report(rt, form, rope, b""), text, false);
 }
 
 /// A rope at fault does not hide what is told of the script.
 #[test]
-fn ropes_at_fault(rt: HostRuntime) -> Result<(), Fail> {
-    let mut long = Vec::new(rt.alloc());
-    long.resize(73730, 0).ok().ok_or("memory")?;
+fn ropes_at_fault(rt: HostRuntime) {
+    let long = repeated(&rt, 0, 73730);
     let ropes: [(RopeForm, &[u8], &str); 4] = [
         (
             RopeForm::Classic,
@@ -274,23 +284,32 @@ fn ropes_at_fault(rt: HostRuntime) -> Result<(), Fail> {
             "rope: Parity\n    the word at 00,2000 is 34004 with parity bit 0: 4 one bits, and they should be odd\nscript: events 0\n",
         ),
     ];
-    for (form, rope, told) in ropes {
-        let report = report(&rt, form, rope, b"");
-        assert_eq!(rt; report.text.as_str(), told);
-        assert!(rt; !report.is_sound);
+    for (form, rope, text) in ropes {
+        refuses(&rt, form, rope, text);
     }
-    Ok(())
 }
 
 /// The text of a rope with RESUME at each of the ten vectors.
 static SERVED: &str =
     "4004 50017\n4010 50017\n4014 50017\n4020 50017\n4024 50017\n4030 50017\n4034 50017\n4040 50017\n4044 50017\n4050 50017\n";
 
+/// Looks that the rope of a text holds this in both forms, beside a script without events.
+fn rope_holds(rt: &(impl AllocGlobal + Abort), text: &str, told: &str) {
+    let wanted = joined(rt, &[told, "script: events 0\n"]);
+    for form in [RopeForm::Classic, RopeForm::Parity] {
+        let file = weave(rt.alloc(), form, text.as_bytes())
+            .ok()
+            .expect(rt, "a file");
+        let report = report(rt, form, file.as_slice(), b"");
+        reads(rt, &report, wanted.as_str(), true);
+    }
+}
+
 /// A rope with a word at each vector is told without a remark. Words beside the vectors are at none of them, nor are
 /// those of other banks; a word of +0 is as no word. Whatever the vectors hold, the file is sound.
 #[test]
-fn vectors_without_an_order(rt: HostRuntime) -> Result<(), Fail> {
-    let ropes = [
+fn vectors_without_an_order(rt: HostRuntime) {
+    for (text, told) in [
         (SERVED, "rope: words 10, banks 1\n"),
         (
             "4010 50017\n4014 50017\n4020 50017\n4024 50017\n4030 50017\n4034 50017\n4040 50017\n4044 50017\n4050 50017\n",
@@ -308,40 +327,30 @@ fn vectors_without_an_order(rt: HostRuntime) -> Result<(), Fail> {
             "4004 77777\n4010 00000\n4011 50017\n4013 50017\n00,2010 50017\n4014 00001\n4020 00001\n4024 00001\n4030 00001\n4034 00001\n4040 00001\n4044 00001\n4050 00001\n",
             "rope: words 12, banks 2\n    at these interrupt vectors stands +0, and a run goes astray there: 4010\n",
         ),
-    ];
-    for (text, told) in ropes {
-        for form in [RopeForm::Classic, RopeForm::Parity] {
-            let file = weave(rt.alloc(), form, text.as_bytes())?;
-            let report = report(&rt, form, file.as_slice(), b"");
-            let wanted = format!(in rt.alloc(); "{told}script: events 0\n")?;
-            assert_eq!(rt; report.text.as_str(), wanted.as_str());
-            assert!(rt; report.is_sound);
-        }
+    ] {
+        rope_holds(&rt, text, told);
     }
-    Ok(())
 }
 
 #[test]
-fn what_they_hold(rt: HostRuntime) -> Result<(), Fail> {
+fn what_they_hold(rt: HostRuntime) {
     let rope = Rope::read_as(rt.alloc(), RopeForm::Classic, ROPE.as_slice())
         .ok()
-        .ok_or("a rope")?;
-    assert_eq!(rt; holdings_of_rope(rope), RopeHoldings { words: 2, banks: 1 });
+        .expect(&rt, "a rope");
+    let of_rope = RopeHoldings { words: 2, banks: 1 };
+    same(&rt, holdings_of_rope(rope), of_rope, "rope");
     let script = Script::parse(rt.alloc(), b"every 2 1 6 key 1")
         .ok()
-        .ok_or("a script")?;
-    assert_eq!(rt;
-        holdings_of_script(&script),
-        ScriptHoldings {
-            events: 3,
-            span: Some(Span { first: 1, last: 5 }),
-        }
-    );
-    Ok(())
+        .expect(&rt, "a script");
+    let of_script = ScriptHoldings {
+        events: 3,
+        span: Some(Span { first: 1, last: 5 }),
+    };
+    same(&rt, holdings_of_script(&script), of_script, "script");
 }
 
 #[test]
-fn nearest_names(rt: HostRuntime) -> Result<(), Fail> {
+fn nearest_names(rt: HostRuntime) {
     let names = [b"VERB".as_slice(), b"NOUN".as_slice(), b"CLR".as_slice()];
     for (word, name) in [
         (b"verb".as_slice(), names[0]),
@@ -350,17 +359,20 @@ fn nearest_names(rt: HostRuntime) -> Result<(), Fail> {
         // two edits from each of the first two: the first one is told
         (b"VOUB".as_slice(), names[0]),
     ] {
-        let found = nearest(rt.alloc(), word, names.as_slice())
-            .ok()
-            .ok_or("memory")?;
-        assert_eq!(rt; found, name);
+        let found = nearest(rt.alloc(), word, names.as_slice());
+        assert_eq!(rt; found.ok(), Some(name));
     }
-    Ok(())
+}
+
+/// Looks that this is told of live keys.
+fn keys_tell(rt: &(impl AllocGlobal + Abort), keys: &[u8], text: &str) {
+    let report = check_keys(rt.alloc(), keys).ok().expect(rt, "memory");
+    reads(rt, &report, text, !text.contains("BadKey"));
 }
 
 /// Texts of live keys: how many they name, or the first word that is no key's.
 #[test]
-fn key_texts(rt: HostRuntime) -> Result<(), Fail> {
+fn key_texts(rt: HostRuntime) {
     let texts: [(&[u8], &str); 6] = [
         (b"", "keys: 0\n"),
         (b"VERB 3 7\r\nNOUN\tENTR\n", "keys: 5\n"),
@@ -382,30 +394,35 @@ fn key_texts(rt: HostRuntime) -> Result<(), Fail> {
         ),
     ];
     for (text, told) in texts {
-        let report = check_keys(rt.alloc(), text)?;
-        assert_eq!(rt; report.text.as_str(), told);
-        assert_eq!(rt; report.is_sound, !told.contains("BadKey"));
+        keys_tell(&rt, text, told);
     }
-    Ok(())
 }
 
 /// Of a word of any length the first 120 bytes are told.
 #[test]
-fn a_long_key_is_cut(rt: HostRuntime) -> Result<(), Fail> {
-    let text = vec![in rt.alloc(); b'R'; 1000]?;
-    let report = check_keys(rt.alloc(), text.as_slice())?;
-    let mut wanted = String::from_str(rt.alloc(), "keys: BadKey\n    word 1: `")?;
-    for _ in 0..120 {
-        wanted.push_str("R")?;
-    }
-    wanted.push_str("` is no key; the nearest is `VERB`\n")?;
-    assert_eq!(rt; report.text.as_str(), wanted.as_str());
-    Ok(())
+fn a_long_key_is_cut(rt: HostRuntime) {
+    let keys = repeated(&rt, b'R', 1000);
+    let cut = joined(&rt, ["R"; 120].as_slice());
+    let text = joined(
+        &rt,
+        &[
+            "keys: BadKey\n    word 1: `",
+            cut.as_str(),
+            "` is no key; the nearest is `VERB`\n",
+        ],
+    );
+    keys_tell(&rt, keys.as_slice(), text.as_str());
+}
+
+/// Looks that this is told of the text of a rope.
+fn listing_tells(rt: &(impl AllocGlobal + Abort), listing: &[u8], text: &str) {
+    let report = check_listing(rt.alloc(), listing).ok().expect(rt, "memory");
+    reads(rt, &report, text, text == "text: no fault\n");
 }
 
 /// Texts for `weave`: no fault, or the line and the word at fault.
 #[test]
-fn listings(rt: HostRuntime) -> Result<(), Fail> {
+fn listings(rt: HostRuntime) {
     let texts: [(&[u8], &str); 12] = [
         (b"", "text: no fault\n"),
         (b"START CA PROG\nPROG OCT 54171", "text: no fault\n"),
@@ -448,27 +465,24 @@ fn listings(rt: HostRuntime) -> Result<(), Fail> {
         ),
     ];
     for (text, told) in texts {
-        let report = check_listing(rt.alloc(), text)?;
-        assert_eq!(rt; report.text.as_str(), told);
-        assert_eq!(rt; report.is_sound, told == "text: no fault\n");
+        listing_tells(&rt, text, told);
     }
-    Ok(())
 }
 
-/// Looks that this is told of the last line of each of these sources: a sentence, and the word at fault.
+/// What is told of the last line of a source: a sentence, and the word at fault.
+fn pointing(rt: &(impl AllocGlobal + Abort), source: &str, sentence: &str, word: &str) -> String {
+    let line = source.lines().last().unwrap_or("");
+    let number = source.lines().count();
+    format!(in rt.alloc(); "text line {number}: {sentence}\n    {line}\n    {word}\n")
+        .ok()
+        .expect(rt, "memory")
+}
+
+/// Looks that this is told of the last line of each of these sources.
 fn points(rt: &(impl AllocGlobal + Abort), sources: &[(&str, &str, &str)]) {
     for (source, sentence, word) in sources {
-        let line = source.lines().last().unwrap_or("");
-        let number = source.lines().count();
-        let wanted = format!(in rt.alloc();
-            "text line {number}: {sentence}\n    {line}\n    {word}\n"
-        ).ok()
-            .expect(rt, "memory");
-        let report = check_listing(rt.alloc(), source.as_bytes())
-            .ok()
-            .expect(rt, "memory");
-        assert_eq!(rt; report.text.as_str(), wanted.as_str());
-        assert!(rt; !report.is_sound);
+        let wanted = pointing(rt, source, sentence, word);
+        listing_tells(rt, source.as_bytes(), wanted.as_str());
     }
 }
 

@@ -1,46 +1,35 @@
 //! Runs of small programs side by side, worked out by hand. The numbers are octal, but for cycles.
+use super::{has_lines, machine_of};
 use agc_compare::{SideNames, compare, push_comparison};
 use agc_machine::Machine;
 use agc_progress::Untold;
-use agc_script::Script;
-use agc_store::Rope;
-use agc_test_kit::rope_file;
+use std::alloc::{AllocError, Global};
 use std::process::Abort;
-use std::test::Fail;
 
-/// The machine at the start of a run of a listing and a script, up to cycle 8.
-fn machine(rt: &(impl AllocGlobal + Abort), listing: &str, script: &str) -> Result<Machine, Fail> {
-    let bytes = rope_file(rt.alloc(), listing)?;
-    let rope = Rope::read(rt.alloc(), bytes.as_slice())?;
-    let script = Script::parse(rt.alloc(), script.as_bytes())?;
-    Ok(
-        Machine::new(rope, script, 8)
-            .ok()
-            .expect(rt, "the limit is in range"),
-    )
-}
-
-/// The report of the runs of two listings without events.
-fn report(rt: &(impl AllocGlobal + Abort), left: &str, right: &str) -> Result<String, Fail> {
-    report_with(rt, (left, ""), (right, ""))
-}
-
-/// The report of the runs of two listings, each with its script.
-fn report_with(
-    rt: &(impl AllocGlobal + Abort),
-    left: (&str, &str),
-    right: (&str, &str),
-) -> Result<String, Fail> {
-    let mut left = machine(rt, left.0, left.1)?;
-    let mut right = machine(rt, right.0, right.1)?;
-    let comparison = compare(rt.alloc(), &mut left, &mut right, &mut Untold)?;
-    let mut text = String::new(rt.alloc());
+/// The report of two runs.
+fn report_of(alloc: Global, left: &mut Machine, right: &mut Machine) -> Result<String, AllocError> {
+    let comparison = compare(alloc, left, right, &mut Untold)?;
     let names = SideNames {
         left: &None,
         right: &None,
     };
+    let mut text = String::new(alloc);
     push_comparison(&mut text, names, &comparison)?;
     Ok(text)
+}
+
+/// The report of the runs of two listings up to cycle 8, each with its script.
+fn report(rt: &(impl AllocGlobal + Abort), left: (&str, &str), right: (&str, &str)) -> String {
+    let mut left = machine_of(rt, left.0, left.1, 8);
+    let mut right = machine_of(rt, right.0, right.1, 8);
+    report_of(rt.alloc(), &mut left, &mut right)
+        .ok()
+        .expect(rt, "memory")
+}
+
+/// Looks that these are the lines of the report of two such runs.
+fn tells(rt: &(impl AllocGlobal + Abort), left: (&str, &str), right: (&str, &str), lines: &[&str]) {
+    has_lines(rt, report(rt, left, right).as_str(), lines);
 }
 
 /// Shows a program's number, and waits.
@@ -63,38 +52,36 @@ static OTHER: &str = "
 
 /// The orders begin at 0, 2, 3, 5, 6 and 7, and the limit stops at 8: seven boundaries.
 #[test]
-fn the_same(rt: HostRuntime) -> Result<(), Fail> {
-    let text = report(&rt, PROG, PROG)?;
+fn the_same(rt: HostRuntime) {
+    let text = report(&rt, (PROG, ""), (PROG, ""));
     assert_eq!(rt;
         text.as_str(),
         "The runs are the same: 7 boundaries, 1 writes, stop at cycle 8\n"
     );
-    Ok(())
 }
 
 /// The first order leaves another word in A.
 #[test]
-fn another_word(rt: HostRuntime) -> Result<(), Fail> {
-    let text = report(&rt, PROG, OTHER)?;
-    let mut lines = text.as_str().lines();
-    for line in [
-        "The runs part at boundary 1, cycle 0 and 0:",
-        "< 0 4000 34004 CA 4004 | A 154171 L 00000 Q 000000 Z 4002 EB 0 FB 00",
-        "> 0 4000 34004 CA 4004 | A 150000 L 00000 Q 000000 Z 4002 EB 0 FB 00",
-        "The first write that differs is number 1:",
-        "< 3 > 010 54171",
-        "> 3 > 010 50000",
-        "< PROG 12",
-        "> PROG __",
-        "The cells that differ at the stops:",
-        "0000 154171 150000",
-        "< stop Limit at cycle 8",
-        "> stop Limit at cycle 8",
-    ] {
-        assert_eq!(rt; lines.next(), Some(line));
-    }
-    assert_eq!(rt; lines.next(), None);
-    Ok(())
+fn another_word(rt: HostRuntime) {
+    tells(
+        &rt,
+        (PROG, ""),
+        (OTHER, ""),
+        &[
+            "The runs part at boundary 1, cycle 0 and 0:",
+            "< 0 4000 34004 CA 4004 | A 154171 L 00000 Q 000000 Z 4002 EB 0 FB 00",
+            "> 0 4000 34004 CA 4004 | A 150000 L 00000 Q 000000 Z 4002 EB 0 FB 00",
+            "The first write that differs is number 1:",
+            "< 3 > 010 54171",
+            "> 3 > 010 50000",
+            "< PROG 12",
+            "> PROG __",
+            "The cells that differ at the stops:",
+            "0000 154171 150000",
+            "< stop Limit at cycle 8",
+            "> stop Limit at cycle 8",
+        ],
+    );
 }
 
 /// Allows interrupts, and waits.
@@ -116,21 +103,20 @@ static INHIBITED: &str = "
 /// INHINT takes the place of RELINT after the first order: both take one cycle, and only the lines
 /// tell them apart. The orders begin at 0, 2, 3, 4, 5, 6 and 7.
 #[test]
-fn another_order(rt: HostRuntime) -> Result<(), Fail> {
-    let text = report(&rt, ALLOWED, INHIBITED)?;
-    let mut lines = text.as_str().lines();
-    for line in [
-        "The runs part at boundary 2, cycle 2 and 2:",
-        "  0 4000 34004 CA 4004 | A 000001 L 00000 Q 000000 Z 4002 EB 0 FB 00",
-        "< 2 4001 00003 RELINT | A 000001 L 00000 Q 000000 Z 4003 EB 0 FB 00",
-        "> 2 4001 00004 INHINT | A 000001 L 00000 Q 000000 Z 4003 EB 0 FB 00",
-        "< stop Limit at cycle 8",
-        "> stop Limit at cycle 8",
-    ] {
-        assert_eq!(rt; lines.next(), Some(line));
-    }
-    assert_eq!(rt; lines.next(), None);
-    Ok(())
+fn another_order(rt: HostRuntime) {
+    tells(
+        &rt,
+        (ALLOWED, ""),
+        (INHIBITED, ""),
+        &[
+            "The runs part at boundary 2, cycle 2 and 2:",
+            "  0 4000 34004 CA 4004 | A 000001 L 00000 Q 000000 Z 4002 EB 0 FB 00",
+            "< 2 4001 00003 RELINT | A 000001 L 00000 Q 000000 Z 4003 EB 0 FB 00",
+            "> 2 4001 00004 INHINT | A 000001 L 00000 Q 000000 Z 4003 EB 0 FB 00",
+            "< stop Limit at cycle 8",
+            "> stop Limit at cycle 8",
+        ],
+    );
 }
 
 /// Six orders that leave the registers alone, a call, and a wait.
@@ -162,7 +148,7 @@ static CALLS_LATER: &str = "
 /// another address to return to in Q. The script's cells are the last one below the window, and the first and the
 /// last one of a bank in it.
 #[test]
-fn registers_and_cells(rt: HostRuntime) -> Result<(), Fail> {
+fn registers_and_cells(rt: HostRuntime) {
     let left = (
         CALLS,
         "7 poke 2 377 00001\n7 poke 3 0 00003\n7 poke 7 377 77777\n",
@@ -171,27 +157,26 @@ fn registers_and_cells(rt: HostRuntime) -> Result<(), Fail> {
         CALLS_LATER,
         "7 poke 2 377 00002\n7 poke 3 0 00004\n7 poke 7 377 00000\n",
     );
-    let text = report_with(&rt, left, right)?;
-    let mut lines = text.as_str().lines();
-    for line in [
-        "The runs part at boundary 7, cycle 6 and 6:",
-        "  1 4001 00003 RELINT | A 000000 L 00000 Q 000000 Z 4003 EB 0 FB 00",
-        "  2 4002 00003 RELINT | A 000000 L 00000 Q 000000 Z 4004 EB 0 FB 00",
-        "  3 4003 00003 RELINT | A 000000 L 00000 Q 000000 Z 4005 EB 0 FB 00",
-        "  4 4004 00003 RELINT | A 000000 L 00000 Q 000000 Z 4006 EB 0 FB 00",
-        "  5 4005 00003 RELINT | A 000000 L 00000 Q 000000 Z 4007 EB 0 FB 00",
-        "< 6 4006 04010 TC 4010 | A 000000 L 00000 Q 004007 Z 4011 EB 0 FB 00",
-        "> 6 4006 14007 TCF 4007 | A 000000 L 00000 Q 000000 Z 4010 EB 0 FB 00",
-        "The cells that differ at the stops:",
-        "0002 004007 004010",
-        "1377 00001 00002",
-        "E3,1400 00003 00004",
-        "E7,1777 77777 00000",
-        "< stop Limit at cycle 8",
-        "> stop Limit at cycle 8",
-    ] {
-        assert_eq!(rt; lines.next(), Some(line));
-    }
-    assert_eq!(rt; lines.next(), None);
-    Ok(())
+    tells(
+        &rt,
+        left,
+        right,
+        &[
+            "The runs part at boundary 7, cycle 6 and 6:",
+            "  1 4001 00003 RELINT | A 000000 L 00000 Q 000000 Z 4003 EB 0 FB 00",
+            "  2 4002 00003 RELINT | A 000000 L 00000 Q 000000 Z 4004 EB 0 FB 00",
+            "  3 4003 00003 RELINT | A 000000 L 00000 Q 000000 Z 4005 EB 0 FB 00",
+            "  4 4004 00003 RELINT | A 000000 L 00000 Q 000000 Z 4006 EB 0 FB 00",
+            "  5 4005 00003 RELINT | A 000000 L 00000 Q 000000 Z 4007 EB 0 FB 00",
+            "< 6 4006 04010 TC 4010 | A 000000 L 00000 Q 004007 Z 4011 EB 0 FB 00",
+            "> 6 4006 14007 TCF 4007 | A 000000 L 00000 Q 000000 Z 4010 EB 0 FB 00",
+            "The cells that differ at the stops:",
+            "0002 004007 004010",
+            "1377 00001 00002",
+            "E3,1400 00003 00004",
+            "E7,1777 77777 00000",
+            "< stop Limit at cycle 8",
+            "> stop Limit at cycle 8",
+        ],
+    );
 }

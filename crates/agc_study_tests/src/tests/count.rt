@@ -1,5 +1,5 @@
 //! Counts of a small program, worked out by hand.
-use super::machine_of;
+use super::{machine_of, same};
 use agc_count::{Counts, Layout, Span, Tally, count, push_count};
 use agc_progress::Untold;
 use std::process::Abort;
@@ -49,41 +49,22 @@ fn printed(
     text
 }
 
+fn tally(times: u64, cycles: u64) -> Tally {
+    Tally { times, cycles }
+}
+
 /// Every word of a whole run.
 #[test]
 fn words_of_a_run(rt: HostRuntime) {
     let counts = counted(&rt, WRITES, 0, u64::MAX);
-    assert_eq!(rt;
-        counts.fixed.at(0o4000),
-        Tally {
-            times: 1,
-            cycles: 2
-        }
-    );
-    assert_eq!(rt;
-        counts.fixed.at(0o4003),
-        Tally {
-            times: 5,
-            cycles: 5
-        }
-    );
-    assert_eq!(rt; counts.fixed.at(0o4004), Tally::NOTHING);
-    assert_eq!(rt;
-        counts.fixed_data.at(0o4004),
-        Tally {
-            times: 1,
-            cycles: 2
-        }
-    );
-    assert_eq!(rt; counts.fixed_data.at(0o4003), Tally::NOTHING);
-    assert_eq!(rt;
-        counts.orders,
-        Tally {
-            times: 8,
-            cycles: 10
-        }
-    );
-    assert_eq!(rt; counts.erasable.len(), 0o4000);
+    let (fixed, data) = (&counts.fixed, &counts.fixed_data);
+    same(&rt, fixed.at(0o4000), tally(1, 2), "4000");
+    same(&rt, fixed.at(0o4003), tally(5, 5), "4003");
+    same(&rt, fixed.at(0o4004), Tally::NOTHING, "4004");
+    same(&rt, data.at(0o4004), tally(1, 2), "data at 4004");
+    same(&rt, data.at(0o4003), Tally::NOTHING, "data at 4003");
+    same(&rt, counts.orders, tally(8, 10), "orders");
+    same(&rt, counts.erasable.len(), 0o4000, "cells");
 }
 
 /// A part of the run, in print.

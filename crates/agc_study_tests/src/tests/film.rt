@@ -1,5 +1,5 @@
 //! Films of small programs, worked out by hand. The numbers are octal, but for cycles.
-use super::machine_of;
+use super::{has_lines, machine_of, owned, same};
 use agc_film::{
     Button, Part, Press, Reel, RunFiles, film, first_difference, push_film, push_film_pair,
 };
@@ -24,22 +24,25 @@ fn part_of(rt: &(impl AllocGlobal + Abort), from: u64, to: u64) -> Reel {
         .expect(rt, "memory")
 }
 
-/// The cycles of the first and the last frame.
-fn ends_of(reel: &Reel) -> (Option<u64>, Option<u64>) {
+/// Looks that a reel has these two frames, which may be one, at its ends.
+fn begins_and_ends(rt: &impl Abort, reel: &Reel, first: u64, last: u64) {
     let frames = reel.frames.as_slice();
-    (
-        frames.first().map(|frame| frame.cycle),
-        frames.last().map(|frame| frame.cycle),
-    )
+    assert_eq!(rt; frames.first().map(|frame| frame.cycle), Some(first));
+    assert_eq!(rt; frames.last().map(|frame| frame.cycle), Some(last));
+}
+
+/// Looks that a reel has so many frames, and tells of this stop and this cycle at its end.
+fn stops(rt: &impl Abort, reel: &Reel, frames: usize, stop: Option<Stop>, cycle: u64) {
+    assert_eq!(rt; reel.frames.len(), frames);
+    assert_eq!(rt; reel.stop, stop);
+    assert_eq!(rt; reel.cycle, cycle);
 }
 
 /// Two files of these names.
 fn files(rt: &(impl AllocGlobal + Abort), rope: &str, script: &str) -> RunFiles {
     RunFiles {
-        rope: String::from_str(rt.alloc(), rope).ok().expect(rt, "memory"),
-        script: String::from_str(rt.alloc(), script)
-            .ok()
-            .expect(rt, "memory"),
+        rope: owned(rt, rope),
+        script: owned(rt, script),
     }
 }
 
@@ -54,11 +57,13 @@ fn page_of(rt: &(impl AllocGlobal + Abort), limit: u64, files: &RunFiles, reel: 
 
 /// Looks that these are the lines of a page's runs.
 fn shows(rt: &impl Abort, page: &str, wanted: &[&str]) {
-    let mut lines = blocks(rt, page).lines();
-    for line in wanted {
-        assert_eq!(rt; lines.next(), Some(*line));
-    }
-    assert_eq!(rt; lines.next(), None);
+    has_lines(rt, blocks(rt, page), wanted);
+}
+
+/// Looks that a page has its first and its last lines.
+fn is_whole(rt: &impl Abort, page: &str) {
+    assert!(rt; page.starts_with("<!doctype html>\n"));
+    assert!(rt; page.ends_with("</body>\n</html>\n"));
 }
 
 /// The page without what stands before and after its runs: from the first block to the last one.
@@ -89,8 +94,7 @@ static PROG: &str = "
 fn a_frame_for_each_change(rt: HostRuntime) {
     let reel = reel_of(&rt, PROG, "", 20);
     let page = page_of(&rt, 20, &files(&rt, "prog", "none"), &reel);
-    assert_eq!(rt; page.as_str().starts_with("<!doctype html>\n"), true);
-    assert_eq!(rt; page.as_str().ends_with("</body>\n</html>\n"), true);
+    is_whole(&rt, page.as_str());
     shows(
         &rt,
         page.as_str(),
@@ -156,35 +160,23 @@ fn a_part_of_a_run(rt: HostRuntime) {
 /// Of the changes at 3 and 9 a part begins with the last one up to its first cycle.
 #[test]
 fn parts_with_other_ends(rt: HostRuntime) {
-    let before = part_of(&rt, 0, 2);
-    assert_eq!(rt;
-        (before.frames.len(), before.stop, before.cycle),
-        (0, None, 2)
-    );
+    stops(&rt, &part_of(&rt, 0, 2), 0, None, 2);
     let at_both = part_of(&rt, 3, 9);
-    assert_eq!(rt; ends_of(&at_both), (Some(3), Some(9)));
-    assert_eq!(rt;
-        (at_both.frames.len(), at_both.stop, at_both.cycle),
-        (2, None, 9)
-    );
+    begins_and_ends(&rt, &at_both, 3, 9);
+    stops(&rt, &at_both, 2, None, 9);
     let one = part_of(&rt, 4, 4);
-    assert_eq!(rt; ends_of(&one), (Some(4), Some(4)));
-    assert_eq!(rt; (one.frames.len(), one.stop, one.cycle), (1, None, 4));
+    begins_and_ends(&rt, &one, 4, 4);
+    stops(&rt, &one, 1, None, 4);
 }
 
 /// The run stops at 20: a part that begins later has the panel of the stop.
 #[test]
 fn parts_and_the_stop(rt: HostRuntime) {
-    let up_to = part_of(&rt, 4, 20);
-    assert_eq!(rt; (up_to.stop, up_to.cycle), (Some(Stop::Limit), 20));
+    stops(&rt, &part_of(&rt, 4, 20), 2, Some(Stop::Limit), 20);
     let later = part_of(&rt, 25, 30);
-    assert_eq!(rt; ends_of(&later), (Some(25), Some(25)));
-    assert_eq!(rt; (later.stop, later.cycle), (Some(Stop::Limit), 20));
-    let backwards = part_of(&rt, 4, 1);
-    assert_eq!(rt;
-        (backwards.frames.len(), backwards.stop, backwards.cycle),
-        (1, None, 4)
-    );
+    begins_and_ends(&rt, &later, 25, 25);
+    stops(&rt, &later, 1, Some(Stop::Limit), 20);
+    stops(&rt, &part_of(&rt, 4, 1), 1, None, 4);
 }
 
 /// Waits.
@@ -194,28 +186,25 @@ static IDLE: &str = "
 
 #[test]
 fn no_frame(rt: HostRuntime) {
-    let reel = reel_of(&rt, IDLE, "", 8);
-    assert_eq!(rt; reel.frames.len(), 0);
-    assert_eq!(rt; reel.cycle, 8);
-    assert_eq!(rt; reel.stop, Some(Stop::Limit));
+    stops(&rt, &reel_of(&rt, IDLE, "", 8), 0, Some(Stop::Limit), 8);
 }
 
 /// The input is no key, and at cycle 30 the limit of 30 comes before the key.
 static KEYS: &str = "10 key VERB\n20 pro down\n25 input 16 00001\n30 pro up\n31 key 4\n";
+
+/// Looks that a reel has so many presses, of which this is the last one.
+fn presses_end(rt: &impl Abort, reel: &Reel, presses: usize, cycle: u64, button: Button) {
+    assert_eq!(rt; reel.presses.len(), presses);
+    let last = reel.presses.as_slice().last().copied();
+    assert_eq!(rt; last, Some(Press { cycle, button }));
+}
 
 /// Of the names of the files `<`, the backslash and what does not print in ASCII stand in octal: é has the two bytes
 /// 303 and 251.
 #[test]
 fn keys_before_the_limit(rt: HostRuntime) {
     let all = reel_of(&rt, IDLE, KEYS, 40);
-    assert_eq!(rt; all.presses.len(), 4);
-    assert_eq!(rt;
-        all.presses.as_slice().last().copied(),
-        Some(Press {
-            cycle: 31,
-            button: Button::Key(Key::Four),
-        })
-    );
+    presses_end(&rt, &all, 4, 31, Button::Key(Key::Four));
     let reel = reel_of(&rt, IDLE, KEYS, 30);
     let page = page_of(&rt, 30, &files(&rt, "a b~<", "\\/é\n\u{7f}"), &reel);
     shows(
@@ -248,12 +237,8 @@ static LOOP: &str = "
 fn no_key_that_was_not_met(rt: HostRuntime) {
     let script = "9 pro down\n10 pro up\n11 pro down\n";
     let reel = reel_of(&rt, LOOP, script, 10);
-    let key = Press {
-        cycle: 9,
-        button: Button::ProDown,
-    };
-    assert!(rt; reel.presses.as_slice() == [key].as_slice());
-    assert_eq!(rt; (reel.stop, reel.cycle), (Some(Stop::Limit), 11));
+    presses_end(&rt, &reel, 1, 9, Button::ProDown);
+    stops(&rt, &reel, 0, Some(Stop::Limit), 11);
 }
 
 /// As PROG, but the second write of channel 10 is left out.
@@ -267,16 +252,14 @@ static SOONER: &str = "
 4010 54171
 ";
 
-/// Where two runs part, as the page tells it.
-fn parting(rt: &(impl AllocGlobal + Abort), left: &Reel, right: &Reel) -> String {
+/// Looks that the page of two runs tells that they part there.
+fn parts_at(rt: &(impl AllocGlobal + Abort), left: &Reel, right: &Reel, parting: &str) {
     let (one, other) = (files(rt, "one", "s"), files(rt, "other", "t"));
     let mut page = String::new(rt.alloc());
     push_film_pair(&mut page, 20, &one, left, &other, right)
         .ok()
         .expect(rt, "memory");
-    String::from_str(rt.alloc(), told_parting(rt, page.as_str()))
-        .ok()
-        .expect(rt, "memory")
+    assert_eq!(rt; told_parting(rt, page.as_str()), parting);
 }
 
 /// What a page tells of where two runs part.
@@ -292,11 +275,11 @@ fn two_runs(rt: HostRuntime) {
     let left = reel_of(&rt, PROG, "", 20);
     let right = reel_of(&rt, SOONER, "", 20);
     let idle = reel_of(&rt, IDLE, "", 20);
-    assert_eq!(rt; parting(&rt, &left, &left).as_str(), "never");
-    assert_eq!(rt; parting(&rt, &left, &right).as_str(), "6");
-    assert_eq!(rt; parting(&rt, &right, &idle).as_str(), "3");
+    parts_at(&rt, &left, &left, "never");
+    parts_at(&rt, &left, &right, "6");
+    parts_at(&rt, &right, &idle, "3");
     let found = first_difference(rt.alloc(), idle.frames.as_slice(), left.frames.as_slice());
-    assert_eq!(rt; found.ok(), Some(Some(3)));
+    same(&rt, found.ok(), Some(Some(3)), "idle and left");
 }
 
 /// How often something was told, and what last.
@@ -322,8 +305,8 @@ fn tells_how_far_it_has_come(rt: HostRuntime) {
     let reel = film(rt.alloc(), &mut machine, Part::whole(), &mut told)
         .ok()
         .expect(&rt, "memory");
-    assert_eq!(rt; reel.stop, Some(Stop::Limit));
-    assert_eq!(rt; reel.frames.len(), 2);
-    assert_eq!(rt; told.times, 4);
-    assert_eq!(rt; told.cycle, 2_000_003);
+    same(&rt, reel.stop, Some(Stop::Limit), "stop");
+    same(&rt, reel.frames.len(), 2, "frames");
+    same(&rt, told.times, 4, "times");
+    same(&rt, told.cycle, 2_000_003, "cycle");
 }

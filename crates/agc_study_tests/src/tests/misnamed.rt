@@ -1,21 +1,23 @@
 //! Orders that stand behind the words of listings, each word's own worked by hand from the tables of orders. The
 //! numbers are octal.
+use super::same;
+use agc_order::Basic;
 use agc_results::misnamed_line;
 use agc_source::{Written, first_misnamed};
 use std::process::Abort;
-use std::test::Fail;
 
 /// Looks that of a text this is told.
-fn tells(rt: &(impl AllocGlobal + Abort), text: &str, told: &str) -> Result<(), Fail> {
-    let misnamed = first_misnamed(text.as_bytes()).ok_or("a remark")?;
-    let line = misnamed_line(rt.alloc(), misnamed)?;
+fn tells(rt: &(impl AllocGlobal + Abort), text: &str, told: &str) {
+    let misnamed = first_misnamed(text.as_bytes()).expect(rt, "a remark");
+    let line = misnamed_line(rt.alloc(), misnamed)
+        .ok()
+        .expect(rt, "memory");
     assert_eq!(rt; line.as_str(), told);
-    Ok(())
 }
 
 /// Another order than the word's, as a basic order or as an extracode, whichever stands there.
 #[test]
-fn other_orders_are_told(rt: HostRuntime) -> Result<(), Fail> {
+fn other_orders_are_told(rt: HostRuntime) {
     for (text, told) in [
         (
             "4000 34004 CS 4004\n",
@@ -50,9 +52,8 @@ fn other_orders_are_told(rt: HostRuntime) -> Result<(), Fail> {
             "agc-study: text line 2: the word 34004 is CA 4004, not TCF\n",
         ),
     ] {
-        tells(&rt, text, told)?;
+        tells(&rt, text, told);
     }
-    Ok(())
 }
 
 /// A word's own orders: each of its two readings, and TC below 10000.
@@ -68,7 +69,7 @@ fn own_orders_say_nothing(rt: HostRuntime) {
         "4000 10000 CCS 0\n4001 10000 DV 0\n4002 12000 TCF 2000\n4003 12000 BZF 2000",
         "4000 60000 SU A\n4001 62000 BZMF 2000\n4002 62000 AD 2000",
     ] {
-        assert_eq!(rt; first_misnamed(text.as_bytes()), None, "{text}");
+        same(&rt, first_misnamed(text.as_bytes()), None, text);
     }
 }
 
@@ -90,20 +91,20 @@ fn other_words_say_nothing(rt: HostRuntime) {
         "4000 3400 CS 4004",
         "3777 34004 CS 4004",
     ] {
-        assert_eq!(rt; first_misnamed(text.as_bytes()), None, "{text}");
+        same(&rt, first_misnamed(text.as_bytes()), None, text);
     }
 }
 
 /// What is told of a line, and that INDEX alone is read as the basic order.
 #[test]
-fn a_line_is_found(rt: HostRuntime) -> Result<(), Fail> {
-    let misnamed = first_misnamed(b"4000 34004 CA\n4001 14000 INDEX\n4002 00000 CS").ok_or(
-        "a remark",
-    )?;
-    assert_eq!(rt; misnamed.line, 2);
-    assert_eq!(rt; misnamed.word.bits(), 0o14000);
-    assert_eq!(rt; misnamed.written, Written::Basic(agc_order::Basic::Index));
-    assert!(rt; !misnamed.written.is_extracode());
-    assert_eq!(rt; misnamed.written.mnemonic(), "INDEX");
-    Ok(())
+fn a_line_is_found(rt: HostRuntime) {
+    let misnamed = first_misnamed(b"4000 34004 CA\n4001 14000 INDEX\n4002 00000 CS").expect(
+        &rt, "a remark",
+    );
+    let written = misnamed.written;
+    same(&rt, misnamed.line, 2, "line");
+    same(&rt, misnamed.word.bits(), 0o14000, "word");
+    same(&rt, written, Written::Basic(Basic::Index), "written");
+    same(&rt, written.is_extracode(), false, "extracode");
+    same(&rt, written.mnemonic(), "INDEX", "mnemonic");
 }

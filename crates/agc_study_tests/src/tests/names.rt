@@ -1,4 +1,5 @@
 //! Names of places, worked by hand.
+use super::same;
 use agc_names::{
     NameFault, NameTable, NameTrouble, place_said, push_column, push_name_line, push_named,
     text_with_names,
@@ -7,7 +8,6 @@ use agc_names_file::{NamesRefusal, read_names};
 use agc_places::{Places, PlacesFault};
 use agc_source_words::Location;
 use std::process::Abort;
-use std::test::Fail;
 
 static NAMES: &str = "4060 KEYIN # the first\n02,4060 SERVICE\n\nE0,0100\tBEFORE\n5777 LAST\n";
 
@@ -17,11 +17,25 @@ fn names(rt: &(impl AllocGlobal + Abort)) -> NameTable {
         .expect(rt, "names")
 }
 
+/// Looks that a place goes by this name.
+fn goes_by(rt: &(impl AllocGlobal + Abort), names: &NameTable, at: Location, name: &str) {
+    let mut text = String::new(rt.alloc());
+    push_named(&mut text, names, at).ok().expect(rt, "memory");
+    assert_eq!(rt; text.as_str(), name);
+}
+
+/// Looks that a place has this column.
+fn has_column(rt: &(impl AllocGlobal + Abort), names: &NameTable, at: Location, column: &str) {
+    let mut text = String::new(rt.alloc());
+    push_column(&mut text, names, at).ok().expect(rt, "memory");
+    assert_eq!(rt; text.as_str(), column);
+}
+
 /// 100 octal are 64 words, and bank 03 begins at 6000.
 #[test]
-fn a_place_goes_by_the_nearest_name(rt: HostRuntime) -> Result<(), Fail> {
+fn a_place_goes_by_the_nearest_name(rt: HostRuntime) {
     let names = names(&rt);
-    for (at, told) in [
+    for (at, name) in [
         (Location::Fixed(0o4060), "KEYIN"),
         (Location::Fixed(0o4072), "KEYIN +10"),
         (Location::Fixed(0o4160), "KEYIN +64"),
@@ -30,14 +44,9 @@ fn a_place_goes_by_the_nearest_name(rt: HostRuntime) -> Result<(), Fail> {
         (Location::Fixed(0o6000), ""),
         (Location::Erasable(0o101), "BEFORE +1"),
     ] {
-        let mut text = String::new(rt.alloc());
-        push_named(&mut text, &names, at)?;
-        assert_eq!(rt; text.as_str(), told);
+        goes_by(&rt, &names, at, name);
     }
-    let mut column = String::new(rt.alloc());
-    push_column(&mut column, &names, Location::Fixed(0o4062))?;
-    assert_eq!(rt; column.as_str(), "KEYIN +2     ");
-    Ok(())
+    has_column(&rt, &names, Location::Fixed(0o4062), "KEYIN +2     ");
 }
 
 #[test]
@@ -49,52 +58,72 @@ fn each_fault_is_told(rt: HostRuntime) {
         ("4000 NINECHARS", 1, NameFault::BadName),
         ("4000 A\n4001 B C", 2, NameFault::MoreWords),
     ] {
-        let mut text = text.as_bytes();
-        let refused = read_names(rt.alloc(), &mut text).err();
-        assert_eq!(rt;
-            refused,
-            Some(NamesRefusal::Names(NameTrouble::Line(line, fault)))
-        );
+        let mut bytes = text.as_bytes();
+        let refused = read_names(rt.alloc(), &mut bytes).err();
+        let trouble = NameTrouble::Line(line, fault);
+        same(&rt, refused, Some(NamesRefusal::Names(trouble)), text);
     }
 }
 
-#[test]
-fn names_stand_beside_places(rt: HostRuntime) -> Result<(), Fail> {
-    let named = text_with_names(rt.alloc(), &names(&rt), b"02,4061 34054 CA 4054\n")?;
-    assert!(rt; named.as_slice() == b"02,4061 KEYIN +1     34054 CA 4054\n".as_slice());
+/// The lines of a file that gives these places these names.
+fn name_lines(rt: &(impl AllocGlobal + Abort), names: &[(Location, &str)]) -> Vec<u8> {
     let mut lines = Vec::new(rt.alloc());
-    push_name_line(rt.alloc(), &mut lines, Location::Erasable(0o1407), b"COUNT")?;
-    push_name_line(rt.alloc(), &mut lines, Location::Fixed(0o4071), b"LOOP")?;
+    for (at, name) in names {
+        push_name_line(rt.alloc(), &mut lines, *at, name.as_bytes())
+            .ok()
+            .expect(rt, "memory");
+    }
+    lines
+}
+
+#[test]
+fn names_stand_beside_places(rt: HostRuntime) {
+    let named = text_with_names(rt.alloc(), &names(&rt), b"02,4061 34054 CA 4054\n");
+    let named = named.ok().expect(&rt, "memory");
+    assert!(rt; named.as_slice() == b"02,4061 KEYIN +1     34054 CA 4054\n".as_slice());
+    let lines = name_lines(
+        &rt,
+        &[
+            (Location::Erasable(0o1407), "COUNT"),
+            (Location::Fixed(0o4071), "LOOP"),
+        ],
+    );
     assert!(rt; lines.as_slice() == b"E3,1407 COUNT\n02,4071 LOOP\n".as_slice());
-    Ok(())
 }
 
 /// 10 words are 12 octal. A word that writes a place is that place, and cells end at 3777.
 #[test]
 fn a_word_stands_for_a_place(rt: HostRuntime) {
     let names = Some(names(&rt));
-    for (word, place) in [
-        ("KEYIN", Some(Location::Fixed(0o4060))),
-        ("KEYIN+10", Some(Location::Fixed(0o4072))),
-        ("BEFORE-1", Some(Location::Erasable(0o77))),
-        ("BEFORE-65", None),
-        ("5777", Some(Location::Fixed(0o5777))),
-        ("NOWHERE", None),
-        ("KEYIN+", None),
+    for (word, place, alone) in [
+        ("KEYIN", Some(Location::Fixed(0o4060)), None),
+        ("KEYIN+10", Some(Location::Fixed(0o4072)), None),
+        ("BEFORE-1", Some(Location::Erasable(0o77)), None),
+        ("BEFORE-65", None, None),
+        (
+            "5777",
+            Some(Location::Fixed(0o5777)),
+            Some(Location::Fixed(0o5777)),
+        ),
+        ("NOWHERE", None, None),
+        ("KEYIN+", None, None),
     ] {
-        assert_eq!(rt; place_said(&names, word.as_bytes()), place, "{word}");
-        let alone = place_said(&None, word.as_bytes());
-        assert_eq!(rt; alone, if word == "5777" { place } else { None }, "{word}");
+        same(&rt, place_said(&names, word.as_bytes()), place, word);
+        same(&rt, place_said(&None, word.as_bytes()), alone, word);
     }
 }
 
 static DASHES: &str = "4060 KEYIN\n4070 OUT-IN\n5777 LAST\n0100 BEFORE\n6000 NEXT\n";
 
+fn dashes(rt: &impl AllocGlobal) -> Option<NameTable> {
+    NameTable::read(rt.alloc(), DASHES.as_bytes()).ok()
+}
+
 /// What the texts of `--at` say: names may hold dashes, an offset is counted in decimal, and a text that names places
 /// without names names them with names too.
 #[test]
-fn a_question_says_places(rt: HostRuntime) -> Result<(), Fail> {
-    let names = NameTable::read(rt.alloc(), DASHES.as_bytes()).ok();
+fn a_question_says_places(rt: HostRuntime) {
+    let names = dashes(&rt);
     for (text, first, last) in [
         ("KEYIN", 0o4060, 0o4060),
         ("KEYIN+10", 0o4072, 0o4072),
@@ -109,7 +138,7 @@ fn a_question_says_places(rt: HostRuntime) -> Result<(), Fail> {
     ] {
         let (first, last) = (Location::Fixed(first), Location::Fixed(last));
         let said = Places::said(&names, text.as_bytes());
-        assert_eq!(rt; said, Ok(Places { first, last }), "{text}");
+        same(&rt, said, Ok(Places { first, last }), text);
     }
     for (text, fault) in [
         ("NOWHERE", PlacesFault::BadPlace),
@@ -121,15 +150,14 @@ fn a_question_says_places(rt: HostRuntime) -> Result<(), Fail> {
         ("BEFORE-KEYIN", PlacesFault::BadRange),
         ("4101-4100", PlacesFault::BadRange),
     ] {
-        assert_eq!(rt; Places::said(&names, text.as_bytes()), Err(fault), "{text}");
+        same(&rt, Places::said(&names, text.as_bytes()), Err(fault), text);
     }
-    Ok(())
 }
 
 /// What the texts of `--cell` say; without names a name is no place.
 #[test]
-fn a_question_says_cells(rt: HostRuntime) -> Result<(), Fail> {
-    let names = NameTable::read(rt.alloc(), DASHES.as_bytes()).ok();
+fn a_question_says_cells(rt: HostRuntime) {
+    let names = dashes(&rt);
     for (text, first, last) in [
         ("BEFORE", 0o100, 0o100),
         ("BEFORE-0107", 0o100, 0o107),
@@ -137,11 +165,10 @@ fn a_question_says_cells(rt: HostRuntime) -> Result<(), Fail> {
     ] {
         let (first, last) = (Location::Erasable(first), Location::Erasable(last));
         let said = Places::cells_said(&names, text.as_bytes());
-        assert_eq!(rt; said, Ok(Places { first, last }), "{text}");
+        same(&rt, said, Ok(Places { first, last }), text);
         let alone = Places::cells_said(&None, text.as_bytes());
-        assert_eq!(rt; alone, Err(PlacesFault::BadPlace), "{text}");
+        same(&rt, alone, Err(PlacesFault::BadPlace), text);
     }
     let fixed = Places::cells_said(&names, b"KEYIN-LAST");
     assert_eq!(rt; fixed, Err(PlacesFault::NotErasable));
-    Ok(())
 }

@@ -1,13 +1,11 @@
 //! When it is told: no clause says that it is told at all.
+use super::{between, machine_of, same};
 use agc_compare::compare;
 use agc_machine::Machine;
 use agc_progress::{Progress, Untold, mark_past, tell_at};
-use agc_script::Script;
-use agc_store::Rope;
-use agc_test_kit::{IDLE, rope_file};
-use agc_trace::{Selection, trace};
+use agc_test_kit::IDLE;
+use agc_trace::trace;
 use std::process::Abort;
-use std::test::Fail;
 
 /// How often something was told, what last, and the sum of all that was.
 #[derive(Debug, Default, Drop)]
@@ -25,59 +23,47 @@ impl Progress for Told {
     }
 }
 
+/// Looks that it was told so often, the last time at this cycle, and what the cycles come to.
+fn was_told(rt: &impl Abort, told: &Told, times: u64, cycle: u64, sum: u64) {
+    assert_eq!(rt; told.times, times);
+    assert_eq!(rt; told.cycle, cycle);
+    assert_eq!(rt; told.sum, sum);
+}
+
 /// A run in which each boundary takes one cycle, since TIME1 does not overflow in it.
-fn idle(rt: &(impl AllocGlobal + Abort)) -> Result<Machine, Fail> {
-    let bytes = rope_file(rt.alloc(), IDLE)?;
-    let rope = Rope::read(rt.alloc(), bytes.as_slice())?;
-    let script = Script::parse(rt.alloc(), b"")?;
-    Ok(
-        Machine::new(rope, script, 1_200_000)
-            .ok()
-            .expect(rt, "the limit is in range"),
-    )
+fn idle(rt: &(impl AllocGlobal + Abort)) -> Machine {
+    machine_of(rt, IDLE, "", 1_200_000)
 }
 
 /// On its way to the range it is told at the start and after a million cycles; and again at the range's first line.
 #[test]
-fn a_trace_tells_how_far_it_has_come(rt: HostRuntime) -> Result<(), Fail> {
-    let mut machine = idle(&rt)?;
-    let selection = Selection {
-        from: 1_100_000,
-        to: 1_100_010,
-        only: None,
-        places: Vec::new(rt.alloc()),
-        orders: Vec::new(rt.alloc()),
-        channels: Vec::new(rt.alloc()),
-        cells: Vec::new(rt.alloc()),
-        last: None,
-    };
+fn a_trace_tells_how_far_it_has_come(rt: HostRuntime) {
+    let mut machine = idle(&rt);
+    let selection = between(&rt, 1_100_000, 1_100_010, None);
     let mut told = Told::default();
     let mut out = Vec::new(rt.alloc());
-    trace(
+    let traced = trace(
         rt.alloc(),
         &mut machine,
         &selection,
         &None,
         &mut out,
         &mut told,
-    )?;
-    assert_eq!(rt; told.times, 3);
-    assert_eq!(rt; told.cycle, 1_100_000);
-    assert_eq!(rt; told.sum, 2_100_000);
-    Ok(())
+    );
+    assert!(rt; traced.is_ok());
+    was_told(&rt, &told, 3, 1_100_000, 2_100_000);
 }
 
 /// Two runs that are the same: it is told at the start, and after a million cycles.
 #[test]
-fn a_comparison_tells_how_far_it_has_come(rt: HostRuntime) -> Result<(), Fail> {
-    let (mut left, mut right) = (idle(&rt)?, idle(&rt)?);
+fn a_comparison_tells_how_far_it_has_come(rt: HostRuntime) {
+    let (mut left, mut right) = (idle(&rt), idle(&rt));
     let mut told = Told::default();
-    let comparison = compare(rt.alloc(), &mut left, &mut right, &mut told)?;
+    let comparison = compare(rt.alloc(), &mut left, &mut right, &mut told)
+        .ok()
+        .expect(&rt, "memory");
     assert!(rt; comparison.is_same());
-    assert_eq!(rt; told.times, 2);
-    assert_eq!(rt; told.cycle, 1_000_000);
-    assert_eq!(rt; told.sum, 1_000_000);
-    Ok(())
+    was_told(&rt, &told, 2, 1_000_000, 1_000_000);
 }
 
 /// It is told at the first cycle, and then at the first one that is a million cycles or more after the
@@ -96,10 +82,11 @@ fn told_from_mark_to_mark(rt: HostRuntime) {
         (5_999_999, 3, 5_000_000),
     ] {
         mark = tell_at(mark, cycle, &mut told);
-        assert_eq!(rt; told.times, times);
-        assert_eq!(rt; told.cycle, last);
+        same(&rt, told.times, times, "times");
+        same(&rt, told.cycle, last, "cycle");
     }
-    assert_eq!(rt; mark, 6_000_000);
-    assert_eq!(rt; mark_past(u64::MAX), u64::MAX);
-    assert_eq!(rt; tell_at(mark, 6_000_000, &mut Untold), 7_000_000);
+    same(&rt, mark, 6_000_000, "mark");
+    same(&rt, mark_past(u64::MAX), u64::MAX, "last mark");
+    let mark = tell_at(mark, 6_000_000, &mut Untold);
+    same(&rt, mark, 7_000_000, "untold");
 }

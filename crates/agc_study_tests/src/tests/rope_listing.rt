@@ -2,6 +2,7 @@
 ghost use Rattle.std.specs.Prelude.{◌≡◌, IfOk};
 ghost use Rattle.agc_store.specs.RopeFile.{rope_words};
 
+use super::same;
 use agc_order::{Basic, Extracode};
 use agc_rope_listing::{
     LineFault, Place, WeaveFault, files_say_rope_words, list, listings_say_their_words, push_order,
@@ -9,11 +10,21 @@ use agc_rope_listing::{
 };
 use agc_store::{Rope, RopeForm, Store};
 use agc_word::Narrow;
-use std::alloc::Global;
+use std::alloc::{AllocError, Global};
+use std::process::Abort;
 use std::test::Fail;
 
+/// Looks that a word is printed so, as a basic order or as an extracode.
+fn prints(rt: &(impl AllocGlobal + Abort), word: u16, extracode: bool, printed: &str) {
+    let mut text = String::new(rt.alloc());
+    push_order(&mut text, extracode, Narrow::with_bits(word % 0o100000))
+        .ok()
+        .expect(rt, "memory");
+    assert_eq!(rt; text.as_str(), printed);
+}
+
 #[test]
-fn orders_with_their_operands(rt: HostRuntime) -> Result<(), Fail> {
+fn orders_with_their_operands(rt: HostRuntime) {
     for (word, extracode, printed) in [
         (0o34004, false, "CA 4004"),
         (0o00006, false, "EXTEND"),
@@ -27,11 +38,8 @@ fn orders_with_their_operands(rt: HostRuntime) -> Result<(), Fail> {
         (0o07000, true, "EDRUPT 000"),
         (0o61777, true, "SU 1777"),
     ] {
-        let mut text = String::new(rt.alloc());
-        push_order(&mut text, extracode, Narrow::with_bits(word % 0o100000))?;
-        assert_eq!(rt; text.as_str(), printed);
+        prints(&rt, word, extracode, printed);
     }
-    Ok(())
 }
 
 /// Each basic order: a word and how it is printed. An address has 4321 in twelve bits, 1234 in ten.
@@ -86,19 +94,17 @@ static EXTRACODES: [(Extracode, u16, &str); 20] = [
 fn each_word_names_its_order(rt: HostRuntime) {
     for (order, word, line) in &BASIC_ORDERS {
         let word = Narrow::with_bits(*word % 0o100000);
-        assert_eq!(rt; Basic::named_by(word), *order, "{line}");
+        same(&rt, Basic::named_by(word), *order, line);
     }
     for (order, word, line) in &EXTRACODES {
         let word = Narrow::with_bits(*word % 0o100000);
-        assert_eq!(rt; Extracode::named_by(word), *order, "{line}");
+        same(&rt, Extracode::named_by(word), *order, line);
     }
 }
 
-/// Each word of the tables is listed as its order: basic orders in bank 04, extracodes in bank 05, each after EXTEND.
-/// Words of +0 stand between them, so that none follows the EXTEND or the INDEX of another row.
-#[test]
-fn each_order_is_listed(rt: HostRuntime) -> Result<(), Fail> {
-    let mut text = String::new(rt.alloc());
+/// Adds the lines of the basic orders in bank 04, and of the extracodes in bank 05, each after EXTEND. Words of +0 stand
+/// between them, so that none follows the EXTEND or the INDEX of another row.
+fn push_orders(text: &mut String) -> Result<(), AllocError> {
     for (row, (_, _, line)) in BASIC_ORDERS.iter().enumerate() {
         let address = row.saturating_mul(4).saturating_add(0o2000);
         writeln!(text, "04,{address:04o} {line}")?;
@@ -108,16 +114,20 @@ fn each_order_is_listed(rt: HostRuntime) -> Result<(), Fail> {
         let next = address.saturating_add(1);
         writeln!(text, "05,{address:04o} 00006 EXTEND\n05,{next:04o} {line}")?;
     }
-    assert_eq!(rt;
-        woven_and_listed(&rt, RopeForm::Classic, text.as_str())?.as_str(),
-        text.as_str()
-    );
     Ok(())
+}
+
+/// Each word of the tables is listed as its order.
+#[test]
+fn each_order_is_listed(rt: HostRuntime) {
+    let mut text = String::new(rt.alloc());
+    push_orders(&mut text).ok().expect(&rt, "memory");
+    lists(&rt, RopeForm::Classic, text.as_str(), text.as_str());
 }
 
 /// DAS and DXCH have ten bits of address, DCA and DCS twelve, and all show the upper word's.
 #[test]
-fn double_orders_show_the_upper_word(rt: HostRuntime) -> Result<(), Fail> {
+fn double_orders_show_the_upper_word(rt: HostRuntime) {
     for (word, extracode, printed) in [
         (0o20001, false, "DAS 0000"),
         (0o20000, false, "DAS 1777"),
@@ -126,20 +136,16 @@ fn double_orders_show_the_upper_word(rt: HostRuntime) -> Result<(), Fail> {
         (0o30000, true, "DCA 7777"),
         (0o42001, true, "DCS 2000"),
     ] {
-        let mut text = String::new(rt.alloc());
-        push_order(&mut text, extracode, Narrow::with_bits(word % 0o100000))?;
-        assert_eq!(rt; text.as_str(), printed);
+        prints(&rt, word, extracode, printed);
     }
-    Ok(())
 }
 
-#[test]
-fn places(rt: HostRuntime) -> Result<(), Fail> {
-    let mut text = String::new(rt.alloc());
-    push_place(&mut text, Place::Plain(0o61))?;
+/// Adds a place of each kind.
+fn push_places(text: &mut String) -> Result<(), AllocError> {
+    push_place(text, Place::Plain(0o61))?;
     text.push_str(" ")?;
     push_place(
-        &mut text,
+        text,
         Place::Erasable {
             bank: 3,
             address: 0o1400,
@@ -147,27 +153,53 @@ fn places(rt: HostRuntime) -> Result<(), Fail> {
     )?;
     text.push_str(" ")?;
     push_place(
-        &mut text,
+        text,
         Place::Fixed {
             bank: 0o43,
             address: 0o3777,
         },
-    )?;
-    assert_eq!(rt; text.as_str(), "0061 E3,1400 43,3777");
-    Ok(())
+    )
 }
 
-/// The text of the rope that a text weaves to in this form.
-fn woven_and_listed(rt: &impl AllocGlobal, form: RopeForm, text: &str) -> Result<String, Fail> {
-    let file = weave(rt.alloc(), form, text.as_bytes())?;
-    let rope = Rope::read_as(rt.alloc(), form, file.as_slice())?;
-    Ok(list(rt.alloc(), &Store::new(rope), None)?)
+#[test]
+fn places(rt: HostRuntime) {
+    let mut text = String::new(rt.alloc());
+    push_places(&mut text).ok().expect(&rt, "memory");
+    assert_eq!(rt; text.as_str(), "0061 E3,1400 43,3777");
+}
+
+/// The file that a text weaves to.
+fn woven(rt: &(impl AllocGlobal + Abort), form: RopeForm, text: &str) -> Vec<u8> {
+    weave(rt.alloc(), form, text.as_bytes())
+        .ok()
+        .expect(rt, "a file")
+}
+
+/// The memory of a rope file.
+fn store_of(rt: &(impl AllocGlobal + Abort), form: RopeForm, file: &[u8]) -> Store {
+    Store::new(
+        Rope::read_as(rt.alloc(), form, file)
+            .ok()
+            .expect(rt, "a rope"),
+    )
+}
+
+/// Looks that a memory is listed so: all banks of it, or one alone.
+fn is_listed(rt: &(impl AllocGlobal + Abort), store: &Store, bank: Option<u8>, listed: &str) {
+    let text = list(rt.alloc(), store, bank).ok().expect(rt, "memory");
+    assert_eq!(rt; text.as_str(), listed);
+}
+
+/// Looks that the rope that a text weaves to is listed so.
+fn lists(rt: &(impl AllocGlobal + Abort), form: RopeForm, text: &str, listed: &str) {
+    let file = woven(rt, form, text);
+    is_listed(rt, &store_of(rt, form, file.as_slice()), None, listed);
 }
 
 /// What `list` prints weaves to the same words, in both forms: the edges of the banks, orders after
 /// EXTEND and INDEX, -0, and a bank that begins anew.
 #[test]
-fn a_listing_weaves_to_its_words(rt: HostRuntime) -> Result<(), Fail> {
+fn a_listing_weaves_to_its_words(rt: HostRuntime) {
     let text = "00,2000 00006 EXTEND
 00,2001 50100 INDEX 0100
 00,2002 30001 DCA 0000
@@ -180,9 +212,8 @@ fn a_listing_weaves_to_its_words(rt: HostRuntime) -> Result<(), Fail> {
 43,3777 00001 TC 0001
 ";
     for form in [RopeForm::Classic, RopeForm::Parity] {
-        assert_eq!(rt; woven_and_listed(&rt, form, text)?.as_str(), text);
+        lists(&rt, form, text, text);
     }
-    Ok(())
 }
 
 /// The rope of a file, listed, woven in another form and read again: it has the words of the file.
@@ -202,24 +233,34 @@ fn rope_by_its_listing(
     Ok(rope)
 }
 
+/// Looks that the rope of a text comes back from its listing, from one form to another: its first words are -0 and +0.
+fn comes_back(
+    rt: &(impl AllocGlobal + Abort),
+    source: RopeForm,
+    form: RopeForm,
+    text: &str,
+) -> Result<(), Fail> {
+    let file = woven(rt, source, text);
+    let rope = rope_by_its_listing(rt.alloc(), source, file.as_slice(), form)?;
+    let store = Store::new(rope);
+    is_listed(rt, &store, None, text);
+    assert_eq!(rt; store.fixed(0, 0).bits(), 0o77777);
+    assert_eq!(rt; store.fixed(0, 1).bits(), 0);
+    Ok(())
+}
+
 /// A rope comes back from its listing, from each form to each: +0 and -0, both ends of a bank, and
 /// banks that the forms hold in another order.
 #[test]
 fn ropes_come_back_from_their_listings(rt: HostRuntime) -> Result<(), Fail> {
-    let alloc = rt.alloc();
     let text = "00,2000 77777 MASK 7777
 00,3777 00001 TC 0001
 02,4001 34004 CA 4004
 03,7777 77777 MASK 7777
 ";
     for source in [RopeForm::Classic, RopeForm::Parity] {
-        let file = weave(alloc, source, text.as_bytes())?;
         for form in [RopeForm::Classic, RopeForm::Parity] {
-            let rope = rope_by_its_listing(alloc, source, file.as_slice(), form)?;
-            let store = Store::new(rope);
-            assert_eq!(rt; list(alloc, &store, None)?.as_str(), text);
-            assert_eq!(rt; store.fixed(0, 0).bits(), 0o77777);
-            assert_eq!(rt; store.fixed(0, 1).bits(), 0);
+            comes_back(&rt, source, form, text)?;
         }
     }
     Ok(())
@@ -235,45 +276,46 @@ fn laws() {
 
 /// Comments, empty lines, addresses without a bank, and lines in any order.
 #[test]
-fn lines_for_readers(rt: HostRuntime) -> Result<(), Fail> {
+fn lines_for_readers(rt: HostRuntime) {
     let text = "# a rope\n\n4001\t00002 after it\r\n  # more\n7777 77777\n04,2000 00003";
     let listed = "02,4001 00002 TC 0002\n03,7777 77777 MASK 7777\n04,2000 00003 RELINT\n";
-    assert_eq!(rt;
-        woven_and_listed(&rt, RopeForm::Classic, text)?.as_str(),
-        listed
-    );
-    Ok(())
+    lists(&rt, RopeForm::Classic, text, listed);
+}
+
+/// Looks that a text weaves to these bytes.
+fn weaves_to(rt: &(impl AllocGlobal + Abort), form: RopeForm, text: &str, bytes: &[u8]) {
+    let file = woven(rt, form, text);
+    assert_eq!(rt; file.as_slice(), bytes);
 }
 
 /// Files by hand: as long as their words need, and one word at least.
 #[test]
-fn files(rt: HostRuntime) -> Result<(), Fail> {
-    let alloc = rt.alloc();
-    let classic = weave(alloc, RopeForm::Classic, b"4000 34004\n4002 00001")?;
-    assert!(rt; classic.as_slice() == [0x70, 0x08, 0, 0, 0, 2].as_slice());
-    let parity = weave(
-        alloc,
+fn files(rt: HostRuntime) {
+    weaves_to(
+        &rt,
+        RopeForm::Classic,
+        "4000 34004\n4002 00001",
+        &[0x70, 0x08, 0, 0, 0, 2],
+    );
+    weaves_to(
+        &rt,
         RopeForm::Parity,
-        b"00,2001 00003\n00,2000 00001\n00,2002 00000",
-    )?;
-    assert!(rt; parity.as_slice() == [0, 2, 0, 7, 0, 1].as_slice());
-    let nothing = weave(alloc, RopeForm::Parity, b"# nothing")?;
-    assert!(rt; nothing.as_slice() == [0, 0].as_slice());
-    Ok(())
+        "00,2001 00003\n00,2000 00001\n00,2002 00000",
+        &[0, 2, 0, 7, 0, 1],
+    );
+    weaves_to(&rt, RopeForm::Parity, "# nothing", &[0, 0]);
 }
 
 /// One bank alone.
 #[test]
-fn one_bank(rt: HostRuntime) -> Result<(), Fail> {
-    let file = weave(
-        rt.alloc(),
+fn one_bank(rt: HostRuntime) {
+    let file = woven(
+        &rt,
         RopeForm::Classic,
-        b"02,4000 00001\n03,6000 00003\n04,2000 00004",
-    )?;
-    let store = Store::new(Rope::read(rt.alloc(), file.as_slice())?);
-    let text = list(rt.alloc(), &store, Some(3))?;
-    assert_eq!(rt; text.as_str(), "03,6000 00003 RELINT\n");
-    Ok(())
+        "02,4000 00001\n03,6000 00003\n04,2000 00004",
+    );
+    let store = store_of(&rt, RopeForm::Classic, file.as_slice());
+    is_listed(&rt, &store, Some(3), "03,6000 00003 RELINT\n");
 }
 
 #[test]
@@ -299,7 +341,7 @@ fn faulty_lines(rt: HostRuntime) {
         ("# \u{20}\n# \u{1f}", 2, LineFault::NotText),
         ("4000 00001\n\0", 2, LineFault::NotText),
     ] {
-        let woven = weave(rt.alloc(), RopeForm::Classic, text.as_bytes());
-        assert_eq!(rt; woven.err(), Some(WeaveFault::Line(line, fault)), "{text}");
+        let refused = weave(rt.alloc(), RopeForm::Classic, text.as_bytes()).err();
+        same(&rt, refused, Some(WeaveFault::Line(line, fault)), text);
     }
 }

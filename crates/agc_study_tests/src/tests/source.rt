@@ -1,19 +1,41 @@
 //! Sources of ropes, each line's word worked by hand from the tables of orders. The numbers are octal.
+use super::same;
 use agc_rope_listing::{LineFault, list};
 use agc_source::{SourceFault, SourceTrouble, rope_source, weave_source};
 use agc_store::{Rope, RopeForm, Store};
 use std::process::Abort;
-use std::test::Fail;
+
+/// The file that a source weaves to.
+fn woven(rt: &(impl AllocGlobal + Abort), form: RopeForm, source: &str) -> Vec<u8> {
+    weave_source(rt.alloc(), form, source.as_bytes())
+        .ok()
+        .expect(rt, "a file")
+}
 
 /// Looks that a source weaves to the rope that a listing of its words makes.
-fn weaves(rt: &(impl AllocGlobal + Abort), source: &str, words: &str) -> Result<(), Fail> {
-    let alloc = rt.alloc();
+fn weaves(rt: &(impl AllocGlobal + Abort), source: &str, words: &str) {
     for form in [RopeForm::Classic, RopeForm::Parity] {
-        let file = weave_source(alloc, form, source.as_bytes())?;
-        let wanted = weave_source(alloc, form, words.as_bytes())?;
+        let file = woven(rt, form, source);
+        let wanted = woven(rt, form, words);
         assert!(rt; file == wanted);
     }
-    Ok(())
+}
+
+/// The memory of the rope that a source weaves to.
+fn store_of(rt: &(impl AllocGlobal + Abort), source: &str) -> Store {
+    let file = woven(rt, RopeForm::Classic, source);
+    Store::new(
+        Rope::read(rt.alloc(), file.as_slice())
+            .ok()
+            .expect(rt, "a rope"),
+    )
+}
+
+/// The source of a memory's rope: of all banks, or of one alone.
+fn source_of(rt: &(impl AllocGlobal + Abort), store: &Store, bank: Option<u8>) -> String {
+    rope_source(rt.alloc(), store, bank)
+        .ok()
+        .expect(rt, "memory")
 }
 
 /// Looks that the line with this number has this fault, and is told.
@@ -24,7 +46,7 @@ fn refuses(rt: &(impl AllocGlobal + Abort), line: usize, fault: SourceFault, sou
 
 /// A name stands for the place of its line, in either direction, and a text begins at 4000.
 #[test]
-fn names_stand_for_their_lines(rt: HostRuntime) -> Result<(), Fail> {
+fn names_stand_for_their_lines(rt: HostRuntime) {
     weaves(
         &rt,
         "# waits
@@ -38,12 +60,12 @@ PROG OCT 54171
  TC LOOP
 ",
         "4000 34004\n4001 00006\n4002 01010\n4003 14003\n4004 54171\n4005 14001\n4006 14005\n4007 04003\n",
-    )
+    );
 }
 
 /// Double orders hold the address of the lower word.
 #[test]
-fn double_orders_name_the_upper_word(rt: HostRuntime) -> Result<(), Fail> {
+fn double_orders_name_the_upper_word(rt: HostRuntime) {
     weaves(
         &rt,
         "DBL = 100
@@ -56,12 +78,12 @@ fn double_orders_name_the_upper_word(rt: HostRuntime) -> Result<(), Fail> {
 TWO 2DEC -16385
 ",
         "4000 52101\n4001 20103\n4002 00006\n4003 34007\n4004 00006\n4005 44007\n4006 77776\n4007 77776\n",
-    )
+    );
 }
 
 /// The computer's own names, and banks 3 to 7 in the window.
 #[test]
-fn erasable_names(rt: HostRuntime) -> Result<(), Fail> {
+fn erasable_names(rt: HostRuntime) {
     weaves(
         &rt,
         " SETLOC E3,1400
@@ -79,12 +101,12 @@ LOW EQUALS E0,0061
  LXCH LOW
 ",
         "4000 54027\n4001 56003\n4002 50000\n4003 31400\n4004 31402\n4005 55404\n4006 22061\n",
-    )
+    );
 }
 
 /// An extracode after EXTEND and after INDEX as an extracode; channels by their names.
 #[test]
-fn extracodes(rt: HostRuntime) -> Result<(), Fail> {
+fn extracodes(rt: HostRuntime) {
     weaves(
         &rt,
         "DSKY = 10
@@ -102,12 +124,12 @@ fn extracodes(rt: HostRuntime) -> Result<(), Fail> {
  RELINT
 ",
         "4000 00006\n4001 54005\n4002 74005\n4003 50005\n4004 00006\n4005 01010\n4006 00006\n4007 00001\n4010 00006\n4011 14012\n4012 50017\n4013 00003\n",
-    )
+    );
 }
 
 /// Numbers and their two zeros, addresses, and the words of banks.
 #[test]
-fn data(rt: HostRuntime) -> Result<(), Fail> {
+fn data(rt: HostRuntime) {
     weaves(
         &rt,
         " DEC 10
@@ -131,18 +153,16 @@ HIGH OCT 2
 CELL = E4,1412
 ",
         "4000 00012\n4001 77765\n4002 00000\n4003 77777\n4004 00007\n4005 00001\n4006 00001\n4007 00001\n4010 00002\n4011 02000\n4012 12000\n4013 12000\n4014 01412\n05,2000 32000\n4015 64001\n42,2000 00001\n42,2001 00002\n",
-    )
+    );
 }
 
 /// What the program lists is what the source says.
 #[test]
-fn listed_back(rt: HostRuntime) -> Result<(), Fail> {
-    let alloc = rt.alloc();
+fn listed_back(rt: HostRuntime) {
     let source = " EXTEND\n DCA 4010\n DXCH 100\n EXTEND\n WRITE 10\n TCF 4000\n";
-    let file = weave_source(alloc, RopeForm::Classic, source.as_bytes())?;
-    let store = Store::new(Rope::read(alloc, file.as_slice())?);
-    let text = list(alloc, &store, None)?;
-    assert_eq!(&rt;
+    let store = store_of(&rt, source);
+    let text = list(rt.alloc(), &store, None).ok().expect(&rt, "memory");
+    assert_eq!(rt;
         text.as_str(),
         "02,4000 00006 EXTEND
 02,4001 34011 DCA 4010
@@ -152,17 +172,16 @@ fn listed_back(rt: HostRuntime) -> Result<(), Fail> {
 02,4005 14000 TCF 4000
 "
     );
-    Ok(())
 }
 
 /// Places with words stand among lines of orders, and change nothing of where these stand.
 #[test]
-fn places_among_orders(rt: HostRuntime) -> Result<(), Fail> {
+fn places_among_orders(rt: HostRuntime) {
     weaves(
         &rt,
         " CA 4010\n4010 00007 the seven\n TS 100\n",
         "4000 34010\n4001 54100\n4010 00007\n",
-    )
+    );
 }
 
 #[test]
@@ -241,14 +260,13 @@ fn the_first_fault_is_told(rt: HostRuntime) {
 /// Each word stands as the order that `list` shows, and a place is gone to where no word stands before it. Bank 03 begins
 /// anew, so the digits stand for the extracode that follows bank 02's EXTEND.
 #[test]
-fn a_rope_stands_as_a_source(rt: HostRuntime) -> Result<(), Fail> {
-    let alloc = rt.alloc();
+fn a_rope_stands_as_a_source(rt: HostRuntime) {
     let words =
         "00,3777 00006\n01,2000 00010\n4000 30001\n5777 00006\n6000 01010\n6001 77777\n43,2000 07123\n";
-    let rope = weave_source(alloc, RopeForm::Classic, words.as_bytes())?;
-    let store = Store::new(Rope::read(alloc, rope.as_slice())?);
-    let source = rope_source(alloc, &store, None)?;
-    assert_eq!(&rt;
+    let store = store_of(&rt, words);
+    let source = source_of(&rt, &store, None);
+    same(
+        &rt,
         source.as_str(),
         "        SETLOC 00,3777
         EXTEND
@@ -263,13 +281,15 @@ fn a_rope_stands_as_a_source(rt: HostRuntime) -> Result<(), Fail> {
         MASK 7777
         SETLOC 43,2000
         TC 7123
-"
+",
+        "all banks",
     );
-    weaves(&rt, source.as_str(), words)?;
-    let bank = rope_source(alloc, &store, Some(3))?;
-    assert_eq!(&rt;
+    weaves(&rt, source.as_str(), words);
+    let bank = source_of(&rt, &store, Some(3));
+    same(
+        &rt,
         bank.as_str(),
-        "        SETLOC 03,6000\n        OCT 01010\n        MASK 7777\n"
+        "        SETLOC 03,6000\n        OCT 01010\n        MASK 7777\n",
+        "bank 03",
     );
-    Ok(())
 }

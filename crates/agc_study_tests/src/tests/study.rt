@@ -1,15 +1,17 @@
 //! The program on its command lines, over files that are not there; `examples/study` runs it on files.
 mod ends;
 
+use super::{holds, owned, same};
 use agc_asked::{Asked, Comparing, Filming, Watching};
+use agc_check::Report;
 use agc_compare::SideNames;
 use agc_film::{Part, RunFiles};
 use agc_jobs::Span;
 use agc_options::ArgsFault;
 use agc_progress::Untold;
 use agc_results::{
-    Trouble, check_files, check_key_file, check_listing_file, check_with, compare_files,
-    film_files, list_rope, status_of_untraced, watch_files, weave_text,
+    FilmPage, Told, Trouble, Untraced, Woven, check_files, check_key_file, check_listing_file,
+    check_with, compare_files, film_files, list_rope, status_of_untraced, watch_files, weave_text,
 };
 use agc_rope_listing::LineFault;
 use agc_setup::Refusal;
@@ -17,10 +19,8 @@ use agc_source::{SourceFault, SourceTrouble};
 use agc_store::{RopeFault, RopeForm};
 use agc_study::{answer, last_cycle, write_report, write_told};
 use agc_study_words::asked_by;
-use std::alloc::Global;
 use std::process::Abort;
 use std::rt::Files;
-use std::test::Fail;
 
 /// How the program ends on this command line.
 #[derive(Drop)]
@@ -40,6 +40,11 @@ fn asked(rt: &(impl AllocGlobal + Abort), line: &str) -> Result<Asked, ArgsFault
     asked_by(rt.alloc(), words.as_slice())
 }
 
+/// What was written, as a text.
+fn text(rt: &impl Abort, written: Vec<u8>) -> String {
+    String::from_utf8(written).ok().expect(rt, "text")
+}
+
 fn program(rt: &(impl AllocGlobal + Files + Abort), line: &str) -> Ended {
     let asked = asked(rt, line);
     let mut out = Vec::new(rt.alloc());
@@ -48,10 +53,18 @@ fn program(rt: &(impl AllocGlobal + Files + Abort), line: &str) -> Ended {
     let status = answer(rt, asked, &mut out, &mut err, &mut remarks, &mut Untold);
     Ended {
         status,
-        out: String::from_utf8(out).ok().expect(rt, "text"),
-        err: String::from_utf8(err).ok().expect(rt, "text"),
-        remarks: String::from_utf8(remarks).ok().expect(rt, "text"),
+        out: text(rt, out),
+        err: text(rt, err),
+        remarks: text(rt, remarks),
     }
+}
+
+/// Looks that this command line asks for help, in which this word stands.
+fn helps(rt: &(impl AllocGlobal + Files + Abort), line: &str, word: &str) {
+    let ended = program(rt, line);
+    same(rt, ended.status, 0, line);
+    holds(rt, ended.out.as_str().contains(word), word);
+    holds(rt, ended.err.is_empty(), line);
 }
 
 /// Help names the subcommands, and each of them its files and options.
@@ -78,11 +91,17 @@ fn help(rt: HostRuntime) {
         ("agc-study film --help", "--limit"),
         ("agc-study film --help", "SCRIPT"),
     ] {
-        let ended = program(&rt, line);
-        assert_eq!(rt; ended.status, 0, "{line}");
-        assert!(rt; ended.out.as_str().contains(word), "{word} in {line}");
-        assert!(rt; ended.err.is_empty(), "{line}");
+        helps(&rt, line, word);
     }
+}
+
+/// Looks that this command line is mistaken.
+fn is_mistaken(rt: &(impl AllocGlobal + Files + Abort), line: &str) {
+    let ended = program(rt, line);
+    same(rt, ended.status, 2, line);
+    holds(rt, ended.out.is_empty(), line);
+    holds(rt, !ended.err.is_empty(), line);
+    holds(rt, ended.remarks.is_empty(), line);
 }
 
 /// Mistakes in the command line have status 2, and nothing stands on standard output.
@@ -117,12 +136,18 @@ fn mistakes(rt: HostRuntime) {
         "agc-study compare rope script rope script --limit 10 --by",
         "agc-study compare rope script rope script --limit 10 --brief",
     ] {
-        let ended = program(&rt, line);
-        assert_eq!(rt; ended.status, 2, "{line}");
-        assert!(rt; ended.out.is_empty(), "{line}");
-        assert!(rt; !ended.err.is_empty(), "{line}");
-        assert!(rt; ended.remarks.is_empty(), "{line}");
+        is_mistaken(&rt, line);
     }
+}
+
+/// Looks that this is told of a command line, and beside it of the file `nothing`.
+fn lacks_nothing(rt: &(impl AllocGlobal + Files + Abort), line: &str, told: &str) {
+    let ended = program(rt, line);
+    let remark = ended.remarks.as_str();
+    same(rt, ended.status, 2, line);
+    holds(rt, ended.out.is_empty(), line);
+    same(rt, ended.err.as_str(), told, line);
+    holds(rt, remark.starts_with("agc-study: nothing: "), line);
 }
 
 /// Files that are not there, which is said beside it, and a bank that no rope has, which is looked at first.
@@ -168,60 +193,60 @@ fn troubles(rt: HostRuntime) {
             "agc-study: cannot read names\n",
         ),
     ] {
-        let ended = program(&rt, line);
-        assert_eq!(rt; ended.status, 2, "{line}");
-        assert!(rt; ended.out.is_empty(), "{line}");
-        assert_eq!(rt; ended.err.as_str(), told, "{line}");
-        assert!(rt;
-            ended.remarks.as_str().starts_with("agc-study: nothing: "),
-            "{line}"
-        );
+        lacks_nothing(&rt, line, told);
     }
+}
+
+fn listed(rt: &impl AllocGlobal, rope: &[u8]) -> Result<String, Trouble> {
+    let mut rope = rope;
+    list_rope(rt.alloc(), RopeForm::Classic, &None, &mut rope)
 }
 
 /// A rope of two words, and one that ends within a word.
 #[test]
-fn a_rope_is_listed(rt: HostRuntime) -> Result<(), Fail> {
-    let alloc = rt.alloc();
-    let mut rope: &[u8] = &[0x70, 0x08, 0x00, 0x0C];
-    let text = list_rope(alloc, RopeForm::Classic, &None, &mut rope)
+fn a_rope_is_listed(rt: HostRuntime) {
+    let text = listed(&rt, &[0x70, 0x08, 0x00, 0x0C])
         .ok()
-        .ok_or("a text")?;
-    assert_eq!(rt;
-        text.as_str(),
-        "02,4000 34004 CA 4004\n02,4001 00006 EXTEND\n"
-    );
-    let mut odd: &[u8] = &[0x70];
-    let refused = list_rope(alloc, RopeForm::Classic, &None, &mut odd);
-    assert_eq!(rt;
-        refused.err(),
-        Some(Trouble::Refused(Refusal::Rope(RopeFault::OddLength)))
-    );
-    Ok(())
+        .expect(&rt, "a text");
+    let lines = "02,4000 34004 CA 4004\n02,4001 00006 EXTEND\n";
+    same(&rt, text.as_str(), lines, "two words");
+    let odd = Trouble::Refused(Refusal::Rope(RopeFault::OddLength));
+    same(&rt, listed(&rt, &[0x70]).err(), Some(odd), "one byte");
+}
+
+fn woven(rt: &impl AllocGlobal, text: &[u8]) -> Result<Woven, Trouble> {
+    let mut text = text;
+    weave_text(rt.alloc(), RopeForm::Classic, &mut text)
 }
 
 /// A text of one word, and one at fault.
 #[test]
-fn a_text_is_woven(rt: HostRuntime) -> Result<(), Fail> {
-    let alloc = rt.alloc();
-    let mut text: &[u8] = b"4000 34004 CA 4004";
-    let woven = weave_text(alloc, RopeForm::Classic, &mut text)
-        .ok()
-        .ok_or("a file")?;
-    assert!(rt; woven.bytes.as_slice() == [0x70, 0x08].as_slice());
-    let mut faulty: &[u8] = b"4000 34004\n4001";
-    let refused = weave_text(alloc, RopeForm::Classic, &mut faulty);
-    assert_eq!(rt;
-        refused.err(),
-        Some(Trouble::Text(SourceTrouble::Line(2, SourceFault::Listed(LineFault::BadWord),)))
-    );
-    Ok(())
+fn a_text_is_woven(rt: HostRuntime) {
+    let file = woven(&rt, b"4000 34004 CA 4004").ok().expect(&rt, "a file");
+    let word = [0x70, 0x08];
+    same(&rt, file.bytes.as_slice(), word.as_slice(), "one word");
+    let refused = woven(&rt, b"4000 34004\n4001").err();
+    let fault = SourceFault::Listed(LineFault::BadWord);
+    let wanted = Trouble::Text(SourceTrouble::Line(2, fault));
+    same(&rt, refused, Some(wanted), "no word");
+}
+
+/// What is told of a rope and a script.
+fn checked(rt: &impl AllocGlobal, rope: &[u8], script: &[u8]) -> Result<Report, Trouble> {
+    let (mut rope, mut script) = (rope, script);
+    check_files(rt.alloc(), RopeForm::Classic, &mut rope, &mut script)
+}
+
+/// Looks that a report is written so, with this status.
+fn is_written(rt: &(impl AllocGlobal + Abort), report: &Report, status: u8, told: &str) {
+    let mut out = Vec::new(rt.alloc());
+    same(rt, write_report(report, &mut out), status, told);
+    same(rt, out.as_slice(), told.as_bytes(), told);
 }
 
 /// The status tells whether a file is at fault, and the report stands on standard output.
 #[test]
-fn files_are_checked(rt: HostRuntime) -> Result<(), Fail> {
-    let alloc = rt.alloc();
+fn files_are_checked(rt: HostRuntime) {
     let scripts: [(&[u8], u8, &str); 2] = [
         (
             b"7 key 1\n",
@@ -235,22 +260,30 @@ fn files_are_checked(rt: HostRuntime) -> Result<(), Fail> {
         ),
     ];
     for (script, status, told) in scripts {
-        let mut rope: &[u8] = &[0x70, 0x08];
-        let mut script = script;
-        let report = check_files(alloc, RopeForm::Classic, &mut rope, &mut script)
+        let report = checked(&rt, &[0x70, 0x08], script)
             .ok()
-            .ok_or("a report")?;
-        let mut out = Vec::new(alloc);
-        assert_eq!(rt; write_report(&report, &mut out), status);
-        assert!(rt; out.as_slice() == told.as_bytes());
+            .expect(&rt, "a report");
+        is_written(&rt, &report, status, told);
     }
-    Ok(())
+}
+
+fn key_report(rt: &(impl AllocGlobal + Abort), keys: &[u8]) -> Report {
+    let mut keys = keys;
+    check_key_file(rt.alloc(), &mut keys)
+        .ok()
+        .expect(rt, "a report")
+}
+
+fn listing_report(rt: &(impl AllocGlobal + Abort), listing: &[u8]) -> Report {
+    let mut listing = listing;
+    check_listing_file(rt.alloc(), &mut listing)
+        .ok()
+        .expect(rt, "a report")
 }
 
 /// Keys and the text of a rope, each sound and at fault.
 #[test]
-fn keys_and_listings_are_checked(rt: HostRuntime) -> Result<(), Fail> {
-    let alloc = rt.alloc();
+fn keys_and_listings_are_checked(rt: HostRuntime) {
     let texts: [(&[u8], &[u8], &str, &str); 2] = [
         (b"VERB 3", b"4000 14000", "keys: 2\n", "text: no fault\n"),
         (
@@ -261,21 +294,34 @@ fn keys_and_listings_are_checked(rt: HostRuntime) -> Result<(), Fail> {
         ),
     ];
     for (keys, listing, keys_told, listing_told) in texts {
-        let (mut keys, mut listing) = (keys, listing);
-        let of_keys = check_key_file(alloc, &mut keys).ok().ok_or("a report")?;
-        assert_eq!(rt; of_keys.text.as_str(), keys_told);
-        let of_listing = check_listing_file(alloc, &mut listing)
-            .ok()
-            .ok_or("a report")?;
-        assert_eq!(rt; of_listing.text.as_str(), listing_told);
+        let report = key_report(&rt, keys);
+        same(&rt, report.text.as_str(), keys_told, "keys");
+        let report = listing_report(&rt, listing);
+        same(&rt, report.text.as_str(), listing_told, "listing");
     }
-    Ok(())
+}
+
+/// What is told of a rope of one word, a script without events and these keys.
+fn report_with(rt: &(impl AllocGlobal + Abort), keys: &[u8]) -> Report {
+    let more = Some(key_report(rt, keys));
+    let (mut rope, mut script): (&[u8], &[u8]) = (&[0x70, 0x08], b"");
+    check_with(rt.alloc(), RopeForm::Classic, &mut rope, &mut script, &more)
+        .ok()
+        .expect(rt, "a report")
+}
+
+/// Looks that a report tells of the rope first, and of this last, with this status.
+fn ends_with(rt: &(impl AllocGlobal + Abort), report: &Report, status: u8, last: &str) {
+    let text = report.text.as_str();
+    holds(rt, text.starts_with("rope: words 1, banks 1\n"), last);
+    holds(rt, text.ends_with(last), last);
+    let mut out = Vec::new(rt.alloc());
+    same(rt, write_report(report, &mut out), status, last);
 }
 
 /// What is told of other files stands last, and a fault of theirs is one of all.
 #[test]
-fn other_files_are_told_last(rt: HostRuntime) -> Result<(), Fail> {
-    let alloc = rt.alloc();
+fn other_files_are_told_last(rt: HostRuntime) {
     for (keys, status, told) in [
         (b"ENTR".as_slice(), 0, "\nscript: events 0\nkeys: 1\n"),
         (
@@ -284,24 +330,56 @@ fn other_files_are_told_last(rt: HostRuntime) -> Result<(), Fail> {
             "\nscript: events 0\nkeys: BadKey\n    word 1: `ENTER` is no key; the nearest is `ENTR`\n",
         ),
     ] {
-        let mut keys = keys;
-        let more = check_key_file(alloc, &mut keys).ok();
-        let (mut rope, mut script): (&[u8], &[u8]) = (&[0x70, 0x08], b"");
-        let report = check_with(alloc, RopeForm::Classic, &mut rope, &mut script, &more)
-            .ok()
-            .ok_or("a report")?;
-        assert!(rt; report.text.as_str().starts_with("rope: words 1, banks 1\n"));
-        assert!(rt; report.text.as_str().ends_with(told));
-        let mut out = Vec::new(alloc);
-        assert_eq!(rt; write_report(&report, &mut out), status);
+        ends_with(&rt, &report_with(&rt, keys), status, told);
     }
-    Ok(())
+}
+
+/// What is asked of two runs up to a limit.
+fn comparing(rt: &impl AllocGlobal, limit: u64) -> Comparing {
+    Comparing {
+        rope: String::new(rt.alloc()),
+        script: String::new(rt.alloc()),
+        other_rope: String::new(rt.alloc()),
+        other_script: String::new(rt.alloc()),
+        form: RopeForm::Classic,
+        limit,
+        until: None,
+        shown: None,
+        names: None,
+        other_names: None,
+    }
+}
+
+/// The comparison of the runs of two ropes without events.
+fn compared(rt: &impl AllocGlobal, left: &[u8], right: &[u8], limit: u64) -> Result<Told, Trouble> {
+    let (mut rope, mut script): (&[u8], &[u8]) = (left, b"");
+    let (mut other_rope, mut other_script): (&[u8], &[u8]) = (right, b"");
+    let names = SideNames {
+        left: &None,
+        right: &None,
+    };
+    compare_files(
+        rt.alloc(),
+        &comparing(rt, limit),
+        names,
+        &mut rope,
+        &mut script,
+        &mut other_rope,
+        &mut other_script,
+        &mut Untold,
+    )
+}
+
+/// Looks that a comparison begins so, with this status.
+fn begins(rt: &(impl AllocGlobal + Abort), found: &Told, status: u8, told: &str) {
+    let mut out = Vec::new(rt.alloc());
+    same(rt, write_told(found, &mut out), status, told);
+    holds(rt, found.text.as_str().starts_with(told), told);
 }
 
 /// TCF 4000 alone, beside itself and beside a rope that jumps to 4001, where a word of +0 stands.
 #[test]
-fn runs_are_compared(rt: HostRuntime) -> Result<(), Fail> {
-    let alloc = rt.alloc();
+fn runs_are_compared(rt: HostRuntime) {
     let others: [(&[u8], u8, &str); 2] = [
         (
             &[0x30, 0x00],
@@ -315,142 +393,125 @@ fn runs_are_compared(rt: HostRuntime) -> Result<(), Fail> {
         ),
     ];
     for (other, status, told) in others {
-        let asked = Comparing {
-            rope: String::new(alloc),
-            script: String::new(alloc),
-            other_rope: String::new(alloc),
-            other_script: String::new(alloc),
-            form: RopeForm::Classic,
-            limit: 2,
-            until: None,
-            shown: None,
-            names: None,
-            other_names: None,
-        };
-        let (mut rope, mut script): (&[u8], &[u8]) = (&[0x30, 0x00], b"");
-        let (mut other_rope, mut other_script): (&[u8], &[u8]) = (other, b"");
-        let names = SideNames {
-            left: &None,
-            right: &None,
-        };
-        let found = compare_files(
-            alloc,
-            &asked,
-            names,
-            &mut rope,
-            &mut script,
-            &mut other_rope,
-            &mut other_script,
-            &mut Untold,
-        )
-        .ok()
-        .ok_or("a comparison")?;
-        let mut out = Vec::new(alloc);
-        assert_eq!(rt; write_told(&found, &mut out), status);
-        assert!(rt; found.text.as_str().starts_with(told));
+        let found = compared(&rt, &[0x30, 0x00], other, 2)
+            .ok()
+            .expect(&rt, "a comparison");
+        begins(&rt, &found, status, told);
     }
-    Ok(())
+}
+
+/// Looks that this is told of why two runs are not compared.
+fn is_in_line(rt: &(impl AllocGlobal + Abort), trouble: Trouble, told: &str) {
+    let mut err = Vec::new(rt.alloc());
+    holds(rt, trouble.write_to(&mut err).is_ok(), told);
+    same(rt, err.as_slice(), told.as_bytes(), told);
 }
 
 /// An empty rope is told of the run on the left as it is, and of the one on the right as the other run's; a
 /// limit of 0 is of both.
 #[test]
-fn the_run_at_fault_is_named(rt: HostRuntime) -> Result<(), Fail> {
-    let alloc = rt.alloc();
+fn the_run_at_fault_is_named(rt: HostRuntime) {
     let ropes: [(&[u8], &[u8], u64, &str); 3] = [
         (b"", &[0x30, 0x00], 2, "agc-study: rope: Empty\n"),
         (&[0x30, 0x00], b"", 2, "agc-study: other run: rope: Empty\n"),
         (&[0x30, 0x00], b"", 0, "agc-study: limit: Zero\n"),
     ];
     for (left, right, limit, told) in ropes {
-        let asked = Comparing {
-            rope: String::new(alloc),
-            script: String::new(alloc),
-            other_rope: String::new(alloc),
-            other_script: String::new(alloc),
-            form: RopeForm::Classic,
-            limit,
-            until: None,
-            shown: None,
-            names: None,
-            other_names: None,
-        };
-        let (mut rope, mut script): (&[u8], &[u8]) = (left, b"");
-        let (mut other_rope, mut other_script): (&[u8], &[u8]) = (right, b"");
-        let names = SideNames {
-            left: &None,
-            right: &None,
-        };
-        let trouble = compare_files(
-            alloc,
-            &asked,
-            names,
-            &mut rope,
-            &mut script,
-            &mut other_rope,
-            &mut other_script,
-            &mut Untold,
-        )
-        .err()
-        .ok_or("a trouble")?;
-        let mut err = Vec::new(alloc);
-        trouble.write_to(&mut err).ok().ok_or("a line")?;
-        assert!(rt; err.as_slice() == told.as_bytes());
+        let trouble = compared(&rt, left, right, limit).err();
+        is_in_line(&rt, trouble.expect(&rt, told), told);
     }
-    Ok(())
+}
+
+/// What is asked of a film of a run up to cycle 10.
+fn filming(files: RunFiles, part: Part, watch: Option<String>) -> Filming {
+    Filming {
+        files,
+        other: None,
+        part,
+        form: RopeForm::Classic,
+        limit: 10,
+        until: None,
+        watch,
+        names: None,
+    }
+}
+
+fn filmed(
+    rt: &impl AllocGlobal,
+    asked: &Filming,
+    rope: &[u8],
+    script: &[u8],
+) -> Result<FilmPage, Refusal> {
+    let (mut rope, mut script) = (rope, script);
+    film_files(rt.alloc(), asked, &mut rope, &mut script, &mut Untold)
 }
 
 /// The order WRITE 10 after EXTEND, with PROG 12 in A: its film has one frame, at the cycle of the write.
 #[test]
-fn runs_are_filmed(rt: HostRuntime) -> Result<(), Fail> {
-    let alloc = rt.alloc();
-    let asked = Filming {
-        files: RunFiles {
-            rope: String::from_str(alloc, "prog12")?,
-            script: String::from_str(alloc, "pro")?,
-        },
-        other: None,
-        part: Part::whole(),
-        form: RopeForm::Classic,
-        limit: 10,
-        until: None,
-        watch: None,
-        names: None,
+fn runs_are_filmed(rt: HostRuntime) {
+    let files = RunFiles {
+        rope: owned(&rt, "prog12"),
+        script: owned(&rt, "pro"),
     };
-    let mut rope: &[u8] = &[0x70, 0x08, 0x00, 0x0C, 0x04, 0x10, 0x30, 0x06, 0xB0, 0xF2];
-    let mut script: &[u8] = b"7 pro down";
-    let page = film_files(alloc, &asked, &mut rope, &mut script, &mut Untold)
+    let asked = filming(files, Part::whole(), None);
+    let rope = [0x70, 0x08, 0x00, 0x0C, 0x04, 0x10, 0x30, 0x06, 0xB0, 0xF2];
+    let page = filmed(&rt, &asked, rope.as_slice(), b"7 pro down")
         .ok()
-        .ok_or("a page")?;
-    assert_eq!(rt; page.frames, 1);
-    assert!(rt;
-        page.text
-            .as_str()
-            .contains("\nrope prog12\nscript pro\nlimit 10\n")
-    );
-    assert!(rt; page.text.as_str().contains("\nframe 3\nPROG 12\nVERB __\n"));
-    assert!(rt; page.text.as_str().contains("\nkey 7 PRO\nstop 10 Limit\n"));
-    assert!(rt; !page.text.as_str().contains("frame 7"));
-    Ok(())
+        .expect(&rt, "a page");
+    same(&rt, page.frames, 1, "frames");
+    for told in [
+        "\nrope prog12\nscript pro\nlimit 10\n",
+        "\nframe 3\nPROG 12\nVERB __\n",
+        "\nkey 7 PRO\nstop 10 Limit\n",
+    ] {
+        holds(&rt, page.text.as_str().contains(told), told);
+    }
+    holds(&rt, !page.text.as_str().contains("frame 7"), "frame 7");
 }
 
 /// What is asked for of the tables of a run at its tenth cycle.
-fn watching(alloc: Global, watch: &str) -> Result<Watching, Fail> {
-    Ok(Watching {
-        rope: String::new(alloc),
-        script: String::new(alloc),
+fn watching(rt: &(impl AllocGlobal + Abort), watch: &str) -> Watching {
+    Watching {
+        rope: String::new(rt.alloc()),
+        script: String::new(rt.alloc()),
         form: RopeForm::Classic,
         limit: 10,
         until: None,
-        watch: String::from_str(alloc, watch)?,
+        watch: owned(rt, watch),
         span: Span { from: 10, to: 10 },
-    })
+    }
+}
+
+/// The cycle at which a run stops whose tables are written.
+fn watched(
+    rt: &impl AllocGlobal,
+    asked: &Watching,
+    rope: &[u8],
+    out: &mut Vec<u8>,
+) -> Result<u64, Untraced> {
+    let (mut rope, mut script): (&[u8], &[u8]) = (rope, b"");
+    let machine = watch_files(rt.alloc(), asked, &mut rope, &mut script, out, &mut Untold)?;
+    Ok(machine.cycle())
+}
+
+/// Looks that this is told of why there is no whole answer, with this status.
+fn is_told(rt: &(impl AllocGlobal + Abort), untraced: Untraced, status: u8, told: &str) {
+    let mut err = Vec::new(rt.alloc());
+    same(rt, status_of_untraced(untraced, &mut err), status, told);
+    same(rt, err.as_slice(), told.as_bytes(), told);
+}
+
+/// Looks that of a run no tables are written, and what is told of it.
+fn is_not_watched(rt: &(impl AllocGlobal + Abort), asked: &Watching, rope: &[u8], told: &str) {
+    let mut out = Vec::new(rt.alloc());
+    let untraced = watched(rt, asked, rope, &mut out).err();
+    is_told(rt, untraced.expect(rt, told), 2, told);
+    holds(rt, out.is_empty(), told);
 }
 
 /// Where a run's tables are asked for, the text of `--watch` is looked at after the files.
 #[test]
-fn tables_are_watched(rt: HostRuntime) -> Result<(), Fail> {
-    let alloc = rt.alloc();
+fn tables_are_watched(rt: HostRuntime) {
     for (rope, watch, told) in [
         (
             &[0x30, 0x00][..],
@@ -463,57 +524,51 @@ fn tables_are_watched(rt: HostRuntime) -> Result<(), Fail> {
             "agc-study: watch: OutOfErasable\n",
         ),
         (&[], "7,0,0,7,0,7", "agc-study: rope: Empty\n"),
-        (&[0x30, 0x00], "7,0,0,7,0,7,0", ""),
     ] {
-        let asked = watching(alloc, watch)?;
-        let mut rope: &[u8] = rope;
-        let mut script: &[u8] = b"";
-        let mut out = Vec::new(alloc);
-        let mut err = Vec::new(alloc);
-        match watch_files(alloc, &asked, &mut rope, &mut script, &mut out, &mut Untold) {
-            Ok(machine) => {
-                assert_eq!(rt; machine.cycle(), 10);
-                assert!(rt; out.as_slice().starts_with(b"10 LST1 00000 "));
-            }
-            Err(untraced) => {
-                assert_eq!(rt; status_of_untraced(untraced, &mut err), 2);
-                assert!(rt; out.is_empty());
-            }
-        }
-        assert!(rt; err.as_slice() == told.as_bytes());
+        is_not_watched(&rt, &watching(&rt, watch), rope, told);
     }
-    Ok(())
+    let mut out = Vec::new(rt.alloc());
+    let asked = watching(&rt, "7,0,0,7,0,7,0");
+    let cycle = watched(&rt, &asked, &[0x30, 0x00], &mut out).ok();
+    same(&rt, cycle, Some(10), "cycle");
+    holds(&rt, out.as_slice().starts_with(b"10 LST1 00000 "), "tables");
 }
 
 /// As in `agc` the text of `--watch` is looked at before that of `--until`, and after both where its tables stand.
 #[test]
-fn the_text_of_watch_is_told_before_that_of_until(rt: HostRuntime) -> Result<(), Fail> {
-    let alloc = rt.alloc();
+fn the_text_of_watch_is_told_before_that_of_until(rt: HostRuntime) {
     for (watch, told) in [
         ("7,0,0,7,0,7", "agc-study: watch: BadSpec\n"),
         ("7,0,0,7,0,7,400", "agc-study: until: BadSpec\n"),
     ] {
-        let mut asked = watching(alloc, watch)?;
-        asked.until = Some(String::from_str(alloc, "7")?);
-        let mut rope: &[u8] = &[0x30, 0x00];
-        let mut script: &[u8] = b"";
-        let mut out = Vec::new(alloc);
-        let mut err = Vec::new(alloc);
-        let watched = watch_files(alloc, &asked, &mut rope, &mut script, &mut out, &mut Untold);
-        if let Err(untraced) = watched {
-            assert_eq!(rt; status_of_untraced(untraced, &mut err), 2);
-        }
-        assert!(rt; out.is_empty());
-        assert!(rt; err.as_slice() == told.as_bytes());
+        let mut asked = watching(&rt, watch);
+        asked.until = Some(owned(&rt, "7"));
+        is_not_watched(&rt, &asked, &[0x30, 0x00], told);
     }
-    Ok(())
+}
+
+/// What is asked of a film of the last two cycles of a run, with its tables.
+fn filming_tables(rt: &(impl AllocGlobal + Abort), watch: &str) -> Filming {
+    let files = RunFiles {
+        rope: String::new(rt.alloc()),
+        script: String::new(rt.alloc()),
+    };
+    filming(files, Part { from: 9, to: 10 }, Some(owned(rt, watch)))
+}
+
+/// Looks that a run is not filmed with these tables, and what is told of it.
+fn is_not_filmed(rt: &(impl AllocGlobal + Abort), rope: &[u8], watch: &str, told: &str) {
+    let refusal = filmed(rt, &filming_tables(rt, watch), rope, b"").err();
+    let trouble = Trouble::Refused(refusal.expect(rt, told));
+    let mut err = Vec::new(rt.alloc());
+    same(rt, trouble.tell_to(&mut err), 2, told);
+    same(rt, err.as_slice(), told.as_bytes(), told);
 }
 
 /// Where a film shows a run's tables, the text of `--watch` is looked at after the files; the tables begin at the first
 /// cycle of the film.
 #[test]
-fn tables_are_filmed(rt: HostRuntime) -> Result<(), Fail> {
-    let alloc = rt.alloc();
+fn tables_are_filmed(rt: HostRuntime) {
     for (rope, watch, told) in [
         (
             &[0x30, 0x00][..],
@@ -526,31 +581,20 @@ fn tables_are_filmed(rt: HostRuntime) -> Result<(), Fail> {
             "agc-study: watch: TooManySets\n",
         ),
         (&[], "7,0,0,7,0,7", "agc-study: rope: Empty\n"),
-        (&[0x30, 0x00], "7,0,0,7,0,7,0", ""),
     ] {
-        let asked = Filming {
-            files: RunFiles {
-                rope: String::new(alloc),
-                script: String::new(alloc),
-            },
-            other: None,
-            part: Part { from: 9, to: 10 },
-            form: RopeForm::Classic,
-            limit: 10,
-            until: None,
-            watch: Some(String::from_str(alloc, watch)?),
-            names: None,
-        };
-        let mut rope: &[u8] = rope;
-        let mut script: &[u8] = b"";
-        let mut err = Vec::new(alloc);
-        match film_files(alloc, &asked, &mut rope, &mut script, &mut Untold) {
-            Ok(page) => assert!(rt; page.text.as_str().contains("-tables\">\n9 LST1 00000 ")),
-            Err(refusal) => assert_eq!(rt; Trouble::Refused(refusal).tell_to(&mut err), 2),
-        }
-        assert!(rt; err.as_slice() == told.as_bytes());
+        is_not_filmed(&rt, rope, watch, told);
     }
-    Ok(())
+    let asked = filming_tables(&rt, "7,0,0,7,0,7,0");
+    let page = filmed(&rt, &asked, &[0x30, 0x00], b"")
+        .ok()
+        .expect(&rt, "a page");
+    assert!(rt; page.text.as_str().contains("-tables\">\n9 LST1 00000 "));
+}
+
+/// The last cycle of which this command line wants something.
+fn last_of(rt: &(impl AllocGlobal + Abort), line: &str) -> u64 {
+    let asked = asked(rt, line);
+    last_cycle(&asked)
 }
 
 /// What is told is how far it is to the cycle after which nothing is printed.
@@ -573,6 +617,6 @@ fn last_cycles(rt: HostRuntime) {
         ("agc-study list rope", 0),
         ("agc-study", 0),
     ] {
-        assert_eq!(rt; last_cycle(&asked(&rt, line)), last, "{line}");
+        same(&rt, last_of(&rt, line), last, line);
     }
 }

@@ -1,5 +1,5 @@
 //! Traces of small programs, worked out by hand.
-use super::machine_of;
+use super::{between, has_lines, machine_of, same};
 use agc_places::{Places, PlacesFault};
 use agc_processor::Rupt;
 use agc_progress::Untold;
@@ -41,24 +41,13 @@ fn shows(
     lines: &[&str],
 ) {
     let text = traced(rt, listing, script, limit, selection);
-    let mut told = text.as_str().lines();
-    for line in lines {
-        assert_eq!(rt; told.next(), Some(*line));
-    }
-    assert_eq!(rt; told.next(), None);
+    has_lines(rt, text.as_str(), lines);
 }
 
-fn between(rt: &impl AllocGlobal, from: u64, to: u64, only: Option<Only>) -> Selection {
-    Selection {
-        from,
-        to,
-        only,
-        places: Vec::new(rt.alloc()),
-        orders: Vec::new(rt.alloc()),
-        channels: Vec::new(rt.alloc()),
-        cells: Vec::new(rt.alloc()),
-        last: None,
-    }
+/// Asks for the orders at places too.
+fn ask_for_places(rt: &impl Abort, selection: &mut Selection, text: &str) {
+    let places = Places::named(text.as_bytes()).ok().expect(rt, "places");
+    selection.places.push(places).ok().expect(rt, "memory");
 }
 
 /// Asks for the orders of a mnemonic too.
@@ -67,8 +56,13 @@ fn ask_for_order(rt: &(impl AllocGlobal + Abort), selection: &mut Selection, nam
     selection.orders.push(name).ok().expect(rt, "memory");
 }
 
+/// Asks for the orders at a channel too.
+fn ask_for_channel(rt: &impl Abort, selection: &mut Selection, channel: u16) {
+    selection.channels.push(channel).ok().expect(rt, "memory");
+}
+
 /// Asks for cells too.
-fn ask_for_cells(rt: &(impl AllocGlobal + Abort), selection: &mut Selection, text: &str) {
+fn ask_for_cells(rt: &impl Abort, selection: &mut Selection, text: &str) {
     let cells = Places::of_cells(text.as_bytes()).ok().expect(rt, "cells");
     selection.cells.push(cells).ok().expect(rt, "memory");
 }
@@ -140,8 +134,7 @@ fn orders_at_places(rt: HostRuntime) {
     let write = "3 4002 01010 WRITE 010 > 010 54171 | A 154171 L 00000 Q 000000 Z 4004 EB 0 FB 00";
     let stop = "10 - stop Limit | A 154171 L 00000 Q 000000 Z 4004 EB 0 FB 00";
     let mut selection = between(&rt, 0, 10, None);
-    let places = Places::named(b"02,4001-4002").ok().expect(&rt, "places");
-    selection.places.push(places).ok().expect(&rt, "memory");
+    ask_for_places(&rt, &mut selection, "02,4001-4002");
     shows(&rt, TEN_BYTES, "", 10, &selection, &[extend, write, stop]);
     ask_for_order(&rt, &mut selection, "TCF");
     shows(&rt, TEN_BYTES, "", 10, &selection, &[stop]);
@@ -156,10 +149,10 @@ fn orders_at_a_channel(rt: HostRuntime) {
     let write = "3 4002 01010 WRITE 010 > 010 54171 | A 154171 L 00000 Q 000000 Z 4004 EB 0 FB 00";
     let stop = "10 - stop Limit | A 154171 L 00000 Q 000000 Z 4004 EB 0 FB 00";
     let mut selection = between(&rt, 0, 10, None);
-    selection.channels.push(0o11).ok().expect(&rt, "memory");
-    selection.channels.push(0o4).ok().expect(&rt, "memory");
+    ask_for_channel(&rt, &mut selection, 0o11);
+    ask_for_channel(&rt, &mut selection, 0o4);
     shows(&rt, TEN_BYTES, "", 10, &selection, &[stop]);
-    selection.channels.push(0o10).ok().expect(&rt, "memory");
+    ask_for_channel(&rt, &mut selection, 0o10);
     shows(&rt, TEN_BYTES, "", 10, &selection, &[write, stop]);
 }
 
@@ -211,7 +204,7 @@ fn places_by_name(rt: HostRuntime) {
         ),
     ] {
         let named = Places::named(text.as_bytes());
-        assert_eq!(rt; named, Ok(Places { first, last }), "{text}");
+        same(&rt, named, Ok(Places { first, last }), text);
     }
     for (text, fault) in [
         ("", PlacesFault::BadPlace),
@@ -226,7 +219,7 @@ fn places_by_name(rt: HostRuntime) {
         ("0377-0400", PlacesFault::BadRange),
         ("0400-4000", PlacesFault::BadRange),
     ] {
-        assert_eq!(rt; Places::named(text.as_bytes()), Err(fault), "{text}");
+        same(&rt, Places::named(text.as_bytes()), Err(fault), text);
     }
 }
 
@@ -240,7 +233,7 @@ fn cells_by_name(rt: HostRuntime) {
     ] {
         let (first, last) = (Location::Erasable(first), Location::Erasable(last));
         let named = Places::of_cells(text.as_bytes());
-        assert_eq!(rt; named, Ok(Places { first, last }), "{text}");
+        same(&rt, named, Ok(Places { first, last }), text);
     }
     for (text, fault) in [
         ("4100", PlacesFault::NotErasable),
@@ -251,7 +244,7 @@ fn cells_by_name(rt: HostRuntime) {
         ("0100-4000", PlacesFault::BadRange),
         ("4000-4001", PlacesFault::NotErasable),
     ] {
-        assert_eq!(rt; Places::of_cells(text.as_bytes()), Err(fault), "{text}");
+        same(&rt, Places::of_cells(text.as_bytes()), Err(fault), text);
     }
 }
 
@@ -299,12 +292,15 @@ fn who_wrote_a_cell(rt: HostRuntime) {
 
 #[test]
 fn an_order_in_the_window_stands_in_its_bank(rt: HostRuntime) {
-    let at = |bank, bits| location_at(bank, Addr::wrapped(bits));
-    assert_eq!(rt; at(0, 0o1377), Location::Erasable(0o1377));
-    assert_eq!(rt; at(0, 0o1500), Location::Erasable(0o100));
-    assert_eq!(rt; at(7, 0o1777), Location::Erasable(0o3777));
-    assert_eq!(rt; at(0o43, 0o3777), Location::Fixed(0o107777));
-    assert_eq!(rt; at(0, 0o7777), Location::Fixed(0o7777));
+    for (bank, bits, place) in [
+        (0, 0o1377, Location::Erasable(0o1377)),
+        (0, 0o1500, Location::Erasable(0o100)),
+        (7, 0o1777, Location::Erasable(0o3777)),
+        (0o43, 0o3777, Location::Fixed(0o107777)),
+        (0, 0o7777, Location::Fixed(0o7777)),
+    ] {
+        assert_eq!(rt; location_at(bank, Addr::wrapped(bits)), place);
+    }
 }
 
 /// Waits, and serves a key by going back at once.

@@ -1,30 +1,48 @@
 //! The grammar of scripts at its edges: what `Script::parse` takes, `check` calls sound, and what it
 //! refuses, `check` explains by the same range or names.
+use super::super::holds;
 use super::*;
 use agc_script::{
     Command, DIRECTIONS, FaultKind, Key, LAST_CYCLE, LONGEST_LINE, MOST_EVENTS, PULSES,
     direction_name, pulse_name,
 };
 
-/// What `Script::parse` says of a script, with what `check` says that it is.
-fn kind_of(rt: &(impl AllocGlobal + Abort), script: &str) -> Option<FaultKind> {
-    let kind = match Script::parse(rt.alloc(), script.as_bytes()) {
+/// Why `Script::parse` refuses a script.
+fn fault_of(rt: &(impl AllocGlobal + Abort), script: &str) -> Option<FaultKind> {
+    match Script::parse(rt.alloc(), script.as_bytes()) {
         Ok(_) => None,
         Err(fault) => Some(fault.kind),
-    };
-    let told = report(rt, RopeForm::Classic, ROPE.as_slice(), script.as_bytes());
-    assert_eq!(rt; told.is_sound, kind.is_none());
-    kind
+    }
+}
+
+/// Whether `check` finds no fault in a script.
+fn is_sound(rt: &(impl AllocGlobal + Abort), script: &[u8]) -> bool {
+    report(rt, RopeForm::Classic, ROPE.as_slice(), script).is_sound
+}
+
+/// Looks that a script is taken.
+fn taken(rt: &(impl AllocGlobal + Abort), script: &str) {
+    same(rt, fault_of(rt, script), None, script);
+    holds(rt, is_sound(rt, script.as_bytes()), script);
+}
+
+/// What is told of a script of one line.
+fn told_of_line(
+    rt: &(impl AllocGlobal + Abort),
+    script: &str,
+    kind: FaultKind,
+    why: &str,
+) -> String {
+    format!(in rt.alloc(); "script line 1: {kind:?}\n    {script}\n    {why}\n")
+        .ok()
+        .expect(rt, "memory")
 }
 
 /// Looks that a script of one line is refused for this kind, and that this is told of it.
 fn refused(rt: &(impl AllocGlobal + Abort), script: &str, kind: FaultKind, why: &str) {
-    assert_eq!(rt; kind_of(rt, script), Some(kind));
-    let told = report(rt, RopeForm::Classic, ROPE.as_slice(), script.as_bytes());
-    let wanted = format!(in rt.alloc(); "{HOLDS}script line 1: {kind:?}\n    {script}\n    {why}\n")
-        .ok()
-        .expect(rt, "memory");
-    assert_eq!(rt; told.text.as_str(), wanted.as_str());
+    same(rt, fault_of(rt, script), Some(kind), script);
+    let text = told_of_line(rt, script, kind, why);
+    told(rt, script.as_bytes(), text.as_str(), false);
 }
 
 /// A range of the grammar: the line is a cycle, the words before a number, the number, and those after it.
@@ -95,62 +113,65 @@ static EDGES: [Edge; 8] = [
     },
 ];
 
-fn takes_ends(rt: &(impl AllocGlobal + Abort), edge: &Edge) -> Result<(), Fail> {
-    let (before, after) = (edge.before, edge.after);
+/// The line of this number and the words before and after it.
+fn line_of<'a>(
+    rt: &(impl AllocGlobal + Abort),
+    before: &'a str,
+    number: &'a str,
+    after: &'a str,
+) -> String {
+    joined(rt, &["0 ", before, " ", number, after])
+}
+
+fn takes_ends(rt: &(impl AllocGlobal + Abort), edge: &Edge) {
     for end in edge.ends {
-        let script = format!(in rt.alloc(); "0 {before} {end}{after}")?;
-        assert_eq!(rt; kind_of(rt, script.as_str()), None);
+        let line = line_of(rt, edge.before, end, edge.after);
+        taken(rt, line.as_str());
     }
-    Ok(())
 }
 
-fn refuses_beside(rt: &(impl AllocGlobal + Abort), edge: &Edge) -> Result<(), Fail> {
-    let (before, after, range) = (edge.before, edge.after, edge.range);
+fn refuses_beside(rt: &(impl AllocGlobal + Abort), edge: &Edge) {
     for number in edge.beside {
-        let script = format!(in rt.alloc(); "0 {before} {number}{after}")?;
-        let why = format!(in rt.alloc(); "`{number}` is out of range: {range}")?;
-        refused(rt, script.as_str(), FaultKind::OutOfRange, why.as_str());
+        let line = line_of(rt, edge.before, number, edge.after);
+        let why = joined(rt, &["`", number, "` is out of range: ", edge.range]);
+        refused(rt, line.as_str(), FaultKind::OutOfRange, why.as_str());
     }
-    Ok(())
 }
 
-fn refuses_long(rt: &(impl AllocGlobal + Abort), edge: &Edge) -> Result<(), Fail> {
-    let (before, after, range) = (edge.before, edge.after, edge.range);
-    let script = format!(in rt.alloc(); "0 {before} 0000001{after}")?;
-    let why = format!(in rt.alloc(); "`0000001` is no number: 1 to 6 digits, {range}")?;
-    refused(rt, script.as_str(), FaultKind::BadNumber, why.as_str());
-    Ok(())
+fn refuses_long(rt: &(impl AllocGlobal + Abort), edge: &Edge) {
+    let line = line_of(rt, edge.before, "0000001", edge.after);
+    let why = joined(rt, &["`0000001` is no number: 1 to 6 digits, ", edge.range]);
+    refused(rt, line.as_str(), FaultKind::BadNumber, why.as_str());
 }
 
 /// Both ends of each range are taken, and the numbers beside them are refused by that range, as is one of seven
 /// digits.
 #[test]
-fn ranges(rt: HostRuntime) -> Result<(), Fail> {
+fn ranges(rt: HostRuntime) {
     for edge in &EDGES {
-        takes_ends(&rt, edge)?;
-        refuses_beside(&rt, edge)?;
-        refuses_long(&rt, edge)?;
+        takes_ends(&rt, edge);
+        refuses_beside(&rt, edge);
+        refuses_long(&rt, edge);
     }
-    Ok(())
+}
+
+/// Looks that a line of this command and this name is taken.
+fn takes_name<'a>(rt: &(impl AllocGlobal + Abort), command: &'a str, name: &'a str) {
+    let line = joined(rt, &["0 ", command, " ", name]);
+    taken(rt, line.as_str());
 }
 
 /// Each name of the tables is taken, and these are all that there are.
 #[test]
-fn tables(rt: HostRuntime) -> Result<(), Fail> {
+fn tables(rt: HostRuntime) {
     for key in Key::ALL {
-        let name = key.name();
-        let script = format!(in rt.alloc(); "0 key {name}")?;
-        assert_eq!(rt; kind_of(&rt, script.as_str()), None);
+        takes_name(&rt, "key", key.name());
     }
     for down in DIRECTIONS {
-        let name = direction_name(down);
-        let script = format!(in rt.alloc(); "0 pro {name}")?;
-        assert_eq!(rt; kind_of(&rt, script.as_str()), None);
+        takes_name(&rt, "pro", direction_name(down));
     }
     for kind in PULSES {
-        let name = pulse_name(kind);
-        let script = format!(in rt.alloc(); "0 pulse 24 {name}")?;
-        assert_eq!(rt; kind_of(&rt, script.as_str()), None);
+        takes_name(&rt, "pulse 24", pulse_name(kind));
     }
     refused(
         &rt,
@@ -158,59 +179,65 @@ fn tables(rt: HostRuntime) -> Result<(), Fail> {
         FaultKind::UnknownWord,
         "`dinc` is no kind of pulse; the nearest is `pinc`",
     );
-    Ok(())
+}
+
+/// What is told of a line with a word more than its command has.
+fn form_told(rt: &(impl AllocGlobal + Abort), usage: &str, command: Command) -> String {
+    let given = command.argument_count().saturating_add(1);
+    format!(in rt.alloc(); "`{usage}` is right: here are {given} words after the command")
+        .ok()
+        .expect(rt, "memory")
+}
+
+/// Looks that a line is taken, and with a word more refused.
+fn has_form(rt: &(impl AllocGlobal + Abort), right: &str, usage: &str, command: Command) {
+    taken(rt, joined(rt, &["0 ", right]).as_str());
+    let line = joined(rt, &["0 ", right, " 0"]);
+    let why = form_told(rt, usage, command);
+    refused(rt, line.as_str(), FaultKind::UnknownWord, why.as_str());
 }
 
 /// A command with a word more than it has is refused, and its form told.
 #[test]
-fn forms(rt: HostRuntime) -> Result<(), Fail> {
-    let forms = [
+fn forms(rt: HostRuntime) {
+    for (right, usage, command) in [
         ("key 1", "key NAME", Command::Key),
         ("pro up", "pro DIRECTION", Command::Pro),
         ("input 5 0", "input CHANNEL VALUE", Command::Input),
         ("pulse 24 pinc", "pulse COUNTER KIND", Command::Pulse),
         ("raise 1", "raise NUMBER", Command::Raise),
         ("poke 1 0 0", "poke BANK OFFSET VALUE", Command::Poke),
-    ];
-    for (right, usage, command) in forms {
-        let script = format!(in rt.alloc(); "0 {right}")?;
-        assert_eq!(rt; kind_of(&rt, script.as_str()), None);
-        let script = format!(in rt.alloc(); "0 {right} 0")?;
-        let given = command.argument_count().saturating_add(1);
-        let why = format!(in rt.alloc();
-            "`{usage}` is right: here are {given} words after the command"
-        )?;
-        refused(&rt, script.as_str(), FaultKind::UnknownWord, why.as_str());
+    ] {
+        has_form(&rt, right, usage, command);
     }
-    Ok(())
 }
 
 /// The last cycle, the most events and the longest line are taken, and one more of each is not.
 #[test]
-fn bounds(rt: HostRuntime) -> Result<(), Fail> {
-    let script = format!(in rt.alloc(); "{LAST_CYCLE} key 1")?;
-    assert_eq!(rt; script.as_str(), "1000000000000 key 1");
-    assert_eq!(rt; kind_of(&rt, script.as_str()), None);
+fn bounds(rt: HostRuntime) {
+    same(&rt, LAST_CYCLE, 1_000_000_000_000, "cycle");
+    taken(&rt, "1000000000000 key 1");
     refused(
         &rt,
         "1000000000001 key 1",
         FaultKind::BadCycle,
         "`1000000000001` is no cycle: 1 to 13 decimal digits, 1000000000000 at most",
     );
-    let script = format!(in rt.alloc(); "every 1 1 {MOST_EVENTS} key 1")?;
-    assert_eq!(rt; script.as_str(), "every 1 1 65536 key 1");
-    assert_eq!(rt; kind_of(&rt, script.as_str()), None);
+    same(&rt, MOST_EVENTS, 65536, "events");
+    taken(&rt, "every 1 1 65536 key 1");
     refused(
         &rt,
         "every 1 0 65536 key 1",
         FaultKind::TooMany,
         "a script has 65536 events at most, and with this line it has more",
     );
-    let mut line = Vec::new(rt.alloc());
-    line.resize(LONGEST_LINE, b'#').ok().ok_or("memory")?;
-    assert!(rt; report(&rt, RopeForm::Classic, ROPE.as_slice(), line.as_slice()).is_sound);
-    line.push(b'#').ok().ok_or("memory")?;
-    assert_eq!(rt; line.len(), 121);
-    assert!(rt; !report(&rt, RopeForm::Classic, ROPE.as_slice(), line.as_slice()).is_sound);
-    Ok(())
+    same(&rt, LONGEST_LINE, 120, "bytes");
+    comment_of(&rt, 120, true);
+    comment_of(&rt, 121, false);
+}
+
+/// Looks whether a comment of so many bytes is taken.
+fn comment_of(rt: &(impl AllocGlobal + Abort), bytes: usize, is_taken: bool) {
+    let line = repeated(rt, b'#', bytes);
+    same(rt, is_sound(rt, line.as_slice()), is_taken, "a comment");
 }

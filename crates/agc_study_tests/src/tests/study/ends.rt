@@ -1,12 +1,13 @@
 //! How traces end, and files of more bytes than a rope may have.
+use super::super::{between, repeated};
 use super::*;
 use agc_asked::Tracing;
 use agc_machine::LimitFault;
 use agc_processor::Rupt;
-use agc_results::{Untraced, remark_service, status_of_untraced, trace_files};
+use agc_results::{remark_service, trace_files};
 use agc_setup::{ROPE_BYTES, ReadFault};
 use agc_test_kit::rope_file;
-use agc_trace::{Selection, Service, TraceFault};
+use agc_trace::{Service, TraceFault};
 use std::io::{self, ErrorKind, Write};
 
 /// Where no whole trace was written, what is told of it, and the status.
@@ -22,10 +23,8 @@ fn traces_end(rt: HostRuntime) {
         (Untraced::Cut(TraceFault::Write), 3, ""),
         (Untraced::Cut(TraceFault::Memory), 3, "agc-study: memory\n"),
     ] {
-        let mut err = Vec::new(rt.alloc());
-        assert_eq!(rt; status_of_untraced(untraced, &mut err), status, "{told}");
-        assert!(rt; err.as_slice() == told.as_bytes(), "{told}");
-        assert_eq!(rt; status_of_untraced(untraced, &mut Full), 3, "{told}");
+        is_told(&rt, untraced, status, told);
+        same(&rt, status_of_untraced(untraced, &mut Full), 3, told);
     }
 }
 
@@ -57,110 +56,101 @@ fn tracing(rt: &impl AllocGlobal, limit: u64) -> Tracing {
         form: RopeForm::Classic,
         limit,
         until: None,
-        selection: Selection {
-            from: 0,
-            to: u64::MAX,
-            only: None,
-            places: Vec::new(rt.alloc()),
-            orders: Vec::new(rt.alloc()),
-            channels: Vec::new(rt.alloc()),
-            cells: Vec::new(rt.alloc()),
-            last: None,
-        },
+        selection: between(rt, 0, u64::MAX, None),
         at: Vec::new(rt.alloc()),
         cell: Vec::new(rt.alloc()),
         names: None,
     }
 }
 
-/// The key comes at 2, its interrupt is taken there, and the service has not ended at 6.
-#[test]
-fn a_service_is_told(rt: HostRuntime) -> Result<(), Fail> {
-    let bytes = rope_file(rt.alloc(), SERVES)?;
-    let (mut rope, mut script): (&[u8], &[u8]) = (bytes.as_slice(), b"2 key VERB");
-    let mut out = Vec::new(rt.alloc());
-    let asked = tracing(&rt, 6);
+/// The rope file of SERVES.
+fn serves(rt: &(impl AllocGlobal + Abort)) -> Vec<u8> {
+    rope_file(rt.alloc(), SERVES).ok().expect(rt, "a rope file")
+}
+
+/// The service that has not ended where a trace does.
+fn service_of(
+    rt: &impl AllocGlobal,
+    rope: &[u8],
+    script: &[u8],
+    limit: u64,
+    out: &mut impl Write,
+) -> Result<Option<Service>, Untraced> {
+    let (mut rope, mut script) = (rope, script);
     let traced = trace_files(
         rt.alloc(),
-        &asked,
+        &tracing(rt, limit),
         &None,
         &mut rope,
         &mut script,
-        &mut out,
+        out,
         &mut Untold,
-    );
-    let service = traced.ok().ok_or("a trace")?.service;
+    )?;
+    Ok(traced.service)
+}
+
+/// The key comes at 2, its interrupt is taken there, and the service has not ended at 6.
+#[test]
+fn a_service_is_told(rt: HostRuntime) {
+    let rope = serves(&rt);
+    let mut out = Vec::new(rt.alloc());
+    let service = service_of(&rt, rope.as_slice(), b"2 key VERB", 6, &mut out);
     let begun = Service {
         rupt: Rupt::Keyrupt1,
         cycle: 2,
     };
-    assert_eq!(rt; service, Some(begun));
+    same(&rt, service, Ok(Some(begun)), "service");
     let mut remarks = Vec::new(rt.alloc());
-    assert!(rt; remark_service(begun, &mut remarks).is_ok());
-    assert!(rt;
-        remarks.as_slice()
-            == b"agc-study: the service of KEYRUPT1, begun at cycle 2, has not ended\n".as_slice()
-    );
-    Ok(())
+    holds(&rt, remark_service(begun, &mut remarks).is_ok(), "remark");
+    let line = b"agc-study: the service of KEYRUPT1, begun at cycle 2, has not ended\n";
+    same(&rt, remarks.as_slice(), line.as_slice(), "remark");
 }
 
 /// A run that is refused, of which nothing is written, and a trace that cannot be written.
 #[test]
-fn traces_fail(rt: HostRuntime) -> Result<(), Fail> {
-    let bytes = rope_file(rt.alloc(), SERVES)?;
+fn traces_fail(rt: HostRuntime) {
+    let rope = serves(&rt);
     let files: [(&[u8], u64, Untraced); 3] = [
         (b"", 6, Untraced::Refused(Refusal::Rope(RopeFault::Empty))),
         (
-            bytes.as_slice(),
+            rope.as_slice(),
             0,
             Untraced::Refused(Refusal::Limit(LimitFault::Zero)),
         ),
-        (bytes.as_slice(), 6, Untraced::Cut(TraceFault::Write)),
+        (rope.as_slice(), 6, Untraced::Cut(TraceFault::Write)),
     ];
     for (rope, limit, untraced) in files {
-        let (mut rope, mut script): (&[u8], &[u8]) = (rope, b"");
-        let asked = tracing(&rt, limit);
-        let traced = trace_files(
-            rt.alloc(),
-            &asked,
-            &None,
-            &mut rope,
-            &mut script,
-            &mut Full,
-            &mut Untold,
-        );
-        assert_eq!(rt; traced.err(), Some(untraced));
+        let service = service_of(&rt, rope, b"", limit, &mut Full);
+        assert_eq!(rt; service, Err(untraced));
     }
-    Ok(())
+}
+
+/// Whether a report finds no fault.
+fn is_sound(rt: &impl Abort, report: Result<Report, Trouble>) -> bool {
+    report.ok().expect(rt, "a report").is_sound
 }
 
 /// A script and a text may have more bytes than a rope, which is not read then.
 #[test]
-fn long_files_are_read(rt: HostRuntime) -> Result<(), Fail> {
-    let alloc = rt.alloc();
-    let mut long = vec![in alloc; b'\n'; ROPE_BYTES]?;
-    long.push(b'\n')?;
-    let (mut rope, mut script): (&[u8], &[u8]) = (&[0x70, 0x08], long.as_slice());
-    let report = check_files(alloc, RopeForm::Classic, &mut rope, &mut script)
+fn long_files_are_read(rt: HostRuntime) {
+    let long = repeated(&rt, b'\n', ROPE_BYTES.saturating_add(1));
+    let of_script = checked(&rt, &[0x70, 0x08], long.as_slice());
+    holds(&rt, is_sound(&rt, of_script), "script");
+    let refused = checked(&rt, long.as_slice(), b"").err();
+    let too_many = Refusal::CannotReadRope(ReadFault::TooMany);
+    same(&rt, refused, Some(Trouble::Refused(too_many)), "rope");
+    let of_listing = listing_report(&rt, long.as_slice());
+    holds(&rt, of_listing.is_sound, "listing");
+    weaves_after(&rt, long);
+}
+
+/// Looks that a word after these lines is woven.
+fn weaves_after(rt: &(impl AllocGlobal + Abort), lines: Vec<u8>) {
+    let mut text = lines;
+    text.extend_from_slice(b"4000 34004")
         .ok()
-        .ok_or("a report")?;
-    assert!(rt; report.is_sound);
-    let (mut rope, mut script): (&[u8], &[u8]) = (long.as_slice(), b"");
-    let refused = check_files(alloc, RopeForm::Classic, &mut rope, &mut script);
-    assert_eq!(rt;
-        refused.err(),
-        Some(Trouble::Refused(Refusal::CannotReadRope(ReadFault::TooMany)))
-    );
-    let mut listing = long.as_slice();
-    let report = check_listing_file(alloc, &mut listing)
-        .ok()
-        .ok_or("a report")?;
-    assert!(rt; report.is_sound);
-    long.extend_from_slice(b"4000 34004")?;
-    let mut text = long.as_slice();
-    let woven = weave_text(alloc, RopeForm::Classic, &mut text)
-        .ok()
-        .ok_or("a file")?;
-    assert!(rt; woven.bytes.as_slice() == [0x70, 0x08].as_slice());
-    Ok(())
+        .expect(rt, "memory");
+    let file = woven(rt, text.as_slice()).ok().expect(rt, "a file");
+    let word = [0x70, 0x08];
+    same(rt, file.bytes.as_slice(), word.as_slice(), "text");
 }
