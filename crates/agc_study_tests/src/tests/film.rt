@@ -33,8 +33,8 @@ fn begins_and_ends(rt: &impl Abort, reel: &Reel, first: u64, last: u64) {
 
 /// Looks that a reel has so many frames, and tells of this stop and this cycle at its end.
 fn stops(rt: &impl Abort, reel: &Reel, frames: usize, stop: Option<Stop>, cycle: u64) {
-    assert_eq!(rt; reel.frames.len(), frames);
-    assert_eq!(rt; reel.stop, stop);
+    assert_eq!(rt; reel.frames.len(), frames, "up to {cycle}");
+    assert_eq!(rt; reel.stop, stop, "up to {cycle}");
     assert_eq!(rt; reel.cycle, cycle);
 }
 

@@ -212,6 +212,12 @@ fn forms(rt: HostRuntime) {
     }
 }
 
+/// Looks whether a comment of so many bytes is taken.
+fn comment_of(rt: &(impl AllocGlobal + Abort), bytes: usize, is_taken: bool) {
+    let line = repeated(rt, b'#', bytes);
+    same(rt, is_sound(rt, line.as_slice()), is_taken, "a comment");
+}
+
 /// The last cycle, the most events and the longest line are taken, and one more of each is not.
 #[test]
 fn bounds(rt: HostRuntime) {
@@ -234,10 +240,4 @@ fn bounds(rt: HostRuntime) {
     same(&rt, LONGEST_LINE, 120, "bytes");
     comment_of(&rt, 120, true);
     comment_of(&rt, 121, false);
-}
-
-/// Looks whether a comment of so many bytes is taken.
-fn comment_of(rt: &(impl AllocGlobal + Abort), bytes: usize, is_taken: bool) {
-    let line = repeated(rt, b'#', bytes);
-    same(rt, is_sound(rt, line.as_slice()), is_taken, "a comment");
 }
