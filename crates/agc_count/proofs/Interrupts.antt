@@ -4,7 +4,6 @@ use Rattle.std.specs.Prelude.{if◌then◌else◌, ◌&&◌, filter}
 use Rattle.std.specs.List.{sum_by}
 use Rattle.std.proofs.lemmas.Bool.Decides.{nat_tests}
 use Rattle.std.proofs.lemmas.List.Sums.{sum_by-cons}
-use Rattle.agc_machine.specs.declared.upcoming.InHand.{InHand}
 use Rattle.agc_machine.specs.declared.upcoming.Upcoming.{Upcoming}
 use Rattle.agc_machine.specs.declared.upcoming.Upcoming.TheVariants as upcoming
 use Rattle.agc_processor.specs.Interrupt.{rupt_number}
@@ -15,29 +14,29 @@ use Rattle.agc_source_words.specs.declared.location.Location.{Location}
 use Rattle.agc_source_words.specs.declared.location.Location.TheVariants as location
 use Rattle.agc_count.specs.Counts.{count_of, counted, counted_as, counted_at, counted_data, counted_happening, counted_inhibited, counted_one, counted_read, counted_serving, is_entry, nothing_counted, served}
 use Rattle.agc_count.specs.Laws.{is_rupt, is_served, serves, takes, tally_of}
+use Rattle.agc_count.specs.Named.{named_of}
 use Rattle.agc_count.specs.Passage.{service_of}
 use Rattle.agc_count.specs.Tally.{added, empty_table, nothing, once, plus, tally_at}
 use Rattle.agc_count.specs.declared.counts.Counts.{Counts}
 use Rattle.agc_count.specs.declared.data.Data.{Data}
+use Rattle.agc_count.specs.declared.named.Named.{Named}
+use Rattle.agc_count.specs.declared.named.Named.TheVariants as named
 use Rattle.agc_count.specs.declared.passage.Passage.{Passage}
 use Rattle.agc_count.specs.declared.tally.Tally.{Tally}
 use Rattle.agc_count.proofs.Places.{added_elsewhere, added_here, added_length, empty_length, empty_tally}
-
-either_same : (b : Bool) (xs : List Tally) (c d : Counts) → c.interrupts ≡ xs → d.interrupts ≡ xs → (if b then c else d).interrupts ≡ xs
-either_same true xs c d e f = e
-either_same false xs c d e f = f
 
 at_same : (l : Location) (one : Tally) (c : Counts) → (counted_at l one c).interrupts ≡ c.interrupts
 at_same (location.Fixed place) one c = refl
 at_same (location.Erasable cell) one c = refl
 
-as_same : (order : InHand) (one : Tally) (c : Counts) → (counted_as order one c).interrupts ≡ c.interrupts
-as_same order one c = either_same order.extracode c.interrupts _ _ refl refl
+as_same : (name : Named) (one : Tally) (c : Counts) → (counted_as name one c).interrupts ≡ c.interrupts
+as_same (named.Basic order) one c = refl
+as_same (named.Extracode order) one c = refl
 
 happening_same : (u : Upcoming) (one : Tally) (c : Counts) → (counted_happening u one c).interrupts ≡ c.interrupts
 happening_same (upcoming.Order order) one c =
     let placed = counted_at (location_at order.bank order.address) one c in
-    as_same order one (record placed { orders = plus placed.orders one }) ∙ at_same (location_at order.bank order.address) one c
+    as_same (named_of order) one (record placed { orders = plus placed.orders one }) ∙ at_same (location_at order.bank order.address) one c
 happening_same (upcoming.Stop why) one c = refl
 happening_same (upcoming.Event what) one c = refl
 happening_same (upcoming.Timer t) one c = refl

@@ -2,9 +2,11 @@
 use Rattle.std.proofs.Common.{◌≡◌, ℕ, ◌<◌, List, [], ◌∷◌, None, Bool, true, false, refl, ap, sym, ◌∙◌, subst, arith}
 use Rattle.std.specs.Prelude.{if◌then◌else◌, ◌&&◌, filter, nat_le}
 use Rattle.std.proofs.lemmas.Bool.Decides.{nat_tests}
+use Rattle.agc_word.specs.Number.{Number}
 use Rattle.agc_machine.specs.Boundary.{boundary, upcoming_of}
 use Rattle.agc_machine.specs.State.{State}
 use Rattle.agc_machine.specs.declared.upcoming.Upcoming.{Upcoming}
+use Rattle.agc_machine.proofs.Kept.{boundary_keeps}
 use Rattle.agc_trace.specs.Entry.{entry_of}
 use Rattle.agc_trace.specs.Trace.{entries_left, is_stop}
 use Rattle.agc_trace.specs.TraceLaws.{NeverGoBack}
@@ -103,24 +105,13 @@ pub left_after : (span : Span) (mode : Mode) (s : State) → is_stop (upcoming_o
 unfolding passages_left
 left_after span mode s f = ap (λ (ps : List Passage). filter (is_in span) ps) (passages_go_on mode s f)
 
-happens : (mode : Mode) (s : State) → (passage_of mode s).happening ≡ upcoming_of s
+pub happens : (mode : Mode) (s : State) → (passage_of mode s).happening ≡ upcoming_of s
 unfolding passage_of
 happens mode s = refl
 
-begins_in : (mode : Mode) (s : State) → (passage_of mode s).mode ≡ mode
-unfolding passage_of
-begins_in mode s = refl
-
-as_told : (span : Span) (mode : Mode) (s : State) (c : Counts) → (passage_of mode s).happening ≡ upcoming_of s → (passage_of mode s).mode ≡ mode →
-    counted (counted_in span (passage_of mode s) c) (passages_left span (mode_after (passage_of mode s).happening (passage_of mode s).mode) (boundary None s).0)
-    ≡ counted (counted_in span (passage_of mode s) c) (passages_left span (mode_after (upcoming_of s) mode) (boundary None s).0)
-as_told span mode s c e f =
-    ap (λ (u : Upcoming). counted (counted_in span (passage_of mode s) c) (passages_left span (mode_after u (passage_of mode s).mode) (boundary None s).0)) e
-    ∙ ap (λ (m : Mode). counted (counted_in span (passage_of mode s) c) (passages_left span (mode_after (upcoming_of s) m) (boundary None s).0)) f
-
--- the boundary that was told is the stop where what is told is
-pub told_stop : (b : Bool) (mode : Mode) (s : State) (p : Passage) → p ≡ passage_of mode s → is_stop p.happening ≡ b → is_stop (upcoming_of s) ≡ b
-told_stop b mode s p e f = ap is_stop (sym (happens mode s)) ∙ ap (λ (q : Passage). is_stop q.happening) (sym e) ∙ f
+-- a boundary that was told happens as it was to come
+pub happens_told : (mode : Mode) (s : State) (p : Passage) (u : Upcoming) → p ≡ passage_of mode s → u ≡ upcoming_of s → p.happening ≡ u
+happens_told mode s p u e f = ap (λ (q : Passage). q.happening) e ∙ happens mode s ∙ sym f
 
 counted_by : (b : Bool) (p : Passage) (ps : List Passage) (c : Counts) →
     counted (if b then counted_one p c else c) ps ≡ counted c (if b then p ∷ ps else ps)
@@ -138,23 +129,23 @@ counted_next span mode s c f =
     counted_by (is_in span (passage_of mode s)) (passage_of mode s) (filter (is_in span) rest) c
     ∙ sym (ap (λ (ps : List Passage). counted c ps) (left_after span mode s f))
 
--- the same of a boundary that was told
-pub counted_told : (span : Span) (mode after : Mode) (s t : State) (c more : Counts) (p : Passage) → p ≡ passage_of mode s → t ≡ (boundary None s).0 →
-    is_stop p.happening ≡ false → after ≡ mode_after p.happening p.mode → more ≡ counted_in span p c →
+-- the same of what was counted of it
+pub counted_after : (span : Span) (mode after : Mode) (s t : State) (c more : Counts) → t ≡ (boundary None s).0 → is_stop (upcoming_of s) ≡ false →
+    after ≡ mode_after (upcoming_of s) mode → more ≡ counted_in span (passage_of mode s) c →
     counted more (passages_left span after t) ≡ counted c (passages_left span mode s)
-counted_told span mode after s t c more p e f stop g h =
+counted_after span mode after s t c more f stop g h =
     ap (λ (x : Counts). counted x (passages_left span after t)) h
-    ∙ ap (λ (x : State). counted (counted_in span p c) (passages_left span after x)) f
-    ∙ ap (λ (m : Mode). counted (counted_in span p c) (passages_left span m (boundary None s).0)) g
-    ∙ ap (λ (q : Passage). counted (counted_in span q c) (passages_left span (mode_after q.happening q.mode) (boundary None s).0)) e
-    ∙ as_told span mode s c (happens mode s) (begins_in mode s)
-    ∙ counted_next span mode s c (told_stop false mode s p e stop)
+    ∙ ap (λ (x : State). counted (counted_in span (passage_of mode s) c) (passages_left span after x)) f
+    ∙ ap (λ (m : Mode). counted (counted_in span (passage_of mode s) c) (passages_left span m (boundary None s).0)) g
+    ∙ counted_next span mode s c stop
 
 -- a boundary that is no stop leaves fewer entries
-pub fewer_left : (mode : Mode) (s t : State) (p : Passage) → p ≡ passage_of mode s → t ≡ (boundary None s).0 → is_stop p.happening ≡ false →
-    entries_left t < entries_left s
-fewer_left mode s t p e f stop =
-    subst (λ (u : State). entries_left u < entries_left s) (sym f) (fewer_entries s (told_stop false mode s p e stop))
+pub fewer_after : (s t : State) → t ≡ (boundary None s).0 → is_stop (upcoming_of s) ≡ false → entries_left t < entries_left s
+fewer_after s t f stop = subst (λ (u : State). entries_left u < entries_left s) (sym f) (fewer_entries s stop)
+
+-- and the same rope
+pub rope_stays : (s t : State) (words : List Number) → t ≡ (boundary None s).0 → s.processor.store.fixed ≡ words → t.processor.store.fixed ≡ words
+rope_stays s t words e f = ap (λ (u : State). u.processor.store.fixed) e ∙ (boundary_keeps None s).0 ∙ f
 
 -- nothing more is counted where nothing is left
 pub counted_all : (span : Span) (mode : Mode) (s : State) (c whole : Counts) → passages_left span mode s ≡ [] →

@@ -3,7 +3,6 @@ use Rattle.std.proofs.Common.{◌≡◌, ℕ, ◌+◌, List, [], ◌∷◌, Opti
 use Rattle.std.specs.Prelude.{if◌then◌else◌}
 use Rattle.agc_machine.specs.Run.{run_of}
 use Rattle.agc_machine.specs.State.{State}
-use Rattle.agc_machine.specs.declared.upcoming.InHand.{InHand}
 use Rattle.agc_machine.specs.declared.upcoming.Upcoming.{Upcoming}
 use Rattle.agc_machine.specs.declared.upcoming.Upcoming.TheVariants as upcoming
 use Rattle.agc_processor.specs.declared.interrupt.Rupt.{Rupt}
@@ -18,23 +17,23 @@ use Rattle.agc_trace.proofs.Stops.{trace_ends}
 use Rattle.agc_count.specs.Counts.{count_of, counted, counted_as, counted_at, counted_data, counted_happening, counted_inhibited, counted_one, counted_read, counted_serving, nothing_counted}
 use Rattle.agc_count.specs.Laws.{counted_cycles}
 use Rattle.agc_count.specs.Mode.{at_start, mode_after}
+use Rattle.agc_count.specs.Named.{named_of}
 use Rattle.agc_count.specs.Passage.{passage_between, passages, service_of}
 use Rattle.agc_count.specs.Tally.{once, plus}
 use Rattle.agc_count.specs.Told.{Told, all_told, told_of}
 use Rattle.agc_count.specs.declared.counts.Counts.{Counts}
 use Rattle.agc_count.specs.declared.data.Data.{Data}
 use Rattle.agc_count.specs.declared.mode.Mode.{Mode}
+use Rattle.agc_count.specs.declared.named.Named.{Named}
+use Rattle.agc_count.specs.declared.named.Named.TheVariants as named
 use Rattle.agc_count.specs.declared.passage.Passage.{Passage}
 use Rattle.agc_count.specs.declared.tally.Tally.{Tally}
 use Rattle.agc_count.proofs.Left.{begins}
 use Rattle.agc_count.proofs.Told.{entries_of, tells, told_by_one, told_is_trace}
 
-either_length : (b : Bool) (n : ℕ) (c d : Counts) → counted_cycles c ≡ n → counted_cycles d ≡ n → counted_cycles (if b then c else d) ≡ n
-either_length true n c d e f = e
-either_length false n c d e f = f
-
-as_length : (order : InHand) (one : Tally) (c : Counts) → counted_cycles (counted_as order one c) ≡ counted_cycles c
-as_length order one c = either_length order.extracode (counted_cycles c) _ _ refl refl
+as_length : (name : Named) (one : Tally) (c : Counts) → counted_cycles (counted_as name one c) ≡ counted_cycles c
+as_length (named.Basic order) one c = refl
+as_length (named.Extracode order) one c = refl
 
 at_length : (l : Location) (one : Tally) (c : Counts) → counted_cycles (counted_at l one c) ≡ counted_cycles c
 at_length (location.Fixed place) one c = refl
@@ -46,7 +45,7 @@ more_orders one c = omega arith
 happening_length : (u : Upcoming) (one : Tally) (c : Counts) → is_stop u ≡ false → counted_cycles (counted_happening u one c) ≡ counted_cycles c + one.cycles
 happening_length (upcoming.Order order) one c e =
     let placed = counted_at (location_at order.bank order.address) one c in
-    as_length order one (record placed { orders = plus placed.orders one })
+    as_length (named_of order) one (record placed { orders = plus placed.orders one })
     ∙ more_orders one placed
     ∙ ap (λ (n : ℕ). n + one.cycles) (at_length (location_at order.bank order.address) one c)
 happening_length (upcoming.Timer t) one c e = omega arith

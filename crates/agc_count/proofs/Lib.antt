@@ -4,5 +4,7 @@ mod Places
 mod Readers
 mod Lengths
 mod Sums
+mod Room
+mod Running
 mod Lines
 mod Interrupts

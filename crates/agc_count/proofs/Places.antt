@@ -5,7 +5,6 @@ use Rattle.std.specs.List.{sum_by}
 use Rattle.std.proofs.lemmas.Bool.Decides.{nat_tests}
 use Rattle.std.proofs.lemmas.List.{get_or-replicate, get_or-set_other, get_or-set_same, length-replicate, length-set}
 use Rattle.std.proofs.lemmas.List.Sums.{sum_by-cons}
-use Rattle.agc_machine.specs.declared.upcoming.InHand.{InHand}
 use Rattle.agc_machine.specs.declared.upcoming.Upcoming.{Upcoming}
 use Rattle.agc_machine.specs.declared.upcoming.Upcoming.TheVariants as upcoming
 use Rattle.agc_processor.specs.declared.interrupt.Rupt.{Rupt}
@@ -16,10 +15,13 @@ use Rattle.agc_places.specs.Places.{is_from_to}
 use Rattle.agc_trace.specs.Selection.{runs_at}
 use Rattle.agc_count.specs.Counts.{count_of, counted, counted_as, counted_at, counted_data, counted_happening, counted_inhibited, counted_one, counted_read, counted_serving, nothing_counted}
 use Rattle.agc_count.specs.Laws.{ran_at, tally_of}
+use Rattle.agc_count.specs.Named.{named_of}
 use Rattle.agc_count.specs.Passage.{service_of}
 use Rattle.agc_count.specs.Tally.{added, empty_table, nothing, once, plus, tally_at}
 use Rattle.agc_count.specs.declared.counts.Counts.{Counts}
 use Rattle.agc_count.specs.declared.data.Data.{Data}
+use Rattle.agc_count.specs.declared.named.Named.{Named}
+use Rattle.agc_count.specs.declared.named.Named.TheVariants as named
 use Rattle.agc_count.specs.declared.passage.Passage.{Passage}
 use Rattle.agc_count.specs.declared.tally.Tally.{Tally}
 
@@ -105,12 +107,9 @@ record SamePlaces (c d : Counts) : Type 0 where
 same_places : (c d e : Counts) → SamePlaces c d → SamePlaces d e → SamePlaces c e
 same_places c d e h k = record { fixed = k.fixed ∙ h.fixed; erasable = k.erasable ∙ h.erasable }
 
-either_same : (b : Bool) (c d e : Counts) → SamePlaces c d → SamePlaces c e → SamePlaces c (if b then d else e)
-either_same true c d e h k = h
-either_same false c d e h k = k
-
-as_same : (order : InHand) (one : Tally) (c : Counts) → SamePlaces c (counted_as order one c)
-as_same order one c = either_same order.extracode c _ _ (record { fixed = refl; erasable = refl }) (record { fixed = refl; erasable = refl })
+as_same : (name : Named) (one : Tally) (c : Counts) → SamePlaces c (counted_as name one c)
+as_same (named.Basic order) one c = record { fixed = refl; erasable = refl }
+as_same (named.Extracode order) one c = record { fixed = refl; erasable = refl }
 
 serving_same : (o : Option Rupt) (p : Passage) (c : Counts) → SamePlaces c (counted_serving o p c)
 serving_same (Some r) p c = record { fixed = refl; erasable = refl }
@@ -147,7 +146,7 @@ counted_there (upcoming.Interrupt r) one c = c
 there_same : (u : Upcoming) (one : Tally) (c : Counts) → SamePlaces (counted_there u one c) (counted_happening u one c)
 there_same (upcoming.Order order) one c =
     let placed = counted_at (location_at order.bank order.address) one c in
-    let named = as_same order one (record placed { orders = plus placed.orders one }) in
+    let named = as_same (named_of order) one (record placed { orders = plus placed.orders one }) in
     record { fixed = named.fixed; erasable = named.erasable }
 there_same (upcoming.Stop why) one c = record { fixed = refl; erasable = refl }
 there_same (upcoming.Event what) one c = record { fixed = refl; erasable = refl }

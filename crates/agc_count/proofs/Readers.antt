@@ -2,7 +2,6 @@
 use Rattle.std.proofs.Common.{◌≡◌, ℕ, ◌<◌, List, [], ◌∷◌, length, Option, Some, None, Bool, true, false, refl, ap, ◌∙◌, arith}
 use Rattle.std.specs.Prelude.{if◌then◌else◌, ◌&&◌, filter, nat_le}
 use Rattle.std.proofs.lemmas.List.Sums.{sum_by-cons}
-use Rattle.agc_machine.specs.declared.upcoming.InHand.{InHand}
 use Rattle.agc_machine.specs.declared.upcoming.Upcoming.{Upcoming}
 use Rattle.agc_machine.specs.declared.upcoming.Upcoming.TheVariants as upcoming
 use Rattle.agc_processor.specs.declared.interrupt.Rupt.{Rupt}
@@ -11,9 +10,12 @@ use Rattle.agc_source_words.specs.declared.location.Location.{Location}
 use Rattle.agc_source_words.specs.declared.location.Location.TheVariants as location
 use Rattle.agc_count.specs.Counts.{count_of, counted, counted_as, counted_at, counted_data, counted_happening, counted_inhibited, counted_one, counted_read, counted_serving, nothing_counted}
 use Rattle.agc_count.specs.Laws.{is_read, read_at, read_before, tally_of, tally_of_both}
+use Rattle.agc_count.specs.Named.{named_of}
 use Rattle.agc_count.specs.Passage.{service_of}
 use Rattle.agc_count.specs.Tally.{empty_table, once, plus, tally_at}
 use Rattle.agc_count.specs.declared.counts.Counts.{Counts}
+use Rattle.agc_count.specs.declared.named.Named.{Named}
+use Rattle.agc_count.specs.declared.named.Named.TheVariants as named
 use Rattle.agc_count.specs.declared.passage.Passage.{Passage}
 use Rattle.agc_count.specs.declared.tally.Tally.{Tally}
 use Rattle.agc_count.proofs.Places.{added_by, added_length, empty_length, empty_tally, more_if, nothing_plus, plus_nothing, same_tally}
@@ -62,22 +64,19 @@ record SameReads (c d : Counts) : Type 0 where
 same_reads : (c d e : Counts) → SameReads c d → SameReads d e → SameReads c e
 same_reads c d e h k = record { fixed = k.fixed ∙ h.fixed; erasable = k.erasable ∙ h.erasable }
 
-either_same : (b : Bool) (c d e : Counts) → SameReads c d → SameReads c e → SameReads c (if b then d else e)
-either_same true c d e h k = h
-either_same false c d e h k = k
-
 at_same : (l : Location) (one : Tally) (c : Counts) → SameReads c (counted_at l one c)
 at_same (location.Fixed place) one c = record { fixed = refl; erasable = refl }
 at_same (location.Erasable cell) one c = record { fixed = refl; erasable = refl }
 
-as_same : (order : InHand) (one : Tally) (c : Counts) → SameReads c (counted_as order one c)
-as_same order one c = either_same order.extracode c _ _ (record { fixed = refl; erasable = refl }) (record { fixed = refl; erasable = refl })
+as_same : (name : Named) (one : Tally) (c : Counts) → SameReads c (counted_as name one c)
+as_same (named.Basic order) one c = record { fixed = refl; erasable = refl }
+as_same (named.Extracode order) one c = record { fixed = refl; erasable = refl }
 
 happening_same : (u : Upcoming) (one : Tally) (c : Counts) → SameReads c (counted_happening u one c)
 happening_same (upcoming.Order order) one c =
     let placed = counted_at (location_at order.bank order.address) one c in
     let before = at_same (location_at order.bank order.address) one c in
-    let named = as_same order one (record placed { orders = plus placed.orders one }) in
+    let named = as_same (named_of order) one (record placed { orders = plus placed.orders one }) in
     record { fixed = named.fixed ∙ before.fixed; erasable = named.erasable ∙ before.erasable }
 happening_same (upcoming.Stop why) one c = record { fixed = refl; erasable = refl }
 happening_same (upcoming.Event what) one c = record { fixed = refl; erasable = refl }

@@ -4,13 +4,12 @@ use Rattle.std.specs.Prelude.{if◌then◌else◌, get_or}
 use Rattle.std.specs.List.{sum_by}
 use Rattle.std.proofs.lemmas.List.Folds.{sum_by-replicate}
 use Rattle.std.proofs.lemmas.List.Sums.{sum_by-set}
-use Rattle.agc_word.specs.Number.{pattern_of}
-use Rattle.agc_order.specs.Order.{basic_of, extracode_of}
 use Rattle.agc_order.specs.declared.order.Basic.{Basic}
 use Rattle.agc_order.specs.declared.order.Basic.TheVariants as basic
 use Rattle.agc_order.specs.declared.order.Extracode.{Extracode}
 use Rattle.agc_order.specs.declared.order.Extracode.TheVariants as extra
-use Rattle.agc_machine.specs.declared.upcoming.InHand.{InHand}
+use Rattle.agc_machine.specs.Boundary.{upcoming_of}
+use Rattle.agc_machine.specs.State.{State}
 use Rattle.agc_machine.specs.declared.upcoming.Upcoming.{Upcoming}
 use Rattle.agc_machine.specs.declared.upcoming.Upcoming.TheVariants as upcoming
 use Rattle.agc_processor.specs.declared.interrupt.Rupt.{Rupt}
@@ -18,25 +17,22 @@ use Rattle.agc_source_words.specs.Location.{location_at}
 use Rattle.agc_source_words.specs.declared.location.Location.{Location}
 use Rattle.agc_source_words.specs.declared.location.Location.TheVariants as location
 use Rattle.agc_count.specs.Counts.{counted_as, counted_at, counted_data, counted_happening, counted_in, counted_inhibited, counted_one, counted_read, counted_serving, nothing_counted}
-use Rattle.agc_count.specs.Laws.{MakeUp, OrdersAddUp}
+use Rattle.agc_count.specs.Laws.{OrdersAddUp}
+use Rattle.agc_count.specs.Named.{named_of}
 use Rattle.agc_count.specs.Number.{basic_number, extracode_number}
-use Rattle.agc_count.specs.Passage.{HasTally, IsPlaced, is_in, service_of}
+use Rattle.agc_count.specs.Passage.{HasTally, IsPlaced, is_in, passage_of, service_of}
+use Rattle.agc_count.specs.Sums.{AddsUp, Halves}
 use Rattle.agc_count.specs.Tally.{added, cycles_in, empty_table, nothing, once, plus, times_in}
 use Rattle.agc_count.specs.declared.counts.Counts.{Counts}
 use Rattle.agc_count.specs.declared.data.Data.{Data}
+use Rattle.agc_count.specs.declared.mode.Mode.{Mode}
+use Rattle.agc_count.specs.declared.named.Named.{Named}
+use Rattle.agc_count.specs.declared.named.Named.TheVariants as named
 use Rattle.agc_count.specs.declared.passage.Passage.{Passage}
 use Rattle.agc_count.specs.declared.span.Span.{Span}
 use Rattle.agc_count.specs.declared.tally.Tally.{Tally}
+use Rattle.agc_count.proofs.Left.{happens}
 use Rattle.agc_count.proofs.Places.{added_length, empty_length}
-
--- two tables of known lengths that make up a whole
-pub record Halves (size rest : ℕ) (table others : List Tally) (all : Tally) : Type 0 where
-  pub length_is : length table ≡ size
-  pub others_length : length others ≡ rest
-  pub up : MakeUp table others all
-
-abbrev pub AddsUp : Counts → Type 0
-AddsUp c = Halves 0o120000 0o4000 c.fixed c.erasable c.orders × Halves 19 20 c.basics c.extracodes c.orders
 
 pub law_of : (c : Counts) → AddsUp c → OrdersAddUp c
 law_of c h = (h.0.up, h.1.up)
@@ -169,25 +165,23 @@ either_adds : (b : Bool) (c d : Counts) → AddsUp c → AddsUp d → AddsUp (if
 either_adds true c d h k = h
 either_adds false c d h k = k
 
-as_named : (order : InHand) (one all : Tally) (c : Counts) → c.orders ≡ plus all one → Placed c (plus all one) → Names c all → AddsUp (counted_as order one c)
-as_named order one all c e h k =
-    let word = pattern_of 15 order.word in
-    let placed = subst (λ (t : Tally). Placed c t) (sym e) h in
-    either_adds order.extracode _ _ (
-      placed,
-      subst (λ (t : Tally). Halves 19 20 c.basics (added (extracode_number (extracode_of word)) one c.extracodes) t) (sym e)
-          (right_more 19 20 (extracode_number (extracode_of word)) one c.basics c.extracodes all (extracode_below (extracode_of word)) k),
-    ) (
-      placed,
-      subst (λ (t : Tally). Halves 19 20 (added (basic_number (basic_of word)) one c.basics) c.extracodes t) (sym e)
-          (left_more 19 20 (basic_number (basic_of word)) one c.basics c.extracodes all (basic_below (basic_of word)) k),
-    )
+as_named : (name : Named) (one all : Tally) (c : Counts) → c.orders ≡ plus all one → Placed c (plus all one) → Names c all → AddsUp (counted_as name one c)
+as_named (named.Basic order) one all c e h k = (
+  subst (λ (t : Tally). Placed c t) (sym e) h,
+  subst (λ (t : Tally). Halves 19 20 (added (basic_number order) one c.basics) c.extracodes t) (sym e)
+      (left_more 19 20 (basic_number order) one c.basics c.extracodes all (basic_below order) k),
+)
+as_named (named.Extracode order) one all c e h k = (
+  subst (λ (t : Tally). Placed c t) (sym e) h,
+  subst (λ (t : Tally). Halves 19 20 c.basics (added (extracode_number order) one c.extracodes) t) (sym e)
+      (right_more 19 20 (extracode_number order) one c.basics c.extracodes all (extracode_below order) k),
+)
 
 happening_adds : (u : Upcoming) (one : Tally) (c : Counts) → IsPlaced u → AddsUp c → AddsUp (counted_happening u one c)
 happening_adds (upcoming.Order order) one c l h =
     let here = location_at order.bank order.address in
     let placed = counted_at here one c in
-    as_named order one c.orders (record placed { orders = plus placed.orders one }) (ap (λ (t : Tally). plus t one) (at_orders here one c))
+    as_named (named_of order) one c.orders (record placed { orders = plus placed.orders one }) (ap (λ (t : Tally). plus t one) (at_orders here one c))
     (at_place here one c l h.0) (at_names here one c.orders c h.1)
 happening_adds (upcoming.Timer t) one c l h = h
 happening_adds (upcoming.Event what) one c l h = h
@@ -219,6 +213,8 @@ one_adds p c l h =
     (serving_adds (service_of p) p happened (happening_adds p.happening (once p.cycles) c l h)))
 
 -- a boundary more adds up too
-pub one_adds_up : (span : Span) (p : Passage) (c more : Counts) → IsPlaced p.happening → more ≡ counted_in span p c → AddsUp c → AddsUp more
-one_adds_up span p c more l e h =
-    subst (λ (d : Counts). AddsUp d) (sym e) (either_adds (is_in span p) (counted_one p c) c (one_adds p c l h) h)
+pub one_adds_up : (span : Span) (mode : Mode) (s : State) (c more : Counts) → IsPlaced (upcoming_of s) → more ≡ counted_in span (passage_of mode s) c → AddsUp c → AddsUp more
+one_adds_up span mode s c more l e h =
+    let p = passage_of mode s in
+    subst (λ (d : Counts). AddsUp d) (sym e)
+    (either_adds (is_in span p) (counted_one p c) c (one_adds p c (subst IsPlaced (sym (happens mode s)) l) h) h)

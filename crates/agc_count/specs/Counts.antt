@@ -1,20 +1,20 @@
 -- What of the boundaries of a run is counted.
 use Rattle.std.specs.Prelude.{◌-◌, Bool, true, false, List, [], ◌∷◌, Option, Some, None, if◌then◌else◌}
-use Rattle.agc_word.specs.Number.{pattern_of}
-use Rattle.agc_order.specs.Order.{basic_of, extracode_of}
 use Rattle.agc_processor.specs.Interrupt.{rupt_number}
 use Rattle.agc_processor.specs.declared.interrupt.Rupt.{Rupt}
-use Rattle.agc_machine.specs.declared.upcoming.InHand.{InHand}
 use Rattle.agc_machine.specs.declared.upcoming.Upcoming.{Upcoming}
 use Rattle.agc_machine.specs.declared.upcoming.Upcoming.TheVariants as upcoming
 use Rattle.agc_source_words.specs.Location.{location_at}
 use Rattle.agc_source_words.specs.declared.location.Location.{Location}
 use Rattle.agc_source_words.specs.declared.location.Location.TheVariants as location
+use Rattle.agc_count.specs.Named.{named_of}
 use Rattle.agc_count.specs.Number.{basic_number, extracode_number}
 use Rattle.agc_count.specs.Passage.{is_in, service_of}
 use Rattle.agc_count.specs.Tally.{added, empty_table, nothing, once, plus}
 use Rattle.agc_count.specs.declared.counts.Counts.{Counts}
 use Rattle.agc_count.specs.declared.data.Data.{Data}
+use Rattle.agc_count.specs.declared.named.Named.{Named}
+use Rattle.agc_count.specs.declared.named.Named.TheVariants as named
 use Rattle.agc_count.specs.declared.passage.Passage.{Passage}
 use Rattle.agc_count.specs.declared.span.Span.{Span}
 use Rattle.agc_count.specs.declared.tally.Tally.{Tally}
@@ -44,18 +44,17 @@ counted_at (location.Fixed place) one c = record c { fixed = added place one c.f
 counted_at (location.Erasable cell) one c = record c { erasable = added cell one c.erasable }
 
 -- an order with those of its name
-abbrev pub counted_as : InHand → Tally → Counts → Counts
-counted_as order one c =
-    let word = pattern_of 15 order.word in
-    if order.extracode
-    then record c { extracodes = added (extracode_number (extracode_of word)) one c.extracodes }
-    else record c { basics = added (basic_number (basic_of word)) one c.basics }
+abbrev pub counted_as : Named → Tally → Counts → Counts
+counted_as (named.Basic order) one c =
+    record c { basics = added (basic_number order) one c.basics }
+counted_as (named.Extracode order) one c =
+    record c { extracodes = added (extracode_number order) one c.extracodes }
 
 -- what happened, with all of its kind
 abbrev pub counted_happening : Upcoming → Tally → Counts → Counts
 counted_happening (upcoming.Order order) one c =
     let placed = counted_at (location_at order.bank order.address) one c in
-    counted_as order one (record placed { orders = plus placed.orders one })
+    counted_as (named_of order) one (record placed { orders = plus placed.orders one })
 counted_happening (upcoming.Timer t) one c = record c { timers = plus c.timers one }
 counted_happening (upcoming.Event what) one c = record c { events = plus c.events one }
 counted_happening (upcoming.Interrupt r) one c = record c { entries = plus c.entries one }

@@ -2,19 +2,20 @@
 use Rattle.std.specs.Prelude.{ℕ, ◌%◌, Some, None, if◌then◌else◌}
 use Rattle.agc_word.specs.Number.{pattern_of}
 use Rattle.agc_store.specs.Memory.{Memory, erasable_place, fixed_place, is_erasable}
-use Rattle.agc_order.specs.Order.{basic_of, extracode_of}
 use Rattle.agc_order.specs.Row.{basic_row, extracode_row}
 use Rattle.agc_order.specs.declared.order.Basic.{Basic}
 use Rattle.agc_order.specs.declared.order.Basic.TheVariants as basic
 use Rattle.agc_order.specs.declared.row.Takes.{Takes}
 use Rattle.agc_order.specs.declared.row.Takes.TheVariants as takes
 use Rattle.agc_processor.specs.Double.{before_in_ten, before_in_twelve}
-use Rattle.agc_machine.specs.declared.upcoming.InHand.{InHand}
 use Rattle.agc_machine.specs.declared.upcoming.Upcoming.{Upcoming}
 use Rattle.agc_machine.specs.declared.upcoming.Upcoming.TheVariants as upcoming
 use Rattle.agc_source_words.specs.declared.location.Location.{Location}
 use Rattle.agc_source_words.specs.declared.location.Location.TheVariants as location
+use Rattle.agc_count.specs.Named.{named_of}
 use Rattle.agc_count.specs.declared.data.Data.{Data}
+use Rattle.agc_count.specs.declared.named.Named.{Named}
+use Rattle.agc_count.specs.declared.named.Named.TheVariants as named
 
 -- the place whose word an address reads
 unfoldable pub location_in : Memory → ℕ → Location
@@ -30,11 +31,9 @@ basic_reads basic.Ts = takes.Nothing
 basic_reads other = (basic_row other).takes
 
 -- what an order reads: an extracode all that it takes
-abbrev pub order_reads : InHand → Takes
-order_reads order =
-    let word = pattern_of 15 order.word in
-    if order.extracode then (extracode_row (extracode_of word)).takes
-    else basic_reads (basic_of word)
+abbrev pub order_reads : Named → Takes
+order_reads (named.Basic order) = basic_reads order
+order_reads (named.Extracode order) = (extracode_row order).takes
 
 -- no word, the word at an address, and with it the one at the address before it
 abbrev pub no_data : Data
@@ -61,7 +60,7 @@ data_read takes.Channel word m = no_data
 
 -- the words that a boundary reads as data, in the memory in which it begins: those of its order
 unfoldable pub data_of : Upcoming → Memory → Data
-data_of (upcoming.Order order) m = data_read (order_reads order) (pattern_of 15 order.word) m
+data_of (upcoming.Order order) m = data_read (order_reads (named_of order)) (pattern_of 15 order.word) m
 data_of (upcoming.Stop why) m = no_data
 data_of (upcoming.Event what) m = no_data
 data_of (upcoming.Timer t) m = no_data

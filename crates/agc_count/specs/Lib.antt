@@ -1,4 +1,5 @@
 pub mod Tally
+pub mod Named
 pub mod Mode
 pub mod Data
 pub mod Told
@@ -6,5 +7,6 @@ pub mod Passage
 pub mod Number
 pub mod Counts
 pub mod Laws
+pub mod Sums
 pub mod Row
 pub mod Report

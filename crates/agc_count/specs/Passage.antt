@@ -1,5 +1,5 @@
 -- The boundaries of a run, each with the cycles that it takes and what it begins in.
-use Rattle.std.specs.Prelude.{◌<◌, ◌-◌, ◌&&◌, Bool, nat_le, List, [], ◌∷◌, filter, Option, Some, None}
+use Rattle.std.specs.Prelude.{◌≡◌, ◌<◌, ◌-◌, ◌&&◌, Bool, true, false, nat_le, List, [], ◌∷◌, filter, Option, Some, None}
 use Rattle.agc_processor.specs.declared.interrupt.Rupt.{Rupt}
 use Rattle.agc_machine.specs.Boundary.{boundary, upcoming_of}
 use Rattle.agc_machine.specs.State.{State}
@@ -10,9 +10,11 @@ use Rattle.agc_source_words.specs.declared.location.Location.{Location}
 use Rattle.agc_source_words.specs.declared.location.Location.TheVariants as location
 use Rattle.agc_count.specs.Data.{data_of}
 use Rattle.agc_count.specs.Mode.{at_start, mode_after}
+use Rattle.agc_count.specs.Named.{named_of}
 use Rattle.agc_count.specs.Told.{Told, all_told}
 use Rattle.agc_count.specs.declared.span.Span.{Span}
 use Rattle.agc_count.specs.declared.mode.Mode.{Mode}
+use Rattle.agc_count.specs.declared.named.Named.{Named}
 use Rattle.agc_count.specs.declared.passage.Passage.{Passage}
 
 -- an entry of a trace takes the cycles up to the next one
@@ -68,10 +70,27 @@ service_by (upcoming.Order order) before = before
 abbrev pub service_of : Passage → Option Rupt
 service_of passage = service_by passage.happening passage.mode.service
 
+-- an order runs
+abbrev pub is_order : Upcoming → Bool
+is_order (upcoming.Order order) = true
+is_order (upcoming.Stop why) = false
+is_order (upcoming.Event what) = false
+is_order (upcoming.Timer t) = false
+is_order (upcoming.Interrupt r) = false
+
 -- a place that the tables of a count have: of 40 fixed banks, of which the last four are empty, or a cell
 abbrev pub HasTally : Location → Type 0
 HasTally (location.Fixed place) = place < 0o120000
 HasTally (location.Erasable cell) = cell < 0o4000
+
+-- an order runs at a place, and by a name
+abbrev pub RunsAs : Location → Named → Upcoming → Type 0
+RunsAs place name (upcoming.Order order) =
+    (place ≡ location_at order.bank order.address) × (name ≡ named_of order)
+RunsAs place name (upcoming.Stop why) = ⊥
+RunsAs place name (upcoming.Event what) = ⊥
+RunsAs place name (upcoming.Timer t) = ⊥
+RunsAs place name (upcoming.Interrupt r) = ⊥
 
 -- an order stands at such a place
 abbrev pub IsPlaced : Upcoming → Type 0

@@ -3,15 +3,15 @@ ghost use Rattle.std.specs.Prelude.{◌≡◌};
 ghost use Rattle.agc_count.specs.Counts.{served};
 
 use crate::data::Data;
+use crate::named::Named;
 use crate::number::{BASICS, EXTRACODES, basic_number, extracode_number};
 use crate::passage::Passage;
 use crate::span::Span;
 use crate::table::Table;
 use crate::tally::Tally;
-use agc_machine::{InHand, Upcoming};
-use agc_order::{Basic, Extracode};
+use agc_machine::Upcoming;
 use agc_processor::Rupt;
-use agc_source_words::{Location, location_at};
+use agc_source_words::Location;
 use agc_store::place::ERASABLE_CELLS;
 use std::alloc::{AllocError, Global};
 
@@ -53,7 +53,10 @@ pub struct Counts {
 }
 
 impl Counts {
-    ghost use Rattle.std.specs.Prelude.{◌≡◌, IfOk, OnOk};
+    ghost use Rattle.std.specs.Prelude.{◌≡◌, ◌+◌, ◌<◌, ◌^◌, IfOk, OnOk, false};
+    ghost use Rattle.agc_count.specs.Passage.{HasTally, RunsAs, is_order};
+    ghost use Rattle.agc_count.specs.Sums.{AddsUp, Fits};
+    ghost use Rattle.agc_count.specs.Tally.{plus};
     ghost use Rattle.agc_count.specs.Counts.{
       counted_as,
       counted_at,
@@ -90,9 +93,10 @@ impl Counts {
         })
     }
 
-    /// Counts a boundary, where it begins in a span of cycles. Fails where a number has no room.
+    /// Counts a boundary that is no order, where it begins in a span of cycles. Fails where a number has no room.
     #[inline]
     pub(crate) fn take_in(&mut self, span: Span, passage: &Passage) -> Result<(), AllocError>
+        requires other { is_order passage.now.happening ≡ false }
         ensures { OnOk result (self.new ≡ counted_in span passage.now self.old) }
     {
         if span.has(passage) {
@@ -102,66 +106,137 @@ impl Counts {
         }
     }
 
-    /// Counts a boundary. Fails where a number has no room.
-    #[inline]
+    /// Counts a boundary that is no order. Fails where a number has no room.
+    #[inline(never)]
     #[tactic(auto, unfolding(crate::specs::Counts::counted_one))]
     fn take(&mut self, passage: &Passage) -> Result<(), AllocError>
+        requires other { is_order passage.now.happening ≡ false }
         ensures { OnOk result (self.new ≡ counted_one passage.now self.old) }
     {
         let one = Tally::once(passage.cycles);
-        self.take_happening(passage.happening, one)?;
+        self.take_other(&passage.happening, one)?;
         self.take_serving(passage.service(), passage)?;
         self.take_inhibited(passage.mode.inhibited, one)?;
         self.take_data(passage.reads, one)
     }
 
-    /// Counts what happened.
+    /// Counts what happened, which is no order.
     #[inline]
-    fn take_happening(&mut self, happening: Upcoming, one: Tally) -> Result<(), AllocError>
-        ensures { OnOk result (self.new ≡ counted_happening happening one self.old) }
+    fn take_other(&mut self, happening: &Upcoming, one: Tally) -> Result<(), AllocError>
+        requires other { is_order happening.now ≡ false }
+        ensures { OnOk result (self.new ≡ counted_happening happening.now one self.old) }
     {
         match happening {
-            Upcoming::Order(order) => self.take_order(order, one)?,
             Upcoming::Timer(_) => self.timers = self.timers.plus(one)?,
             Upcoming::Event(_) => self.events = self.events.plus(one)?,
             Upcoming::Interrupt(_) => self.entries = self.entries.plus(one)?,
-            Upcoming::Stop(_) => {}
+            Upcoming::Stop(_) | Upcoming::Order(_) => {}
         }
         Ok(())
     }
 
-    /// Counts an order.
-    #[inline]
-    fn take_order(&mut self, order: InHand, one: Tally) -> Result<(), AllocError>
-        ensures { OnOk result (self.new ≡ counted_happening (Upcoming.Order order) one self.old) }
+    /// Counts an order at its place and by its name, where it begins in a span of cycles. Fails where a number has no room.
+    #[inline(always)]
+    pub(crate) fn take_order_in(
+        &mut self,
+        span: Span,
+        passage: &Passage,
+        place: Location,
+        named: Named,
+    ) -> Result<(), AllocError>
+        requires order { RunsAs place named passage.now.happening }
+        requires tally { HasTally place }
+        requires sums { AddsUp self.old }
+        requires room { self.old.orders.cycles + passage.now.cycles < 2 ^ 64 }
+        ensures { OnOk result (self.new ≡ counted_in span passage.now self.old) }
     {
-        self.take_at(location_at(order.bank, order.address), one)?;
-        self.orders = self.orders.plus(one)?;
-        self.take_as(order, one)
-    }
-
-    /// Counts an order at its place.
-    #[inline]
-    fn take_at(&mut self, location: Location, one: Tally) -> Result<(), AllocError>
-        ensures { OnOk result (self.new ≡ counted_at location one self.old) }
-    {
-        match location {
-            Location::Fixed(place) => self.fixed.add(place as usize, one),
-            Location::Erasable(cell) => self.erasable.add(cell as usize, one),
+        if span.has(passage) {
+            self.take_order(passage, place, named)
+        } else {
+            Ok(())
         }
     }
 
-    /// Counts an order with those of its name.
-    #[inline]
-    fn take_as(&mut self, order: InHand, one: Tally) -> Result<(), AllocError>
-        ensures { OnOk result (self.new ≡ counted_as order one self.old) }
+    /// Counts an order at its place and by its name. All orders are as many as those at all places, and as those of all
+    /// names: where these have room, all have.
+    #[inline(always)]
+    #[tactic(auto, unfolding(crate::specs::Counts::counted_one))]
+    fn take_order(
+        &mut self,
+        passage: &Passage,
+        place: Location,
+        named: Named,
+    ) -> Result<(), AllocError>
+        requires order { RunsAs place named passage.now.happening }
+        requires tally { HasTally place }
+        requires sums { AddsUp self.old }
+        requires room { self.old.orders.cycles + passage.now.cycles < 2 ^ 64 }
+        ensures { OnOk result (self.new ≡ counted_one passage.now self.old) }
     {
-        if order.extracode {
-            let number = extracode_number(Extracode::named_by(order.word));
-            self.extracodes.add(number, one)
-        } else {
-            let number = basic_number(Basic::named_by(order.word));
-            self.basics.add(number, one)
+        if self.orders.times == u64::MAX {
+            return Err(AllocError);
+        }
+        let one = Tally::once(passage.cycles);
+        self.take_run(&passage.happening, place, named, one);
+        self.take_serving(passage.service(), passage)?;
+        self.take_inhibited(passage.mode.inhibited, one)?;
+        self.take_data(passage.reads, one)
+    }
+
+    /// Counts that an order ran: at its place, with all orders, and with those of its name.
+    #[inline(always)]
+    #[tactic(auto, using(crate::proofs::Room::fits, crate::proofs::Room::runs_as))]
+    fn take_run(&mut self, happening: &Upcoming, place: Location, named: Named, one: Tally)
+        requires order { RunsAs place named happening.now }
+        requires tally { HasTally place }
+        requires sums { AddsUp self.old }
+        requires times { self.old.orders.times + one.times < 2 ^ 64 }
+        requires cycles { self.old.orders.cycles + one.cycles < 2 ^ 64 }
+        ensures { self.new ≡ counted_happening happening.now one self.old }
+    {
+        self.take_at(place, one);
+        self.take_with_all(one);
+        self.take_as(named, one);
+    }
+
+    /// Counts an order at its place.
+    #[inline(always)]
+    fn take_at(&mut self, location: Location, one: Tally)
+        requires tally { HasTally location }
+        requires fits { Fits 0o120000 0o4000 self.old.fixed self.old.erasable one }
+        ensures at { self.new ≡ counted_at location one self.old }
+        ensures orders { self.new.orders ≡ self.old.orders }
+        ensures basics { self.new.basics ≡ self.old.basics }
+        ensures extracodes { self.new.extracodes ≡ self.old.extracodes }
+    {
+        match location {
+            Location::Fixed(place) => self.fixed.gain(place as usize, one),
+            Location::Erasable(cell) => self.erasable.gain(cell as usize, one),
+        }
+    }
+
+    /// Counts an order with all.
+    #[inline(always)]
+    fn take_with_all(&mut self, one: Tally)
+        requires times { self.old.orders.times + one.times < 2 ^ 64 }
+        requires cycles { self.old.orders.cycles + one.cycles < 2 ^ 64 }
+        ensures { self.new ≡ record self.old { orders = plus self.old.orders one } }
+    {
+        self.orders = Tally {
+            times: self.orders.times + one.times,
+            cycles: self.orders.cycles + one.cycles,
+        };
+    }
+
+    /// Counts an order with those of its name.
+    #[inline(always)]
+    fn take_as(&mut self, order: Named, one: Tally)
+        requires fits { Fits 19 20 self.old.basics self.old.extracodes one }
+        ensures { self.new ≡ counted_as order one self.old }
+    {
+        match order {
+            Named::Basic(order) => self.basics.gain(basic_number(order), one),
+            Named::Extracode(order) => self.extracodes.gain(extracode_number(order), one),
         }
     }
 
@@ -180,7 +255,7 @@ impl Counts {
     }
 
     /// Counts the words that a boundary reads as data.
-    #[inline]
+    #[inline(always)]
     fn take_data(&mut self, words: Data, one: Tally) -> Result<(), AllocError>
         ensures { OnOk result (self.new ≡ counted_data words one self.old) }
     {
@@ -189,7 +264,7 @@ impl Counts {
     }
 
     /// Counts a word that is read as data.
-    #[inline]
+    #[inline(always)]
     fn take_read(&mut self, place: Option<Location>, one: Tally) -> Result<(), AllocError>
         ensures { OnOk result (self.new ≡ counted_read place one self.old) }
     {
@@ -201,7 +276,7 @@ impl Counts {
     }
 
     /// Counts what began with INHINT in force.
-    #[inline]
+    #[inline(always)]
     fn take_inhibited(&mut self, is_inhibited: bool, one: Tally) -> Result<(), AllocError>
         ensures { OnOk result (self.new ≡ counted_inhibited is_inhibited one self.old) }
     {

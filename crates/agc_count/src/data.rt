@@ -1,18 +1,16 @@
 //! The words that an order reads as data.
-ghost use Rattle.std.specs.Prelude.{◌≡◌};
+ghost use Rattle.std.specs.Prelude.{◌≡◌, ◌+◌, ◌%◌};
 ghost use Rattle.agc_word.specs.Number.{pattern_of};
+ghost use Rattle.agc_store.specs.Registers.{z_of};
 ghost use Rattle.agc_order.specs.Row.{extracode_row};
 ghost use Rattle.agc_count.specs.Data.{
   basic_reads,
-  data_of,
   data_read,
   location_in,
-  order_reads,
   word_at,
   words_at,
 };
 
-use agc_machine::{InHand, Upcoming};
 use agc_order::{Basic, Extracode, Takes};
 use agc_source_words::Location;
 use agc_store::place::{FIXED_FIXED, FIXED_WINDOW, place_of};
@@ -33,7 +31,8 @@ impl Data {
     ghost use Rattle.agc_count.specs.Data.{no_data};
 
     /// No word.
-    fn none() -> Data
+    #[inline(always)]
+    pub(crate) fn none() -> Data
         ensures { result ≡ no_data }
     {
         Data {
@@ -43,22 +42,9 @@ impl Data {
     }
 }
 
-/// The words that a boundary reads as data, in the memory in which it begins: those of its order.
-#[inline]
-#[tactic(auto, unfolding(crate::specs::Data::data_of))]
-pub(crate) fn data_of(happening: &Upcoming, store: &Store) -> Data
-    ensures { result ≡ data_of happening.now store.now }
-{
-    match happening {
-        Upcoming::Order(order) => data_read(order_reads(order), order.word, store),
-        Upcoming::Stop(_) | Upcoming::Event(_) | Upcoming::Timer(_) | Upcoming::Interrupt(_) =>
-            Data::none(),
-    }
-}
-
 /// The words that an order reads, by what it reads and the address in its word.
-#[inline]
-fn data_read(reads: Takes, word: Narrow, store: &Store) -> Data
+#[inline(always)]
+pub(crate) fn data_read(reads: Takes, word: Narrow, store: &Store) -> Data
     ensures { result ≡ data_read reads (pattern_of 15 word) store.now }
 {
     let long = Addr::of_word(word);
@@ -96,8 +82,16 @@ fn words_at(address: Addr, before: Addr, store: &Store) -> Data
     }
 }
 
+/// The place of the order in hand, whose address is one before Z.
+#[inline(always)]
+pub(crate) fn place_in_hand(store: &Store) -> Location
+    ensures { result ≡ location_in store.now ((z_of store.now + 0o7777) % 0o10000) }
+{
+    location_in(store, store.z().previous())
+}
+
 /// The place whose word an address reads.
-#[inline]
+#[inline(always)]
 #[tactic(auto, unfolding(crate::specs::Data::location_in, agc_store::specs::Cells::named_cell, agc_store::specs::Memory::fixed_place))]
 fn location_in(store: &Store, address: Addr) -> Location
     ensures { result ≡ location_in store.now address }
@@ -113,22 +107,10 @@ fn location_in(store: &Store, address: Addr) -> Location
     }
 }
 
-/// What an order reads.
-#[inline]
-fn order_reads(order: &InHand) -> Takes
-    ensures { result ≡ order_reads order.now }
-{
-    if order.extracode {
-        extracode_reads(Extracode::named_by(order.word))
-    } else {
-        basic_reads(Basic::named_by(order.word))
-    }
-}
-
 /// What a basic order reads: TC takes the address of an order, and TS only stores. It is told here once more, as a row of the
 /// table of orders has more than this.
-#[inline]
-fn basic_reads(order: Basic) -> Takes
+#[inline(always)]
+pub(crate) fn basic_reads(order: Basic) -> Takes
     ensures { result ≡ basic_reads order }
 {
     match order {
@@ -143,8 +125,8 @@ fn basic_reads(order: Basic) -> Takes
 }
 
 /// What an extracode reads.
-#[inline]
-fn extracode_reads(order: Extracode) -> Takes
+#[inline(always)]
+pub(crate) fn extracode_reads(order: Extracode) -> Takes
     ensures { result ≡ (extracode_row order).takes }
 {
     match order {

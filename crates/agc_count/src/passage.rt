@@ -1,13 +1,13 @@
 //! One boundary of a run, with the cycles that it takes and what it begins in.
-ghost use Rattle.std.specs.Prelude.{◌≡◌, ◌<◌, None};
+ghost use Rattle.std.specs.Prelude.{◌≡◌, ◌+◌, ◌<◌, ◌^◌, None};
 ghost use Rattle.agc_source_words.specs.Location.{location_at};
 ghost use Rattle.agc_store.specs.Places.{fixed_window};
-ghost use Rattle.agc_machine.specs.Boundary.{boundary, HasPlace};
+ghost use Rattle.agc_machine.specs.Boundary.{boundary, upcoming_of, HasPlace};
+ghost use Rattle.agc_count.specs.Data.{data_of};
 ghost use Rattle.agc_count.specs.Passage.{HasTally, IsPlaced, passage_of};
 
-use crate::data::{Data, data_of};
-use crate::mode::{Mode, inhibited_after, service_after};
-use agc_machine::laws::the_rope_stays;
+use crate::data::Data;
+use crate::mode::Mode;
 use agc_machine::{Machine, Upcoming};
 use agc_processor::Rupt;
 use agc_store::Addr;
@@ -29,16 +29,7 @@ pub struct Passage {
 
 impl Passage {
     ghost use Rattle.std.specs.Prelude.{◌≡◌};
-    ghost use Rattle.agc_count.specs.Mode.{mode_after};
     ghost use Rattle.agc_count.specs.Passage.{service_of};
-    ghost use Rattle.agc_trace.specs.Trace.{is_stop};
-
-    /// The boundary is the stop.
-    pub(crate) fn is_stop(&self) -> bool
-        ensures { result ≡ is_stop self.now.happening }
-    {
-        matches!(self.happening, Upcoming::Stop(_))
-    }
 
     /// The interrupt to whose service the boundary belongs: its entry does, and its RESUME.
     pub(crate) fn service(&self) -> Option<Rupt>
@@ -51,44 +42,38 @@ impl Passage {
                 .service,
         }
     }
-
-    /// What the next boundary begins in.
-    pub(crate) fn mode_after(&self) -> Mode
-        ensures { result ≡ mode_after self.now.happening self.now.mode }
-    {
-        Mode {
-            service: service_after(self.happening, self.mode.service),
-            inhibited: inhibited_after(self.happening, self.mode.inhibited),
-        }
-    }
 }
 
-/// Takes one boundary of a machine that is in a mode, and tells it.
-#[inline]
+/// Takes the next boundary of a machine that is in a mode, and tells it: this happens, and these words are read as data.
+#[inline(always)]
 #[tactic(auto, unfolding(crate::specs::Passage::passage_of))]
-pub(crate) fn next_passage(machine: &mut Machine, mode: Mode) -> Passage
+pub(crate) fn next_passage(
+    machine: &mut Machine,
+    mode: Mode,
+    happening: &Upcoming,
+    reads: Data,
+) -> Passage
+    requires told { happening.now ≡ upcoming_of machine.old }
+    requires reads { reads ≡ data_of happening.now machine.old.processor.store }
     ensures passage { result ≡ passage_of mode machine.old }
     ensures after { machine.new ≡ (boundary None machine.old).0 }
-    ensures placed { IsPlaced result.happening }
-    ensures rope { machine.new.processor.store.fixed ≡ machine.old.processor.store.fixed }
+    ensures cycles { machine.old.cycle + result.cycles ≡ machine.new.cycle }
+    ensures range { machine.new.cycle < 2 ^ 64 }
 {
-    the_rope_stays();
     let cycle = machine.cycle();
-    let happening = machine.upcoming();
-    let reads = data_of(&happening, machine.store());
-    has_tally(&happening);
     machine.step(None);
     Passage {
         cycle,
-        happening,
-        cycles: machine.cycle().saturating_sub(cycle),
+        happening: *happening,
+        cycles: machine.cycle() - cycle,
         mode,
         reads,
     }
 }
 
 /// An order that has a place has one in the tables.
-fn has_tally(happening: &Upcoming)
+#[inline]
+pub(crate) fn has_tally(happening: &Upcoming)
     requires { HasPlace happening.now }
     ensures { IsPlaced happening.now }
 {

@@ -19,7 +19,7 @@ impl Model for Table {
 }
 
 impl Table {
-    ghost use Rattle.std.specs.Prelude.{◌≡◌, ◌*◌, ◌<◌, ◌^◌, length, IfOk, OnOk};
+    ghost use Rattle.std.specs.Prelude.{◌≡◌, ◌+◌, ◌*◌, ◌<◌, ◌^◌, length, IfOk, OnOk};
     ghost use Rattle.agc_count.specs.Report.{bank_tally};
     ghost use Rattle.agc_count.specs.Tally.{added, empty_table, tally_at};
 
@@ -60,6 +60,22 @@ impl Table {
         let first = (size * bank).min(self.tallies.len());
         let last = first.saturating_add(size).min(self.tallies.len());
         total_of(&self.tallies.as_slice()[first..last])
+    }
+
+    /// Counts a tally more at a place that the table has, where both numbers have room.
+    #[inline]
+    #[tactic(auto, unfolding(crate::specs::Tally::added, crate::specs::Tally::tally_at))]
+    pub(crate) fn gain(&mut self, place: usize, more: Tally)
+        requires place { place < length self.old }
+        requires times { (tally_at place self.old).times + more.times < 2 ^ 64 }
+        requires cycles { (tally_at place self.old).cycles + more.cycles < 2 ^ 64 }
+        ensures { self.new ≡ added place more self.old }
+    {
+        let tally = self.tallies[place];
+        self.tallies[place] = Tally {
+            times: tally.times + more.times,
+            cycles: tally.cycles + more.cycles,
+        };
     }
 
     /// Counts a tally more at a place; past the last one nothing is counted. Fails where a number has no room.

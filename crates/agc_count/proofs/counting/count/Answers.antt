@@ -1,5 +1,9 @@
-use Rattle.std.proofs.Common.{sym, ◌∙◌, arith, refl}
-use Rattle.agc_count.proofs.Left.{counted_all, counted_told, fewer_left, none_at_stop, none_past, starts, told_stop}
+use Rattle.std.proofs.Common.{sym, ap, subst, ◌∙◌, arith, refl}
+use Rattle.std.specs.Prelude.{not}
+use Rattle.agc_count.specs.Sums.{AddsUp}
+use Rattle.agc_count.specs.declared.counts.Counts.{Counts}
+use Rattle.agc_count.proofs.Left.{counted_after, counted_all, fewer_after, none_at_stop, none_past, rope_stays, starts}
+use Rattle.agc_count.proofs.Room.{no_more, none_taken}
 use Rattle.agc_count.proofs.Sums.{law_of, none_add_up, one_adds_up}
 use Rattle.agc_count.proofs.counting.count.Goals as goal
 
@@ -8,31 +12,38 @@ loop-span-init g c = (
   starts c.args.span _ c.at_start-mode.result _ c.in_ok-counts.ensures c.at_start-mode.ensures,
   refl,
   none_add_up c.in_ok-counts.counts c.in_ok-counts.ensures,
+  omega (arith, none_taken c.in_ok-counts.counts c.in_ok-counts.ensures),
 )
 
-pub returns-then-is_stop-clause-counts : goal.returns-then-is_stop-clause-counts
-returns-then-is_stop-clause-counts g c =
-    counted_all c.args.span c.loop-span.mode c.loop-span.machine c.loop-span.counts _
-    (none_at_stop c.args.span c.loop-span.mode c.loop-span.machine (told_stop _ _ _ c.next_passage-passage.result c.next_passage-passage.ensures.passage
-    (sym c.is_stop.ensures ∙ c.if-is_stop.true)))
+pub returns-then-not-goes_on-clause-counts : goal.returns-then-not-goes_on-clause-counts
+returns-then-not-goes_on-clause-counts g c =
+    let stopped = c.in_ok-goes_on.ensures.goes_on ∙ ap not c.if-not-goes_on.true in
+    c.in_ok-goes_on.ensures.stop stopped
+    ∙ counted_all c.args.span c.loop-span.mode c.loop-span.machine c.loop-span.counts _ (none_at_stop c.args.span c.loop-span.mode c.loop-span.machine stopped)
     c.loop-span.invariant.0
 
-pub returns-then-is_stop-clause-law : goal.returns-then-is_stop-clause-law
-returns-then-is_stop-clause-law g c = law_of c.loop-span.counts c.loop-span.invariant.2
+pub returns-then-not-goes_on-clause-rope : goal.returns-then-not-goes_on-clause-rope
+returns-then-not-goes_on-clause-rope g c = rope_stays _ _ _ c.take_next.ensures.after c.loop-span.invariant.1
+
+pub returns-then-not-goes_on-clause-law : goal.returns-then-not-goes_on-clause-law
+returns-then-not-goes_on-clause-law g c =
+    let stopped = c.in_ok-goes_on.ensures.goes_on ∙ ap not c.if-not-goes_on.true in
+    law_of c.take_next.new.counts (subst (λ (d : Counts). AddsUp d) (sym (c.in_ok-goes_on.ensures.stop stopped)) c.loop-span.invariant.2)
 
 pub loop-span-smaller : goal.loop-span-smaller
 loop-span-smaller g c =
-    fewer_left c.loop-span.mode _ _ c.next_passage-passage.result c.next_passage-passage.ensures.passage c.next_passage-passage.ensures.after
-    (sym c.is_stop.ensures ∙ c.if-is_stop.false)
+    fewer_after c.loop-span.machine _ c.take_next.ensures.after (c.in_ok-goes_on.ensures.goes_on ∙ ap not c.if-not-goes_on.false)
 
 pub loop-span-preserved : goal.loop-span-preserved
-loop-span-preserved g c = (
-  counted_told c.args.span c.loop-span.mode _ _ _ c.loop-span.counts _ c.next_passage-passage.result c.next_passage-passage.ensures.passage
-      c.next_passage-passage.ensures.after (sym c.is_stop.ensures ∙ c.if-is_stop.false) c.mode_after-mode.ensures c.in_ok-take_in.ensures
-      ∙ c.loop-span.invariant.0,
-  c.next_passage-passage.ensures.rope ∙ c.loop-span.invariant.1,
-  one_adds_up c.args.span c.next_passage-passage.result c.loop-span.counts _ c.next_passage-passage.ensures.placed c.in_ok-take_in.ensures c.loop-span.invariant.2,
-)
+loop-span-preserved g c =
+    let runs = c.in_ok-goes_on.ensures.goes_on ∙ ap not c.if-not-goes_on.false in
+    let after = c.take_next.ensures.after in
+    let more = c.in_ok-goes_on.ensures.counts runs in (
+      counted_after c.args.span c.loop-span.mode _ c.loop-span.machine _ c.loop-span.counts _ after runs c.in_ok-goes_on.ensures.mode more ∙ c.loop-span.invariant.0,
+      rope_stays _ _ _ after c.loop-span.invariant.1,
+      one_adds_up c.args.span c.loop-span.mode c.loop-span.machine c.loop-span.counts _ c.take_next.ensures.placed more c.loop-span.invariant.2,
+      no_more c.args.span c.loop-span.mode c.loop-span.machine _ c.loop-span.counts _ after more c.loop-span.invariant.3,
+    )
 
 pub returns-clause-counts : goal.returns-clause-counts
 returns-clause-counts g c =

@@ -1,0 +1,29 @@
+-- What of a count always adds up, and leaves room for more.
+use Rattle.std.specs.Prelude.{◌≡◌, ℕ, ◌+◌, ◌<◌, ◌^◌, List, length}
+use Rattle.agc_count.specs.Laws.{MakeUp}
+use Rattle.agc_count.specs.Tally.{cycles_in, times_in}
+use Rattle.agc_count.specs.declared.counts.Counts.{Counts}
+use Rattle.agc_count.specs.declared.tally.Tally.{Tally}
+
+-- two tables of known lengths that make up a whole
+pub record Halves (size rest : ℕ) (table others : List Tally) (all : Tally) : Type 0 where
+  pub length_is : length table ≡ size
+  pub others_length : length others ≡ rest
+  pub up : MakeUp table others all
+
+-- the places of both memories make up all orders, and so do the names of both kinds
+abbrev pub ArePlaced : Counts → Type 0
+ArePlaced c = Halves 0o120000 0o4000 c.fixed c.erasable c.orders
+
+abbrev pub AreNamed : Counts → Type 0
+AreNamed c = Halves 19 20 c.basics c.extracodes c.orders
+
+abbrev pub AddsUp : Counts → Type 0
+AddsUp c = ArePlaced c × AreNamed c
+
+-- two tables of known lengths that have room for a tally more, wherever it is added
+pub record Fits (size rest : ℕ) (table others : List Tally) (more : Tally) : Type 0 where
+  pub length_is : length table ≡ size
+  pub others_length : length others ≡ rest
+  pub times : times_in table + times_in others + more.times < 2 ^ 64
+  pub cycles : cycles_in table + cycles_in others + more.cycles < 2 ^ 64
