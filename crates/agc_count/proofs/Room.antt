@@ -70,19 +70,30 @@ right_room size rest place xs ys more h l =
       cycles = omega (arith, h.cycles, cycles_part place ys (omega (arith, h.others_length, l)));
     }
 
--- an order is counted at its place, with all, and by its name
-pub runs_as : (u : Upcoming) (l : Location) (name : Named) (one : Tally) (c placed all more : Counts) → RunsAs l name u →
-    placed ≡ counted_at l one c → all ≡ record placed { orders = plus placed.orders one } → more ≡ counted_as name one all →
-    more ≡ counted_happening u one c
-runs_as (upcoming.Order order) l name one c placed all more h e f g =
-    g ∙ ap (λ (d : Counts). counted_as name one d) f
-    ∙ ap (λ (d : Counts). counted_as name one (record d { orders = plus d.orders one })) e
-    ∙ ap (λ (k : Location). counted_as name one (record (counted_at k one c) { orders = plus (counted_at k one c).orders one })) h.0
+-- what is counted of an order does not ask for the order in which that is done
+in_turn : (l : Location) (name : Named) (one : Tally) (c : Counts) →
+    counted_at l one (counted_as name one (record c { orders = plus c.orders one }))
+    ≡ counted_as name one (record (counted_at l one c) { orders = plus (counted_at l one c).orders one })
+in_turn (location.Fixed place) (named.Basic order) one c = refl
+in_turn (location.Fixed place) (named.Extracode order) one c = refl
+in_turn (location.Erasable cell) (named.Basic order) one c = refl
+in_turn (location.Erasable cell) (named.Extracode order) one c = refl
+
+run_is : (u : Upcoming) (l : Location) (name : Named) (one : Tally) (c : Counts) → RunsAs l name u →
+    counted_as name one (record (counted_at l one c) { orders = plus (counted_at l one c).orders one }) ≡ counted_happening u one c
+run_is (upcoming.Order order) l name one c h =
+    ap (λ (k : Location). counted_as name one (record (counted_at k one c) { orders = plus (counted_at k one c).orders one })) h.0
     ∙ ap (λ (n : Named). counted_as n one (record (counted_at (location_at order.bank order.address) one c) { orders = plus (counted_at (location_at order.bank order.address) one c).orders one })) h.1
-runs_as (upcoming.Stop why) l name one c placed all more h e f g = absurd h
-runs_as (upcoming.Event what) l name one c placed all more h e f g = absurd h
-runs_as (upcoming.Timer t) l name one c placed all more h e f g = absurd h
-runs_as (upcoming.Interrupt r) l name one c placed all more h e f g = absurd h
+run_is (upcoming.Stop why) l name one c h = absurd h
+run_is (upcoming.Event what) l name one c h = absurd h
+run_is (upcoming.Timer t) l name one c h = absurd h
+run_is (upcoming.Interrupt r) l name one c h = absurd h
+
+pub runs_as : (u : Upcoming) (l : Location) (name : Named) (one : Tally) (c all called more : Counts) → RunsAs l name u →
+    all ≡ record c { orders = plus c.orders one } → called ≡ counted_as name one all → more ≡ counted_at l one called → more ≡ counted_happening u one c
+runs_as u l name one c all called more h e f g =
+    g ∙ ap (λ (d : Counts). counted_at l one d) f ∙ ap (λ (d : Counts). counted_at l one (counted_as name one d)) e
+    ∙ in_turn l name one c ∙ run_is u l name one c h
 
 -- the cycles of all orders are at most those that have gone by
 at_cycles : (l : Location) (one : Tally) (c : Counts) → (counted_at l one c).orders ≡ c.orders

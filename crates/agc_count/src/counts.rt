@@ -183,7 +183,7 @@ impl Counts {
         self.take_data(passage.reads, one)
     }
 
-    /// Counts that an order ran: at its place, with all orders, and with those of its name.
+    /// Counts that an order ran: with all orders, with those of its name, and at its place.
     #[inline(always)]
     #[tactic(auto, using(crate::proofs::Room::fits, crate::proofs::Room::runs_as))]
     fn take_run(&mut self, happening: &Upcoming, place: Location, named: Named, one: Tally)
@@ -194,25 +194,9 @@ impl Counts {
         requires cycles { self.old.orders.cycles + one.cycles < 2 ^ 64 }
         ensures { self.new ≡ counted_happening happening.now one self.old }
     {
-        self.take_at(place, one);
         self.take_with_all(one);
         self.take_as(named, one);
-    }
-
-    /// Counts an order at its place.
-    #[inline(always)]
-    fn take_at(&mut self, location: Location, one: Tally)
-        requires tally { HasTally location }
-        requires fits { Fits 0o120000 0o4000 self.old.fixed self.old.erasable one }
-        ensures at { self.new ≡ counted_at location one self.old }
-        ensures orders { self.new.orders ≡ self.old.orders }
-        ensures basics { self.new.basics ≡ self.old.basics }
-        ensures extracodes { self.new.extracodes ≡ self.old.extracodes }
-    {
-        match location {
-            Location::Fixed(place) => self.fixed.gain(place as usize, one),
-            Location::Erasable(cell) => self.erasable.gain(cell as usize, one),
-        }
+        self.take_at(place, one);
     }
 
     /// Counts an order with all.
@@ -232,11 +216,26 @@ impl Counts {
     #[inline(always)]
     fn take_as(&mut self, order: Named, one: Tally)
         requires fits { Fits 19 20 self.old.basics self.old.extracodes one }
-        ensures { self.new ≡ counted_as order one self.old }
+        ensures named { self.new ≡ counted_as order one self.old }
+        ensures fixed { self.new.fixed ≡ self.old.fixed }
+        ensures erasable { self.new.erasable ≡ self.old.erasable }
     {
         match order {
             Named::Basic(order) => self.basics.gain(basic_number(order), one),
             Named::Extracode(order) => self.extracodes.gain(extracode_number(order), one),
+        }
+    }
+
+    /// Counts an order at its place.
+    #[inline(always)]
+    fn take_at(&mut self, location: Location, one: Tally)
+        requires tally { HasTally location }
+        requires fits { Fits 0o120000 0o4000 self.old.fixed self.old.erasable one }
+        ensures { self.new ≡ counted_at location one self.old }
+    {
+        match location {
+            Location::Fixed(place) => self.fixed.gain(place as usize, one),
+            Location::Erasable(cell) => self.erasable.gain(cell as usize, one),
         }
     }
 

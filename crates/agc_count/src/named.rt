@@ -36,22 +36,22 @@ pub(crate) fn mode_past(order: Named, mode: Mode) -> Mode
     }
 }
 
-/// The same after a basic order. Most change nothing, so this is asked first.
+/// The same after a basic order.
 #[inline(always)]
 fn mode_past_basic(order: Basic, mode: Mode) -> Mode
     ensures { result ≡ mode_past (Named.Basic order) mode }
 {
-    if !matches!(order, Basic::Resume | Basic::Inhint | Basic::Relint) {
-        return mode;
-    }
-    if matches!(order, Basic::Resume) {
-        return Mode {
+    if order == Basic::Resume {
+        Mode {
             service: None,
             inhibited: mode.inhibited,
-        };
-    }
-    Mode {
-        service: mode.service,
-        inhibited: matches!(order, Basic::Inhint),
+        }
+    } else if order == Basic::Inhint || order == Basic::Relint {
+        Mode {
+            service: mode.service,
+            inhibited: order == Basic::Inhint,
+        }
+    } else {
+        mode
     }
 }
