@@ -4,7 +4,9 @@ use Rattle.std.specs.Prelude.{if◌then◌else◌, get_or}
 use Rattle.std.specs.List.{sum_by}
 use Rattle.std.proofs.lemmas.List.Sums.{sum_by-set}
 use Rattle.agc_machine.specs.Boundary.{boundary}
+use Rattle.agc_machine.specs.Run.{boundaries_left}
 use Rattle.agc_machine.specs.State.{State}
+use Rattle.agc_machine.specs.declared.answer.Stop.{Stop}
 use Rattle.agc_machine.specs.declared.upcoming.Upcoming.{Upcoming}
 use Rattle.agc_machine.specs.declared.upcoming.Upcoming.TheVariants as upcoming
 use Rattle.agc_machine.proofs.Chain.{boundary_falls}
@@ -12,7 +14,9 @@ use Rattle.agc_processor.specs.declared.interrupt.Rupt.{Rupt}
 use Rattle.agc_source_words.specs.Location.{location_at}
 use Rattle.agc_source_words.specs.declared.location.Location.{Location}
 use Rattle.agc_source_words.specs.declared.location.Location.TheVariants as location
+use Rattle.agc_trace.specs.Trace.{entries_left, entries_unless}
 use Rattle.agc_trace.proofs.Forward.{never_earlier}
+use Rattle.agc_trace.proofs.Steps.{some_entry}
 use Rattle.agc_count.specs.Counts.{counted_as, counted_at, counted_data, counted_happening, counted_in, counted_inhibited, counted_one, counted_read, counted_serving, nothing_counted}
 use Rattle.agc_count.specs.Named.{named_of}
 use Rattle.agc_count.specs.Passage.{RunsAs, is_in, passage_of, service_of}
@@ -95,27 +99,44 @@ runs_as u l name one c all called more h e f g =
     g ∙ ap (λ (d : Counts). counted_at l one d) f ∙ ap (λ (d : Counts). counted_at l one (counted_as name one d)) e
     ∙ in_turn l name one c ∙ run_is u l name one c h
 
--- the cycles of all orders are at most those that have gone by
-at_cycles : (l : Location) (one : Tally) (c : Counts) → (counted_at l one c).orders ≡ c.orders
-at_cycles (location.Fixed place) one c = refl
-at_cycles (location.Erasable cell) one c = refl
+-- places and names leave all orders as they are
+at_orders : (l : Location) (one : Tally) (c : Counts) → (counted_at l one c).orders ≡ c.orders
+at_orders (location.Fixed place) one c = refl
+at_orders (location.Erasable cell) one c = refl
 
-as_cycles : (name : Named) (one : Tally) (c : Counts) → (counted_as name one c).orders ≡ c.orders
-as_cycles (named.Basic order) one c = refl
-as_cycles (named.Extracode order) one c = refl
+as_orders : (name : Named) (one : Tally) (c : Counts) → (counted_as name one c).orders ≡ c.orders
+as_orders (named.Basic order) one c = refl
+as_orders (named.Extracode order) one c = refl
 
-happening_cycles : (u : Upcoming) (one : Tally) (c : Counts) → (counted_happening u one c).orders.cycles ≤ c.orders.cycles + one.cycles
-happening_cycles (upcoming.Order order) one c =
+-- a boundary counts one order at most, and its cycles
+pub record OneMore (c more : Counts) (cycles : ℕ) : Type 0 where
+  pub times : more.orders.times ≤ c.orders.times + 1
+  pub cycles_are : more.orders.cycles ≤ c.orders.cycles + cycles
+
+none_more : (c : Counts) (cycles : ℕ) → OneMore c c cycles
+none_more c cycles = record { times = omega arith; cycles_are = omega arith }
+
+by_orders : (c d more : Counts) (cycles : ℕ) → more.orders ≡ d.orders → OneMore c d cycles → OneMore c more cycles
+by_orders c d more cycles e h =
+    record {
+      times = omega (arith, ap (λ (t : Tally). t.times) e, h.times);
+      cycles_are = omega (arith, ap (λ (t : Tally). t.cycles) e, h.cycles_are);
+    }
+
+happening_more : (u : Upcoming) (cycles : ℕ) (c : Counts) → OneMore c (counted_happening u (once cycles) c) cycles
+happening_more (upcoming.Order order) cycles c =
+    let one = once cycles in
     let placed = counted_at (location_at order.bank order.address) one c in
-    omega (
-      arith,
-      ap (λ (t : Tally). t.cycles) (as_cycles (named_of order) one (record placed { orders = plus placed.orders one })),
-      ap (λ (t : Tally). t.cycles) (at_cycles (location_at order.bank order.address) one c),
-    )
-happening_cycles (upcoming.Stop why) one c = omega arith
-happening_cycles (upcoming.Event what) one c = omega arith
-happening_cycles (upcoming.Timer t) one c = omega arith
-happening_cycles (upcoming.Interrupt r) one c = omega arith
+    let named = as_orders (named_of order) one (record placed { orders = plus placed.orders one }) in
+    let here = at_orders (location_at order.bank order.address) one c in
+    record {
+      times = omega (arith, ap (λ (t : Tally). t.times) named, ap (λ (t : Tally). t.times) here);
+      cycles_are = omega (arith, ap (λ (t : Tally). t.cycles) named, ap (λ (t : Tally). t.cycles) here);
+    }
+happening_more (upcoming.Stop why) cycles c = none_more c cycles
+happening_more (upcoming.Event what) cycles c = by_orders c c (counted_happening (upcoming.Event what) (once cycles) c) cycles refl (none_more c cycles)
+happening_more (upcoming.Timer t) cycles c = by_orders c c (counted_happening (upcoming.Timer t) (once cycles) c) cycles refl (none_more c cycles)
+happening_more (upcoming.Interrupt r) cycles c = by_orders c c (counted_happening (upcoming.Interrupt r) (once cycles) c) cycles refl (none_more c cycles)
 
 serving_orders : (o : Option Rupt) (p : Passage) (c : Counts) → (counted_serving o p c).orders ≡ c.orders
 serving_orders (Some r) p c = refl
@@ -139,17 +160,20 @@ one_orders p c =
     read_orders p.reads.before (once p.cycles) (counted_read p.reads.at (once p.cycles) inhibited) ∙ read_orders p.reads.at (once p.cycles) inhibited
     ∙ inhibited_orders p.mode.inhibited (once p.cycles) served ∙ serving_orders (service_of p) p happened
 
-one_cycles : (p : Passage) (c : Counts) → (counted_one p c).orders.cycles ≤ c.orders.cycles + p.cycles
-one_cycles p c = omega (arith, ap (λ (t : Tally). t.cycles) (one_orders p c), happening_cycles p.happening (once p.cycles) c)
+one_more : (p : Passage) (c : Counts) → OneMore c (counted_one p c) p.cycles
+one_more p c = by_orders c (counted_happening p.happening (once p.cycles) c) (counted_one p c) p.cycles (one_orders p c) (happening_more p.happening p.cycles c)
 
-in_cycles : (b : Bool) (p : Passage) (c : Counts) → (if b then counted_one p c else c).orders.cycles ≤ c.orders.cycles + p.cycles
-in_cycles true p c = one_cycles p c
-in_cycles false p c = omega arith
+in_more : (b : Bool) (p : Passage) (c : Counts) → OneMore c (if b then counted_one p c else c) p.cycles
+in_more true p c = one_more p c
+in_more false p c = none_more c p.cycles
+
+told_more : (span : Span) (p : Passage) (c more : Counts) → more ≡ counted_in span p c → OneMore c more p.cycles
+told_more span p c more e = subst (λ (d : Counts). OneMore c d p.cycles) (sym e) (in_more (is_in span p) p c)
 
 -- at the start nothing is counted
-pub none_taken : (c : Counts) → c ≡ nothing_counted → c.orders.cycles ≡ 0
+pub none_taken : (c : Counts) → c ≡ nothing_counted → c.orders ≡ nothing
 unfolding nothing_counted
-none_taken c e = ap (λ (d : Counts). d.orders.cycles) e
+none_taken c e = ap (λ (d : Counts). d.orders) e
 
 takes : (mode : Mode) (s : State) → (passage_of mode s).cycles ≡ (boundary None s).0.cycle - s.cycle
 unfolding passage_of
@@ -163,12 +187,22 @@ goes_on s t e = subst (λ (u : State). s.cycle ≤ u.cycle) (sym e) (never_earli
 pub no_more : (span : Span) (mode : Mode) (s t : State) (c more : Counts) → t ≡ (boundary None s).0 → more ≡ counted_in span (passage_of mode s) c →
     c.orders.cycles ≤ s.cycle → more.orders.cycles ≤ t.cycle
 no_more span mode s t c more e f l =
-    omega (
-      arith,
-      l,
-      ap (λ (d : Counts). d.orders.cycles) f,
-      in_cycles (is_in span (passage_of mode s)) (passage_of mode s) c,
-      takes mode s,
-      ap (λ (u : State). u.cycle) e,
-      never_earlier s (boundary None s) (boundary_falls s),
-    )
+    omega (arith, l, (told_more span (passage_of mode s) c more f).cycles_are, takes mode s, ap (λ (u : State). u.cycle) e, never_earlier s (boundary None s) (boundary_falls s))
+
+-- and as many orders as that have room, with the boundaries that are left
+pub room_left : (span : Span) (mode : Mode) (s t : State) (c more : Counts) → entries_left t < entries_left s → more ≡ counted_in span (passage_of mode s) c →
+    c.orders.times + entries_left s < 2 ^ 64 → more.orders.times + entries_left t < 2 ^ 64
+room_left span mode s t c more e f l = omega (arith, l, e, (told_more span (passage_of mode s) c more f).times)
+
+pub room_for_one : (s : State) (c : Counts) → c.orders.times + entries_left s < 2 ^ 64 → c.orders.times + 1 < 2 ^ 64
+room_for_one s c l = omega (arith, l, some_entry s)
+
+-- a run has not more boundaries left than a number has room for
+few_unless : (o : Option Stop) (s : State) → s.limit ≤ 1000000000000 → length s.events + 1000000000002 < 2 ^ 64 → entries_unless o s < 2 ^ 64
+unfolding boundaries_left
+few_unless (Some why) s l k = omega arith
+few_unless None s l k = omega (arith, l, k)
+
+pub few_left : (s : State) → s.limit ≤ 1000000000000 → length s.events + 1000000000002 < 2 ^ 64 → entries_left s < 2 ^ 64
+unfolding entries_left
+few_left s l k = few_unless s.stopped s l k

@@ -1,8 +1,8 @@
 //! The boundaries of a run counted, one after another: memory does not grow with the run.
-ghost use Rattle.std.specs.Prelude.{◌≡◌, ◌≤◌, IfOk, OnOk, false, not, true};
+ghost use Rattle.std.specs.Prelude.{◌≡◌, ◌+◌, ◌<◌, ◌≤◌, ◌^◌, IfOk, OnOk, false, not, true};
 ghost use Rattle.agc_machine.specs.Boundary.{boundary, upcoming_of};
 ghost use Rattle.agc_source_words.specs.Location.{location_at};
-ghost use Rattle.agc_trace.specs.Trace.{is_stop};
+ghost use Rattle.agc_trace.specs.Trace.{entries_left, is_stop};
 ghost use Rattle.agc_count.specs.Counts.{count_of, counted_in};
 ghost use Rattle.agc_count.specs.Data.{data_of};
 ghost use Rattle.agc_count.specs.Laws.{OrdersAddUp};
@@ -39,6 +39,7 @@ pub fn count<P: Progress>(
     let mut counts = Counts::none(alloc)?;
     let mut mode = Mode::at_start();
     let mut mark = 0;
+    has_room(machine);
     while machine.cycle() <= span.to {
         let cycle = machine.cycle();
         let goes_on = take_next(&mut counts, machine, span, &mut mode)?;
@@ -48,6 +49,16 @@ pub fn count<P: Progress>(
         mark = tell_at(mark, cycle, progress);
     }
     Ok(counts)
+}
+
+/// No run has so many boundaries left that their number has no room.
+#[inline]
+#[tactic(auto, using(crate::proofs::Room::few_left))]
+fn has_room(machine: &Machine)
+    ensures { entries_left machine.now < 2 ^ 64 }
+{
+    let _wants_key = machine.wants_key();
+    let _most = machine.events_left().len() + 1_000_000_000_002;
 }
 
 /// Takes one boundary of a machine, and counts it where it is no stop and begins in a span of cycles. Tells whether the
@@ -60,6 +71,7 @@ fn take_next(
     mode: &mut Mode,
 ) -> Result<bool, AllocError>
     requires sums { AddsUp counts.old }
+    requires times { counts.old.orders.times + 1 < 2 ^ 64 }
     requires room { counts.old.orders.cycles ≤ machine.old.cycle }
     ensures after { machine.new ≡ (boundary None machine.old).0 }
     ensures placed { IsPlaced (upcoming_of machine.old) }
@@ -128,6 +140,7 @@ fn take_order(
     requires order { happening.now ≡ Upcoming.Order order.now }
     requires tally { HasTally (location_at order.now.bank order.now.address) }
     requires sums { AddsUp counts.old }
+    requires times { counts.old.orders.times + 1 < 2 ^ 64 }
     requires room { counts.old.orders.cycles ≤ machine.old.cycle }
     ensures after { machine.new ≡ (boundary None machine.old).0 }
     ensures counts { OnOk result
@@ -163,6 +176,7 @@ fn take_named(
     requires named { named ≡ named_of order.now }
     requires tally { HasTally place }
     requires sums { AddsUp counts.old }
+    requires times { counts.old.orders.times + 1 < 2 ^ 64 }
     requires room { counts.old.orders.cycles ≤ machine.old.cycle }
     ensures after { machine.new ≡ (boundary None machine.old).0 }
     ensures counts { OnOk result
@@ -206,6 +220,7 @@ fn take_reading(
     requires words { words ≡ data_of happening.now machine.old.processor.store }
     requires tally { HasTally place }
     requires sums { AddsUp counts.old }
+    requires times { counts.old.orders.times + 1 < 2 ^ 64 }
     requires room { counts.old.orders.cycles ≤ machine.old.cycle }
     ensures after { machine.new ≡ (boundary None machine.old).0 }
     ensures counts { OnOk result

@@ -147,7 +147,8 @@ impl Counts {
         requires order { RunsAs place named passage.now.happening }
         requires tally { HasTally place }
         requires sums { AddsUp self.old }
-        requires room { self.old.orders.cycles + passage.now.cycles < 2 ^ 64 }
+        requires times { self.old.orders.times + 1 < 2 ^ 64 }
+        requires cycles { self.old.orders.cycles + passage.now.cycles < 2 ^ 64 }
         ensures { OnOk result (self.new ≡ counted_in span passage.now self.old) }
     {
         if span.has(passage) {
@@ -170,12 +171,10 @@ impl Counts {
         requires order { RunsAs place named passage.now.happening }
         requires tally { HasTally place }
         requires sums { AddsUp self.old }
-        requires room { self.old.orders.cycles + passage.now.cycles < 2 ^ 64 }
+        requires times { self.old.orders.times + 1 < 2 ^ 64 }
+        requires cycles { self.old.orders.cycles + passage.now.cycles < 2 ^ 64 }
         ensures { OnOk result (self.new ≡ counted_one passage.now self.old) }
     {
-        if self.orders.times == u64::MAX {
-            return Err(AllocError);
-        }
         let one = Tally::once(passage.cycles);
         self.take_run(&passage.happening, place, named, one);
         self.take_serving(passage.service(), passage)?;

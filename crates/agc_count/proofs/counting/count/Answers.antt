@@ -2,8 +2,9 @@ use Rattle.std.proofs.Common.{sym, ap, subst, ◌∙◌, arith, refl}
 use Rattle.std.specs.Prelude.{not}
 use Rattle.agc_count.specs.Sums.{AddsUp}
 use Rattle.agc_count.specs.declared.counts.Counts.{Counts}
+use Rattle.agc_count.specs.declared.tally.Tally.{Tally}
 use Rattle.agc_count.proofs.Left.{counted_after, counted_all, fewer_after, none_at_stop, none_past, rope_stays, starts}
-use Rattle.agc_count.proofs.Room.{no_more, none_taken}
+use Rattle.agc_count.proofs.Room.{no_more, none_taken, room_for_one, room_left}
 use Rattle.agc_count.proofs.Sums.{law_of, none_add_up, one_adds_up}
 use Rattle.agc_count.proofs.counting.count.Goals as goal
 
@@ -12,8 +13,12 @@ loop-span-init g c = (
   starts c.args.span _ c.at_start-mode.result _ c.in_ok-counts.ensures c.at_start-mode.ensures,
   refl,
   none_add_up c.in_ok-counts.counts c.in_ok-counts.ensures,
-  omega (arith, none_taken c.in_ok-counts.counts c.in_ok-counts.ensures),
+  omega (arith, ap (λ (t : Tally). t.cycles) (none_taken c.in_ok-counts.counts c.in_ok-counts.ensures)),
+  omega (arith, ap (λ (t : Tally). t.times) (none_taken c.in_ok-counts.counts c.in_ok-counts.ensures), c.has_room.ensures),
 )
+
+pub take_next-requires-clause-times : goal.take_next-requires-clause-times
+take_next-requires-clause-times g c = room_for_one c.loop-span.machine c.loop-span.counts c.loop-span.invariant.4
 
 pub returns-then-not-goes_on-clause-counts : goal.returns-then-not-goes_on-clause-counts
 returns-then-not-goes_on-clause-counts g c =
@@ -43,6 +48,7 @@ loop-span-preserved g c =
       rope_stays _ _ _ after c.loop-span.invariant.1,
       one_adds_up c.args.span c.loop-span.mode c.loop-span.machine c.loop-span.counts _ c.take_next.ensures.placed more c.loop-span.invariant.2,
       no_more c.args.span c.loop-span.mode c.loop-span.machine _ c.loop-span.counts _ after more c.loop-span.invariant.3,
+      room_left c.args.span c.loop-span.mode c.loop-span.machine _ c.loop-span.counts _ (fewer_after c.loop-span.machine _ after runs) more c.loop-span.invariant.4,
     )
 
 pub returns-clause-counts : goal.returns-clause-counts

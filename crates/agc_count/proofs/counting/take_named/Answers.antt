@@ -21,5 +21,6 @@ take_reading-requires-in_default c =
           ∙ reads_told c.args.happening.now c.args.order.now c.args.named c.order_reads.result c.args.machine.now.processor.store c.requires.order c.requires.named c.order_reads.ensures;
       tally = c.requires.tally;
       sums = c.requires.sums;
+      times = c.requires.times;
       room = c.requires.room;
     }
