@@ -1,6 +1,6 @@
 -- Where all orders have room for one more, each place and each name has.
 use Rattle.std.proofs.Common.{◌≡◌, ℕ, ◌+◌, ◌-◌, ◌<◌, ◌≤◌, ◌^◌, List, length, Option, Some, None, Bool, true, false, refl, ap, sym, ◌∙◌, subst, arith}
-use Rattle.std.specs.Prelude.{if◌then◌else◌, get_or}
+use Rattle.std.specs.Prelude.{if◌then◌else◌}
 use Rattle.std.specs.List.{sum_by}
 use Rattle.std.proofs.lemmas.List.Sums.{sum_by-set}
 use Rattle.agc_machine.specs.Boundary.{boundary}
@@ -17,13 +17,12 @@ use Rattle.agc_source_words.specs.declared.location.Location.TheVariants as loca
 use Rattle.agc_trace.specs.Trace.{entries_left, entries_unless}
 use Rattle.agc_trace.proofs.Forward.{never_earlier}
 use Rattle.agc_trace.proofs.Steps.{some_entry}
-use Rattle.agc_count.specs.Counts.{counted_as, counted_at, counted_data, counted_happening, counted_in, counted_inhibited, counted_one, counted_read, counted_serving, nothing_counted}
+use Rattle.agc_count.specs.Counts.{counted_as, counted_at, counted_happening, counted_in, counted_inhibited, counted_one, counted_read, counted_serving, nothing_counted}
 use Rattle.agc_count.specs.Named.{named_of}
 use Rattle.agc_count.specs.Passage.{RunsAs, is_in, passage_of, service_of}
 use Rattle.agc_count.specs.Sums.{Fits, Halves}
 use Rattle.agc_count.specs.Tally.{cycles_in, nothing, once, plus, tally_at, times_in}
 use Rattle.agc_count.specs.declared.counts.Counts.{Counts}
-use Rattle.agc_count.specs.declared.data.Data.{Data}
 use Rattle.agc_count.specs.declared.mode.Mode.{Mode}
 use Rattle.agc_count.specs.declared.named.Named.{Named}
 use Rattle.agc_count.specs.declared.named.Named.TheVariants as named

@@ -1,6 +1,6 @@
 -- The order in hand: its place, its name, and what it reads.
 use Rattle.std.proofs.Common.{◌≡◌, ◌⊎◌, inl, inr, ℕ, ◌+◌, ◌-◌, ◌*◌, ◌%◌, ◌<◌, Option, Some, None, Bool, true, false, refl, ap, sym, ◌∙◌, subst, arith}
-use Rattle.std.specs.Prelude.{if◌then◌else◌, nat_lt}
+use Rattle.std.specs.Prelude.{nat_lt}
 use Rattle.std.proofs.lemmas.Bool.Decides.{nat_tests}
 use Rattle.agc_word.specs.Number.{pattern_of}
 use Rattle.agc_store.specs.Memory.{Memory, erasable_bank, erasable_place, fixed_place, selected_bank}
@@ -20,8 +20,7 @@ use Rattle.agc_source_words.specs.declared.location.Location.{Location}
 use Rattle.agc_source_words.specs.declared.location.Location.TheVariants as location
 use Rattle.agc_count.specs.Data.{data_of, data_read, location_in, order_reads}
 use Rattle.agc_count.specs.Named.{named_of}
-use Rattle.agc_count.specs.Passage.{HasTally, IsPlaced, RunsAs, is_order}
-use Rattle.agc_count.specs.declared.data.Data.{Data}
+use Rattle.agc_count.specs.Passage.{RunsAs, is_order}
 use Rattle.agc_count.specs.declared.named.Named.{Named}
 
 -- the place that an address has in the memory is that of its bank and address

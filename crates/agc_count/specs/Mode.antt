@@ -1,7 +1,6 @@
 -- What the boundaries of a run begin in: the service of an interrupt, and whether INHINT is in force.
-use Rattle.std.specs.Prelude.{Bool, true, false, Option, Some, None}
+use Rattle.std.specs.Prelude.{true, false, Some, None}
 use Rattle.agc_order.specs.declared.order.Basic.TheVariants as basic
-use Rattle.agc_processor.specs.declared.interrupt.Rupt.{Rupt}
 use Rattle.agc_machine.specs.declared.upcoming.Upcoming.{Upcoming}
 use Rattle.agc_machine.specs.declared.upcoming.Upcoming.TheVariants as upcoming
 use Rattle.agc_count.specs.Named.{named_of}

@@ -12,11 +12,11 @@ use crate::tally::Tally;
 use agc_machine::Upcoming;
 use agc_processor::Rupt;
 use agc_source_words::Location;
-use agc_store::place::ERASABLE_CELLS;
+use agc_store::place::{ERASABLE_CELLS, FIXED_BANK_SIZE};
 use std::alloc::{AllocError, Global};
 
 /// The places of fixed memory at which an order may stand: of 40 banks, of which the last four are empty.
-const PLACES: usize = 0o120000;
+const PLACES: usize = 40 * FIXED_BANK_SIZE as usize;
 /// The cells of erasable memory.
 const CELLS: usize = ERASABLE_CELLS as usize;
 /// The interrupts.

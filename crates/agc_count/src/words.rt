@@ -25,9 +25,12 @@ use agc_rope_listing::{
     Place, begins_anew, leads_extracode, listed_address, push_order, push_place,
 };
 use agc_store::Store;
-use agc_store::place::{ERASABLE_CELLS, FIXED_WORDS};
+use agc_store::place::{ERASABLE_CELLS, FIXED_BANK_SIZE, FIXED_WINDOW, FIXED_WORDS};
 use agc_word::Narrow;
 use std::alloc::AllocError;
+
+/// The places of the four banks that the rope does not have.
+const EMPTY_WORDS: usize = 4 * FIXED_BANK_SIZE as usize;
 
 /// Adds the lines of the words: those of erasable memory, those of the rope, and those of banks that are empty. Fails
 /// where memory runs out.
@@ -44,7 +47,7 @@ pub(crate) fn push_words(
 {
     push_cells(text, layout, counts, u32::from(ERASABLE_CELLS))?;
     push_listed(text, layout, whole, counts, store, FIXED_WORDS as usize)?;
-    push_empty(text, layout, counts, FIXED_WORDS as usize, 0o10000)
+    push_empty(text, layout, counts, FIXED_WORDS as usize, EMPTY_WORDS)
 }
 
 /// Adds the lines of the first so many cells.
@@ -198,13 +201,14 @@ fn fixed_place(place: usize) -> Place
     ensures place { result ≡ listed_place place }
     ensures range { IsInPrint result }
 {
-    let address = if place < 0o110000 {
+    let size = usize::from(FIXED_BANK_SIZE);
+    let address = if place < FIXED_WORDS as usize {
         listed_address(place)
     } else {
-        (0o2000 + place % 0o2000) as u16
+        FIXED_WINDOW + (place % size) as u16
     };
     Place::Fixed {
-        bank: (place / 0o2000) as u8,
+        bank: (place / size) as u8,
         address,
     }
 }

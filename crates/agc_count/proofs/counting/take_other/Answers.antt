@@ -1,4 +1,4 @@
-use Rattle.std.proofs.Common.{ap, sym, ◌∙◌}
+use Rattle.std.proofs.Common.{ap, ◌∙◌}
 use Rattle.agc_count.specs.Passage.{is_order}
 use Rattle.agc_count.proofs.Left.{happens_told}
 use Rattle.agc_count.proofs.Running.{none_told}
