@@ -106,7 +106,8 @@ impl Counts {
         }
     }
 
-    /// Counts a boundary that is no order. Fails where a number has no room.
+    /// Counts a boundary that is no order. Fails where a number has no room. It is a call, so that the counts stay in memory:
+    /// what is kept in registers is put by and fetched back each time that the machine takes a step.
     #[inline(never)]
     #[tactic(auto, unfolding(crate::specs::Counts::counted_one))]
     fn take(&mut self, passage: &Passage) -> Result<(), AllocError>
