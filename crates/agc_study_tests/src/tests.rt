@@ -86,7 +86,7 @@ fn holds(rt: &impl Abort, it: bool, row: &str) {
 fn has_lines(rt: &impl Abort, text: &str, lines: &[&str]) {
     let mut told = text.lines();
     for line in lines {
-        assert_eq!(rt; told.next(), Some(*line));
+        same(rt, told.next(), Some(*line), "line");
     }
-    assert_eq!(rt; told.next(), None);
+    same(rt, told.next(), None, "end");
 }

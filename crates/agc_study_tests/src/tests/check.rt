@@ -27,8 +27,8 @@ fn report(rt: &(impl AllocGlobal + Abort), form: RopeForm, rope: &[u8], script: 
 
 /// Looks that a report has this text, and whether it finds no fault.
 fn reads(rt: &impl Abort, report: &Report, text: &str, is_sound: bool) {
-    assert_eq!(rt; report.text.as_str(), text);
-    assert_eq!(rt; report.is_sound, is_sound, "{text}");
+    same(rt, report.text.as_str(), text, "text");
+    same(rt, report.is_sound, is_sound, text);
 }
 
 /// Looks that this is told of a script beside a sound rope, after what the rope holds.

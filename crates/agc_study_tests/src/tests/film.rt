@@ -27,15 +27,17 @@ fn part_of(rt: &(impl AllocGlobal + Abort), from: u64, to: u64) -> Reel {
 /// Looks that a reel has these two frames, which may be one, at its ends.
 fn begins_and_ends(rt: &impl Abort, reel: &Reel, first: u64, last: u64) {
     let frames = reel.frames.as_slice();
-    assert_eq!(rt; frames.first().map(|frame| frame.cycle), Some(first));
-    assert_eq!(rt; frames.last().map(|frame| frame.cycle), Some(last));
+    let cycles = (
+        frames.first().map(|frame| frame.cycle),
+        frames.last().map(|frame| frame.cycle),
+    );
+    same(rt, cycles, (Some(first), Some(last)), "ends");
 }
 
 /// Looks that a reel has so many frames, and tells of this stop and this cycle at its end.
 fn stops(rt: &impl Abort, reel: &Reel, frames: usize, stop: Option<Stop>, cycle: u64) {
-    assert_eq!(rt; reel.frames.len(), frames, "up to {cycle}");
-    assert_eq!(rt; reel.stop, stop, "up to {cycle}");
-    assert_eq!(rt; reel.cycle, cycle);
+    let told = (reel.frames.len(), reel.stop, reel.cycle);
+    same(rt, told, (frames, stop, cycle), "stop");
 }
 
 /// Two files of these names.
@@ -194,9 +196,9 @@ static KEYS: &str = "10 key VERB\n20 pro down\n25 input 16 00001\n30 pro up\n31 
 
 /// Looks that a reel has so many presses, of which this is the last one.
 fn presses_end(rt: &impl Abort, reel: &Reel, presses: usize, cycle: u64, button: Button) {
-    assert_eq!(rt; reel.presses.len(), presses);
+    same(rt, reel.presses.len(), presses, "presses");
     let last = reel.presses.as_slice().last().copied();
-    assert_eq!(rt; last, Some(Press { cycle, button }));
+    same(rt, last, Some(Press { cycle, button }), "last press");
 }
 
 /// Of the names of the files `<`, the backslash and what does not print in ASCII stand in octal: é has the two bytes

@@ -12,7 +12,7 @@ fn tells(rt: &(impl AllocGlobal + Abort), text: &str, told: &str) {
     let line = misnamed_line(rt.alloc(), misnamed)
         .ok()
         .expect(rt, "memory");
-    assert_eq!(rt; line.as_str(), told);
+    same(rt, line.as_str(), told, "line");
 }
 
 /// Another order than the word's, as a basic order or as an extracode, whichever stands there.

@@ -21,14 +21,14 @@ fn names(rt: &(impl AllocGlobal + Abort)) -> NameTable {
 fn goes_by(rt: &(impl AllocGlobal + Abort), names: &NameTable, at: Location, name: &str) {
     let mut text = String::new(rt.alloc());
     push_named(&mut text, names, at).ok().expect(rt, "memory");
-    assert_eq!(rt; text.as_str(), name);
+    same(rt, text.as_str(), name, "name");
 }
 
 /// Looks that a place has this column.
 fn has_column(rt: &(impl AllocGlobal + Abort), names: &NameTable, at: Location, column: &str) {
     let mut text = String::new(rt.alloc());
     push_column(&mut text, names, at).ok().expect(rt, "memory");
-    assert_eq!(rt; text.as_str(), column);
+    same(rt, text.as_str(), column, "column");
 }
 
 /// 100 octal are 64 words, and bank 03 begins at 6000.

@@ -25,9 +25,9 @@ impl Progress for Told {
 
 /// Looks that it was told so often, the last time at this cycle, and what the cycles come to.
 fn was_told(rt: &impl Abort, told: &Told, times: u64, cycle: u64, sum: u64) {
-    assert_eq!(rt; told.times, times);
-    assert_eq!(rt; told.cycle, cycle);
-    assert_eq!(rt; told.sum, sum);
+    same(rt, told.times, times, "times");
+    same(rt, told.cycle, cycle, "cycle");
+    same(rt, told.sum, sum, "sum");
 }
 
 /// A run in which each boundary takes one cycle, since TIME1 does not overflow in it.

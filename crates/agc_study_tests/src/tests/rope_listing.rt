@@ -20,7 +20,7 @@ fn prints(rt: &(impl AllocGlobal + Abort), word: u16, extracode: bool, printed: 
     push_order(&mut text, extracode, Narrow::with_bits(word % 0o100000))
         .ok()
         .expect(rt, "memory");
-    assert_eq!(rt; text.as_str(), printed);
+    same(rt, text.as_str(), printed, "order");
 }
 
 #[test]
@@ -187,7 +187,7 @@ fn store_of(rt: &(impl AllocGlobal + Abort), form: RopeForm, file: &[u8]) -> Sto
 /// Looks that a memory is listed so: all banks of it, or one alone.
 fn is_listed(rt: &(impl AllocGlobal + Abort), store: &Store, bank: Option<u8>, listed: &str) {
     let text = list(rt.alloc(), store, bank).ok().expect(rt, "memory");
-    assert_eq!(rt; text.as_str(), listed);
+    same(rt, text.as_str(), listed, "listing");
 }
 
 /// Looks that the rope that a text weaves to is listed so.
@@ -244,8 +244,8 @@ fn comes_back(
     let rope = rope_by_its_listing(rt.alloc(), source, file.as_slice(), form)?;
     let store = Store::new(rope);
     is_listed(rt, &store, None, text);
-    assert_eq!(rt; store.fixed(0, 0).bits(), 0o77777);
-    assert_eq!(rt; store.fixed(0, 1).bits(), 0);
+    same(rt, store.fixed(0, 0).bits(), 0o77777, "first word");
+    same(rt, store.fixed(0, 1).bits(), 0, "second word");
     Ok(())
 }
 
@@ -285,7 +285,7 @@ fn lines_for_readers(rt: HostRuntime) {
 /// Looks that a text weaves to these bytes.
 fn weaves_to(rt: &(impl AllocGlobal + Abort), form: RopeForm, text: &str, bytes: &[u8]) {
     let file = woven(rt, form, text);
-    assert_eq!(rt; file.as_slice(), bytes);
+    same(rt, file.as_slice(), bytes, text);
 }
 
 /// Files by hand: as long as their words need, and one word at least.
