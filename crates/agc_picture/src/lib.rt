@@ -7,8 +7,6 @@ mod keyboard;
 mod lamps;
 mod picture;
 mod segment;
-#[cfg(test)]
-mod tests;
 
 pub use ink::{Ink, Paint};
 pub use keyboard::Cap;

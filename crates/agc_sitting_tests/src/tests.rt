@@ -1,6 +1,7 @@
 //! What is said and given to a machine as it runs, worked out by hand.
 mod answer;
 mod conversation;
+mod picture;
 mod request;
 mod seat;
 mod sitting;

@@ -1,30 +1,45 @@
-//! Pictures of faces that were worked out by hand. The words of the writes are octal.
-use crate::face::{push_large_face, push_small_face};
-use crate::{Cap, Ink};
-use agc_panel::{Face, Panel};
-use agc_processor::ChannelWrite;
+//! Pictures of a panel that was worked out by hand. The words of the writes are octal.
+use super::{equal, sitting_of};
+use agc_picture::{Cap, Ink, Size, View, push_picture};
 use agc_script::Key;
-use agc_word::Narrow;
 use std::process::Abort;
-use std::test::Fail;
 
-/// The face after relay words for PROG 12, for +1 and then 9 in R1, and for COMP ACTY, TEMP and the flash.
-fn face(rt: &(impl AllocGlobal + Abort)) -> Face {
-    let mut panel = Panel::new();
-    for (channel, word) in [
-        (0o10, 0o54171),
-        (0o10, 0o40003),
-        (0o10, 0o36037),
-        (0o11, 0o52),
-    ] {
-        let value = Narrow::from_bits(word).expect(rt, "15 bits");
-        panel.take(&ChannelWrite {
-            cycle: 0,
-            channel,
-            value,
-        });
-    }
-    panel.face()
+/// Writes relay words for PROG 12, for +1 and then 9 in R1, and then lights COMP ACTY, TEMP and the flash.
+static SHOWS: &str = "
+4000 34020 CA 4020
+4001 00006 EXTEND
+4002 01010 WRITE 10
+4003 34021 CA 4021
+4004 00006 EXTEND
+4005 01010 WRITE 10
+4006 34022 CA 4022
+4007 00006 EXTEND
+4010 01010 WRITE 10
+4011 34023 CA 4023
+4012 00006 EXTEND
+4013 01011 WRITE 11
+4014 14014 TCF 4014
+4020 54171
+4021 40003
+4022 36037
+4023 00052
+";
+
+/// The picture after these writes, which take five cycles each, in the light half of the flash.
+fn picture(rt: &(impl AllocGlobal + Abort), size: Size) -> String {
+    let mut sitting = sitting_of(rt, SHOWS, "", 100);
+    sitting.go_to(20);
+    let view = View {
+        size,
+        ink: Ink::Plain,
+        is_dark: false,
+        pressed: None,
+    };
+    let mut text = String::new(rt.alloc());
+    push_picture(&mut text, view, &sitting)
+        .ok()
+        .expect(rt, "memory");
+    text
 }
 
 /// The text has these lines, from a first one on.
@@ -35,11 +50,11 @@ fn has_lines(rt: &(impl AllocGlobal + Abort), text: &str, first: usize, lines: &
     assert!(rt; first.saturating_add(lines.len()) <= text.lines().count());
 }
 
-/// A line high, digits are as the panel prints them; a lamp that is on has a mark.
+/// A line high, digits are as the panel prints them; a lamp that is on has a mark. The keyboard stands below an empty
+/// line.
 #[test]
-fn small_face(rt: HostRuntime) -> Result<(), Fail> {
-    let mut text = String::new(rt.alloc());
-    push_small_face(&mut text, Ink::Plain, &face(&rt))?;
+fn small_face(rt: HostRuntime) {
+    let text = picture(&rt, Size::Small);
     let want = [
         "  UPLINK ACTY *TEMP           *COMP ACTY      PROG 12",
         "  NO ATT       GIMBAL LOCK    ",
@@ -48,17 +63,16 @@ fn small_face(rt: HostRuntime) -> Result<(), Fail> {
         "  OPR ERR      TRACKER        R1 +1_9__",
         "               ALT            R2 ______",
         "  ISS          VEL            R3 ______",
+        "",
     ];
     has_lines(&rt, &text, 0, &want);
-    assert_eq!(rt; text.as_str().lines().count(), 7);
-    Ok(())
+    equal(&rt, text.as_str().lines().count(), 12);
 }
 
 /// Three lines high, digits and signs are made of bars.
 #[test]
-fn large_face(rt: HostRuntime) -> Result<(), Fail> {
-    let mut text = String::new(rt.alloc());
-    push_large_face(&mut text, Ink::Plain, &face(&rt))?;
+fn large_face(rt: HostRuntime) {
+    let text = picture(&rt, Size::Large);
     let head = [
         "  UPLINK ACTY *TEMP           *COMP ACTY      PROG",
         "                                                ╻ ╺━┓ ",
@@ -72,8 +86,8 @@ fn large_face(rt: HostRuntime) -> Result<(), Fail> {
         "               ALT             ╹    ╹     ╺━┛         ",
     ];
     has_lines(&rt, &text, 8, &register);
-    assert_eq!(rt; text.as_str().lines().count(), 17);
-    Ok(())
+    has_lines(&rt, &text, 17, &[""]);
+    equal(&rt, text.as_str().lines().count(), 22);
 }
 
 /// Keys are typed by the bytes that the page names, and by no other.
