@@ -16,7 +16,9 @@ use Rattle.agc_rope_listing.specs.declared.order.Operand.{Operand}
 use Rattle.agc_source_words.specs.Mnemonic.{basic_named, extracode_named}
 use Rattle.agc_source_words.specs.Row.{basic_word, extracode_word}
 use Rattle.agc_source.specs.OrderLines.{HasOrder, IsListed, IsReadAlong, Names, OrderLine, row_of}
-use Rattle.agc_source.proofs.OwnWords.{basic_fits, basic_names, basic_shows, extracode_fits, extracode_names, extracode_shows}
+use Rattle.agc_source_words.proofs.BasicRows.{names_it as basic_names, shows_it as basic_shows}
+use Rattle.agc_source_words.proofs.ExtracodeRows.{names_it as extracode_names, shows_it as extracode_shows}
+use Rattle.agc_source.proofs.OwnWords.{basic_fits, extracode_fits}
 use Rattle.agc_source.proofs.Rows.{basic_by_name, extracode_by_name, own_basic, own_extracode}
 
 -- an order by its mnemonic has this mnemonic

@@ -1,3 +1,3 @@
-mod BasicRows
-mod ExtracodeRows
+pub mod BasicRows
+pub mod ExtracodeRows
 mod Naming
