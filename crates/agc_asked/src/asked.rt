@@ -1,10 +1,9 @@
 //! What the program is asked for.
-use agc_count::{Layout, Span};
+use agc_count::Layout;
 use agc_film::{Part, RunFiles};
-use agc_jobs::Span as TableSpan;
 use agc_shown::By;
 use agc_store::RopeForm;
-use agc_trace::Selection;
+use agc_trace::{Selection, Span};
 
 /// The name by which the program speaks of itself.
 pub const NAME: &str = "agc-study";
@@ -170,7 +169,7 @@ pub struct Watching {
     /// The text of `--watch`.
     pub watch: String,
     /// The cycles in which they are told.
-    pub span: TableSpan,
+    pub span: Span,
 }
 
 /// Two runs to compare.

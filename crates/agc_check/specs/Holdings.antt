@@ -4,6 +4,7 @@ use Rattle.std.specs.Prelude.{Option, Some, None}
 use Rattle.std.specs.List.{list_any, range_with_len}
 use Rattle.agc_word.specs.Number.{Number, pattern_of}
 use Rattle.agc_store.specs.Memory.{fixed_at}
+use Rattle.agc_store.specs.Places.{fixed_bank_size, fixed_banks, fixed_words}
 use Rattle.agc_script.specs.declared.event.Event.{Event}
 use Rattle.agc_check.specs.declared.holdings.RopeHoldings.{RopeHoldings}
 use Rattle.agc_check.specs.declared.holdings.ScriptHoldings.{ScriptHoldings}
@@ -16,14 +17,15 @@ is_woven_at words place = not (pattern_of 15 (fixed_at place words) == 0)
 -- whether a bank of 2000 octal words has one that is not +0
 unfoldable pub has_words : List Number → ℕ → Bool
 has_words words bank =
-    list_any (λ offset. is_woven_at words (0o2000 * bank + offset)) (range_with_len 0 0o2000)
+    list_any (λ offset. is_woven_at words (fixed_bank_size * bank + offset))
+    (range_with_len 0 fixed_bank_size)
 
 -- how many of the 36,864 words are not +0, and how many of the 36 banks have one
 unfoldable pub word_count : List Number → ℕ
-word_count words = length (filter (is_woven_at words) (range_with_len 0 36864))
+word_count words = length (filter (is_woven_at words) (range_with_len 0 fixed_words))
 
 unfoldable pub bank_count : List Number → ℕ
-bank_count words = length (filter (has_words words) (range_with_len 0 36))
+bank_count words = length (filter (has_words words) (range_with_len 0 fixed_banks))
 
 unfoldable pub rope_holdings : List Number → RopeHoldings
 rope_holdings words = record { words = word_count words; banks = bank_count words }

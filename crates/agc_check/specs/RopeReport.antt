@@ -5,6 +5,7 @@ use Rattle.std.specs.Fmt.{decimal}
 use Rattle.agc_word.specs.Number.{Number, pattern_of}
 use Rattle.agc_word.specs.Octal.{octal_digits}
 use Rattle.agc_store.specs.Cells.{narrow_number}
+use Rattle.agc_store.specs.Places.{fixed_bank_size, fixed_banks}
 use Rattle.agc_store.specs.RopeFile.{file_word, rope_fault_of, rope_words}
 use Rattle.agc_store.specs.declared.rope_file.RopeForm.{RopeForm}
 use Rattle.agc_store.specs.declared.rope_file.RopeFault.{RopeFault}
@@ -20,7 +21,7 @@ use Rattle.agc_check.specs.declared.holdings.RopeHoldings.{RopeHoldings}
 
 -- a fault of a parity stands in one of the 36 banks
 abbrev pub IsPlaced : RopeFault → Type 0
-IsPlaced (rope.Parity bank offset) = (bank < 36) × (offset < 0o2000)
+IsPlaced (rope.Parity bank offset) = (bank < fixed_banks) × (offset < fixed_bank_size)
 IsPlaced fault = Unit {0}
 
 unfoldable pub rope_holdings_text : RopeHoldings → List ℕ
@@ -43,7 +44,7 @@ bad_word_text bank address word =
 -- which word has the wrong parity
 unfoldable pub parity_why : List ℕ → ℕ → ℕ → List ℕ
 parity_why file bank offset =
-    let index = 0o2000 * bank + offset in
+    let index = fixed_bank_size * bank + offset in
     bad_word_text bank (listed_address index) (file_word file index)
 
 unfoldable pub rope_why : List ℕ → RopeFault → List ℕ

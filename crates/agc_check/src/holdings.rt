@@ -1,5 +1,6 @@
 //! What a rope and a script hold, counted.
 ghost use Rattle.std.specs.Prelude.{◌≡◌, ◌<◌, ◌*◌, ◌+◌};
+ghost use Rattle.agc_store.specs.Places.{fixed_banks, fixed_words};
 ghost use Rattle.agc_check.specs.Holdings.{
   bank_count,
   has_words,
@@ -11,7 +12,7 @@ ghost use Rattle.agc_check.specs.Holdings.{
 };
 
 use agc_script::Script;
-use agc_store::place::FIXED_WORDS;
+use agc_store::place::{FIXED_BANK_SIZE, FIXED_BANKS, FIXED_WORDS};
 use agc_store::{Rope, Store};
 
 /// How much of a rope is woven.
@@ -71,22 +72,25 @@ fn word_count(store: &Store) -> usize
 fn bank_count(store: &Store) -> usize
     ensures { result ≡ bank_count store.now.fixed }
 {
-    (0..36).filter(|bank| has_words(store, *bank)).count()
+    (0..usize::from(FIXED_BANKS))
+        .filter(|bank| has_words(store, *bank))
+        .count()
 }
 
 /// Whether a bank holds a word that is not +0.
 #[tactic(auto, unfolding(crate::specs::Holdings::has_words))]
 fn has_words(store: &Store, bank: usize) -> bool
-    requires { bank < 36 }
+    requires { bank < fixed_banks }
     ensures { result ≡ has_words store.now.fixed bank }
 {
-    (0..0o2000).any(|offset| is_woven_at(store, 0o2000 * bank + offset))
+    let size = usize::from(FIXED_BANK_SIZE);
+    (0..size).any(|offset| is_woven_at(store, size * bank + offset))
 }
 
 /// Whether the word at a place, 2000 octal times its bank plus its offset, is not +0.
 #[tactic(auto, unfolding(crate::specs::Holdings::is_woven_at))]
 pub(crate) fn is_woven_at(store: &Store, place: usize) -> bool
-    requires { place < 36864 }
+    requires { place < fixed_words }
     ensures { result ≡ is_woven_at store.now.fixed place }
 {
     store.fixed_at(place).bits() != 0

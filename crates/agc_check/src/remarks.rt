@@ -7,8 +7,7 @@ use crate::names::nearest;
 use crate::shown::push_bytes;
 use agc_script::{
     Base, Command, DIRECTIONS, EVERY, FaultKind, Key, LAST_CYCLE, LONGEST_LINE, MOST_CYCLE_DIGITS,
-    MOST_DIGITS, MOST_EVENTS, NumberRange, PULSES, ScriptFault, direction_name, pulse_name,
-    read_cycle,
+    MOST_DIGITS, MOST_EVENTS, NumberRange, PULSES, ScriptFault, direction_name, read_cycle,
 };
 use std::alloc::{AllocError, Global};
 
@@ -221,7 +220,7 @@ fn push_unknown_name(
         Command::Pulse => {
             let names: Vec<&'static [u8]> = PULSES
                 .iter()
-                .map(|kind| pulse_name(*kind).as_bytes())
+                .map(|kind| kind.name().as_bytes())
                 .collect(alloc)?;
             push_nearest(alloc, text, word, "kind of pulse", names.as_slice())
         }

@@ -2,6 +2,7 @@
 ghost use Rattle.std.specs.Prelude.{◌≡◌, ◌<◌, ◌*◌, ◌+◌, ◌++◌, get_or, is_none, IfOk, OnOk, string_bytes};
 ghost use Rattle.agc_store.specs.RopeFile.{file_word, rope_fault_of};
 ghost use Rattle.agc_rope_listing.specs.List.{listed_address};
+ghost use Rattle.agc_store.specs.Places.{fixed_bank_size, fixed_banks, fixed_words};
 ghost use Rattle.agc_check.specs.RopeReport.{IsPlaced, bad_word_text, parity_why, rope_fault_text};
 ghost use Rattle.agc_check.specs.RopeReport.{rope_holdings_text, rope_report, rope_why, sound_rope_text, word_with_parity};
 
@@ -100,8 +101,8 @@ fn push_why(text: &mut String, file: &[u8], fault: RopeFault) -> Result<(), Allo
 /// these have.
 #[tactic(auto, unfolding(crate::specs::RopeReport::parity_why))]
 fn push_parity_why(text: &mut String, file: &[u8], bank: u8, offset: u16) -> Result<(), AllocError>
-    requires bank { bank < 36 }
-    requires offset { offset < 0o2000 }
+    requires bank { bank < fixed_banks }
+    requires offset { offset < fixed_bank_size }
     ensures { OnOk result
         (string_bytes text.new ≡ string_bytes text.old ++ parity_why file.now bank offset) }
 {
@@ -112,7 +113,7 @@ fn push_parity_why(text: &mut String, file: &[u8], bank: u8, offset: u16) -> Res
 /// Adds a place of a fixed bank and the word that stands there in the file.
 #[tactic(auto, unfolding(crate::specs::RopeReport::bad_word_text))]
 fn push_bad_word(text: &mut String, bank: u8, address: u16, word: u16) -> Result<(), AllocError>
-    requires bank { bank < 36 }
+    requires bank { bank < fixed_banks }
     requires address { address < 0o10000 }
     ensures { OnOk result
         (string_bytes text.new ≡ string_bytes text.old ++ bad_word_text bank address word) }
@@ -138,7 +139,7 @@ fn push_word(text: &mut String, word: u16) -> Result<(), AllocError>
 /// The sixteen bits of a file's word, the higher byte first; 0 past its end.
 #[tactic(auto, unfolding(agc_store::specs::RopeFile::file_word))]
 fn word_in_file(file: &[u8], index: usize) -> u16
-    requires { index < 36864 }
+    requires { index < fixed_words }
     ensures { result ≡ file_word file.now index }
 {
     256 * u16::from(byte_at(file, 2 * index)) + u16::from(byte_at(file, 2 * index + 1))

@@ -8,6 +8,6 @@ mod values;
 mod words;
 
 pub use mistakes::{fault_of, mistaken_word};
-pub use parameters::{form_option, limit_option, rope_file, script_file, with_parameter};
+pub use parameters::{FORMS, form_option, limit_option, rope_file, script_file, with_parameter};
 pub use values::{form_of, number_of, path_of, text_of};
 pub use words::{WordsFault, words_of};

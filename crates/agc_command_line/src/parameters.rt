@@ -6,7 +6,8 @@ ghost use Rattle.agc_command_line.specs.Parameters.{IsFormOption, file_parameter
 use clap::{Arg, Command, value_parser};
 use std::alloc::{AllocError, Global};
 
-static FORMS: [&str; 2] = ["classic", "parity"];
+/// The names of the forms of a rope file.
+pub static FORMS: [&str; 2] = ["classic", "parity"];
 
 /// The command with one more parameter. Its one clause is all that callers want: what clap says of a command is long, and
 /// the prover carries it along from each parameter to the next.

@@ -1,9 +1,8 @@
 //! The command line that `clap` reads: the subcommands with their files and options.
 use crate::words::{Subcommands, Words, flag, number, option, repeated};
+use agc_command_line::FORMS;
 use clap::{ArgAction, Command};
 use std::alloc::{AllocError, Global};
-
-static FORMS: [&str; 2] = ["classic", "parity"];
 
 static KINDS: [&str; 3] = ["writes", "interrupts", "jumps"];
 

@@ -3,7 +3,8 @@ use Rattle.std.specs.Prelude.{ℕ, zero, suc, if◌then◌else◌}
 use Rattle.std.specs.Prelude.{List, [], ◌∷◌, ◌++◌}
 use Rattle.agc_word.specs.Number.{Number}
 use Rattle.agc_store.specs.Memory.{cell_at}
-use Rattle.agc_places.specs.Cell.{erasable_cells, same_word}
+use Rattle.agc_places.specs.Cell.{same_word}
+use Rattle.agc_store.specs.Places.{erasable_cells}
 use Rattle.agc_compare.specs.declared.cells.CellPair.{CellPair}
 
 -- a cell by its two words, where they differ

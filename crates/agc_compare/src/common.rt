@@ -1,6 +1,6 @@
 //! The boundaries that two runs have in common from their starts.
-ghost use Rattle.std.specs.Prelude.{◌≡◌, [], ◌∷◌, ◌++◌, IfOk};
-ghost use Rattle.circular_buffer.specs.Buffer.{buffer, keep_last};
+ghost use Rattle.std.specs.Prelude.{◌≡◌, [], IfOk};
+ghost use Rattle.circular_buffer.specs.Buffer.{buffer};
 ghost use Rattle.agc_shown.specs.Common.{kept};
 ghost use Rattle.agc_compare.specs.Common.{ComesApart};
 
@@ -9,13 +9,10 @@ use agc_machine::Machine;
 use agc_panel::Panel;
 use agc_processor::ChannelWrite;
 use agc_progress::{Progress, tell_at};
-use agc_shown::one_more;
+use agc_shown::{one_more, push_last};
 use agc_trace::{Entry, next_entry};
 use circular_buffer::HeapCircularBuffer;
-use std::alloc::{AllocError, Global};
-
-/// How many of the last common boundaries are kept.
-const KEPT: usize = 5;
+use std::alloc::AllocError;
 
 /// How much two runs have in common.
 #[derive(Clone, Copy, Debug, PartialEq, Eq)]
@@ -33,13 +30,6 @@ pub(crate) struct Common {
 pub(crate) struct Fork {
     pub(crate) left: Entry,
     pub(crate) right: Entry,
-}
-
-/// A place for the last common boundaries, with none yet.
-pub(crate) fn none_kept(alloc: Global) -> Result<HeapCircularBuffer<Entry>, AllocError>
-    ensures { IfOk result (λ last. last ≡ buffer [] kept) }
-{
-    HeapCircularBuffer::with_capacity(alloc, KEPT)
 }
 
 /// Runs both machines as long as their boundaries are the same: past the boundaries that differ, or
@@ -110,12 +100,4 @@ impl Common {
         }
         Ok(())
     }
-}
-
-/// Puts an item after the last ones, in place of the first of these where there is no more room.
-fn push_last<T: Drop>(last: &mut HeapCircularBuffer<T>, item: T)
-    ensures { last.new ≡ buffer
-        (keep_last last.old.capacity (last.old.items ++ item ∷ [])) last.old.capacity }
-{
-    last.push_back(item);
 }

@@ -17,7 +17,7 @@ use Rattle.agc_count.specs.Counts.{count_of, counted, counted_in, counted_one, n
 use Rattle.agc_count.specs.Mode.{at_start, mode_after}
 use Rattle.agc_count.specs.Passage.{is_in, passage_between, passage_of, passages, passages_in, passages_left}
 use Rattle.agc_count.specs.Told.{Told, all_told, told_of}
-use Rattle.agc_count.specs.declared.span.Span.{Span}
+use Rattle.agc_trace.specs.declared.span.Span.{Span}
 use Rattle.agc_count.specs.declared.counts.Counts.{Counts}
 use Rattle.agc_count.specs.declared.mode.Mode.{Mode}
 use Rattle.agc_count.specs.declared.passage.Passage.{Passage}

@@ -27,7 +27,7 @@ use Rattle.agc_count.specs.declared.mode.Mode.{Mode}
 use Rattle.agc_count.specs.declared.named.Named.{Named}
 use Rattle.agc_count.specs.declared.named.Named.TheVariants as named
 use Rattle.agc_count.specs.declared.passage.Passage.{Passage}
-use Rattle.agc_count.specs.declared.span.Span.{Span}
+use Rattle.agc_trace.specs.declared.span.Span.{Span}
 use Rattle.agc_count.specs.declared.tally.Tally.{Tally}
 
 -- two tables that make up a whole have room where the whole has

@@ -29,7 +29,7 @@ use Rattle.agc_count.specs.declared.mode.Mode.{Mode}
 use Rattle.agc_count.specs.declared.named.Named.{Named}
 use Rattle.agc_count.specs.declared.named.Named.TheVariants as named
 use Rattle.agc_count.specs.declared.passage.Passage.{Passage}
-use Rattle.agc_count.specs.declared.span.Span.{Span}
+use Rattle.agc_trace.specs.declared.span.Span.{Span}
 use Rattle.agc_count.specs.declared.tally.Tally.{Tally}
 use Rattle.agc_count.proofs.Left.{happens}
 use Rattle.agc_count.proofs.Places.{added_length, empty_length}

@@ -12,7 +12,7 @@ use Rattle.agc_count.specs.Data.{data_of}
 use Rattle.agc_count.specs.Mode.{at_start, mode_after}
 use Rattle.agc_count.specs.Named.{named_of}
 use Rattle.agc_count.specs.Told.{Told, all_told}
-use Rattle.agc_count.specs.declared.span.Span.{Span}
+use Rattle.agc_trace.specs.declared.span.Span.{Span}
 use Rattle.agc_count.specs.declared.mode.Mode.{Mode}
 use Rattle.agc_count.specs.declared.named.Named.{Named}
 use Rattle.agc_count.specs.declared.passage.Passage.{Passage}

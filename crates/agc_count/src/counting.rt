@@ -16,11 +16,11 @@ use crate::data::{Data, data_read, place_in_hand};
 use crate::mode::{Mode, mode_after_other};
 use crate::named::{Named, mode_past, order_reads};
 use crate::passage::{has_tally, next_passage};
-use crate::span::Span;
 use agc_machine::{InHand, Machine, Upcoming};
 use agc_order::{Basic, Extracode, Takes};
 use agc_progress::{Progress, tell_at};
 use agc_source_words::Location;
+use agc_trace::Span;
 use std::alloc::{AllocError, Global};
 
 /// Runs a machine to its stop, or past a span of cycles, and counts the boundaries that begin in the span.

@@ -6,13 +6,13 @@ use crate::data::Data;
 use crate::named::Named;
 use crate::number::{BASICS, EXTRACODES, basic_number, extracode_number};
 use crate::passage::Passage;
-use crate::span::Span;
 use crate::table::Table;
 use crate::tally::Tally;
 use agc_machine::Upcoming;
 use agc_processor::Rupt;
 use agc_source_words::Location;
 use agc_store::place::{ERASABLE_CELLS, FIXED_BANK_SIZE};
+use agc_trace::Span;
 use std::alloc::{AllocError, Global};
 
 /// The places of fixed memory at which an order may stand: of 40 banks, of which the last four are empty.
@@ -99,7 +99,7 @@ impl Counts {
         requires other { is_order passage.now.happening ≡ false }
         ensures { OnOk result (self.new ≡ counted_in span passage.now self.old) }
     {
-        if span.has(passage) {
+        if span.has(passage.cycle) {
             self.take(passage)
         } else {
             Ok(())
@@ -152,7 +152,7 @@ impl Counts {
         requires cycles { self.old.orders.cycles + passage.now.cycles < 2 ^ 64 }
         ensures { OnOk result (self.new ≡ counted_in span passage.now self.old) }
     {
-        if span.has(passage) {
+        if span.has(passage.cycle) {
             self.take_order(passage, place, named)
         } else {
             Ok(())

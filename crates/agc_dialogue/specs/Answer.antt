@@ -15,9 +15,8 @@ use Rattle.agc_names.specs.Names.{Named}
 use Rattle.agc_trace.specs.Entry.{registers_of}
 use Rattle.agc_trace.specs.Line.{happening_text, registers_text}
 use Rattle.agc_trace.specs.NamedLine.{named_happening}
-use Rattle.agc_script.specs.Written.{word_digits}
 use Rattle.agc_word.specs.Number.{Number}
-use Rattle.agc_word.specs.Octal.{octal_digits}
+use Rattle.agc_word.specs.Octal.{octal_digits, word_digits}
 
 -- a channel write: the cycle in decimal, the channel in three octal digits, the word in five
 abbrev pub write_line : ChannelWrite → List ℕ

@@ -16,7 +16,7 @@ use Rattle.agc_source_words.specs.declared.location.Location.{Location}
 use Rattle.agc_source_words.specs.declared.location.Location.TheVariants as location
 use Rattle.agc_store.specs.Cells.{cell_of}
 use Rattle.agc_store.specs.Memory.{Memory}
-use Rattle.agc_store.specs.Places.{erasable_bank_size}
+use Rattle.agc_store.specs.Places.{erasable_bank_size, erasable_cells}
 use Rattle.agc_word.specs.Number.{Number, pattern_of}
 use Rattle.std.specs.Prelude.{◌/◌, ◌%◌}
 use Rattle.agc_dialogue.specs.Answer.{write_line}
@@ -60,7 +60,7 @@ has_come (sought.Cell cell before) s answer = is_other_word cell before s
 
 -- a cell that is sought is one of those there are
 abbrev pub IsSoughtInRange : Sought → Type 0
-IsSoughtInRange (sought.Cell cell before) = cell < 0o4000
+IsSoughtInRange (sought.Cell cell before) = cell < erasable_cells
 IsSoughtInRange sought.Nothing = Unit {0}
 IsSoughtInRange (sought.Write channel) = Unit {0}
 IsSoughtInRange (sought.Order place) = Unit {0}

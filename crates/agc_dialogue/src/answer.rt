@@ -15,6 +15,7 @@ ghost use Rattle.agc_dialogue.specs.Answer.{
 };
 ghost use Rattle.agc_request.specs.Fault.{fault_text};
 ghost use Rattle.agc_machine.specs.Boundary.{HasPlace};
+ghost use Rattle.agc_store.specs.Places.{erasable_cells};
 ghost use Rattle.agc_word.specs.Channels.{last_io_channel};
 
 use agc_machine::{Stop, Upcoming};
@@ -118,7 +119,7 @@ pub fn push_cell_lines(
     first: u16,
     count: u16,
 ) -> Result<(), AllocError>
-    requires { first + count ≤ 0o4000 }
+    requires { first + count ≤ erasable_cells }
     ensures { OnOk result (string_bytes text.new
         ≡ string_bytes text.old ++ flat_map (cell_line store.now) (range_with_len first count)) }
 {
@@ -131,7 +132,7 @@ pub fn push_cell_lines(
 /// Adds the line of a cell.
 #[tactic(auto, unfolding(crate::specs::Answer::cell_line))]
 fn push_cell_line(text: &mut String, store: &Store, cell: u16) -> Result<(), AllocError>
-    requires { cell < 0o4000 }
+    requires { cell < erasable_cells }
     ensures { OnOk result
         (string_bytes text.new ≡ string_bytes text.old ++ cell_line store.now cell) }
 {

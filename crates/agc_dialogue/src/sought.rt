@@ -4,6 +4,7 @@ ghost use Rattle.agc_machine.specs.Boundary.{upcoming_of};
 ghost use Rattle.agc_machine.specs.Laws.{HasChannel};
 ghost use Rattle.agc_machine.specs.Replay.{writes_in};
 ghost use Rattle.agc_request.specs.Command.{IsTargetInRange};
+ghost use Rattle.agc_store.specs.Places.{erasable_cells};
 ghost use Rattle.agc_dialogue.specs.Talk.{Advances, GoesOn, gone_on};
 ghost use Rattle.agc_dialogue.specs.Way.{
   and_on,
@@ -120,7 +121,7 @@ fn is_at(here: Location, there: Location) -> bool
 
 /// The word of a cell by its number.
 fn word_of(store: &Store, cell: u16) -> Narrow
-    requires { cell < 0o4000 }
+    requires { cell < erasable_cells }
     ensures { result ≡ word_at cell store.now }
 {
     store.cell((cell / ERASABLE_BANK_SIZE) as u8, cell % ERASABLE_BANK_SIZE)

@@ -2,8 +2,8 @@
 use Rattle.std.specs.Prelude.{ℕ, List, ◌++◌, codes}
 use Rattle.std.specs.Fmt.{decimal}
 use Rattle.std.specs.List.{enumerate_from, flat_map}
-use Rattle.agc_word.specs.Number.{Number, pattern_of}
-use Rattle.agc_word.specs.Octal.{octal_digits}
+use Rattle.agc_word.specs.Number.{Number}
+use Rattle.agc_word.specs.Octal.{octal_digits, word_digits}
 use Rattle.agc_executive.specs.declared.core_set.CoreSet.{CoreSet}
 use Rattle.agc_executive.specs.declared.core_set.CoreSet.TheVariants.{Free, Asleep, Ready}
 use Rattle.agc_executive.specs.declared.core_set.Job.{Job}
@@ -11,10 +11,6 @@ use Rattle.agc_executive.specs.declared.core_set.JobPriority.{JobPriority}
 use Rattle.agc_executive.specs.declared.tables.Task.{Task}
 use Rattle.agc_executive.specs.CoreSet.{priority_number}
 use Rattle.agc_executive.specs.Tables.{WatchedTables}
-
--- a word in print: the five octal digits of its pattern
-abbrev pub word_text : Number → List ℕ
-word_text word = octal_digits 5 (pattern_of 15 word)
 
 -- a job's priority in print: two octal digits
 abbrev pub priority_text : JobPriority → List ℕ
@@ -24,7 +20,7 @@ priority_text priority = octal_digits 2 (priority_number priority)
 unfoldable pub job_text : List ℕ → Job → List ℕ
 job_text state job =
     codes " " ++ state ++ codes " " ++ priority_text job.priority
-    ++ codes " LOC " ++ word_text job.loc ++ codes " BANKSET " ++ word_text job.bankset
+    ++ codes " LOC " ++ word_digits job.loc ++ codes " BANKSET " ++ word_digits job.bankset
 
 -- what stands in a core set
 abbrev pub held_text : CoreSet → List ℕ
@@ -38,7 +34,7 @@ core_set_line k set = codes "SET " ++ decimal k ++ held_text set ++ codes "\n"
 
 -- a word of LST1, after a space
 unfoldable pub time_text : Number → List ℕ
-time_text word = codes " " ++ word_text word
+time_text word = codes " " ++ word_digits word
 
 -- the line of LST1
 unfoldable pub lst1_line : List Number → List ℕ
@@ -47,8 +43,8 @@ lst1_line words = codes "LST1" ++ flat_map time_text words ++ codes "\n"
 -- the line of a task of LST2 with its number
 unfoldable pub task_line : ℕ → Task → List ℕ
 task_line k task =
-    codes "LST2 " ++ decimal k ++ codes " " ++ word_text task.address
-    ++ codes " " ++ word_text task.bbcon ++ codes "\n"
+    codes "LST2 " ++ decimal k ++ codes " " ++ word_digits task.address
+    ++ codes " " ++ word_digits task.bbcon ++ codes "\n"
 
 -- a line for each entry, with its number from 0
 unfoldable pub numbered : {A : Type 0} → (ℕ → A → List ℕ) → List A → List ℕ

@@ -12,10 +12,11 @@ use crate::part::Part;
 use crate::recorder::Recorder;
 use crate::reel::{Reel, reel_up_to};
 use agc_executive::CheckedSpec;
-use agc_jobs::{Opening, Span, TablesFilm};
+use agc_jobs::{Opening, TablesFilm};
 use agc_machine::{Machine, Stepped, Stop};
 use agc_panel::Panel;
 use agc_progress::{Progress, tell_at};
+use agc_trace::Span;
 use std::alloc::{AllocError, Global};
 
 /// Runs a machine past a part of its run, or to its stop before that, and makes the reel of that part, with the tables

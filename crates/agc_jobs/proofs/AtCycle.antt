@@ -13,7 +13,7 @@ use Rattle.agc_executive.specs.declared.watch_spec.WatchSpec.{WatchSpec}
 use Rattle.agc_jobs.specs.ChangeLaws.{AreChanges, shown_at, tables_at, up_to}
 use Rattle.agc_jobs.specs.Changes.{Sight, changes, changes_in, shown_after, sight_of, sights_in}
 use Rattle.agc_jobs.specs.States.{states_of}
-use Rattle.agc_jobs.specs.declared.span.Span.{Span}
+use Rattle.agc_trace.specs.declared.span.Span.{Span}
 use Rattle.agc_jobs.proofs.Sights.{early, inside, none_seen, seen_first}
 use Rattle.agc_jobs.proofs.States.{GoForward, never_earlier, states_by_first, states_go_forward, states_go_on}
 

@@ -11,7 +11,7 @@ use Rattle.agc_trace.proofs.Lines.{IsWritten, appends_nothing, nothing_written, 
 use Rattle.agc_jobs.specs.Changes.{Sight, changes, changes_in, is_in, shown_after, sight_of, sights_in}
 use Rattle.agc_jobs.specs.Lines.{change_text, changed_lines, changes_text, jobs_text, line_at, lines_at, lines_in, told_of}
 use Rattle.agc_jobs.specs.States.{states_of}
-use Rattle.agc_jobs.specs.declared.span.Span.{Span}
+use Rattle.agc_trace.specs.declared.span.Span.{Span}
 use Rattle.agc_jobs.proofs.Sights.{none_past, seen, sights_end, sights_go_on, unseen}
 
 -- what is so of an Ok follows from what is

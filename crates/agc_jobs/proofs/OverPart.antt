@@ -17,7 +17,7 @@ use Rattle.agc_jobs.specs.Changes.{Sight, is_in, shown_after, sight_of, sights_i
 use Rattle.agc_jobs.specs.Film.{Telling, after_first, film_of, film_text, held_at}
 use Rattle.agc_jobs.specs.Lines.{change_text, lines_at, lines_in, told_of}
 use Rattle.agc_jobs.specs.States.{states_of}
-use Rattle.agc_jobs.specs.declared.span.Span.{Span}
+use Rattle.agc_trace.specs.declared.span.Span.{Span}
 use Rattle.agc_jobs.proofs.OneByOne.{no_change, told_append, told_by_first, told_none, told_one}
 use Rattle.agc_jobs.proofs.Sights.{after_stop, none_past, seen, sights_end, sights_go_on, unseen}
 

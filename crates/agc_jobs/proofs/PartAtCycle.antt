@@ -7,7 +7,7 @@ use Rattle.agc_jobs.specs.ChangeLaws.{AreChanges, shown_at, tables_at, up_to}
 use Rattle.agc_jobs.specs.Changes.{Sight, shown_after, sight_of, sights_in}
 use Rattle.agc_jobs.specs.Film.{after_first, film_of, held_at, until}
 use Rattle.agc_jobs.specs.States.{states_of}
-use Rattle.agc_jobs.specs.declared.span.Span.{Span}
+use Rattle.agc_trace.specs.declared.span.Span.{Span}
 use Rattle.agc_jobs.proofs.AtCycle.{NeverBack, are_changes, back_later, changes_show, either, first_in, sights_later, tail_same}
 use Rattle.agc_jobs.proofs.Sights.{inside, none_late, none_seen, early}
 use Rattle.agc_jobs.proofs.States.{GoForward, states_go_forward}

@@ -12,7 +12,7 @@ use Rattle.agc_executive.specs.declared.watch_spec.WatchSpec.{WatchSpec}
 use Rattle.agc_trace.proofs.Range.{stays_before}
 use Rattle.agc_jobs.specs.Changes.{Sight, is_in, sight_of, sights_in}
 use Rattle.agc_jobs.specs.States.{states_of}
-use Rattle.agc_jobs.specs.declared.span.Span.{Span}
+use Rattle.agc_trace.specs.declared.span.Span.{Span}
 use Rattle.agc_jobs.proofs.States.{GoForward, states_end, states_go_forward, states_go_on}
 
 none_of : (b : Bool) → (b && false) ≡ false

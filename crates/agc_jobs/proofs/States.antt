@@ -9,22 +9,23 @@ use Rattle.agc_machine.specs.declared.answer.Stepped.{Stepped}
 use Rattle.agc_machine.specs.declared.answer.Stepped.TheVariants as stepped
 use Rattle.agc_machine.specs.declared.answer.Stop.{Stop}
 use Rattle.agc_machine.proofs.Chain.{boundary_falls, some_left}
-use Rattle.agc_jobs.specs.States.{states_left, states_of, states_unless, states_within}
+use Rattle.agc_jobs.specs.States.{states_of, states_within}
+use Rattle.agc_trace.specs.Trace.{entries_left, entries_unless}
 
-at_most : (o : Option Stop) (t : State) → states_unless o t ≤ boundaries_left t + 1
+at_most : (o : Option Stop) (t : State) → entries_unless o t ≤ boundaries_left t + 1
 at_most (Some why) t = omega arith
 at_most None t = omega arith
 
-at_run : (o : Option Stop) (s : State) → o ≡ None → states_unless o s ≡ boundaries_left s + 1
+at_run : (o : Option Stop) (s : State) → o ≡ None → entries_unless o s ≡ boundaries_left s + 1
 at_run (Some why) s e = cc
 at_run None s e = refl
 
-at_stop : (o : Option Stop) (s : State) (why : Stop) → o ≡ Some why → states_unless o s ≡ 1
+at_stop : (o : Option Stop) (s : State) (why : Stop) → o ≡ Some why → entries_unless o s ≡ 1
 at_stop (Some other) s why e = refl
 at_stop None s why e = cc
 
-falls_fewer : (s : State) (r : State × Stepped) → s.stopped ≡ None → Falls s r → states_left r.0 < states_left s
-unfolding states_left
+falls_fewer : (s : State) (r : State × Stepped) → s.stopped ≡ None → Falls s r → entries_left r.0 < entries_left s
+unfolding entries_left
 falls_fewer s (t, stepped.Quiet) e h = omega (arith, at_most t.stopped t, at_run s.stopped s e, h.0)
 falls_fewer s (t, stepped.Wrote write) e h = omega (arith, at_most t.stopped t, at_run s.stopped s e, h.0)
 falls_fewer s (t, stepped.Stopped why) e h = omega (arith, at_stop t.stopped t why h.0, at_run s.stopped s e, some_left s)
@@ -34,15 +35,15 @@ runs_by (Some why) e = cc
 runs_by None e = refl
 
 -- a boundary of a run that goes on leaves fewer states
-pub fewer_states : (s : State) → is_some s.stopped ≡ false → states_left (boundary None s).0 < states_left s
+pub fewer_states : (s : State) → is_some s.stopped ≡ false → entries_left (boundary None s).0 < entries_left s
 fewer_states s e = falls_fewer s (boundary None s) (runs_by s.stopped e) (boundary_falls s)
 
-some_by : (o : Option Stop) (s : State) → 1 ≤ states_unless o s
+some_by : (o : Option Stop) (s : State) → 1 ≤ entries_unless o s
 some_by (Some why) s = omega arith
 some_by None s = omega arith
 
-some_state : (s : State) → 1 ≤ states_left s
-unfolding states_left
+some_state : (s : State) → 1 ≤ entries_left s
+unfolding entries_left
 some_state s = some_by s.stopped s
 
 same_rest : (b : Bool) (s : State) (xs ys : List State) → (b ≡ false → xs ≡ ys) →
@@ -51,7 +52,7 @@ same_rest true s xs ys h = refl
 same_rest false s xs ys h = ap (λ (zs : List State). s ∷ zs) (h refl)
 
 -- with states enough, more make no difference
-same_states : (n m : ℕ) (s : State) → states_left s ≤ n → states_left s ≤ m → states_within n s ≡ states_within m s
+same_states : (n m : ℕ) (s : State) → entries_left s ≤ n → entries_left s ≤ m → states_within n s ≡ states_within m s
 unfolding states_within
 same_states zero m s h k = absurd (omega (arith, some_state s))
 same_states (suc n) zero s h k = absurd (omega (arith, some_state s))
@@ -63,9 +64,9 @@ same_states (suc n) (suc m) s h k =
 pub states_by_first : (s : State) → states_of s ≡ s ∷ (if is_some s.stopped then [] else states_of (boundary None s).0)
 unfolding states_of states_within
 states_by_first s =
-    same_states (states_left s) (suc (states_left s)) s (omega arith) (omega arith)
+    same_states (entries_left s) (suc (entries_left s)) s (omega arith) (omega arith)
     ∙ same_rest (is_some s.stopped) s _ _
-    (λ f. same_states (states_left s) (states_left (boundary None s).0) (boundary None s).0 (omega (arith, fewer_states s f)) (omega arith))
+    (λ f. same_states (entries_left s) (entries_left (boundary None s).0) (boundary None s).0 (omega (arith, fewer_states s f)) (omega arith))
 
 goes_on : (b : Bool) (s : State) (xs : List State) → b ≡ false → (s ∷ (if b then [] else xs)) ≡ s ∷ xs
 goes_on true s xs e = cc
@@ -110,4 +111,4 @@ forward_within (suc n) s = (
 
 pub states_go_forward : (s : State) → GoForward s.cycle (states_of s)
 unfolding states_of
-states_go_forward s = forward_within (states_left s) s
+states_go_forward s = forward_within (entries_left s) s

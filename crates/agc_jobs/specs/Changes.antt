@@ -6,7 +6,7 @@ use Rattle.agc_machine.specs.State.{State}
 use Rattle.agc_executive.specs.Watcher.{watch_text}
 use Rattle.agc_executive.specs.declared.watch_spec.WatchSpec.{WatchSpec}
 use Rattle.agc_jobs.specs.States.{states_of}
-use Rattle.agc_jobs.specs.declared.span.Span.{Span}
+use Rattle.agc_trace.specs.declared.span.Span.{Span}
 
 -- the tables in print, from a cycle on
 pub record Sight : Type 0 where

@@ -7,7 +7,7 @@ use Rattle.agc_executive.specs.declared.watch_spec.WatchSpec.{WatchSpec}
 use Rattle.agc_jobs.specs.Changes.{Sight, changes, shown_after, sights_in}
 use Rattle.agc_jobs.specs.Lines.{changes_text}
 use Rattle.agc_jobs.specs.States.{states_of}
-use Rattle.agc_jobs.specs.declared.span.Span.{Span}
+use Rattle.agc_trace.specs.declared.span.Span.{Span}
 
 -- the cycles up to one
 abbrev pub until : ℕ → Span

@@ -5,7 +5,7 @@ use Rattle.std.specs.Str.{bytes_eq}
 use Rattle.agc_machine.specs.State.{State}
 use Rattle.agc_executive.specs.declared.watch_spec.WatchSpec.{WatchSpec}
 use Rattle.agc_jobs.specs.Changes.{Sight, changes, changes_in}
-use Rattle.agc_jobs.specs.declared.span.Span.{Span}
+use Rattle.agc_trace.specs.declared.span.Span.{Span}
 
 -- a byte before the first of some lines
 abbrev pub onto_first : ℕ → List (List ℕ) → List (List ℕ)

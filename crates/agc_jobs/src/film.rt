@@ -1,9 +1,9 @@
 //! The tables over a part of a run: those at its first cycle, and the lines that change after that. The run itself is
 //! the caller's, who lets each of its states be looked at.
 use crate::shown::Shown;
-use crate::span::Span;
 use agc_executive::{CheckedSpec, Tables};
 use agc_machine::Machine;
+use agc_trace::Span;
 use std::alloc::{AllocError, Global};
 use std::marker::Model;
 

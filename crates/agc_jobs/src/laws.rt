@@ -7,7 +7,7 @@ ghost use Rattle.agc_machine.specs.State.{State};
 ghost use Rattle.agc_jobs.specs.ChangeLaws.{AreChanges, shown_at, tables_at};
 ghost use Rattle.agc_jobs.specs.Changes.{changes_in};
 ghost use Rattle.agc_jobs.specs.Film.{film_of};
-ghost use Rattle.agc_jobs.specs.declared.span.Span.{Span};
+ghost use Rattle.agc_trace.specs.declared.span.Span.{Span};
 
 /// At each cycle of a span, from its first state on, the changes show what the tables of the run's last state up to then
 /// show.

@@ -4,10 +4,8 @@
 mod film;
 pub mod laws;
 mod shown;
-mod span;
 mod told;
 mod watching;
 
 pub use film::{Opening, TablesFilm};
-pub use span::Span;
 pub use watching::write_changes;

@@ -9,11 +9,10 @@ ghost use Rattle.agc_jobs.specs.Lines.{change_text, jobs_text, told_of};
 ghost use Rattle.agc_jobs.specs.States.{states_of};
 
 use crate::shown::Shown;
-use crate::span::Span;
 use agc_executive::{CheckedSpec, Tables};
 use agc_machine::{Machine, Stepped};
 use agc_progress::{Progress, tell_at};
-use agc_trace::TraceFault;
+use agc_trace::{Span, TraceFault};
 use std::alloc::Global;
 use std::io::Write;
 

@@ -3,15 +3,10 @@ use Rattle.std.specs.Prelude.{ℕ, ◌+◌, ◌/◌, ◌%◌, ◌==◌, ◌&&◌
 use Rattle.std.specs.Prelude.{List, if◌then◌else◌}
 use Rattle.agc_word.specs.Arithmetic.{narrow_of}
 use Rattle.agc_word.specs.Number.{Number, pattern_of}
-use Rattle.agc_word.specs.Octal.{octal_digits}
+use Rattle.agc_word.specs.Octal.{octal_digits, word_digits}
 use Rattle.agc_store.specs.Places.{a_cell, q_cell, erasable_bank_size, erasable_window}
-use Rattle.agc_script.specs.Written.{word_digits}
 use Rattle.agc_rope_listing.specs.declared.place.Place.{Place}
 use Rattle.agc_rope_listing.specs.declared.place.Place.TheVariants as place
-
--- the cells of the 8 erasable banks
-abbrev pub erasable_cells : ℕ
-erasable_cells = 0o4000
 
 -- an erasable cell by its number: its address, or its bank and its address in the window
 abbrev pub cell_place : ℕ → Place

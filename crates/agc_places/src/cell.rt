@@ -2,6 +2,7 @@
 ghost use Rattle.std.specs.Prelude.{◌≡◌, ◌↔◌, ◌<◌, ◌++◌, IsTrue, OnOk, string_bytes};
 ghost use Rattle.agc_rope_listing.specs.Place.{IsInPrint};
 ghost use Rattle.agc_store.specs.Memory.{cell_at};
+ghost use Rattle.agc_store.specs.Places.{erasable_cells};
 ghost use Rattle.agc_store.specs.Registers.{HoldsRegisters};
 ghost use Rattle.agc_places.specs.Cell.{cell_place, cell_word, same_word};
 
@@ -20,12 +21,13 @@ pub struct Cell {
 
 impl Model for Cell {
     ghost use Rattle.std.specs.Prelude.{ℕ, ◌<◌};
+    ghost use Rattle.agc_store.specs.Places.{erasable_cells};
 
     ghost Value = { ℕ };
 
     ghost view = { λ c. c.number };
 
-    ghost invariant = { λ c. c.number < 0o4000 };
+    ghost invariant = { λ c. c.number < erasable_cells };
 
     ghost inverse = { λ n. record { number = n } };
 }
@@ -33,7 +35,7 @@ impl Model for Cell {
 impl Cell {
     /// The cell with this number, for a caller who knows that there is one.
     pub fn new(number: u16) -> Cell
-        requires { number < 0o4000 }
+        requires { number < erasable_cells }
         ensures { result ≡ number }
     {
         Cell { number }
@@ -42,7 +44,7 @@ impl Cell {
     /// Its number, 0 to 3777 octal.
     pub fn number(self) -> u16
         ensures cell { result ≡ self }
-        ensures range { result < 0o4000 }
+        ensures range { result < erasable_cells }
     {
         self.number
     }

@@ -1,8 +1,6 @@
 //! A line as a command, or its fault.
 ghost use Rattle.std.specs.Prelude.{◌≡◌, ◌≤◌, IfOk, IfSome};
-ghost use Rattle.std.specs.List.{list_any};
 ghost use Rattle.agc_script.specs.Event.{last_cycle};
-ghost use Rattle.agc_script.specs.Line.{is_beyond_ascii};
 ghost use Rattle.agc_script.specs.Text.{words_of};
 ghost use Rattle.agc_request.specs.Command.{
   IsCommandInRange,
@@ -29,7 +27,7 @@ use crate::number::{read_channel, read_cycles, read_spec};
 use crate::place::{read_cell, read_cells_after, read_place};
 use crate::words::{alone, is_word, only_word};
 use agc_names::NameTable;
-use agc_script::{LONGEST_LINE, next_word, read_command};
+use agc_script::{LONGEST_LINE, has_high_byte, next_word, read_command};
 
 /// How far a run goes on to what is asked for, where no cycles are said.
 const WITHIN: u64 = 1_000_000;
@@ -48,13 +46,6 @@ pub fn read_request(names: &Option<NameTable>, line: &[u8]) -> Result<Option<Com
     } else {
         read_words(names, line)
     }
-}
-
-/// Whether a byte is beyond ASCII.
-fn has_high_byte(line: &[u8]) -> bool
-    ensures { result ≡ list_any is_beyond_ascii line.now }
-{
-    line.iter().any(|b| *b >= 0x80)
 }
 
 #[tactic(auto, unfolding(crate::specs::Command::words_request))]

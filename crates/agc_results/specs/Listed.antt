@@ -5,9 +5,8 @@ use Rattle.std.specs.Fmt.{decimal}
 use Rattle.std.specs.Io.KnownBytes.{Appends}
 use Rattle.std.specs.declared.alloc.Global.{Global}
 use Rattle.std.specs.declared.string.String.{String}
-use Rattle.agc_word.specs.Number.{pattern_of}
 use Rattle.agc_word.specs.Numeral.{octal_number}
-use Rattle.agc_word.specs.Octal.{octal_digits}
+use Rattle.agc_word.specs.Octal.{word_digits}
 use Rattle.agc_store.specs.RopeFile.{rope_fault_of, rope_words}
 use Rattle.agc_store.specs.declared.rope_file.RopeForm.{RopeForm}
 use Rattle.agc_rope_listing.specs.List.{rope_text}
@@ -78,7 +77,7 @@ pub record IsWeaveWritten (form : RopeForm) (known before after : Option (List �
 abbrev pub misnamed_line : Misnamed → List ℕ
 misnamed_line told =
     codes "agc-study: text line " ++ decimal told.line
-    ++ codes ": the word " ++ octal_digits 5 (pattern_of 15 told.word)
+    ++ codes ": the word " ++ word_digits told.word
     ++ codes " is " ++ order_text (is_extracode told.written) told.word
     ++ codes ", not " ++ mnemonic_of told.written ++ codes "\n"
 

@@ -4,7 +4,7 @@ use Rattle.std.specs.Prelude.{ℕ, zero, suc, ◌+◌, ◌/◌, ◌%◌, ◌==�
 use Rattle.std.specs.Prelude.{List, [], ◌++◌, codes, Option, Some, None, if◌then◌else◌}
 use Rattle.std.specs.List.{flat_map, range_with_len}
 use Rattle.agc_word.specs.Number.{Number, pattern_of}
-use Rattle.agc_word.specs.Octal.{octal_digits}
+use Rattle.agc_word.specs.Octal.{word_digits}
 use Rattle.agc_store.specs.Places.{fixed_bank_size, fixed_fixed, fixed_window, fixed_words}
 use Rattle.agc_store.specs.Memory.{fixed_at}
 use Rattle.agc_rope_listing.specs.Order.{order_text, leads_extracode}
@@ -39,7 +39,7 @@ is_extracode_at words (suc place) =
 unfoldable pub line_text : ℕ → Bool → Number → List ℕ
 line_text place extracode word =
     place_text (listed_place place)
-    ++ codes " " ++ octal_digits 5 (pattern_of 15 word)
+    ++ codes " " ++ word_digits word
     ++ codes " " ++ order_text extracode word
     ++ codes "\n"
 

@@ -95,8 +95,8 @@ pub fn read_place(text: &[u8]) -> Option<usize>
     }
 }
 
-/// The place of the first comma.
-fn first_comma(text: &[u8]) -> Option<usize>
+/// The place of the first comma in a text.
+pub fn first_comma(text: &[u8]) -> Option<usize>
     ensures place { result ≡ position is_comma text.now }
     ensures bound { IfSome result (λ at. at < length text.now) }
 {

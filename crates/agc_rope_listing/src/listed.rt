@@ -59,7 +59,7 @@ fn push_words(
 }
 
 /// Whether the word at a place is an extracode, where the word before it leads to one.
-fn leads_on(leads: bool, place: usize) -> bool
+pub fn leads_on(leads: bool, place: usize) -> bool
     ensures { result ≡ (leads && not (begins_anew place)) }
 {
     leads && !begins_anew(place)

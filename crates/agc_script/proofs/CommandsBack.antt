@@ -11,10 +11,10 @@ use Rattle.agc_word.specs.declared.pulse.Pulse.{Pulse}
 use Rattle.agc_word.specs.declared.pulse.Pulse.TheVariants as pulse
 use Rattle.agc_script.specs.Command.{command_of, input_event, input_of, key_of, number_in, one_of, poke_event, poke_of_words, pro_of, pulse_event, pulse_of, raise_event, raise_of, said_by, three_of, two_of}
 use Rattle.agc_script.specs.Event.{IsNarrow, IsWhatInRange}
-use Rattle.agc_script.specs.Grammar.{all_commands, command_name, command_named, direction_name, direction_named, directions, pulse_name, pulse_named, pulses}
+use Rattle.agc_script.specs.Grammar.{all_commands, command_name, command_named, direction_name, direction_named, directions, pulse_named, pulses}
 use Rattle.agc_script.specs.Key.{all_keys, key_named, name_of}
 use Rattle.agc_script.specs.Text.{is_empty_part, words_of}
-use Rattle.agc_script.specs.Written.{plain_octal, what_text, word_digits}
+use Rattle.agc_script.specs.Written.{plain_octal, what_text}
 use Rattle.agc_script.specs.declared.event.What.{What}
 use Rattle.agc_script.specs.declared.event.What.TheVariants as what
 use Rattle.agc_script.specs.declared.grammar.Base.TheVariants as base
@@ -23,6 +23,8 @@ use Rattle.agc_script.specs.declared.key.Key.TheVariants as key
 use Rattle.agc_script.proofs.Octals.{all_octal, length_octal, octal_back}
 use Rattle.agc_script.proofs.Spaced.{IsWord, is_solid, passes, spaced, words_spaced}
 use Rattle.agc_script.proofs.Spelled.{decimals, digits_are, digits_some, length_spelled, number_back, octal}
+use Rattle.agc_word.specs.Pulses.{pulse_name}
+use Rattle.agc_word.specs.Octal.{word_digits}
 
 -- a word that is known is a word in print
 abbrev is_word : List ℕ → Bool

@@ -3,6 +3,7 @@ use Rattle.std.specs.Prelude.{ℕ, nat_le, Bool, true, false, ◌&&◌, List, []
 use Rattle.std.specs.Prelude.{codes, find}
 use Rattle.std.specs.Str.{bytes_eq}
 use Rattle.agc_word.specs.Channels.{first_io_channel, last_io_channel}
+use Rattle.agc_word.specs.Pulses.{pulse_name}
 use Rattle.agc_word.specs.declared.pulse.Pulse.{Pulse}
 use Rattle.agc_word.specs.declared.pulse.Pulse.TheVariants as pulse
 use Rattle.agc_script.specs.Event.{first_counter, last_counter, last_interrupt, last_bank}
@@ -50,16 +51,6 @@ directions = true ∷ false ∷ []
 
 unfoldable pub direction_named : List ℕ → Option Bool
 direction_named name = find (λ d. bytes_eq (direction_name d) name) directions
-
--- the word for a pulse
-unfoldable pub pulse_name : Pulse → List ℕ
-pulse_name pulse.Pinc = codes "pinc"
-pulse_name pulse.Minc = codes "minc"
-pulse_name pulse.Dinc = codes "dinc"
-pulse_name pulse.Pcdu = codes "pcdu"
-pulse_name pulse.Mcdu = codes "mcdu"
-pulse_name pulse.Shinc = codes "shinc"
-pulse_name pulse.Shanc = codes "shanc"
 
 -- the pulses of a script, which has no Dinc
 unfoldable pub pulses : List Pulse

@@ -2,20 +2,17 @@
 use Rattle.std.specs.Prelude.{ℕ, false, List, ◌++◌, codes}
 use Rattle.std.specs.Fmt.{decimal, digits}
 use Rattle.std.specs.List.{flat_map}
-use Rattle.agc_word.specs.Number.{Number, pattern_of}
-use Rattle.agc_word.specs.Octal.{octal_digits}
-use Rattle.agc_script.specs.Grammar.{direction_name, pulse_name}
+use Rattle.agc_word.specs.Octal.{word_digits}
+use Rattle.agc_word.specs.Pulses.{pulse_name}
+use Rattle.agc_script.specs.Grammar.{direction_name}
 use Rattle.agc_script.specs.Key.{name_of}
 use Rattle.agc_script.specs.declared.event.Event.{Event}
 use Rattle.agc_script.specs.declared.event.What.{What}
 use Rattle.agc_script.specs.declared.event.What.TheVariants as what
 
--- a number in octal, without zeros in front, and a word in five digits
+-- a number in octal, without zeros in front
 abbrev pub plain_octal : ℕ → List ℕ
 plain_octal n = digits 8 false n
-
-abbrev pub word_digits : Number → List ℕ
-word_digits value = octal_digits 5 (pattern_of 15 value)
 
 -- what happens, as the command of a script says it
 unfoldable pub what_text : What → List ℕ

@@ -3,7 +3,7 @@
 ghost use Rattle.std.specs.Prelude.{◌≡◌, IfSome, ◌≢◌};
 ghost use Rattle.agc_word.specs.Numeral.{number_of};
 ghost use Rattle.agc_script.specs.Grammar.{command_name, command_named, argument_count};
-ghost use Rattle.agc_script.specs.Grammar.{direction_name, direction_named, pulse_name};
+ghost use Rattle.agc_script.specs.Grammar.{direction_name, direction_named};
 ghost use Rattle.agc_script.specs.Grammar.{pulse_named, radix, is_within, ranges_of, offsets_in};
 
 use agc_word::{FIRST_IO_CHANNEL, LAST_IO_CHANNEL, Pulse, read_decimal, read_octal};
@@ -139,22 +139,6 @@ pub(crate) fn direction_from_name(name: &[u8]) -> Option<bool>
         .find(|down| direction_name(*down).as_bytes() == name)
 }
 
-/// The word for a pulse.
-#[tactic(auto, unfolding(crate::specs::Grammar::pulse_name))]
-pub fn pulse_name(kind: Pulse) -> &'static str
-    ensures { result.now ≡ pulse_name kind }
-{
-    match kind {
-        Pulse::Pinc => "pinc",
-        Pulse::Minc => "minc",
-        Pulse::Dinc => "dinc",
-        Pulse::Pcdu => "pcdu",
-        Pulse::Mcdu => "mcdu",
-        Pulse::Shinc => "shinc",
-        Pulse::Shanc => "shanc",
-    }
-}
-
 /// The pulse of a name; a script has no `Dinc`.
 #[tactic(auto, unfolding(crate::specs::Grammar::pulse_named, crate::specs::Grammar::pulses))]
 pub(crate) fn pulse_from_name(name: &[u8]) -> Option<Pulse>
@@ -164,7 +148,7 @@ pub(crate) fn pulse_from_name(name: &[u8]) -> Option<Pulse>
     PULSES
         .iter()
         .copied()
-        .find(|kind| pulse_name(*kind).as_bytes() == name)
+        .find(|kind| kind.name().as_bytes() == name)
 }
 
 /// The base in which a word writes its number.

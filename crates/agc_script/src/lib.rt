@@ -21,10 +21,10 @@ pub use event::{Event, LAST_CYCLE, MOST_EVENTS, What};
 pub use fault::{FaultKind, ScriptFault};
 pub use grammar::{
     BANKS, Base, CHANNELS, COUNTERS, Command, DIRECTIONS, INTERRUPTS, MOST_ARGUMENTS, MOST_DIGITS,
-    NumberRange, PATTERNS, PULSES, direction_name, offsets, pulse_name,
+    NumberRange, PATTERNS, PULSES, direction_name, offsets,
 };
 pub use key::Key;
-pub use line::{EVERY, LONGEST_LINE, MOST_CYCLE_DIGITS, read_cycle};
+pub use line::{EVERY, LONGEST_LINE, MOST_CYCLE_DIGITS, has_high_byte, read_cycle};
 pub use script::Script;
 pub use tape::Tape;
 pub use text::{next_line, next_word, without_return};

@@ -50,8 +50,8 @@ pub(crate) fn read_line(last: u64, before: usize, line: &[u8]) -> Result<Option<
     }
 }
 
-/// Whether a byte is beyond ASCII.
-fn has_high_byte(line: &[u8]) -> bool
+/// Whether a byte of a line is beyond ASCII.
+pub fn has_high_byte(line: &[u8]) -> bool
     ensures { result ≡ list_any is_beyond_ascii line.now }
 {
     line.iter().any(|b| *b >= 0x80)

@@ -3,7 +3,7 @@ ghost use Rattle.std.specs.Prelude.{◌≡◌, ◌++◌, OnOk, string_bytes};
 ghost use Rattle.agc_script.specs.Written.{event_text, what_text};
 
 use crate::event::{Event, What};
-use crate::grammar::{direction_name, pulse_name};
+use crate::grammar::direction_name;
 use std::alloc::AllocError;
 
 /// Adds the line of an event: its machine cycle, what happens then, and a line feed.
@@ -33,7 +33,7 @@ pub fn push_what(text: &mut String, what: What) -> Result<(), AllocError>
         }
         What::Input { channel, value } => write!(text, "input {channel:o} {value}"),
         What::Pulse { counter, kind } => {
-            let kind = pulse_name(kind);
+            let kind = kind.name();
             write!(text, "pulse {counter:o} {kind}")
         }
         What::Raise(number) => write!(text, "raise {number}"),

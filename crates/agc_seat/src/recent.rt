@@ -9,10 +9,9 @@ ghost use Rattle.agc_seat.specs.Inside.{boundary_line};
 ghost use Rattle.agc_seat.specs.Recent.{given_entry, with_last};
 
 use agc_machine::{Stepped, Upcoming};
-use agc_processor::ChannelWrite;
 use agc_script::What;
 use agc_sitting::{GiveFault, Sitting};
-use agc_trace::{Entry, push_line, registers_in};
+use agc_trace::{Entry, push_line, registers_in, write_shown};
 use circular_buffer::HeapCircularBuffer;
 use std::alloc::{AllocError, Global};
 use std::marker::Model;
@@ -130,16 +129,6 @@ fn push_last<T: Drop>(items: &mut HeapCircularBuffer<T>, item: T)
         (keep_last items.old.capacity (items.old.items ++ item ∷ [])) items.old.capacity }
 {
     items.push_back(item);
-}
-
-/// The write that a boundary showed.
-fn write_shown(stepped: Stepped) -> Option<ChannelWrite>
-    ensures { result ≡ write_shown stepped }
-{
-    match stepped {
-        Stepped::Wrote(write) => Some(write),
-        Stepped::Quiet | Stepped::Stopped(_) => None,
-    }
 }
 
 /// The event that comes next, where one does.

@@ -2,8 +2,7 @@
 use Rattle.std.specs.Prelude.{ℕ, List, ◌++◌, codes}
 use Rattle.std.specs.List.{flat_map}
 use Rattle.std.specs.Fmt.{decimal}
-use Rattle.agc_word.specs.Number.{pattern_of}
-use Rattle.agc_word.specs.Octal.{octal_digits}
+use Rattle.agc_word.specs.Octal.{octal_digits, word_digits}
 use Rattle.agc_script.specs.Key.{name_of}
 use Rattle.agc_script.specs.declared.key.Key.{Key}
 use Rattle.agc_machine.specs.Answer.{stop_name}
@@ -22,7 +21,7 @@ stop_line why cycle writes =
 abbrev pub log_line : ChannelWrite → List ℕ
 log_line w =
     decimal w.cycle ++ codes " " ++ octal_digits 3 w.channel
-    ++ codes " " ++ octal_digits 5 (pattern_of 15 w.value) ++ codes "\n"
+    ++ codes " " ++ word_digits w.value ++ codes "\n"
 
 -- a line for each channel write, in their order
 unfoldable pub log_text : List ChannelWrite → List ℕ

@@ -3,8 +3,7 @@ use Rattle.std.specs.Prelude.{ℕ, List, ◌++◌, codes, flat_map, Option, Some
 use Rattle.std.specs.Fmt.{decimal}
 use Rattle.std.specs.Str.Lines.{lines}
 use Rattle.agc_panel.specs.Text.{panel_text}
-use Rattle.agc_script.specs.Written.{word_digits}
-use Rattle.agc_word.specs.Octal.{octal_digits}
+use Rattle.agc_word.specs.Octal.{octal_digits, word_digits}
 use Rattle.agc_shown.specs.declared.by.By.{By}
 use Rattle.agc_shown.specs.declared.by.By.TheVariants as kind
 use Rattle.agc_shown.specs.declared.comparison.Pair.{Pair}

@@ -25,8 +25,8 @@ pub(crate) struct Common {
     pub(crate) drift: u64,
 }
 
-/// A place for the last pairs, with none yet.
-pub(crate) fn none_kept(alloc: Global) -> Result<HeapCircularBuffer<Pair>, AllocError>
+/// A place for the last five items, with none yet.
+pub fn none_kept<T: Drop>(alloc: Global) -> Result<HeapCircularBuffer<T>, AllocError>
     ensures { IfOk result (λ last. last ≡ buffer [] kept) }
 {
     HeapCircularBuffer::with_capacity(alloc, KEPT)
@@ -95,7 +95,7 @@ impl Common {
 }
 
 /// Puts an item after the last ones, in place of the first of these where there is no more room.
-fn push_last<T: Drop>(last: &mut HeapCircularBuffer<T>, item: T)
+pub fn push_last<T: Drop>(last: &mut HeapCircularBuffer<T>, item: T)
     ensures { last.new ≡ buffer
         (keep_last last.old.capacity (last.old.items ++ item ∷ [])) last.old.capacity }
 {

@@ -14,6 +14,7 @@ mod runs;
 mod sight;
 
 pub use by::By;
+pub use common::{none_kept, push_last};
 pub use comparison::{Pair, ShownComparison, ShownParting};
 pub use count::one_more;
 pub use next::next_write;

@@ -3,7 +3,7 @@ use Rattle.std.specs.Prelude.{◌≡◌, ℕ, ◌^◌, ◌<◌, Bool, true, fals
 use Rattle.std.specs.Prelude.{Option, Some, None, option_map, Result, Ok, Err, if◌then◌else◌}
 use Rattle.std.specs.List.{flat_map}
 use Rattle.agc_word.specs.Number.{Number, pattern_of}
-use Rattle.agc_word.specs.Octal.{octal_digits}
+use Rattle.agc_word.specs.Octal.{word_digits}
 use Rattle.agc_order.specs.Order.{basic_of, extracode_of}
 use Rattle.agc_order.specs.Row.{Row, basic_row, extracode_row}
 use Rattle.agc_store.specs.Places.{fixed_fixed}
@@ -147,7 +147,7 @@ pub record HasOrder (words : List Number) (line : OrderLine) : Type 0 where
 abbrev pub line_with : OrderLine → Number → List ℕ
 line_with line word =
     place_text (listed_place line.place)
-    ++ codes " " ++ octal_digits 5 (pattern_of 15 word)
+    ++ codes " " ++ word_digits word
     ++ codes " " ++ (line.mnemonic ++ operand_text line.operand)
     ++ codes "\n"
 

@@ -4,7 +4,7 @@ use Rattle.std.specs.Prelude.{ℕ, zero, suc, ◌-◌, ◌%◌, ◌==◌, Bool, 
 use Rattle.std.specs.Prelude.{List, [], ◌++◌, codes, Option, if◌then◌else◌}
 use Rattle.std.specs.List.{flat_map, range_with_len}
 use Rattle.agc_word.specs.Number.{Number, pattern_of}
-use Rattle.agc_word.specs.Octal.{octal_digits}
+use Rattle.agc_word.specs.Octal.{word_digits}
 use Rattle.agc_store.specs.Places.{fixed_bank_size, fixed_words}
 use Rattle.agc_store.specs.Memory.{fixed_at}
 use Rattle.agc_rope_listing.specs.Laws.{has_line}
@@ -27,7 +27,7 @@ is_wanted_at words (suc place) =
 abbrev pub word_said : Bool → Bool → Number → List ℕ
 word_said true true word = order_text true word
 word_said false false word = order_text false word
-word_said wanted extracode word = codes "OCT " ++ octal_digits 5 (pattern_of 15 word)
+word_said wanted extracode word = codes "OCT " ++ word_digits word
 
 -- The line that goes to a place. A line begins with blanks, so that it has no name.
 abbrev pub line_to : ℕ → List ℕ

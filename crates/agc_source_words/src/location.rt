@@ -1,5 +1,5 @@
 //! Where a name and an order in hand stand, and the addresses of places and cells.
-ghost use Rattle.std.specs.Prelude.{◌≡◌, ◌+◌, ◌*◌, ◌%◌, ◌<◌, ◌≤◌, IfSome, length, position};
+ghost use Rattle.std.specs.Prelude.{◌≡◌, ◌+◌, ◌*◌, ◌%◌, ◌<◌, ◌≤◌, IfSome};
 ghost use Rattle.agc_store.specs.Places.{
   erasable_bank_size,
   erasable_cells,
@@ -8,7 +8,6 @@ ghost use Rattle.agc_store.specs.Places.{
   fixed_window,
   fixed_words,
 };
-ghost use Rattle.agc_rope_listing.specs.Line.{is_comma};
 ghost use Rattle.agc_source_words.specs.Location.{
   IsWithin,
   bank_register,
@@ -24,7 +23,7 @@ ghost use Rattle.agc_source_words.specs.Location.{
 };
 ghost use Rattle.agc_word.specs.Numeral.{octal_number};
 
-use agc_rope_listing::read_place;
+use agc_rope_listing::{first_comma, read_place};
 use agc_store::Addr;
 use agc_store::place::{
     ERASABLE_BANK_SIZE, ERASABLE_WINDOW, FIXED_BANK_SIZE, FIXED_FIXED, FIXED_WINDOW, bank_of,
@@ -84,13 +83,6 @@ fn cell_named(text: &[u8]) -> Option<u32>
 {
     let at = first_comma(text)?;
     cell_in_bank(read_octal(1, &text[..at]), read_octal(4, &text[at + 1..]))
-}
-
-fn first_comma(text: &[u8]) -> Option<usize>
-    ensures place { result ≡ position is_comma text.now }
-    ensures bound { IfSome result (λ at. at < length text.now) }
-{
-    text.iter().position(|b| *b == b',')
 }
 
 fn cell_in_bank(bank: Option<u64>, address: Option<u64>) -> Option<u32>

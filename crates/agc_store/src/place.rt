@@ -75,6 +75,9 @@ pub const ERASABLE_CELLS: u16 = 0o4000;
 /// The words of a fixed bank.
 pub const FIXED_BANK_SIZE: u16 = 0o2000;
 
+/// The fixed banks, 00 to 43 octal.
+pub const FIXED_BANKS: u8 = 36;
+
 /// The fixed words, in 36 banks: a place in the rope is below it, 2000 octal times a bank, and an
 /// offset.
 pub const FIXED_WORDS: u32 = 36864;

@@ -1,8 +1,8 @@
 //! The words of `count` to what they ask for.
-use crate::words::cycles_of;
+use crate::words::span_of;
 use agc_asked::Counting;
 use agc_command_line::{form_of, number_of, path_of, text_of};
-use agc_count::{Layout, Span};
+use agc_count::Layout;
 use agc_options::ArgsFault;
 use clap::ArgMatches;
 use std::alloc::Global;
@@ -23,10 +23,4 @@ pub(crate) fn counting_of(alloc: Global, given: &ArgMatches<'_>) -> Result<Count
         },
         is_whole: given.get_flag("whole"),
     })
-}
-
-/// The span of cycles that is counted.
-fn span_of(alloc: Global, given: &ArgMatches<'_>) -> Result<Span, ArgsFault> {
-    let (from, to) = cycles_of(alloc, given)?;
-    Ok(Span { from, to })
 }

@@ -8,7 +8,7 @@ use agc_command_line::{WordsFault, fault_of, form_of, number_of, path_of, text_o
 use agc_commands::command;
 use agc_film::{Part, RunFiles};
 use agc_options::ArgsFault;
-use agc_trace::{Only, Selection};
+use agc_trace::{Only, Selection, Span};
 use clap::ArgMatches;
 use std::alloc::{AllocError, Global};
 use std::rt::Env;
@@ -223,19 +223,19 @@ fn other_run_of(alloc: Global, given: &ArgMatches<'_>) -> Result<Option<RunFiles
 
 /// The part of a run that is filmed.
 fn part_of(alloc: Global, given: &ArgMatches<'_>) -> Result<Part, ArgsFault> {
-    let (from, to) = cycles_of(alloc, given)?;
+    let Span { from, to } = span_of(alloc, given)?;
     Ok(Part { from, to })
 }
 
 /// The cycles of `--from` and `--to`, between which there is one.
-pub(crate) fn cycles_of(alloc: Global, given: &ArgMatches<'_>) -> Result<(u64, u64), ArgsFault> {
+pub(crate) fn span_of(alloc: Global, given: &ArgMatches<'_>) -> Result<Span, ArgsFault> {
     let from = number_of(given, "from", 0);
     let to = number_of(given, "to", u64::MAX);
     if to < from {
         let text = format!(in alloc; "{NAME}: no cycle is from {from} to {to}\n")?;
         return Err(ArgsFault::Command(text));
     }
-    Ok((from, to))
+    Ok(Span { from, to })
 }
 
 fn only_of(given: &ArgMatches<'_>) -> Option<Only> {

@@ -9,7 +9,7 @@ use Rattle.agc_word.specs.Pulses.{pulsed}
 use Rattle.agc_word.specs.declared.pulse.Pulse.TheVariants as pulse
 use Rattle.agc_word.specs.declared.pulse.Carry.{Carry}
 use Rattle.agc_word.specs.declared.pulse.Carry.TheVariants as carry
-use Rattle.agc_store.specs.Places.{zero_cell, edop_cell, time1_cell, time3_cell, time4_cell, time5_cell, time6_cell}
+use Rattle.agc_store.specs.Places.{erasable_cells, zero_cell, edop_cell, time1_cell, time3_cell, time4_cell, time5_cell, time6_cell}
 use Rattle.agc_store.specs.Memory.{Memory, cell_at, nothing, erasable_bank, erasable_place}
 use Rattle.agc_store.specs.Cells.{poke_of}
 use Rattle.agc_order.specs.Order.{basic_of, extracode_of}
@@ -38,7 +38,7 @@ use Rattle.agc_machine.specs.declared.upcoming.Upcoming.TheVariants as upcoming
 use Rattle.agc_machine.proofs.Cases.{upcoming_applies, upcoming_comes}
 use Rattle.agc_source_words.specs.declared.location.Location.{Location}
 use Rattle.agc_source_words.specs.declared.location.Location.TheVariants as location
-use Rattle.agc_places.specs.Cell.{erasable_cells, same_word}
+use Rattle.agc_places.specs.Cell.{same_word}
 use Rattle.agc_trace.specs.Change.{changes_since, is_changed, is_named, named_below, named_cells, seen_in}
 use Rattle.agc_places.specs.Places.{has_place, is_from_to}
 use Rattle.agc_trace.specs.Touched.{are_past, begins_by, cell_in, is_away, reach_of, touched_at, touched_by}

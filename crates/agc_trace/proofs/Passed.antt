@@ -8,7 +8,6 @@ use Rattle.agc_machine.specs.Boundary.{boundary, upcoming_of}
 use Rattle.agc_machine.specs.State.{State}
 use Rattle.agc_machine.specs.declared.upcoming.Upcoming.{Upcoming}
 use Rattle.agc_machine.specs.declared.upcoming.Upcoming.TheVariants as upcoming
-use Rattle.agc_places.specs.Cell.{erasable_cells}
 use Rattle.agc_places.specs.declared.places.Places.{Places}
 use Rattle.agc_trace.specs.Change.{changes_between, changes_since, is_changed, is_named, named_below, named_cells, seen_in}
 use Rattle.agc_trace.specs.Entry.{entry_of}
@@ -16,6 +15,7 @@ use Rattle.agc_trace.specs.Passing.{is_met_by, is_passed}
 use Rattle.agc_trace.specs.Selection.{changes_one, is_answer, is_asked, is_between, is_called, is_of_kinds, is_selected, runs_at, selected, touches}
 use Rattle.agc_trace.specs.Service.{service_after, service_at_stop, served}
 use Rattle.agc_trace.specs.Touched.{is_away, touched_by}
+use Rattle.agc_store.specs.Places.{erasable_cells}
 use Rattle.agc_trace.specs.Trace.{entries_left, is_stop, trace_of}
 use Rattle.agc_trace.specs.Watch.{Watched, watch_of, watched_of}
 use Rattle.agc_trace.specs.declared.change.Change.{Change}

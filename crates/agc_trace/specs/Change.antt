@@ -4,8 +4,9 @@ use Rattle.std.specs.List.{list_any, range_with_len}
 use Rattle.agc_store.specs.Memory.{Memory, cell_at}
 use Rattle.agc_rope_listing.specs.Place.{place_text}
 use Rattle.agc_source_words.specs.declared.location.Location.TheVariants as location
-use Rattle.agc_places.specs.Cell.{cell_place, cell_word, erasable_cells, same_word}
+use Rattle.agc_places.specs.Cell.{cell_place, cell_word, same_word}
 use Rattle.agc_places.specs.Places.{has_place}
+use Rattle.agc_store.specs.Places.{erasable_cells}
 use Rattle.agc_trace.specs.declared.change.Change.{Change}
 use Rattle.agc_trace.specs.declared.change.Seen.{Seen}
 use Rattle.agc_places.specs.declared.places.Places.{Places}

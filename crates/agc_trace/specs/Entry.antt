@@ -3,7 +3,7 @@ use Rattle.std.specs.Prelude.{◌/◌, ◌<◌, Option, Some, None}
 use Rattle.agc_word.specs.Number.{pattern_of}
 use Rattle.agc_store.specs.Cells.{cell_of}
 use Rattle.agc_store.specs.Memory.{Memory, erasable_bank}
-use Rattle.agc_store.specs.Places.{a_cell, l_cell, q_cell, fb_cell}
+use Rattle.agc_store.specs.Places.{a_cell, l_cell, q_cell, fb_cell, fixed_bank_size}
 use Rattle.agc_store.specs.Registers.{register, z_of}
 use Rattle.agc_machine.specs.Boundary.{boundary, HasPlace, upcoming_of}
 use Rattle.agc_machine.specs.State.{State}
@@ -22,7 +22,7 @@ registers_of m =
       q = register q_cell m;
       z = z_of m;
       erasable_bank = erasable_bank m.erasable;
-      fixed_bank = pattern_of 15 (cell_of m 0 fb_cell) / 0o2000;
+      fixed_bank = pattern_of 15 (cell_of m 0 fb_cell) / fixed_bank_size;
     }
 
 -- the channel write that a boundary showed, if it showed one

@@ -2,7 +2,6 @@
 -- boundary changes.
 use Rattle.std.specs.Prelude.{List, ℕ, ◌++◌, codes, Option, Some, None}
 use Rattle.std.specs.Fmt.{decimal}
-use Rattle.agc_script.specs.Written.{word_digits}
 use Rattle.agc_machine.specs.declared.upcoming.InHand.{InHand}
 use Rattle.agc_machine.specs.declared.upcoming.Upcoming.{Upcoming}
 use Rattle.agc_machine.specs.declared.upcoming.Upcoming.TheVariants as upcoming
@@ -15,6 +14,7 @@ use Rattle.agc_trace.specs.Change.{changes_text}
 use Rattle.agc_trace.specs.Line.{entry_text, happening_text, order_place, registers_text, shown_text}
 use Rattle.agc_trace.specs.Watch.{Watched}
 use Rattle.agc_trace.specs.declared.entry.Entry.{Entry}
+use Rattle.agc_word.specs.Octal.{word_digits}
 
 -- an order with its place, the column of that, and its word
 unfoldable pub named_order : List Named → InHand → List ℕ

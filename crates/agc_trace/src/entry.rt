@@ -5,7 +5,7 @@ ghost use Rattle.agc_trace.specs.Entry.{FitsLine, entry_of, registers_of, write_
 
 use agc_machine::{Machine, Stepped, Upcoming};
 use agc_processor::ChannelWrite;
-use agc_store::place::FB;
+use agc_store::place::{FB, FIXED_BANK_SIZE};
 use agc_store::{Addr, Store};
 use agc_word::{Narrow, Wide};
 
@@ -69,7 +69,7 @@ pub fn next_entry(machine: &mut Machine) -> Entry
 }
 
 /// The write that a boundary showed.
-fn write_shown(stepped: Stepped) -> Option<ChannelWrite>
+pub fn write_shown(stepped: Stepped) -> Option<ChannelWrite>
     ensures { result ≡ write_shown stepped }
 {
     match stepped {
@@ -91,6 +91,6 @@ pub fn registers_in(store: &Store) -> Registers
         q: store.q(),
         z: store.z(),
         erasable_bank: store.erasable_bank(),
-        fixed_bank: (store.cell(0, FB).bits() / 0o2000) as u8,
+        fixed_bank: (store.cell(0, FB).bits() / FIXED_BANK_SIZE) as u8,
     }
 }

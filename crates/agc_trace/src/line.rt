@@ -3,8 +3,8 @@ ghost use Rattle.std.specs.Prelude.{◌≡◌, ◌++◌, ◌<◌, OnOk, codes, s
 ghost use Rattle.agc_store.specs.Places.{fixed_window};
 ghost use Rattle.agc_machine.specs.Boundary.{HasPlace};
 ghost use Rattle.agc_rope_listing.specs.Place.{IsInPrint};
-ghost use Rattle.agc_script.specs.Written.{word_digits};
 ghost use Rattle.agc_trace.specs.Entry.{FitsLine, FitsWrite};
+ghost use Rattle.agc_word.specs.Octal.{word_digits};
 ghost use Rattle.agc_trace.specs.Line.{
   entry_text,
   happening_text,
@@ -20,6 +20,7 @@ use agc_processor::ChannelWrite;
 use agc_rope_listing::{Place, push_order, push_place};
 use agc_script::push_what;
 use agc_store::Addr;
+use agc_store::place::{ERASABLE_WINDOW, FIXED_FIXED, FIXED_WINDOW};
 use agc_word::Narrow;
 use std::alloc::AllocError;
 
@@ -114,8 +115,8 @@ pub(crate) fn order_place(bank: u8, address: Addr) -> Place
 {
     let address = address.bits();
     match address {
-        0o1400..0o2000 => Place::Erasable { bank, address },
-        0o2000..0o4000 => Place::Fixed { bank, address },
+        ERASABLE_WINDOW..FIXED_WINDOW => Place::Erasable { bank, address },
+        FIXED_WINDOW..FIXED_FIXED => Place::Fixed { bank, address },
         _ => Place::Plain(address),
     }
 }

@@ -2,8 +2,8 @@
 ghost use Rattle.std.specs.Prelude.{◌≡◌, ◌++◌, OnOk, codes, string_bytes};
 ghost use Rattle.agc_machine.specs.Boundary.{HasPlace};
 ghost use Rattle.agc_machine.specs.declared.upcoming.Upcoming.TheVariants as upcoming;
-ghost use Rattle.agc_script.specs.Written.{word_digits};
 ghost use Rattle.agc_trace.specs.Entry.{FitsLine};
+ghost use Rattle.agc_word.specs.Octal.{word_digits};
 ghost use Rattle.agc_trace.specs.NamedLine.{
   line_with,
   named_happening,

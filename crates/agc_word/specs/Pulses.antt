@@ -1,6 +1,6 @@
 -- What a counter cell becomes when a pulse steps it, and whether a carry comes out.
 use Rattle.std.specs.Prelude.{◌+◌, ◌-◌, ◌%◌, ◌==◌, ℕ, false, true, List}
-use Rattle.std.specs.Prelude.{[], ◌∷◌, ◌++◌, get_or, drop, if◌then◌else◌}
+use Rattle.std.specs.Prelude.{[], ◌∷◌, ◌++◌, codes, get_or, drop, if◌then◌else◌}
 use Rattle.agc_word.specs.Number.{Number, plus_one, minus_one, number_from_pattern, pattern_of}
 use Rattle.agc_word.specs.Arithmetic.{sum_of, narrow_of, over_of}
 use Rattle.agc_word.specs.Digits.{digits, number_of_digits}
@@ -10,6 +10,16 @@ use Rattle.agc_word.specs.declared.pulse.Pulse.{Pulse}
 use Rattle.agc_word.specs.declared.pulse.Pulse.TheVariants as pulse
 use Rattle.agc_word.specs.declared.pulse.Carry.{Carry}
 use Rattle.agc_word.specs.declared.pulse.Carry.TheVariants as carry
+
+-- the name of a pulse, as scripts write it
+unfoldable pub pulse_name : Pulse → List ℕ
+pulse_name pulse.Pinc = codes "pinc"
+pulse_name pulse.Minc = codes "minc"
+pulse_name pulse.Dinc = codes "dinc"
+pulse_name pulse.Pcdu = codes "pcdu"
+pulse_name pulse.Mcdu = codes "mcdu"
+pulse_name pulse.Shinc = codes "shinc"
+pulse_name pulse.Shanc = codes "shanc"
 
 -- where DINC ends, from either side
 abbrev pub minus_zero : Number

@@ -1,7 +1,7 @@
 //! The narrow word: fifteen digits, as memory holds them.
 ghost use Rattle.std.specs.Prelude.{◌≡◌, ◌^◌, ◌<◌, ◌≤◌, ◌↔◌, ◌==◌, false, Some, IsSome, IfSome};
 ghost use Rattle.agc_word.specs.Number.{number_from_pattern, pattern_of, bit_of};
-ghost use Rattle.agc_word.specs.Octal.{octal_digits};
+ghost use Rattle.agc_word.specs.Octal.{word_digits};
 
 use std::fmt;
 use std::marker::Model;
@@ -127,7 +127,7 @@ impl Default for Narrow {
 
 /// The pattern in five octal digits, as listings print a word.
 impl fmt::Display for Narrow {
-    ghost output = { λ x. Some (octal_digits 5 (pattern_of 15 x)) };
+    ghost output = { λ x. Some (word_digits x) };
 
     fn fmt<W: fmt::Write>(&self, f: &mut fmt::Formatter<W>) -> fmt::Result {
         let bits = self.bits();

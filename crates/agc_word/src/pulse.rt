@@ -1,6 +1,6 @@
 //! The pulses that step a counter cell: involuntary counting, without any order of the program.
 ghost use Rattle.std.specs.Prelude.{◌≡◌, ◌==◌, if◌then◌else◌};
-ghost use Rattle.agc_word.specs.Pulses.{pulsed, counted, diminished};
+ghost use Rattle.agc_word.specs.Pulses.{pulse_name, pulsed, counted, diminished};
 
 use crate::arithmetic::sum;
 use crate::narrow::Narrow;
@@ -17,6 +17,24 @@ pub enum Pulse {
     Mcdu,
     Shinc,
     Shanc,
+}
+
+impl Pulse {
+    /// Its name, as scripts write it.
+    #[tactic(auto, unfolding(crate::specs::Pulses::pulse_name))]
+    pub fn name(self) -> &'static str
+        ensures { result.now ≡ pulse_name self }
+    {
+        match self {
+            Pulse::Pinc => "pinc",
+            Pulse::Minc => "minc",
+            Pulse::Dinc => "dinc",
+            Pulse::Pcdu => "pcdu",
+            Pulse::Mcdu => "mcdu",
+            Pulse::Shinc => "shinc",
+            Pulse::Shanc => "shanc",
+        }
+    }
 }
 
 /// Whether a carry came out of a counter.

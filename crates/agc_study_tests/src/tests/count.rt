@@ -1,7 +1,8 @@
 //! Counts of a small program, worked out by hand.
 use super::{machine_of, same};
-use agc_count::{Counts, Layout, Span, Tally, count, push_count};
+use agc_count::{Counts, Layout, Tally, count, push_count};
 use agc_progress::Untold;
+use agc_trace::Span;
 use std::process::Abort;
 
 /// Writes one word, and waits.

@@ -1,8 +1,9 @@
 //! The changes of the tables in a small program's run, worked out by hand.
 use super::machine_of;
 use agc_executive::WatchSpec;
-use agc_jobs::{Span, write_changes};
+use agc_jobs::write_changes;
 use agc_progress::Untold;
+use agc_trace::Span;
 use std::process::Abort;
 
 /// Writes 144 octal to a cell, and waits: CA, TS and TCF from 0, 2 and 4 on.

@@ -6,7 +6,6 @@ use agc_asked::{Asked, Comparing, Filming, Watching};
 use agc_check::Report;
 use agc_compare::SideNames;
 use agc_film::{Part, RunFiles};
-use agc_jobs::Span;
 use agc_options::ArgsFault;
 use agc_progress::Untold;
 use agc_results::{
@@ -19,6 +18,7 @@ use agc_source::{SourceFault, SourceTrouble};
 use agc_store::{RopeFault, RopeForm};
 use agc_study::{answer, last_cycle, write_report, write_told};
 use agc_study_words::asked_by;
+use agc_trace::Span;
 use std::process::Abort;
 use std::rt::Files;
 

@@ -4,7 +4,7 @@ use Rattle.agc_machine.specs.Boundary.{boundary}
 use Rattle.agc_machine.specs.State.{State}
 use Rattle.agc_machine.specs.declared.answer.Stepped.{Stepped}
 use Rattle.agc_machine.specs.declared.answer.Stop.{Stop}
-use Rattle.agc_jobs.specs.States.{states_left}
+use Rattle.agc_trace.specs.Trace.{entries_left}
 use Rattle.agc_jobs.proofs.OneByOne.{last_told, nothing_told, past_told, state_told}
 use Rattle.agc_jobs.proofs.States.{fewer_states}
 use Rattle.agc_jobs.proofs.watching.write_in_span.Goals as goal
@@ -17,8 +17,8 @@ stopped_by b has o s e f h = ap is_some (sym e) ∙ sym f ∙ h
 stepped_to : (s t : State) (answer : Stepped) → (t, answer) ≡ boundary None s → t ≡ (boundary None s).0
 stepped_to s t answer e = ap (λ (r : State × Stepped). r.0) e
 
-fewer_after : (s t : State) → t ≡ (boundary None s).0 → is_some s.stopped ≡ false → states_left t < states_left s
-fewer_after s t e f = subst (λ (u : State). states_left u < states_left s) (sym e) (fewer_states s f)
+fewer_after : (s t : State) → t ≡ (boundary None s).0 → is_some s.stopped ≡ false → entries_left t < entries_left s
+fewer_after s t e f = subst (λ (u : State). entries_left u < entries_left s) (sym e) (fewer_states s f)
 
 pub loop-alloc-init : goal.loop-alloc-init
 loop-alloc-init g c = nothing_told c.args.span c.args.spec.now _ _ _ c.nothing-shown.ensures

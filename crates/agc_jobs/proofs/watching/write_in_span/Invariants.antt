@@ -1,6 +1,6 @@
 use Rattle.agc_trace.proofs.Lines.{IsWritten}
 use Rattle.agc_jobs.specs.Lines.{jobs_text}
-use Rattle.agc_jobs.specs.States.{states_left}
+use Rattle.agc_trace.specs.Trace.{entries_left}
 use Rattle.agc_jobs.proofs.OneByOne.{left_of}
 use Rattle.agc_jobs.proofs.watching.write_in_span.Given as goal
 
@@ -11,4 +11,4 @@ invariant-loop-alloc g l =
     (jobs_text l.span l.spec l.initial.machine)
 
 abbrev pub decreases-loop-alloc : goal.decreases-loop-alloc
-decreases-loop-alloc g l = states_left l.machine
+decreases-loop-alloc g l = entries_left l.machine

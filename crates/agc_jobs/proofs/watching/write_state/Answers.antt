@@ -2,7 +2,7 @@ use Rattle.std.proofs.Common.{◌≡◌, ap, sym, ◌∙◌, ℕ, Bool}
 use Rattle.std.specs.Prelude.{nat_le, ◌&&◌}
 use Rattle.agc_machine.specs.State.{State}
 use Rattle.agc_jobs.specs.Changes.{is_in}
-use Rattle.agc_jobs.specs.declared.span.Span.{Span}
+use Rattle.agc_trace.specs.declared.span.Span.{Span}
 use Rattle.agc_jobs.proofs.OneByOne.{on_ok, shown_inside, shown_outside, told_inside, told_outside}
 use Rattle.agc_jobs.proofs.watching.write_state.Goals as goal
 

@@ -1,6 +1,6 @@
 //! The tables of names and ranges, by the words of the grammar.
 use super::*;
-use agc_script::{COUNTERS, Command, INTERRUPTS, direction_name, offsets, pulse_name};
+use agc_script::{COUNTERS, Command, INTERRUPTS, direction_name, offsets};
 
 /// Each command by its name, with so many words; no other word names one.
 #[test]
@@ -19,7 +19,7 @@ fn names_of_commands(rt: HostRuntime) {
     }
     equal(&rt, Command::from_name(b"KEY"), None);
     equal(&rt, direction_name(true), "down");
-    equal(&rt, pulse_name(Pulse::Shanc), "shanc");
+    equal(&rt, Pulse::Shanc.name(), "shanc");
 }
 
 /// The counters are 24 to 60 octal, interrupts are written in decimal, and bank 0 is poked from 10 on.

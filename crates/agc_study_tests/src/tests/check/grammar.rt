@@ -4,7 +4,7 @@ use super::super::holds;
 use super::*;
 use agc_script::{
     Command, DIRECTIONS, FaultKind, Key, LAST_CYCLE, LONGEST_LINE, MOST_EVENTS, PULSES,
-    direction_name, pulse_name,
+    direction_name,
 };
 
 /// Why `Script::parse` refuses a script.
@@ -171,7 +171,7 @@ fn tables(rt: HostRuntime) {
         takes_name(&rt, "pro", direction_name(down));
     }
     for kind in PULSES {
-        takes_name(&rt, "pulse 24", pulse_name(kind));
+        takes_name(&rt, "pulse 24", kind.name());
     }
     refused(
         &rt,

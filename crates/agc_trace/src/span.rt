@@ -1,11 +1,11 @@
-//! The part of a run's time in which its tables are told.
+//! A part of a run's time.
 
 /// A span of machine cycles, both included.
 #[derive(Clone, Copy, Debug, PartialEq, Eq)]
 pub struct Span {
-    /// The first cycle at which a state of the run may stand that is looked at.
+    /// The first cycle that is looked at.
     pub from: u64,
-    /// The last cycle at which it may stand.
+    /// The last cycle that is.
     pub to: u64,
 }
 
@@ -13,14 +13,14 @@ impl Span {
     ghost use Rattle.std.specs.Prelude.{◌≡◌, ◌+◌, ◌&&◌, nat_le};
 
     /// A cycle is one of the span.
-    pub(crate) fn has(self, cycle: u64) -> bool
+    pub fn has(self, cycle: u64) -> bool
         ensures { result ≡ (nat_le self.from cycle && nat_le cycle self.to) }
     {
         self.from <= cycle && cycle <= self.to
     }
 
     /// A cycle is one of the span after its first one.
-    pub(crate) fn has_later(self, cycle: u64) -> bool
+    pub fn has_later(self, cycle: u64) -> bool
         ensures { result ≡ (nat_le (self.from + 1) cycle && nat_le cycle self.to) }
     {
         self.from < cycle && cycle <= self.to
