@@ -1,5 +1,5 @@
 //! What the program is asked for.
-use agc_count::Layout;
+use agc_count_text::Layout;
 use agc_film::{Part, RunFiles};
 use agc_shown::By;
 use agc_store::RopeForm;

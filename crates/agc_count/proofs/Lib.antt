@@ -6,5 +6,4 @@ mod Lengths
 mod Sums
 mod Room
 mod Running
-mod Lines
 mod Interrupts

@@ -8,5 +8,3 @@ pub mod Number
 pub mod Counts
 pub mod Laws
 pub mod Sums
-pub mod Row
-pub mod Report

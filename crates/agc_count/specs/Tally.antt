@@ -1,5 +1,5 @@
 -- How often something happened and how many cycles it took, and tables of that.
-use Rattle.std.specs.Prelude.{ℕ, ◌+◌, ◌==◌, ◌&&◌, not, Bool, List, replicate, set, get_or}
+use Rattle.std.specs.Prelude.{ℕ, ◌+◌, ◌*◌, ◌==◌, ◌&&◌, not, Bool, List, drop, get_or, replicate, set, take}
 use Rattle.std.specs.List.{sum_by}
 use Rattle.agc_count.specs.declared.tally.Tally.{Tally}
 
@@ -33,6 +33,10 @@ cycles_in tallies = sum_by (λ tally. tally.cycles) tallies
 
 abbrev pub total_of : List Tally → Tally
 total_of tallies = record { times = times_in tallies; cycles = cycles_in tallies }
+
+-- all of a bank of so many places together
+unfoldable pub bank_tally : ℕ → ℕ → List Tally → Tally
+bank_tally size bank table = total_of (take size (drop (size * bank) table))
 
 -- it happened at all
 abbrev pub is_counted : Tally → Bool

@@ -10,7 +10,7 @@ pub(crate) const BASICS: usize = 19;
 pub(crate) const EXTRACODES: usize = 20;
 
 /// The number of a basic order, in the order of their codes.
-pub(crate) fn basic_number(order: Basic) -> usize
+pub fn basic_number(order: Basic) -> usize
     ensures number { result ≡ basic_number order }
     ensures range { result < 19 }
 {
@@ -18,7 +18,7 @@ pub(crate) fn basic_number(order: Basic) -> usize
 }
 
 /// The number of an extracode, in the order of their codes.
-pub(crate) fn extracode_number(order: Extracode) -> usize
+pub fn extracode_number(order: Extracode) -> usize
     ensures number { result ≡ extracode_number order }
     ensures range { result < 20 }
 {

@@ -20,8 +20,7 @@ impl Model for Table {
 
 impl Table {
     ghost use Rattle.std.specs.Prelude.{◌≡◌, ◌+◌, ◌*◌, ◌<◌, ◌^◌, length, IfOk, OnOk};
-    ghost use Rattle.agc_count.specs.Report.{bank_tally};
-    ghost use Rattle.agc_count.specs.Tally.{added, empty_table, tally_at};
+    ghost use Rattle.agc_count.specs.Tally.{added, bank_tally, empty_table, tally_at};
 
     /// A table for so many things, of which nothing is counted yet. Fails where memory runs out.
     #[tactic(auto, unfolding(crate::specs::Tally::empty_table))]
@@ -52,8 +51,8 @@ impl Table {
 
     /// All tallies of a bank of so many places together; past the last place nothing is counted. Fails where a number
     /// has no room.
-    #[tactic(auto, unfolding(crate::specs::Report::bank_tally))]
-    pub(crate) fn of_bank(&self, size: usize, bank: usize) -> Result<Tally, AllocError>
+    #[tactic(auto, unfolding(crate::specs::Tally::bank_tally))]
+    pub fn of_bank(&self, size: usize, bank: usize) -> Result<Tally, AllocError>
         requires { size * bank < 2 ^ 64 }
         ensures { IfOk result (λ all. all ≡ bank_tally size bank self.now) }
     {

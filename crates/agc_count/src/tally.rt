@@ -40,7 +40,7 @@ impl Tally {
     }
 
     /// It happened at all.
-    pub(crate) fn is_counted(self) -> bool
+    pub fn is_counted(self) -> bool
         ensures { result ≡ is_counted self }
     {
         self.times != 0 || self.cycles != 0

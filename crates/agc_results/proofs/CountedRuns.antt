@@ -4,7 +4,7 @@ use Rattle.agc_machine.specs.State.{State}
 use Rattle.agc_store.specs.Memory.{Memory}
 use Rattle.agc_count.specs.Counts.{count_of}
 use Rattle.agc_count.specs.Passage.{passages_in}
-use Rattle.agc_count.specs.Report.{count_text}
+use Rattle.agc_count_text.specs.Report.{count_text}
 use Rattle.agc_count.specs.declared.counts.Counts.{Counts}
 use Rattle.agc_asked.specs.declared.asked.Counting.{Counting}
 use Rattle.agc_results.specs.Counted.{counted_text}

@@ -6,7 +6,7 @@ use Rattle.std.specs.declared.string.String.{String}
 use Rattle.agc_machine.specs.State.{State}
 use Rattle.agc_count.specs.Counts.{count_of}
 use Rattle.agc_count.specs.Passage.{passages_in}
-use Rattle.agc_count.specs.Report.{count_text}
+use Rattle.agc_count_text.specs.Report.{count_text}
 use Rattle.agc_asked.specs.declared.asked.Counting.{Counting}
 use Rattle.agc_results.specs.Started.{IsStarted}
 

@@ -5,7 +5,8 @@ ghost use Rattle.agc_results.specs.Started.{IsRefused};
 
 use crate::runs::read_machine;
 use agc_asked::Counting;
-use agc_count::{count, push_count};
+use agc_count::count;
+use agc_count_text::push_count;
 use agc_machine::Machine;
 use agc_progress::Progress;
 use agc_setup::Refusal;

@@ -2,7 +2,7 @@
 use crate::words::span_of;
 use agc_asked::Counting;
 use agc_command_line::{form_of, number_of, path_of, text_of};
-use agc_count::Layout;
+use agc_count_text::Layout;
 use agc_options::ArgsFault;
 use clap::ArgMatches;
 use std::alloc::Global;

@@ -1,6 +1,7 @@
 //! Counts of a small program, worked out by hand.
 use super::{machine_of, same};
-use agc_count::{Counts, Layout, Tally, count, push_count};
+use agc_count::{Counts, Tally, count};
+use agc_count_text::{Layout, push_count};
 use agc_progress::Untold;
 use agc_trace::Span;
 use std::process::Abort;

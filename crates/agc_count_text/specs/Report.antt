@@ -1,0 +1,150 @@
+-- A count in print: all of the run, its interrupts, its orders by their names, its banks, and its words.
+use Rattle.std.specs.Prelude.{ℕ, zero, suc, ◌+◌, ◌==◌, ◌&&◌, ◌||◌, not, Bool, if◌then◌else◌}
+use Rattle.std.specs.Prelude.{List, [], ◌++◌, codes, flat_map, Some, None}
+use Rattle.agc_word.specs.Number.{Number, pattern_of}
+use Rattle.agc_word.specs.Octal.{octal_digits}
+use Rattle.agc_store.specs.Memory.{fixed_at}
+use Rattle.agc_order.specs.Row.{all_basics, all_extracodes, basic_row, extracode_row}
+use Rattle.agc_order.specs.declared.order.Basic.{Basic}
+use Rattle.agc_order.specs.declared.order.Extracode.{Extracode}
+use Rattle.agc_processor.specs.Interrupt.{rupt_at, rupt_name}
+use Rattle.agc_rope_listing.specs.List.{is_extracode_at, listed_place}
+use Rattle.agc_rope_listing.specs.Order.{order_text}
+use Rattle.agc_rope_listing.specs.Place.{place_text}
+use Rattle.agc_rope_listing.specs.declared.place.Place.{Place}
+use Rattle.agc_places.specs.Cell.{cell_place}
+use Rattle.agc_count.specs.Number.{basic_number, extracode_number}
+use Rattle.agc_count_text.specs.Row.{heading, row_text}
+use Rattle.agc_count.specs.Tally.{bank_tally, is_counted, plus, tally_at}
+use Rattle.agc_count.specs.declared.counts.Counts.{Counts}
+use Rattle.agc_count_text.specs.declared.row.Layout.{Layout}
+use Rattle.agc_count.specs.declared.tally.Tally.{Tally}
+
+-- the line of what happened at all
+unfoldable pub counted_row : Layout → List ℕ → List ℕ → Tally → List ℕ
+counted_row layout kind name tally =
+    if is_counted tally then row_text layout kind name [] tally None else []
+
+-- the lines of the first so many things of a kind, by their numbers
+unfoldable pub lines_below : ℕ → (ℕ → List ℕ) → List ℕ
+lines_below zero line = []
+lines_below (suc number) line = lines_below number line ++ line number
+
+-- all boundaries: their cycles are those of the run
+abbrev pub all_of : Counts → Tally
+all_of c = plus (plus (plus c.orders c.timers) c.events) c.entries
+
+-- the lines of all of the run: its cycles by kinds, and which of them belonged to services or began with
+-- INHINT in force
+unfoldable pub all_text : Layout → Counts → List ℕ
+all_text layout c =
+    row_text layout (codes "all") (codes "boundaries") [] (all_of c) None
+    ++ row_text layout (codes "all") (codes "orders") [] c.orders None
+    ++ row_text layout (codes "all") (codes "timers") [] c.timers None
+    ++ row_text layout (codes "all") (codes "events") [] c.events None
+    ++ row_text layout (codes "all") (codes "interrupts") [] c.entries None
+    ++ row_text layout (codes "all") (codes "in services") [] c.serving None
+    ++ row_text layout (codes "all") (codes "under INHINT") [] c.inhibited None
+
+-- the line of an interrupt, and of those with the first so many numbers
+unfoldable pub rupt_line : Layout → Counts → ℕ → List ℕ
+rupt_line layout c number =
+    counted_row layout (codes "interrupt") (rupt_name (rupt_at number)) (tally_at number c.interrupts)
+
+abbrev pub rupt_lines : ℕ → Layout → Counts → List ℕ
+rupt_lines count layout c = lines_below count (rupt_line layout c)
+
+-- the lines of the orders by their names
+unfoldable pub basic_line : Layout → Counts → Basic → List ℕ
+basic_line layout c b =
+    counted_row layout (codes "order") (basic_row b).mnemonic (tally_at (basic_number b) c.basics)
+
+unfoldable pub basic_lines : Layout → Counts → List ℕ
+basic_lines layout c = flat_map (basic_line layout c) all_basics
+
+unfoldable pub extracode_line : Layout → Counts → Extracode → List ℕ
+extracode_line layout c e =
+    counted_row layout (codes "extracode") (extracode_row e).mnemonic
+    (tally_at (extracode_number e) c.extracodes)
+
+unfoldable pub extracode_lines : Layout → Counts → List ℕ
+extracode_lines layout c = flat_map (extracode_line layout c) all_extracodes
+
+-- the lines of the first so many banks, of erasable and of fixed memory
+unfoldable pub erasable_bank_line : Layout → Counts → ℕ → List ℕ
+erasable_bank_line layout c bank =
+    counted_row layout (codes "bank") (codes "E" ++ octal_digits 1 bank)
+    (bank_tally 0o400 bank c.erasable)
+
+abbrev pub erasable_bank_lines : ℕ → Layout → Counts → List ℕ
+erasable_bank_lines count layout c = lines_below count (erasable_bank_line layout c)
+
+unfoldable pub fixed_bank_line : Layout → Counts → ℕ → List ℕ
+fixed_bank_line layout c bank =
+    counted_row layout (codes "bank") (octal_digits 2 bank) (bank_tally 0o2000 bank c.fixed)
+
+abbrev pub fixed_bank_lines : ℕ → Layout → Counts → List ℕ
+fixed_bank_lines count layout c = lines_below count (fixed_bank_line layout c)
+
+-- a word ran as an order, or was read as data
+abbrev pub is_used : Tally → Tally → Bool
+is_used tally reads = is_counted tally || is_counted reads
+
+-- the line of a word by its place alone: where it ran or was read
+unfoldable pub place_row : Layout → Place → Tally → Tally → List ℕ
+place_row layout place tally reads =
+    if is_used tally reads
+    then row_text layout (codes "word") (place_text place) [] tally (Some reads.times)
+    else []
+
+-- the lines of the first so many cells
+unfoldable pub cell_line : Layout → Counts → ℕ → List ℕ
+cell_line layout c cell =
+    place_row layout (cell_place cell) (tally_at cell c.erasable) (tally_at cell c.erasable_data)
+
+abbrev pub cell_lines : ℕ → Layout → Counts → List ℕ
+cell_lines count layout c = lines_below count (cell_line layout c)
+
+-- The line of a word of the rope, with the order that it is: where it ran or was read, and of the whole rope where it
+-- is not +0.
+unfoldable pub word_row : Layout → Bool → ℕ → Bool → Number → Tally → Tally → List ℕ
+word_row layout whole place extracode word tally reads =
+    if is_used tally reads || (whole && not (pattern_of 15 word == 0))
+    then row_text layout (codes "word") (place_text (listed_place place))
+    (octal_digits 5 (pattern_of 15 word) ++ codes " " ++ order_text extracode word) tally
+    (Some reads.times)
+    else []
+
+unfoldable pub word_line : Layout → Bool → Counts → List Number → ℕ → List ℕ
+word_line layout whole c words place =
+    word_row layout whole place (is_extracode_at words place) (fixed_at place words)
+    (tally_at place c.fixed) (tally_at place c.fixed_data)
+
+-- the lines of the words at the first so many places
+abbrev pub word_lines : ℕ → Layout → Bool → Counts → List Number → List ℕ
+word_lines count layout whole c words =
+    lines_below count (word_line layout whole c words)
+
+-- the lines of the words at so many places after the rope's, in banks that are empty
+unfoldable pub empty_line : Layout → Counts → ℕ → List ℕ
+empty_line layout c place =
+    place_row layout (listed_place place) (tally_at place c.fixed) (tally_at place c.fixed_data)
+
+abbrev pub empty_lines : ℕ → ℕ → Layout → Counts → List ℕ
+empty_lines first count layout c = lines_below count (λ number. empty_line layout c (first + number))
+
+-- the lines of a count before those of its words
+unfoldable pub summary_text : Layout → Counts → List ℕ
+summary_text layout c =
+    heading layout ++ all_text layout c ++ rupt_lines 10 layout c ++ basic_lines layout c
+    ++ extracode_lines layout c ++ erasable_bank_lines 8 layout c ++ fixed_bank_lines 40 layout c
+
+-- the lines of its words
+unfoldable pub words_text : Layout → Bool → Counts → List Number → List ℕ
+words_text layout whole c words =
+    cell_lines 0o4000 layout c ++ word_lines 0o110000 layout whole c words
+    ++ empty_lines 0o110000 0o10000 layout c
+
+-- the text of a count, with the words that ran or were read, or with those of the whole rope
+unfoldable pub count_text : Layout → Bool → Counts → List Number → List ℕ
+count_text layout whole c words = summary_text layout c ++ words_text layout whole c words

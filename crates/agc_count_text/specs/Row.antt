@@ -1,0 +1,38 @@
+-- A line of a count in print.
+use Rattle.std.specs.Prelude.{ℕ, ◌-◌, ◌==◌, List, [], ◌++◌, codes, length, replicate, Option, Some, None, if◌then◌else◌}
+use Rattle.std.specs.Fmt.{decimal}
+use Rattle.agc_count_text.specs.declared.row.Layout.{Layout}
+use Rattle.agc_count_text.specs.declared.row.Layout.TheVariants as layout
+use Rattle.agc_count.specs.declared.tally.Tally.{Tally}
+
+-- a number at the right of a column of so many letters
+abbrev pub column : ℕ → ℕ → List ℕ
+column width number = replicate (width - length (decimal number)) 0x20 ++ decimal number
+
+-- what stands after a name: nothing, or a space and the order
+abbrev pub after_name : List ℕ → List ℕ
+after_name order = if length order == 0 then [] else codes " " ++ order
+
+-- how often something was read as data, where it is a word
+abbrev pub data_column : Option ℕ → List ℕ
+data_column (Some reads) = column 14 reads
+data_column None = codes "             -"
+
+abbrev pub data_value : Option ℕ → List ℕ
+data_value (Some reads) = decimal reads
+data_value None = []
+
+-- How often, how many cycles and how often read as data, of what: a kind of things, the name of one of them, and of a
+-- word its order.
+unfoldable pub row_text : Layout → List ℕ → List ℕ → List ℕ → Tally → Option ℕ → List ℕ
+row_text layout.Columns kind name order tally reads =
+    column 14 tally.times ++ column 16 tally.cycles ++ data_column reads ++ codes "  " ++ kind
+    ++ codes " " ++ name ++ after_name order ++ codes "\n"
+row_text layout.Csv kind name order tally reads =
+    kind ++ codes ",\"" ++ name ++ codes "\"," ++ order ++ codes "," ++ decimal tally.times
+    ++ codes "," ++ decimal tally.cycles ++ codes "," ++ data_value reads ++ codes "\n"
+
+-- the line that says what stands where
+abbrev pub heading : Layout → List ℕ
+heading layout.Columns = codes "         times          cycles          data  of what\n"
+heading layout.Csv = codes "kind,name,order,times,cycles,data\n"

@@ -1,0 +1,213 @@
+//! A count in print: all of the run, its interrupts, its orders by their names, its banks, and its words.
+ghost use Rattle.std.specs.Prelude.{◌≡◌, ◌++◌, ◌<◌, OnOk, flat_map, string_bytes};
+ghost use Rattle.agc_count_text.specs.Report.{
+  all_text,
+  basic_line,
+  basic_lines,
+  count_text,
+  counted_row,
+  extracode_line,
+  extracode_lines,
+  rupt_line,
+  rupt_lines,
+  summary_text,
+};
+
+use crate::banks::{push_erasable_banks, push_fixed_banks};
+use crate::row::{Layout, push_row};
+use crate::words::push_words;
+use agc_count::{Counts, Tally, basic_number, extracode_number};
+use agc_order::{Basic, Extracode};
+use agc_processor::Rupt;
+use agc_store::Store;
+use std::alloc::AllocError;
+
+/// Adds a count in print: lines for all of the run, for its interrupts, for its orders by their names, for its banks
+/// and for its words, each of what happened at all. Of the whole rope also the words stand there that never ran
+/// and were never read. Fails where memory runs out.
+#[tactic(auto, unfolding(crate::specs::Report::count_text))]
+pub fn push_count(
+    text: &mut String,
+    layout: Layout,
+    whole: bool,
+    counts: &Counts,
+    store: &Store,
+) -> Result<(), AllocError>
+    ensures { OnOk result (string_bytes text.new ≡ string_bytes text.old
+        ++ count_text layout whole counts.now store.now.fixed) }
+{
+    push_summary(text, layout, counts)?;
+    push_words(text, layout, whole, counts, store)
+}
+
+/// Adds the lines before those of the words.
+#[tactic(auto, unfolding(crate::specs::Report::summary_text))]
+fn push_summary(text: &mut String, layout: Layout, counts: &Counts) -> Result<(), AllocError>
+    ensures { OnOk result (string_bytes text.new
+        ≡ string_bytes text.old ++ summary_text layout counts.now) }
+{
+    text.push_str(layout.heading())?;
+    push_all(text, layout, counts)?;
+    push_rupts(text, layout, counts, 10)?;
+    push_basics(text, layout, counts)?;
+    push_extracodes(text, layout, counts)?;
+    push_erasable_banks(text, layout, counts, 8)?;
+    push_fixed_banks(text, layout, counts, 40)
+}
+
+/// Adds the lines of all of the run.
+#[tactic(auto, unfolding(crate::specs::Report::all_text))]
+fn push_all(text: &mut String, layout: Layout, counts: &Counts) -> Result<(), AllocError>
+    ensures { OnOk result (string_bytes text.new
+        ≡ string_bytes text.old ++ all_text layout counts.now) }
+{
+    let all = counts
+        .orders
+        .plus(counts.timers)?
+        .plus(counts.events)?
+        .plus(counts.entries)?;
+    push_row(text, layout, "all", "boundaries", "", all, None)?;
+    push_row(text, layout, "all", "orders", "", counts.orders, None)?;
+    push_row(text, layout, "all", "timers", "", counts.timers, None)?;
+    push_row(text, layout, "all", "events", "", counts.events, None)?;
+    push_row(text, layout, "all", "interrupts", "", counts.entries, None)?;
+    push_row(text, layout, "all", "in services", "", counts.serving, None)?;
+    push_row(
+        text,
+        layout,
+        "all",
+        "under INHINT",
+        "",
+        counts.inhibited,
+        None,
+    )
+}
+
+/// Adds the line of what happened at all.
+#[tactic(auto, unfolding(crate::specs::Report::counted_row))]
+pub(crate) fn push_counted(
+    text: &mut String,
+    layout: Layout,
+    kind: &str,
+    name: &str,
+    tally: Tally,
+) -> Result<(), AllocError>
+    ensures { OnOk result (string_bytes text.new
+        ≡ string_bytes text.old ++ counted_row layout kind.now name.now tally) }
+{
+    if tally.is_counted() {
+        push_row(text, layout, kind, name, "", tally, None)
+    } else {
+        Ok(())
+    }
+}
+
+/// Adds the lines of the interrupts with the first so many numbers.
+fn push_rupts(
+    text: &mut String,
+    layout: Layout,
+    counts: &Counts,
+    count: u8,
+) -> Result<(), AllocError>
+    requires { count < 11 }
+    ensures { OnOk result (string_bytes text.new
+        ≡ string_bytes text.old ++ rupt_lines count layout counts.now) }
+{
+    for number in 0..count {
+        push_rupt(text, layout, counts, number)?;
+    }
+    Ok(())
+}
+
+/// Adds the line of an interrupt.
+#[tactic(auto, unfolding(crate::specs::Report::rupt_line))]
+fn push_rupt(
+    text: &mut String,
+    layout: Layout,
+    counts: &Counts,
+    number: u8,
+) -> Result<(), AllocError>
+    requires { number < 10 }
+    ensures { OnOk result (string_bytes text.new
+        ≡ string_bytes text.old ++ rupt_line layout counts.now number) }
+{
+    let name = Rupt::numbered(number + 1).name();
+    let tally = counts.interrupts.at(usize::from(number));
+    push_counted(text, layout, "interrupt", name, tally)
+}
+
+/// Adds the lines of the basic orders.
+#[tactic(auto, unfolding(crate::specs::Report::basic_lines, agc_order::specs::Row::all_basics))]
+fn push_basics(text: &mut String, layout: Layout, counts: &Counts) -> Result<(), AllocError>
+    ensures { OnOk result (string_bytes text.new
+        ≡ string_bytes text.old ++ basic_lines layout counts.now) }
+{
+    push_each_basic(text, layout, counts, &Basic::ALL)
+}
+
+fn push_each_basic(
+    text: &mut String,
+    layout: Layout,
+    counts: &Counts,
+    orders: &[Basic],
+) -> Result<(), AllocError>
+    ensures { OnOk result (string_bytes text.new
+        ≡ string_bytes text.old ++ flat_map (basic_line layout counts.now) orders.now) }
+{
+    for order in orders {
+        push_basic(text, layout, counts, *order)?;
+    }
+    Ok(())
+}
+
+#[tactic(auto, unfolding(crate::specs::Report::basic_line))]
+fn push_basic(
+    text: &mut String,
+    layout: Layout,
+    counts: &Counts,
+    order: Basic,
+) -> Result<(), AllocError>
+    ensures { OnOk result (string_bytes text.new
+        ≡ string_bytes text.old ++ basic_line layout counts.now order) }
+{
+    let tally = counts.basics.at(basic_number(order));
+    push_counted(text, layout, "order", order.row().mnemonic, tally)
+}
+
+/// Adds the lines of the extracodes.
+#[tactic(auto, unfolding(crate::specs::Report::extracode_lines, agc_order::specs::Row::all_extracodes))]
+fn push_extracodes(text: &mut String, layout: Layout, counts: &Counts) -> Result<(), AllocError>
+    ensures { OnOk result (string_bytes text.new
+        ≡ string_bytes text.old ++ extracode_lines layout counts.now) }
+{
+    push_each_extracode(text, layout, counts, &Extracode::ALL)
+}
+
+fn push_each_extracode(
+    text: &mut String,
+    layout: Layout,
+    counts: &Counts,
+    orders: &[Extracode],
+) -> Result<(), AllocError>
+    ensures { OnOk result (string_bytes text.new
+        ≡ string_bytes text.old ++ flat_map (extracode_line layout counts.now) orders.now) }
+{
+    for order in orders {
+        push_extracode(text, layout, counts, *order)?;
+    }
+    Ok(())
+}
+
+#[tactic(auto, unfolding(crate::specs::Report::extracode_line))]
+fn push_extracode(
+    text: &mut String,
+    layout: Layout,
+    counts: &Counts,
+    order: Extracode,
+) -> Result<(), AllocError>
+    ensures { OnOk result (string_bytes text.new
+        ≡ string_bytes text.old ++ extracode_line layout counts.now order) }
+{
+    let tally = counts.extracodes.at(extracode_number(order));
+    push_counted(text, layout, "extracode", order.row().mnemonic, tally)
+}
