@@ -105,6 +105,10 @@ fixed_banks = 36
 abbrev pub fixed_words : ℕ
 fixed_words = 36864
 
+-- the places of forty fixed banks, as many as the bank registers and the superbank can name
+abbrev pub fixed_places : ℕ
+fixed_places = 40960
+
 -- the first address of the window onto the erasable bank that EB names
 abbrev pub erasable_window : ℕ
 erasable_window = 0o1400

@@ -3,6 +3,7 @@ use Rattle.std.specs.Prelude.{◌≡◌, ◌≢◌, ℕ, ◌+◌, ◌*◌, ◌%�
 use Rattle.agc_word.specs.Number.{Number, pattern_of}
 use Rattle.agc_store.specs.Places.{a_cell, q_cell, eb_cell, fb_cell, z_cell, bb_cell}
 use Rattle.agc_store.specs.Places.{zero_cell, erasable_bank_size, erasable_cells, fixed_bank_size}
+use Rattle.agc_store.specs.Places.{fixed_places}
 use Rattle.agc_store.specs.Memory.{Memory, nothing, erasable_bank, fixed_bank, bank_with_superbank, cell_at}
 use Rattle.agc_store.specs.Cells.{narrow_number}
 
@@ -44,5 +45,5 @@ pub record KeepsPlaces (cells : List Number) (superbank : Bool) (erasable_base f
     : Type 0 where
   pub erasable : erasable_base ≡ erasable_bank_size * erasable_bank cells
   pub fixed : fixed_base ≡ fixed_bank_size * bank_with_superbank superbank (fixed_bank cells)
-  pub in_range : fixed_base < 40960
+  pub in_range : fixed_base < fixed_places
   pub z : pattern_of 16 (cell_at z_cell cells) < 0o10000

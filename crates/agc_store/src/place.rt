@@ -82,6 +82,10 @@ pub const FIXED_BANKS: u8 = 36;
 /// offset.
 pub const FIXED_WORDS: u32 = 36864;
 
+/// The places of forty fixed banks, 00 to 47 octal, as many as the bank registers and the superbank
+/// can name. The last four banks are empty.
+pub const FIXED_PLACES: u32 = 40960;
+
 /// The first address of the window onto the erasable bank that EB names.
 pub const ERASABLE_WINDOW: u16 = 0o1400;
 

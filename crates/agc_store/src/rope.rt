@@ -1,20 +1,17 @@
 //! The rope: the fixed words, as they were woven.
 ghost use Rattle.std.specs.Prelude.{◌≡◌, ℕ, ◌<◌, ◌≤◌, ◌-◌, ◌%◌, ◌++◌, length, unwrap_or, IfOk, IfErr, IsNone};
 ghost use Rattle.agc_word.specs.Arithmetic.{narrow_of};
-ghost use Rattle.agc_store.specs.Places.{fixed_words};
+ghost use Rattle.agc_store.specs.Places.{fixed_places, fixed_words};
 ghost use Rattle.agc_store.specs.Memory.{fixed_at};
 ghost use Rattle.agc_store.specs.Cells.{cleared_cells};
 ghost use Rattle.agc_store.specs.RopeFile.{FollowsBanks, first_words, rope_words, rope_fault_of};
 ghost use Rattle.agc_store.specs.declared.rope_file.RopeForm.TheVariants as form;
 
-use crate::place::FIXED_WORDS;
+use crate::place::{FIXED_PLACES, FIXED_WORDS};
 use crate::rope_file::{RopeFault, RopeForm, fault, woven_word};
 use agc_word::Narrow;
 use std::alloc::{AllocError, Global};
 use std::marker::Model;
-
-/// The places of forty banks, as many as the bank registers and the superbank can name.
-const PLACES: usize = 40960;
 
 /// The 36,864 fixed words, in 36 banks of 1024. In the spacecraft they were woven: a wire through a
 /// core or past it.
@@ -62,7 +59,13 @@ impl Rope {
         if let Some(fault) = fault(form, bytes) {
             return Err(fault);
         }
-        match weave(alloc, form, bytes, FIXED_WORDS as usize, PLACES) {
+        match weave(
+            alloc,
+            form,
+            bytes,
+            FIXED_WORDS as usize,
+            FIXED_PLACES as usize,
+        ) {
             Ok(words) => Ok(Rope { words }),
             Err(_) => Err(RopeFault::Memory),
         }
@@ -73,7 +76,7 @@ impl Rope {
     #[inline]
     #[tactic(auto, using(crate::proofs::Woven::fixed_at_read), unfolding(agc_word::specs::Arithmetic::narrow_of))]
     pub(crate) fn word(&self, place: usize) -> Narrow
-        requires { place < 40960 }
+        requires { place < fixed_places }
         ensures word { result ≡ fixed_at place self.now }
         ensures narrow { narrow_of result ≡ result }
     {

@@ -2,7 +2,7 @@
 #![tactic(auto, unfolding(crate::specs::Memory::cell_at, crate::specs::Memory::erasable_place, crate::specs::Memory::fixed_at, crate::specs::Memory::selected_bank, crate::specs::Memory::read_of, crate::specs::Cells::write_of, crate::specs::Cells::fetch_of, crate::specs::Cells::named_cell, crate::specs::Cells::reedit_of, crate::specs::Cells::cell_of, crate::specs::Cells::fixed_of, crate::specs::Cells::poke_of, crate::specs::Cells::superbank_set))]
 
 ghost use Rattle.std.specs.Prelude.{◌≡◌, ℕ, ◌+◌, ◌*◌, ◌<◌, ◌≤◌, ◌^◌, ◌&&◌, nat_lt};
-ghost use Rattle.agc_store.specs.Places.{zero_cell, edop_cell, erasable_window, fixed_window, fixed_words};
+ghost use Rattle.agc_store.specs.Places.{zero_cell, edop_cell, erasable_window, fixed_window, fixed_fixed, fixed_words};
 ghost use Rattle.agc_store.specs.Memory.{fixed_at, read_of};
 ghost use Rattle.agc_store.specs.Cells.{
   write_of,
@@ -109,12 +109,23 @@ impl Store {
     {
         let number = usize::from(address.bits());
         if number >= FIXED_FIXED as usize {
-            self.rope.word(number)
+            self.fetch_fixed_fixed(number)
         } else if number >= FIXED_WINDOW as usize {
             self.rope.word(self.fixed_place(number))
         } else {
             self.cells[self.erasable_place(number)].narrow()
         }
+    }
+
+    /// The word at an address of fixed-fixed memory, which names its own place in the rope.
+    #[inline]
+    #[tactic(auto, unfolding(crate::specs::Memory::fixed_place, crate::specs::Memory::read_of, crate::specs::Cells::fetch_of))]
+    fn fetch_fixed_fixed(&self, number: usize) -> Narrow
+        requires low { fixed_fixed ≤ number }
+        requires high { number < 0o10000 }
+        ensures { result ≡ fetch_of self.now number }
+    {
+        self.rope.word(number)
     }
 
     /// Writes a word to an address below 2000 octal, by the rules of the cell that it names. A and Q

@@ -2,7 +2,7 @@
 #![tactic(auto, unfolding(crate::specs::Memory::cell_at, crate::specs::Memory::erasable_bank, crate::specs::Memory::fixed_bank, crate::specs::Memory::selected_bank, crate::specs::Memory::erasable_place, crate::specs::Memory::fixed_place, crate::specs::Cells::with_banks))]
 
 ghost use Rattle.std.specs.Prelude.{◌≡◌, ◌<◌, ◌≤◌};
-ghost use Rattle.agc_store.specs.Places.{erasable_cells, fixed_window};
+ghost use Rattle.agc_store.specs.Places.{erasable_cells, fixed_places, fixed_window};
 ghost use Rattle.agc_store.specs.Memory.{erasable_bank, fixed_bank, selected_bank, bank_with_superbank, erasable_place, fixed_place};
 ghost use Rattle.agc_store.specs.Cells.{with_banks};
 
@@ -59,7 +59,7 @@ impl Store {
         requires low { fixed_window ≤ number }
         requires high { number < 0o10000 }
         ensures place { result ≡ fixed_place self.now number }
-        ensures range { result < 40960 }
+        ensures range { result < fixed_places }
     {
         if number < FIXED_FIXED as usize {
             self.fixed_base + (number - FIXED_WINDOW as usize)

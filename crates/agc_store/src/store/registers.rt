@@ -86,14 +86,15 @@ impl Store {
         ensures word { result ≡ fetch_of (put_of self.old z_cell (narrow_number address)) address }
         ensures next { self.new ≡ put_of (put_of self.old z_cell (narrow_number address)) z_cell (narrow_number ((address + 1) % 0o10000)) }
     {
-        let _ = &self.cells;
+        // That Z holds what it is set to rests on what holds of all cells.
+        let _cells = &self.cells;
         let number = usize::from(address.bits());
         let word = if number >= FIXED_FIXED as usize {
-            self.fetch(address)
-        } else if number >= FIXED_WINDOW as usize {
-            self.fetch(address)
+            self.fetch_fixed_fixed(number)
         } else {
-            self.set_z(address);
+            if number < FIXED_WINDOW as usize {
+                self.set_z(address);
+            }
             self.fetch(address)
         };
         self.set_z(address.next());
