@@ -3,6 +3,7 @@ use Rattle.std.specs.Prelude.{◌≡◌, ℕ, ◌+◌, ◌≤◌, ◌<◌, ◌==
 use Rattle.std.specs.Prelude.{All, List, length, take, Option, Some, None}
 use Rattle.circular_buffer.specs.Buffer.{keep_last}
 use Rattle.agc_word.specs.Number.{Number}
+use Rattle.agc_store.specs.Places.{erasable_cells}
 use Rattle.agc_machine.specs.Run.{run_of}
 use Rattle.agc_machine.specs.State.{State}
 use Rattle.agc_panel.specs.Face.{panel_of}
@@ -64,7 +65,7 @@ FitsWriteParting None = Unit {0}
 FitsWriteParting (Some parting) = FitsWrite parting.left × FitsWrite parting.right
 
 abbrev pub IsCell : CellPair → Type 0
-IsCell cell = cell.place < 2048
+IsCell cell = cell.place < erasable_cells
 
 pub record FitsLines (c : Comparison) : Type 0 where
   pub before : All FitsLine c.before.items

@@ -1,5 +1,6 @@
 -- What of the boundaries of a run is counted.
 use Rattle.std.specs.Prelude.{◌-◌, Bool, true, false, List, [], ◌∷◌, Option, Some, None, if◌then◌else◌}
+use Rattle.agc_store.specs.Places.{erasable_cells, fixed_places}
 use Rattle.agc_processor.specs.Interrupt.{rupt_number}
 use Rattle.agc_processor.specs.declared.interrupt.Rupt.{Rupt}
 use Rattle.agc_machine.specs.declared.upcoming.Upcoming.{Upcoming}
@@ -23,10 +24,10 @@ use Rattle.agc_count.specs.declared.tally.Tally.{Tally}
 unfoldable pub nothing_counted : Counts
 nothing_counted =
     record {
-      fixed = empty_table 0o120000;
-      erasable = empty_table 0o4000;
-      fixed_data = empty_table 0o120000;
-      erasable_data = empty_table 0o4000;
+      fixed = empty_table fixed_places;
+      erasable = empty_table erasable_cells;
+      fixed_data = empty_table fixed_places;
+      erasable_data = empty_table erasable_cells;
       basics = empty_table 19;
       extracodes = empty_table 20;
       interrupts = empty_table 10;

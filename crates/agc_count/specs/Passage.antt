@@ -1,5 +1,6 @@
 -- The boundaries of a run, each with the cycles that it takes and what it begins in.
 use Rattle.std.specs.Prelude.{◌≡◌, ◌<◌, ◌-◌, ◌&&◌, Bool, true, false, nat_le, List, [], ◌∷◌, filter, Option, Some, None}
+use Rattle.agc_store.specs.Places.{erasable_cells, fixed_places}
 use Rattle.agc_processor.specs.declared.interrupt.Rupt.{Rupt}
 use Rattle.agc_machine.specs.Boundary.{boundary, upcoming_of}
 use Rattle.agc_machine.specs.State.{State}
@@ -80,8 +81,8 @@ is_order (upcoming.Interrupt r) = false
 
 -- a place that the tables of a count have: of 40 fixed banks, of which the last four are empty, or a cell
 abbrev pub HasTally : Location → Type 0
-HasTally (location.Fixed place) = place < 0o120000
-HasTally (location.Erasable cell) = cell < 0o4000
+HasTally (location.Fixed place) = place < fixed_places
+HasTally (location.Erasable cell) = cell < erasable_cells
 
 -- an order runs at a place, and by a name
 abbrev pub RunsAs : Location → Named → Upcoming → Type 0

@@ -1,5 +1,6 @@
 -- What of a count always adds up, and leaves room for more.
 use Rattle.std.specs.Prelude.{◌≡◌, ℕ, ◌+◌, ◌<◌, ◌^◌, List, length}
+use Rattle.agc_store.specs.Places.{erasable_cells, fixed_places}
 use Rattle.agc_count.specs.Laws.{MakeUp}
 use Rattle.agc_count.specs.Tally.{cycles_in, times_in}
 use Rattle.agc_count.specs.declared.counts.Counts.{Counts}
@@ -11,9 +12,10 @@ pub record Halves (size rest : ℕ) (table others : List Tally) (all : Tally) : 
   pub others_length : length others ≡ rest
   pub up : MakeUp table others all
 
--- the places of both memories make up all orders, and so do the names of both kinds
+-- The places of both memories make up all orders, and so do the names of both kinds: of 19 basic
+-- orders and of 20 extracodes.
 abbrev pub ArePlaced : Counts → Type 0
-ArePlaced c = Halves 0o120000 0o4000 c.fixed c.erasable c.orders
+ArePlaced c = Halves fixed_places erasable_cells c.fixed c.erasable c.orders
 
 abbrev pub AreNamed : Counts → Type 0
 AreNamed c = Halves 19 20 c.basics c.extracodes c.orders

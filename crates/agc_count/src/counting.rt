@@ -51,14 +51,15 @@ pub fn count<P: Progress>(
     Ok(counts)
 }
 
-/// No run has so many boundaries left that their number has no room.
+/// No run has so many boundaries left that their number has no room. It does nothing: its lines tell the prover what a
+/// machine keeps of its cycles, and how long a list of events can be.
 #[inline]
 #[tactic(auto, using(crate::proofs::Room::few_left))]
 fn has_room(machine: &Machine)
     ensures { entries_left machine.now < 2 ^ 64 }
 {
-    let _wants_key = machine.wants_key();
-    let _most = machine.events_left().len() + 1_000_000_000_002;
+    let _limit_is_kept = machine.wants_key();
+    let _has_a_length = machine.events_left().len() + 1_000_000_000_002;
 }
 
 /// Takes one boundary of a machine, and counts it where it is no stop and begins in a span of cycles. Tells whether the

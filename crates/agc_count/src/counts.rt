@@ -1,5 +1,6 @@
 //! What of a run is counted.
 ghost use Rattle.std.specs.Prelude.{◌≡◌};
+ghost use Rattle.agc_store.specs.Places.{erasable_cells, fixed_places};
 ghost use Rattle.agc_count.specs.Counts.{served};
 
 use crate::data::Data;
@@ -11,12 +12,12 @@ use crate::tally::Tally;
 use agc_machine::Upcoming;
 use agc_processor::Rupt;
 use agc_source_words::Location;
-use agc_store::place::{ERASABLE_CELLS, FIXED_BANK_SIZE};
+use agc_store::place::{ERASABLE_CELLS, FIXED_PLACES};
 use agc_trace::Span;
 use std::alloc::{AllocError, Global};
 
 /// The places of fixed memory at which an order may stand: of 40 banks, of which the last four are empty.
-const PLACES: usize = 40 * FIXED_BANK_SIZE as usize;
+const PLACES: usize = FIXED_PLACES as usize;
 /// The cells of erasable memory.
 const CELLS: usize = ERASABLE_CELLS as usize;
 /// The interrupts.
@@ -230,7 +231,7 @@ impl Counts {
     #[inline(always)]
     fn take_at(&mut self, location: Location, one: Tally)
         requires tally { HasTally location }
-        requires fits { Fits 0o120000 0o4000 self.old.fixed self.old.erasable one }
+        requires fits { Fits fixed_places erasable_cells self.old.fixed self.old.erasable one }
         ensures { self.new ≡ counted_at location one self.old }
     {
         match location {

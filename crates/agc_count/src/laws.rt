@@ -1,5 +1,6 @@
 //! Laws of every count, each the contract of a function that does nothing.
 ghost use Rattle.std.specs.Prelude.{◌≡◌, ◌+◌, ◌-◌, ◌<◌, ℕ, List, filter, length, map};
+ghost use Rattle.agc_store.specs.Places.{erasable_cells, fixed_places};
 ghost use Rattle.agc_processor.specs.Interrupt.{rupt_number};
 ghost use Rattle.agc_processor.specs.declared.interrupt.Rupt.{Rupt};
 ghost use Rattle.agc_machine.specs.Run.{run_of};
@@ -25,19 +26,19 @@ ghost use Rattle.agc_count.specs.declared.passage.Passage.{Passage};
 
 /// Each place has as many orders as there are boundaries that ran the order at this place, and their cycles.
 pub fn a_place_has_its_boundaries()
-    ensures fixed { (place : ℕ) (ps : List Passage) → place < 0o120000
+    ensures fixed { (place : ℕ) (ps : List Passage) → place < fixed_places
         → tally_at place (count_of ps).fixed ≡ tally_of (filter (ran_at (location.Fixed place)) ps) }
-    ensures erasable { (cell : ℕ) (ps : List Passage) → cell < 0o4000
+    ensures erasable { (cell : ℕ) (ps : List Passage) → cell < erasable_cells
         → tally_at cell (count_of ps).erasable ≡ tally_of (filter (ran_at (location.Erasable cell)) ps) }
 {}
 
 /// Each place was read as data by as many orders as there are boundaries whose order reads it by its address, and with
 /// these those whose order is a double one and reads it as the word before.
 pub fn a_place_has_its_readers()
-    ensures fixed { (place : ℕ) (ps : List Passage) → place < 0o120000
+    ensures fixed { (place : ℕ) (ps : List Passage) → place < fixed_places
         → tally_at place (count_of ps).fixed_data
         ≡ tally_of_both (read_at (location.Fixed place)) (read_before (location.Fixed place)) ps }
-    ensures erasable { (cell : ℕ) (ps : List Passage) → cell < 0o4000
+    ensures erasable { (cell : ℕ) (ps : List Passage) → cell < erasable_cells
         → tally_at cell (count_of ps).erasable_data
         ≡ tally_of_both (read_at (location.Erasable cell)) (read_before (location.Erasable cell)) ps }
 {}

@@ -3,6 +3,7 @@ use Rattle.std.specs.Prelude.{ℕ, zero, suc, ◌+◌, ◌==◌, ◌&&◌, ◌||
 use Rattle.std.specs.Prelude.{List, [], ◌++◌, codes, flat_map, Some, None}
 use Rattle.agc_word.specs.Number.{Number, pattern_of}
 use Rattle.agc_word.specs.Octal.{octal_digits}
+use Rattle.agc_store.specs.Places.{erasable_bank_size, erasable_cells, fixed_bank_size, fixed_words}
 use Rattle.agc_store.specs.Memory.{fixed_at}
 use Rattle.agc_order.specs.Row.{all_basics, all_extracodes, basic_row, extracode_row}
 use Rattle.agc_order.specs.declared.order.Basic.{Basic}
@@ -74,14 +75,14 @@ extracode_lines layout c = flat_map (extracode_line layout c) all_extracodes
 unfoldable pub erasable_bank_line : Layout → Counts → ℕ → List ℕ
 erasable_bank_line layout c bank =
     counted_row layout (codes "bank") (codes "E" ++ octal_digits 1 bank)
-    (bank_tally 0o400 bank c.erasable)
+    (bank_tally erasable_bank_size bank c.erasable)
 
 abbrev pub erasable_bank_lines : ℕ → Layout → Counts → List ℕ
 erasable_bank_lines count layout c = lines_below count (erasable_bank_line layout c)
 
 unfoldable pub fixed_bank_line : Layout → Counts → ℕ → List ℕ
 fixed_bank_line layout c bank =
-    counted_row layout (codes "bank") (octal_digits 2 bank) (bank_tally 0o2000 bank c.fixed)
+    counted_row layout (codes "bank") (octal_digits 2 bank) (bank_tally fixed_bank_size bank c.fixed)
 
 abbrev pub fixed_bank_lines : ℕ → Layout → Counts → List ℕ
 fixed_bank_lines count layout c = lines_below count (fixed_bank_line layout c)
@@ -142,8 +143,8 @@ summary_text layout c =
 -- the lines of its words
 unfoldable pub words_text : Layout → Bool → Counts → List Number → List ℕ
 words_text layout whole c words =
-    cell_lines 0o4000 layout c ++ word_lines 0o110000 layout whole c words
-    ++ empty_lines 0o110000 0o10000 layout c
+    cell_lines erasable_cells layout c ++ word_lines fixed_words layout whole c words
+    ++ empty_lines fixed_words 0o10000 layout c
 
 -- the text of a count, with the words that ran or were read, or with those of the whole rope
 unfoldable pub count_text : Layout → Bool → Counts → List Number → List ℕ

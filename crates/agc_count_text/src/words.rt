@@ -1,9 +1,10 @@
 //! The lines of the words: of each how often it ran as an order, how many cycles that took, and how often it was read as
 //! data.
-ghost use Rattle.std.specs.Prelude.{◌≡◌, ◌++◌, ◌&&◌, ◌+◌, ◌<◌, ◌≤◌, not, OnOk, string_bytes};
+ghost use Rattle.std.specs.Prelude.{◌≡◌, ◌++◌, ◌+◌, ◌<◌, ◌≤◌, OnOk, string_bytes};
 ghost use Rattle.agc_word.specs.Number.{pattern_of};
+ghost use Rattle.agc_store.specs.Places.{erasable_cells, fixed_places, fixed_words};
 ghost use Rattle.agc_store.specs.Memory.{fixed_at};
-ghost use Rattle.agc_rope_listing.specs.List.{begins_anew, listed_address, listed_place};
+ghost use Rattle.agc_rope_listing.specs.List.{listed_address, listed_place};
 ghost use Rattle.agc_rope_listing.specs.Place.{IsInPrint};
 ghost use Rattle.agc_count_text.specs.Report.{
   cell_line,
@@ -20,16 +21,14 @@ ghost use Rattle.agc_count_text.specs.Report.{
 use crate::row::{Layout, push_row};
 use agc_count::{Counts, Tally};
 use agc_places::Cell;
-use agc_rope_listing::{
-    Place, begins_anew, leads_extracode, listed_address, push_order, push_place,
-};
+use agc_rope_listing::{Place, leads_extracode, leads_on, listed_address, push_order, push_place};
 use agc_store::Store;
-use agc_store::place::{ERASABLE_CELLS, FIXED_BANK_SIZE, FIXED_WINDOW, FIXED_WORDS};
+use agc_store::place::{ERASABLE_CELLS, FIXED_BANK_SIZE, FIXED_PLACES, FIXED_WINDOW, FIXED_WORDS};
 use agc_word::Narrow;
 use std::alloc::AllocError;
 
 /// The places of the four banks that the rope does not have.
-const EMPTY_WORDS: usize = 4 * FIXED_BANK_SIZE as usize;
+const EMPTY_WORDS: usize = (FIXED_PLACES - FIXED_WORDS) as usize;
 
 /// Adds the lines of the words: those of erasable memory, those of the rope, and those of banks that are empty. Fails
 /// where memory runs out.
@@ -56,7 +55,7 @@ fn push_cells(
     counts: &Counts,
     count: u32,
 ) -> Result<(), AllocError>
-    requires { count ≤ 0o4000 }
+    requires { count ≤ erasable_cells }
     ensures { OnOk result (string_bytes text.new
         ≡ string_bytes text.old ++ cell_lines count layout counts.now) }
 {
@@ -73,7 +72,7 @@ fn push_cell(
     counts: &Counts,
     cell: u32,
 ) -> Result<(), AllocError>
-    requires { cell < 0o4000 }
+    requires { cell < erasable_cells }
     ensures { OnOk result (string_bytes text.new
         ≡ string_bytes text.old ++ cell_line layout counts.now cell) }
 {
@@ -127,7 +126,7 @@ fn push_listed(
     store: &Store,
     count: usize,
 ) -> Result<(), AllocError>
-    requires { count ≤ 0o110000 }
+    requires { count ≤ fixed_words }
     ensures { OnOk result (string_bytes text.new
         ≡ string_bytes text.old ++ word_lines count layout whole counts.now store.now.fixed) }
 {
@@ -142,16 +141,9 @@ fn push_listed(
     Ok(())
 }
 
-/// Whether the word at a place is an extracode, where the word before it leads to one.
-fn leads_on(leads: bool, place: usize) -> bool
-    ensures { result ≡ (leads && not (begins_anew place)) }
-{
-    leads && !begins_anew(place)
-}
-
 /// The fixed word at a place.
 fn word_at(store: &Store, place: usize) -> Narrow
-    requires { place < 0o110000 }
+    requires { place < fixed_words }
     ensures { result ≡ fixed_at place store.now.fixed }
 {
     store.fixed_at(place)
@@ -169,7 +161,7 @@ fn push_word(
     tally: Tally,
     reads: Tally,
 ) -> Result<(), AllocError>
-    requires { place < 0o110000 }
+    requires { place < fixed_words }
     ensures { OnOk result (string_bytes text.new
         ≡ string_bytes text.old ++ word_row layout whole place extracode word tally reads) }
 {
@@ -196,7 +188,7 @@ fn push_word(
 /// The place of a word of fixed memory, as listings name it.
 #[tactic(auto, unfolding(agc_rope_listing::specs::List::listed_address))]
 fn fixed_place(place: usize) -> Place
-    requires { place < 0o120000 }
+    requires { place < fixed_places }
     ensures place { result ≡ listed_place place }
     ensures range { IsInPrint result }
 {
@@ -220,7 +212,7 @@ fn push_empty(
     first: usize,
     count: usize,
 ) -> Result<(), AllocError>
-    requires { first + count ≤ 0o120000 }
+    requires { first + count ≤ fixed_places }
     ensures { OnOk result (string_bytes text.new
         ≡ string_bytes text.old ++ empty_lines first count layout counts.now) }
 {
@@ -237,7 +229,7 @@ fn push_empty_word(
     counts: &Counts,
     place: usize,
 ) -> Result<(), AllocError>
-    requires { place < 0o120000 }
+    requires { place < fixed_places }
     ensures { OnOk result (string_bytes text.new
         ≡ string_bytes text.old ++ empty_line layout counts.now place) }
 {

@@ -1,5 +1,6 @@
 //! What holds of every interrupt.
 ghost use Rattle.std.specs.Prelude.{◌≡◌, ◌<◌, length, false, Some, None};
+ghost use Rattle.agc_store.specs.Places.{erasable_cells};
 ghost use Rattle.agc_processor.specs.declared.interrupt.Rupt.{Rupt};
 ghost use Rattle.agc_processor.specs.declared.processor.Processor.{Processor};
 ghost use Rattle.agc_processor.specs.Basic.{resume_of};
@@ -11,7 +12,7 @@ ghost use Rattle.agc_laws.specs.Service.{KeepsRupt};
 /// RESUME comes back from an interrupt whose service has kept ZRUPT and BRUPT: to the order that was
 /// in hand, to no service, and on to where Z was.
 pub fn resume_comes_back()
-    ensures { (rupt : Rupt) (p q : Processor) → length p.store.erasable ≡ 2048 → p.hand.magnitude < 0o40000
+    ensures { (rupt : Rupt) (p q : Processor) → length p.store.erasable ≡ erasable_cells → p.hand.magnitude < 0o40000
         → KeepsRupt (interrupted rupt p) q
         → resume_of q ≡ (q ▷ set_hand p.hand ▷ serve false ▷ jump (z_at p)) }
 {}

@@ -1,5 +1,6 @@
 //! What events, of the script or live, do to the processor.
 ghost use Rattle.std.specs.Prelude.{◌≡◌, ◌<◌, ◌≤◌, ◌^◌};
+ghost use Rattle.agc_store.specs.Places.{erasable_bank_size};
 ghost use Rattle.agc_script.specs.Event.{IsWhatInRange};
 ghost use Rattle.agc_machine.specs.Happening.{pressed, proceeded, pulsed_counter, happened, cycles_of};
 
@@ -33,7 +34,7 @@ fn proceed(processor: &mut Processor, down: bool)
 #[tactic(auto, unfolding(crate::specs::Happening::pulsed_counter))]
 fn pulse_counter(processor: &mut Processor, place: u16, kind: Pulse)
     requires low { 0o10 ≤ place }
-    requires high { place < 0o400 }
+    requires high { place < erasable_bank_size }
     ensures { processor.new ≡ pulsed_counter place kind processor.old }
 {
     let carry = processor.pulse(place, kind);

@@ -50,9 +50,12 @@ rupt_at place = get_or rupts place rupt.Rupt10
 abbrev pub rupt_numbered : ℕ → Rupt
 rupt_numbered number = rupt_at (number - 1)
 
--- Each has four words for its program: those of number 1 begin at 4004 octal.
+-- Each has four words for its program, past this address: those of number 1 begin at 4004 octal.
+abbrev pub before_vectors : ℕ
+before_vectors = 0o4000
+
 abbrev pub vector_of : Rupt → ℕ
-vector_of r = 0o4000 + 4 * rupt_number r
+vector_of r = before_vectors + 4 * rupt_number r
 
 -- an interrupt is requested; a request that waits already stays one
 abbrev pub request : Rupt → Processor → Processor

@@ -1,5 +1,5 @@
 -- The processor at the start of a run.
-use Rattle.std.specs.Prelude.{ℕ, false, List, set, replicate}
+use Rattle.std.specs.Prelude.{ℕ, ◌+◌, false, List, set, replicate}
 use Rattle.agc_word.specs.Number.{Number}
 use Rattle.agc_store.specs.Cells.{narrow_number, start_memory, fetch_of}
 use Rattle.agc_processor.specs.declared.processor.Processor.{Processor}
@@ -17,6 +17,10 @@ channels_at_start count =
     let at_32 = set at_31 chan32 (narrow_number 0o77777) in
     set at_32 chan33 (narrow_number 0o77777)
 
+-- where a run begins
+abbrev pub start_address : ℕ
+start_address = 0o4000
+
 -- Power comes on: the order at 4000 octal is in hand and Z is one past it, everything else is at
 -- rest.
 unfoldable pub start_processor : List Number → Processor
@@ -25,7 +29,7 @@ start_processor words =
     record {
       store = start_memory words;
       channels = channels_at_start 0o1000;
-      hand = fetch_of (start_memory words) 0o4000;
+      hand = fetch_of (start_memory words) start_address;
       extracode = false;
       midway = false;
       inhibited = false;
@@ -39,4 +43,4 @@ start_processor words =
         mark = 0;
       };
     } in
-    at_rest ▷ jump 0o4001
+    at_rest ▷ jump (start_address + 1)

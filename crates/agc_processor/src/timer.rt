@@ -1,5 +1,6 @@
 //! The five timers: which step is due, and what it does.
 ghost use Rattle.std.specs.Prelude.{◌≡◌};
+ghost use Rattle.agc_store.specs.Places.{erasable_bank_size};
 ghost use Rattle.agc_processor.specs.Timer.{timer_name};
 
 use crate::channel::CHAN13;
@@ -111,7 +112,7 @@ impl Processor {
     /// Pulses a counter of bank 0 and returns the carry.
     pub fn pulse(&mut self, place: u16, kind: Pulse) -> Carry
         requires low { 0o10 ≤ place }
-        requires high { place < 0o400 }
+        requires high { place < erasable_bank_size }
         ensures word { self.new ≡ set_counter place (pulsed kind (counter place self.old)).0 self.old }
         ensures carry { result ≡ (pulsed kind (counter place self.old)).1 }
     {
@@ -123,7 +124,7 @@ impl Processor {
     /// Counts in a counter of bank 0, whose carry requests an interrupt.
     fn tick(&mut self, place: u16, rupt: Rupt)
         requires low { 0o10 ≤ place }
-        requires high { place < 0o400 }
+        requires high { place < erasable_bank_size }
         ensures { self.new ≡ tick place rupt self.old }
     {
         if self.pulse(place, Pulse::Pinc) == Carry::Out {

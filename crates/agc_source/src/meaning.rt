@@ -203,8 +203,8 @@ fn pair_of_octal(word: &[u8]) -> Result<Pair, SourceFault>
 {
     match read_octal(10, word) {
         Some(bits) => Ok(Pair {
-            upper: Narrow::with_bits((bits / 32768) as u16),
-            lower: Narrow::with_bits((bits % 32768) as u16),
+            upper: Narrow::with_bits((bits / 0o100000) as u16),
+            lower: Narrow::with_bits((bits % 0o100000) as u16),
         }),
         None => Err(SourceFault::BadNumber),
     }

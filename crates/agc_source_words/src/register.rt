@@ -1,5 +1,6 @@
 //! The computer's own names for cells: registers, editing registers and counters.
 ghost use Rattle.std.specs.Prelude.{◌≡◌, ◌<◌};
+ghost use Rattle.agc_store.specs.Places.{erasable_cells};
 ghost use Rattle.agc_source_words.specs.Name.{register_cell, register_name, register_named};
 
 use agc_store::place;
@@ -132,7 +133,7 @@ impl Register {
     #[tactic(auto, unfolding(crate::specs::Name::register_cell))]
     pub fn cell(self) -> u32
         ensures cell { result ≡ register_cell self }
-        ensures range { result < 0o4000 }
+        ensures range { result < erasable_cells }
     {
         u32::from(match self {
             Register::A => place::A,
