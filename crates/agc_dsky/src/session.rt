@@ -2,7 +2,7 @@
 use crate::screen::{DrawFault, Screen, Shown, ask_size};
 use agc_executive::WatchSpec;
 use agc_picture::Cap;
-use agc_seat::{Decoder, Pace, Seat, Speed, Typed, micros_of};
+use agc_seat::{Decoder, Pace, Seat, Speed, Typed, cycles_in, micros_of};
 use agc_sitting::GiveFault;
 use std::alloc::Global;
 use std::io::{Read, Write};
@@ -316,7 +316,7 @@ impl Session {
     /// than its speed says, or where its speed says nothing.
     fn measure(&mut self, micros: u64) {
         let cycles = self.seat.cycle().saturating_sub(self.asked_at);
-        let times = match micros.saturating_mul(1024) / 12_000 {
+        let times = match cycles_in(micros, 1) {
             0 => 0,
             real => cycles / real,
         };

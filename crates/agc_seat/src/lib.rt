@@ -13,7 +13,7 @@ mod seat;
 mod typed;
 
 pub use inside::{push_insides, push_tables};
-pub use pace::{Pace, Speed, micros_of};
+pub use pace::{Pace, Speed, cycles_in, micros_of};
 pub use recent::Recent;
 pub use seat::Seat;
 pub use typed::{Decoder, Typed};

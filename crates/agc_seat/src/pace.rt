@@ -78,7 +78,7 @@ pub fn micros_of<C: Clock>(clock: &C) -> u64 {
 }
 
 /// The cycles that the hardware runs in so many microseconds, so many times as fast.
-fn cycles_in(micros: u64, factor: u64) -> u64 {
+pub fn cycles_in(micros: u64, factor: u64) -> u64 {
     micros.saturating_mul(factor).saturating_mul(1024) / 12_000
 }
 
