@@ -1,10 +1,11 @@
 //! Films of small programs, worked out by hand. The numbers are octal, but for cycles.
+use super::progress::{Told, was_told};
 use super::{has_lines, machine_of, owned, same};
 use agc_film::{
     Button, Part, Press, Reel, RunFiles, film, first_difference, push_film, push_film_pair,
 };
 use agc_machine::Stop;
-use agc_progress::{Progress, Untold};
+use agc_progress::Untold;
 use agc_script::Key;
 use std::process::Abort;
 
@@ -284,20 +285,6 @@ fn two_runs(rt: HostRuntime) {
     same(&rt, found.ok(), Some(Some(3)), "idle and left");
 }
 
-/// How often something was told, and what last.
-#[derive(Debug, Default, Drop)]
-struct Told {
-    times: u64,
-    cycle: u64,
-}
-
-impl Progress for Told {
-    fn come_to(&mut self, cycle: u64) {
-        self.times = self.times.saturating_add(1);
-        self.cycle = cycle;
-    }
-}
-
 /// The first order ends at cycle 2, past the film's first cycle, and the second one at 3. From cycle 11 on each order
 /// takes one cycle, so that it is told at 2, 3, 1000003 and 2000003, in decimal.
 #[test]
@@ -309,6 +296,5 @@ fn tells_how_far_it_has_come(rt: HostRuntime) {
         .expect(&rt, "memory");
     same(&rt, reel.stop, Some(Stop::Limit), "stop");
     same(&rt, reel.frames.len(), 2, "frames");
-    same(&rt, told.times, 4, "times");
-    same(&rt, told.cycle, 2_000_003, "cycle");
+    was_told(&rt, &told, 4, 2_000_003, 3_000_011);
 }

@@ -9,7 +9,7 @@ use std::process::Abort;
 
 /// How often something was told, what last, and the sum of all that was.
 #[derive(Debug, Default, Drop)]
-struct Told {
+pub(super) struct Told {
     times: u64,
     cycle: u64,
     sum: u64,
@@ -24,7 +24,7 @@ impl Progress for Told {
 }
 
 /// Looks that it was told so often, the last time at this cycle, and what the cycles come to.
-fn was_told(rt: &impl Abort, told: &Told, times: u64, cycle: u64, sum: u64) {
+pub(super) fn was_told(rt: &impl Abort, told: &Told, times: u64, cycle: u64, sum: u64) {
     same(rt, told.times, times, "times");
     same(rt, told.cycle, cycle, "cycle");
     same(rt, told.sum, sum, "sum");
