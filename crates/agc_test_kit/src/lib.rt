@@ -1,5 +1,5 @@
-//! What tests share: gates that count what goes through the rings or hold a thread up, and ropes written as octal
-//! listings with their mnemonics, which examples and benches have too.
+//! What tests share: gates that count what goes through the rings or hold a thread up, one who keeps what a run tells of
+//! its way, and ropes written as octal listings with their mnemonics, which examples and benches have too.
 //!
 //! A line of a listing is `4000 34007 CA 4007`: an address from 4000 to 7777, or `BB,AAAA` for a
 //! bank from 00 to 43 and an address from 2000 to 3777 in it, and then a word of five octal digits.
@@ -24,6 +24,7 @@ mod line;
 mod meeting;
 mod programs;
 mod slow;
+mod told;
 
 pub use counting::Counting;
 pub use fault::ListingFault;
@@ -32,3 +33,4 @@ pub use flag::Flag;
 pub use meeting::{KeysMeet, Meeting};
 pub use programs::{DIVISION, EDRUPT, IDLE, KEYED_WRITES, RELAY_WORD, WRITES};
 pub use slow::Slow;
+pub use told::Told;

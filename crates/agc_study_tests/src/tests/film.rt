@@ -1,5 +1,5 @@
 //! Films of small programs, worked out by hand. The numbers are octal, but for cycles.
-use super::progress::{Told, was_told};
+use super::progress::was_told;
 use super::{has_lines, machine_of, owned, same};
 use agc_film::{
     Button, Part, Press, Reel, RunFiles, film, first_difference, push_film, push_film_pair,
@@ -7,6 +7,7 @@ use agc_film::{
 use agc_machine::Stop;
 use agc_progress::Untold;
 use agc_script::Key;
+use agc_test_kit::Told;
 use std::process::Abort;
 
 /// The reel of the run of a listing with a script, up to a limit of cycles.
@@ -290,11 +291,11 @@ fn two_runs(rt: HostRuntime) {
 #[test]
 fn tells_how_far_it_has_come(rt: HostRuntime) {
     let mut machine = machine_of(&rt, PROG, "", 2_500_000);
-    let mut told = Told::default();
+    let mut told = Told::new(rt.alloc());
     let reel = film(rt.alloc(), &mut machine, Part::whole(), &mut told)
         .ok()
         .expect(&rt, "memory");
     same(&rt, reel.stop, Some(Stop::Limit), "stop");
     same(&rt, reel.frames.len(), 2, "frames");
-    was_told(&rt, &told, 4, 2_000_003, 3_000_011);
+    was_told(&rt, &told, &[2, 3, 1_000_003, 2_000_003]);
 }

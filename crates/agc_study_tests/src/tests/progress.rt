@@ -2,32 +2,14 @@
 use super::{between, machine_of, same};
 use agc_compare::compare;
 use agc_machine::Machine;
-use agc_progress::{Progress, Untold, mark_past, tell_at};
-use agc_test_kit::IDLE;
+use agc_progress::{Untold, mark_past, tell_at};
+use agc_test_kit::{IDLE, Told};
 use agc_trace::trace;
 use std::process::Abort;
 
-/// How often something was told, what last, and the sum of all that was.
-#[derive(Debug, Default, Drop)]
-pub(super) struct Told {
-    times: u64,
-    cycle: u64,
-    sum: u64,
-}
-
-impl Progress for Told {
-    fn come_to(&mut self, cycle: u64) {
-        self.times = self.times.saturating_add(1);
-        self.cycle = cycle;
-        self.sum = self.sum.saturating_add(cycle);
-    }
-}
-
-/// Looks that it was told so often, the last time at this cycle, and what the cycles come to.
-pub(super) fn was_told(rt: &impl Abort, told: &Told, times: u64, cycle: u64, sum: u64) {
-    same(rt, told.times, times, "times");
-    same(rt, told.cycle, cycle, "cycle");
-    same(rt, told.sum, sum, "sum");
+/// Looks that it was told these cycles.
+pub(super) fn was_told(rt: &impl Abort, told: &Told, cycles: &[u64]) {
+    assert!(rt; told.cycles() == cycles);
 }
 
 /// A run in which each boundary takes one cycle, since TIME1 does not overflow in it.
@@ -40,7 +22,7 @@ fn idle(rt: &(impl AllocGlobal + Abort)) -> Machine {
 fn a_trace_tells_how_far_it_has_come(rt: HostRuntime) {
     let mut machine = idle(&rt);
     let selection = between(&rt, 1_100_000, 1_100_010, None);
-    let mut told = Told::default();
+    let mut told = Told::new(rt.alloc());
     let mut out = Vec::new(rt.alloc());
     let traced = trace(
         rt.alloc(),
@@ -51,26 +33,26 @@ fn a_trace_tells_how_far_it_has_come(rt: HostRuntime) {
         &mut told,
     );
     assert!(rt; traced.is_ok());
-    was_told(&rt, &told, 3, 1_100_000, 2_100_000);
+    was_told(&rt, &told, &[0, 1_000_000, 1_100_000]);
 }
 
 /// Two runs that are the same: it is told at the start, and after a million cycles.
 #[test]
 fn a_comparison_tells_how_far_it_has_come(rt: HostRuntime) {
     let (mut left, mut right) = (idle(&rt), idle(&rt));
-    let mut told = Told::default();
+    let mut told = Told::new(rt.alloc());
     let comparison = compare(rt.alloc(), &mut left, &mut right, &mut told)
         .ok()
         .expect(&rt, "memory");
     assert!(rt; comparison.is_same());
-    was_told(&rt, &told, 2, 1_000_000, 1_000_000);
+    was_told(&rt, &told, &[0, 1_000_000]);
 }
 
 /// It is told at the first cycle, and then at the first one that is a million cycles or more after the
 /// last one told.
 #[test]
 fn told_from_mark_to_mark(rt: HostRuntime) {
-    let mut told = Told::default();
+    let mut told = Told::new(rt.alloc());
     let mut mark = 0;
     for (cycle, times, last) in [
         (7, 1, 7),
@@ -82,8 +64,13 @@ fn told_from_mark_to_mark(rt: HostRuntime) {
         (5_999_999, 3, 5_000_000),
     ] {
         mark = tell_at(mark, cycle, &mut told);
-        same(&rt, told.times, times, "times");
-        same(&rt, told.cycle, last, "cycle");
+        let cycles = told.cycles();
+        same(
+            &rt,
+            (cycles.len(), cycles.last().copied()),
+            (times, Some(last)),
+            "told",
+        );
     }
     same(&rt, mark, 6_000_000, "mark");
     same(&rt, mark_past(u64::MAX), u64::MAX, "last mark");

@@ -5,38 +5,15 @@ use super::super::{Host, machine_of, script_of};
 use agc_gate::Telling;
 use agc_machine::Machine;
 use agc_pipe::{run_live, run_shown};
-use agc_progress::{Progress, Shown};
+use agc_test_kit::Told;
 use std::process::Abort;
 
 const LIMIT: u64 = 2_500_000;
 
-/// The cycles that were told, until what was shown was wiped.
-#[derive(Drop)]
-struct Told {
-    cycles: Vec<u64>,
-    wiped: u32,
-}
-
-impl Told {
-    /// Whether the cycle at this place is one of the 1,024 from as many millions on.
-    fn is_soon_after_millions(&self, place: usize) -> bool {
-        self.cycles.get(place).is_some_and(|cycle| {
-            cycle / 1_000_000 == place as u64 && cycle % 1_000_000 < 1_024
-        })
-    }
-}
-
-impl Progress for Told {
-    fn come_to(&mut self, cycle: u64) {
-        // Want of memory leaves a cycle out, which the test sees.
-        let _kept = self.cycles.push(cycle);
-    }
-}
-
-impl Shown for Told {
-    fn wipe(&mut self) {
-        self.wiped = self.wiped.saturating_add(1);
-    }
+/// Whether the cycle told at this place is one of the 1,024 from as many millions on.
+fn is_soon_after_millions(told: &Told, place: usize) -> bool {
+    told.cycles().get(place).is_some_and(|cycle| cycle / 1_000_000 == place as u64
+        && cycle % 1_000_000 < 1_024)
 }
 
 /// TCF 4000 for ever, at its start.
@@ -47,11 +24,7 @@ fn endless(rt: &(impl AllocGlobal + Abort)) -> Machine
 }
 
 fn telling(rt: &impl AllocGlobal, is_told: bool) -> Telling<Told> {
-    let told = Told {
-        cycles: Vec::new(rt.alloc()),
-        wiped: 0,
-    };
-    Telling::new(told, is_told)
+    Telling::new(Told::new(rt.alloc()), is_told)
 }
 
 /// What that run tells.
@@ -65,13 +38,13 @@ fn told_of(rt: &impl Host, is_told: bool) -> Told {
 #[test]
 fn a_run_tells_how_far_it_has_come(rt: HostRuntime) {
     let told = told_of(&rt, true);
-    assert!(rt; told.cycles.as_slice() == [1, 1_000_001, 2_000_001].as_slice());
-    assert!(rt; told.wiped == 1);
+    assert!(rt; told.cycles() == [1, 1_000_001, 2_000_001].as_slice());
+    assert!(rt; told.wiped() == 1);
 }
 
 #[test]
 fn a_run_is_not_told_to_who_would_not_know(rt: HostRuntime) {
-    assert!(rt; told_of(&rt, false).cycles.is_empty());
+    assert!(rt; told_of(&rt, false).cycles().is_empty());
 }
 
 /// With live keys it is told where the machine looks for a key, every 256 cycles.
@@ -82,7 +55,7 @@ fn a_live_run_tells_how_far_it_has_come(rt: HostRuntime) {
     let live = run_live(&rt, rt.alloc(), endless(&rt), no_keys, 1, 1, &gate);
     assert!(rt; live.is_ok());
     let told = gate.into_inner();
-    assert!(rt; (told.cycles.len(), told.wiped) == (3, 1));
-    assert!(rt; told.is_soon_after_millions(0) && told.is_soon_after_millions(1));
-    assert!(rt; told.is_soon_after_millions(2));
+    assert!(rt; (told.cycles().len(), told.wiped()) == (3, 1));
+    assert!(rt; is_soon_after_millions(&told, 0) && is_soon_after_millions(&told, 1));
+    assert!(rt; is_soon_after_millions(&told, 2));
 }
