@@ -24,7 +24,7 @@ use Rattle.agc_rope_listing.proofs.Woven.{next_said}
 use Rattle.agc_source_words.specs.declared.fault.SourceFault.{SourceFault}
 use Rattle.agc_source_words.specs.declared.fault.SourceFault.TheVariants as fault
 use Rattle.agc_source_words.specs.declared.fault.SourceTrouble.TheVariants as trouble
-use Rattle.agc_source.proofs.Ways.{next_woven}
+use Rattle.agc_source.proofs.Passes.{next_woven}
 use Rattle.agc_source.specs.declared.steps.Step.{Step}
 use Rattle.agc_rope_listing.specs.declared.fault.LineFault.{LineFault}
 use Rattle.agc_rope_listing.specs.declared.line.Named.{Named}
@@ -33,7 +33,7 @@ use Rattle.agc_source.specs.declared.steps.State.{State}
 use Rattle.agc_source_words.specs.Name.{Naming, own_names}
 use Rattle.agc_source_words.specs.Text.{are_listed, said_by}
 
--- On the second way the lines of a listing say what they say as a listing.
+-- On the second pass the lines of a listing say what they say as a listing.
 abbrev AgreeOn : Naming → State → List (List ℕ) → Type 0
 AgreeOn naming state lines = (n : ℕ) (said : List Named) → words_from n naming state said lines ≡ as_source (said_from n said lines)
 
@@ -96,7 +96,7 @@ agree_on naming state (line ∷ lines) h n said =
     let parts = and_parts (are_listed (said_by line)) (list_all (λ other. are_listed (said_by other)) lines) h in
     agree_line naming state line lines n said (line_named line) parts.0 refl (agree_on naming state lines parts.1)
 
--- So a text whose second way says words, after a first one without faults, says these words.
+-- So a text whose second pass says words, after a first one without faults, says these words.
 source_by : (text : List ℕ) (said : List Named) (listing : Bool) → is_listing text ≡ listing → names_in text ≡ Ok own_names → words_in own_names text ≡ Ok said → source_in text ≡ Ok said
 unfolding source_in is_listing words_in said_in
 source_by text said true listing none says = rw listing (sym (agree_on own_names first_state (lines_of text) listing 1 []) ∙ says)
@@ -111,7 +111,7 @@ narrow_at words h place =
       | inr past ↦ rw (get_or_past words place nothing past) (omega arith)
     ]
 
--- the source of a rope, read on both ways
+-- the source of a rope, read on both passes
 no_word_before : (words : List Number) (cursor : Cursor) → length cursor.left ≡ 36 → Stands words 0 cursor
 no_word_before words cursor banks = record { banks = banks; here = λ follows. absurd (both_ways false refl follows) }
 

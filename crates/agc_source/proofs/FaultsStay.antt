@@ -1,4 +1,4 @@
--- A way through a source tells the fault of its first faulty line, whatever lines come after it.
+-- A pass over a source tells the fault of its first faulty line, whatever lines come after it.
 use Rattle.std.specs.Prelude.{◌≡◌, ℕ, zero, suc, ◌+◌, List, [], ◌∷◌, take, Result, Ok, Err}
 use Rattle.std.proofs.Common.{refl, sym, ◌∙◌}
 use Rattle.agc_rope_listing.specs.declared.line.Named.{Named}
@@ -12,7 +12,7 @@ use Rattle.agc_source_words.specs.Text.{label_of}
 use Rattle.agc_source_words.specs.declared.fault.SourceFault.{SourceFault}
 use Rattle.agc_source_words.specs.declared.fault.SourceTrouble.{SourceTrouble}
 use Rattle.agc_source_words.specs.declared.fault.SourceTrouble.TheVariants as trouble
-use Rattle.agc_source.proofs.Ways.{next_named, next_woven}
+use Rattle.agc_source.proofs.Passes.{next_named, next_woven}
 
 -- a faulty line before others
 pub faulty_name : (n : ℕ) (naming : Naming) (cursor : Cursor) (line : List ℕ) (why : SourceFault) → line_labelled naming cursor line ≡ Err why

@@ -1,11 +1,11 @@
--- The fault that a way through a source tells is the first on it.
+-- The fault that a pass over a source tells is the first in it.
 use Rattle.std.specs.Prelude.{◌≡◌, ℕ, suc, ◌+◌, ◌-◌, ◌<◌, true, false, List, [], ◌∷◌, length, take, Result, Ok, Err, IsOk}
 use Rattle.std.proofs.Common.{refl, ap, sym, ◌∙◌, arith, inl, inr}
 use Rattle.agc_script.specs.Text.{lines_of}
 use Rattle.agc_rope_listing.specs.Weave.{said_in}
 use Rattle.agc_rope_listing.specs.declared.line.Named.{Named}
 use Rattle.agc_source.specs.Cursor.{first_cursor}
-use Rattle.agc_source.specs.FirstFault.{IsFirstFault, IsFirstOn, Way, names_way, words_way}
+use Rattle.agc_source.specs.FirstFault.{IsFirstFault, IsFirstOn, Pass, names_pass, words_pass}
 use Rattle.agc_source.specs.Source.{as_source, both_said, first_state, is_listing, line_labelled, line_woven, names_from, names_in, naming_after, source_in, words_after_names, words_from, words_in}
 use Rattle.agc_source.specs.declared.cursor.Cursor.{Cursor}
 use Rattle.agc_source.specs.declared.labels.Labelled.{Labelled}
@@ -18,20 +18,20 @@ use Rattle.agc_source_words.specs.declared.fault.SourceTrouble.{SourceTrouble}
 use Rattle.agc_source_words.specs.declared.fault.SourceTrouble.TheVariants as trouble
 use Rattle.agc_source.proofs.Back.{agree_on}
 use Rattle.agc_source.proofs.FaultsStay.{faulty_line, faulty_name, names_stay, words_stay, wrong_word}
-use Rattle.agc_source.proofs.Ways.{next_named, next_woven}
+use Rattle.agc_source.proofs.Passes.{next_named, next_woven}
 
--- the lines of a way before a fault, of which the first has the number n
-record Cut {A : Type 0} (way : List (List ℕ) → Result A SourceTrouble) (n : ℕ) (lines : List (List ℕ)) (at : ℕ) (why : SourceFault) : Type 0 where
+-- the lines of a pass before a fault, of which the first has the number n
+record Cut {A : Type 0} (pass : List (List ℕ) → Result A SourceTrouble) (n : ℕ) (lines : List (List ℕ)) (at : ℕ) (why : SourceFault) : Type 0 where
   before : ℕ
   number : at ≡ n + before
   inside : before < length lines
-  plain : IsOk (way (take before lines))
-  faulty : way (take (suc before) lines) ≡ Err (trouble.Line at why)
+  plain : IsOk (pass (take before lines))
+  faulty : pass (take (suc before) lines) ≡ Err (trouble.Line at why)
 
 -- a fault of the first line
-cut_here : {A : Type 0} (way : List (List ℕ) → Result A SourceTrouble) (n : ℕ) (line : List ℕ) (lines : List (List ℕ)) (at : ℕ) (why mine : SourceFault) → IsOk (way [])
-    → ((others : List (List ℕ)) → way (line ∷ others) ≡ Err (trouble.Line n mine)) → way (line ∷ lines) ≡ Err (trouble.Line at why) → Cut way n (line ∷ lines) at why
-cut_here way n line lines at why mine none faulty is =
+cut_here : {A : Type 0} (pass : List (List ℕ) → Result A SourceTrouble) (n : ℕ) (line : List ℕ) (lines : List (List ℕ)) (at : ℕ) (why mine : SourceFault) → IsOk (pass [])
+    → ((others : List (List ℕ)) → pass (line ∷ others) ≡ Err (trouble.Line n mine)) → pass (line ∷ lines) ≡ Err (trouble.Line at why) → Cut pass n (line ∷ lines) at why
+cut_here pass n line lines at why mine none faulty is =
     let told : Err (trouble.Line at why) ≡ Err (trouble.Line n mine) = sym is ∙ faulty lines in
     let number : at ≡ n = cc in
     let same : mine ≡ why = cc in
@@ -44,9 +44,9 @@ cut_here way n line lines at why mine none faulty is =
     }
 
 -- a fault of a later one
-cut_later : {A : Type 0} (way rest : List (List ℕ) → Result A SourceTrouble) (n : ℕ) (line : List ℕ) (lines : List (List ℕ)) (at : ℕ) (why : SourceFault)
-    → ((others : List (List ℕ)) → way (line ∷ others) ≡ rest others) → Cut rest (n + 1) lines at why → Cut way n (line ∷ lines) at why
-cut_later way rest n line lines at why goes c =
+cut_later : {A : Type 0} (pass rest : List (List ℕ) → Result A SourceTrouble) (n : ℕ) (line : List ℕ) (lines : List (List ℕ)) (at : ℕ) (why : SourceFault)
+    → ((others : List (List ℕ)) → pass (line ∷ others) ≡ rest others) → Cut rest (n + 1) lines at why → Cut pass n (line ∷ lines) at why
+cut_later pass rest n line lines at why goes c =
     record {
       before = suc c.before;
       number = omega (arith, c.number);
@@ -55,7 +55,7 @@ cut_later way rest n line lines at why goes c =
       faulty = goes (take (suc c.before) lines) ∙ c.faulty;
     }
 
--- the way of the names
+-- the pass of the names
 no_names : (n : ℕ) (naming : Naming) (cursor : Cursor) → IsOk (names_from n naming cursor [])
 unfolding names_from
 no_names n naming cursor = refl
@@ -79,7 +79,7 @@ unfolding names_from
 names_cut [] at why n naming cursor is = absurd cc
 names_cut (line ∷ lines) at why n naming cursor is = names_by at why n naming cursor line lines (line_labelled naming cursor line) refl (names_cut lines at why) is
 
--- the way of the words
+-- the pass of the words
 no_words : (n : ℕ) (naming : Naming) (state : State) (said : List Named) → IsOk (words_from n naming state said [])
 unfolding words_from
 no_words n naming state said = refl
@@ -111,24 +111,24 @@ words_cut naming [] at why n state said is = absurd cc
 words_cut naming (line ∷ lines) at why n state said is = words_by at why n naming state said line lines (line_woven naming state line) refl (words_cut naming lines at why) is
 
 -- with the first line's number 1
-from_one : {A : Type 0} (way : Way A) (lines : List (List ℕ)) (at : ℕ) (why : SourceFault) → Cut way 1 lines at why → IsFirstOn way lines at why
-from_one way lines at why c =
+from_one : {A : Type 0} (pass : Pass A) (lines : List (List ℕ)) (at : ℕ) (why : SourceFault) → Cut pass 1 lines at why → IsFirstOn pass lines at why
+from_one pass lines at why c =
     let before : at - 1 ≡ c.before = omega (arith, c.number) in
     let upto : at ≡ suc c.before = omega (arith, c.number) in
     record {
       first = omega (arith, c.number);
       last = omega (arith, c.number, c.inside);
       before = rw before c.plain;
-      here = ap (λ (n : ℕ). way (take n lines)) upto ∙ c.faulty;
+      here = ap (λ (n : ℕ). pass (take n lines)) upto ∙ c.faulty;
     }
 
-names_first : (text : List ℕ) (n : ℕ) (why : SourceFault) → names_in text ≡ Err (trouble.Line n why) → IsFirstOn names_way (lines_of text) n why
+names_first : (text : List ℕ) (n : ℕ) (why : SourceFault) → names_in text ≡ Err (trouble.Line n why) → IsFirstOn names_pass (lines_of text) n why
 unfolding names_in
-names_first text n why is = from_one names_way (lines_of text) n why (names_cut (lines_of text) n why 1 own_names first_cursor is)
+names_first text n why is = from_one names_pass (lines_of text) n why (names_cut (lines_of text) n why 1 own_names first_cursor is)
 
-words_first : (naming : Naming) (text : List ℕ) (n : ℕ) (why : SourceFault) → words_in naming text ≡ Err (trouble.Line n why) → IsFirstOn (words_way naming) (lines_of text) n why
+words_first : (naming : Naming) (text : List ℕ) (n : ℕ) (why : SourceFault) → words_in naming text ≡ Err (trouble.Line n why) → IsFirstOn (words_pass naming) (lines_of text) n why
 unfolding words_in
-words_first naming text n why is = from_one (words_way naming) (lines_of text) n why (words_cut naming (lines_of text) n why 1 first_state [] is)
+words_first naming text n why is = from_one (words_pass naming) (lines_of text) n why (words_cut naming (lines_of text) n why 1 first_state [] is)
 
 either_by : (text : List ℕ) (n : ℕ) (why : SourceFault) (names : Result Naming SourceTrouble) → names_in text ≡ names → words_after_names text names ≡ Err (trouble.Line n why) → IsFirstFault text n why
 either_by text n why (Err told) e is =
@@ -140,10 +140,10 @@ either_by text n why (Ok naming) e is = inr (naming, e, words_first naming text 
 pub source_first : (text : List ℕ) (n : ℕ) (why : SourceFault) → is_listing text ≡ false → source_in text ≡ Err (trouble.Line n why) → IsFirstFault text n why
 unfolding source_in
 source_first text n why listing is =
-    let way : words_after_names text (names_in text) ≡ Err (trouble.Line n why) = rw listing at is in
-    either_by text n why (names_in text) refl way
+    let pass : words_after_names text (names_in text) ≡ Err (trouble.Line n why) = rw listing at is in
+    either_by text n why (names_in text) refl pass
 
-pub listing_first : (text : List ℕ) (n : ℕ) (why : SourceFault) → is_listing text ≡ true → source_in text ≡ Err (trouble.Line n why) → IsFirstOn (words_way own_names) (lines_of text) n why
+pub listing_first : (text : List ℕ) (n : ℕ) (why : SourceFault) → is_listing text ≡ true → source_in text ≡ Err (trouble.Line n why) → IsFirstOn (words_pass own_names) (lines_of text) n why
 unfolding source_in is_listing words_in said_in
 listing_first text n why listing is =
     let told : as_source (said_in text) ≡ Err (trouble.Line n why) = rw listing at is in

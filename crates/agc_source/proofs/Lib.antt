@@ -1,4 +1,4 @@
-mod Ways
+mod Passes
 mod FirstMisnamed
 mod Back
 mod Cut

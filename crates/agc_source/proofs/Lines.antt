@@ -1,4 +1,4 @@
--- Where the lines of a rope's source are read, on both ways.
+-- Where the lines of a rope's source are read, on both passes.
 use Rattle.std.specs.Prelude.{◌≡◌, ℕ, ◌+◌, ◌-◌, ◌/◌, ◌%◌, ◌<◌, ◌==◌, true, false, not, List, [], ◌∷◌, ◌++◌, codes, length, get_or, None, Ok}
 use Rattle.std.specs.List.{list_all, list_any}
 use Rattle.std.proofs.Common.{refl, ap, ◌∙◌, arith}
@@ -21,7 +21,7 @@ use Rattle.agc_source.specs.declared.steps.State.{State}
 use Rattle.agc_source_words.specs.Name.{Naming}
 use Rattle.agc_source_words.specs.Text.{are_listed, body_of, label_of, said_by}
 use Rattle.agc_source.proofs.Orders.{Says}
-use Rattle.agc_source.proofs.Ways.{next_named, next_woven}
+use Rattle.agc_source.proofs.Passes.{next_named, next_woven}
 use Rattle.agc_source.specs.declared.cursor.At.TheVariants as at
 use Rattle.agc_source.specs.declared.cursor.Cursor.{Cursor}
 use Rattle.agc_source_words.specs.declared.location.Location.TheVariants as location
@@ -95,7 +95,7 @@ pub is_line : (rest : List ℕ) → list_all prints (codes "        " ++ rest) �
 unfolding label_of body_of
 is_line rest h unlisted = record { text = all_text (codes "        " ++ rest) h; unlisted = unlisted; label = refl; body = refl }
 
--- the first way
+-- the first pass
 labelled_word : (naming : Naming) (cursor : Cursor) (place : ℕ) (line : List ℕ) → IsLine line → shape_of (said_by line) ≡ Ok shape.Word → IsHere place cursor
     → line_labelled naming cursor line ≡ Ok (record { cursor = after_words cursor cursor.at 1; place = None })
 unfolding line_labelled
@@ -121,7 +121,7 @@ names_move n naming cursor place line lines h moves =
     next_named n naming cursor line lines (record { cursor = moved_to cursor (location.Fixed place); place = None }) (labelled_move naming cursor place line h moves)
     ∙ ap (λ (names : Naming). names_from (n + 1) names (moved_to cursor (location.Fixed place)) lines) (no_name naming line h)
 
--- the second way
+-- the second pass
 abbrev pub state_after : State → Number → State
 state_after state word = record { cursor = after_words state.cursor state.cursor.at 1; leads = leads_extracode state.leads word }
 

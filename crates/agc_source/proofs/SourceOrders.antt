@@ -29,7 +29,7 @@ use Rattle.agc_source.proofs.OrdersShown.{AreShown, none_shown}
 at_first : (words : List Number) → Sound words 0o4000 first_state.cursor first_state.leads
 at_first words = record { banks = length-replicate {A = ℕ} 36 0; bank = omega arith; along = λ none inside. none }
 
--- a text of which the second way says words
+-- a text of which the second pass says words
 way_shown : (form : RopeForm) (text file : List ℕ) (naming : Naming) (said : List Named) → words_in naming text ≡ Ok said → file ≡ woven_file form said
     → AreShown (rope_words form file) (orders_from naming 0o4000 first_state (lines_of text)) (flat_map mnemonic_of (lines_of text))
 unfolding words_in

@@ -1,4 +1,4 @@
--- A text whose second way says words: each line says its own, after those of the lines before it.
+-- A text whose second pass says words: each line says its own, after those of the lines before it.
 use Rattle.std.specs.Prelude.{◌≡◌, ℕ, ◌+◌, Bool, true, false, All, List, [], ◌∷◌, ◌++◌, Option, Some, None, Result, Ok, Err, IfSome}
 use Rattle.std.proofs.Common.{refl, sym, ◌∙◌}
 use Rattle.std.proofs.lemmas.List.Elements.{All-cons, All-head, All-nil, All-tail}
@@ -12,7 +12,7 @@ use Rattle.agc_source_words.specs.Name.{Naming}
 use Rattle.agc_source_words.specs.declared.fault.SourceFault.{SourceFault}
 use Rattle.agc_source_words.specs.declared.fault.SourceFault.TheVariants as fault
 use Rattle.agc_source.proofs.FaultsStay.{faulty_line, wrong_word}
-use Rattle.agc_source.proofs.Ways.{next_woven}
+use Rattle.agc_source.proofs.Passes.{next_woven}
 
 -- a line before others, without a fault
 pub record Stepped (n : ℕ) (naming : Naming) (state : State) (said final : List Named) (line : List ℕ) (lines : List (List ℕ)) : Type 0 where

@@ -81,7 +81,7 @@ texts words first count = flat_map (place_said None words) (range_with_len first
 abbrev pub named : List Number → ℕ → ℕ → List Named
 named words first count = map (named_word words) (filter (has_line words) (range_with_len first count))
 
--- the first way finds no names
+-- the first pass finds no names
 abbrev FindsNone : List Number → ℕ → ℕ → Type 0
 FindsNone words first count = (n : ℕ) (naming : Naming) (cursor : Cursor) → Stands words first cursor → names_from n naming cursor (lines_of (texts words first count)) ≡ Ok naming
 
@@ -179,7 +179,7 @@ named_more words first said h =
           list_any-append (λ (word : Named). word.place == place) said (named_word words first ∷ []) ∙ rw (h.none place (omega arith), other) refl;
     }
 
--- the second way finds the words that have a line
+-- the second pass finds the words that have a line
 abbrev FindsWords : List Number → ℕ → ℕ → Type 0
 FindsWords words first count = (n : ℕ) (naming : Naming) (state : State) (said : List Named) → StandsIn words first state → NoneFrom first said
     → words_from n naming state said (lines_of (texts words first count)) ≡ Ok (said ++ named words first count)

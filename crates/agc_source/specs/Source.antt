@@ -32,7 +32,7 @@ use Rattle.agc_source.specs.declared.shape.Shape.TheVariants as shape
 use Rattle.agc_source.specs.declared.steps.State.{State}
 use Rattle.agc_source.specs.declared.steps.Step.{Step}
 
--- The first way through the text: where the names stand.
+-- The first pass over the text: where the names stand.
 
 -- where the name of a line stands: at its first word or cell, or as the line says
 abbrev pub label_place : Cursor → Shape → Result (Option Location) SourceFault
@@ -95,7 +95,7 @@ names_from n naming cursor (line ∷ lines) =
 unfoldable pub names_in : List ℕ → Result Naming SourceTrouble
 names_in text = names_from 1 own_names first_cursor (lines_of text)
 
--- The second way: the words.
+-- The second pass: the words.
 
 abbrev pub first_state : State
 first_state = record { cursor = first_cursor; leads = false }
@@ -209,7 +209,7 @@ words_from n naming state said (line ∷ lines) =
 unfoldable pub words_in : Naming → List ℕ → Result (List Named) SourceTrouble
 words_in naming text = words_from 1 naming first_state [] (lines_of text)
 
--- The faults of the first way go before those of the second.
+-- The faults of the first pass go before those of the second.
 abbrev pub words_after_names : List ℕ → Result Naming SourceTrouble → Result (List Named) SourceTrouble
 words_after_names text (Ok naming) = words_in naming text
 words_after_names text (Err why) = Err why

@@ -1,4 +1,4 @@
-//! The first way through a text: where its names stand.
+//! The first pass over a text: where its names stand.
 ghost use Rattle.std.specs.Prelude.{◌≡◌, ◌≢◌, None, Ok, Err, IfOk, IfErr, IfSome, IsOk, OnOk, option_map};
 ghost use Rattle.agc_source.specs.Cursor.{IsAt};
 ghost use Rattle.agc_source_words.specs.Name.{naming_of};
@@ -33,7 +33,7 @@ pub(crate) struct Labelled {
     pub place: Option<Location>,
 }
 
-/// The names of a text, or its first fault on the first way through it.
+/// The names of a text, or its first fault on the first pass over it.
 pub(crate) fn read_names(alloc: Global, text: &[u8]) -> Result<Names<'_>, SourceTrouble>
     ensures names { IfOk result (λ names. names_in text.now ≡ Ok (naming_of names)) }
     ensures fault { IfErr result (λ why. why ≢ Memory → names_in text.now ≡ Err why) }

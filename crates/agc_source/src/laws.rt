@@ -4,7 +4,7 @@ ghost use Rattle.std.specs.Prelude.{◌≡◌, ℕ, true, false, All, List, Err,
 ghost use Rattle.agc_script.specs.Text.{lines_of};
 ghost use Rattle.agc_store.specs.RopeFile.{rope_words};
 ghost use Rattle.agc_store.specs.declared.rope_file.RopeForm.{RopeForm};
-ghost use Rattle.agc_source.specs.FirstFault.{IsFirstFault, IsFirstOn, words_way};
+ghost use Rattle.agc_source.specs.FirstFault.{IsFirstFault, IsFirstOn, words_pass};
 ghost use Rattle.agc_source.specs.OrderLines.{
   HasOrder,
   IsListed,
@@ -35,14 +35,14 @@ pub fn a_listing_shows_the_orders_of_a_source()
         → All (IsReadAlong (rope_words form file)) (orders_in text) }
 {}
 
-/// The fault that is told of a source is the first on its way, and the first is told: the lines before its line have
-/// none, and with that line they have this one. The way of the words goes after that of the names, where this has no
-/// fault. A text of places and words alone has no names, and no other way than that of its words.
+/// The fault that is told of a source is the first of its pass, and the first is told: the lines before its line have
+/// none, and with that line they have this one. The pass of the words goes after that of the names, where this has no
+/// fault. A text of places and words alone has no names, and no other pass than that of its words.
 pub fn the_fault_told_is_the_first()
     ensures source { (text : List ℕ) (n : ℕ) (why : SourceFault) → is_listing text ≡ false
         → source_in text ≡ Err (Line n why) → IsFirstFault text n why }
     ensures only { (text : List ℕ) (n : ℕ) (why : SourceFault) → is_listing text ≡ false
         → IsFirstFault text n why → source_in text ≡ Err (Line n why) }
     ensures listing { (text : List ℕ) (n : ℕ) (why : SourceFault) → is_listing text ≡ true
-        → source_in text ≡ Err (Line n why) → IsFirstOn (words_way own_names) (lines_of text) n why }
+        → source_in text ≡ Err (Line n why) → IsFirstOn (words_pass own_names) (lines_of text) n why }
 {}

@@ -14,7 +14,7 @@ use std::alloc::Global;
 
 /// The rope file of a form that a source weaves to, as long as its words need, and one word at least. A text
 /// whose lines all begin with places weaves as `weave` of agc_rope_listing has it. Of any other text the names
-/// come first, and then the words: the fault is that of the first faulty line on the first way through the
+/// come first, and then the words: the fault is that of the first faulty line on the first pass over the
 /// text on which there is one, or `Memory`.
 #[tactic(auto, unfolding(crate::specs::Source::source_in))]
 pub fn weave_source(alloc: Global, form: RopeForm, text: &[u8]) -> Result<Vec<u8>, SourceTrouble>

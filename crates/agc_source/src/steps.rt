@@ -1,4 +1,4 @@
-//! The second way through a text: the words of its lines.
+//! The second pass over a text: the words of its lines.
 ghost use Rattle.std.specs.Prelude.{◌≡◌, ◌≢◌, ◌<◌, Ok, Err, IfOk, IfErr, IfSome, OnOk};
 ghost use Rattle.agc_store.specs.Places.{fixed_words};
 ghost use Rattle.agc_source.specs.Cursor.{IsAt};
@@ -47,7 +47,7 @@ pub(crate) struct Step {
     pub second: Option<Named>,
 }
 
-/// The words of a text with these names, or its first fault on the second way through it.
+/// The words of a text with these names, or its first fault on the second pass over it.
 pub(crate) fn read_words(alloc: Global, names: &Names, text: &[u8]) -> Result<Loom, SourceTrouble>
     ensures words { IfOk result (λ loom. words_in (naming_of names.now) text.now ≡ Ok loom) }
     ensures fault { IfErr result (λ why. why ≢ Memory

@@ -13,7 +13,7 @@ use agc_source_words::{Location, Names, cut_label};
 use std::alloc::{AllocError, Global};
 
 /// The names of a source, a line each with its place, in the order of its lines; of a faulty one those before its first
-/// fault on the first way through it. `NameTable::read` of agc_names reads from this text the very same names at the same
+/// fault on the first pass over it. `NameTable::read` of agc_names reads from this text the very same names at the same
 /// places, in the same order. Fails where memory runs out.
 pub fn name_lines(alloc: Global, text: &[u8]) -> Result<Vec<u8>, AllocError>
     ensures written { IfOk result (λ lines. lines.items ≡ name_lines_in text.now) }

@@ -1,5 +1,5 @@
 use Rattle.std.proofs.Common.{◌∙◌, ◌+◌, arith, sym}
-use Rattle.agc_source.proofs.Ways.{all_named, faulty_named, next_named}
+use Rattle.agc_source.proofs.Passes.{all_named, faulty_named, next_named}
 use Rattle.agc_source.proofs.labels.read_names.Goals as goal
 
 pub returns-in-Err-clause-fault : goal.returns-in-Err-clause-fault

@@ -1,6 +1,6 @@
 use Rattle.std.proofs.Common.{◌∙◌, ◌+◌, arith, sym}
 use Rattle.std.proofs.lemmas.Result.{err_from_is_err_and}
-use Rattle.agc_source.proofs.Ways.{all_woven, faulty_line, faulty_words, next_woven}
+use Rattle.agc_source.proofs.Passes.{all_woven, faulty_line, faulty_words, next_woven}
 use Rattle.agc_source.proofs.steps.read_words.Goals as goal
 
 pub returns-in-Err-clause-fault : goal.returns-in-Err-clause-fault

@@ -1,4 +1,4 @@
--- Both ways through a text, one line after the other.
+-- Both passes over a text, one line after the other.
 use Rattle.std.proofs.Common.{◌≡◌, ℕ, ◌+◌, List, [], ◌∷◌, ◌∙◌, refl, sym}
 use Rattle.std.specs.Prelude.{Result, Ok, Err}
 use Rattle.agc_script.specs.Text.{lines_of}
@@ -32,7 +32,7 @@ pub all_named : (text : List ℕ) (n : ℕ) (naming : Naming) (cursor : Cursor) 
 unfolding names_from names_in
 all_named text n naming cursor same = sym same
 
--- the same on the second way
+-- the same on the second pass
 pub next_woven : (n : ℕ) (naming : Naming) (state : State) (said more : List Named) (line : List ℕ) (lines : List (List ℕ)) (step : Step) → line_woven naming state line ≡ Ok step
     → both_said said step.first step.second ≡ Ok more → words_from n naming state said (line ∷ lines) ≡ words_from (n + 1) naming step.state more lines
 unfolding words_from
