@@ -9,7 +9,7 @@ use Rattle.agc_source_words.specs.Location.{location_at}
 use Rattle.agc_source_words.specs.declared.location.Location.{Location}
 use Rattle.agc_source_words.specs.declared.location.Location.TheVariants as location
 use Rattle.agc_count.specs.Named.{named_of}
-use Rattle.agc_count.specs.Number.{basic_number, extracode_number}
+use Rattle.agc_count.specs.Number.{basic_count, basic_number, extracode_count, extracode_number, rupt_count}
 use Rattle.agc_count.specs.Passage.{is_in, service_of}
 use Rattle.agc_count.specs.Tally.{added, empty_table, nothing, once, plus}
 use Rattle.agc_count.specs.declared.counts.Counts.{Counts}
@@ -28,9 +28,9 @@ nothing_counted =
       erasable = empty_table erasable_cells;
       fixed_data = empty_table fixed_places;
       erasable_data = empty_table erasable_cells;
-      basics = empty_table 19;
-      extracodes = empty_table 20;
-      interrupts = empty_table 10;
+      basics = empty_table basic_count;
+      extracodes = empty_table extracode_count;
+      interrupts = empty_table rupt_count;
       orders = nothing;
       timers = nothing;
       events = nothing;

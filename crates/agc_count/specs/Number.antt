@@ -5,6 +5,16 @@ use Rattle.agc_order.specs.declared.order.Basic.TheVariants as basic
 use Rattle.agc_order.specs.declared.order.Extracode.{Extracode}
 use Rattle.agc_order.specs.declared.order.Extracode.TheVariants as extra
 
+-- how many basic orders, extracodes and interrupts there are
+abbrev pub basic_count : ℕ
+basic_count = 19
+
+abbrev pub extracode_count : ℕ
+extracode_count = 20
+
+abbrev pub rupt_count : ℕ
+rupt_count = 10
+
 -- the number of an order among the basic orders or the extracodes, in the order of their codes
 abbrev pub basic_number : Basic → ℕ
 basic_number basic.Tc = 0

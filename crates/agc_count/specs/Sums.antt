@@ -2,6 +2,7 @@
 use Rattle.std.specs.Prelude.{◌≡◌, ℕ, ◌+◌, ◌<◌, ◌^◌, List, length}
 use Rattle.agc_store.specs.Places.{erasable_cells, fixed_places}
 use Rattle.agc_count.specs.Laws.{MakeUp}
+use Rattle.agc_count.specs.Number.{basic_count, extracode_count}
 use Rattle.agc_count.specs.Tally.{cycles_in, times_in}
 use Rattle.agc_count.specs.declared.counts.Counts.{Counts}
 use Rattle.agc_count.specs.declared.tally.Tally.{Tally}
@@ -12,13 +13,13 @@ pub record Halves (size rest : ℕ) (table others : List Tally) (all : Tally) : 
   pub others_length : length others ≡ rest
   pub up : MakeUp table others all
 
--- The places of both memories make up all orders, and so do the names of both kinds: of 19 basic
--- orders and of 20 extracodes.
+-- The places of both memories make up all orders, and so do the names of both kinds, basic
+-- orders and extracodes.
 abbrev pub ArePlaced : Counts → Type 0
 ArePlaced c = Halves fixed_places erasable_cells c.fixed c.erasable c.orders
 
 abbrev pub AreNamed : Counts → Type 0
-AreNamed c = Halves 19 20 c.basics c.extracodes c.orders
+AreNamed c = Halves basic_count extracode_count c.basics c.extracodes c.orders
 
 abbrev pub AddsUp : Counts → Type 0
 AddsUp c = ArePlaced c × AreNamed c

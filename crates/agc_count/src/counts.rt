@@ -2,6 +2,7 @@
 ghost use Rattle.std.specs.Prelude.{◌≡◌};
 ghost use Rattle.agc_store.specs.Places.{erasable_cells, fixed_places};
 ghost use Rattle.agc_count.specs.Counts.{served};
+ghost use Rattle.agc_count.specs.Number.{basic_count, extracode_count};
 
 use crate::data::Data;
 use crate::named::Named;
@@ -216,7 +217,7 @@ impl Counts {
     /// Counts an order with those of its name.
     #[inline(always)]
     fn take_as(&mut self, order: Named, one: Tally)
-        requires fits { Fits 19 20 self.old.basics self.old.extracodes one }
+        requires fits { Fits basic_count extracode_count self.old.basics self.old.extracodes one }
         ensures named { self.new ≡ counted_as order one self.old }
         ensures fixed { self.new.fixed ≡ self.old.fixed }
         ensures erasable { self.new.erasable ≡ self.old.erasable }

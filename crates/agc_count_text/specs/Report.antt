@@ -1,9 +1,9 @@
 -- A count in print: all of the run, its interrupts, its orders by their names, its banks, and its words.
-use Rattle.std.specs.Prelude.{ℕ, zero, suc, ◌+◌, ◌==◌, ◌&&◌, ◌||◌, not, Bool, if◌then◌else◌}
+use Rattle.std.specs.Prelude.{ℕ, zero, suc, ◌+◌, ◌-◌, ◌==◌, ◌&&◌, ◌||◌, not, Bool, if◌then◌else◌}
 use Rattle.std.specs.Prelude.{List, [], ◌++◌, codes, flat_map, Some, None}
 use Rattle.agc_word.specs.Number.{Number, pattern_of}
 use Rattle.agc_word.specs.Octal.{octal_digits}
-use Rattle.agc_store.specs.Places.{erasable_bank_size, erasable_cells, fixed_bank_size, fixed_words}
+use Rattle.agc_store.specs.Places.{erasable_bank_size, erasable_cells, fixed_bank_size, fixed_places, fixed_words}
 use Rattle.agc_store.specs.Memory.{fixed_at}
 use Rattle.agc_order.specs.Row.{all_basics, all_extracodes, basic_row, extracode_row}
 use Rattle.agc_order.specs.declared.order.Basic.{Basic}
@@ -144,7 +144,7 @@ summary_text layout c =
 unfoldable pub words_text : Layout → Bool → Counts → List Number → List ℕ
 words_text layout whole c words =
     cell_lines erasable_cells layout c ++ word_lines fixed_words layout whole c words
-    ++ empty_lines fixed_words 0o10000 layout c
+    ++ empty_lines fixed_words (fixed_places - fixed_words) layout c
 
 -- the text of a count, with the words that ran or were read, or with those of the whole rope
 unfoldable pub count_text : Layout → Bool → Counts → List Number → List ℕ
