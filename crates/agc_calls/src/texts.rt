@@ -3,10 +3,9 @@ use crate::call::Call;
 use crate::report::{Attempt, answered, begin, no_input, refused, wrong};
 use agc_executive::{WatchFault, WatchSpec, watch};
 use agc_panel::Panel;
-use agc_processor::ChannelWrite;
 use agc_store::{Rope, Store};
 use agc_test_kit::{IDLE, rope_file};
-use agc_word::Narrow;
+use agc_word::{ChannelWrite, Narrow};
 use std::alloc::Global;
 use std::io::{self, Write};
 

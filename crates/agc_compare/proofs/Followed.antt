@@ -8,7 +8,7 @@ use Rattle.agc_machine.specs.declared.answer.Stop.{Stop}
 use Rattle.agc_machine.specs.Run.{next_of}
 use Rattle.agc_machine.proofs.Chain.{next_of_stopped, run_at_stop, run_at_write, stop_is_kept}
 use Rattle.std.proofs.Math.Seq.{take-append_seam}
-use Rattle.agc_processor.specs.declared.channel_write.ChannelWrite.{ChannelWrite}
+use Rattle.agc_word.specs.declared.channel_write.ChannelWrite.{ChannelWrite}
 use Rattle.agc_panel.specs.Face.{panel_of}
 use Rattle.agc_panel.specs.declared.face.Face.{Face}
 use Rattle.agc_compare.specs.Common.{one_write, run_after}

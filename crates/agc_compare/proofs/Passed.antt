@@ -4,11 +4,11 @@ use Rattle.std.specs.Prelude.{if◌then◌else◌}
 use Rattle.std.proofs.lemmas.Grind.{flat_map-append}
 use Rattle.std.proofs.lemmas.List.Elements.{All-append, All-cons, All-nil}
 use Rattle.circular_buffer.specs.Buffer.{Buffer, buffer, keep_last}
+use Rattle.agc_word.specs.declared.channel_write.ChannelWrite.{ChannelWrite}
 use Rattle.agc_machine.specs.Boundary.{boundary, upcoming_of}
 use Rattle.agc_machine.specs.Laws.{Falls}
 use Rattle.agc_machine.specs.Run.{run_of, while_writing}
 use Rattle.agc_machine.specs.State.{State}
-use Rattle.agc_processor.specs.declared.channel_write.ChannelWrite.{ChannelWrite}
 use Rattle.agc_machine.specs.declared.answer.Stepped.{Stepped}
 use Rattle.agc_machine.specs.declared.answer.Stepped.TheVariants as stepped
 use Rattle.agc_machine.proofs.Chain.{boundary_falls, next_after_quiet, next_of_stopped, run_at_stop, run_at_write, run_by_next, next_at_stop, next_at_write}

@@ -1,7 +1,7 @@
 -- What two runs come to after the boundaries that they have in common.
 use Rattle.std.specs.Prelude.{◌≡◌, ℕ, ◌+◌, Option, Some, None}
+use Rattle.agc_word.specs.declared.channel_write.ChannelWrite.{ChannelWrite}
 use Rattle.agc_machine.specs.State.{State}
-use Rattle.agc_processor.specs.declared.channel_write.ChannelWrite.{ChannelWrite}
 use Rattle.agc_compare.specs.Common.{held_left, held_right}
 use Rattle.agc_compare.specs.Follower.{IsEnd, WritesPart, run_with}
 use Rattle.agc_compare.specs.declared.common.Common.{Common}

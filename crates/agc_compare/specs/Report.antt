@@ -8,7 +8,7 @@ use Rattle.std.specs.Str.{bytes_eq}
 use Rattle.agc_panel.specs.Text.{panel_text}
 use Rattle.agc_panel.specs.declared.face.Face.{Face}
 use Rattle.agc_word.specs.Octal.{octal_digits, word_digits}
-use Rattle.agc_processor.specs.declared.channel_write.ChannelWrite.{ChannelWrite}
+use Rattle.agc_word.specs.declared.channel_write.ChannelWrite.{ChannelWrite}
 use Rattle.agc_rope_listing.specs.Place.{place_text}
 use Rattle.agc_names.specs.Names.{Named}
 use Rattle.agc_trace.specs.NamedLine.{line_with}

@@ -7,10 +7,10 @@ ghost use Rattle.agc_compare.specs.Common.{ComesApart};
 use crate::same::is_same_entry;
 use agc_machine::Machine;
 use agc_panel::Panel;
-use agc_processor::ChannelWrite;
 use agc_progress::{Progress, tell_at};
 use agc_shown::{one_more, push_last};
 use agc_trace::{Entry, next_entry};
+use agc_word::ChannelWrite;
 use circular_buffer::HeapCircularBuffer;
 use std::alloc::AllocError;
 
@@ -67,7 +67,7 @@ pub(crate) fn run_together<P: Progress>(
 
 impl Common {
     ghost use Rattle.std.specs.Prelude.{◌≡◌, ◌+◌, [], ◌++◌, List, length, OnOk};
-    ghost use Rattle.agc_processor.specs.declared.channel_write.ChannelWrite.{ChannelWrite};
+    ghost use Rattle.agc_word.specs.declared.channel_write.ChannelWrite.{ChannelWrite};
     ghost use Rattle.agc_panel.specs.Face.{panel_of};
     ghost use Rattle.agc_compare.specs.Common.{one_write};
 

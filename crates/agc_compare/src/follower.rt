@@ -1,6 +1,6 @@
 //! The writes of two runs after the boundaries that they have in common, up to their stops.
 ghost use Rattle.std.specs.Prelude.{◌≡◌, ◌++◌, List, IfOk};
-ghost use Rattle.agc_processor.specs.declared.channel_write.ChannelWrite.{ChannelWrite};
+ghost use Rattle.agc_word.specs.declared.channel_write.ChannelWrite.{ChannelWrite};
 ghost use Rattle.agc_panel.specs.Face.{panel_of};
 ghost use Rattle.agc_compare.specs.Common.{one_write};
 ghost use Rattle.agc_machine.specs.Run.{run_of};
@@ -9,9 +9,9 @@ ghost use Rattle.agc_compare.specs.Follower.{IsEnd, WritesTold};
 use crate::same::is_same_write;
 use agc_machine::{Machine, Next, Stop};
 use agc_panel::Panel;
-use agc_processor::ChannelWrite;
 use agc_progress::{Progress, tell_at};
 use agc_shown::{next_write, one_more};
+use agc_word::ChannelWrite;
 use std::alloc::AllocError;
 
 /// The first channel write that differs. A run that has no such write any more has `None`.

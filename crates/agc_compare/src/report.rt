@@ -29,9 +29,9 @@ use crate::follower::{End, WriteParting};
 use agc_names::NameTable;
 use agc_panel::Panel;
 use agc_places::{Cell, push_cell_word};
-use agc_processor::ChannelWrite;
 use agc_rope_listing::push_place;
 use agc_trace::{Entry, push_line_with};
+use agc_word::ChannelWrite;
 use std::alloc::{AllocError, Global};
 
 /// The names with which the lines of each of two runs are shown, where they are given.

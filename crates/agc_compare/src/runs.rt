@@ -14,9 +14,9 @@ use crate::common::{Common, Fork, run_together};
 use crate::comparison::{Comparison, Parting};
 use crate::follower::{End, Follower, WriteParting, first_write_apart};
 use agc_machine::Machine;
-use agc_processor::ChannelWrite;
 use agc_progress::Progress;
 use agc_shown::{none_kept, one_more};
+use agc_word::ChannelWrite;
 use std::alloc::{AllocError, Global};
 
 /// Runs both machines to their stops, and tells what they have in common and where they part. Fails

@@ -3,9 +3,8 @@
 ghost use Rattle.std.specs.Prelude.{◌≡◌, ◌↔◌, IsTrue};
 
 use agc_machine::Upcoming;
-use agc_processor::ChannelWrite;
 use agc_trace::{Entry, Registers};
-use agc_word::Wide;
+use agc_word::{ChannelWrite, Wide};
 
 /// Two boundaries did the same at the same cycle, and left the same registers.
 pub(crate) fn is_same_entry(left: &Entry, right: &Entry) -> bool

@@ -1,10 +1,10 @@
 -- How a conversation's sitting goes on: what it has shown is on its panel, and is counted.
 use Rattle.std.specs.Prelude.{◌≡◌, ◌<◌, ◌^◌, ◌+◌, ◌-◌, ℕ, zero, suc, min, Bool, true, false, List, [], ◌∷◌, Option, None, Some, if◌then◌else◌, is_none, nat_lt, ◌&&◌, replicate}
+use Rattle.agc_word.specs.declared.channel_write.ChannelWrite.{ChannelWrite}
 use Rattle.agc_machine.specs.Boundary.{boundary, due_event, upcoming_of}
 use Rattle.agc_machine.specs.Replay.{Chain, chain, writes_in}
 use Rattle.agc_machine.specs.Run.{boundaries_left}
 use Rattle.agc_machine.specs.State.{State}
-use Rattle.agc_processor.specs.declared.channel_write.ChannelWrite.{ChannelWrite}
 use Rattle.agc_machine.specs.declared.answer.Stepped.{Stepped}
 use Rattle.agc_machine.specs.declared.answer.Stepped.TheVariants as stepped
 use Rattle.agc_machine.specs.declared.answer.Stop.{Stop}

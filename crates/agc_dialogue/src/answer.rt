@@ -13,21 +13,20 @@ ghost use Rattle.agc_dialogue.specs.Answer.{
   write_line,
   writes_line,
 };
+ghost use Rattle.agc_word.specs.Channels.{last_io_channel};
 ghost use Rattle.agc_request.specs.Fault.{fault_text};
 ghost use Rattle.agc_machine.specs.Boundary.{HasPlace};
 ghost use Rattle.agc_store.specs.Places.{erasable_cells};
-ghost use Rattle.agc_word.specs.Channels.{last_io_channel};
 
 use agc_machine::{Stop, Upcoming};
 use agc_names::NameTable;
 use agc_places::Cell;
-use agc_processor::ChannelWrite;
 use agc_request::CommandFault;
 use agc_rope_listing::push_place;
 use agc_store::Store;
 use agc_store::place::{BB, ERASABLE_BANK_SIZE};
 use agc_trace::{push_happening, push_named_happening, push_registers, registers_in};
-use agc_word::Narrow;
+use agc_word::{ChannelWrite, Narrow};
 use std::alloc::AllocError;
 
 /// Adds the line of a channel write: `write C CCC VVVVV`. Fails where memory runs out, as all of these.

@@ -4,10 +4,10 @@ use Rattle.std.specs.Prelude.{cond, filter, nat_le}
 use Rattle.std.specs.Str.{bytes_eq}
 use Rattle.std.proofs.lemmas.Bool.Decides.{leb_tells}
 use Rattle.std.proofs.lemmas.Slice.Eq.{bytes_eq-Decides}
+use Rattle.agc_word.specs.declared.channel_write.ChannelWrite.{ChannelWrite}
 use Rattle.agc_machine.specs.Laws.{AreRising}
 use Rattle.agc_machine.specs.Run.{run_of}
 use Rattle.agc_machine.specs.State.{State}
-use Rattle.agc_processor.specs.declared.channel_write.ChannelWrite.{ChannelWrite}
 use Rattle.agc_machine.proofs.Chain.{run_rises}
 use Rattle.agc_panel.specs.Face.{panel_of}
 use Rattle.agc_panel.specs.Text.{panel_text}

@@ -4,7 +4,7 @@ use Rattle.std.specs.Prelude.{ℕ, ◌&&◌, max, nat_le, nat_lt, if◌then◌el
 use Rattle.std.specs.Prelude.{None, unwrap_or}
 use Rattle.std.specs.List.{last_or}
 use Rattle.std.specs.Str.{bytes_eq}
-use Rattle.agc_processor.specs.declared.channel_write.ChannelWrite.{ChannelWrite}
+use Rattle.agc_word.specs.declared.channel_write.ChannelWrite.{ChannelWrite}
 use Rattle.agc_panel.specs.Face.{panel_of}
 use Rattle.agc_panel.specs.Text.{panel_text}
 use Rattle.agc_film.specs.declared.frame.Frame.{Frame}

@@ -1,8 +1,8 @@
 -- What holds of the film of a part of a run, in words of the time.
 use Rattle.std.specs.Prelude.{◌≢◌, ℕ, ◌+◌, ◌≤◌, List, [], ◌∷◌}
+use Rattle.agc_word.specs.declared.channel_write.ChannelWrite.{ChannelWrite}
 use Rattle.agc_machine.specs.Run.{run_of}
 use Rattle.agc_machine.specs.State.{State}
-use Rattle.agc_processor.specs.declared.channel_write.ChannelWrite.{ChannelWrite}
 use Rattle.agc_panel.specs.Text.{panel_text}
 use Rattle.agc_film.specs.Frames.{frames_of, up_to}
 use Rattle.agc_film.specs.declared.frame.Frame.{Frame}

@@ -3,7 +3,7 @@ ghost use Rattle.std.specs.Prelude.{◌≡◌, IfOk, OnOk};
 
 use crate::frame::Frame;
 use agc_panel::{Panel, show_alike};
-use agc_processor::ChannelWrite;
+use agc_word::ChannelWrite;
 use std::alloc::{AllocError, Global};
 
 /// The frames so far, and the panel of all writes so far.
@@ -15,7 +15,7 @@ pub(crate) struct Recorder {
 
 impl Recorder {
     ghost use Rattle.std.specs.Prelude.{◌≡◌, [], ◌∷◌, ◌++◌, ℕ, List, IfOk, OnOk};
-    ghost use Rattle.agc_processor.specs.declared.channel_write.ChannelWrite.{ChannelWrite};
+    ghost use Rattle.agc_word.specs.declared.channel_write.ChannelWrite.{ChannelWrite};
     ghost use Rattle.agc_panel.specs.Face.{panel_of};
     ghost use Rattle.agc_film.specs.Way.{HasTaken};
 

@@ -8,6 +8,7 @@ use Rattle.agc_word.specs.Number.{Number}
 use Rattle.agc_word.specs.Arithmetic.{over_of, narrow_of}
 use Rattle.agc_word.specs.declared.wide.Over.{Over}
 use Rattle.agc_word.specs.declared.wide.Over.TheVariants as over
+use Rattle.agc_word.specs.Channels.{l_channel, q_channel, hiscalar, loscalar, superbnk, chan13}
 use Rattle.agc_store.specs.Places.{a_cell}
 use Rattle.agc_store.specs.Memory.{Memory}
 use Rattle.agc_store.specs.Cells.{put_of, write_of, reedit_of, superbank_set}
@@ -18,7 +19,7 @@ use Rattle.agc_order.specs.declared.order.Extracode.TheVariants as extra
 use Rattle.agc_processor.specs.declared.processor.Processor.{Processor}
 use Rattle.agc_processor.specs.declared.processor.Timers.{Timers}
 use Rattle.agc_processor.specs.Basic.{tc_of, ccs_of, tcf_of, lxch_of, incr_of, ads_of, ca_of, cs_of, index_of, resume_of, ts_of, ts_by, ts_with_overflow, xch_of, ad_of, mask_of}
-use Rattle.agc_processor.specs.Channel.{read_order, write_order, rand_order, wand_order, ror_order, wor_order, rxor_order, write_channel, set_channel, l_channel, q_channel, hiscalar, loscalar, superbnk, chan13, channel_cell}
+use Rattle.agc_processor.specs.Channel.{read_order, write_order, rand_order, wand_order, ror_order, wor_order, rxor_order, write_channel, set_channel, channel_cell}
 use Rattle.agc_processor.specs.Double.{das_of, das_upper, dxch_of, dca_of, dcs_of}
 use Rattle.agc_processor.specs.Effect.{basic_effect, extracode_effect, branches, divides, channel_number, short_address}
 use Rattle.agc_processor.specs.Extra.{dv_of, in_a_and_l, msu_of, qxch_of, aug_of, dim_of, su_of, mp_of}

@@ -2,11 +2,12 @@
 use Rattle.std.specs.Prelude.{◌≡◌, ◌≢◌, ℕ, ◌-◌, ◌%◌, ◌==◌, ◌&&◌, ◌||◌, Bool, true, false, nat_le}
 use Rattle.std.specs.Prelude.{List, [], ◌∷◌, Option, Some, None, if◌then◌else◌}
 use Rattle.agc_word.specs.Number.{pattern_of}
+use Rattle.agc_word.specs.Channels.{superbnk, chan13}
 use Rattle.agc_store.specs.Places.{l_cell, q_cell, eb_cell, fb_cell, z_cell, bb_cell}
 use Rattle.agc_store.specs.Memory.{is_erasable, erasable_place, cell_at}
 use Rattle.agc_store.specs.Cells.{is_editing}
 use Rattle.agc_processor.specs.declared.processor.Processor.{Processor}
-use Rattle.agc_processor.specs.Channel.{channel_cell, superbnk, chan13}
+use Rattle.agc_processor.specs.Channel.{channel_cell}
 
 -- The cells that an order changes by the address in its word: none; the cell K; the cell K and the
 -- one below it; K alone or both where they are editing registers, which are edited again as they

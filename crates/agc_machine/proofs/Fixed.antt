@@ -6,6 +6,7 @@ use Rattle.agc_word.specs.Pulses.{pulsed}
 use Rattle.agc_word.specs.declared.pulse.Carry.{Carry}
 use Rattle.agc_word.specs.declared.pulse.Carry.TheVariants as carry
 use Rattle.agc_word.specs.declared.pulse.Pulse.{Pulse}
+use Rattle.agc_word.specs.Channels.{superbnk, chan13}
 use Rattle.agc_script.specs.declared.event.What.{What}
 use Rattle.agc_script.specs.declared.event.What.TheVariants as what
 use Rattle.agc_store.specs.Places.{inlink_cell}
@@ -13,7 +14,7 @@ use Rattle.agc_store.specs.Cells.{poke_of, put_of, superbank_set}
 use Rattle.agc_processor.specs.declared.interrupt.Rupt.{Rupt}
 use Rattle.agc_processor.specs.declared.interrupt.Rupt.TheVariants as rupt
 use Rattle.agc_processor.specs.declared.processor.Processor.{Processor}
-use Rattle.agc_processor.specs.Channel.{set_channel, superbnk, chan13}
+use Rattle.agc_processor.specs.Channel.{set_channel}
 use Rattle.agc_processor.specs.Effect.{order_effect}
 use Rattle.agc_processor.specs.Interrupt.{interrupted}
 use Rattle.agc_processor.specs.Processor.{◌▷◌}

@@ -2,6 +2,7 @@
 -- first that applies comes, and no other.
 use Rattle.std.specs.Prelude.{◌≡◌, ℕ, ◌<◌, ◌≤◌, ◌+◌, ◌%◌, ◌==◌, ◌&&◌, Bool, true, false, List, [], ◌∷◌}
 use Rattle.std.specs.Prelude.{Option, Some, None, nat_lt, nat_le, option_map, if◌then◌else◌}
+use Rattle.agc_word.specs.declared.channel_write.ChannelWrite.{ChannelWrite}
 use Rattle.agc_store.specs.Memory.{erasable_bank, selected_bank}
 use Rattle.agc_store.specs.Places.{erasable_window, fixed_fixed, fixed_window}
 use Rattle.agc_script.specs.declared.event.Event.{Event}
@@ -19,7 +20,6 @@ use Rattle.agc_processor.specs.Processor.{z_at}
 use Rattle.agc_processor.specs.Timer.{due_timer, timer_step}
 use Rattle.agc_machine.specs.Happening.{happened, cycles_of}
 use Rattle.agc_machine.specs.State.{State, fed}
-use Rattle.agc_processor.specs.declared.channel_write.ChannelWrite.{ChannelWrite}
 use Rattle.agc_machine.specs.declared.answer.Stepped.{Stepped}
 use Rattle.agc_machine.specs.declared.answer.Stepped.TheVariants as stepped
 use Rattle.agc_machine.specs.declared.answer.Stop.{Stop}

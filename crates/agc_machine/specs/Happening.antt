@@ -4,6 +4,7 @@ use Rattle.agc_word.specs.Number.{pattern_of}
 use Rattle.agc_word.specs.Pulses.{pulsed}
 use Rattle.agc_word.specs.declared.pulse.Pulse.{Pulse}
 use Rattle.agc_word.specs.declared.pulse.Pulse.TheVariants as pulse
+use Rattle.agc_word.specs.Channels.{mnkeyin, chan32}
 use Rattle.agc_script.specs.Key.{code_of}
 use Rattle.agc_script.specs.declared.event.What.{What}
 use Rattle.agc_script.specs.declared.event.What.TheVariants as what
@@ -12,7 +13,7 @@ use Rattle.agc_store.specs.Cells.{narrow_number}
 use Rattle.agc_store.specs.Places.{inlink_cell}
 use Rattle.agc_processor.specs.declared.processor.Processor.{Processor}
 use Rattle.agc_processor.specs.Channel.{channel_cell, set_channel_cell}
-use Rattle.agc_processor.specs.Channel.{set_channel, mnkeyin, chan32}
+use Rattle.agc_processor.specs.Channel.{set_channel}
 use Rattle.agc_processor.specs.Processor.{◌▷◌, poke}
 use Rattle.agc_processor.specs.Interrupt.{request, rupt_numbered}
 use Rattle.agc_processor.specs.Timer.{counter, set_counter, carried}

@@ -1,8 +1,8 @@
 -- A live run so far: what was given and shown from a start up to now.
 use Rattle.std.specs.Prelude.{◌≡◌, List, Option}
+use Rattle.agc_word.specs.declared.channel_write.ChannelWrite.{ChannelWrite}
 use Rattle.agc_script.specs.declared.event.Event.{Event}
 use Rattle.agc_script.specs.declared.event.What.{What}
-use Rattle.agc_processor.specs.declared.channel_write.ChannelWrite.{ChannelWrite}
 use Rattle.agc_machine.specs.Replay.{AreWanted, chain, tape_of, writes_in}
 use Rattle.agc_machine.specs.State.{State}
 

@@ -1,7 +1,7 @@
 -- Whole runs: the chain of boundaries without live keys, up to the next channel write, and up to
 -- the stop.
 use Rattle.std.specs.Prelude.{ℕ, zero, suc, ◌+◌, ◌-◌, List, [], ◌∷◌, length, None, nat_le, if◌then◌else◌}
-use Rattle.agc_processor.specs.declared.channel_write.ChannelWrite.{ChannelWrite}
+use Rattle.agc_word.specs.declared.channel_write.ChannelWrite.{ChannelWrite}
 use Rattle.agc_machine.specs.declared.answer.Next.{Next}
 use Rattle.agc_machine.specs.declared.answer.Next.TheVariants as next
 use Rattle.agc_machine.specs.declared.answer.Stepped.{Stepped}

@@ -3,7 +3,8 @@ ghost use Rattle.std.specs.Prelude.{◌≡◌};
 ghost use Rattle.agc_machine.specs.Answer.{stop_name};
 ghost use Rattle.agc_machine.specs.Boundary.{stop_of};
 
-use agc_processor::{ChannelWrite, Halt};
+use agc_processor::Halt;
+use agc_word::ChannelWrite;
 
 /// Why the machine has stopped. A stopped machine stays as it is.
 #[derive(Clone, Copy, Debug, PartialEq, Eq)]

@@ -9,11 +9,12 @@ use crate::calm::Pace;
 use crate::happening::meet;
 use crate::stop_address::StopAddress;
 use crate::upcoming::Upcoming;
-use agc_processor::channel::CHAN13;
-use agc_processor::{ChannelWrite, INTERRUPT_MCT, Processor, Ran, Rupt, Timer, WRITE_MCT};
+use agc_processor::{INTERRUPT_MCT, Processor, Ran, Rupt, Timer, WRITE_MCT};
 use agc_script::{Event, Script, What};
 use agc_store::place::{ERASABLE_WINDOW, FIXED_FIXED, FIXED_WINDOW};
 use agc_store::{Addr, Rope};
+use agc_word::ChannelWrite;
+use agc_word::channels::CHAN13;
 
 /// The run's state and the script that it takes its events from.
 #[derive(Drop)]

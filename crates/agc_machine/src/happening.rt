@@ -4,10 +4,10 @@ ghost use Rattle.agc_store.specs.Places.{erasable_bank_size};
 ghost use Rattle.agc_script.specs.Event.{IsWhatInRange};
 ghost use Rattle.agc_machine.specs.Happening.{pressed, proceeded, pulsed_counter, happened, cycles_of};
 
-use agc_processor::channel::{CHAN32, MNKEYIN};
 use agc_processor::{Processor, Rupt};
 use agc_script::{Key, What};
 use agc_store::place::INLINK;
+use agc_word::channels::{CHAN32, MNKEYIN};
 use agc_word::{Carry, Narrow, Pulse};
 
 /// A key: its code comes into its channel, and KEYRUPT1 is requested.

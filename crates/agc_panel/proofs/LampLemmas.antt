@@ -3,7 +3,7 @@ use Rattle.std.proofs.Common.{◌≡◌, ◌∙◌, ◌<◌, ℕ, ap, arith, Boo
 use Rattle.std.specs.List.{range_with_len}
 use Rattle.std.proofs.lemmas.List.{ext_get_or}
 use Rattle.std.proofs.lemmas.List.FromFn.{get_or-map-range_with_len}
-use Rattle.agc_processor.specs.declared.channel_write.ChannelWrite.{ChannelWrite}
+use Rattle.agc_word.specs.declared.channel_write.ChannelWrite.{ChannelWrite}
 use Rattle.agc_panel.specs.Lamp.{bit_given, is_from, is_lit, lamps_after, lit_after, printed_order}
 use Rattle.agc_panel.specs.Field.{field_after}
 use Rattle.agc_panel.specs.declared.lamp.Lamps.{Lamps}

@@ -3,8 +3,8 @@ use Rattle.std.proofs.Common.{◌≡◌, ◌≢◌, ◌⊎◌, ◌∙◌, ◌==�
 use Rattle.std.proofs.lemmas.Bool.{and_parts, cases_Bool, eqb-true, false_from_ne_true}
 use Rattle.std.proofs.lemmas.List.Elements.{recursion_from_All}
 use Rattle.std.specs.List.{AllByRecursion, filter_map}
-use Rattle.agc_processor.specs.declared.channel_write.ChannelWrite.{ChannelWrite}
-use Rattle.agc_processor.specs.Channel.{dsalmout, out0}
+use Rattle.agc_word.specs.declared.channel_write.ChannelWrite.{ChannelWrite}
+use Rattle.agc_word.specs.Channels.{dsalmout, out0}
 use Rattle.agc_panel.specs.Face.{blank_face, blank_pair, blank_register, face_after, pair_after, panel_of}
 use Rattle.agc_panel.specs.Field.{field_after}
 use Rattle.agc_panel.specs.Lamp.{bit_given, dark_lamps, is_from, is_lit, lamps_after, lit_after, printed_order, wiring}

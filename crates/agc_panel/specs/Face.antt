@@ -1,6 +1,6 @@
 -- The panel of a list of channel writes: each field as the last write that names it gives it.
 use Rattle.std.specs.Prelude.{ℕ, false, List}
-use Rattle.agc_processor.specs.declared.channel_write.ChannelWrite.{ChannelWrite}
+use Rattle.agc_word.specs.declared.channel_write.ChannelWrite.{ChannelWrite}
 use Rattle.agc_panel.specs.declared.digit.Digit.TheVariants.{Blank}
 use Rattle.agc_panel.specs.declared.face.Face.{Face}
 use Rattle.agc_panel.specs.declared.face.Pair.{Pair}

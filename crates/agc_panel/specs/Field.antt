@@ -1,7 +1,7 @@
 -- A field of the panel after a list of channel writes.
 use Rattle.std.specs.Prelude.{List, Option, None, unwrap_or}
 use Rattle.std.specs.List.{filter_map, last_or}
-use Rattle.agc_processor.specs.declared.channel_write.ChannelWrite.{ChannelWrite}
+use Rattle.agc_word.specs.declared.channel_write.ChannelWrite.{ChannelWrite}
 
 -- what the last write that names a field gives it, or what stood there before where none does
 unfoldable pub field_after : {A : Type 0}

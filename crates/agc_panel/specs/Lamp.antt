@@ -2,8 +2,8 @@
 use denote.Enum.Declared.{tag_of}
 use Rattle.std.specs.Prelude.{ℕ, ◌==◌, Bool, false, if◌then◌else◌, List, [], ◌∷◌, Option, Some}
 use Rattle.std.specs.Prelude.{None, codes, get_or, map}
-use Rattle.agc_processor.specs.declared.channel_write.ChannelWrite.{ChannelWrite}
-use Rattle.agc_processor.specs.Channel.{dsalmout}
+use Rattle.agc_word.specs.declared.channel_write.ChannelWrite.{ChannelWrite}
+use Rattle.agc_word.specs.Channels.{dsalmout}
 use Rattle.agc_panel.specs.declared.lamp.Lamp.{Lamp}
 use Rattle.agc_panel.specs.declared.lamp.Lamps.{Lamps}
 use Rattle.agc_panel.specs.declared.lamp.Source.{Source}

@@ -1,7 +1,7 @@
 -- What the laws of the panel speak of: what a write names, and what two panels show alike.
 use Rattle.std.specs.Prelude.{◌≡◌, ◌≢◌, ℕ, ◌==◌, if◌then◌else◌, List, All}
-use Rattle.agc_processor.specs.declared.channel_write.ChannelWrite.{ChannelWrite}
-use Rattle.agc_processor.specs.Channel.{dsalmout, out0}
+use Rattle.agc_word.specs.declared.channel_write.ChannelWrite.{ChannelWrite}
+use Rattle.agc_word.specs.Channels.{dsalmout, out0}
 use Rattle.agc_panel.specs.declared.face.Face.{Face}
 use Rattle.agc_panel.specs.declared.face.Register.{Register}
 use Rattle.agc_panel.specs.declared.lamp.Lamp.{Lamp}

@@ -2,8 +2,8 @@
 use Rattle.std.specs.Prelude.{ℕ, ◌+◌, ◌-◌, ◌/◌, ◌%◌, ◌^◌, ◌==◌, Bool, ◌&&◌, if◌then◌else◌, Option}
 use Rattle.std.specs.Prelude.{Some, None}
 use Rattle.agc_word.specs.Number.{Number, pattern_of, bit_of}
-use Rattle.agc_processor.specs.declared.channel_write.ChannelWrite.{ChannelWrite}
-use Rattle.agc_processor.specs.Channel.{out0}
+use Rattle.agc_word.specs.declared.channel_write.ChannelWrite.{ChannelWrite}
+use Rattle.agc_word.specs.Channels.{out0}
 use Rattle.agc_panel.specs.declared.digit.Digit.{Digit}
 use Rattle.agc_panel.specs.Digit.{digit_of}
 

@@ -8,9 +8,8 @@ ghost use Rattle.agc_panel.specs.RelayWord.{left_digit, right_digit};
 use crate::digit::Digit;
 use crate::lamp::{Lamps, Source};
 use crate::relay_word::{left_of, right_of, row_of, sign_of};
-use agc_processor::ChannelWrite;
-use agc_processor::channel::OUT0;
-use agc_word::Narrow;
+use agc_word::channels::OUT0;
+use agc_word::{ChannelWrite, Narrow};
 
 /// The bit of DSALMOUT that lets verb and noun flash.
 const FLASH_BIT: u32 = 6;

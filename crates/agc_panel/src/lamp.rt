@@ -5,8 +5,8 @@ ghost use Rattle.agc_panel.specs.Lamp.{lamp_given, is_lit, dark_lamps, lit_after
 ghost use Rattle.agc_panel.specs.Lamp.{printed_order};
 
 use crate::relay_word::row_of;
-use agc_processor::ChannelWrite;
-use agc_processor::channel::{DSALMOUT, OUT0};
+use agc_word::ChannelWrite;
+use agc_word::channels::{DSALMOUT, OUT0};
 use std::convert::AsStr;
 
 /// A word whose bits light lamps.

@@ -1,7 +1,7 @@
 //! Laws of the panel, each the contract of a function that does nothing. `Panel::take` is proved
 //! equal to the definitions that these laws are about.
 ghost use Rattle.std.specs.Prelude.{◌≡◌, ◌≢◌, false, List, [], ◌∷◌};
-ghost use Rattle.agc_processor.specs.declared.channel_write.ChannelWrite.{ChannelWrite};
+ghost use Rattle.agc_word.specs.declared.channel_write.ChannelWrite.{ChannelWrite};
 ghost use Rattle.agc_panel.specs.Face.{blank_pair, blank_register, face_after, panel_of};
 ghost use Rattle.agc_panel.specs.Lamp.{is_lit};
 ghost use Rattle.agc_panel.specs.Laws.{AreUnnamed, OfDsalmout, OfRow, ShowSame, fields_named};

@@ -1,12 +1,12 @@
 //! The panel as the display keeps it up, write by write.
 ghost use Rattle.std.specs.Prelude.{◌≡◌, List, [], ◌∷◌, ◌++◌, IfOk, map, string_bytes};
-ghost use Rattle.agc_processor.specs.declared.channel_write.ChannelWrite.{ChannelWrite};
+ghost use Rattle.agc_word.specs.declared.channel_write.ChannelWrite.{ChannelWrite};
 ghost use Rattle.agc_panel.specs.Face.{face_after, panel_of};
 ghost use Rattle.agc_panel.specs.Text.{panel_lines, panel_text};
 
 use crate::face::Face;
 use crate::text::{lines_of, text_of};
-use agc_processor::ChannelWrite;
+use agc_word::ChannelWrite;
 use std::alloc::{AllocError, Global};
 use std::marker::Model;
 

@@ -1,5 +1,3 @@
-mod Ends
 mod Sends
-mod Takes
 mod Taking
 mod Lives

@@ -1,6 +1,7 @@
 -- A live run that is being sent: its writes so far were sent, and at its stop all of them.
 use Rattle.std.proofs.Common.{◌≡◌, ℕ, ◌<◌, ◌⊎◌, List, [], ◌∷◌, ◌++◌, refl, ap, sym, ◌∙◌, subst, append-nil, inl}
 use Rattle.std.specs.Prelude.{Some, All, map, Result, Ok, Err, IfErr}
+use Rattle.agc_word.specs.declared.channel_write.ChannelWrite.{ChannelWrite}
 use Rattle.agc_script.specs.Merge.{key_event}
 use Rattle.agc_script.specs.declared.key.Key.{Key}
 use Rattle.agc_machine.specs.Laws.{KeepsStop}
@@ -9,17 +10,16 @@ use Rattle.agc_machine.specs.Replay.{writes_in}
 use Rattle.agc_machine.specs.Run.{Run, run_of}
 use Rattle.agc_machine.specs.State.{State, IsAtStart}
 use Rattle.agc_machine.specs.Taken.{TakesTape, replayed}
-use Rattle.agc_processor.specs.declared.channel_write.ChannelWrite.{ChannelWrite}
 use Rattle.agc_machine.specs.declared.answer.Stepped.{Stepped}
 use Rattle.agc_machine.specs.declared.answer.Stepped.TheVariants as stepped
 use Rattle.agc_machine.specs.declared.answer.Stop.{Stop}
 use Rattle.agc_machine.proofs.Live.{live_starts, live_ends, live_tape_is_taken, live_tape_is_below}
-use Rattle.agc_pipe.specs.Ring.{Sending}
-use Rattle.agc_pipe.specs.Shown.{items_of}
+use Rattle.agc_ring.specs.Ring.{Sending}
+use Rattle.agc_ring.specs.Items.{items_of}
+use Rattle.agc_ring.specs.declared.item.Item.{Item}
+use Rattle.agc_ring.specs.declared.item.Item.TheVariants as item
 use Rattle.agc_pipe.specs.declared.shown.ShowFault.{ShowFault}
 use Rattle.agc_pipe.specs.declared.shown.ShowFault.TheVariants as fault
-use Rattle.agc_pipe.specs.declared.item.Item.{Item}
-use Rattle.agc_pipe.specs.declared.item.Item.TheVariants as item
 use Rattle.agc_pipe.proofs.Sends.{written}
 
 pub record IsLiveSending (start : State) (sender out : Sending) (tape : List (ℕ × Key)) (now : State) : Type 0 where

@@ -1,16 +1,16 @@
 -- A run that is being sent: what was sent so far, and then the run from where the machine stands.
 use Rattle.std.proofs.Common.{◌≡◌, List, [], ◌∷◌, ◌++◌, sym, ◌∙◌, ap, append_assoc, append-nil}
 use Rattle.std.specs.Prelude.{map, Some}
-use Rattle.agc_processor.specs.declared.channel_write.ChannelWrite.{ChannelWrite}
+use Rattle.agc_word.specs.declared.channel_write.ChannelWrite.{ChannelWrite}
 use Rattle.agc_machine.specs.declared.answer.Next.TheVariants as next
 use Rattle.agc_machine.specs.declared.answer.Stop.{Stop}
 use Rattle.agc_machine.specs.Run.{Run, run_of, next_of}
 use Rattle.agc_machine.specs.State.{State}
 use Rattle.agc_machine.proofs.Chain.{run_at_write, run_at_stop, stop_is_kept}
-use Rattle.agc_pipe.specs.Ring.{Sending}
-use Rattle.agc_pipe.specs.Shown.{items_of}
-use Rattle.agc_pipe.specs.declared.item.Item.{Item}
-use Rattle.agc_pipe.specs.declared.item.Item.TheVariants as item
+use Rattle.agc_ring.specs.Ring.{Sending}
+use Rattle.agc_ring.specs.Items.{items_of}
+use Rattle.agc_ring.specs.declared.item.Item.{Item}
+use Rattle.agc_ring.specs.declared.item.Item.TheVariants as item
 
 abbrev pub written : List ChannelWrite → List Item
 written writes = map (λ write. item.Write write) writes

@@ -4,8 +4,8 @@ use Rattle.agc_script.specs.declared.key.Key.{Key}
 use Rattle.agc_machine.specs.Run.{run_of}
 use Rattle.agc_machine.specs.State.{State}
 use Rattle.agc_machine.specs.Taken.{IsTakenTape, TakesTape, replayed}
+use Rattle.agc_ring.specs.Ring.{Sending}
 use Rattle.agc_pipe.specs.Keys.{Taking, key_in}
-use Rattle.agc_pipe.specs.Ring.{Sending}
 use Rattle.agc_pipe.specs.Shown.{IsSentRun, ShowsRun}
 use Rattle.agc_pipe.specs.declared.live.Live.{Live}
 use Rattle.agc_pipe.specs.declared.live_sending.LiveSent.{LiveSent}

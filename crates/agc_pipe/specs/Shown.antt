@@ -1,29 +1,11 @@
--- A run as it goes through the ring: its writes in order, and then the end.
-use Rattle.std.specs.Prelude.{◌≡◌, Bool, true, false, List, [], ◌∷◌, ◌++◌, map, Some}
+-- What a call hands back of a run, and what the machine's thread hands back of it.
+use Rattle.std.specs.Prelude.{◌≡◌, Some}
 use Rattle.agc_machine.specs.Run.{Run}
-use Rattle.agc_processor.specs.declared.channel_write.ChannelWrite.{ChannelWrite}
 use Rattle.agc_panel.specs.Face.{panel_of}
-use Rattle.agc_pipe.specs.Ring.{Sending}
-use Rattle.agc_pipe.specs.declared.item.Item.{Item}
-use Rattle.agc_pipe.specs.declared.item.Item.TheVariants as item
+use Rattle.agc_ring.specs.Items.{items_of}
+use Rattle.agc_ring.specs.Ring.{Sending}
 use Rattle.agc_pipe.specs.declared.sending.Sent.{Sent}
 use Rattle.agc_pipe.specs.declared.shown.Shown.{Shown}
-
--- what is sent of a run
-unfoldable pub items_of : List ChannelWrite → List Item
-items_of writes = map (λ write. item.Write write) writes ++ item.End ∷ []
-
--- the writes before the first end
-unfoldable pub shown_in : List Item → List ChannelWrite
-shown_in [] = []
-shown_in (item.Write write ∷ items) = write ∷ shown_in items
-shown_in (item.End ∷ items) = []
-
--- the end is among these items
-unfoldable pub has_end : List Item → Bool
-has_end [] = false
-has_end (item.Write write ∷ items) = has_end items
-has_end (item.End ∷ items) = true
 
 -- What a call hands back of a run: every channel write in order, the panel that they make, and the
 -- memory, the stop and the cycle at its end.

@@ -6,6 +6,7 @@ ghost use Rattle.agc_machine.specs.Taken.{AreApart};
 
 use agc_gate::Gate;
 use agc_machine::Machine;
+use agc_ring::Feed;
 use agc_script::{Key, Tape};
 use rtrb::{Consumer, Producer, RingBuffer};
 use std::alloc::{AllocError, Global};
@@ -18,23 +19,6 @@ const KEY_SLOTS: usize = 64;
 
 /// How many machine cycles go by between two looks for a key.
 const LOOK: u64 = 256;
-
-/// What the display's thread does each time before it looks for items.
-pub(crate) trait Feed {
-    ghost use Rattle.std.specs.Prelude.{◌≡◌};
-
-    /// Offers what is to be fed, without waiting.
-    fn offer<G: Gate>(&mut self, gate: &G)
-        ensures { self.new ≡ self.old };
-}
-
-/// Nothing to be fed.
-#[derive(Drop)]
-pub(crate) struct NoKeys;
-
-impl Feed for NoKeys {
-    fn offer<G: Gate>(&mut self, _gate: &G) {}
-}
 
 /// The end that the display's thread feeds, with the keys that were handed in.
 #[derive(Drop)]
@@ -54,7 +38,7 @@ impl Model for KeyFeed {
 
     ghost use Rattle.std.specs.Prelude.{◌≡◌, ◌≤◌, take, length};
     ghost use Rattle.rtrb.specs.Ring.{sent};
-    ghost use Rattle.agc_pipe.specs.Ring.{ring_of};
+    ghost use Rattle.agc_ring.specs.Ring.{ring_of};
 
     ghost view = { λ f. record { ring = ring_of f.producer.end; keys = f.keys.items } };
 
@@ -97,8 +81,8 @@ impl Model for KeyTaker {
     ghost use Rattle.std.specs.Prelude.{◌≡◌, ◌<◌, false, map};
     ghost use Rattle.rtrb.specs.Ring.{received};
     ghost use Rattle.agc_machine.specs.Taken.{AreApart};
+    ghost use Rattle.agc_ring.specs.Ring.{ring_of};
     ghost use Rattle.agc_pipe.specs.Keys.{key_in};
-    ghost use Rattle.agc_pipe.specs.Ring.{ring_of};
 
     ghost view = { λ t. record { ring = ring_of t.consumer.end; spacing = t.spacing; tape = t.tape; refused = t.refused } };
 

@@ -1,19 +1,19 @@
 //! The machine's thread of a live run: it looks for a key every so often, sends each channel write,
 //! and the end.
 ghost use Rattle.std.specs.Prelude.{◌≡◌, [], ◌∷◌, ◌++◌, List, map};
+ghost use Rattle.agc_word.specs.declared.channel_write.ChannelWrite.{ChannelWrite};
 ghost use Rattle.agc_script.specs.Merge.{key_event};
 ghost use Rattle.agc_machine.specs.Laws.{HasChannel, KeepsStop};
 ghost use Rattle.agc_machine.specs.Live.{IsLive};
 ghost use Rattle.agc_machine.specs.Replay.{writes_in};
 ghost use Rattle.agc_machine.specs.State.{State, IsAtStart};
-ghost use Rattle.agc_processor.specs.declared.channel_write.ChannelWrite.{ChannelWrite};
 ghost use Rattle.agc_pipe.specs.Live.{IsSentLive};
 
 use crate::keys::KeyTaker;
-use crate::sender::Sender;
-use crate::sending::{Outgoing, Sent, tell_mark};
+use crate::sending::{Sent, tell_mark};
 use agc_gate::Gate;
 use agc_machine::{Machine, Stepped};
+use agc_ring::{Outgoing, Sender};
 use std::sync::Wait;
 
 /// What the machine's thread of a live run hands back.

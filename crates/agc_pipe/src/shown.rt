@@ -3,23 +3,18 @@ ghost use Rattle.std.specs.Prelude.{◌≡◌, ◌≢◌, ◌<◌, ◌⊎◌, �
 ghost use Rattle.std.specs.Prelude.{Some, Err};
 ghost use Rattle.agc_machine.specs.Run.{Run, run_of};
 ghost use Rattle.agc_panel.specs.Face.{panel_of};
-ghost use Rattle.agc_pipe.specs.Screen.{IsShowing};
-ghost use Rattle.agc_pipe.specs.Shown.{IsSentRun, ShowsRun, has_end, items_of, shown_in};
+ghost use Rattle.agc_ring.specs.Screen.{IsShowing};
+ghost use Rattle.agc_ring.specs.Items.{has_end, items_of, shown_in};
+ghost use Rattle.agc_pipe.specs.Shown.{IsSentRun, ShowsRun};
 ghost use Rattle.agc_pipe.specs.declared.shown.ShowFault.TheVariants as fault;
 
-use crate::display::{Screen, Taken, take_all};
-use crate::keys::NoKeys;
-use crate::receiver::Receiver;
-use crate::rest::rejoin;
-use crate::ring::link_of;
-use crate::sender::Sender;
 use crate::sending::{Sent, send_run};
-use crate::slots::Slots;
 use agc_gate::Gate;
 use agc_machine::{Machine, Stop};
 use agc_panel::Panel;
-use agc_processor::ChannelWrite;
+use agc_ring::{NoFeed, Receiver, Screen, Sender, Slots, Taken, link_of, rejoin, take_all};
 use agc_store::Store;
+use agc_word::ChannelWrite;
 use std::alloc::Global;
 use std::snapshot::Snapshot;
 use std::sync::Wait;
@@ -161,7 +156,7 @@ fn show_between<R: Threads + Wait + Sync, G: Gate + Sync>(
             ) else {
                 return Err(ShowFault::Thread);
             };
-            let taken = take_all(rt, alloc, gate, receiver, &mut NoKeys);
+            let taken = take_all(rt, alloc, gate, receiver, &mut NoFeed);
             put_together(child.join(rt), taken)
         },
     )

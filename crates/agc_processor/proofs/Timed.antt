@@ -5,12 +5,13 @@ use Rattle.std.specs.Prelude.{◌==◌, ◌&&◌, not, if◌then◌else◌, opti
 use Rattle.agc_clock.specs.Due.{time6_periods}
 use Rattle.agc_word.specs.Number.{Number}
 use Rattle.agc_word.specs.Arithmetic.{narrow_of}
+use Rattle.agc_word.specs.Channels.{l_channel, q_channel, hiscalar, loscalar, superbnk, chan13}
 use Rattle.agc_order.specs.declared.order.Basic.{Basic}
 use Rattle.agc_order.specs.declared.order.Extracode.{Extracode}
 use Rattle.agc_order.specs.declared.order.Extracode.TheVariants as extra
 use Rattle.agc_processor.specs.declared.processor.Processor.{Processor}
 use Rattle.agc_processor.specs.declared.processor.Timers.{Timers}
-use Rattle.agc_processor.specs.Channel.{read_order, write_order, rand_order, wand_order, ror_order, wor_order, rxor_order, write_channel, set_channel, l_channel, q_channel, hiscalar, loscalar, superbnk, chan13, is_on, switch_word}
+use Rattle.agc_processor.specs.Channel.{read_order, write_order, rand_order, wand_order, ror_order, wor_order, rxor_order, write_channel, set_channel, is_on, switch_word}
 use Rattle.agc_processor.specs.Double.{dca_of, dcs_of}
 use Rattle.agc_processor.specs.Effect.{basic_effect, extracode_effect, order_effect, branches, divides, channel_number, short_address}
 use Rattle.agc_processor.specs.Extra.{dv_of, in_a_and_l, msu_of, qxch_of, aug_of, su_of, mp_of}

@@ -2,6 +2,7 @@
 -- the channel's number.
 use Rattle.std.specs.Prelude.{ℕ, ◌*◌, ◌/◌, ◌%◌, ◌==◌, ◌&&◌, not, Bool, get_or, set, if◌then◌else◌}
 use Rattle.agc_clock.specs.Due.{scaler, time6_periods}
+use Rattle.agc_word.specs.Channels.{l_channel, q_channel, hiscalar, loscalar, superbnk, chan13}
 use Rattle.agc_word.specs.Number.{Number, pattern_of, bit_of}
 use Rattle.agc_word.specs.Arithmetic.{narrow_of}
 use Rattle.agc_store.specs.Cells.{narrow_number, superbank_set}
@@ -9,53 +10,6 @@ use Rattle.agc_processor.specs.declared.processor.Processor.{Processor}
 use Rattle.agc_processor.specs.Signs.{plus_zero}
 use Rattle.agc_processor.specs.Processor.{◌▷◌, a_of, l_of, q_of, set_a, set_l, set_q}
 use Rattle.agc_processor.specs.Logic.{and_words_of, or_words_of, xor_words_of}
-
--- L and Q, which are channels too
-abbrev pub l_channel : ℕ
-l_channel = 0o1
-
-abbrev pub q_channel : ℕ
-q_channel = 0o2
-
--- the two halves of the scaler
-abbrev pub hiscalar : ℕ
-hiscalar = 0o3
-
-abbrev pub loscalar : ℕ
-loscalar = 0o4
-
--- bit 7 is the superbank
-abbrev pub superbnk : ℕ
-superbnk = 0o7
-
--- the relay words of the display
-abbrev pub out0 : ℕ
-out0 = 0o10
-
--- the lamps of the display that stand on no relay, and the flash
-abbrev pub dsalmout : ℕ
-dsalmout = 0o11
-
--- bit 15 is TIME6's switch
-abbrev pub chan13 : ℕ
-chan13 = 0o13
-
--- the code of the key that was pressed last
-abbrev pub mnkeyin : ℕ
-mnkeyin = 0o15
-
--- the inputs from the spacecraft, of which the third has the PRO key
-abbrev pub chan30 : ℕ
-chan30 = 0o30
-
-abbrev pub chan31 : ℕ
-chan31 = 0o31
-
-abbrev pub chan32 : ℕ
-chan32 = 0o32
-
-abbrev pub chan33 : ℕ
-chan33 = 0o33
 
 -- the word in a channel's cell, and the state where the cell has taken another
 abbrev pub channel_cell : ℕ → Processor → Number

@@ -1,10 +1,11 @@
 -- What no order touches, so that a cycle below which no timer's step is due stays one whatever
 -- orders run.
 use Rattle.std.specs.Prelude.{◌≡◌}
+use Rattle.agc_word.specs.Channels.{chan13}
 use Rattle.agc_processor.specs.declared.processor.Processor.{Processor}
 use Rattle.agc_processor.specs.declared.processor.Ran.{Ran}
 use Rattle.agc_processor.specs.declared.processor.Ran.TheVariants as ran
-use Rattle.agc_processor.specs.Channel.{switch_word, chan13}
+use Rattle.agc_processor.specs.Channel.{switch_word}
 
 -- the timers, the requests and TIME6's switch are as they were
 abbrev pub IsSame : Processor → Processor → Type 0

@@ -1,10 +1,10 @@
 -- The processor at the start of a run.
 use Rattle.std.specs.Prelude.{ℕ, ◌+◌, false, List, set, replicate}
 use Rattle.agc_word.specs.Number.{Number}
+use Rattle.agc_word.specs.Channels.{chan30, chan31}
+use Rattle.agc_word.specs.Channels.{chan32, chan33}
 use Rattle.agc_store.specs.Cells.{narrow_number, start_memory, fetch_of}
 use Rattle.agc_processor.specs.declared.processor.Processor.{Processor}
-use Rattle.agc_processor.specs.Channel.{chan30, chan31}
-use Rattle.agc_processor.specs.Channel.{chan32, chan33}
 use Rattle.agc_processor.specs.Processor.{◌▷◌, jump}
 use Rattle.agc_processor.specs.Signs.{plus_zero}
 

@@ -8,6 +8,7 @@ use Rattle.agc_word.specs.Pulses.{pulsed}
 use Rattle.agc_word.specs.declared.pulse.Pulse.TheVariants as pulse
 use Rattle.agc_word.specs.declared.pulse.Carry.{Carry}
 use Rattle.agc_word.specs.declared.pulse.Carry.TheVariants as carry
+use Rattle.agc_word.specs.Channels.{chan13}
 use Rattle.agc_store.specs.Cells.{narrow_number, cell_of}
 use Rattle.agc_store.specs.Places.{time1_cell, time2_cell, time3_cell, time4_cell, time5_cell, time6_cell}
 use Rattle.agc_processor.specs.declared.interrupt.Rupt.{Rupt}
@@ -16,7 +17,7 @@ use Rattle.agc_processor.specs.declared.processor.Processor.{Processor}
 use Rattle.agc_processor.specs.declared.processor.Timers.{Timers}
 use Rattle.agc_processor.specs.declared.timer.Timer.{Timer}
 use Rattle.agc_processor.specs.declared.timer.Timer.TheVariants as timer
-use Rattle.agc_processor.specs.Channel.{set_channel_cell, is_on, switch_word, chan13}
+use Rattle.agc_processor.specs.Channel.{set_channel_cell, is_on, switch_word}
 use Rattle.agc_processor.specs.Processor.{◌▷◌, poke}
 use Rattle.agc_processor.specs.Interrupt.{request}
 

@@ -1,4 +1,4 @@
-//! The channels by the names of the field, and the orders that read and write them.
+//! The channels of a processor, and the orders that read and write them.
 ghost use Rattle.agc_store.specs.Cells.{narrow_number};
 ghost use Rattle.agc_processor.specs.Channel.{is_on};
 ghost use Rattle.std.specs.Prelude.{◌≡◌, ◌<◌, ◌≤◌, ◌^◌, ◌%◌};
@@ -6,34 +6,8 @@ ghost use Rattle.std.specs.Prelude.{◌≡◌, ◌<◌, ◌≤◌, ◌^◌, ◌%
 use crate::logic::{and_words, or_words, xor_words};
 use crate::processor::Processor;
 use agc_clock::{scaler, time6_periods};
+use agc_word::channels::{CHAN13, HISCALAR, L, LOSCALAR, Q, SUPERBNK};
 use agc_word::{Narrow, Wide, widen};
-
-/// L, which is a channel too.
-pub const L: u16 = 0o1;
-/// Q, which is a channel too.
-pub const Q: u16 = 0o2;
-/// The high half of the scaler.
-pub const HISCALAR: u16 = 0o3;
-/// The low half of the scaler.
-pub const LOSCALAR: u16 = 0o4;
-/// Bit 7 is the superbank.
-pub const SUPERBNK: u16 = 0o7;
-/// The relay words of the display.
-pub const OUT0: u16 = 0o10;
-/// The lamps of the display.
-pub const DSALMOUT: u16 = 0o11;
-/// Bit 15 is TIME6's switch.
-pub const CHAN13: u16 = 0o13;
-/// The code of the key that was pressed last.
-pub const MNKEYIN: u16 = 0o15;
-/// Inputs from the spacecraft, 0 where something is asserted.
-pub const CHAN30: u16 = 0o30;
-/// Further inputs from the spacecraft.
-pub const CHAN31: u16 = 0o31;
-/// Further inputs, of which bit 14 is the PRO key.
-pub const CHAN32: u16 = 0o32;
-/// Further inputs from the spacecraft.
-pub const CHAN33: u16 = 0o33;
 
 impl Processor {
     ghost use Rattle.agc_processor.specs.Channel.{channel_word, channel_cell, set_channel_cell, switch_word, superbank_switched, time6_switched, set_channel, write_channel, read_order, write_order, rand_order, ror_order, rxor_order, wand_order, wor_order};

@@ -2,8 +2,7 @@
 #![tactic(auto)]
 
 mod basic;
-pub mod channel;
-mod channel_write;
+mod channel;
 mod double;
 mod effect;
 mod extra;
@@ -14,7 +13,6 @@ mod signs;
 mod start;
 mod timer;
 
-pub use channel_write::ChannelWrite;
 pub use interrupt::{INTERRUPT_MCT, Rupt};
 pub use processor::{Halt, Processor, Ran, Timers, WRITE_MCT};
 pub use timer::Timer;

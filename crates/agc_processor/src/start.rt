@@ -2,10 +2,10 @@
 ghost use Rattle.std.specs.Prelude.{◌≡◌, ◌<◌};
 ghost use Rattle.agc_processor.specs.Start.{channels_at_start};
 
-use crate::channel::{CHAN30, CHAN31, CHAN32, CHAN33};
 use crate::processor::{Processor, Timers};
 use agc_store::{Addr, Rope, Store};
 use agc_word::Narrow;
+use agc_word::channels::{CHAN30, CHAN31, CHAN32, CHAN33};
 
 /// Where a run begins.
 const START: u16 = 0o4000;

@@ -3,7 +3,6 @@ ghost use Rattle.std.specs.Prelude.{◌≡◌};
 ghost use Rattle.agc_store.specs.Places.{erasable_bank_size};
 ghost use Rattle.agc_processor.specs.Timer.{timer_name};
 
-use crate::channel::CHAN13;
 use crate::interrupt::Rupt;
 use crate::processor::Processor;
 use agc_clock::{
@@ -11,6 +10,7 @@ use agc_clock::{
     time6_periods,
 };
 use agc_store::place::{TIME1, TIME2, TIME3, TIME4, TIME5, TIME6};
+use agc_word::channels::CHAN13;
 use agc_word::{Carry, Narrow, Pulse};
 
 /// A timer that steps at boundaries of its own. TIME2 does not: TIME1's carry steps it.

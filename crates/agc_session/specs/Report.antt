@@ -1,12 +1,12 @@
 -- What a session reports of a run, before it is put into words.
 use Rattle.std.specs.Prelude.{◌≡◌, ◌++◌, ℕ, if◌then◌else◌, Bool, List, length, map, Option, Some}
 use Rattle.std.specs.Prelude.{None, option_map}
+use Rattle.agc_word.specs.declared.channel_write.ChannelWrite.{ChannelWrite}
 use Rattle.agc_store.specs.Memory.{Memory}
 use Rattle.agc_script.specs.declared.key.Key.{Key}
 use Rattle.agc_machine.specs.Run.{Run, run_of}
 use Rattle.agc_machine.specs.State.{State}
 use Rattle.agc_machine.specs.Taken.{IsTakenTape, replayed}
-use Rattle.agc_processor.specs.declared.channel_write.ChannelWrite.{ChannelWrite}
 use Rattle.agc_panel.specs.Face.{panel_of}
 use Rattle.agc_executive.specs.Tables.{WatchedTables, tables_of}
 use Rattle.agc_executive.specs.WatchSpec.{spec_of}

@@ -2,8 +2,8 @@
 use agc_executive::Tables;
 use agc_machine::Stop;
 use agc_panel::Panel;
-use agc_processor::ChannelWrite;
 use agc_script::Tape;
+use agc_word::ChannelWrite;
 use std::marker::Model;
 
 /// What a run leaves, as far as the options ask for it.
@@ -42,7 +42,7 @@ pub struct Log {
 
 impl Model for Log {
     ghost use Rattle.std.specs.Prelude.{List};
-    ghost use Rattle.agc_processor.specs.declared.channel_write.ChannelWrite.{ChannelWrite};
+    ghost use Rattle.agc_word.specs.declared.channel_write.ChannelWrite.{ChannelWrite};
 
     ghost Value = { List ChannelWrite };
 

@@ -5,8 +5,8 @@ ghost use Rattle.agc_session.specs.Text.{tape_text, live_text};
 
 use crate::report::LiveKeys;
 use agc_machine::Stop;
-use agc_processor::ChannelWrite;
 use agc_script::{Key, Tape};
+use agc_word::ChannelWrite;
 use std::alloc::AllocError;
 
 /// Adds the line that says why the run ended, at which machine cycle, and after how many channel

@@ -3,10 +3,10 @@ use Rattle.std.proofs.Common.{◌≡◌, Bool, true, false, [], ◌∷◌, Optio
 use Rattle.std.specs.Prelude.{◌==◌, IfSome, if◌then◌else◌, is_some}
 use Rattle.std.specs.List.{cons_option}
 use Rattle.std.specs.Str.{bytes_eq}
+use Rattle.agc_word.specs.declared.channel_write.ChannelWrite.{ChannelWrite}
 use Rattle.agc_machine.specs.Run.{Run, next_of, run_of}
 use Rattle.agc_machine.specs.Laws.{HasNextChannel}
 use Rattle.agc_machine.specs.State.{State}
-use Rattle.agc_processor.specs.declared.channel_write.ChannelWrite.{ChannelWrite}
 use Rattle.agc_machine.specs.declared.answer.Next.TheVariants as next
 use Rattle.agc_machine.specs.declared.answer.Stop.{Stop}
 use Rattle.agc_machine.proofs.Chain.{next_of_stopped, run_at_stop, run_at_write, stop_is_kept}

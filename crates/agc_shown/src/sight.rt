@@ -6,8 +6,7 @@ ghost use Rattle.agc_shown.specs.Shown.{InPrint, OnChannel, changed_panel, look_
 
 use crate::by::By;
 use agc_panel::{Panel, show_alike};
-use agc_processor::ChannelWrite;
-use agc_word::Narrow;
+use agc_word::{ChannelWrite, Narrow};
 use std::alloc::{AllocError, Global};
 
 /// What is seen, whenever it is.

@@ -3,6 +3,7 @@ use Rattle.std.specs.Prelude.{◌≡◌, ℕ, ◌≤◌, List, [], length, repli
 use Rattle.std.specs.Result.{result_ok}
 use Rattle.std.proofs.Common.{refl, ap, sym, subst, ◌∙◌, arith}
 use Rattle.agc_word.specs.Number.{Number}
+use Rattle.agc_word.specs.declared.channel_write.ChannelWrite.{ChannelWrite}
 use Rattle.agc_store.specs.Cells.{put_of, start_memory}
 use Rattle.agc_script.specs.Event.{most_events}
 use Rattle.agc_script.specs.Merge.{joined}
@@ -13,7 +14,6 @@ use Rattle.agc_processor.specs.Start.{start_processor}
 use Rattle.agc_machine.specs.Live.{IsLive}
 use Rattle.agc_machine.specs.Replay.{Chain, chain, with_tape, writes_in}
 use Rattle.agc_machine.specs.State.{State, start_state}
-use Rattle.agc_processor.specs.declared.channel_write.ChannelWrite.{ChannelWrite}
 use Rattle.agc_machine.proofs.Live.{live_starts}
 use Rattle.agc_machine.proofs.LiveTime.{live_is_same}
 use Rattle.agc_machine.proofs.Replay.{chain_replays}

@@ -1,6 +1,7 @@
 -- A sitting: what it was begun with, what was given to it, where it has come, and what it shows.
 use Rattle.std.specs.Prelude.{◌≡◌, ◌⊎◌, ℕ, zero, suc, ◌+◌, ◌<◌, ◌≤◌, List, [], ◌∷◌, ◌++◌, length, drop, nat_le, replicate, Some, None, IsSome}
 use Rattle.std.specs.List.{position_or_len}
+use Rattle.agc_word.specs.declared.channel_write.ChannelWrite.{ChannelWrite}
 use Rattle.agc_script.specs.Event.{most_events}
 use Rattle.agc_script.specs.Merge.{joined}
 use Rattle.agc_script.specs.Script.{before}
@@ -11,7 +12,6 @@ use Rattle.agc_machine.specs.Laws.{IsSameRun, after}
 use Rattle.agc_machine.specs.Live.{IsLive}
 use Rattle.agc_machine.specs.Replay.{Chain, chain, writes_in}
 use Rattle.agc_machine.specs.State.{State, live_event, start_state}
-use Rattle.agc_processor.specs.declared.channel_write.ChannelWrite.{ChannelWrite}
 use Rattle.agc_machine.specs.declared.answer.Stepped.{Stepped}
 use Rattle.agc_machine.specs.declared.answer.Stepped.TheVariants as stepped
 use Rattle.agc_panel.specs.Face.{face_after, panel_of}

@@ -1,6 +1,7 @@
 //! The sitting: its machine, the panel of its writes, and what was given so far.
 ghost use Rattle.std.specs.Prelude.{◌≡◌, ◌+◌, ◌<◌, ◌≤◌, ◌↔◌, List, [], ◌∷◌, ◌++◌, length, None, Some};
 ghost use Rattle.std.specs.Prelude.{IfOk, IfErr, IfSome, IsErrOf, IsOk, OnOk, OnErr};
+ghost use Rattle.agc_word.specs.declared.channel_write.ChannelWrite.{ChannelWrite};
 ghost use Rattle.agc_script.specs.Event.{IsWhatInRange, last_cycle, most_events};
 ghost use Rattle.agc_script.specs.Said.{said_at};
 ghost use Rattle.agc_script.specs.Merge.{joined};
@@ -10,7 +11,6 @@ ghost use Rattle.agc_machine.specs.Laws.{HasChannel};
 ghost use Rattle.agc_machine.specs.Run.{next_before};
 ghost use Rattle.agc_machine.specs.State.{start_state};
 ghost use Rattle.agc_machine.specs.Replay.{writes_in};
-ghost use Rattle.agc_processor.specs.declared.channel_write.ChannelWrite.{ChannelWrite};
 ghost use Rattle.agc_panel.specs.Face.{panel_of};
 ghost use Rattle.agc_sitting.specs.Sitting.{HasGone, HasReached, IsReplay, given_now, shown_after, start_with};
 ghost use Rattle.agc_sitting.specs.Sitting.{dropped, kept_before, told, told_before};

@@ -1,13 +1,13 @@
 -- What a boundary without a live key did, as one value.
 use Rattle.std.specs.Prelude.{◌/◌, ◌<◌, Option, Some, None}
 use Rattle.agc_word.specs.Number.{pattern_of}
+use Rattle.agc_word.specs.declared.channel_write.ChannelWrite.{ChannelWrite}
 use Rattle.agc_store.specs.Cells.{cell_of}
 use Rattle.agc_store.specs.Memory.{Memory, erasable_bank}
 use Rattle.agc_store.specs.Places.{a_cell, l_cell, q_cell, fb_cell, fixed_bank_size}
 use Rattle.agc_store.specs.Registers.{register, z_of}
 use Rattle.agc_machine.specs.Boundary.{boundary, HasPlace, upcoming_of}
 use Rattle.agc_machine.specs.State.{State}
-use Rattle.agc_processor.specs.declared.channel_write.ChannelWrite.{ChannelWrite}
 use Rattle.agc_machine.specs.declared.answer.Stepped.{Stepped}
 use Rattle.agc_machine.specs.declared.answer.Stepped.TheVariants as stepped
 use Rattle.agc_trace.specs.declared.entry.Entry.{Entry}

@@ -4,12 +4,12 @@ use Rattle.std.specs.Prelude.{List, [], ◌++◌, codes, Option, Some, None}
 use Rattle.std.specs.Fmt.{decimal}
 use Rattle.agc_word.specs.Number.{pattern_of}
 use Rattle.agc_word.specs.Octal.{octal_digits, word_digits}
+use Rattle.agc_word.specs.declared.channel_write.ChannelWrite.{ChannelWrite}
 use Rattle.agc_store.specs.Places.{erasable_window, fixed_fixed, fixed_window}
 use Rattle.agc_processor.specs.Interrupt.{rupt_name}
 use Rattle.agc_processor.specs.Timer.{timer_name}
 use Rattle.agc_script.specs.Written.{what_text}
 use Rattle.agc_machine.specs.Answer.{stop_name}
-use Rattle.agc_processor.specs.declared.channel_write.ChannelWrite.{ChannelWrite}
 use Rattle.agc_machine.specs.declared.upcoming.Upcoming.{Upcoming}
 use Rattle.agc_machine.specs.declared.upcoming.Upcoming.TheVariants as upcoming
 use Rattle.agc_rope_listing.specs.Order.{order_text}

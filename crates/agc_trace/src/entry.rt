@@ -4,10 +4,9 @@ ghost use Rattle.agc_machine.specs.Boundary.{boundary};
 ghost use Rattle.agc_trace.specs.Entry.{FitsLine, entry_of, registers_of, write_shown};
 
 use agc_machine::{Machine, Stepped, Upcoming};
-use agc_processor::ChannelWrite;
 use agc_store::place::{FB, FIXED_BANK_SIZE};
 use agc_store::{Addr, Store};
-use agc_word::{Narrow, Wide};
+use agc_word::{ChannelWrite, Narrow, Wide};
 
 /// The registers between two boundaries.
 #[derive(Clone, Copy, Debug, PartialEq, Eq)]

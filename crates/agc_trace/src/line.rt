@@ -16,12 +16,11 @@ ghost use Rattle.agc_trace.specs.Line.{
 
 use crate::entry::{Entry, Registers};
 use agc_machine::{InHand, Upcoming};
-use agc_processor::ChannelWrite;
 use agc_rope_listing::{Place, push_order, push_place};
 use agc_script::push_what;
 use agc_store::Addr;
 use agc_store::place::{ERASABLE_WINDOW, FIXED_FIXED, FIXED_WINDOW};
-use agc_word::Narrow;
+use agc_word::{ChannelWrite, Narrow};
 use std::alloc::AllocError;
 
 /// Adds the line of an entry: `CYCLE PLACE WORD ORDER operand | A .. FB ff`, with ` > ccc vvvvv`

@@ -1,4 +1,5 @@
-//! The numbers of the channels that stand between the computer and the outside world.
+//! The channels by the names of the field, and which of them stand between the computer and the outside
+//! world.
 
 /// The first channel that outside sees and may set: below it stand L and Q, and the two halves of
 /// the scaler.
@@ -6,3 +7,30 @@ pub const FIRST_IO_CHANNEL: u16 = 0o5;
 
 /// The last channel that an order's nine bits can name.
 pub const LAST_IO_CHANNEL: u16 = 0o777;
+
+/// L, which is a channel too.
+pub const L: u16 = 0o1;
+/// Q, which is a channel too.
+pub const Q: u16 = 0o2;
+/// The high half of the scaler.
+pub const HISCALAR: u16 = 0o3;
+/// The low half of the scaler.
+pub const LOSCALAR: u16 = 0o4;
+/// Bit 7 is the superbank.
+pub const SUPERBNK: u16 = 0o7;
+/// The relay words of the display.
+pub const OUT0: u16 = 0o10;
+/// The lamps of the display.
+pub const DSALMOUT: u16 = 0o11;
+/// Bit 15 is TIME6's switch.
+pub const CHAN13: u16 = 0o13;
+/// The code of the key that was pressed last.
+pub const MNKEYIN: u16 = 0o15;
+/// Inputs from the spacecraft, 0 where something is asserted.
+pub const CHAN30: u16 = 0o30;
+/// Further inputs from the spacecraft.
+pub const CHAN31: u16 = 0o31;
+/// Further inputs, of which bit 14 is the PRO key.
+pub const CHAN32: u16 = 0o32;
+/// Further inputs from the spacecraft.
+pub const CHAN33: u16 = 0o33;

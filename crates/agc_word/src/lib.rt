@@ -1,9 +1,11 @@
-//! The words of the Block II computer and their arithmetic: ones' complement, with two zeros.
+//! The words of the Block II computer and their arithmetic: ones' complement, with two zeros; and its channels,
+//! by name.
 #![tactic(auto)]
 
 mod angle;
 mod arithmetic;
-mod channels;
+mod channel_write;
+pub mod channels;
 mod division;
 mod edit;
 mod logic;
@@ -14,6 +16,7 @@ mod wide;
 
 pub use angle::modular_difference;
 pub use arithmetic::{complement, dabs, sum};
+pub use channel_write::ChannelWrite;
 pub use channels::{FIRST_IO_CHANNEL, LAST_IO_CHANNEL};
 pub use division::{product, quotient};
 pub use edit::Edit;

@@ -1,7 +1,6 @@
 //! The panel from known words: the worked panel, each digit code, each lamp alone.
 use agc_panel::Panel;
-use agc_processor::ChannelWrite;
-use agc_word::Narrow;
+use agc_word::{ChannelWrite, Narrow};
 use std::process::Abort;
 
 /// The lines of digits and signs where none is shown.

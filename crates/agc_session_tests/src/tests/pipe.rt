@@ -5,11 +5,11 @@ mod shown;
 mod told;
 
 ghost use Rattle.std.specs.Prelude.{◌≡◌};
-ghost use Rattle.agc_pipe.specs.Item.{IsOutside};
+ghost use Rattle.agc_ring.specs.Item.{IsOutside};
 
-use agc_pipe::{Item, LinkFault, Receiver, Sender, Slots, Spacing, link, rejoin};
-use agc_processor::ChannelWrite;
-use agc_word::Narrow;
+use agc_pipe::Spacing;
+use agc_ring::{Item, LinkFault, Receiver, Sender, Slots, link, rejoin};
+use agc_word::{ChannelWrite, Narrow};
 use arrayvec::ArrayVec;
 use std::process::Abort;
 use std::thread;

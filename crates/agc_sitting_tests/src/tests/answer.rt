@@ -5,10 +5,9 @@ use agc_dialogue::{
     push_fault_line, push_next_line, push_registers_line, push_write_line, push_writes_line,
 };
 use agc_machine::{Stop, Upcoming};
-use agc_processor::ChannelWrite;
 use agc_request::{CommandFault, CommandName, push_help};
 use agc_store::{Addr, Rope, Store};
-use agc_word::{Narrow, widen};
+use agc_word::{ChannelWrite, Narrow, widen};
 use std::alloc::AllocError;
 use std::process::Abort;
 

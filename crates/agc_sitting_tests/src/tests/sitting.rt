@@ -1,11 +1,10 @@
 //! Sittings before small programs, worked out by hand. The numbers are octal, but for cycles.
 use super::{equal, equal_at, has_text, sitting_of};
 use agc_machine::{Stepped, Stop};
-use agc_processor::ChannelWrite;
 use agc_script::{Key, What};
 use agc_sitting::{GiveFault, Sitting};
 use agc_test_kit::IDLE;
-use agc_word::Narrow;
+use agc_word::{ChannelWrite, Narrow};
 use std::process::Abort;
 
 /// The sitting takes a key, or refuses it.

@@ -1,6 +1,6 @@
 use Rattle.std.specs.Prelude.{◌≡◌, List}
+use Rattle.agc_word.specs.declared.channel_write.ChannelWrite.{ChannelWrite}
 use Rattle.agc_machine.specs.Run.{boundaries_left}
-use Rattle.agc_processor.specs.declared.channel_write.ChannelWrite.{ChannelWrite}
 use Rattle.agc_panel.specs.Face.{panel_of}
 use Rattle.agc_film.proofs.Recording.{IsPassing}
 use Rattle.agc_film.proofs.reel.open.Given as goal

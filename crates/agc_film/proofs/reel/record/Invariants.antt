@@ -1,6 +1,6 @@
 use Rattle.std.specs.Prelude.{ℕ, List, []}
+use Rattle.agc_word.specs.declared.channel_write.ChannelWrite.{ChannelWrite}
 use Rattle.agc_machine.specs.Run.{boundaries_left}
-use Rattle.agc_processor.specs.declared.channel_write.ChannelWrite.{ChannelWrite}
 use Rattle.agc_film.specs.Way.{HasTaken}
 use Rattle.agc_film.proofs.Recording.{IsPassing}
 use Rattle.agc_film.proofs.reel.record.Given as goal

@@ -1,6 +1,6 @@
 use Rattle.std.specs.Prelude.{◌≡◌, ◌++◌, ℕ, List, []}
+use Rattle.agc_word.specs.declared.channel_write.ChannelWrite.{ChannelWrite}
 use Rattle.agc_machine.specs.Run.{boundaries_left}
-use Rattle.agc_processor.specs.declared.channel_write.ChannelWrite.{ChannelWrite}
 use Rattle.agc_jobs.specs.Changes.{sights_in}
 use Rattle.agc_jobs.specs.Film.{after_first}
 use Rattle.agc_jobs.specs.Lines.{told_of}

@@ -1,10 +1,9 @@
 //! Whole runs: their channel writes, their limits and their stops.
 use super::*;
 use agc_machine::{LimitFault, Refused, StopAddress};
-use agc_processor::ChannelWrite;
 use agc_store::Store;
 use agc_test_kit::{DIVISION, IDLE, RELAY_WORD, WRITES};
-use agc_word::Narrow;
+use agc_word::{ChannelWrite, Narrow};
 
 /// EXTEND, WRITE 10, TCF 4000, again and again: a write of +0 each four cycles, the first at cycle 1
 /// and the last, after 17 timer steps of one cycle, at 4 * 999 + 1 + 17.

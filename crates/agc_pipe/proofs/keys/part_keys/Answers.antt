@@ -1,7 +1,7 @@
 use Rattle.std.proofs.Common.{ℕ, List, ◌++◌, drop, ap, sym, ◌∙◌}
 use Rattle.agc_script.specs.declared.key.Key.{Key}
+use Rattle.agc_ring.proofs.Ends.{same_ring}
 use Rattle.agc_pipe.specs.Keys.{Feeding, Taking}
-use Rattle.agc_pipe.proofs.Ends.{same_ring}
 use Rattle.agc_pipe.proofs.Taking.{no_key_is_lost}
 use Rattle.agc_pipe.proofs.keys.part_keys.Goals as goal
 

@@ -1,6 +1,6 @@
 use Rattle.std.proofs.Common.{◌∙◌, refl, subst, sym}
 use Rattle.agc_machine.specs.declared.answer.Stepped.TheVariants as stepped
-use Rattle.agc_pipe.specs.Ring.{Sending}
+use Rattle.agc_ring.specs.Ring.{Sending}
 use Rattle.agc_pipe.proofs.Lives.{IsLiveSending, sending_starts, after_quiet, after_live_write, at_live_stop}
 use Rattle.agc_pipe.proofs.live_sending.send_live_run.Goals as goal
 

@@ -1,9 +1,9 @@
 use Rattle.std.proofs.Common.{◌∷◌, ◌++◌, [], List, ap, sym, subst}
 use Rattle.agc_machine.specs.Run.{run_of}
 use Rattle.agc_machine.proofs.Chain.{fewer_after_write}
-use Rattle.agc_pipe.specs.Ring.{Sending}
-use Rattle.agc_pipe.specs.declared.item.Item.{Item}
-use Rattle.agc_pipe.specs.declared.item.Item.TheVariants as item
+use Rattle.agc_ring.specs.Ring.{Sending}
+use Rattle.agc_ring.specs.declared.item.Item.{Item}
+use Rattle.agc_ring.specs.declared.item.Item.TheVariants as item
 use Rattle.agc_pipe.proofs.Sends.{IsSending, after_write, at_stop, same_end, whole_end}
 use Rattle.agc_pipe.proofs.sending.send_run.Goals as goal
 

@@ -4,9 +4,9 @@ use super::memory::{AFTER_DIVISION, AFTER_EDRUPT, AFTER_WRITES, holds};
 use agc_machine::{Machine, Next, Stop};
 use agc_panel::Panel;
 use agc_pipe::{Gate, Open, ShowFault, Shown, Slots, run_shown, show_run};
-use agc_processor::ChannelWrite;
 use agc_store::Store;
 use agc_test_kit::{Counting, DIVISION, EDRUPT, Meeting, Slow, WRITES};
+use agc_word::ChannelWrite;
 
 /// The thousandth write begins at cycle 4014, and the run ends at 4018.
 const LIMIT: u64 = 4018;

@@ -1,5 +1,5 @@
 use Rattle.std.proofs.Common.{Some, refl, ap, sym, ◌∙◌}
-use Rattle.agc_processor.specs.declared.channel_write.ChannelWrite.{ChannelWrite}
+use Rattle.agc_word.specs.declared.channel_write.ChannelWrite.{ChannelWrite}
 use Rattle.agc_compare.proofs.Followed.{ended, took_held, took_next, took_none}
 use Rattle.agc_compare.proofs.follower.Follower.next_write.Goals.{in-Some, in-None+in-Wrote}
 use Rattle.agc_compare.proofs.follower.Follower.next_write.Goals as goal

@@ -1,9 +1,9 @@
 use Rattle.std.proofs.Common.{◌≡◌, ◌∙◌, List, IfOk, ap, subst}
 use Rattle.agc_script.specs.declared.key.Key.{Key}
 use Rattle.agc_machine.specs.State.{State}
+use Rattle.agc_ring.specs.Ring.{Sending}
 use Rattle.agc_pipe.specs.Keys.{Feeding, Taking}
 use Rattle.agc_pipe.specs.Live.{IsSentLive, ShowsLive}
-use Rattle.agc_pipe.specs.Ring.{Sending}
 use Rattle.agc_pipe.specs.declared.live.SendsLiveRun.{SendsLiveRun}
 use Rattle.agc_pipe.proofs.Lives.{memory_or_thread}
 use Rattle.agc_pipe.proofs.live.fn.show_live_between.scope.Goals as goal

@@ -1,9 +1,0 @@
--- What goes through the ring, and what each end has seen of it.
-use Rattle.agc_word.specs.Channels.{IsIoChannel}
-use Rattle.agc_pipe.specs.declared.item.Item.{Item}
-use Rattle.agc_pipe.specs.declared.item.Item.TheVariants as item
-
--- a write goes to a channel from 5 to 777 octal
-abbrev pub IsOutside : Item → Type 0
-IsOutside (item.Write write) = IsIoChannel write.channel
-IsOutside item.End = Unit {0}

@@ -1,0 +1,4 @@
+pub mod Item
+pub mod Items
+pub mod Ring
+pub mod Screen

@@ -1,0 +1,24 @@
+//! What goes through the ring.
+use agc_word::ChannelWrite;
+use rtrb::Protocol;
+
+/// A channel write of the run, or the end after all of them.
+#[derive(Clone, Copy, Debug, Default, PartialEq, Eq)]
+pub enum Item {
+    Write(ChannelWrite),
+    #[default]
+    End,
+}
+
+/// The most items that go through the ring at once.
+pub const BLOCK: usize = 64;
+
+/// The ring's protocol: each write that goes in is one to a channel from 5 to 777 octal.
+#[derive(Clone, Copy)]
+pub(crate) struct Outside;
+
+impl Protocol<Item> for Outside {
+    ghost use Rattle.agc_ring.specs.Item.{IsOutside};
+
+    ghost allows = { λ before item. IsOutside item };
+}
