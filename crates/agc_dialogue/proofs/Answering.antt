@@ -1,5 +1,5 @@
 -- How the parts of an answer make up the whole.
-use Rattle.std.specs.Prelude.{◌≡◌, ◌≢◌, ◌⊎◌, ℕ, ◌+◌, ◌==◌, Bool, true, false, List, [], ◌++◌, length, Option, None, Some, Result, Ok, Err, OnOk, IsErrOf, codes, flat_map, if◌then◌else◌}
+use Rattle.std.specs.Prelude.{◌≡◌, ◌≢◌, ◌⊎◌, ℕ, ◌+◌, ◌==◌, Bool, true, false, List, [], ◌++◌, length, Option, None, Some, Result, Ok, Err, IfOk, MatchResult, OnOk, IsErrOf, codes, flat_map, if◌then◌else◌}
 use Rattle.std.specs.Io.KnownBytes.{Appends, append_known}
 use Rattle.std.proofs.Common.{refl, ap, sym, subst, ◌∙◌}
 use Rattle.std.proofs.KnownBytes.{Appends-trans}
@@ -168,10 +168,18 @@ pub line_is : (old new line other : List ℕ) → new ≡ old ++ line → line �
 line_is old new line other h e = h ∙ ap (λ (x : List ℕ). old ++ x) e
 
 -- the line with which `back` is answered
-pub end_written : (a b : Option (List ℕ)) (none text shown : List ℕ) (t u : Talk) → none ≡ [] → text ≡ none ++ last_line t → shown ≡ text → t ≡ u → Appends a b shown
-    → Appends a b ([] ++ last_line u)
-end_written a b none text shown t u n e s same h =
-    subst (Appends a b) (s ∙ e ∙ ap (λ (x : List ℕ). x ++ last_line t) n ∙ ap last_line same) h
+pub end_written : (a b : Option (List ℕ)) (none : List ℕ) (t u : Talk) → none ≡ [] → t ≡ u → Appends a b (none ++ last_line t) → Appends a b ([] ++ last_line u)
+end_written a b none t u n same h = subst (Appends a b) (ap (λ (x : List ℕ). x ++ last_line t) n ∙ ap last_line same) h
+
+-- a talk is kept where its answer could be written
+pub when_kept : {P : Type 0} (Q : Talk → Type 0) (told : Result (Unit {0}) ConverseFault) (t : Talk) (r : Result Talk ConverseFault)
+    → MatchResult told (λ u. r ≡ Ok t) (λ why. r ≡ Err why) → OnOk told P → (P → Q t) → IfOk r Q
+when_kept Q (Ok u) t r e h f = rw e (f h)
+when_kept Q (Err why) t r e h f = rw e tt
+
+pub when_stayed : {P : Type 0} (Q : Talk → Type 0) (t : Talk) (r : Result Talk ConverseFault) → IfOk r (λ left. (left ≡ t) × P) → (P → Q t) → IfOk r Q
+when_stayed Q t (Ok left) h f = rw h.0 (f h.1)
+when_stayed Q t (Err why) h f = tt
 
 pub same_goes : (s t : Talk) → t ≡ s → GoesOn s.sitting t.sitting
 same_goes s t e = subst (λ (x : Talk). GoesOn s.sitting x.sitting) (sym e) (stays_put s.sitting)

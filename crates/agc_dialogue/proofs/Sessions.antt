@@ -1,11 +1,12 @@
 -- The requests of an input are answered one after another.
-use Rattle.std.specs.Prelude.{◌≡◌, ◌⊎◌, ℕ, List, [], ◌∷◌, ◌++◌, Option, None, Some, IfSome, codes}
+use Rattle.std.specs.Prelude.{◌≡◌, ◌⊎◌, ℕ, List, [], ◌∷◌, ◌++◌, Option, None, Some, Result, Ok, IfOk, IfSome, codes}
 use Rattle.std.specs.Io.KnownBytes.{Appends, Keeps}
 use Rattle.std.proofs.Common.{refl, ap, sym, subst, ◌∙◌, append-nil, append_assoc, inl, inr}
 use Rattle.std.proofs.KnownBytes.{Appends-kept, Appends-trans, Keeps-refl}
 use Rattle.agc_dialogue.specs.Answered.{Grows, IsAnswered, Request, RunsOut, Tells, answer_to}
 use Rattle.agc_dialogue.specs.Input.{ReadsRequest}
 use Rattle.agc_dialogue.specs.Session.{AreAnswered, RanOut, requests_in, session_text}
+use Rattle.agc_dialogue.specs.declared.conversation.ConverseFault.{ConverseFault}
 use Rattle.agc_dialogue.specs.declared.talk.Talk.{Talk}
 use Rattle.agc_names.specs.Names.{Named}
 
@@ -19,7 +20,7 @@ pub nothing_answered : (names : Option (List Named)) (known left : Option (List 
 nothing_answered names None left s old e = tt
 nothing_answered names (Some input) left s old e = (input, e, λ end h. h)
 
-still_answered : (names : Option (List Named)) (request : Request) (s t : Talk) (old mid new : Option (List ℕ)) → IsAnswered names request s t old mid → Keeps mid new → IsAnswered names request s t old new
+pub still_answered : (names : Option (List Named)) (request : Request) (s t : Talk) (old mid new : Option (List ℕ)) → IsAnswered names request s t old mid → Keeps mid new → IsAnswered names request s t old new
 still_answered names request s t old mid new (inl h) k = inl (h.0, Appends-kept old mid new (answer_to names request s).1 h.1 k)
 still_answered names request s t old mid new (inr h) k =
     inr (record { left = h.left; said = h.said; ends = Appends-kept old mid new _ h.ends k })
@@ -139,3 +140,13 @@ pub text_told : (names : Option (List Named)) (known : Option (List ℕ)) (s : T
     → IfSome known (λ input. Appends old new (session_text names (requests_in names input) s) ⊎ RanOut names (requests_in names input) s old new)
 text_told names None s old new h = tt
 text_told names (Some input) s old new h = session_told names (requests_in names input) s old new h
+
+-- what stands in a reader at first is the input
+pub session_so : (names : Option (List Named)) (known left : Option (List ℕ)) (s t : Talk) (old new : Option (List ℕ)) → left ≡ known → t ≡ s
+    → IfSome left (λ input. AreAnswered names (requests_in names input) t old new) → IfSome known (λ input. AreAnswered names (requests_in names input) s old new)
+session_so names known left s t old new e same h = rw (sym e, sym same) h
+
+-- what was read, as the arms of a match know it
+pub reads_as : (names : Option (List Named)) (left later : Option (List ℕ)) (r : Result (Option Request) ConverseFault) (said next : Option Request) → r ≡ Ok said → said ≡ next
+    → IfOk r (λ x. ReadsRequest names left later x) → ReadsRequest names left later next
+reads_as names left later r said next e f h = rw (e, f) at h

@@ -4,7 +4,7 @@
 //! part of a long answer is written before the rest is known: where memory runs out then, the machine has gone on. An
 //! event that is refused as the machine takes none any more comes after the events of the script that were due, and
 //! those have happened. That an answer is written before the next line is read, no clause says, and tests alone show.
-ghost use Rattle.std.specs.Prelude.{◌≡◌, ◌⊎◌, ◌++◌, Some, Ok, codes, IfErr, IfOk, IfSome, IsErrOf, MatchOption, OnOk, string_bytes};
+ghost use Rattle.std.specs.Prelude.{◌≡◌, ◌⊎◌, ◌++◌, Some, Ok, Err, codes, IfErr, IfOk, IfSome, IsErrOf, MatchOption, MatchResult, OnOk, string_bytes};
 ghost use Rattle.std.specs.Io.KnownBytes.{Appends, Keeps, append_known};
 ghost use Rattle.agc_dialogue.specs.Answer.{end_line, error_line};
 ghost use Rattle.agc_dialogue.specs.Answered.{
@@ -21,6 +21,7 @@ ghost use Rattle.agc_dialogue.specs.Answered.{
   refusal_text,
 };
 ghost use Rattle.agc_dialogue.specs.Session.{AreAnswered, RanOut, requests_in, session_text};
+ghost use Rattle.agc_dialogue.specs.Shown.{shown_text};
 ghost use Rattle.agc_dialogue.specs.Talk.{GoesOn, at_start};
 ghost use Rattle.agc_script.specs.Event.{IsWhatInRange};
 ghost use Rattle.agc_request.specs.Fault.{fault_text};
@@ -28,11 +29,10 @@ ghost use Rattle.agc_request.specs.Command.{IsCommandInRange};
 ghost use Rattle.agc_dialogue.specs.declared.conversation.ConverseFault.TheVariants.{Memory};
 
 use crate::answer::{push_end_line, push_error_line, push_fault_line};
-use crate::doing::{give, go_to, refusal, step, until};
+use crate::doing::{give, go, go_on_to, refusal, step, until};
 use crate::lines::{Request, next_request};
 use crate::outlet::write_text;
 use crate::showing::push_shown;
-use crate::sought::Sought;
 use crate::talk::Talk;
 use agc_names::NameTable;
 use agc_request::{Command, CommandFault};
@@ -83,19 +83,57 @@ pub fn converse<R: Read, W: Write>(
         ⊎ RanOut names.now (requests_in names.now bytes) (at_start sitting) (W.contents output.old) (W.contents output.new))) }
 {
     let Ok(mut reader) = BufReader::new(alloc, input) else {
+        // Dropped by name a sitting, or a talk, goes in one step. Part by part is dear to prove.
+        drop(sitting);
         return Err(ConverseFault::Memory);
     };
-    let mut talk = Talk::new(sitting);
+    let talk = Talk::new(sitting);
+    answer_each(alloc, names, talk, &mut reader, output)
+}
+
+/// Answers the requests that are left, each before the next is read.
+fn answer_each<R: Read, W: Write>(
+    alloc: Global,
+    names: &Option<NameTable>,
+    mut talk: Talk,
+    reader: &mut R,
+    output: &mut W,
+) -> Result<(), ConverseFault>
+    ensures { OnOk result (IfSome (R.remaining reader.old) (λ bytes. AreAnswered names.now (requests_in names.now bytes)
+        talk (W.contents output.old) (W.contents output.new))) }
+{
     for _line in 0..u64::MAX {
-        match next_request(alloc, names, &mut reader)? {
-            Some(request) => {
-                talk = answer(alloc, names, talk, request, output)?;
-                flush(output)?;
+        match next_request(alloc, names, reader) {
+            Ok(Some(request)) => {
+                talk = answer_out(alloc, names, talk, request, output)?;
             }
-            None => return Ok(()),
+            Ok(None) => {
+                drop(talk);
+                return Ok(());
+            }
+            Err(fault) => {
+                drop(talk);
+                return Err(fault);
+            }
         }
     }
+    drop(talk);
     Err(ConverseFault::Read)
+}
+
+/// Answers a request, and has the answer go out.
+fn answer_out<W: Write>(
+    alloc: Global,
+    names: &Option<NameTable>,
+    talk: Talk,
+    request: Request,
+    output: &mut W,
+) -> Result<Talk, ConverseFault>
+    requires { IfOk request (λ said. IfSome said IsCommandInRange) }
+    ensures { IfOk result (λ left. IsAnswered names.now request talk left (W.contents output.old) (W.contents output.new)) }
+{
+    let left = answer(alloc, names, talk, request, output)?;
+    keep_if(flush(output), left)
 }
 
 /// Has what was written go out.
@@ -122,8 +160,8 @@ fn answer<W: Write>(
     match goes_back_to(&request) {
         Some(cycle) => go_back(alloc, names, talk, cycle, output),
         None => {
-            answer_now(alloc, names, &mut talk, request, output)?;
-            Ok(talk)
+            let told = answer_now(alloc, names, &mut talk, request, output);
+            keep_if(told, talk)
         }
     }
 }
@@ -279,22 +317,28 @@ fn carry_out<W: Write>(
     ensures grows { (IsErrOf result ConverseFault.Write → ⊥) → Grows (W.contents output.old) (W.contents output.new) }
 {
     match command {
-        Command::Go(cycles) => {
-            let cycle = talk.cycle().saturating_add(cycles);
-            go_to(talk, &Sought::Nothing, cycle, text, output)?;
-            Ok(())
-        }
-        Command::GoTo(cycle) => {
-            go_to(talk, &Sought::Nothing, cycle, text, output)?;
-            Ok(())
-        }
+        Command::Go(cycles) => go(talk, cycles, text, output),
+        Command::GoTo(cycle) => go_on_to(talk, cycle, text, output),
         Command::Step(boundaries) => step(talk, names, boundaries, text, output),
         Command::Until { what, within } => until(talk, what, within, text, output),
-        shown => {
-            push_shown(alloc, names, talk, shown, text)?;
-            Ok(())
-        }
+        shown => show(alloc, names, talk, shown, text),
     }
+}
+
+/// Adds what a command shows.
+fn show(
+    alloc: Global,
+    names: &Option<NameTable>,
+    talk: &Talk,
+    command: Command,
+    text: &mut String,
+) -> Result<(), ConverseFault>
+    requires { IsCommandInRange command }
+    ensures { OnOk result (string_bytes text.new
+        ≡ string_bytes text.old ++ shown_text names.now command talk.now.sitting talk.now.writes) }
+{
+    push_shown(alloc, names, talk, command, text)?;
+    Ok(())
 }
 
 /// Adds the line with which an answer ends.
@@ -317,19 +361,39 @@ fn go_back<W: Write>(
     ensures { IfOk result (λ left. IsAnswered names.now (Ok (Some (Command.Back cycle))) talk left
         (W.contents output.old) (W.contents output.new)) }
 {
-    let Ok(mut text) = String::with_capacity(alloc, LONGEST_END) else {
-        write_text(output, OUT_OF_MEMORY)?;
-        return Ok(talk);
+    let Ok(text) = String::with_capacity(alloc, LONGEST_END) else {
+        return stay(talk, output);
     };
     match talk.back(alloc, cycle) {
         Ok(earlier) => {
-            push_end(&earlier, &mut text)?;
-            write_text(output, &text)?;
-            Ok(earlier)
+            let told = write_end(&earlier, text, output);
+            keep_if(told, earlier)
         }
-        Err(same) => {
-            write_text(output, OUT_OF_MEMORY)?;
-            Ok(same)
-        }
+        Err(same) => stay(same, output),
     }
+}
+
+/// Answers that memory ran out, and changes nothing.
+fn stay<W: Write>(talk: Talk, output: &mut W) -> Result<Talk, ConverseFault>
+    ensures { IfOk result (λ left. (left ≡ talk)
+        × Appends (W.contents output.old) (W.contents output.new) (codes "error: memory\n")) }
+{
+    let told = write_text(output, OUT_OF_MEMORY);
+    keep_if(told, talk)
+}
+
+/// Writes a text with the line with which an answer ends.
+fn write_end<W: Write>(talk: &Talk, mut text: String, output: &mut W) -> Result<(), ConverseFault>
+    ensures { OnOk result (Appends (W.contents output.old) (W.contents output.new)
+        (string_bytes text ++ end_line talk.now.sitting.now.stopped talk.now.sitting.now.cycle)) }
+{
+    push_end(talk, &mut text)?;
+    write_text(output, &text)
+}
+
+/// Keeps a talk whose answer could be written.
+fn keep_if(told: Result<(), ConverseFault>, talk: Talk) -> Result<Talk, ConverseFault>
+    ensures { MatchResult told (λ _. result ≡ Ok talk) (λ fault. result ≡ Err fault) }
+{
+    told.map(|()| talk)
 }

@@ -9,9 +9,10 @@ ghost use Rattle.agc_trace.specs.Entry.{FitsLine, entry_of};
 ghost use Rattle.agc_trace.specs.NamedLine.{line_with};
 ghost use Rattle.agc_trace.specs.Trace.{trace_within};
 ghost use Rattle.agc_request.specs.Command.{IsTargetInRange};
-ghost use Rattle.agc_dialogue.specs.Answered.{Grows, Tells, refusal_text, told_until};
+ghost use Rattle.agc_dialogue.specs.Answered.{Grows, Tells, refusal_text, told_until, told_way};
 ghost use Rattle.agc_dialogue.specs.Talk.{GoesOn, after_boundaries, after_due, after_way, gone_on, takes_event};
 ghost use Rattle.agc_dialogue.specs.Way.{IsSoughtInRange, sought_in, way_to, writes_text};
+ghost use Rattle.agc_dialogue.specs.declared.sought.Sought.TheVariants.{Nothing};
 ghost use Rattle.agc_script.specs.Event.{IsWhatInRange, most_events};
 
 use crate::answer::{push_came_line, push_write_line};
@@ -27,9 +28,44 @@ use agc_sitting::GiveFault;
 use agc_trace::{Entry, push_line_with, registers_in};
 use std::io::Write;
 
+/// Goes on for so many cycles, or to the stop, and tells each channel write.
+pub(crate) fn go<W: Write>(
+    talk: &mut Talk,
+    cycles: u64,
+    text: &mut String,
+    output: &mut W,
+) -> Result<(), ConverseFault>
+    ensures told { OnOk result (Tells (told_way (way_to Nothing
+        (min (talk.old.sitting.now.cycle + cycles) (2 ^ 64 - 1)) talk.old.sitting.now) talk.old) talk.new
+        (append_known (W.contents output.old) (string_bytes text.old))
+        (append_known (W.contents output.new) (string_bytes text.new))) }
+    ensures on { GoesOn talk.old.sitting talk.new.sitting }
+    ensures grows { (IsErrOf result ConverseFault.Write → ⊥) → Grows (W.contents output.old) (W.contents output.new) }
+{
+    let cycle = talk.cycle().saturating_add(cycles);
+    go_on_to(talk, cycle, text, output)
+}
+
+/// Goes on to a cycle, or to the stop, and tells each channel write.
+pub(crate) fn go_on_to<W: Write>(
+    talk: &mut Talk,
+    cycle: u64,
+    text: &mut String,
+    output: &mut W,
+) -> Result<(), ConverseFault>
+    ensures told { OnOk result (Tells (told_way (way_to Nothing cycle talk.old.sitting.now) talk.old) talk.new
+        (append_known (W.contents output.old) (string_bytes text.old))
+        (append_known (W.contents output.new) (string_bytes text.new))) }
+    ensures on { GoesOn talk.old.sitting talk.new.sitting }
+    ensures grows { (IsErrOf result ConverseFault.Write → ⊥) → Grows (W.contents output.old) (W.contents output.new) }
+{
+    go_to(talk, &Sought::Nothing, cycle, text, output)?;
+    Ok(())
+}
+
 /// Goes on to a cycle, or to the stop, or until something comes, and tells each channel write. Returns whether it
 /// has come.
-pub(crate) fn go_to<W: Write>(
+fn go_to<W: Write>(
     talk: &mut Talk,
     sought: &Sought,
     cycle: u64,

@@ -28,7 +28,7 @@ use agc_store::place::ERASABLE_BANK_SIZE;
 use agc_word::Narrow;
 
 /// What a machine goes on to, before it comes to a cycle.
-#[derive(Clone, Copy, Debug, PartialEq, Eq)]
+#[derive(Clone, Copy)]
 pub(crate) enum Sought {
     /// Nothing: it goes on to the cycle.
     Nothing,

@@ -1,25 +1,18 @@
 use Rattle.std.specs.Prelude.{string_bytes}
 use Rattle.std.proofs.Common.{refl}
-use Rattle.std.proofs.lemmas.Result.{IfOk-from_err}
 use Rattle.agc_dialogue.proofs.Answering.{done_shown, tells_same, tells_waiting}
 use Rattle.agc_dialogue.proofs.Going.{stays_put}
-use Rattle.agc_dialogue.proofs.Telling.{stays_known}
+use Rattle.agc_dialogue.proofs.Telling.{stays_known, when_ok}
 use Rattle.agc_dialogue.proofs.conversation.carry_out.Goals as goal
 
-pub returns-in_err-push_shown-in_default : goal.returns-in_err-push_shown-in_default
-returns-in_err-push_shown-in_default g c =
+pub returns-in_default : goal.returns-in_default
+returns-in_default g c =
     record {
-      told = IfOk-from_err c.from_residual-in_err-push_shown-in_default.result _ c.from_residual-in_err-push_shown-in_default.ensures.0;
-      on = stays_put c.args.talk.now.sitting;
-      grows = λ never. stays_known (g.W.Write.contents c.args.output.now);
-    }
-
-pub returns-in_ok-push_shown-in_default : goal.returns-in_ok-push_shown-in_default
-returns-in_ok-push_shown-in_default g c =
-    record {
-      told = tells_same _ _ _ _ _
+      told =
+          when_ok c.show.result c.show.ensures
+          (λ said. tells_same _ _ _ _ _
           (done_shown c.args.names.now c.args.command c.args.talk.now c.requires.now c.in_default.not-Go c.in_default.not-GoTo c.in_default.not-Step c.in_default.not-Until)
-          (tells_waiting _ _ (g.W.Write.contents c.args.output.now) (string_bytes c.args.text.now) (string_bytes c.push_shown.new.text) refl c.in_ok-push_shown-in_default.ensures);
+          (tells_waiting _ _ (g.W.Write.contents c.args.output.now) (string_bytes c.args.text.now) (string_bytes c.show.new.text) refl said));
       on = stays_put c.args.talk.now.sitting;
       grows = λ never. stays_known (g.W.Write.contents c.args.output.now);
     }
