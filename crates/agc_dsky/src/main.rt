@@ -18,6 +18,7 @@ use agc_setup::Refusal;
 use saving::Run;
 use screen::{DrawFault, Screen};
 use session::{Ended, Session, Wish, read_typed, rest};
+use std::alloc::{AllocError, Global};
 use std::io::{IsTerminal, Read, Write};
 use std::process::ExitCode;
 use std::rt::{Env, Files};
@@ -67,15 +68,31 @@ where
     R: Files + Clock + AllocGlobal,
 {
     match asked {
-        Ok(asked) => match begin(rt, &asked, place, out) {
-            Ok(session) => {
-                let (session, ended) = sit(rt, session, &asked, keys, out);
-                finish(rt, session, &asked, ended, out, err)
-            }
-            Err(trouble) => status_of(status_for(trouble), trouble.write_to(err)),
-        },
+        Ok(asked) => run_asked(rt, &asked, place, keys, out, err),
         Err(fault) => end_mistaken("agc-dsky", fault, REFUSED, out, err),
     }
+}
+
+/// A session over rope and script, where one can begin.
+fn run_asked<R, K: Read, W: Write, E: Write>(
+    rt: &R,
+    asked: &Dsky,
+    place: Result<Ink, Trouble>,
+    keys: &mut K,
+    out: &mut W,
+    err: &mut E,
+) -> u8
+where
+    R: Files + Clock + AllocGlobal,
+{
+    let session = match begin(rt, asked, place, out) {
+        Ok(session) => session,
+        Err(trouble) => return status_of(status_for(trouble), trouble.write_to(err)),
+    };
+    let (session, ended) = sit(rt, session, asked, keys, out);
+    let status = finish(rt, &session.seat, asked, ended, out, err);
+    drop(session);
+    status
 }
 
 /// The status where no session begins.
@@ -100,14 +117,27 @@ where
 {
     let ink = place?;
     let seat = seat_for(rt, asked)?;
+    match prepare(rt, asked) {
+        Ok(watch) => {
+            let screen = Screen::new(rt.alloc(), ink);
+            // Where the terminal takes nothing, the first drawing says so.
+            let _begun = screen::begin(out);
+            Ok(Session::new(rt, seat, screen, asked.speed, watch))
+        }
+        Err(trouble) => {
+            drop(seat);
+            Err(trouble)
+        }
+    }
+}
+
+/// The tables that can be shown, once the name of the file to save to is taken.
+fn prepare<R: Files>(rt: &R, asked: &Dsky) -> Result<Option<WatchSpec>, Trouble> {
     let watch = watch_for(asked)?;
     if let Some(path) = &asked.save {
         saving::reserve(rt, path.as_str(), asked.force)?;
     }
-    let screen = Screen::new(rt.alloc(), ink);
-    // Where the terminal takes nothing, the first drawing says so.
-    let _begun = screen::begin(out);
-    Ok(Session::new(rt, seat, screen, asked.speed, watch))
+    Ok(watch)
 }
 
 /// A seat before the machine at its start.
@@ -191,10 +221,7 @@ fn save_now<R: Files + AllocGlobal>(rt: &R, seat: &Seat, asked: &Dsky) -> &'stat
 
 /// Writes the script that repeats the session to a file.
 fn saved<R: Files + AllocGlobal>(rt: &R, seat: &Seat, path: &str) -> Result<(), Trouble> {
-    let Some(script) = seat.told(rt.alloc()) else {
-        return Err(Trouble::Refused(Refusal::Memory));
-    };
-    let Ok(text) = saving::text_of(rt.alloc(), &script) else {
+    let Ok(text) = script_of(rt.alloc(), seat) else {
         return Err(Trouble::Refused(Refusal::Memory));
     };
     match saving::save(rt, path, text.as_str()) {
@@ -203,11 +230,19 @@ fn saved<R: Files + AllocGlobal>(rt: &R, seat: &Seat, path: &str) -> Result<(), 
     }
 }
 
+/// The text of the script that repeats the session.
+fn script_of(alloc: Global, seat: &Seat) -> Result<String, AllocError> {
+    match seat.told(alloc) {
+        Some(script) => saving::text_of(alloc, &script),
+        None => Err(AllocError),
+    }
+}
+
 /// Puts the screen back, hands the script on, and tells how to repeat the session. Where the script cannot be saved it
 /// is printed, so that nothing is lost.
 fn finish<R, W: Write, E: Write>(
     rt: &R,
-    session: Session,
+    seat: &Seat,
     asked: &Dsky,
     ended: Ended,
     out: &mut W,
@@ -218,25 +253,45 @@ where
 {
     // A terminal that is gone cannot be put back.
     let _put_back = screen::end(out);
-    let seat = &session.seat;
-    let handed_on = match &asked.save {
-        Some(path) => saved(rt, seat, path.as_str()),
-        None => Ok(()),
-    };
-    let told = match (&asked.save, handed_on) {
-        (Some(path), Ok(())) => tell(asked, path.as_str(), seat, out),
-        _ => tell_unsaved(rt, asked, seat, out),
-    };
-    let status = match (told, ended) {
-        (Err(_), _) | (Ok(()), Ended::Gone) => UNWRITTEN,
-        (Ok(()), Ended::Memory) => {
-            status_of(REFUSED, Trouble::Refused(Refusal::Memory).write_to(err))
-        }
-        (Ok(()), Ended::Quit) => DONE,
+    let handed_on = hand_on(rt, seat, asked);
+    let status = match tell_end(rt, seat, asked, handed_on.is_ok(), out) {
+        Ok(()) => status_at_end(ended, err),
+        Err(_) => UNWRITTEN,
     };
     match handed_on {
         Ok(()) => status,
         Err(trouble) => status_of(UNWRITTEN, trouble.write_to(err)),
+    }
+}
+
+/// Saves the script, where a file is named for it.
+fn hand_on<R: Files + AllocGlobal>(rt: &R, seat: &Seat, asked: &Dsky) -> Result<(), Trouble> {
+    match &asked.save {
+        Some(path) => saved(rt, seat, path.as_str()),
+        None => Ok(()),
+    }
+}
+
+/// Tells how the session is repeated: with the file of the script where it was saved, or else with what is printed.
+fn tell_end<R: AllocGlobal, W: Write>(
+    rt: &R,
+    seat: &Seat,
+    asked: &Dsky,
+    is_handed_on: bool,
+    out: &mut W,
+) -> io::Result<()> {
+    match &asked.save {
+        Some(path) if is_handed_on => tell(asked, path.as_str(), seat, out),
+        _ => tell_unsaved(rt, asked, seat, out),
+    }
+}
+
+/// The status of a session whose end is told.
+fn status_at_end<E: Write>(ended: Ended, err: &mut E) -> u8 {
+    match ended {
+        Ended::Quit => DONE,
+        Ended::Gone => UNWRITTEN,
+        Ended::Memory => status_of(REFUSED, Trouble::Refused(Refusal::Memory).write_to(err)),
     }
 }
 
@@ -258,14 +313,17 @@ fn tell_unsaved<R: AllocGlobal, W: Write>(
     seat: &Seat,
     out: &mut W,
 ) -> io::Result<()> {
-    let Some(script) = seat.told(rt.alloc()) else {
-        return Err(io::Error::from(io::ErrorKind::OutOfMemory));
-    };
-    let text = saving::text_of(rt.alloc(), &script)?;
+    let text = script_of(rt.alloc(), seat)?;
+    let script = print_script(out, text.as_str())?;
+    tell(asked, script, seat, out)
+}
+
+/// Prints a script where there is anything in it, and returns the name of a file with it.
+fn print_script<W: Write>(out: &mut W, text: &str) -> io::Result<&'static str> {
     if text.is_empty() {
-        return tell(asked, "/dev/null", seat, out);
+        return Ok("/dev/null");
     }
     out.write_all(text.as_bytes())?;
     out.write_all(b"agc-dsky: with the lines above in a file SCRIPT,\n")?;
-    tell(asked, "SCRIPT", seat, out)
+    Ok("SCRIPT")
 }
