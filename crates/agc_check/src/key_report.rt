@@ -4,7 +4,7 @@ ghost use Rattle.std.specs.List.{list_any};
 ghost use Rattle.agc_setup.specs.Keys.{all_there};
 ghost use Rattle.agc_check.specs.KeyReport.{IsKeyReport, are_keys, key_holdings_text};
 
-use crate::remarks::{is_pro, push_no_key, push_quoted};
+use crate::remarks::push_no_key;
 use crate::reports::Report;
 use crate::shown::SHOWN_BYTES;
 use agc_script::Key;
@@ -74,11 +74,10 @@ fn push_bad_key(alloc: Global, text: &mut String, word: &[u8]) -> Result<(), All
     } else {
         word
     };
-    if is_pro(alloc, word)? {
-        push_quoted(text, word)?;
-        return text.push_str(
-            " belongs into the script: the lines `pro down` and `pro up` press it and let it go\n",
-        );
-    }
-    push_no_key(alloc, text, word)
+    push_no_key(
+        alloc,
+        text,
+        word,
+        " belongs into the script: the lines `pro down` and `pro up` press it and let it go\n",
+    )
 }

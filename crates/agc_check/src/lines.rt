@@ -3,7 +3,7 @@ ghost use Rattle.std.specs.Prelude.{◌≡◌, ◌-◌, ◌≤◌, length, slice
 ghost use Rattle.std.specs.List.{slice_split};
 ghost use Rattle.agc_script.specs.Text.{is_line_feed, lines_of};
 
-use agc_script::{EVERY, read_cycle, without_return};
+use agc_script::{EVERY, next_word, read_cycle, without_return};
 
 /// The line of a number, counted from 1, without its end.
 pub(crate) fn line_at(file: &[u8], number: usize) -> &[u8]
@@ -18,7 +18,7 @@ pub(crate) fn line_at(file: &[u8], number: usize) -> &[u8]
 }
 
 /// What stands between two line feeds.
-fn part_at(file: &[u8], place: usize) -> Option<&[u8]>
+pub(crate) fn part_at(file: &[u8], place: usize) -> Option<&[u8]>
     ensures { option_map (λ part. part.now) result ≡ slice_get (slice_split is_line_feed file.now) place }
 {
     file.split(|b| *b == b'\n').nth(place)
@@ -37,12 +37,11 @@ pub(crate) fn last_start(file: &[u8], lines: usize) -> u64 {
 
 /// The cycle at which an event line starts.
 fn start_of(line: &[u8]) -> Option<u64> {
-    let mut words = line
-        .split(|b| *b == b' ' || *b == b'\t')
-        .filter(|word| !word.is_empty());
-    let first = words.next()?;
+    let (first, rest) = next_word(line)?;
     if first == EVERY.as_bytes() {
-        read_cycle(words.nth(1)?)
+        let (_, rest) = next_word(rest)?;
+        let (from, _) = next_word(rest)?;
+        read_cycle(from)
     } else {
         read_cycle(first)
     }

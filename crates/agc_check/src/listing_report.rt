@@ -3,7 +3,8 @@ ghost use Rattle.std.specs.Prelude.{◌≡◌, ◌++◌, IfOk, OnOk, is_ok, stri
 ghost use Rattle.agc_source.specs.Source.{source_in};
 ghost use Rattle.agc_check.specs.ListingReport.{IsListingReport, listing_fault_text};
 
-use crate::remarks::{push_quoted, words_of};
+use crate::lines::part_at;
+use crate::remarks::{push_quoted, push_quoted_then, words_of};
 use crate::reports::Report;
 use crate::shown::push_line;
 use crate::source_remark::push_source_why;
@@ -65,23 +66,38 @@ fn remark(
     number: usize,
     fault: SourceFault,
 ) -> Result<String, AllocError> {
+    let line = line_at(file, number);
     let mut text = String::new(alloc);
-    let mut lines = file.split(|b| *b == b'\n');
-    let line = match lines.nth(number.saturating_sub(1)) {
-        Some(line) => without_return(line),
-        None => file,
-    };
     text.push_str("    ")?;
     push_line(&mut text, line)?;
     text.push_str("\n    ")?;
+    push_line_why(alloc, &mut text, file, line, fault)?;
+    Ok(text)
+}
+
+/// The line of a number, counted from 1, without its end.
+fn line_at(file: &[u8], number: usize) -> &[u8] {
+    match part_at(file, number.saturating_sub(1)) {
+        Some(line) => without_return(line),
+        None => file,
+    }
+}
+
+/// Adds the word that is wrong in a line, and what is wanted.
+fn push_line_why(
+    alloc: Global,
+    text: &mut String,
+    file: &[u8],
+    line: &[u8],
+    fault: SourceFault,
+) -> Result<(), AllocError> {
     match fault {
         SourceFault::Listed(fault) if fault != LineFault::NamedTwice || is_listed(line) => {
             let words = words_of(alloc, line)?;
-            push_why(&mut text, fault, words.as_slice())?;
+            push_why(text, fault, words.as_slice())
         }
-        fault => push_source_why(alloc, &mut text, file, line, fault)?,
+        fault => push_source_why(alloc, text, file, line, fault),
     }
-    Ok(text)
 }
 
 fn push_why(text: &mut String, fault: LineFault, words: &[&[u8]]) -> Result<(), AllocError> {
@@ -122,8 +138,7 @@ fn push_bad_address(text: &mut String, words: &[&[u8]]) -> Result<(), AllocError
 
 fn push_bad_word(text: &mut String, words: &[&[u8]]) -> Result<(), AllocError> {
     if words.len() > 1 {
-        push_quoted(text, words[1])?;
-        text.push_str(" is no word: five octal digits\n")
+        push_quoted_then(text, words[1], " is no word: five octal digits\n")
     } else {
         text.push_str("the word is missing: five octal digits after the place\n")
     }

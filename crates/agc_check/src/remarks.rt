@@ -20,30 +20,47 @@ pub(crate) fn remark(
 ) -> Result<String, AllocError>
     requires { 1 ≤ fault.line }
 {
+    let words = words_at_fault(alloc, fault.kind, line)?;
     let mut text = String::new(alloc);
     text.push_str("    ")?;
-    let words = match fault.kind {
-        // Such a line may have any length: it is not cut into words.
-        FaultKind::LineTooLong => Vec::new(alloc),
-        _ => words_of(alloc, line)?,
-    };
-    let words = words.as_slice();
-    match fault.kind {
-        FaultKind::LineTooLong => push_too_long(&mut text, line.len())?,
-        FaultKind::NotAscii => push_not_ascii(&mut text, words)?,
-        FaultKind::BadCycle => push_bad_cycle(&mut text, words)?,
-        FaultKind::OutOfOrder => push_out_of_order(
-            &mut text,
-            words,
-            last_start(file, fault.line - 1),
-        )?,
-        FaultKind::UnknownWord => push_unknown(alloc, &mut text, words)?,
-        FaultKind::BadNumber => push_bad_number(&mut text, words)?,
-        FaultKind::OutOfRange => push_out_of_range(&mut text, words)?,
-        FaultKind::TooMany => push_too_many(&mut text)?,
-        FaultKind::Memory => text.push_str("memory ran out at this line\n")?,
-    }
+    push_why(alloc, &mut text, file, fault, line, words.as_slice())?;
     Ok(text)
+}
+
+/// The words of a line with a fault. A line that is too long may have any length: it is not cut into words.
+fn words_at_fault<'a>(
+    alloc: Global,
+    kind: FaultKind,
+    line: &'a [u8],
+) -> Result<Vec<&'a [u8]>, AllocError> {
+    match kind {
+        FaultKind::LineTooLong => Ok(Vec::new(alloc)),
+        _ => words_of(alloc, line),
+    }
+}
+
+/// Adds what is wrong with a line, or with one of its words.
+fn push_why(
+    alloc: Global,
+    text: &mut String,
+    file: &[u8],
+    fault: ScriptFault,
+    line: &[u8],
+    words: &[&[u8]],
+) -> Result<(), AllocError>
+    requires { 1 ≤ fault.line }
+{
+    match fault.kind {
+        FaultKind::LineTooLong => push_too_long(text, line.len()),
+        FaultKind::NotAscii => push_not_ascii(text, words),
+        FaultKind::BadCycle => push_bad_cycle(text, words),
+        FaultKind::OutOfOrder => push_out_of_order(text, words, last_start(file, fault.line - 1)),
+        FaultKind::UnknownWord => push_unknown(alloc, text, words),
+        FaultKind::BadNumber => push_bad_number(text, words),
+        FaultKind::OutOfRange => push_out_of_range(text, words),
+        FaultKind::TooMany => push_too_many(text),
+        FaultKind::Memory => text.push_str("memory ran out at this line\n"),
+    }
 }
 
 pub(crate) fn words_of<'a>(alloc: Global, line: &'a [u8]) -> Result<Vec<&'a [u8]>, AllocError> {
@@ -58,8 +75,22 @@ pub(crate) fn push_quoted(text: &mut String, word: &[u8]) -> Result<(), AllocErr
     text.push_str("`")
 }
 
+/// Adds a word in quotes, and what follows it.
+pub(crate) fn push_quoted_then(
+    text: &mut String,
+    word: &[u8],
+    what: &str,
+) -> Result<(), AllocError> {
+    push_quoted(text, word)?;
+    text.push_str(what)
+}
+
 /// Adds a sentence that begins with the word at fault, or with `otherwise` where none was found.
-fn push_subject(text: &mut String, word: Option<&[u8]>, otherwise: &str) -> Result<(), AllocError> {
+pub(crate) fn push_subject(
+    text: &mut String,
+    word: Option<&[u8]>,
+    otherwise: &str,
+) -> Result<(), AllocError> {
     match word {
         Some(word) => push_quoted(text, word),
         None => text.push_str(otherwise),
@@ -146,30 +177,35 @@ fn push_unknown(alloc: Global, text: &mut String, words: &[&[u8]]) -> Result<(),
     if place >= words.len() {
         return push_missing(text, words);
     }
-    if words[place] == EVERY.as_bytes() {
-        return text.push_str(
-            "`every` stands first, in place of the cycle: `every N FROM TO` and the command\n",
-        );
-    }
-    let Some(command) = Command::from_name(words[place]) else {
-        let names: Vec<&'static [u8]> = Command::ALL
-            .iter()
-            .map(|command| command.name().as_bytes())
-            .collect(alloc)?;
-        return push_nearest(alloc, text, words[place], "command", names.as_slice());
-    };
     let given = words.len() - place - 1;
-    if given != command.argument_count() {
-        let usage = command.usage();
-        return match given {
-            1 => writeln!(text, "`{usage}` is right: here is 1 word after the command"),
-            _ => writeln!(
-                text,
-                "`{usage}` is right: here are {given} words after the command"
-            ),
-        };
+    match Command::from_name(words[place]) {
+        None => push_no_command(alloc, text, words[place]),
+        Some(command) if given == command.argument_count() => {
+            push_unknown_name(alloc, text, command, words[words.len() - 1])
+        }
+        Some(command) => push_wrong_count(text, command, given),
     }
-    push_unknown_name(alloc, text, command, words[words.len() - 1])
+}
+
+/// Tells that a word is no command, and the nearest one.
+fn push_no_command(alloc: Global, text: &mut String, word: &[u8]) -> Result<(), AllocError> {
+    if word == EVERY.as_bytes() {
+        text.push_str(
+            "`every` stands first, in place of the cycle: `every N FROM TO` and the command\n",
+        )
+    } else {
+        let names = Command::ALL.map(|command| command.name().as_bytes());
+        push_nearest(alloc, text, word, "command", &names)
+    }
+}
+
+/// Tells how a command is written, where too many words or too few stand after it.
+fn push_wrong_count(text: &mut String, command: Command, given: usize) -> Result<(), AllocError> {
+    push_quoted_then(text, command.usage().as_bytes(), " is right: here ")?;
+    match given {
+        1 => text.push_str("is 1 word after the command\n"),
+        _ => writeln!(text, "are {given} words after the command"),
+    }
 }
 
 /// Tells that the command is missing, and with `every` perhaps some of its cycles.
@@ -201,49 +237,58 @@ fn push_unknown_name(
     word: &[u8],
 ) -> Result<(), AllocError> {
     match command {
-        Command::Key => {
-            if is_pro(alloc, word)? {
-                push_quoted(text, word)?;
-                return text.push_str(
-                    " has no code: the lines `pro down` and `pro up` press it and let it go\n",
-                );
-            }
-            push_no_key(alloc, text, word)
-        }
-        Command::Pro => {
-            let names: Vec<&'static [u8]> = DIRECTIONS
-                .iter()
-                .map(|down| direction_name(*down).as_bytes())
-                .collect(alloc)?;
-            push_nearest(alloc, text, word, "direction of PRO", names.as_slice())
-        }
-        Command::Pulse => {
-            let names: Vec<&'static [u8]> = PULSES
-                .iter()
-                .map(|kind| kind.name().as_bytes())
-                .collect(alloc)?;
-            push_nearest(alloc, text, word, "kind of pulse", names.as_slice())
-        }
-        Command::Input | Command::Raise | Command::Poke => {
-            let usage = command.usage();
-            writeln!(text, "`{usage}` is right, and the line has another word")
-        }
+        Command::Key => push_no_key(
+            alloc,
+            text,
+            word,
+            " has no code: the lines `pro down` and `pro up` press it and let it go\n",
+        ),
+        Command::Pro => push_nearest(
+            alloc,
+            text,
+            word,
+            "direction of PRO",
+            &DIRECTIONS.map(|down| direction_name(down).as_bytes()),
+        ),
+        Command::Pulse => push_nearest(
+            alloc,
+            text,
+            word,
+            "kind of pulse",
+            &PULSES.map(|kind| kind.name().as_bytes()),
+        ),
+        Command::Input | Command::Raise | Command::Poke => push_quoted_then(
+            text,
+            command.usage().as_bytes(),
+            " is right, and the line has another word\n",
+        ),
     }
 }
 
-/// Tells that a word is no key's name, and the nearest one.
-pub(crate) fn push_no_key(alloc: Global, text: &mut String, word: &[u8]) -> Result<(), AllocError> {
-    let names: Vec<&'static [u8]> = Key::ALL
-        .iter()
-        .map(|key| key.name().as_bytes())
-        .collect(alloc)?;
-    push_nearest(alloc, text, word, "key", names.as_slice())
+/// Tells that a word is no key's name, and the nearest one; of the PRO key, which stands beside those with
+/// a code, what `pro_is` says.
+pub(crate) fn push_no_key(
+    alloc: Global,
+    text: &mut String,
+    word: &[u8],
+    pro_is: &str,
+) -> Result<(), AllocError> {
+    if is_pro(word) {
+        push_quoted_then(text, word, pro_is)
+    } else {
+        push_nearest(
+            alloc,
+            text,
+            word,
+            "key",
+            &Key::ALL.map(|key| key.name().as_bytes()),
+        )
+    }
 }
 
-/// Whether a word means the PRO key, which stands beside those with a code.
-pub(crate) fn is_pro(alloc: Global, word: &[u8]) -> Result<bool, AllocError> {
-    let word = word.to_ascii_lowercase(alloc)?;
-    Ok(word.as_slice() == b"pro".as_slice() || word.as_slice() == b"proceed".as_slice())
+/// Whether a word means the PRO key.
+fn is_pro(word: &[u8]) -> bool {
+    word.eq_ignore_ascii_case(b"pro") || word.eq_ignore_ascii_case(b"proceed")
 }
 
 /// Tells that a word is no name of a kind, and the name that was perhaps meant.
@@ -254,14 +299,14 @@ pub(crate) fn push_nearest(
     what: &str,
     names: &[&[u8]],
 ) -> Result<(), AllocError> {
-    push_quoted(text, word)?;
+    push_quoted_then(text, word, " is no ")?;
+    text.push_str(what)?;
     if names.is_empty() {
-        return writeln!(text, " is no {what}");
+        text.push_str("\n")
+    } else {
+        text.push_str("; the nearest is ")?;
+        push_quoted_then(text, nearest(alloc, word, names)?, "\n")
     }
-    let name = nearest(alloc, word, names)?;
-    write!(text, " is no {what}; the nearest is ")?;
-    push_quoted(text, name)?;
-    text.push_str("\n")
 }
 
 fn push_bad_number(text: &mut String, words: &[&[u8]]) -> Result<(), AllocError> {
@@ -310,20 +355,18 @@ fn range_at(words: &[&[u8]], place: usize) -> Option<NumberRange> {
 }
 
 fn push_out_of_range(text: &mut String, words: &[&[u8]]) -> Result<(), AllocError> {
-    if is_every(words) && words.len() > 3 && read_cycle(words[1]) == Some(0) {
-        push_quoted(text, words[1])?;
-        return text.push_str(" is no distance of cycles: 1 at least\n");
-    }
-    if is_every(words) && words.len() > 3 && read_cycle(words[3]) < read_cycle(words[2]) {
-        push_quoted(text, words[3])?;
-        text.push_str(" is too early: ")?;
-        push_quoted(text, words[2])?;
-        return text.push_str(" or later\n");
+    if is_every(words) && words.len() > 3 {
+        if read_cycle(words[1]) == Some(0) {
+            return push_quoted_then(text, words[1], " is no distance of cycles: 1 at least\n");
+        }
+        if read_cycle(words[3]) < read_cycle(words[2]) {
+            push_quoted_then(text, words[3], " is too early: ")?;
+            return push_quoted_then(text, words[2], " or later\n");
+        }
     }
     match word_out_of_range(words) {
         Some((word, range)) => {
-            push_quoted(text, word)?;
-            text.push_str(" is out of range: ")?;
+            push_quoted_then(text, word, " is out of range: ")?;
             push_range(text, range)
         }
         None => text.push_str("a number of the line is out of range\n"),

@@ -1,5 +1,5 @@
 //! The word at fault in a line of a source, for a person: the name in its first column, its order, or its operand.
-use crate::remarks::{push_nearest, push_quoted, words_of};
+use crate::remarks::{push_nearest, push_quoted, push_quoted_then, push_subject};
 use crate::shown::push_bytes;
 use agc_order::{Basic, Extracode};
 use agc_script::without_return;
@@ -37,19 +37,15 @@ pub(crate) fn push_source_why(
         | SourceFault::AnotherBank
         | SourceFault::OtherOrder
         | SourceFault::BadPlace
-        | SourceFault::BadNumber => push_operand(alloc, text, order, operand),
+        | SourceFault::BadNumber => push_operand(text, order, operand),
     }
 }
 
 /// Adds what stands in the first column, before the order or directive.
 fn push_label(text: &mut String, label: Option<&[u8]>, order: &[u8]) -> Result<(), AllocError> {
-    match label {
-        Some(label) => push_quoted(text, label)?,
-        None => text.push_str("no name")?,
-    }
+    push_subject(text, label, "no name")?;
     text.push_str(" stands before ")?;
-    push_quoted(text, order)?;
-    text.push_str("\n")
+    push_quoted_then(text, order, "\n")
 }
 
 /// Adds whose a name is already: the computer's own, or an earlier line's.
@@ -103,13 +99,9 @@ fn push_no_name(
 
 /// The names of a source's lines, in their order.
 fn names_of(alloc: Global, file: &[u8]) -> Result<Vec<&[u8]>, AllocError> {
-    let mut names = Vec::new(alloc);
-    for line in file.split(|b| *b == b'\n') {
-        if let Some(name) = name_of(line) {
-            names.push(name)?;
-        }
-    }
-    Ok(names)
+    file.split(|b| *b == b'\n')
+        .filter_map(|line| name_of(line))
+        .collect(alloc)
 }
 
 /// The name in the first column of a source's line.
@@ -129,39 +121,23 @@ fn push_order(text: &mut String, order: &[u8], what: &str) -> Result<(), AllocEr
 }
 
 /// Adds the words that stand after an order or directive.
-fn push_operand(
-    alloc: Global,
-    text: &mut String,
-    order: &[u8],
-    operand: &[u8],
-) -> Result<(), AllocError> {
-    let words = words_of(alloc, operand)?;
-    let said: Vec<&[u8]> = words
-        .iter()
-        .copied()
-        .take_while(|word| !is_comment(word))
-        .collect(alloc)?;
-    push_words(text, said.as_slice())?;
+fn push_operand(text: &mut String, order: &[u8], operand: &[u8]) -> Result<(), AllocError> {
+    push_words(text, operand)?;
     text.push_str(" stands after ")?;
-    push_quoted(text, order)?;
-    text.push_str("\n")
+    push_quoted_then(text, order, "\n")
 }
 
-fn is_comment(word: &[u8]) -> bool {
-    matches!(word, [b'#', ..])
-}
-
-/// Adds the words of an operand, a space between two.
-fn push_words(text: &mut String, words: &[&[u8]]) -> Result<(), AllocError> {
-    if words.is_empty() {
+/// Adds the words of an operand before its comment, a space between two.
+fn push_words(text: &mut String, operand: &[u8]) -> Result<(), AllocError> {
+    let Some((first, mut rest)) = next_said(operand) else {
         return text.push_str("no operand");
-    }
+    };
     text.push_str("`")?;
-    for (place, word) in words.iter().enumerate() {
-        if place > 0 {
-            text.push_str(" ")?;
-        }
+    push_bytes(text, first)?;
+    while let Some((word, after)) = next_said(rest) {
+        text.push_str(" ")?;
         push_bytes(text, word)?;
+        rest = after;
     }
     text.push_str("`")
 }

@@ -1,5 +1,5 @@
 -- From two files to the machine at its start: each place at which it is refused tells what may be told.
-use Rattle.std.proofs.Common.{◌≡◌, ℕ, List, ◌++◌, ap, ◌∙◌}
+use Rattle.std.proofs.Common.{◌≡◌, ◌⊎◌, inl, inr, ℕ, List, ◌++◌, ap, ◌∙◌}
 use Rattle.std.specs.Prelude.{Option, None, Some, IfSome, IfOk, IfErr, Result, Ok, Err}
 use Rattle.std.specs.declared.alloc.Global.{Global}
 use Rattle.std.specs.declared.string.String.{String}
@@ -18,8 +18,11 @@ use Rattle.agc_setup.specs.Options.{said_by}
 use Rattle.agc_setup.specs.Steps.{IsTold, refusal_in}
 use Rattle.agc_setup.specs.declared.refusal.Refusal.{Refusal}
 use Rattle.agc_setup.specs.declared.refusal.Refusal.TheVariants as refusal
-use Rattle.agc_results.specs.Started.{IsAccepted, IsRefused, IsStarted, starting_steps, watched_steps}
+use Rattle.agc_results.specs.Started.{IsAccepted, IsPairRefused, IsRefused, IsStarted, starting_steps, watched_steps}
+use Rattle.agc_results.specs.Trouble.{other_trouble}
 use Rattle.agc_results.specs.declared.runs.Start.{Start}
+use Rattle.agc_results.specs.declared.trouble.Trouble.{Trouble}
+use Rattle.agc_results.specs.declared.trouble.Trouble.TheVariants as told
 
 module _ (form : RopeForm) (until watch : Option (String Global)) (limit : ℕ) where
   pub rope_refused : (rope script : Option (List ℕ)) (r : Refusal) → IfSome rope (λ file. IsTold (rope_steps form file) r)
@@ -38,6 +41,13 @@ module _ (form : RopeForm) (until watch : Option (String Global)) (limit : ℕ) 
   started_accepted None script machine h = tt
   started_accepted (Some rope) None machine h = tt
   started_accepted (Some rope) (Some script) machine h = h.accepted
+
+  -- where nothing is refused of the run on the left, want of memory may be told, or a refusal of the one on the right
+  pub pair_refused : (left_rope left_script right_rope right_script : Option (List ℕ)) → IsAccepted form until watch limit left_rope left_script
+      → (t : Trouble) → (t ≡ told.Refused refusal.Memory) ⊎ ((r : Refusal) × (t ≡ other_trouble r) × IsRefused form until watch limit right_rope right_script r)
+      → IsPairRefused form until watch limit left_rope left_script right_rope right_script t
+  pair_refused left_rope left_script right_rope right_script accepted t (inl is) = inl (refusal.Memory, is, memory_refused left_rope left_script)
+  pair_refused left_rope left_script right_rope right_script accepted t (inr other) = inr (accepted, other.0, other.1, other.2)
 
   pub script_refused : (rope script : Option (List ℕ)) (r : Refusal) → IfSome rope (λ file. refusal_in (rope_steps form file) ≡ None)
       → IfSome script (λ file. IsTold (script_steps file) r) → IsRefused form until watch limit rope script r

@@ -1,9 +1,14 @@
 //! Two ropes and two scripts to what is told of their runs.
-ghost use Rattle.std.specs.Prelude.{◌≡◌, IfErr, IfOk, None, string_bytes};
+ghost use Rattle.std.specs.Prelude.{◌≡◌, ◌⊎◌, IfErr, IfOk, None, string_bytes};
 ghost use Rattle.agc_compare.specs.SideNames.{both_names};
+ghost use Rattle.agc_machine.specs.State.{State};
 ghost use Rattle.agc_shown.specs.Compared.{FitsLines};
 ghost use Rattle.agc_results.specs.Compared.{IsCompared, IsShownToldOf, IsToldAs, IsToldOf, shown_text_of};
-ghost use Rattle.agc_results.specs.Started.{IsPairRefused};
+ghost use Rattle.agc_results.specs.Started.{IsPairRefused, IsRefused, IsStarted};
+ghost use Rattle.agc_results.specs.Trouble.{other_trouble};
+ghost use Rattle.agc_results.specs.declared.trouble.Trouble.TheVariants as told;
+ghost use Rattle.agc_setup.specs.declared.refusal.Refusal.{Refusal};
+ghost use Rattle.agc_setup.specs.declared.refusal.Refusal.TheVariants as refusal;
 
 use crate::runs::read_machine;
 use crate::trouble::Trouble;
@@ -44,17 +49,56 @@ pub fn compare_files<R: Read, S: Read, T: Read, U: Read, P: Progress>(
         (R.remaining left_rope.old) (S.remaining left_script.old)
         (T.remaining right_rope.old) (U.remaining right_script.old)) }
 {
-    let (form, limit) = (asked.form, asked.limit);
-    let mut left = read_machine(alloc, form, limit, &asked.until, left_rope, left_script)?;
-    let right = read_machine(alloc, form, limit, &asked.until, right_rope, right_script);
-    let mut right = match right {
-        Ok(machine) => machine,
-        Err(refusal) => return Err(Trouble::of_other_run(refusal)),
-    };
-    match compare_as(alloc, asked.shown, names, &mut left, &mut right, progress) {
-        Ok(told) => Ok(told),
-        Err(_) => Err(Trouble::Refused(Refusal::Memory)),
+    let mut left = read_run(alloc, asked, left_rope, left_script)?;
+    compare_with(
+        alloc,
+        asked,
+        names,
+        &mut left,
+        right_rope,
+        right_script,
+        progress,
+    )
+}
+
+/// Reads the rope and the script of the run on the right, and compares it with the one of a machine on the left.
+fn compare_with<R: Read, S: Read, P: Progress>(
+    alloc: Global,
+    asked: &Comparing,
+    names: SideNames<'_>,
+    left: &mut Machine,
+    rope: &mut R,
+    script: &mut S,
+    progress: &mut P,
+) -> Result<Told, Trouble>
+    ensures compared { IfOk result (λ told. (right : State)
+        × IsStarted asked.now.form asked.now.until None asked.now.limit
+        (R.remaining rope.old) (S.remaining script.old) right
+        × IsToldAs (both_names names.entry) asked.now.shown left.old right told) }
+    ensures refused { IfErr result (λ t. (t ≡ told.Refused refusal.Memory)
+        ⊎ ((r : Refusal) × (t ≡ other_trouble r)
+        × IsRefused asked.now.form asked.now.until None asked.now.limit
+        (R.remaining rope.old) (S.remaining script.old) r)) }
+{
+    match read_run(alloc, asked, rope, script) {
+        Ok(mut right) => compare_as(alloc, asked.shown, names, left, &mut right, progress),
+        Err(refusal) => Err(Trouble::of_other_run(refusal)),
     }
+}
+
+/// Reads the rope and the script of a run that is compared.
+fn read_run<R: Read, S: Read>(
+    alloc: Global,
+    asked: &Comparing,
+    rope: &mut R,
+    script: &mut S,
+) -> Result<Machine, Refusal>
+    ensures started { IfOk result (IsStarted asked.now.form asked.now.until None asked.now.limit
+        (R.remaining rope.old) (S.remaining script.old)) }
+    ensures refused { IfErr result (IsRefused asked.now.form asked.now.until None asked.now.limit
+        (R.remaining rope.old) (S.remaining script.old)) }
+{
+    read_machine(alloc, asked.form, asked.limit, &asked.until, rope, script)
 }
 
 /// Runs two machines, and tells what is asked for of them.
@@ -65,12 +109,17 @@ fn compare_as<P: Progress>(
     left: &mut Machine,
     right: &mut Machine,
     progress: &mut P,
-) -> Result<Told, AllocError>
-    ensures { IfOk result (IsToldAs (both_names names.entry) shown left.old right.old) }
+) -> Result<Told, Trouble>
+    ensures tells { IfOk result (IsToldAs (both_names names.entry) shown left.old right.old) }
+    ensures refused { IfErr result (λ t. t ≡ told.Refused refusal.Memory) }
 {
-    match shown {
+    let told = match shown {
         Some(asked) => compare_what_shows(alloc, asked, left, right, progress),
         None => compare_runs(alloc, names, left, right, progress),
+    };
+    match told {
+        Ok(told) => Ok(told),
+        Err(_) => Err(Trouble::Refused(Refusal::Memory)),
     }
 }
 

@@ -1,11 +1,17 @@
 //! Ropes and scripts to the page that shows their runs.
-ghost use Rattle.std.specs.Prelude.{IfErr, IfOk};
+ghost use Rattle.std.specs.Prelude.{◌≡◌, IfErr, IfOk, Option};
+ghost use Rattle.std.specs.declared.alloc.Global.{Global};
+ghost use Rattle.std.specs.declared.string.String.{String};
+ghost use Rattle.agc_film.specs.Reel.{IsReelOf};
 ghost use Rattle.agc_results.specs.Filmed.{IsFilm, IsFilmPair, IsFilmPairRefused, IsFilmRefused, IsFilmed};
+ghost use Rattle.agc_results.specs.Filmed.{ShowsTables};
+ghost use Rattle.agc_results.specs.Watched.{AreWatched};
+ghost use Rattle.agc_setup.specs.declared.refusal.Refusal.TheVariants as refusal;
 
-use crate::runs::read_start;
+use crate::runs::{Start, read_start};
 use crate::trouble::Trouble;
 use agc_asked::Filming;
-use agc_film::{Reel, RunFiles, film, film_watched, push_film, push_film_pair};
+use agc_film::{Part, Reel, RunFiles, film, film_watched, push_film, push_film_pair};
 use agc_page::{HEAD, TABLES, TAIL};
 use agc_progress::Progress;
 use agc_setup::Refusal;
@@ -87,12 +93,35 @@ fn read_reel<R: Read, S: Read, P: Progress>(
     ensures refused { IfErr result (IsFilmRefused asked.now
         (R.remaining rope.old) (S.remaining script.old)) }
 {
-    let (form, limit) = (asked.form, asked.limit);
     let watch = asked.watch.as_ref();
-    let start = read_start(alloc, form, limit, &asked.until, watch, rope, script)?;
-    let mut machine = start.machine;
-    match start.tables {
-        Some(spec) => Ok(film_watched(alloc, &mut machine, asked.part, &spec, progress)?),
-        None => Ok(film(alloc, &mut machine, asked.part, progress)?),
-    }
+    let mut start = read_start(
+        alloc,
+        asked.form,
+        asked.limit,
+        &asked.until,
+        watch,
+        rope,
+        script,
+    )?;
+    film_start(alloc, asked.part, &mut start, progress)
+}
+
+/// Runs a machine to the reel of a part of its run, with the tables where they are watched.
+fn film_start<P: Progress>(
+    alloc: Global,
+    part: Part,
+    start: &mut Start,
+    progress: &mut P,
+) -> Result<Reel, Refusal>
+    ensures reel { IfOk result (IsReelOf part start.old.machine) }
+    ensures tables { IfOk result (λ reel. (watch : Option (String Global)) → AreWatched watch start.old.tables
+        → ShowsTables watch part start.old.machine reel.tables) }
+    ensures refused { IfErr result (λ r. r ≡ refusal.Memory) }
+{
+    let Start { machine, tables } = start;
+    let reel = match tables {
+        Some(spec) => film_watched(alloc, machine, part, spec, progress),
+        None => film(alloc, machine, part, progress),
+    };
+    Ok(reel?)
 }

@@ -59,12 +59,18 @@ where
     match asked {
         Ok(mut asked) => {
             let status = answer_to(rt, &mut asked, out, err, remarks, progress);
-            if status == TROUBLE {
-                remark_unreadable(rt, &asked, remarks);
-            }
+            remark_on_end(rt, status, &asked, remarks);
+            drop(asked);
             status
         }
         Err(fault) => end_mistaken(NAME, fault, TROUBLE, out, err),
+    }
+}
+
+/// Says, where the answer ended in trouble, which file that was asked for cannot be read.
+fn remark_on_end<R: Files, N: Write>(rt: &R, status: u8, asked: &Asked, remarks: &mut N) {
+    if status == TROUBLE {
+        remark_unreadable(rt, asked, remarks);
     }
 }
 

@@ -4,14 +4,13 @@ ghost use Rattle.agc_results.specs.Checked.{IsCheckWritten, IsUnchecked, IsWritt
 ghost use Rattle.agc_study.specs.Ended.{IsEnded};
 ghost use Rattle.agc_results.specs.Trouble.{IsTold};
 
+use crate::inputs::opened;
 use agc_asked::Checking;
 use agc_check::Report;
 use agc_options::{DONE, status_of};
 use agc_results::{Trouble, check_key_file, check_listing_file, check_with, joined};
-use agc_setup::InputFile;
 use agc_store::RopeForm;
 use std::alloc::Global;
-use std::fs;
 use std::io::{Read, Write};
 use std::rt::Files;
 
@@ -35,8 +34,8 @@ where
             None => DONE,
         };
     };
-    let mut rope = InputFile::new(fs::open(rt, run.rope.as_str()));
-    let mut script = InputFile::new(fs::open(rt, run.script.as_str()));
+    let mut rope = opened(rt, &run.rope);
+    let mut script = opened(rt, &run.script);
     write_check(
         rt.alloc(),
         checking.form,
@@ -56,7 +55,7 @@ where
     let keys = keys_checked(rt, &checking.keys)?;
     let listing = listing_checked(rt, &checking.listing)?;
     match (keys, listing) {
-        (Some(keys), Some(listing)) => Ok(Some(joined(keys, &listing)?)),
+        (Some(keys), Some(listing)) => joined(keys, &listing).map(Some),
         (keys, None) => Ok(keys),
         (None, listing) => Ok(listing),
     }
@@ -70,8 +69,8 @@ where
     let Some(path) = path else {
         return Ok(None);
     };
-    let mut file = InputFile::new(fs::open(rt, path.as_str()));
-    Ok(Some(check_key_file(rt.alloc(), &mut file)?))
+    let mut file = opened(rt, path);
+    check_key_file(rt.alloc(), &mut file).map(Some)
 }
 
 /// What is told of the text of a rope, where it is given.
@@ -82,8 +81,8 @@ where
     let Some(path) = path else {
         return Ok(None);
     };
-    let mut file = InputFile::new(fs::open(rt, path.as_str()));
-    Ok(Some(check_listing_file(rt.alloc(), &mut file)?))
+    let mut file = opened(rt, path);
+    check_listing_file(rt.alloc(), &mut file).map(Some)
 }
 
 /// Checks a rope and a script, and writes what is told of them, and then what is told of other files.

@@ -8,13 +8,12 @@ ghost use Rattle.agc_results.specs.Started.{IsRefused};
 ghost use Rattle.agc_results.specs.Trouble.{trouble_line};
 ghost use Rattle.agc_results.specs.declared.trouble.Trouble.TheVariants as told;
 
+use crate::inputs::opened;
 use agc_asked::Counting;
 use agc_options::{DONE, status_of};
 use agc_progress::Shown;
 use agc_results::{Trouble, count_files};
-use agc_setup::InputFile;
 use std::alloc::Global;
-use std::fs;
 use std::io::{Read, Write};
 use std::rt::Files;
 
@@ -32,8 +31,8 @@ where
         (E.contents err.old) (E.contents err.new) }
     ensures faulty { result ≢ 1 }
 {
-    let mut rope = InputFile::new(fs::open(rt, asked.rope.as_str()));
-    let mut script = InputFile::new(fs::open(rt, asked.script.as_str()));
+    let mut rope = opened(rt, &asked.rope);
+    let mut script = opened(rt, &asked.script);
     write_count(
         rt.alloc(),
         asked,

@@ -7,6 +7,7 @@ ghost use Rattle.agc_results.specs.Trouble.{IsTold, trouble_line};
 ghost use Rattle.agc_setup.specs.declared.refusal.Refusal.{Refusal};
 ghost use Rattle.agc_results.specs.declared.trouble.Trouble.TheVariants as told;
 
+use crate::inputs::opened;
 use agc_asked::Filming;
 use agc_film::RunFiles;
 use agc_names_file::names_at;
@@ -14,9 +15,8 @@ use agc_options::{DONE, status_of};
 use agc_page::{HEAD, TABLES, TAIL};
 use agc_progress::Shown;
 use agc_results::{FilmPage, Trouble, film_file_pairs, film_files, name_until};
-use agc_setup::{InputFile, Refusal};
+use agc_setup::Refusal;
 use std::alloc::Global;
-use std::fs;
 use std::io::{Read, Write};
 use std::rt::Files;
 
@@ -40,16 +40,12 @@ where
     ensures plain { result ≡ 2 → Keeps (N.contents remarks.old) (N.contents remarks.new) }
     ensures faulty { result ≢ 1 }
 {
-    let alloc = rt.alloc();
-    let names = match names_at(rt, &asked.names) {
-        Ok(names) => names,
-        Err(refusal) => return Trouble::Unnamed(refusal).tell_to(err),
-    };
-    if name_until(alloc, &names, &mut asked.until).is_err() {
-        return Trouble::Refused(Refusal::Memory).tell_to(err);
+    if let Err(trouble) = name_stop(rt, &asked.names, &mut asked.until) {
+        return trouble.tell_to(err);
     }
-    let mut rope = InputFile::new(fs::open(rt, asked.files.rope.as_str()));
-    let mut script = InputFile::new(fs::open(rt, asked.files.script.as_str()));
+    let alloc = rt.alloc();
+    let mut rope = opened(rt, &asked.files.rope);
+    let mut script = opened(rt, &asked.files.script);
     let Some(other) = &asked.other else {
         return write_film(
             alloc,
@@ -62,8 +58,8 @@ where
             progress,
         );
     };
-    let mut other_rope = InputFile::new(fs::open(rt, other.rope.as_str()));
-    let mut other_script = InputFile::new(fs::open(rt, other.script.as_str()));
+    let mut other_rope = opened(rt, &other.rope);
+    let mut other_script = opened(rt, &other.script);
     write_film_pair(
         alloc,
         asked,
@@ -77,6 +73,21 @@ where
         remarks,
         progress,
     )
+}
+
+/// Puts the stop address in place of a name that says it, by the names of the file at a path.
+fn name_stop<R>(rt: &R, path: &Option<String>, until: &mut Option<String>) -> Result<(), Trouble>
+where
+    R: Files + AllocGlobal,
+{
+    let names = match names_at(rt, path) {
+        Ok(names) => names,
+        Err(refusal) => return Err(Trouble::Unnamed(refusal)),
+    };
+    match name_until(rt.alloc(), &names, until) {
+        Ok(()) => Ok(()),
+        Err(_) => Err(Trouble::Refused(Refusal::Memory)),
+    }
 }
 
 /// Films the run of a rope and a script, and writes the page.

@@ -7,14 +7,13 @@ ghost use Rattle.agc_results.specs.declared.trouble.Trouble.TheVariants as told;
 ghost use Rattle.agc_setup.specs.declared.refusal.Refusal.{Refusal};
 ghost use Rattle.agc_study.specs.Ended.{IsEnded};
 
+use crate::inputs::opened;
 use agc_asked::Watching;
 use agc_machine::Machine;
 use agc_options::DONE;
 use agc_progress::Shown;
 use agc_results::{status_of_untraced, watch_files};
-use agc_setup::InputFile;
 use std::alloc::Global;
-use std::fs;
 use std::io::{Read, Write};
 use std::rt::Files;
 
@@ -35,8 +34,8 @@ where
     ensures plain { result ≡ 2 → Keeps (N.contents remarks.old) (N.contents remarks.new) }
     ensures faulty { result ≢ 1 }
 {
-    let mut rope = InputFile::new(fs::open(rt, asked.rope.as_str()));
-    let mut script = InputFile::new(fs::open(rt, asked.script.as_str()));
+    let mut rope = opened(rt, &asked.rope);
+    let mut script = opened(rt, &asked.script);
     write_jobs(
         rt.alloc(),
         asked,

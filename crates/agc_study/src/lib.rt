@@ -6,6 +6,7 @@ mod answers;
 mod check_told;
 mod counts_told;
 mod films_told;
+mod inputs;
 mod jobs_told;
 mod ropes_told;
 mod runs_told;

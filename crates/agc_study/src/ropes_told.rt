@@ -7,12 +7,13 @@ ghost use Rattle.agc_results.specs.Listed.{IsListRefused, IsListWritten, IsWeave
 ghost use Rattle.agc_results.specs.Trouble.{IsTold, trouble_line};
 ghost use Rattle.agc_results.specs.declared.trouble.Trouble.TheVariants as told;
 
+use crate::inputs::opened;
 use agc_asked::{Listing, Weaving};
 use agc_names::{NameTable, text_with_names};
 use agc_names_file::names_at;
 use agc_options::{DONE, UNWRITTEN, status_of};
 use agc_results::{Trouble, list_rope, misnamed_line, weave_text};
-use agc_setup::{InputFile, Refusal};
+use agc_setup::Refusal;
 use agc_source::{Misnamed, name_lines};
 use agc_store::RopeForm;
 use std::alloc::Global;
@@ -32,7 +33,7 @@ where
         Ok(names) => names,
         Err(refusal) => return Trouble::Unnamed(refusal).tell_to(err),
     };
-    let mut rope = InputFile::new(fs::open(rt, listing.rope.as_str()));
+    let mut rope = opened(rt, &listing.rope);
     write_list(
         rt.alloc(),
         listing.form,
@@ -108,7 +109,7 @@ where
     ensures plain { result ≡ 2 → Keeps (N.contents remarks.old) (N.contents remarks.new) }
     ensures faulty { result ≢ 1 }
 {
-    let mut text = InputFile::new(fs::open(rt, weaving.text.as_str()));
+    let mut text = opened(rt, &weaving.text);
     match &weaving.names {
         Some(path) => write_weave_and_names(
             rt,

@@ -9,6 +9,7 @@ ghost use Rattle.agc_results.specs.Started.{IsPairRefused};
 ghost use Rattle.agc_results.specs.Traced.{IsTraceWritten};
 ghost use Rattle.agc_results.specs.Trouble.{IsTold};
 
+use crate::inputs::opened;
 use agc_asked::{Comparing, NAME, Tracing};
 use agc_compare::SideNames;
 use agc_machine::{Machine, Upcoming};
@@ -20,10 +21,9 @@ use agc_results::{
     TROUBLE, Told, Traced, Trouble, compare_files, name_until, place, remark_service,
     status_of_untraced, trace_files,
 };
-use agc_setup::{InputFile, Refusal};
+use agc_setup::Refusal;
 use agc_trace::Selection;
 use std::alloc::Global;
-use std::fs;
 use std::io::{Read, Write};
 use std::rt::Files;
 
@@ -55,8 +55,8 @@ where
     if let Err(fault) = place(rt.alloc(), &names, tracing) {
         return end_mistaken(NAME, fault, TROUBLE, out, err);
     }
-    let mut rope = InputFile::new(fs::open(rt, tracing.rope.as_str()));
-    let mut script = InputFile::new(fs::open(rt, tracing.script.as_str()));
+    let mut rope = opened(rt, &tracing.rope);
+    let mut script = opened(rt, &tracing.script);
     write_trace(
         rt.alloc(),
         tracing,
@@ -153,10 +153,10 @@ where
         return Trouble::Refused(Refusal::Memory).tell_to(err);
     }
     let names = names_of_sides(&names, &other_names);
-    let mut rope = InputFile::new(fs::open(rt, asked.rope.as_str()));
-    let mut script = InputFile::new(fs::open(rt, asked.script.as_str()));
-    let mut other_rope = InputFile::new(fs::open(rt, asked.other_rope.as_str()));
-    let mut other_script = InputFile::new(fs::open(rt, asked.other_script.as_str()));
+    let mut rope = opened(rt, &asked.rope);
+    let mut script = opened(rt, &asked.script);
+    let mut other_rope = opened(rt, &asked.other_rope);
+    let mut other_script = opened(rt, &asked.other_script);
     write_comparison(
         rt.alloc(),
         asked,

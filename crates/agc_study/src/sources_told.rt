@@ -5,14 +5,13 @@ ghost use Rattle.agc_results.specs.Listed.{IsListRefused};
 ghost use Rattle.agc_results.specs.Sourced.{IsSourceWritten};
 ghost use Rattle.agc_results.specs.Trouble.{IsTold};
 
+use crate::inputs::opened;
 use crate::ropes_told::list_to;
 use agc_asked::Listing;
 use agc_options::{DONE, status_of};
 use agc_results::{Trouble, source_of_rope};
-use agc_setup::InputFile;
 use agc_store::RopeForm;
 use std::alloc::Global;
-use std::fs;
 use std::io::{Read, Write};
 use std::rt::Files;
 
@@ -44,7 +43,7 @@ where
         (E.contents err.old) (E.contents err.new) }
     ensures faulty { result ≢ 1 }
 {
-    let mut rope = InputFile::new(fs::open(rt, listing.rope.as_str()));
+    let mut rope = opened(rt, &listing.rope);
     write_source(rt.alloc(), listing.form, &listing.bank, &mut rope, out, err)
 }
 

@@ -1,20 +1,22 @@
 //! The words of `count` to what they ask for.
+use crate::runs::run_of;
 use crate::words::span_of;
-use agc_asked::Counting;
-use agc_command_line::{form_of, number_of, path_of, text_of};
+use agc_asked::{Asked, Counting};
+use agc_command_line::form_of;
 use agc_count_text::Layout;
 use agc_options::ArgsFault;
 use clap::ArgMatches;
 use std::alloc::Global;
 
 /// The run that is counted.
-pub(crate) fn counting_of(alloc: Global, given: &ArgMatches<'_>) -> Result<Counting, ArgsFault> {
-    Ok(Counting {
-        rope: path_of(alloc, given, "rope")?,
-        script: path_of(alloc, given, "script")?,
+pub(crate) fn counting_of(alloc: Global, given: &ArgMatches<'_>) -> Result<Asked, ArgsFault> {
+    let run = run_of(alloc, given)?;
+    Ok(Asked::Count(Counting {
+        rope: run.files.rope,
+        script: run.files.script,
         form: form_of(given),
-        limit: number_of(given, "limit", 0),
-        until: text_of(alloc, given, "until")?,
+        limit: run.limit,
+        until: run.until,
         span: span_of(alloc, given)?,
         layout: if given.get_flag("csv") {
             Layout::Csv
@@ -22,5 +24,5 @@ pub(crate) fn counting_of(alloc: Global, given: &ArgMatches<'_>) -> Result<Count
             Layout::Columns
         },
         is_whole: given.get_flag("whole"),
-    })
+    }))
 }

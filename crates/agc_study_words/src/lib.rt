@@ -3,6 +3,7 @@
 
 mod counted;
 mod questions;
+mod runs;
 mod shown;
 mod watched;
 mod words;

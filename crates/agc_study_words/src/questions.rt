@@ -102,7 +102,8 @@ fn channels_in(alloc: Global, texts: &[&str]) -> Result<Vec<u16>, ArgsFault> {
     Ok(several)
 }
 
-fn push<T: Drop>(several: &mut Vec<T>, value: T) -> Result<(), AllocError> {
+/// Adds a value to several.
+pub(crate) fn push<T: Drop>(several: &mut Vec<T>, value: T) -> Result<(), AllocError> {
     several.push(value)?;
     Ok(())
 }

@@ -1,5 +1,5 @@
 //! How two runs are compared by what shows: `--by`, of which a channel takes two words, and `--brief`.
-use crate::questions::refused;
+use crate::questions::{push, refused};
 use agc_asked::ByShown;
 use agc_options::ArgsFault;
 use agc_shown::By;
@@ -9,50 +9,51 @@ use std::alloc::{AllocError, Global};
 
 /// What may come next among the words of a command line.
 #[derive(Clone, Copy)]
-enum Reading<'a> {
+enum Reading {
     /// A word of its own.
     Word,
     /// What `--by` names.
     Kind,
-    /// The number of a channel, to be put behind these words.
-    Number(&'a str),
+    /// The number of a channel, to be put behind the word before it.
+    Number,
+}
+
+impl Reading {
+    /// What may come after this word.
+    fn after(self, word: &str) -> Reading {
+        match (self, word) {
+            (Reading::Number, _) => Reading::Word,
+            (Reading::Kind, "channel") | (_, "--by=channel") => Reading::Number,
+            (_, "--by") => Reading::Kind,
+            _ => Reading::Word,
+        }
+    }
 }
 
 /// The words of a command line, in which `channel` and the number after it are one word where `--by` stands before.
-pub(crate) fn with_channels_joined<'a>(
+pub(crate) fn with_channels_joined(
     alloc: Global,
-    words: &[&'a str],
+    words: &[&str],
 ) -> Result<Vec<String>, AllocError> {
     let mut joined = Vec::new(alloc);
-    let mut reading: Reading<'a> = Reading::Word;
+    let mut reading = Reading::Word;
     for word in words {
-        let word: &'a str = *word;
-        reading = match reading {
-            Reading::Number(before) => {
-                joined.push(format!(in alloc; "{before} {word}")?)?;
-                Reading::Word
-            }
-            Reading::Kind if word == "channel" => Reading::Number(word),
-            _ if word == "--by=channel" => Reading::Number(word),
-            _ => {
-                joined.push(String::from_str(alloc, word)?)?;
-                after_word(word)
-            }
-        };
-    }
-    if let Reading::Number(before) = reading {
-        joined.push(String::from_str(alloc, before)?)?;
+        match reading {
+            Reading::Number => put_behind_last(&mut joined, word)?,
+            Reading::Word | Reading::Kind => push(&mut joined, String::from_str(alloc, word)?)?,
+        }
+        reading = reading.after(word);
     }
     Ok(joined)
 }
 
-/// What may come after a word.
-fn after_word<'a>(word: &str) -> Reading<'a> {
-    if word == "--by" {
-        Reading::Kind
-    } else {
-        Reading::Word
+/// Puts a word behind the last of several, and a space between them.
+fn put_behind_last(several: &mut Vec<String>, word: &str) -> Result<(), AllocError> {
+    if let Some(last) = several.last_mut() {
+        last.push(' ')?;
+        last.push_str(word)?;
     }
+    Ok(())
 }
 
 /// What `--by` and `--brief` ask for.
@@ -74,18 +75,14 @@ pub(crate) fn shown_of(
 
 /// What the value of `--by` names, or why it names nothing.
 fn what_of(text: &str) -> Result<By, &'static str> {
-    if text == "writes" {
-        return Ok(By::Writes);
-    }
-    if text == "panels" {
-        return Ok(By::Panels);
-    }
-    if text == "channel" {
-        return Err("BadChannel");
-    }
-    match text.strip_prefix("channel ") {
-        Some(number) => channel_of(number),
-        None => Err("BadKind"),
+    match text {
+        "writes" => Ok(By::Writes),
+        "panels" => Ok(By::Panels),
+        "channel" => Err("BadChannel"),
+        _ => match text.strip_prefix("channel ") {
+            Some(number) => channel_of(number),
+            None => Err("BadKind"),
+        },
     }
 }
 

@@ -1,20 +1,24 @@
 //! The words of `jobs` to what they ask for.
+use crate::runs::run_of;
 use crate::words::span_of;
-use agc_asked::Watching;
-use agc_command_line::{form_of, number_of, path_of, text_of};
+use agc_asked::{Asked, Watching};
+use agc_command_line::{form_of, path_of};
 use agc_options::ArgsFault;
 use clap::ArgMatches;
 use std::alloc::Global;
 
 /// The run whose tables are told.
-pub(crate) fn watching_of(alloc: Global, given: &ArgMatches<'_>) -> Result<Watching, ArgsFault> {
-    Ok(Watching {
-        rope: path_of(alloc, given, "rope")?,
-        script: path_of(alloc, given, "script")?,
+pub(crate) fn watching_of(alloc: Global, given: &ArgMatches<'_>) -> Result<Asked, ArgsFault> {
+    let watch = path_of(alloc, given, "watch")?;
+    let run = run_of(alloc, given)?;
+    let span = span_of(alloc, given)?;
+    Ok(Asked::Jobs(Watching {
+        rope: run.files.rope,
+        script: run.files.script,
         form: form_of(given),
-        limit: number_of(given, "limit", 0),
-        until: text_of(alloc, given, "until")?,
-        watch: path_of(alloc, given, "watch")?,
-        span: span_of(alloc, given)?,
-    })
+        limit: run.limit,
+        until: run.until,
+        watch,
+        span,
+    }))
 }

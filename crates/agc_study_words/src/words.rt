@@ -1,6 +1,7 @@
 //! The words of a command line to what they ask for.
 use crate::counted::counting_of;
 use crate::questions::{cells_of, channels_of, orders_of, places_of, texts_of};
+use crate::runs::{files_of, other_files_of, run_of};
 use crate::shown::{shown_of, with_channels_joined};
 use crate::watched::watching_of;
 use agc_asked::{Asked, CheckedRun, Checking, Comparing, Filming, Listing, NAME, Tracing, Weaving};
@@ -16,13 +17,16 @@ use std::rt::Env;
 /// What the words of the command line ask for.
 pub fn asked_of<R: Env + AllocGlobal>(rt: &R) -> Result<Asked, ArgsFault> {
     let alloc = rt.alloc();
-    let words = match words_of(rt) {
-        Ok(words) => words,
-        Err(WordsFault::NotText(number)) => return Err(not_text(alloc, number)),
-        Err(WordsFault::Memory) => return Err(ArgsFault::Memory),
-    };
-    let words: Vec<&str> = words.iter().map(|word| word.as_str()).collect(alloc)?;
-    asked_by(alloc, words.as_slice())
+    match words_of(rt) {
+        Ok(words) => asked_by(alloc, texts_of_words(alloc, words.as_slice())?.as_slice()),
+        Err(WordsFault::NotText(number)) => Err(not_text(alloc, number)),
+        Err(WordsFault::Memory) => Err(ArgsFault::Memory),
+    }
+}
+
+/// The texts of words.
+fn texts_of_words<'a>(alloc: Global, words: &'a [String]) -> Result<Vec<&'a str>, AllocError> {
+    words.iter().map(|word| word.as_str()).collect(alloc)
 }
 
 /// The mistake of a command line whose word of this number is not text, counted from 1 after the program's own name.
@@ -38,9 +42,14 @@ fn not_text(alloc: Global, number: usize) -> ArgsFault {
 /// What the words of a command line ask for, the program's own name first.
 pub fn asked_by<'a>(alloc: Global, words: &'a [&'a str]) -> Result<Asked, ArgsFault> {
     let joined = with_channels_joined(alloc, words)?;
-    let words: Vec<&str> = joined.iter().map(|word| word.as_str()).collect(alloc)?;
+    let words = texts_of_words(alloc, joined.as_slice())?;
+    asked_by_joined(alloc, words.as_slice())
+}
+
+/// What words ask for in which each channel stands with its number.
+fn asked_by_joined(alloc: Global, words: &[&str]) -> Result<Asked, ArgsFault> {
     let command = command(alloc)?;
-    match command.try_get_matches_from(words.as_slice()) {
+    match command.try_get_matches_from(words) {
         Ok(matches) => asked_in(alloc, &matches),
         Err(error) => Err(fault_of(alloc, &error)),
     }
@@ -55,24 +64,16 @@ fn asked_in(alloc: Global, matches: &ArgMatches<'_>) -> Result<Asked, ArgsFault>
 
 /// What the subcommand of a name asks for.
 fn asked_as(alloc: Global, name: &str, given: &ArgMatches<'_>) -> Result<Asked, ArgsFault> {
-    if name == "list" {
-        Ok(Asked::List(listing_of(alloc, given)?))
-    } else if name == "weave" {
-        Ok(Asked::Weave(weaving_of(alloc, given)?))
-    } else if name == "check" {
-        Ok(Asked::Check(checking_of(alloc, given)?))
-    } else if name == "trace" {
-        Ok(Asked::Trace(tracing_of(alloc, given)?))
-    } else if name == "count" {
-        Ok(Asked::Count(counting_of(alloc, given)?))
-    } else if name == "jobs" {
-        Ok(Asked::Jobs(watching_of(alloc, given)?))
-    } else if name == "compare" {
-        Ok(Asked::Compare(comparing_of(alloc, given)?))
-    } else if name == "film" {
-        Ok(Asked::Film(filming_of(alloc, given)?))
-    } else {
-        Err(mistake(alloc, "error: there is no such subcommand\n"))
+    match name {
+        "list" => listing_of(alloc, given),
+        "weave" => weaving_of(alloc, given),
+        "check" => checking_of(alloc, given),
+        "trace" => tracing_of(alloc, given),
+        "count" => counting_of(alloc, given),
+        "jobs" => watching_of(alloc, given),
+        "compare" => comparing_of(alloc, given),
+        "film" => filming_of(alloc, given),
+        _ => Err(mistake(alloc, "error: there is no such subcommand\n")),
     }
 }
 
@@ -84,25 +85,25 @@ fn mistake(alloc: Global, text: &str) -> ArgsFault {
     }
 }
 
-fn listing_of(alloc: Global, given: &ArgMatches<'_>) -> Result<Listing, AllocError> {
-    Ok(Listing {
+fn listing_of(alloc: Global, given: &ArgMatches<'_>) -> Result<Asked, ArgsFault> {
+    Ok(Asked::List(Listing {
         rope: path_of(alloc, given, "rope")?,
         form: form_of(given),
         bank: text_of(alloc, given, "bank")?,
         names: text_of(alloc, given, "names")?,
         source: given.get_flag("source"),
-    })
+    }))
 }
 
-fn weaving_of(alloc: Global, given: &ArgMatches<'_>) -> Result<Weaving, AllocError> {
-    Ok(Weaving {
+fn weaving_of(alloc: Global, given: &ArgMatches<'_>) -> Result<Asked, ArgsFault> {
+    Ok(Asked::Weave(Weaving {
         text: path_of(alloc, given, "text")?,
         form: form_of(given),
         names: text_of(alloc, given, "names")?,
-    })
+    }))
 }
 
-fn checking_of(alloc: Global, given: &ArgMatches<'_>) -> Result<Checking, ArgsFault> {
+fn checking_of(alloc: Global, given: &ArgMatches<'_>) -> Result<Asked, ArgsFault> {
     let run = checked_run_of(alloc, given)?;
     let keys = text_of(alloc, given, "keys")?;
     let listing = text_of(alloc, given, "listing")?;
@@ -112,21 +113,21 @@ fn checking_of(alloc: Global, given: &ArgMatches<'_>) -> Result<Checking, ArgsFa
             "error: check needs a ROPE and a SCRIPT, or --keys or --listing\n",
         ));
     }
-    Ok(Checking {
+    Ok(Asked::Check(Checking {
         run,
         keys,
         listing,
         form: form_of(given),
-    })
+    }))
 }
 
 /// The rope and the script to check, of which there are both or none.
 fn checked_run_of(alloc: Global, given: &ArgMatches<'_>) -> Result<Option<CheckedRun>, ArgsFault> {
     match (given.get_str("rope"), given.get_str("script")) {
-        (Some(rope), Some(script)) => Ok(Some(CheckedRun {
-            rope: String::from_str(alloc, rope)?,
-            script: String::from_str(alloc, script)?,
-        })),
+        (Some(_), Some(_)) => {
+            let RunFiles { rope, script } = files_of(alloc, given)?;
+            Ok(Some(CheckedRun { rope, script }))
+        }
         (None, None) => Ok(None),
         (Some(_), None) | (None, Some(_)) => Err(mistake(
             alloc,
@@ -135,67 +136,67 @@ fn checked_run_of(alloc: Global, given: &ArgMatches<'_>) -> Result<Option<Checke
     }
 }
 
-fn tracing_of(alloc: Global, given: &ArgMatches<'_>) -> Result<Tracing, ArgsFault> {
-    Ok(Tracing {
-        rope: path_of(alloc, given, "rope")?,
-        script: path_of(alloc, given, "script")?,
+fn tracing_of(alloc: Global, given: &ArgMatches<'_>) -> Result<Asked, ArgsFault> {
+    let run = run_of(alloc, given)?;
+    Ok(Asked::Trace(Tracing {
+        rope: run.files.rope,
+        script: run.files.script,
         form: form_of(given),
-        limit: number_of(given, "limit", 0),
-        until: text_of(alloc, given, "until")?,
-        selection: Selection {
-            from: number_of(given, "from", 0),
-            to: number_of(given, "to", u64::MAX),
-            only: only_of(given),
-            places: places_of(alloc, given)?,
-            orders: orders_of(alloc, given)?,
-            channels: channels_of(alloc, given)?,
-            cells: cells_of(alloc, given)?,
-            last: given.get_one::<u64>("last"),
-        },
+        limit: run.limit,
+        until: run.until,
+        selection: selection_of(alloc, given)?,
         at: texts_of(alloc, given, "at")?,
         cell: texts_of(alloc, given, "cell")?,
         names: text_of(alloc, given, "names")?,
+    }))
+}
+
+/// Which lines of a trace are printed.
+fn selection_of(alloc: Global, given: &ArgMatches<'_>) -> Result<Selection, ArgsFault> {
+    Ok(Selection {
+        from: number_of(given, "from", 0),
+        to: number_of(given, "to", u64::MAX),
+        only: only_of(given),
+        places: places_of(alloc, given)?,
+        orders: orders_of(alloc, given)?,
+        channels: channels_of(alloc, given)?,
+        cells: cells_of(alloc, given)?,
+        last: given.get_one::<u64>("last"),
     })
 }
 
-fn comparing_of(alloc: Global, given: &ArgMatches<'_>) -> Result<Comparing, ArgsFault> {
-    let (names, other_names) = names_of_runs(alloc, given)?;
-    Ok(Comparing {
-        rope: path_of(alloc, given, "rope")?,
-        script: path_of(alloc, given, "script")?,
-        other_rope: path_of(alloc, given, "other-rope")?,
-        other_script: path_of(alloc, given, "other-script")?,
+fn comparing_of(alloc: Global, given: &ArgMatches<'_>) -> Result<Asked, ArgsFault> {
+    let other_names = other_names_of(alloc, given)?;
+    let names = text_of(alloc, given, "names")?;
+    let other_files = other_files_of(alloc, given)?;
+    let run = run_of(alloc, given)?;
+    let shown = shown_of(alloc, given)?;
+    Ok(Asked::Compare(Comparing {
+        rope: run.files.rope,
+        script: run.files.script,
+        other_rope: other_files.rope,
+        other_script: other_files.script,
         form: form_of(given),
-        limit: number_of(given, "limit", 0),
-        until: text_of(alloc, given, "until")?,
-        shown: shown_of(alloc, given)?,
+        limit: run.limit,
+        until: run.until,
+        shown,
         names,
         other_names,
-    })
+    }))
 }
 
-/// The files of names of two runs: one for both, or one for each.
-fn names_of_runs(
-    alloc: Global,
-    given: &ArgMatches<'_>,
-) -> Result<(Option<String>, Option<String>), ArgsFault> {
+/// The file of names of the run on the right, where it has its own.
+fn other_names_of(alloc: Global, given: &ArgMatches<'_>) -> Result<Option<String>, ArgsFault> {
     match given.get_strs("names") {
-        None => Ok((None, None)),
-        Some([both]) => Ok((Some(String::from_str(alloc, both)?), None)),
-        Some([left, right]) => Ok((
-            Some(String::from_str(alloc, left)?),
-            Some(String::from_str(alloc, right)?),
-        )),
+        None | Some([_]) => Ok(None),
+        Some([_, right]) => Ok(Some(String::from_str(alloc, right)?)),
         Some(_) => Err(mistake(alloc, "error: compare takes --names once, or twice\n")),
     }
 }
 
-fn filming_of(alloc: Global, given: &ArgMatches<'_>) -> Result<Filming, ArgsFault> {
-    Ok(Filming {
-        files: RunFiles {
-            rope: path_of(alloc, given, "rope")?,
-            script: path_of(alloc, given, "script")?,
-        },
+fn filming_of(alloc: Global, given: &ArgMatches<'_>) -> Result<Asked, ArgsFault> {
+    Ok(Asked::Film(Filming {
+        files: files_of(alloc, given)?,
         other: other_run_of(alloc, given)?,
         part: part_of(alloc, given)?,
         form: form_of(given),
@@ -203,16 +204,13 @@ fn filming_of(alloc: Global, given: &ArgMatches<'_>) -> Result<Filming, ArgsFaul
         until: text_of(alloc, given, "until")?,
         watch: text_of(alloc, given, "watch")?,
         names: text_of(alloc, given, "names")?,
-    })
+    }))
 }
 
 /// The files of the other run, of which there are both or none.
 fn other_run_of(alloc: Global, given: &ArgMatches<'_>) -> Result<Option<RunFiles>, ArgsFault> {
     match (given.get_str("other-rope"), given.get_str("other-script")) {
-        (Some(rope), Some(script)) => Ok(Some(RunFiles {
-            rope: String::from_str(alloc, rope)?,
-            script: String::from_str(alloc, script)?,
-        })),
+        (Some(_), Some(_)) => Ok(Some(other_files_of(alloc, given)?)),
         (None, None) => Ok(None),
         (Some(_), None) | (None, Some(_)) => Err(mistake(
             alloc,
@@ -239,12 +237,9 @@ pub(crate) fn span_of(alloc: Global, given: &ArgMatches<'_>) -> Result<Span, Arg
 }
 
 fn only_of(given: &ArgMatches<'_>) -> Option<Only> {
-    let name = given.get_str("only")?;
-    if name == "writes" {
-        Some(Only::Writes)
-    } else if name == "interrupts" {
-        Some(Only::Interrupts)
-    } else {
-        Some(Only::Jumps)
+    match given.get_str("only")? {
+        "writes" => Some(Only::Writes),
+        "interrupts" => Some(Only::Interrupts),
+        _ => Some(Only::Jumps),
     }
 }

@@ -1,32 +1,16 @@
-use Rattle.std.proofs.lemmas.Result.{err_from_is_err_and}
-use Rattle.agc_results.proofs.FilmedRuns.{filmed_run, shows_none, shows_some}
+use Rattle.std.proofs.lemmas.Result.{IfErr-weaker}
+use Rattle.agc_results.proofs.FilmedRuns.{filmed_start}
 use Rattle.agc_results.proofs.Starts.{memory_refused}
 use Rattle.agc_results.proofs.films.read_reel.Goals as goal
 
 pub returns-clause-filmed : goal.returns-clause-filmed
 returns-clause-filmed g c =
-    let asked = c.args.asked.now in
-    let start = c.in_ok-start.start in
-    let tables = rw c.in-None.is at rw c.as_ref-watch.ensures.value at c.in_ok-start.ensures.tables in
-    filmed_run asked _ _ start.machine _ (rw c.as_ref-watch.ensures.value at c.in_ok-start.ensures.started) c.in_ok-film-in-None.ensures.reel
-    (shows_none asked.watch asked.part start.machine _ tables c.in_ok-film-in-None.ensures.tables)
+    filmed_start c.args.asked.now _ _ c.in_ok-start.start c.film_start.result
+    (rw c.as_ref-watch.ensures.value at c.in_ok-start.ensures.started) (rw c.as_ref-watch.ensures.value at c.in_ok-start.ensures.tables)
+    c.film_start.ensures.reel c.film_start.ensures.tables
 
-pub returns-in-Some-clause-filmed : goal.returns-in-Some-clause-filmed
-returns-in-Some-clause-filmed g c =
+pub returns-clause-refused : goal.returns-clause-refused
+returns-clause-refused g c =
     let asked = c.args.asked.now in
-    let start = c.in_ok-start.start in
-    let tables = rw c.in-Some.is at rw c.as_ref-watch.ensures.value at c.in_ok-start.ensures.tables in
-    filmed_run asked _ _ start.machine _ (rw c.as_ref-watch.ensures.value at c.in_ok-start.ensures.started) c.in_ok-film_watched-in-Some.ensures.reel
-    (shows_some asked.watch asked.part start.machine _ c.in-Some.spec tables c.in_ok-film_watched-in-Some.ensures.tables)
-
-pub returns-in_err-film-in-None-clause-refused : goal.returns-in_err-film-in-None-clause-refused
-returns-in_err-film-in-None-clause-refused g c =
-    let asked = c.args.asked.now in
-    let p = err_from_is_err_and c.from_residual-in_err-film-in-None.result c.from_residual-in_err-film-in-None.ensures.1 in
-    rw (p.1, p.2) (memory_refused asked.form asked.until asked.watch asked.limit _ _)
-
-pub returns-in_err-film_watched-in-Some-clause-refused : goal.returns-in_err-film_watched-in-Some-clause-refused
-returns-in_err-film_watched-in-Some-clause-refused g c =
-    let asked = c.args.asked.now in
-    let p = err_from_is_err_and c.from_residual-in_err-film_watched-in-Some.result c.from_residual-in_err-film_watched-in-Some.ensures.1 in
-    rw (p.1, p.2) (memory_refused asked.form asked.until asked.watch asked.limit _ _)
+    IfErr-weaker c.film_start.result _ _ (λ r is. rw is (memory_refused asked.form asked.until asked.watch asked.limit _ _))
+    c.film_start.ensures.refused
