@@ -59,7 +59,7 @@ modular_difference_of-law a k p q =
 abbrev signed : Bool → ℕ → Number
 signed sign size = record { minus = sign; magnitude = size }
 
--- a number is known by its integer where it is no -0
+-- a number that is not -0 is determined by its integer
 same_value : (b : Bool) (m : ℕ) (c : Bool) (n : ℕ) → (value (signed b m) ≡ pos 0 → b ≡ false) → (value (signed c n) ≡ pos 0 → c ≡ false) → value (signed b m) ≡ value (signed c n) → signed b m ≡ signed c n
 same_value false m false n p q e = cc
 same_value false m true zero p q e = absurd (true≢false (q refl))

@@ -1,4 +1,4 @@
--- Laws of single bits and of runs of bits, which are counted from 1 on the right: what the bank registers and the channels keep.
+-- Laws of single bits and of runs of bits, counted from 1 on the right: what the bank registers and the channels keep.
 use Rattle.std.proofs.Common.{◌≡◌, ℕ, ◌+◌, ◌-◌, ◌*◌, ◌/◌, ◌%◌, ◌^◌, ◌<◌, ◌≤◌, List, get_or, refl, arith, sym, ap, add-zero, ◌∙◌}
 use Rattle.std.specs.Prelude.{if◌then◌else◌}
 use Rattle.std.proofs.lemmas.Nat.{pow_pos, shr_split, shr-shr, mod_below}
@@ -31,7 +31,7 @@ unfolding bit_of
 bit_of-digit i x low high narrow =
     sym (get_or-binary 15 (i - 1) (15 - i) (pattern_of 15 x) (omega arith)) ∙ ap (λ (ds : List ℕ). get_or ds (15 - i) 0) (sym (digits-pattern_of x narrow))
 
--- EB keeps bits 11 to 9: a bank number that is put there is read from there
+-- EB keeps bits 11 to 9: a bank number that is written there reads back
 pub eb-bank : (bank : ℕ) → bank < 8 → pattern_of 15 (number_from_pattern 15 (256 * bank)) / 256 % 8 ≡ bank
 eb-bank bank h = grind (arith, nat_tests)
 
@@ -50,7 +50,7 @@ bb-erasable_bank fixed erasable f e = grind (arith, nat_tests)
 pub z-address : (address : ℕ) → address < 4096 → pattern_of 15 (number_from_pattern 15 address) % 4096 ≡ address
 z-address address h = grind (arith, nat_tests)
 
--- the low k bits of a pattern are its bits, and those above the field that is kept are 0
+-- the low k bits of a pattern are its bits, and those above the kept field are 0
 bit_at-mod : (p k i : ℕ) → i < k → bit_at (p % 2 ^ k) i ≡ bit_at p i
 bit_at-mod p k i h = sym (bit_at_cat_low (p / 2 ^ k) k (p % 2 ^ k) i h) ∙ ap (λ (q : ℕ). bit_at q i) (shr_split p k)
 
@@ -63,7 +63,7 @@ bit_at-shl_low m k i h = ap (λ (q : ℕ). bit_at q i) (sym (add-zero (m * 2 ^ k
 bit_at-shr : (p k i : ℕ) → bit_at (p / 2 ^ k) i ≡ bit_at p (k + i)
 bit_at-shr p k i = ap (λ (q : ℕ). q % 2) (shr-shr p k i)
 
--- a field that is kept in its place has its bits
+-- a field that is kept in place has its bits
 bit_at-field : (p k j i : ℕ) → k ≤ i → i < k + j → bit_at (p / 2 ^ k % 2 ^ j * 2 ^ k) i ≡ bit_at p i
 bit_at-field p k j i low high =
     let place : k + (i - k) ≡ i = omega arith in

@@ -25,7 +25,7 @@ unfolding binary
 length-binary zero m = refl
 length-binary (suc n) m = ap suc (length-binary n m)
 
--- two numbers that together are all ones have each other's digits flipped
+-- if two numbers together are all ones, each has the other's digits flipped
 pub binary-flipped : (n m p : ℕ) → m + p + 1 ≡ 2 ^ n → map flipped (binary n m) ≡ binary n p
 unfolding binary
 binary-flipped zero m p h = refl
@@ -49,7 +49,7 @@ number-binary (suc n) m =
     ∙ sym (mod-pow-add m n 1)
     ∙ ap (λ (k : ℕ). m % 2 ^ k) (add-one n)
 
--- digits above the lowest n do not show
+-- digits above the lowest n do not matter
 pub binary-low : (n a b : ℕ) → binary n (a * 2 ^ n + b) ≡ binary n b
 unfolding binary
 binary-low zero a b = refl
@@ -71,7 +71,7 @@ binary-cat (suc j) k a b h =
 pub number_from_pattern-plus : (n p : ℕ) → p < 2 ^ n → number_from_pattern (suc n) p ≡ record { minus = false; magnitude = p }
 number_from_pattern-plus n p h = grind (arith, nat_tests, common_steps)
 
--- a pattern whose top digit is 1 stands for what is flipped of the others, with a minus
+-- a pattern whose top digit is 1 stands for the other digits flipped, with a minus
 pub number_from_pattern-minus : (n m r : ℕ) → m + r + 1 ≡ 2 ^ n → number_from_pattern (suc n) (1 * 2 ^ n + r) ≡ record { minus = true; magnitude = m }
 number_from_pattern-minus n m r h = grind (arith, nat_tests, common_steps)
 
@@ -155,7 +155,7 @@ drop-binary j k p =
     ∙ ap (λ (i : ℕ). drop i (front ++ back)) (sym (length-binary j (p / 2 ^ k)))
     ∙ drop-append_seam front back
 
--- the digit at a place is the bit that stands as far from the right
+-- the digit at a place is the bit at the same distance from the right
 pub get_or-binary : (n i j p : ℕ) → i + j + 1 ≡ n → get_or (binary n p) j 0 ≡ p / 2 ^ i % 2
 unfolding binary
 get_or-binary zero i j p e = absurd (omega arith)

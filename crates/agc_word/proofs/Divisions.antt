@@ -8,7 +8,7 @@ use Rattle.agc_word.specs.Products.{IsDivision}
 remainder_within : (k r : ℕ) {A : Type 0} → (r < k) ⊎ (A × (r ≡ k)) → r ≤ k
 remainder_within k r rest = elim rest [ inl below ↦ omega arith | inr (_, even) ↦ omega arith ]
 
--- what is too large for the divisor has no quotient
+-- a dividend too large for the divisor has no quotient
 pub too_large : (d k q r : ℕ) → q ≤ 16383 → r ≤ k → d ≡ q * k + r → d ≤ 16384 * k
 too_large d k q r fits rest whole = omega (arith, mul-le-mul_right k fits)
 

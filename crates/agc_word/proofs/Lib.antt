@@ -8,3 +8,4 @@ pub mod Multiplications
 pub mod Numerals
 pub mod Octal
 pub mod Pulses
+pub mod Cuts

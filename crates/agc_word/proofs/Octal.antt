@@ -50,7 +50,7 @@ as_padded k ds =
     let count : k - length ds - 0 - 0 ≡ k - length ds = omega arith in
     simp (append-nil, count) refl
 
--- what a hole `{:03o}` or the like writes of a number that has no more digits than that
+-- what a hole such as `{:03o}` writes of a number that has no more digits than that
 pub octal_text : (k n : ℕ) → 0 < k → k ≤ 64 → n < 8 ^ k → padded_integral (format_spec 32 0 4 k (2 ^ 64 - 1)) false [] (digits 8 false n) ≡ octal_digits k n
 octal_text k n some room small =
     let all = filled k 64 n [] (digits 8 false n) some room small (n / 8) refl (as_digits n) in

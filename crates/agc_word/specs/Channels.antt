@@ -1,8 +1,7 @@
--- The channels by the names of the field, and which of them stand between the computer and the
--- outside world.
+-- The channels by their names in the AGC, and the range that connects the computer to the outside.
 use Rattle.std.specs.Prelude.{ℕ, ◌≤◌, nat_le, Bool, ◌&&◌}
 
--- the first such channel: below it stand L and Q, and the two halves of the scaler
+-- the first such channel: below it are L, Q and the two halves of the scaler
 abbrev pub first_io_channel : ℕ
 first_io_channel = 0o5
 
@@ -10,11 +9,11 @@ first_io_channel = 0o5
 abbrev pub last_io_channel : ℕ
 last_io_channel = 0o777
 
--- a channel that outside sees when it is written, and may set
+-- a channel whose writes the outside sees, and which it may set
 abbrev pub IsIoChannel : ℕ → Type 0
 IsIoChannel channel = (first_io_channel ≤ channel) × (channel ≤ last_io_channel)
 
--- whether a channel is one
+-- whether a channel is one of these
 abbrev pub is_io_channel : ℕ → Bool
 is_io_channel channel = nat_le first_io_channel channel && nat_le channel last_io_channel
 
@@ -40,7 +39,7 @@ superbnk = 0o7
 abbrev pub out0 : ℕ
 out0 = 0o10
 
--- the lamps of the display that stand on no relay, and the flash
+-- the lamps of the display that have no relay, and the flash
 abbrev pub dsalmout : ℕ
 dsalmout = 0o11
 
@@ -48,11 +47,11 @@ dsalmout = 0o11
 abbrev pub chan13 : ℕ
 chan13 = 0o13
 
--- the code of the key that was pressed last
+-- the code of the last key pressed
 abbrev pub mnkeyin : ℕ
 mnkeyin = 0o15
 
--- the inputs from the spacecraft, of which the third has the PRO key
+-- the inputs from the spacecraft; the third has the PRO key
 abbrev pub chan30 : ℕ
 chan30 = 0o30
 

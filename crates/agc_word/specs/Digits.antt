@@ -14,8 +14,8 @@ binary (suc n) m = (m / 2 ^ n % 2) ∷ binary n m
 abbrev pub flipped : ℕ → ℕ
 flipped d = 1 - d
 
--- the digits of a word of n digits: 0 for plus and then the magnitude's, or 1 for minus and then
--- the magnitude's flipped
+-- the digits of a word of n digits: 0 for plus followed by the magnitude's, or 1 for minus followed
+-- by the magnitude's flipped
 unfoldable pub digits : ℕ → Number → List ℕ
 digits n x =
     if x.minus

@@ -1,4 +1,4 @@
--- What the editing registers make of a word that is written into them.
+-- How the editing registers change a word that is written into them.
 use Rattle.std.specs.Prelude.{◌++◌, take, drop, replicate}
 use Rattle.agc_word.specs.Number.{Number}
 use Rattle.agc_word.specs.Digits.{digits, number_of_digits}

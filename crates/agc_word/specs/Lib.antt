@@ -10,3 +10,4 @@ pub mod Octal
 pub mod Numeral
 pub mod Patterns
 pub mod Channels
+pub mod Text

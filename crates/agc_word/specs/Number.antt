@@ -1,4 +1,4 @@
--- Ones' complement numbers: a sign and a magnitude, so that there are two zeros.
+-- Ones' complement numbers: a sign and a magnitude, so there are two zeros.
 use Rattle.std.specs.Prelude.{ℕ, ◌-◌, ◌/◌, ◌%◌, ◌^◌, Bool, true, false, ℤ, pos, neg_ℤ, if◌then◌else◌, nat_lt}
 
 -- A number of the machine. A narrow word has magnitudes up to 37777 octal, a wide word up to 77777 octal.
@@ -17,8 +17,8 @@ minus_one = record { minus = true; magnitude = 1 }
 abbrev pub value : Number → ℤ
 value x = if x.minus then neg_ℤ (pos x.magnitude) else pos x.magnitude
 
--- the number that a pattern of n digits stands for: a top digit of 1 says minus, and then every
--- digit stands flipped
+-- the number that a pattern of n digits stands for: a top digit of 1 means minus, and then every
+-- digit is flipped
 abbrev pub number_from_pattern : ℕ → ℕ → Number
 number_from_pattern n p =
     if nat_lt p (2 ^ (n - 1))

@@ -2,7 +2,7 @@
 use Rattle.std.specs.Prelude.{ℕ, zero, suc, ◌+◌, ◌/◌, ◌%◌, List, [], ◌∷◌, ◌++◌}
 use Rattle.agc_word.specs.Number.{Number, pattern_of}
 
--- the last digits of a number in octal, so many of them, the highest first
+-- the last digits of a number in octal, a given count, the highest first
 unfoldable pub octal_digits : ℕ → ℕ → List ℕ
 octal_digits zero n = []
 octal_digits (suc width) n = octal_digits width (n / 8) ++ (48 + n % 8) ∷ []

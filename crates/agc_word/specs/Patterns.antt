@@ -1,4 +1,4 @@
--- A pattern and the number that it stands for give each other back.
+-- A pattern and the number that it stands for determine each other.
 use Rattle.std.specs.Prelude.{◌≡◌, ℕ, ◌^◌, ◌<◌}
 use Rattle.std.proofs.Common.{arith}
 use Rattle.std.proofs.lemmas.Bool.Decides.{nat_tests}

@@ -4,12 +4,12 @@ use Rattle.std.specs.Prelude.{min, nat_le, Bool, not, ◌&&◌, ℤ, pos, ◌+�
 use Rattle.std.specs.Prelude.{nat_abs, Option, Some, None, if◌then◌else◌}
 use Rattle.agc_word.specs.Number.{Number, value}
 
--- whether one of two numbers is minus and the other plus, which makes a product or a quotient minus
+-- whether one of two numbers is minus and the other plus; then a product or a quotient is minus
 abbrev pub signs_differ : Bool → Bool → Bool
 signs_differ one other = if one then not other else other
 
--- The product's magnitude stands in two words of fourteen digits, both with its sign, also where a
--- word is zero. To multiply by +0 or -0 gives +0 in both.
+-- The product's magnitude in two words of fourteen digits, both with its sign, even if a word is
+-- zero. A factor of +0 or -0 gives +0 in both.
 unfoldable pub product_of : Number → Number → Number × Number
 product_of a k =
     let size = a.magnitude * k.magnitude in
@@ -18,16 +18,16 @@ product_of a k =
     let lower : Number = record { minus = sign; magnitude = size % 0o40000 } in
     (upper, lower)
 
--- the number in two words that division takes: the lower one may have another sign than the upper
+-- the number in two words that division takes: the lower one may have a different sign
 abbrev pub dividend_of : Number → Number → ℤ
 dividend_of a l = pos 0o40000 *ℤ value a +ℤ value l
 
--- its sign is the upper word's, and the lower word's where the upper one is a zero
+-- its sign is the upper word's, or the lower word's if the upper one is a zero
 abbrev pub dividend_is_minus : Number → Number → Bool
 dividend_is_minus a l = if a.magnitude == 0 then l.minus else a.minus
 
--- The quotient and the remainder, where the divisor is no zero and the quotient fits a word. At
--- equality the quotient is the largest one, and the remainder as large as the divisor.
+-- The quotient and the remainder, if the divisor is not zero and the quotient fits a word. At
+-- equality the quotient is the largest word, and the remainder equals the divisor.
 unfoldable pub quotient_of : Number → Number → Number → Option (Number × Number)
 quotient_of a l k =
     let size = nat_abs (dividend_of a l) in
@@ -39,8 +39,8 @@ quotient_of a l k =
     if fits then Some (quotient, remainder) else None
 
 -- The law of division: quotient q and remainder r make up the dividend, and the remainder is below
--- the divisor, or equal to it where the quotient is the largest word. The quotient is minus where
--- the signs differ, and the remainder has the dividend's sign.
+-- the divisor, or equal to it if the quotient is the largest word. The quotient is minus if the
+-- signs differ, and the remainder has the dividend's sign.
 pub record IsDivision (a l k q r : Number) : Type 0 where
   pub divisor : 0 < k.magnitude
   pub fits : q.magnitude ≤ 0o37777

@@ -1,4 +1,4 @@
--- What a counter cell becomes when a pulse steps it, and whether a carry comes out.
+-- How a pulse changes a counter cell, and whether a carry comes out.
 use Rattle.std.specs.Prelude.{◌+◌, ◌-◌, ◌%◌, ◌==◌, ℕ, false, true, List}
 use Rattle.std.specs.Prelude.{[], ◌∷◌, ◌++◌, codes, get_or, drop, if◌then◌else◌}
 use Rattle.agc_word.specs.Number.{Number, plus_one, minus_one, number_from_pattern, pattern_of}

@@ -1,10 +1,10 @@
-//! The adder, and what is made of it.
+//! The adder, and the operations built on it.
 ghost use Rattle.std.specs.Prelude.{◌≡◌};
 ghost use Rattle.agc_word.specs.Arithmetic.{sum_of, complement_of, dabs_of};
 
 use crate::wide::Wide;
 
-/// The sum of two words, with end-around carry. A zero sum is +0 only where both terms are +0.
+/// Returns the sum of two words, with end-around carry. A zero sum is +0 only if both terms are +0.
 #[inline]
 #[tactic(auto, unfolding(crate::specs::Arithmetic::sum_of))]
 pub fn sum(x: Wide, y: Wide) -> Wide
@@ -14,7 +14,7 @@ pub fn sum(x: Wide, y: Wide) -> Wide
     Wide::from_bits(low + u16::from(carry))
 }
 
-/// The word with the other sign.
+/// Returns the word with the other sign.
 #[inline]
 #[tactic(auto, unfolding(crate::specs::Arithmetic::complement_of))]
 pub fn complement(x: Wide) -> Wide
@@ -23,7 +23,7 @@ pub fn complement(x: Wide) -> Wide
     Wide::from_bits(u16::MAX - x.bits())
 }
 
-/// The diminished absolute value, which CCS leaves in A: the magnitude less one, not below 0.
+/// Returns the diminished absolute value, which CCS leaves in A: the magnitude less one, not below 0.
 #[inline]
 #[tactic(auto, unfolding(crate::specs::Arithmetic::dabs_of))]
 pub fn dabs(x: Wide) -> Wide

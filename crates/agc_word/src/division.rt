@@ -5,9 +5,9 @@ ghost use Rattle.agc_word.specs.Products.{product_of, quotient_of, dividend_of, 
 
 use crate::narrow::Narrow;
 
-/// The product in two words: its magnitude divided by 40000 octal, and the rest. Both have its sign,
-/// also where a word is zero; where `k` is a zero of either sign both are +0. Together they are the
-/// product of the values, as a dividend is read.
+/// Returns the product in two words: its magnitude divided by 40000 octal, and the remainder. Both
+/// words have the product's sign, even a word that is zero; if `k` is a zero of either sign, both
+/// are +0. Read as a dividend, the two words are the product of the values.
 #[inline]
 #[tactic(auto, unfolding(crate::specs::Products::product_of))]
 pub fn product(a: Narrow, k: Narrow) -> (Narrow, Narrow)
@@ -22,8 +22,8 @@ pub fn product(a: Narrow, k: Narrow) -> (Narrow, Narrow)
     )
 }
 
-/// The quotient and the remainder of the number in `a` and `l` by `k`; `None` where `k` is a zero
-/// of either sign, and where the dividend is more than 40000 octal times as large as `k`.
+/// Divides the number in `a` and `l` by `k`: returns the quotient and the remainder. Returns `None` if `k` is a zero of
+/// either sign, or if the dividend is more than 40000 octal times as large as `k`.
 #[tactic(auto, unfolding(crate::specs::Products::quotient_of))]
 pub fn quotient(a: Narrow, l: Narrow, k: Narrow) -> Option<(Narrow, Narrow)>
     ensures pair { result ≡ quotient_of a l k }
@@ -51,7 +51,7 @@ pub fn quotient(a: Narrow, l: Narrow, k: Narrow) -> Option<(Narrow, Narrow)>
     ))
 }
 
-/// The whole part, at most 37777 octal, and what is left.
+/// Returns the whole part, at most 37777 octal, and the remainder.
 fn divided(dividend: u32, divisor: u32) -> (u16, u16)
     requires positive { 0 < divisor }
     requires narrow { divisor < 2 ^ 14 }

@@ -1,11 +1,11 @@
-//! The four editing registers, which shift or cut each word that is written into them.
+//! The four editing registers, which rotate, shift or cut each word written into them.
 ghost use Rattle.std.specs.Prelude.{◌≡◌};
 ghost use Rattle.agc_word.specs.Edits.{edited};
 
 use crate::narrow::Narrow;
 
-/// What an editing register does to a word: CYR turns it right one place, SR shifts it right one
-/// place and keeps the sign, CYL turns it left one place, EDOP keeps bits 14 to 8 as bits 7 to 1.
+/// What an editing register does to a word: CYR rotates it right one place, SR shifts it right one
+/// place and keeps the sign, CYL rotates it left one place, EDOP keeps bits 14 to 8 as bits 7 to 1.
 #[derive(Clone, Copy, Debug, PartialEq, Eq)]
 pub enum Edit {
     Cyr,
@@ -15,7 +15,7 @@ pub enum Edit {
 }
 
 impl Narrow {
-    /// The word as the editing register makes it.
+    /// Returns the word as the editing register stores it.
     #[inline]
     pub fn edit(self, how: Edit) -> Narrow
         ensures { result ≡ edited how self }

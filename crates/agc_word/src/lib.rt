@@ -1,5 +1,5 @@
-//! The words of the Block II computer and their arithmetic: ones' complement, with two zeros; and its channels,
-//! by name.
+//! Words: fifteen-bit ones' complement numbers with two zeros, their arithmetic and text, and the names of the
+//! channels.
 #![tactic(auto)]
 
 mod angle;
@@ -12,6 +12,7 @@ mod logic;
 mod narrow;
 mod numeral;
 mod pulse;
+mod text;
 mod wide;
 
 pub use angle::modular_difference;
@@ -24,4 +25,5 @@ pub use logic::{and, or, xor};
 pub use narrow::Narrow;
 pub use numeral::{read_decimal, read_octal};
 pub use pulse::{Carry, Pulse};
+pub use text::{next_line, next_word, without_return};
 pub use wide::{Over, Wide, widen};

@@ -4,7 +4,7 @@ ghost use Rattle.agc_word.specs.Logic.{and_of, or_of, xor_of};
 
 use crate::wide::Wide;
 
-/// A digit is 1 where both words' digits are.
+/// Returns the bitwise AND.
 #[inline]
 pub fn and(x: Wide, y: Wide) -> Wide
     ensures { result ≡ and_of x y }
@@ -12,7 +12,7 @@ pub fn and(x: Wide, y: Wide) -> Wide
     Wide::from_bits(x.bits() & y.bits())
 }
 
-/// A digit is 1 where either word's digit is.
+/// Returns the bitwise OR.
 #[inline]
 pub fn or(x: Wide, y: Wide) -> Wide
     ensures { result ≡ or_of x y }
@@ -20,7 +20,7 @@ pub fn or(x: Wide, y: Wide) -> Wide
     Wide::from_bits(x.bits() | y.bits())
 }
 
-/// A digit is 1 where the words' digits differ.
+/// Returns the bitwise exclusive OR.
 #[inline]
 pub fn xor(x: Wide, y: Wide) -> Wide
     ensures { result ≡ xor_of x y }

@@ -36,7 +36,7 @@ impl Narrow {
     /// -0, `77777` in octal.
     pub const MINUS_ZERO: Narrow = Narrow { bits: 0o77777 };
 
-    /// The word with this pattern; `None` above `77777` octal.
+    /// Returns the word with this pattern, or `None` above `77777` octal.
     #[inline]
     pub fn from_bits(bits: u16) -> Option<Narrow>
         ensures fits { IsSome result ↔ (bits < 2 ^ 15) }
@@ -49,7 +49,7 @@ impl Narrow {
         }
     }
 
-    /// The word's pattern, at most `77777` octal.
+    /// Returns the word's pattern, at most `77777` octal.
     #[inline]
     pub fn bits(self) -> u16
         ensures pattern { result ≡ pattern_of 15 self }
@@ -59,7 +59,7 @@ impl Narrow {
         self.bits
     }
 
-    /// The word with this pattern, for a caller who knows that it has fifteen bits.
+    /// Returns the word with this pattern. The caller guarantees that it has fifteen bits.
     #[inline]
     pub fn with_bits(bits: u16) -> Narrow
         requires { bits < 2 ^ 15 }
@@ -68,7 +68,7 @@ impl Narrow {
         Narrow { bits }
     }
 
-    /// Whether the sign, bit 15, is minus.
+    /// Returns whether the sign, bit 15, is minus.
     #[inline]
     pub fn is_minus(self) -> bool
         ensures { result ≡ self.minus }
@@ -76,7 +76,7 @@ impl Narrow {
         self.bits >= 0o40000
     }
 
-    /// Whether a bit is 1. Bits are counted from 1 on the right to 15.
+    /// Returns whether a bit is 1. Bits are counted from the right, 1 to 15.
     #[inline]
     #[tactic(auto, unfolding(crate::specs::Number::bit_of))]
     pub fn bit(self, place: u32) -> bool
@@ -87,7 +87,7 @@ impl Narrow {
         self.bits >> (place - 1) & 1 == 1
     }
 
-    /// The number without its sign, at most 37777 octal.
+    /// Returns the magnitude, at most 37777 octal.
     #[inline]
     pub fn magnitude(self) -> u16
         ensures size { result ≡ self.magnitude }
@@ -100,7 +100,7 @@ impl Narrow {
         }
     }
 
-    /// The word with this sign and magnitude.
+    /// Returns the word with this sign and magnitude.
     #[inline]
     pub fn signed(minus: bool, magnitude: u16) -> Narrow
         requires { magnitude < 2 ^ 14 }
@@ -116,7 +116,7 @@ impl Narrow {
     }
 }
 
-/// +0.
+/// The default is +0.
 impl Default for Narrow {
     ghost is_default = { λ x. x ≡ record { minus = false; magnitude = 0 } };
 
@@ -125,7 +125,7 @@ impl Default for Narrow {
     }
 }
 
-/// The pattern in five octal digits, as listings print a word.
+/// Prints the pattern in five octal digits, as listings print a word.
 impl fmt::Display for Narrow {
     ghost output = { λ x. Some (word_digits x) };
 

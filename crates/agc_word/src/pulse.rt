@@ -6,8 +6,8 @@ use crate::arithmetic::sum;
 use crate::narrow::Narrow;
 use crate::wide::{Over, Wide, widen};
 
-/// How a pulse changes a counter: PINC adds 1 and MINC takes 1, DINC steps towards zero, PCDU and
-/// MCDU add and take 1 on the pattern, as a shaft's angle counts, SHINC and SHANC shift in a 0 or 1.
+/// How a pulse changes a counter: PINC adds 1 and MINC subtracts 1, DINC steps towards zero, PCDU and MCDU add and
+/// subtract 1 in two's complement, as a shaft angle counts, SHINC and SHANC shift in a 0 or 1.
 #[derive(Clone, Copy, Debug, PartialEq, Eq)]
 pub enum Pulse {
     Pinc,
@@ -20,7 +20,7 @@ pub enum Pulse {
 }
 
 impl Pulse {
-    /// Its name, as scripts write it.
+    /// Returns the name that scripts use.
     #[tactic(auto, unfolding(crate::specs::Pulses::pulse_name))]
     pub fn name(self) -> &'static str
         ensures { result.now ≡ pulse_name self }
@@ -45,7 +45,7 @@ pub enum Carry {
 }
 
 impl Narrow {
-    /// The counter after a pulse, and the carry that comes out of it.
+    /// Returns the counter after a pulse, and the carry out of it.
     #[tactic(auto, unfolding(crate::specs::Pulses::pulsed))]
     pub fn pulse(self, kind: Pulse) -> (Narrow, Carry)
         ensures { result ≡ pulsed kind self }

@@ -8,7 +8,7 @@ use crate::narrow::Narrow;
 use std::fmt;
 use std::marker::Model;
 
-/// Whether a wide word has left the range of a narrow one, and on which side.
+/// Whether a wide word is outside the range of a narrow one, and on which side.
 #[derive(Clone, Copy, Debug, PartialEq, Eq)]
 pub enum Over {
     None,
@@ -16,8 +16,8 @@ pub enum Over {
     Minus,
 }
 
-/// A word of sixteen bits in ones' complement, as the registers A and Q hold it: bit 16 is the
-/// sign, and where bit 15 differs from it the word has overflow.
+/// A word of sixteen bits in ones' complement, as the registers A and Q hold it. Bit 16 is the
+/// sign; if bit 15 differs from it, the word has overflowed.
 #[derive(Clone, Copy, Debug, PartialEq, Eq)]
 pub struct Wide {
     bits: u16,
@@ -52,7 +52,7 @@ impl Wide {
     /// -1, `177776` in octal.
     pub const MINUS_ONE: Wide = Wide { bits: 0o177776 };
 
-    /// The word with this pattern.
+    /// Returns the word with this pattern.
     #[inline]
     pub fn from_bits(bits: u16) -> Wide
         ensures { result ≡ number_from_pattern 16 bits }
@@ -60,7 +60,7 @@ impl Wide {
         Wide { bits }
     }
 
-    /// The word's pattern.
+    /// Returns the word's pattern.
     #[inline]
     pub fn bits(self) -> u16
         ensures pattern { result ≡ pattern_of 16 self }
@@ -69,7 +69,7 @@ impl Wide {
         self.bits
     }
 
-    /// Overflow correction: keeps bit 16 as the sign, and bits 14 to 1.
+    /// Corrects overflow: keeps bit 16 as the sign, and bits 14 to 1.
     #[inline]
     #[tactic(auto, unfolding(crate::specs::Arithmetic::narrow_of))]
     pub fn narrow(self) -> Narrow
@@ -78,7 +78,7 @@ impl Wide {
         Narrow::with_bits(self.bits / 0o100000 * 0o40000 + self.bits % 0o40000)
     }
 
-    /// The overflow: plus or minus where bits 16 and 15 differ, by the sign in bit 16.
+    /// Returns the overflow: plus or minus, by the sign in bit 16, if bits 16 and 15 differ.
     #[inline]
     #[tactic(auto, unfolding(crate::specs::Arithmetic::over_of))]
     pub fn over(self) -> Over
@@ -92,7 +92,7 @@ impl Wide {
     }
 }
 
-/// +0.
+/// The default is +0.
 impl Default for Wide {
     ghost is_default = { λ x. x ≡ record { minus = false; magnitude = 0 } };
 
@@ -101,7 +101,7 @@ impl Default for Wide {
     }
 }
 
-/// The pattern in six octal digits.
+/// Prints the pattern in six octal digits.
 impl fmt::Display for Wide {
     ghost output = { λ x. Some (octal_digits 6 (pattern_of 16 x)) };
 
@@ -111,8 +111,8 @@ impl fmt::Display for Wide {
     }
 }
 
-/// The same number in sixteen bits: bit 15 is copied into bit 16. It has no overflow, so that
-/// narrowing gives the word back.
+/// Extends a word to sixteen bits: bit 15 is copied into bit 16. The result has no overflow, so
+/// narrowing returns the same word.
 #[inline]
 #[tactic(auto, unfolding(crate::specs::Arithmetic::narrow_of))]
 pub fn widen(x: Narrow) -> Wide
