@@ -1,11 +1,11 @@
-//! When it is shown how far a run has come.
-use crate::Progress;
-use crate::ticker::{Shown, Ticker};
+//! Tests of when progress is shown.
+use crate::progress::Progress;
+use crate::ticker::{ProgressLine, Ticker};
 use std::io::{self, ErrorKind, IsTerminal, Write};
 use std::test::Fail;
 use std::time::{Clock, Duration, Instant};
 
-/// A clock that stands at so many milliseconds.
+/// A clock stopped at this many milliseconds.
 #[derive(Drop)]
 struct Stopped(u64);
 
@@ -19,7 +19,7 @@ impl Clock for Stopped {
     }
 }
 
-/// A stream in memory that is a terminal or not, and whose first write may fail.
+/// A stream in memory that may be a terminal and whose first write may fail.
 #[derive(Drop)]
 struct Screen {
     bytes: Vec<u8>,
@@ -48,8 +48,9 @@ impl IsTerminal for Screen {
     }
 }
 
-/// What a run shows that comes to a cycle more at each of six times: it starts at ten seconds, and the others
-/// are a millisecond before and just at two seconds later, half a second after that, and a minute.
+/// Returns what a ticker shows for six reports, each one cycle further. The first is at ten seconds; the others come a
+/// millisecond before two seconds later, exactly two seconds later, just under and exactly half a second after that,
+/// and a minute after that.
 fn shown(rt: &impl AllocGlobal, is_terminal: bool, fails: bool) -> Vec<u8> {
     let start = Stopped(10_000);
     let screen = Screen {
@@ -70,8 +71,8 @@ fn shown(rt: &impl AllocGlobal, is_terminal: bool, fails: bool) -> Vec<u8> {
     ticker.err.bytes
 }
 
-/// On a terminal the first line comes after two seconds, and the next ones half a second later at least; what is
-/// shown is wiped. Nothing more is shown where a line cannot be written, and nothing at all beside a terminal.
+/// On a terminal the first line comes after two seconds, and later lines at least half a second apart; the last line is
+/// wiped. After a failed write nothing more is shown, and without a terminal nothing at all.
 #[test]
 fn lines_come_in_their_time(rt: HostRuntime) {
     let lines =
@@ -81,7 +82,7 @@ fn lines_come_in_their_time(rt: HostRuntime) {
     assert!(rt; shown(&rt, false, false).is_empty());
 }
 
-/// A line that is due is shown; the next one is not due yet, and what is shown is wiped once.
+/// A due line is shown; the next report is not due yet, and the line is wiped once.
 #[test]
 fn progress_is_shown_and_wiped(rt: HostRuntime) -> Result<(), Fail> {
     let clock = Stopped(10_000);

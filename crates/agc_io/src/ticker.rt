@@ -1,43 +1,42 @@
-//! Progress on a terminal: one line of standard error, which is written over and wiped in the end.
-use crate::{Progress, Untold};
+//! Progress on a terminal: one line on standard error, overwritten and wiped at the end.
+use crate::progress::{NoProgress, Progress};
 use std::io::{IsTerminal, Write};
 use std::time::{Clock, Duration, Instant};
 
-/// How many milliseconds a run goes on before it is shown how far it has come.
+/// Milliseconds before the first progress line.
 const PATIENCE: u64 = 2000;
 
-/// How many milliseconds a line stands before it is written over.
+/// Milliseconds between two progress lines.
 const PERIOD: u64 = 500;
 
-/// A progress that may be shown, and wiped.
-pub trait Shown: Progress {
-    /// Takes away what is shown.
+/// Progress that may be shown on a line, and wiped.
+pub trait ProgressLine: Progress {
+    /// Wipes the line, if one is shown.
     fn wipe(&mut self);
 }
 
-impl Shown for Untold {
+impl ProgressLine for NoProgress {
     fn wipe(&mut self) {}
 }
 
-/// Shows how far a run has come, beside what the program prints: on a terminal alone, once two seconds
-/// have gone by, and each half second at most. It writes by a handle of its own. Where the clock or the
-/// terminal fails, nothing is shown any more.
+/// Shows how far a run has come, apart from what the program prints: only on a terminal, after two seconds, and at most
+/// every half second. It writes through its own handle. If the clock or the terminal fails, it shows nothing more.
 #[derive(Drop)]
 pub struct Ticker<'a, C, E> {
     pub(crate) clock: &'a C,
     pub(crate) err: E,
     /// The program's name, at the start of each line.
     pub(crate) name: &'a str,
-    /// The last cycle to which the run may come.
+    /// The limit of the run, in cycles.
     pub(crate) last: u64,
-    /// When the next line is due; with `None` never.
+    /// When the next line is due; `None` means never.
     pub(crate) due: Option<Instant>,
     /// A line was shown and not wiped yet.
     pub(crate) is_shown: bool,
 }
 
 impl<'a, C: Clock, E: Write + IsTerminal> Ticker<'a, C, E> {
-    /// Nothing is shown yet, and nothing will be where this is no terminal.
+    /// Makes a ticker that has shown nothing yet, and never will if `err` is no terminal.
     pub fn new(clock: &'a C, err: E, name: &'a str, last: u64) -> Ticker<'a, C, E> {
         let due = if err.is_terminal() {
             time_from_now(clock, PATIENCE)
@@ -61,7 +60,7 @@ impl<'a, C: Clock, E: Write> Progress for Ticker<'a, C, E> {
             return;
         }
         let (name, last) = (self.name, self.last);
-        // The line ends at its start, so that what is printed next is written over it.
+        // The line ends with a return to its start, so that the next output overwrites it.
         self.due = match write!(self.err, "\r{name}: cycle {cycle} of {last}\r") {
             Ok(()) => time_from_now(self.clock, PERIOD),
             Err(_) => None,
@@ -70,7 +69,7 @@ impl<'a, C: Clock, E: Write> Progress for Ticker<'a, C, E> {
     }
 }
 
-impl<'a, C: Clock, E: Write> Shown for Ticker<'a, C, E> {
+impl<'a, C: Clock, E: Write> ProgressLine for Ticker<'a, C, E> {
     fn wipe(&mut self) {
         if self.is_shown {
             // A line that cannot be wiped stays.
@@ -80,7 +79,7 @@ impl<'a, C: Clock, E: Write> Shown for Ticker<'a, C, E> {
     }
 }
 
-/// The time that comes so many milliseconds from now, where the clock tells one.
+/// Returns the time this many milliseconds from now, or `None` if the clock fails.
 fn time_from_now<C: Clock>(clock: &C, millis: u64) -> Option<Instant> {
     match Instant::now(clock) {
         Ok(now) => now.checked_add(Duration::from_millis(millis)),
@@ -88,7 +87,7 @@ fn time_from_now<C: Clock>(clock: &C, millis: u64) -> Option<Instant> {
     }
 }
 
-/// A time has come; one that never comes has not, and none has where the clock fails.
+/// Returns whether a time has come. `None` never comes, and nothing comes if the clock fails.
 fn is_past<C: Clock>(clock: &C, time: Option<Instant>) -> bool {
     match (time, Instant::now(clock)) {
         (Some(time), Ok(now)) => time <= now,
