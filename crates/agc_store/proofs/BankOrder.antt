@@ -1,4 +1,4 @@
--- The banks of a file stand in the order of the list.
+-- The banks of a file are in the order of the list.
 use Rattle.std.proofs.Common.{◌≡◌, ℕ, zero, suc, ◌+◌, ◌*◌, ◌/◌, ◌%◌, ◌<◌, List, get_or, refl, ◌∙◌, arith}
 use Rattle.std.proofs.lemmas.Bool.Decides.{nat_tests}
 use Rattle.std.proofs.lemmas.List.FromFn.{get_or-range_with_len, get_or-map-range_with_len}
@@ -8,7 +8,7 @@ use Rattle.agc_store.specs.Memory.{nothing, fixed_at}
 use Rattle.agc_store.specs.Cells.{narrow_number}
 use Rattle.agc_store.specs.RopeFile.{file_word, file_bank, file_index, banks_of, rope_word_at, first_words, rope_words, FollowsBanks}
 
--- the i-th bank of the list stands i-th in the file
+-- the i-th bank of the list is the i-th in the file
 record IsIth (form : RopeForm) (i bank : ℕ) : Type 0 where
   below : bank < 36
   stands : file_bank form bank ≡ i

@@ -1,4 +1,4 @@
--- A jump that fetches the next order sets Z twice, and no fixed word hangs on Z.
+-- A jump that fetches the next order sets Z twice, and no fixed word depends on Z.
 use Rattle.std.proofs.Common.{◌≡◌, ℕ, ◌<◌, ◌≤◌, length, ap, arith}
 use Rattle.std.proofs.lemmas.List.{get_or-set_same, get_or-set_other, set-set}
 use Rattle.std.proofs.lemmas.Bool.Decides.{nat_tests}
@@ -10,7 +10,7 @@ use Rattle.agc_store.specs.Cells.{narrow_number, cells_with, fetch_of, put_of, s
 use Rattle.agc_store.specs.Registers.{register, z_of}
 use Rattle.agc_store.proofs.Kept.{stored_address}
 
--- the later word alone is left in Z
+-- only the later word is left in Z
 pub put_twice : (m : Memory) (a b : Number) → put_of (put_of m z_cell a) z_cell b ≡ put_of m z_cell b
 unfolding put_of cells_with
 put_twice m a b =

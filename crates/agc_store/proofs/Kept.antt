@@ -1,4 +1,4 @@
--- The cells of a store stay in order when a write is done.
+-- The cells of a store stay well-formed after a write.
 use Rattle.std.proofs.Common.{◌≡◌, ◌≢◌, ℕ, ◌+◌, ◌*◌, ◌^◌, ◌<◌, List, get_or, set, length, ◌∙◌, arith, replicate, inl, inr, Bool, false}
 use Rattle.std.proofs.lemmas.List.{length-set, get_or-set_other, get_or-replicate, get_or_past, get_or_default, length-replicate}
 use Rattle.std.proofs.lemmas.Bool.Decides.{nat_tests}
@@ -72,7 +72,7 @@ pub fixed_bank-banks : (cells : List Number) (eb fb : ℕ) → length cells ≡ 
 unfolding fixed_bank cell_at with_banks
 fixed_bank-banks cells eb fb h e f = grind (arith, common_steps, nat_tests)
 
--- the cells that a change of banks leaves alone
+-- the cells that a change of banks leaves unchanged
 pub cell_at-banks : (cells : List Number) (eb fb k : ℕ) → k ≢ eb_cell → k ≢ fb_cell → k ≢ bb_cell → cell_at k (with_banks cells eb fb) ≡ cell_at k cells
 unfolding cell_at with_banks
 cell_at-banks cells eb fb k p q r =
@@ -137,7 +137,7 @@ bank_with_superbank-lt : (superbank : Bool) (bank : ℕ) → bank < 32 → bank_
 unfolding bank_with_superbank
 bank_with_superbank-lt superbank bank h = grind (arith, nat_tests)
 
--- the places that are kept once the banks are set
+-- the cached places once the banks are set
 pub banks_places : (cells : List Number) (superbank : Bool) (eb fb : ℕ) → length cells ≡ 2048 → eb < 8 → fb < 32 → pattern_of 16 (cell_at z_cell cells) < 0o10000 → KeepsPlaces (with_banks cells eb fb) superbank (0o400 * eb) (0o2000 * bank_with_superbank superbank fb)
 banks_places cells superbank eb fb h e f z =
     record {
@@ -147,7 +147,7 @@ banks_places cells superbank eb fb h e f z =
       z = rw (cell_at-banks cells eb fb z_cell (omega arith) (omega arith) (omega arith)) z;
     }
 
--- the places that are kept at the start
+-- the cached places at the start
 pub start_places : (count : ℕ) → KeepsPlaces (cleared_cells count) false 0 0
 unfolding bank_with_superbank
 start_places count =
@@ -158,7 +158,7 @@ start_places count =
       z = rw (cell_at-cleared count z_cell) (omega arith);
     }
 
--- L reads as it stands
+-- L reads as it is
 pub narrow_of-l : (cells : List Number) (x : Number) → HoldsRegisters cells → narrow_of (get_or cells l_cell x) ≡ cell_at l_cell cells
 unfolding cell_at
 narrow_of-l cells x holds =

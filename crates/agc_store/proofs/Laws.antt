@@ -1,4 +1,5 @@
--- What crates above may use of a write: the fixed words and the superbank stay, other cells stay, and a plain cell reads back.
+-- What crates above may use of a write: the fixed words and the superbank stay, other cells stay, and a plain cell
+-- reads back.
 use Rattle.std.proofs.Common.{◌≡◌, ◌≢◌, ℕ, ◌<◌, List, set, length, refl, arith}
 use Rattle.std.proofs.lemmas.List.{length-set, get_or-set_other}
 use Rattle.std.proofs.lemmas.Bool.Decides.{nat_tests}

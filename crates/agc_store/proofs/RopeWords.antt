@@ -15,12 +15,12 @@ pub first_words_none : (form : RopeForm) (bytes : List ℕ) → first_words 0 fo
 unfolding first_words
 first_words_none form bytes = refl
 
--- one word more
+-- one more word
 pub first_words_more : (form : RopeForm) (bytes : List ℕ) (count : ℕ) → first_words (count + 1) form bytes ≡ first_words count form bytes ++ rope_word_at form bytes count ∷ []
 unfolding first_words
 first_words_more form bytes count = map-range_with_len_more (rope_word_at form bytes) 0 count count (zero-add count)
 
--- so many words
+-- a number of words
 pub length_first_words : (count : ℕ) (form : RopeForm) (bytes : List ℕ) → length (first_words count form bytes) ≡ count
 unfolding first_words
 length_first_words count form bytes = length-map-range_with_len (rope_word_at form bytes) 0 count

@@ -31,29 +31,29 @@ edit_at place =
     else if place == cyl_cell then edit.Cyl
     else edit.Edop
 
--- whether an erasable cell is an editing register: these stand from CYR to EDOP
+-- whether an erasable cell is an editing register: these are CYR to EDOP
 abbrev pub is_editing : ℕ → Bool
 is_editing place = nat_le cyr_cell place && nat_le place edop_cell
 
--- the pattern of fifteen bits that a narrow cell takes of a word: overflow is corrected first
+-- the pattern of fifteen bits that a narrow cell takes from a word: overflow is corrected first
 abbrev pub stored_pattern : Number → ℕ
 stored_pattern w = pattern_of 15 (narrow_of w)
 
--- the erasable bank that a word names which is written to EB: its bits 11 to 9
+-- the erasable bank of a word that is written to EB: its bits 11 to 9
 abbrev pub bank_in_eb : Number → ℕ
 bank_in_eb w = stored_pattern w / erasable_bank_size % 0o10
 
--- the fixed bank that a word names which is written to FB or BB: its bits 15 to 11
+-- the fixed bank of a word that is written to FB or BB: its bits 15 to 11
 abbrev pub bank_in_fb : Number → ℕ
 bank_in_fb w = stored_pattern w / fixed_bank_size
 
--- the erasable bank that a word names which is written to BB: its bits 3 to 1
+-- the erasable bank of a word that is written to BB: its bits 3 to 1
 abbrev pub bank_in_bb : Number → ℕ
 bank_in_bb w = stored_pattern w % 0o10
 
--- What a write of a wide word to an erasable cell leaves in the cells. A and Q take the word as it
--- is, every other cell the corrected word: EB keeps bits 11 to 9, FB bits 15 to 11, Z bits 12 to 1;
--- BB sets EB and FB, ZERO ignores it, an editing register edits it.
+-- The cells after a wide word is written to an erasable cell. A and Q take the word as it is, every
+-- other cell the corrected word: EB keeps bits 11 to 9, FB bits 15 to 11, Z bits 12 to 1; BB sets
+-- EB and FB, ZERO ignores it, an editing register edits it.
 unfoldable pub cells_with : List Number → ℕ → Number → List Number
 cells_with cells place w =
     if place == a_cell || place == q_cell then set cells place w
@@ -82,7 +82,7 @@ unfoldable pub named_cell : Memory → ℕ → Option ℕ
 named_cell m address =
     if is_erasable address then Some (erasable_place m.erasable address) else None
 
--- the memory once an order has put a word that it read back: only an editing register changes by it
+-- the memory after an order has written back a word that it read: only an editing register changes
 unfoldable pub reedit_of : Memory → ℕ → Memory
 reedit_of m address =
     if is_erasable address && is_editing (erasable_place m.erasable address)
@@ -102,11 +102,11 @@ unfoldable pub poke_of : Memory → ℕ → ℕ → Number → Memory
 poke_of m bank offset w =
     record m { erasable = set m.erasable (erasable_bank_size * bank + offset) w }
 
--- the memory with the superbank on or off, and all else as it was
+-- the memory with the superbank on or off, and all else unchanged
 unfoldable pub superbank_set : Memory → Bool → Memory
 superbank_set m on = record m { superbank = on }
 
--- so many cells of +0
+-- this many cells of +0
 unfoldable pub cleared_cells : ℕ → List Number
 cleared_cells count = replicate count nothing
 

@@ -1,12 +1,12 @@
--- The whole memory as one flat thing: erasable cells, fixed words, and the superbank bit.
+-- The whole memory, flat: erasable cells, fixed words, and the superbank bit.
 use Rattle.std.specs.Prelude.{ℕ, ◌+◌, ◌-◌, ◌*◌, ◌/◌, ◌%◌, Bool, false, ◌&&◌}
 use Rattle.std.specs.Prelude.{List, get_or, nat_lt, nat_le, if◌then◌else◌}
 use Rattle.agc_word.specs.Number.{Number, pattern_of}
 use Rattle.agc_store.specs.Places.{eb_cell, fb_cell, erasable_bank_size, fixed_bank_size}
 use Rattle.agc_store.specs.Places.{erasable_window, fixed_window, fixed_fixed}
 
--- The erasable cells, in 8 banks one after the other, of which the first are the registers, and the
--- fixed words, in 36 banks. A and Q hold wide numbers, every other cell narrow ones.
+-- The erasable cells, in 8 banks that begin with the registers, and the fixed words, in 36 banks. A
+-- and Q hold wide numbers, every other cell narrow ones.
 pub record Memory : Type 0 where
   pub erasable : List Number
   pub fixed : List Number
@@ -28,7 +28,7 @@ erasable_bank cells = pattern_of 15 (cell_at eb_cell cells) / erasable_bank_size
 unfoldable pub fixed_bank : List Number → ℕ
 fixed_bank cells = pattern_of 15 (cell_at fb_cell cells) / fixed_bank_size
 
--- The bank that FB's bank stands for: the superbank adds ten octal to the banks 30 octal and up.
+-- The bank that the bank in FB selects: the superbank adds ten octal to the banks 30 octal and up.
 unfoldable pub bank_with_superbank : Bool → ℕ → ℕ
 bank_with_superbank superbank bank = if superbank && nat_le 0o30 bank then bank + 0o10 else bank
 
@@ -40,16 +40,16 @@ selected_bank m = bank_with_superbank m.superbank (fixed_bank m.erasable)
 abbrev pub is_erasable : ℕ → Bool
 is_erasable address = nat_lt address fixed_window
 
--- the erasable cell that such an address names: below the window stand the banks 0, 1 and 2, and in
--- it the bank that EB names
+-- the erasable cell that such an address names: below the window the banks 0, 1 and 2, and in it
+-- the bank in EB
 unfoldable pub erasable_place : List Number → ℕ → ℕ
 erasable_place cells address =
     if nat_lt address erasable_window
     then address
     else erasable_bank_size * erasable_bank cells + (address - erasable_window)
 
--- the fixed word that another address names: in the window one of the selected bank, and from 4000
--- octal on one of the banks 02 and 03
+-- the fixed word that any other address names: in the window one of the selected bank, and from
+-- 4000 octal one of the banks 02 and 03
 unfoldable pub fixed_place : Memory → ℕ → ℕ
 fixed_place m address =
     if nat_lt address fixed_fixed

@@ -1,7 +1,7 @@
--- The places that have a name: cells of the first erasable bank, and where the windows stand.
+-- Named places: cells of the first erasable bank, and the address windows.
 use Rattle.std.specs.Prelude.{ℕ}
 
--- A, the accumulator: sixteen bits, of which the two highest tell overflow
+-- A, the accumulator: sixteen bits; the two highest show overflow
 abbrev pub a_cell : ℕ
 a_cell = 0o0
 
@@ -9,7 +9,7 @@ a_cell = 0o0
 abbrev pub l_cell : ℕ
 l_cell = 0o1
 
--- Q, which TC gives the address to return to: sixteen bits
+-- Q, where TC puts the return address: sixteen bits
 abbrev pub q_cell : ℕ
 q_cell = 0o2
 
@@ -29,19 +29,19 @@ z_cell = 0o5
 abbrev pub bb_cell : ℕ
 bb_cell = 0o6
 
--- ZERO, which is +0 whatever is written
+-- ZERO, which always reads +0
 abbrev pub zero_cell : ℕ
 zero_cell = 0o7
 
--- ZRUPT, which keeps Z while an interrupt runs
+-- ZRUPT, which saves Z while an interrupt runs
 abbrev pub zrupt_cell : ℕ
 zrupt_cell = 0o15
 
--- BRUPT, which keeps the order that an interrupt came before
+-- BRUPT, which saves the order that an interrupt preceded
 abbrev pub brupt_cell : ℕ
 brupt_cell = 0o17
 
--- CYR, which turns a word right one place
+-- CYR, which rotates a word right one place
 abbrev pub cyr_cell : ℕ
 cyr_cell = 0o20
 
@@ -49,7 +49,7 @@ cyr_cell = 0o20
 abbrev pub sr_cell : ℕ
 sr_cell = 0o21
 
--- CYL, which turns a word left one place
+-- CYL, which rotates a word left one place
 abbrev pub cyl_cell : ℕ
 cyl_cell = 0o22
 
@@ -65,15 +65,15 @@ time2_cell = 0o24
 abbrev pub time1_cell : ℕ
 time1_cell = 0o25
 
--- TIME3, whose overflow asks for T3RUPT: the Waitlist's timer
+-- TIME3, whose overflow requests T3RUPT: the Waitlist's timer
 abbrev pub time3_cell : ℕ
 time3_cell = 0o26
 
--- TIME4, whose overflow asks for T4RUPT: the timer of the displays
+-- TIME4, whose overflow requests T4RUPT: the timer of the displays
 abbrev pub time4_cell : ℕ
 time4_cell = 0o27
 
--- TIME5, whose overflow asks for T5RUPT: the autopilot's timer
+-- TIME5, whose overflow requests T5RUPT: the autopilot's timer
 abbrev pub time5_cell : ℕ
 time5_cell = 0o30
 
@@ -101,11 +101,11 @@ fixed_bank_size = 0o2000
 abbrev pub fixed_banks : ℕ
 fixed_banks = 36
 
--- the fixed words: a place in the rope is below it, 2000 octal times a bank, and an offset
+-- the fixed words: a place in the rope is below this number, 2000 octal times the bank, plus the offset
 abbrev pub fixed_words : ℕ
 fixed_words = 36864
 
--- the places of forty fixed banks, as many as the bank registers and the superbank can name
+-- the places of forty fixed banks: all that the bank registers and the superbank can name
 abbrev pub fixed_places : ℕ
 fixed_places = 40960
 
@@ -117,6 +117,6 @@ erasable_window = 0o1400
 abbrev pub fixed_window : ℕ
 fixed_window = 0o2000
 
--- the first address of fixed-fixed memory: the banks 02 and 03, which are always at hand
+-- the first address of fixed-fixed memory: the banks 02 and 03, which can always be addressed
 abbrev pub fixed_fixed : ℕ
 fixed_fixed = 0o4000

@@ -1,4 +1,4 @@
--- The registers by name, and what holds of them in every store.
+-- The registers by name, and what is true of them in every store.
 use Rattle.std.specs.Prelude.{◌≡◌, ◌≢◌, ℕ, ◌+◌, ◌*◌, ◌%◌, ◌^◌, ◌<◌, List, length, Bool}
 use Rattle.agc_word.specs.Number.{Number, pattern_of}
 use Rattle.agc_store.specs.Places.{a_cell, q_cell, eb_cell, fb_cell, z_cell, bb_cell}
@@ -15,8 +15,8 @@ register cell m = cell_at cell m.erasable
 unfoldable pub z_of : Memory → ℕ
 z_of m = pattern_of 15 (register z_cell m) % 0o10000
 
--- There are 2048 cells, of which A and Q alone may hold words with overflow. EB and FB have zeros
--- beside the bits of their banks, BB shows both banks, and ZERO is +0.
+-- There are 2048 cells; only A and Q may hold words with overflow. EB and FB have zeros beside
+-- their bank bits, BB shows both banks, and ZERO is +0.
 pub record HoldsRegisters (cells : List Number) : Type 0 where
   pub count : length cells ≡ erasable_cells
   pub narrow : (k : ℕ) → k ≢ a_cell → k ≢ q_cell → (cell_at k cells).magnitude < 2 ^ 14
@@ -25,7 +25,7 @@ pub record HoldsRegisters (cells : List Number) : Type 0 where
   pub bb : cell_at bb_cell cells ≡ narrow_number (fixed_bank_size * fixed_bank cells + erasable_bank cells)
   pub zero : cell_at zero_cell cells ≡ nothing
 
--- a cell that no bank hangs on, and not ZERO
+-- a cell that selects no bank, and not ZERO
 pub record IsPlain (place : ℕ) : Type 0 where
   pub in_range : place < erasable_cells
   pub no_eb : place ≢ eb_cell
@@ -39,8 +39,8 @@ IsStorable place w =
     (place ≢ a_cell → place ≢ q_cell → w.magnitude < 2 ^ 14)
     × (place ≡ z_cell → pattern_of 16 w < 0o10000)
 
--- the two places that a store keeps: the first cell of EB's bank, and the first word of the fixed
--- bank that is selected; and Z, which is an address
+-- the two places that a store caches: the first cell of EB's bank, and the first word of the
+-- selected fixed bank; and Z, which is an address
 pub record KeepsPlaces (cells : List Number) (superbank : Bool) (erasable_base fixed_base : ℕ)
     : Type 0 where
   pub erasable : erasable_base ≡ erasable_bank_size * erasable_bank cells

@@ -1,4 +1,4 @@
--- What a rope file says: which word stands at each place, and why a file is refused.
+-- What a rope file means: which word is at each place, and why a file is refused.
 use Rattle.std.specs.Prelude.{◌≡◌, ◌<◌, ℕ, ◌+◌, ◌-◌, ◌*◌, ◌/◌, ◌%◌, ◌==◌, ◌&&◌, not}
 use Rattle.std.specs.Prelude.{Bool, List, ◌∷◌, map, length, get_or, find, count_ones}
 use Rattle.std.specs.Prelude.{Option, Some, None, option_map, nat_lt, if◌then◌else◌}
@@ -16,14 +16,14 @@ use Rattle.agc_store.specs.declared.rope_file.RopeFault.TheVariants as fault
 unfoldable pub file_word : List ℕ → ℕ → ℕ
 file_word bytes index = 256 * get_or bytes (2 * index) 0 + get_or bytes (2 * index + 1) 0
 
--- Where a bank stands among a file's banks. The classic order is 02, 03, 00, 01, as the banks 02
--- and 03 are always at hand, then 04 to 43 octal; the form with parity has the plain order.
+-- The position of a bank among a file's banks. The classic order is 02, 03, 00, 01, because the banks 02 and 03 can
+-- always be addressed, then 04 to 43 octal; the form with parity has the plain order.
 unfoldable pub file_bank : RopeForm → ℕ → ℕ
 file_bank form.Classic bank =
     if nat_lt bank 2 then bank + 2 else if nat_lt bank 4 then bank - 2 else bank
 file_bank form.Parity bank = bank
 
--- where the word of a place stands among a file's words
+-- the position of a place's word among a file's words
 unfoldable pub file_index : RopeForm → ℕ → ℕ
 file_index form place =
     fixed_bank_size * file_bank form (place / fixed_bank_size) + place % fixed_bank_size
@@ -32,12 +32,12 @@ file_index form place =
 unfoldable pub rope_word_at : RopeForm → List ℕ → ℕ → Number
 rope_word_at form bytes place = narrow_number (file_word bytes (file_index form place) / 2)
 
--- the words of a rope at the first so many places
+-- the words of a rope at the first places
 unfoldable pub first_words : ℕ → RopeForm → List ℕ → List Number
 first_words count form bytes = map (rope_word_at form bytes) (range_with_len 0 count)
 
--- the banks in the order in which a file holds them: the classic order begins with those that are
--- always at hand
+-- the banks in the order of a file: the classic order begins with those that can always be
+-- addressed
 abbrev pub banks_of : RopeForm → List ℕ
 banks_of form.Classic = 2 ∷ 3 ∷ 0 ∷ 1 ∷ range_with_len 4 32
 banks_of form.Parity = range_with_len 0 36
@@ -53,8 +53,8 @@ FollowsBanks form bytes words = (i offset : ℕ) → i < fixed_banks → offset 
 unfoldable pub rope_words : RopeForm → List ℕ → List Number
 rope_words form bytes = first_words fixed_words form bytes
 
--- Whether a word has an even count of one bits, so that its parity is wrong. A word of 0 is a place
--- without a word.
+-- Whether a word has an even number of one bits, so that its parity is wrong. A word of 0 is a
+-- place without a word.
 unfoldable pub is_bad_parity : ℕ → Bool
 is_bad_parity word = not (word == 0) && (count_ones word % 2 == 0)
 
@@ -67,7 +67,7 @@ first_bad bytes =
 abbrev pub parity_fault_at : ℕ → RopeFault
 parity_fault_at index = fault.Parity (index / fixed_bank_size) (index % fixed_bank_size)
 
--- the fault of a file's parity, which the classic form has not
+-- the parity fault of a file; the classic form has none
 unfoldable pub parity_fault : RopeForm → List ℕ → Option RopeFault
 parity_fault form.Classic bytes = None
 parity_fault form.Parity bytes = option_map parity_fault_at (first_bad bytes)

@@ -1,4 +1,4 @@
-//! The addresses of twelve bits, and the little arithmetic that orders do on them.
+//! Twelve-bit addresses, and the arithmetic that orders do on them.
 ghost use Rattle.std.specs.Prelude.{◌≡◌, ℕ, ◌+◌, ◌*◌, ◌%◌, ◌<◌, ◌↔◌, IsSome, IfSome};
 ghost use Rattle.agc_word.specs.Number.{pattern_of};
 ghost use Rattle.agc_store.specs.Cells.{narrow_number};
@@ -7,7 +7,7 @@ use agc_word::Narrow;
 use std::marker::Model;
 
 /// An address of twelve bits, 0 to 7777 octal. Below 2000 octal it names an erasable cell, from
-/// there on a fixed word.
+/// 2000 on a fixed word.
 #[derive(Clone, Copy, Debug, PartialEq, Eq)]
 pub struct Addr {
     bits: u16,
@@ -26,7 +26,7 @@ impl Model for Addr {
 }
 
 impl Addr {
-    /// The address with this number; `None` above `7777` octal.
+    /// Returns the address with this number, or `None` above `7777` octal.
     #[inline]
     pub fn new(bits: u16) -> Option<Addr>
         ensures fits { IsSome result ↔ (bits < 0o10000) }
@@ -39,7 +39,7 @@ impl Addr {
         }
     }
 
-    /// The address in the low twelve bits of a number.
+    /// Returns the address in the low twelve bits of a number.
     #[inline]
     pub fn wrapped(bits: u16) -> Addr
         ensures { result ≡ bits % 0o10000 }
@@ -49,7 +49,7 @@ impl Addr {
         }
     }
 
-    /// The address with this number, for a caller who knows that it has twelve bits.
+    /// Returns the address with this number. The caller guarantees that it has twelve bits.
     #[inline]
     pub(crate) fn kept(bits: u16) -> Addr
         requires { bits < 0o10000 }
@@ -58,7 +58,7 @@ impl Addr {
         Addr { bits }
     }
 
-    /// The address in bits 12 to 1 of a word, as Z keeps it.
+    /// Returns the address in bits 12 to 1 of a word, as Z keeps it.
     #[inline]
     pub fn of_word(word: Narrow) -> Addr
         ensures { result ≡ pattern_of 15 word % 0o10000 }
@@ -66,7 +66,7 @@ impl Addr {
         Addr::wrapped(word.bits())
     }
 
-    /// The address's number, at most `7777` octal.
+    /// Returns the address's number, at most `7777` octal.
     #[inline]
     pub fn bits(self) -> u16
         ensures address { result ≡ self }
@@ -75,7 +75,7 @@ impl Addr {
         self.bits
     }
 
-    /// The word with this address in bits 12 to 1, as Z and Q show it.
+    /// Returns the word with this address in bits 12 to 1, as Z and Q show it.
     #[inline]
     pub fn word(self) -> Narrow
         ensures { result ≡ narrow_number self }
@@ -83,7 +83,7 @@ impl Addr {
         Narrow::with_bits(self.bits % 0o10000)
     }
 
-    /// The address so many places on; after `7777` octal comes 0.
+    /// Returns the address `count` places further; 0 follows `7777` octal.
     #[inline]
     pub fn skip(self, count: u8) -> Addr
         ensures { result ≡ (self + count) % 0o10000 }
@@ -93,7 +93,7 @@ impl Addr {
         }
     }
 
-    /// The next address; after `7777` octal comes 0.
+    /// Returns the next address; 0 follows `7777` octal.
     #[inline]
     pub fn next(self) -> Addr
         ensures { result ≡ (self + 1) % 0o10000 }
@@ -103,7 +103,7 @@ impl Addr {
         }
     }
 
-    /// The address before; before 0 comes `7777` octal.
+    /// Returns the previous address; `7777` octal precedes 0.
     #[inline]
     pub fn previous(self) -> Addr
         ensures { result ≡ (self + 0o7777) % 0o10000 }
@@ -113,7 +113,7 @@ impl Addr {
         }
     }
 
-    /// The ten-bit address in an order chosen by quarter.
+    /// Returns the ten-bit address of an order that is chosen by quarter code.
     #[inline]
     pub fn low_ten(self) -> Addr
         ensures { result ≡ self % 0o2000 }
@@ -123,7 +123,7 @@ impl Addr {
         }
     }
 
-    /// The ten-bit address before; before 0 comes `1777` octal, as in DAS and DXCH.
+    /// Returns the previous ten-bit address, as DAS and DXCH use it; `1777` octal precedes 0.
     #[inline]
     pub fn previous_low_ten(self) -> Addr
         ensures { result ≡ (self + 0o1777) % 0o2000 }

@@ -1,5 +1,4 @@
-//! The memory of the machine: the rope's fixed words, the erasable cells with the registers among
-//! them, and the banks that the registers select.
+//! Memory: the rope file, and erasable and fixed memory behind one address.
 #![tactic(auto)]
 
 mod addr;

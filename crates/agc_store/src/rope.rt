@@ -1,4 +1,4 @@
-//! The rope: the fixed words, as they were woven.
+//! The rope: the fixed words.
 ghost use Rattle.std.specs.Prelude.{◌≡◌, ℕ, ◌<◌, ◌≤◌, ◌-◌, ◌%◌, ◌++◌, length, unwrap_or, IfOk, IfErr, IsNone};
 ghost use Rattle.agc_word.specs.Arithmetic.{narrow_of};
 ghost use Rattle.agc_store.specs.Places.{fixed_places, fixed_words};
@@ -13,11 +13,11 @@ use agc_word::Narrow;
 use std::alloc::{AllocError, Global};
 use std::marker::Model;
 
-/// The 36,864 fixed words, in 36 banks of 1024. In the spacecraft they were woven: a wire through a
-/// core or past it.
+/// The 36,864 fixed words, in 36 banks of 1024. In the spacecraft they were woven: a wire ran
+/// through a core or past it.
 #[derive(Debug, Drop)]
 pub struct Rope {
-    /// The words bank by bank, and after them four banks of +0, which the superbank can select too.
+    /// The words bank by bank, followed by four banks of +0, which the superbank can select too.
     words: Vec<Narrow>,
 }
 
@@ -35,8 +35,8 @@ impl Model for Rope {
 }
 
 impl Rope {
-    /// Reads a rope file in the classic form: at most 73,728 bytes, each word as 16 bits with the
-    /// higher byte first, of which the left fifteen count. The words past the file's end are +0.
+    /// Reads a rope file in the classic form: at most 73,728 bytes. Each word has 16 bits, the
+    /// higher byte first, and its left fifteen bits count. The words past the file's end are +0.
     pub fn read(alloc: Global, bytes: &[u8]) -> Result<Rope, RopeFault>
         ensures words { IfOk result (λ rope. rope ≡ rope_words RopeForm.Classic bytes.now) }
         ensures order { IfOk result (λ rope. FollowsBanks RopeForm.Classic bytes.now rope) }
@@ -46,14 +46,14 @@ impl Rope {
         Rope::read_as(alloc, RopeForm::Classic, bytes)
     }
 
-    /// Reads a rope file of a form. The words past its end are +0. The fault is the first that
-    /// applies, in the order of `RopeFault`.
+    /// Reads a rope file of the given form. The words past its end are +0. Returns the first fault
+    /// that applies, in the order of `RopeFault`.
     pub fn read_as(alloc: Global, form: RopeForm, bytes: &[u8]) -> Result<Rope, RopeFault>
         ensures words { IfOk result (λ rope. rope ≡ rope_words form bytes.now) }
         ensures order { IfOk result (λ rope. FollowsBanks form bytes.now rope) }
         ensures accepted { IfOk result (λ _. rope_fault_of form bytes.now ≡ None) }
 
-        // `Memory` is returned only where there is no memory.
+        // `Memory` is returned only when memory runs out.
         ensures fault { IfErr result (λ fault. fault ≡ unwrap_or (rope_fault_of form bytes.now) RopeFault.Memory) }
     {
         if let Some(fault) = fault(form, bytes) {
@@ -71,8 +71,8 @@ impl Rope {
         }
     }
 
-    /// The word at a place, 1024 times its bank plus its offset; +0 in the banks 44 to 47 octal. A
-    /// fixed word has no overflow, so that a fetch finds nothing to correct.
+    /// Returns the word at a place, 1024 times its bank plus its offset; +0 in the banks 44 to 47
+    /// octal. A fixed word has no overflow, so a fetch has nothing to correct.
     #[inline]
     #[tactic(auto, using(crate::proofs::Woven::fixed_at_read), unfolding(agc_word::specs::Arithmetic::narrow_of))]
     pub(crate) fn word(&self, place: usize) -> Narrow
@@ -86,7 +86,7 @@ impl Rope {
     }
 }
 
-/// The first words of a file's rope, and then places of +0 up to a number of places in all.
+/// Returns the first `words` words of a file's rope, followed by +0 up to `places` words in all.
 #[tactic(auto, using(crate::proofs::RopeWords::first_words_none, crate::proofs::RopeWords::first_words_more), unfolding(crate::specs::Cells::cleared_cells))]
 fn weave(
     alloc: Global,

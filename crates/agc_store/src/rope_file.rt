@@ -10,35 +10,35 @@ use agc_word::Narrow;
 use byteorder::{BigEndian, ByteOrder};
 use thiserror::Error;
 
-/// How a rope file stands: in the classic bank order 02, 03, 00, 01, 04 to 43 octal with bit 1 of
-/// each word unused, or in the plain order with odd parity in bit 1.
+/// The layout of a rope file: the classic bank order 02, 03, 00, 01, 04 to 43 octal with bit 1 of
+/// each word unused, or the plain order with odd parity in bit 1.
 #[derive(Clone, Copy, Debug, PartialEq, Eq)]
 pub enum RopeForm {
     Classic,
     Parity,
 }
 
-/// Why a rope file is refused. The faults are looked for in this order, `Memory` last.
+/// Why a rope file is refused. The faults are checked in this order, `Memory` last.
 #[derive(Clone, Copy, Debug, PartialEq, Eq, Error)]
 pub enum RopeFault {
     /// The file has no bytes.
     #[error("the rope is empty")]
     Empty,
-    /// The file ends within a word.
+    /// The file ends in the middle of a word.
     #[error("the rope has an odd number of bytes")]
     OddLength,
     /// The file has more than 73,728 bytes.
     #[error("the rope has more than 36 banks")]
     TooLong,
-    /// The first word with an even count of one bits, by its bank and offset.
+    /// The first word with an even number of one bits, by its bank and offset.
     #[error("the parity of bank {bank:o}, offset {offset:o} is wrong")]
     Parity { bank: u8, offset: u16 },
-    /// There is no memory for the words.
+    /// Memory ran out for the words.
     #[error("no memory for the rope")]
     Memory,
 }
 
-/// The fault of a file; `None` where it is a rope.
+/// Returns the fault of a file, or `None` if it is a rope.
 pub(crate) fn fault(form: RopeForm, bytes: &[u8]) -> Option<RopeFault>
     ensures fault { result ≡ rope_fault_of form bytes.now }
     ensures even { IfNone result (length bytes.now % 2 ≡ 0) }
@@ -55,7 +55,7 @@ pub(crate) fn fault(form: RopeForm, bytes: &[u8]) -> Option<RopeFault>
     find_parity_fault(form, bytes)
 }
 
-/// The first word with the wrong parity in a file of at most 36 banks.
+/// Returns the first word with wrong parity in a file of at most 36 banks.
 fn find_parity_fault(form: RopeForm, bytes: &[u8]) -> Option<RopeFault>
     requires even { length bytes.now % 2 ≡ 0 }
     requires banks { length bytes.now ≤ 2 * fixed_words }
@@ -73,7 +73,7 @@ fn find_parity_fault(form: RopeForm, bytes: &[u8]) -> Option<RopeFault>
     }
 }
 
-/// The number of the first word whose parity is wrong.
+/// Returns the number of the first word whose parity is wrong.
 fn find_bad(bytes: &[u8]) -> Option<usize>
     requires { length bytes.now % 2 ≡ 0 }
     ensures first { result ≡ first_bad bytes.now }
@@ -82,14 +82,14 @@ fn find_bad(bytes: &[u8]) -> Option<usize>
     (0..bytes.len() / 2).find(|index| is_even(number_at(bytes, *index)))
 }
 
-/// Whether a word of 16 bits is no odd one: 0 is a place without a word.
+/// Returns whether a word of 16 bits has even parity. 0 is accepted, because it marks a place without a word.
 fn is_even(word: u16) -> bool
     ensures { result ≡ is_bad_parity word }
 {
     word != 0 && word.count_ones() % 2 == 0
 }
 
-/// The number of 16 bits at a word of a file, 0 past its end.
+/// Returns the 16 bits of a word of a file, 0 past its end.
 fn number_at(bytes: &[u8], index: usize) -> u16
     requires { length bytes.now % 2 ≡ 0 }
     ensures { result ≡ file_word bytes.now index }
@@ -101,7 +101,7 @@ fn number_at(bytes: &[u8], index: usize) -> u16
     }
 }
 
-/// Where the word of a place stands among the words of a file.
+/// Returns the index in the file of the word at a place.
 pub fn index_in_file(form: RopeForm, place: usize) -> usize
     requires { place < fixed_words }
     ensures index { result ≡ file_index form place }
@@ -119,7 +119,7 @@ pub fn index_in_file(form: RopeForm, place: usize) -> usize
     FIXED_BANK_SIZE as usize * bank_in_file + place % FIXED_BANK_SIZE as usize
 }
 
-/// The word of a rope at a place.
+/// Returns the rope word at a place.
 pub(crate) fn woven_word(form: RopeForm, bytes: &[u8], place: usize) -> Narrow
     requires even { length bytes.now % 2 ≡ 0 }
     requires place { place < fixed_words }

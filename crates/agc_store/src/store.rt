@@ -1,4 +1,4 @@
-//! The store: the cells, the rope, and what each access returns and leaves.
+//! The store: the cells, the rope, and what each access returns and changes.
 #![tactic(auto, unfolding(crate::specs::Memory::cell_at, crate::specs::Memory::erasable_place, crate::specs::Memory::fixed_at, crate::specs::Memory::selected_bank, crate::specs::Memory::read_of, crate::specs::Cells::write_of, crate::specs::Cells::fetch_of, crate::specs::Cells::named_cell, crate::specs::Cells::reedit_of, crate::specs::Cells::cell_of, crate::specs::Cells::fixed_of, crate::specs::Cells::poke_of, crate::specs::Cells::superbank_set))]
 
 ghost use Rattle.std.specs.Prelude.{◌≡◌, ℕ, ◌+◌, ◌*◌, ◌<◌, ◌≤◌, ◌^◌, ◌&&◌, nat_lt};
@@ -33,18 +33,18 @@ use banks::selected;
 use narrow_cells::cleared;
 use std::marker::Model;
 
-/// The memory of the machine: 2048 erasable cells in 8 banks of 256, the first of which are the
-/// registers, the 36,864 fixed words of a rope in 36 banks of 1024, and the superbank.
+/// The memory of the machine: 2048 erasable cells in 8 banks of 256, which begin with the
+/// registers, the 36,864 fixed words of a rope in 36 banks of 1024, and the superbank bit.
 ///
 /// An address has twelve bits. Below 1400 octal it names an erasable cell of the banks 0 to 2, from
-/// there a cell of the bank in EB, from 2000 a fixed word of the bank in FB, and from 4000 on a word
-/// of the fixed banks 02 and 03, which are always at hand.
+/// 1400 a cell of the bank in EB, from 2000 a fixed word of the bank in FB, and from 4000 a word of
+/// the fixed banks 02 and 03, which can always be addressed.
 #[derive(Debug, Drop)]
 pub struct Store {
     cells: [Wide; ERASABLE_CELLS as usize],
     rope: Rope,
     superbank: bool,
-    /// The first cell of the erasable bank that EB names.
+    /// The first cell of the erasable bank in EB.
     erasable_base: usize,
     /// The first word of the fixed bank that FB and the superbank select.
     fixed_base: usize,
@@ -62,7 +62,7 @@ impl Model for Store {
 }
 
 impl Store {
-    /// The memory at the start: +0 in every erasable cell and register, the superbank off.
+    /// Returns the memory at the start: +0 in every erasable cell and register, the superbank off.
     #[tactic(auto, unfolding(crate::specs::Cells::start_memory))]
     pub fn new(rope: Rope) -> Store
         ensures { result ≡ start_memory rope }
@@ -76,7 +76,7 @@ impl Store {
         }
     }
 
-    /// The rope of the memory, which no run changes.
+    /// Returns the rope, which no run changes.
     pub fn into_rope(self) -> Rope
         ensures { result ≡ self.fixed }
     {
@@ -84,8 +84,8 @@ impl Store {
         rope
     }
 
-    /// The word at an address, widened where the cell is narrow: of A and Q all sixteen bits, of BB
-    /// the banks in FB and EB, of ZERO +0, and of the fixed banks above 43 octal +0.
+    /// Returns the word at an address, widened if the cell is narrow. A and Q give all sixteen
+    /// bits, BB the banks in FB and EB, ZERO +0, and the fixed banks above 43 octal +0.
     #[inline]
     pub fn read(&self, address: Addr) -> Wide
         ensures word { result ≡ read_of self.now address }
@@ -101,7 +101,7 @@ impl Store {
         }
     }
 
-    /// The narrow word at an address, as an order is fetched: overflow in A and Q is corrected.
+    /// Returns the narrow word at an address, as an order is fetched: overflow in A and Q is corrected.
     #[inline]
     #[tactic(auto, unfolding(crate::specs::Memory::cell_at, crate::specs::Memory::fixed_place, crate::specs::Memory::read_of, crate::specs::Cells::fetch_of))]
     pub fn fetch(&self, address: Addr) -> Narrow
@@ -117,7 +117,7 @@ impl Store {
         }
     }
 
-    /// The word at an address of fixed-fixed memory, which names its own place in the rope.
+    /// Returns the word at an address of fixed-fixed memory, whose address is its place in the rope.
     #[inline]
     #[tactic(auto, unfolding(crate::specs::Memory::fixed_place, crate::specs::Memory::read_of, crate::specs::Cells::fetch_of))]
     fn fetch_fixed_fixed(&self, number: usize) -> Narrow
@@ -128,10 +128,9 @@ impl Store {
         self.rope.word(number)
     }
 
-    /// Writes a word to an address below 2000 octal, by the rules of the cell that it names. A and Q
-    /// take all sixteen bits, every other cell the word with its overflow corrected. EB keeps bits 11
-    /// to 9, FB bits 15 to 11, Z bits 12 to 1; BB sets EB and FB; ZERO ignores the word; the cells 20
-    /// to 23 octal (CYR, SR, CYL and EDOP) keep the edited word.
+    /// Writes a word to an address below 2000 octal, by the rules of the cell there. A and Q take all sixteen bits,
+    /// every other cell the word with overflow corrected. EB keeps bits 11 to 9, FB bits 15 to 11, Z bits 12 to 1; BB
+    /// sets EB and FB; ZERO ignores the word; the cells 20 to 23 octal (CYR, SR, CYL and EDOP) keep the edited word.
     #[inline]
     pub fn write(&mut self, address: Addr, word: Wide)
         requires { address < fixed_window }
@@ -146,7 +145,7 @@ impl Store {
         }
     }
 
-    /// Writes a word without overflow, as `write` does: nothing is to be corrected in a plain cell.
+    /// Writes a word without overflow, as `write` does; a plain cell then needs no correction.
     #[inline]
     #[tactic(auto, using(crate::proofs::Kept::narrow_stays), unfolding(crate::specs::Memory::erasable_place, crate::specs::Cells::write_of, crate::specs::Cells::put_of, crate::specs::Cells::cells_with))]
     pub fn write_in_range(&mut self, address: Addr, word: Wide)
@@ -162,8 +161,8 @@ impl Store {
         }
     }
 
-    /// Writes the word of an editing register into it again, so that it is edited once more; leaves
-    /// all other cells as they are.
+    /// Writes the word of an editing register back into it, so that it is edited again; leaves all
+    /// other cells unchanged.
     #[inline]
     pub fn reedit(&mut self, address: Addr)
         ensures { self.new ≡ reedit_of self.old address }
@@ -178,8 +177,8 @@ impl Store {
         }
     }
 
-    /// The word at an address, which an editing register then edits once more, as the orders do
-    /// that put back what they read.
+    /// Returns the word at an address and lets an editing register edit it again, as orders do that
+    /// write back what they read.
     #[inline]
     pub fn read_and_edit(&mut self, address: Addr) -> Wide
         ensures word { result ≡ read_of self.old address }
@@ -190,7 +189,7 @@ impl Store {
         word
     }
 
-    /// The erasable cell that an address names; `None` from 2000 octal on.
+    /// Returns the erasable cell that an address names; `None` from 2000 octal on.
     #[inline]
     pub fn named_cell(&self, address: Addr) -> Option<u16>
         ensures { result ≡ named_cell self.now address }
@@ -203,7 +202,7 @@ impl Store {
         }
     }
 
-    /// Whether the superbank is on, which is bit 7 of channel 7.
+    /// Returns whether the superbank is on: bit 7 of channel 7.
     #[inline]
     pub fn superbank(&self) -> bool
         ensures { result ≡ self.now.superbank }
@@ -211,7 +210,7 @@ impl Store {
         self.superbank
     }
 
-    /// Switches the superbank: while it is on, the banks 30 to 37 octal in FB stand for 40 to 47.
+    /// Switches the superbank. While it is on, the banks 30 to 37 octal in FB select 40 to 47.
     pub fn set_superbank(&mut self, on: bool)
         ensures { self.new ≡ superbank_set self.old on }
     {
@@ -219,7 +218,7 @@ impl Store {
         self.superbank = on;
     }
 
-    /// The fixed word at a place: 2000 octal times its bank, and its offset.
+    /// Returns the fixed word at a place: 2000 octal times its bank, plus its offset.
     #[inline]
     pub fn fixed_at(&self, place: usize) -> Narrow
         requires { place < fixed_words }
@@ -228,7 +227,7 @@ impl Store {
         self.rope.word(place)
     }
 
-    /// The fixed word at an offset, 0 to 1777 octal, of a bank, 00 to 43 octal, whatever FB holds.
+    /// Returns the fixed word at an offset, 0 to 1777 octal, of a bank, 00 to 43 octal, whatever FB holds.
     pub fn fixed(&self, bank: u8, offset: u16) -> Narrow
         requires bank { bank ≤ 0o43 }
         requires offset { offset ≤ 0o1777 }
@@ -237,8 +236,8 @@ impl Store {
         self.fixed_at(place_of(bank, offset) as usize)
     }
 
-    /// The erasable cell at an offset, 0 to 377 octal, of a bank, 0 to 7, whatever EB holds. A and Q
-    /// show their words with the overflow corrected.
+    /// Returns the erasable cell at an offset, 0 to 377 octal, of a bank, 0 to 7, whatever EB
+    /// holds. For A and Q the overflow is corrected.
     pub fn cell(&self, bank: u8, offset: u16) -> Narrow
         requires bank { bank ≤ 7 }
         requires offset { offset ≤ 0o377 }
@@ -247,8 +246,8 @@ impl Store {
         self.cells[ERASABLE_BANK_SIZE as usize * usize::from(bank) + usize::from(offset)].narrow()
     }
 
-    /// Puts a word into a cell as it is, also into an editing register, as the hardware does with
-    /// counters and interrupt registers. The registers 0 to 7 of bank 0 are out of reach.
+    /// Stores a word unedited, even in an editing register, as the hardware does with counters and
+    /// interrupt registers. The registers 0 to 7 of bank 0 cannot be poked.
     pub fn poke(&mut self, bank: u8, offset: u16, word: Narrow)
         requires bank { bank ≤ 7 }
         requires offset { offset ≤ 0o377 }
@@ -260,8 +259,8 @@ impl Store {
     }
 }
 
-/// An address below the window names its own cell there, and one past EDOP no register: what most
-/// orders meet in erasable memory, by one comparison.
+/// Returns whether an address is past EDOP and below the window: then it names its own cell, which
+/// is no register. One comparison covers most accesses to erasable memory.
 #[inline(always)]
 fn is_past_editing(number: usize) -> bool
     ensures { result ≡ nat_lt edop_cell number && nat_lt number erasable_window }

@@ -1,4 +1,4 @@
-//! The banks: EB, FB and the superbank select them, and a store keeps where they begin.
+//! The banks: EB, FB and the superbank select them, and the store caches where they begin.
 #![tactic(auto, unfolding(crate::specs::Memory::cell_at, crate::specs::Memory::erasable_bank, crate::specs::Memory::fixed_bank, crate::specs::Memory::selected_bank, crate::specs::Memory::erasable_place, crate::specs::Memory::fixed_place, crate::specs::Cells::with_banks))]
 
 ghost use Rattle.std.specs.Prelude.{◌≡◌, ◌<◌, ◌≤◌};
@@ -13,7 +13,7 @@ use crate::place::{
 };
 
 impl Store {
-    /// The erasable bank that EB names, 0 to 7.
+    /// Returns the erasable bank in EB, 0 to 7.
     #[inline]
     pub fn erasable_bank(&self) -> u8
         ensures bank { result ≡ erasable_bank self.now.erasable }
@@ -22,7 +22,7 @@ impl Store {
         (self.erasable_base / ERASABLE_BANK_SIZE as usize) as u8
     }
 
-    /// The fixed bank that FB and the superbank select, 0 to 47 octal.
+    /// Returns the fixed bank that FB and the superbank select, 0 to 47 octal.
     #[inline]
     pub fn selected_bank(&self) -> u8
         ensures bank { result ≡ selected_bank self.now }
@@ -31,7 +31,7 @@ impl Store {
         (self.fixed_base / FIXED_BANK_SIZE as usize) as u8
     }
 
-    /// The fixed bank that FB names, whatever the superbank does.
+    /// Returns the fixed bank in FB, ignoring the superbank.
     pub(super) fn fixed_bank(&self) -> u16
         ensures bank { result ≡ fixed_bank self.now.erasable }
         ensures range { result < 32 }
@@ -39,7 +39,7 @@ impl Store {
         narrow_pattern(self.cells[FB as usize]) / FIXED_BANK_SIZE
     }
 
-    /// The erasable cell that an address below 2000 octal names.
+    /// Returns the erasable cell that an address below 2000 octal names.
     #[inline]
     pub(super) fn erasable_place(&self, number: usize) -> usize
         requires { number < fixed_window }
@@ -53,7 +53,7 @@ impl Store {
         }
     }
 
-    /// The fixed word that an address from 2000 octal on names.
+    /// Returns the fixed word's place that an address from 2000 octal on names.
     #[inline]
     pub(super) fn fixed_place(&self, number: usize) -> usize
         requires low { fixed_window ≤ number }
@@ -68,7 +68,7 @@ impl Store {
         }
     }
 
-    /// Sets EB and FB to these banks, and with them BB and the kept places.
+    /// Sets EB and FB to these banks, and with them BB and the cached places.
     pub(super) fn set_banks(&mut self, erasable: u16, fixed: u16)
         requires erasable { erasable < 8 }
         requires fixed { fixed < 32 }
@@ -82,7 +82,7 @@ impl Store {
     }
 }
 
-/// The fixed bank that FB's bank and the superbank select.
+/// Returns the fixed bank that the bank in FB and the superbank select.
 #[tactic(auto, unfolding(crate::specs::Memory::bank_with_superbank))]
 #[inline]
 pub(super) fn selected(bank: u16, superbank: bool) -> u16

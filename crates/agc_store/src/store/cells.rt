@@ -56,7 +56,7 @@ impl Store {
         }
     }
 
-    /// Puts a word into a cell that no bank hangs on.
+    /// Writes a word to a cell that selects no bank.
     #[inline]
     pub(super) fn set_plain(&mut self, place: usize, word: Wide)
         requires plain { IsPlain place }

@@ -1,4 +1,4 @@
-//! The registers by name.
+//! Access to the registers by name.
 #![tactic(auto, unfolding(crate::specs::Memory::cell_at, crate::specs::Cells::put_of, crate::specs::Cells::cells_with, crate::specs::Registers::register, crate::specs::Registers::z_of))]
 
 ghost use Rattle.std.specs.Prelude.{◌≡◌, ◌+◌, ◌%◌};
@@ -13,7 +13,7 @@ use crate::place::{A, FIXED_FIXED, FIXED_WINDOW, L, Q, Z};
 use agc_word::{Narrow, Wide, widen};
 
 impl Store {
-    /// The accumulator A, all sixteen bits.
+    /// Returns the accumulator A, all sixteen bits.
     #[inline]
     pub fn a(&self) -> Wide
         ensures { result ≡ register a_cell self.now }
@@ -21,7 +21,7 @@ impl Store {
         self.cells[A as usize]
     }
 
-    /// The low register L, which holds a double word's lower half.
+    /// Returns the low register L, which holds a double word's lower half.
     #[inline]
     pub fn l(&self) -> Narrow
         ensures { result ≡ register l_cell self.now }
@@ -29,7 +29,7 @@ impl Store {
         self.cells[L as usize].narrow()
     }
 
-    /// The return address register Q, all sixteen bits.
+    /// Returns the return address register Q, all sixteen bits.
     #[inline]
     pub fn q(&self) -> Wide
         ensures { result ≡ register q_cell self.now }
@@ -37,7 +37,7 @@ impl Store {
         self.cells[Q as usize]
     }
 
-    /// The address in Z, that of the next order to fetch.
+    /// Returns the address in Z: the next order to fetch.
     #[inline]
     pub fn z(&self) -> Addr
         ensures { result ≡ z_of self.now }
@@ -77,8 +77,8 @@ impl Store {
         self.set_plain(Z as usize, narrow_word(address.bits()));
     }
 
-    /// Jumps to an address: sets Z to it, takes the word there, and counts Z on. Fixed memory does
-    /// not see Z, which is written once there.
+    /// Jumps to an address: sets Z to it, fetches the word there, and increments Z. Fixed memory
+    /// does not see Z, so there Z is written once.
     #[inline]
     #[tactic(auto, using(crate::proofs::Jump::put_twice, crate::proofs::Jump::z_after, crate::proofs::Jump::fetch_unmoved))]
     pub fn fetch_at(&mut self, address: Addr) -> Narrow
@@ -86,7 +86,7 @@ impl Store {
         ensures word { result ≡ fetch_of (put_of self.old z_cell (narrow_number address)) address }
         ensures next { self.new ≡ put_of (put_of self.old z_cell (narrow_number address)) z_cell (narrow_number ((address + 1) % 0o10000)) }
     {
-        // That Z holds what it is set to rests on what holds of all cells.
+        // That Z holds what it is set to follows from the invariant on all cells.
         let _cells = &self.cells;
         let number = usize::from(address.bits());
         let word = if number >= FIXED_FIXED as usize {
