@@ -6,12 +6,12 @@ use Rattle.agc_order.specs.declared.order.Extracode.{Extracode}
 use Rattle.agc_order.specs.declared.order.Extracode.TheVariants as extra
 use Rattle.agc_order.specs.Row.{basic_row, extracode_row, least_word}
 
--- the words from `first` on name this order, as far as the next stretch
+-- the words from `first` on name this order, up to the next range
 pub record Stretch (Order : Type 0) : Type 0 where
   pub first : ℕ
   pub names : Order
 
--- the stretch that begins at the least word of an order, and the one that goes on after a single word
+-- the range that begins at the least word of an order, and the one that continues after a single word
 abbrev pub begins : Basic → Stretch Basic
 begins order = record { first = least_word (basic_row order); names = order }
 
@@ -21,8 +21,8 @@ goes_on single order = record { first = (basic_row single).first + 1; names = or
 abbrev pub begins_extracode : Extracode → Stretch Extracode
 begins_extracode order = record { first = least_word (extracode_row order); names = order }
 
--- The basic orders, in the order of their words. RELINT, INHINT and EXTEND are single words among those of
--- TC, and RESUME among those of INDEX, which go on after them.
+-- The basic orders, in the order of their words. RELINT, INHINT and EXTEND are single words among those of TC, and
+-- RESUME among those of INDEX; TC and INDEX continue after them.
 unfoldable pub basic_orders : List (Stretch Basic)
 basic_orders =
     begins basic.Tc ∷ begins basic.Relint ∷ begins basic.Inhint ∷ goes_on basic.Inhint basic.Tc ∷
@@ -42,7 +42,7 @@ extracodes =
     begins_extracode extra.Dcs ∷ begins_extracode extra.Index ∷ begins_extracode extra.Su ∷
     begins_extracode extra.Bzmf ∷ begins_extracode extra.Mp ∷ []
 
--- the order of the last stretch that begins at or below the word
+-- the order of the last range that begins at or below the word
 abbrev pub last_begun : {Order : Type 0} → ℕ → Order → List (Stretch Order) → Order
 last_begun word found [] = found
 last_begun word found (stretch ∷ stretches) =
@@ -56,8 +56,8 @@ basic_of word = last_begun word basic.Tc basic_orders
 unfoldable pub extracode_of : ℕ → Extracode
 extracode_of word = last_begun word extra.Read extracodes
 
--- Of the basic orders EXTEND alone makes the next order an extracode, and of the extracodes INDEX
--- alone.
+-- Of the basic orders only EXTEND makes the next order an extracode, and of the extracodes only
+-- INDEX.
 abbrev pub is_extend : Basic → Bool
 is_extend basic.Extend = true
 is_extend _ = false

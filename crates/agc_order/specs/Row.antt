@@ -1,5 +1,4 @@
--- The table of the orders: of each the word that it begins with, its mnemonic, what stands after it, and
--- its cycles.
+-- The table of orders: the first word of each, its mnemonic, its operand, and its cycles.
 use Rattle.std.specs.Prelude.{ℕ, ◌+◌, List, [], ◌∷◌, codes}
 use Rattle.agc_order.specs.declared.order.Basic.{Basic}
 use Rattle.agc_order.specs.declared.order.Basic.TheVariants as basic
@@ -8,9 +7,9 @@ use Rattle.agc_order.specs.declared.order.Extracode.TheVariants as extra
 use Rattle.agc_order.specs.declared.row.Takes.{Takes}
 use Rattle.agc_order.specs.declared.row.Takes.TheVariants as takes
 
--- The word with address or channel 0, or with nothing, the name in the instruction memos, what stands
--- after it, and the cycles that the order takes: of BZF and BZMF those where no branch is taken, which
--- takes one, and of EDRUPT none, as it halts the machine.
+-- The word with address or channel 0, or with no operand; the name in the instruction memos; the operand; and the
+-- cycles of the order. For BZF and BZMF these are the cycles without a branch, a taken branch takes one; EDRUPT has 0,
+-- because it halts the machine.
 pub record Row : Type 0 where
   pub first : ℕ
   pub mnemonic : List ℕ
@@ -66,7 +65,7 @@ extracode_row extra.Su = row_of 0o60000 (codes "SU") takes.Erasable 2
 extracode_row extra.Bzmf = row_of 0o60000 (codes "BZMF") takes.Fixed 2
 extracode_row extra.Mp = row_of 0o70000 (codes "MP") takes.Memory 3
 
--- the least word of an order, that with the least address
+-- the least word of an order: the one with the least address
 abbrev pub least_operand : Takes → ℕ
 least_operand takes.Fixed = 0o2000
 least_operand _ = 0

@@ -1,4 +1,4 @@
-//! The orders of the Block II computer by name, and the order that a word names.
+//! Orders: the table of all machine instructions and the decoder of a word.
 #![tactic(auto)]
 
 mod order;

@@ -1,9 +1,8 @@
-//! The orders, and the order that a word names.
+//! The orders, and the decoder from a word to its order.
 //!
-//! In the decode each arm is one number, so that the compiler makes one jump by a table; of ranges and
-//! of alternatives in an arm it makes chains of comparisons. The extracodes go by code first: a step
-//! that both decodes began with would come before the choice between them, and its number would be
-//! widened again after it.
+//! In the decoder each arm is one number, so that the compiler makes a single jump through a table; for ranges and
+//! alternatives in an arm it makes chains of comparisons. The extracodes are matched by code first: a step that both
+//! decoders shared would come before the choice between them, and its number would be widened again after it.
 
 use agc_word::Narrow;
 
@@ -61,8 +60,8 @@ impl Basic {
     ghost use Rattle.agc_word.specs.Number.{pattern_of};
     ghost use Rattle.agc_order.specs.Order.{basic_of};
 
-    /// The basic order that a word names: bits 15 to 11, code and quarter, choose it, and RELINT,
-    /// INHINT, EXTEND and RESUME are whole words.
+    /// Returns the basic order that a word names. Bits 15 to 11, code and quarter, choose it;
+    /// RELINT, INHINT, EXTEND and RESUME are whole words.
     #[tactic(auto, unfolding(crate::specs::Order::basic_of, crate::specs::Order::basic_orders))]
     #[inline(always)]
     pub fn named_by(word: Narrow) -> Basic
@@ -119,8 +118,8 @@ impl Extracode {
     ghost use Rattle.agc_word.specs.Number.{pattern_of};
     ghost use Rattle.agc_order.specs.Order.{extracode_of};
 
-    /// The extracode that a word names: bits 15 to 13, the code, choose it, with the quarter, bits 12
-    /// and 11, or where the code is 0 the eighth, bits 12 to 10.
+    /// Returns the extracode that a word names. Bits 15 to 13, the code, choose it, with the quarter, bits 12 and 11,
+    /// or if the code is 0 the eighth, bits 12 to 10.
     #[tactic(auto, unfolding(crate::specs::Order::extracode_of, crate::specs::Order::extracodes))]
     #[inline(always)]
     pub fn named_by(word: Narrow) -> Extracode

@@ -1,39 +1,39 @@
-//! The table of the orders: of each the word that it begins with, its mnemonic, what it takes, and its cycles.
+//! The table of orders: the first word of each, its mnemonic, its operand, and its cycles.
 ghost use Rattle.std.specs.Prelude.{◌≡◌, ◌≤◌};
 ghost use Rattle.agc_order.specs.Row.{basic_row, extracode_row};
 
 use crate::order::{Basic, Extracode};
 
-/// What an order takes after its mnemonic.
+/// The operand of an order.
 #[derive(Clone, Copy, Debug, PartialEq, Eq)]
 pub enum Takes {
-    /// The mnemonic says all, as EXTEND does.
+    /// No operand: the mnemonic is the whole order, like EXTEND.
     Nothing,
     /// An address of ten bits.
     Erasable,
-    /// An address of ten bits, of the upper of two words; the order's word has that of the lower one.
+    /// An address of ten bits, that of the upper of two words; the order's word holds the address of the lower one.
     ErasablePair,
     /// An address from 2000 octal on.
     Fixed,
     /// An address of twelve bits.
     Memory,
-    /// An address of twelve bits, of the upper of two words.
+    /// An address of twelve bits, that of the upper of two words.
     MemoryPair,
     /// A channel of nine bits.
     Channel,
 }
 
-/// The row of an order.
+/// One row of the table.
 #[derive(Clone, Copy, Debug, PartialEq, Eq)]
 pub struct Row {
-    /// The word with address or channel 0, or with nothing.
+    /// The word with address or channel 0, or with no operand.
     pub first: u16,
     /// Its name in the instruction memos.
     pub mnemonic: &'static str,
-    /// What it takes after its mnemonic.
+    /// Its operand.
     pub takes: Takes,
-    /// The machine cycles of it, at most 6: of BZF and BZMF those where no branch is taken, which takes one, and of
-    /// EDRUPT 0, as it halts the machine.
+    /// Its machine cycles, at most 6. For BZF and BZMF these are the cycles without a branch; a taken branch takes one.
+    /// EDRUPT has 0, because it halts the machine.
     pub cycles: u64,
 }
 
@@ -61,7 +61,7 @@ impl Basic {
         Basic::Mask,
     ];
 
-    /// Its row.
+    /// Returns its row of the table.
     pub fn row(self) -> Row
         ensures first { result.first ≡ (basic_row self).first }
         ensures mnemonic { result.mnemonic.now ≡ (basic_row self).mnemonic }
@@ -124,7 +124,7 @@ impl Extracode {
         Extracode::Mp,
     ];
 
-    /// Its row.
+    /// Returns its row of the table.
     pub fn row(self) -> Row
         ensures first { result.first ≡ (extracode_row self).first }
         ensures mnemonic { result.mnemonic.now ≡ (extracode_row self).mnemonic }
