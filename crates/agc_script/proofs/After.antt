@@ -1,4 +1,4 @@
--- A line after others: its faults, and what stands before the next one.
+-- A line after others: its faults, and the events before the next one.
 use Rattle.std.specs.Prelude.{◌≡◌, ℕ, ◌+◌, ◌-◌, false, List, [], ◌∷◌, ◌++◌, length, filter_map, Option, Some, None, option_map}
 use Rattle.std.specs.List.{last_or}
 use Rattle.std.proofs.Common.{refl, arith, inl, inr}
@@ -8,7 +8,7 @@ use Rattle.std.proofs.lemmas.List.Elements.{filter_map-append}
 use Rattle.agc_script.specs.declared.line.Repeat.{Repeat}
 use Rattle.agc_script.specs.declared.fault.FaultKind.{FaultKind}
 use Rattle.agc_script.specs.Parse.{events_said, start_said}
-use Rattle.agc_script.specs.Said.{start_of, last_start, events_of_line, events_of_lines}
+use Rattle.agc_script.specs.Injection.{start_of, last_start, events_of_line, events_of_lines}
 use Rattle.agc_script.specs.Fault.{has_fault, fault_at, AreFaultless}
 
 -- a line after others
@@ -39,7 +39,7 @@ pub next_start : (done : List (List ℕ)) (line : List ℕ) (said : Option Repea
 next_start done line None e = rw (filter_map-append start_of done (line ∷ []), e, append-nil (filter_map start_of done))
 next_start done line (Some repeat) e = rw (filter_map-append start_of done (line ∷ []), e, last_pushed None (filter_map start_of done) repeat.start)
 
--- the events that stand before the next line
+-- the events before the next line
 pub next_events : (done : List (List ℕ)) (line : List ℕ) (said : Option Repeat) → events_said said ≡ events_of_line line
     → events_of_lines done ++ events_said said ≡ events_of_lines (done ++ line ∷ [])
 next_events done line said e = rw e (flat_map_more events_of_line [] done line)

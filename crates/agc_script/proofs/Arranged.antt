@@ -22,7 +22,7 @@ in_order_from [] h = tt
 in_order_from (y ∷ ys) h =
     ((λ k d l. h 0 (suc k) d (omega arith) (omega arith)), in_order_from ys (λ i j d a b. h (suc i) (suc j) d (omega arith) (omega arith)))
 
--- where all come later, none is at the cycle
+-- if all come later, none is at the cycle
 none_at : (c : ℕ) (zs : List Event) → All (λ e. c < e.cycle) zs → filter (at_cycle c) zs ≡ []
 none_at c [] h = refl
 none_at c (z ∷ zs) h =
@@ -91,7 +91,7 @@ put_in-in_order event (first ∷ events) h =
       | inr w ↦ rw w.0 (All-put_in (λ e. first.cycle ≤ e.cycle) event events (omega arith) h.0, put_in-in_order event events h.1)
     ]
 
--- two tests that do not both pass may change places
+-- two tests that do not both pass may be swapped
 swap_apart : (b d : Bool) (x y : Event) (F : List Event) → (b ≡ true → d ≡ true → ⊥)
     → cond b (x ∷ cond d (y ∷ F) F) (cond d (y ∷ F) F) ≡ cond d (y ∷ cond b (x ∷ F) F) (cond b (x ∷ F) F)
 swap_apart true true x y F h = absurd (h refl refl)

@@ -1,4 +1,4 @@
--- A command as it is written down reads back as what happens.
+-- A command that is written as text reads back as the same event.
 use Rattle.std.specs.Prelude.{◌≡◌, ◌≢◌, ℕ, ◌+◌, ◌^◌, ◌≤◌, ◌<◌, nat_le, Bool, true, false, not, ◌&&◌, List, [], ◌∷◌, length, codes, Some, Ok, All}
 use Rattle.std.specs.Fmt.{decimal}
 use Rattle.std.specs.List.{list_all}
@@ -13,7 +13,7 @@ use Rattle.agc_script.specs.Command.{command_of, input_event, input_of, key_of, 
 use Rattle.agc_script.specs.Event.{IsNarrow, IsWhatInRange}
 use Rattle.agc_script.specs.Grammar.{all_commands, command_name, command_named, direction_name, direction_named, directions, pulse_named, pulses}
 use Rattle.agc_script.specs.Key.{all_keys, key_named, name_of}
-use Rattle.agc_script.specs.Text.{is_empty_part, words_of}
+use Rattle.agc_word.specs.Text.{is_empty_part, words_of}
 use Rattle.agc_script.specs.Written.{plain_octal, what_text}
 use Rattle.agc_script.specs.declared.event.What.{What}
 use Rattle.agc_script.specs.declared.event.What.TheVariants as what
@@ -186,7 +186,7 @@ are_words (what.Poke bank offset value) h =
     All-cons (IsWord 13) (plain_octal bank) (plain_octal offset ∷ word_digits value ∷ []) (octal_word bank (omega (arith, h.0.0)))
     (two_words (plain_octal offset) (word_digits value) (octal_word offset (omega (arith, h.0.1))) (value_word value))
 
--- what the words say
+-- the meaning of the words
 pub says : (what : What) → IsWhatInRange what → command_of (name_word what ∷ arguments what) ≡ Ok what
 unfolding IsWhatInRange command_of command_named all_commands command_name said_by key_of pro_of input_of pulse_of raise_of poke_of_words one_of two_of three_of input_event pulse_event raise_event poke_event
 says (what.Key key) h = rw (key_back key).1 refl

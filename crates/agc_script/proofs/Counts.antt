@@ -14,7 +14,7 @@ use Rattle.agc_script.specs.Line.{within_bound}
 pub spans : (n from to : ℕ) → ((n == 0) || nat_lt to from) ≡ false → (0 < n) × (from ≤ to)
 spans n from to h = let a : 0 < n = grind (arith, nat_tests) in let b : from ≤ to = grind (arith, nat_tests) in (a, b)
 
--- a line goes on as far as event 65,537 where that is within TO
+-- a line reaches event 65,537 if that is not past TO
 counted : (before n from to : ℕ) → ((n == 0) || nat_lt to from) ≡ false
     → nat_lt most_events (before + ((to - from) / n + 1)) ≡ nat_le (from + (most_events - before) * n) to
 counted before n from to h =

@@ -1,4 +1,4 @@
--- What the words of a faultless event line say, as they are spelt out.
+-- The meaning of a faultless event line, from its words.
 use Rattle.std.specs.Prelude.{◌≡◌, ℕ, ◌+◌, ◌-◌, ◌/◌, ◌==◌, nat_lt, Bool, true, false, ◌||◌, List, [], ◌∷◌, Option, Some, None, Result, Ok, Err, if◌then◌else◌}
 use Rattle.std.specs.Option.{ok_or}
 use Rattle.std.proofs.Common.{refl}
@@ -9,11 +9,11 @@ use Rattle.agc_script.specs.declared.fault.FaultKind.TheVariants.{BadCycle, OutO
 use Rattle.agc_script.specs.Command.{and_then, command_of}
 use Rattle.agc_script.specs.Line.{cycle_of, cycle_word, in_turn, repeat_of, every_of}
 use Rattle.agc_script.specs.Parse.{events_of}
-use Rattle.agc_script.specs.Said.{cycle_at, three_cycles, timing_of, command_words, events_at}
+use Rattle.agc_script.specs.Injection.{cycle_at, three_cycles, timing_of, command_words, events_at}
 use Rattle.agc_script.proofs.Counts.{spans}
 use Rattle.agc_script.proofs.Values.{repeated_events}
 
--- a line's events and its start, by the cycles that stand in it and by its command
+-- a line's events and its start, by its cycles and its command
 record SaysBy (p s e : Option ℕ) (r : Result What FaultKind) (repeat : Repeat) : Type 0 where
   start : s ≡ Some repeat.start
   events : events_of repeat ≡ events_at (three_cycles p s e) r
@@ -42,7 +42,7 @@ cycles_say last (Some n) (Some from) None r repeat h = cc
 cycles_say last (Some n) (Some from) (Some to) r repeat h =
     turned_says (nat_lt from last) ((n == 0) || nat_lt to from) n from to r repeat refl h
 
--- what the words of a line say, as they are spelt out
+-- the meaning of a line's words
 pub record WordsSay (words : List (List ℕ)) (repeat : Repeat) : Type 0 where
   pub start : cycle_at 1 words ≡ Some repeat.start
   pub events : events_of repeat ≡ events_at (timing_of words) (command_of (command_words words))

@@ -11,10 +11,10 @@ use Rattle.agc_script.specs.declared.event.What.{What}
 use Rattle.agc_script.specs.declared.line.Repeat.{Repeat}
 use Rattle.agc_script.specs.declared.fault.FaultKind.{FaultKind}
 use Rattle.agc_script.specs.declared.fault.FaultKind.TheVariants.{Memory, LineTooLong, NotAscii, BadCycle, OutOfOrder, UnknownWord, BadNumber, OutOfRange, TooMany}
-use Rattle.agc_script.specs.Text.{words_of}
+use Rattle.agc_word.specs.Text.{words_of}
 use Rattle.agc_script.specs.Command.{and_then, command_of}
 use Rattle.agc_script.specs.Line.{cycle_of, cycle_word, in_turn, once_of, repeat_of, every_of, begins_comment, longest_line, is_beyond_ascii, words_meaning, meaning_of}
-use Rattle.agc_script.specs.Said.{spelt_out}
+use Rattle.agc_script.specs.Injection.{spelt_out}
 use Rattle.agc_script.specs.Fault.{known_and, words_have, has_fault}
 use Rattle.agc_script.proofs.Verdicts.{lowest_of_six, every_judged}
 
@@ -24,7 +24,7 @@ lowest_of has =
     if has LineTooLong then Some LineTooLong else (if has NotAscii then Some NotAscii
     else lowest_of_six (has BadCycle) (has OutOfOrder) (has UnknownWord) (has BadNumber) (has OutOfRange) (has TooMany))
 
--- a line with one cycle is a line `every` from it to it
+-- a line with one cycle is a line `every` from this cycle to itself
 one_is_cycle : cycle_of (codes "1") ≡ Some 1
 unfolding cycle_of number_of
 one_is_cycle = refl
@@ -73,7 +73,7 @@ unfolding words_meaning spelt_out
 words_judged last before [] = refl
 words_judged last before (first ∷ words) = line_kind last before first words (begins_comment first) (bytes_eq first (codes "every")) refl refl
 
--- want of memory is none of them
+-- out of memory is not among them
 none_is_memory : (c t u b o m : Bool) (kind : FaultKind) → Some kind ≡ lowest_of_six c t u b o m → kind ≢ Memory
 none_is_memory true t u b o m kind h = λ e. cc
 none_is_memory false true u b o m kind h = λ e. cc

@@ -8,10 +8,10 @@ use Rattle.agc_script.specs.declared.line.Repeat.{Repeat}
 use Rattle.agc_script.specs.declared.fault.FaultKind.{FaultKind}
 use Rattle.agc_script.specs.declared.fault.FaultKind.TheVariants.{Memory}
 use Rattle.agc_script.specs.declared.fault.ScriptFault.{ScriptFault}
-use Rattle.agc_script.specs.Text.{words_of}
+use Rattle.agc_word.specs.Text.{words_of}
 use Rattle.agc_script.specs.Line.{meaning_of}
 use Rattle.agc_script.specs.Parse.{events_said, start_said, taken, reading}
-use Rattle.agc_script.specs.Said.{spelt_out, start_of, last_start, events_of_line, events_of_lines}
+use Rattle.agc_script.specs.Injection.{spelt_out, start_of, last_start, events_of_line, events_of_lines}
 use Rattle.agc_script.specs.Fault.{known_and, words_have, has_fault, AreFaultless, IsFirstFault}
 use Rattle.agc_script.proofs.Faults.{line_judged}
 use Rattle.agc_script.proofs.Lines.{next_lines}
@@ -19,12 +19,12 @@ use Rattle.agc_script.proofs.Lowest.{Judges, lowest_judges}
 use Rattle.agc_script.proofs.Sayings.{line_says}
 use Rattle.agc_script.proofs.After.{at_line, more_faultless, next_start, next_events}
 
--- what is read of lines: all their events, or their first fault
+-- the result of reading lines: all their events, or their first fault
 abbrev pub Reads : List (List ℕ) → Result (List Event) ScriptFault → Type 0
 Reads lines read =
     MatchResult read (λ events. AreFaultless lines (length lines) × (events ≡ events_of_lines lines)) (λ fault. IsFirstFault lines fault)
 
--- what a line's meaning says of its faults
+-- how a line's meaning relates to its faults
 abbrev has_after : List (List ℕ) → List ℕ → FaultKind → Bool
 has_after done line kind = has_fault kind (last_start done) (length (events_of_lines done)) line
 

@@ -1,4 +1,3 @@
-pub mod Cuts
 pub mod Arranged
 pub mod Repeats
 pub mod Lines

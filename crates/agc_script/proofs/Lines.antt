@@ -1,10 +1,10 @@
--- One line after another, and what a refusal at a line says of the file.
+-- One line after another, and what an error at a line means for the file.
 use Rattle.std.specs.Prelude.{◌≡◌, ℕ, ◌+◌, ◌≤◌, ◌<◌, List, [], ◌∷◌, length, Result, Ok, Err, IsOk, IfErr}
 use Rattle.std.proofs.Common.{refl, arith, rules, sym, ◌∙◌, ap}
 use Rattle.std.proofs.lemmas.Result.{IfErr-weaker}
 use Rattle.agc_script.specs.declared.event.Event.{Event}
 use Rattle.agc_script.specs.declared.fault.FaultKind.{FaultKind}
-use Rattle.agc_script.specs.Text.{lines_of}
+use Rattle.agc_word.specs.Text.{lines_of}
 use Rattle.agc_script.specs.Parse.{taken, reading, in_order_of, arranged, script_of, IsSoundLine}
 
 -- a line that is taken
@@ -20,7 +20,7 @@ pub faulty_line : (file : List ℕ) (n last : ℕ) (events : List Event) (line :
 unfolding reading script_of
 faulty_line file n last events line lines kind same e = rw (← same, e, reading)
 
--- a fault stands at one of the lines that are read
+-- a fault is at one of the lines that are read
 fault_from : (n last : ℕ) (events : List Event) (lines : List (List ℕ)) → IfErr (in_order_of (reading n last events lines)) (λ fault. n ≤ fault.line)
 unfolding reading
 fault_from n last events [] = tt
@@ -30,7 +30,7 @@ fault_from n last events (line ∷ lines) =
       | Err kind ↦ omega arith
     ]
 
--- a line that is taken, where all lines before it are
+-- a line that is taken, if all lines before it are
 sound_line : (file : List ℕ) (n last start : ℕ) (events after : List Event) (line : List ℕ) (lines : List (List ℕ))
     → reading n last events (line ∷ lines) ≡ reading 1 0 [] (lines_of file) → taken last events line ≡ Ok (start, after)
     → IfErr (script_of file) (λ fault. n < fault.line)
@@ -45,7 +45,7 @@ sound_at : (file : List ℕ) (n last : ℕ) (events : List Event) (line : List �
 sound_at file n last events line lines (Ok after) same e ok = sound_line file n last after.0 events after.1 line lines same e
 sound_at file n last events line lines (Err kind) same e ok = absurd (search rules)
 
--- a line that could be taken, where all lines before it were
+-- a line that could be taken, if all lines before it were
 pub takable_line : (file : List ℕ) (n last : ℕ) (events : List Event) (line : List ℕ) (lines : List (List ℕ))
     → reading n last events (line ∷ lines) ≡ reading 1 0 [] (lines_of file) → IsOk (taken last events line)
     → IfErr (script_of file) (λ fault. n < fault.line)

@@ -41,7 +41,7 @@ same_rank a b e = sym (back a) ∙ ap (λ (n : ℕ). kind_of n) e ∙ back b
 record NoneBelow (has : FaultKind → Bool) (n : ℕ) : Type 0 where
   none : (kind : FaultKind) → rank kind < n → has kind ≡ false
 
--- a kind that is had, with none below it, or none at all
+-- a kind that is present, with none below it, or none at all
 abbrev pub Judges : (FaultKind → Bool) → Option FaultKind → Type 0
 Judges has found =
     MatchOption found ((kind : FaultKind) → has kind ≡ false)

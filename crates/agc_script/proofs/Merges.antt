@@ -1,4 +1,4 @@
--- The merge, one given event after another, and that it is a script.
+-- The merge, one injected event after another, and that it is a script.
 use Rattle.std.specs.Prelude.{◌≡◌, ℕ, zero, suc, ◌+◌, ◌≤◌, ◌<◌, nat_lt, true, false, List, [], ◌∷◌, ◌++◌, length, take, drop, position, unwrap_or, Result, Ok, Err, is_ok, OnOk, All, if◌then◌else◌}
 use Rattle.std.proofs.Common.{refl, arith, ◌∙◌, add-one, append_assoc, get_or, one-add, inl, inr}
 use Rattle.std.proofs.Math.Seq.{drop-cons}
@@ -19,7 +19,7 @@ due_found cycle events =
     let bound : due_at cycle events ≤ length events = prefix_len-le-length _ events in
     grind (arith, nat_tests)
 
--- one given event more
+-- one more injected event
 pub joined-next : (done rest more given : List Event) (i due : ℕ) (event other : Event) → i < length given → event ≡ get_or given i other
     → due ≡ due_at event.cycle rest → more ≡ (done ++ take due rest) ++ event ∷ []
     → more ++ joined (drop due rest) (drop (i + 1) given) ≡ done ++ joined rest (drop i given)
@@ -28,7 +28,7 @@ joined-next done rest more given i due event other l e d m =
     let cut : drop i given ≡ event ∷ drop (i + 1) given = rw (e, add-one) (drop-cons given i other l) in
     rw (cut, m, d, append_assoc, append_assoc)
 
--- no given event is left
+-- no injected event is left
 pub joined-end : (rest given : List Event) (i : ℕ) → length given ≤ i → joined rest (drop i given) ≡ rest
 unfolding joined
 joined-end rest given i l = rw (drop_of_length-le given l)
@@ -71,7 +71,7 @@ append-in_order c (x ∷ xs) ys a b h k =
       append-in_order c xs ys a.1 (All-tail (λ e. e.cycle ≤ c) x xs b) h k,
     )
 
--- the events before a given one, and those after it
+-- the events before an injected one, and those after it
 pub due_before : (c : ℕ) (events : List Event) → All (λ e. e.cycle ≤ c) (take (due_at c events) events)
 due_before c events i d l =
     let bound : due_at c events ≤ length events = prefix_len-le-length _ events in
@@ -89,7 +89,7 @@ later_after c (event ∷ events) h =
       | inr w ↦ rw (w.0, one-add) (later_after c events h.1)
     ]
 
--- two scripts in one are in order
+-- two merged scripts are in order
 joined-in_order : (events given : List Event) → IsInOrder events → IsInOrder given → IsInOrder (joined events given)
 unfolding joined IsInOrder
 joined-in_order events [] h r = h
@@ -114,7 +114,7 @@ length-joined events (event ∷ given) =
       length-joined (drop due events) given,
     )
 
--- two scripts in one are a script, if that has room
+-- two merged scripts are a script, if it has room
 pub joined_script : (events given : List Event) → IsScript events → IsScript given → length events + length given ≤ 65536 → IsScript (joined events given)
 joined_script events given s t h = record {
   in_range = joined-All IsInRange events given s.in_range t.in_range;
@@ -122,7 +122,7 @@ joined_script events given s t h = record {
   few = omega (arith, length-joined events given);
 }
 
--- laws for those who play a joined script: an event of a given one's cycle or less comes before it ..
+-- laws for replaying a merged script: an event at the cycle of an injected one, or before, comes before it ..
 pub joined_event_first : (event : Event) (events : List Event) (given : Event) (later : List Event) → event.cycle ≤ given.cycle
     → joined (event ∷ events) (given ∷ later) ≡ event ∷ joined events (given ∷ later)
 unfolding joined
@@ -130,7 +130,7 @@ joined_event_first event events given later h =
     let due : nat_lt given.cycle event.cycle ≡ false = lt-leb (suc given.cycle) event.cycle (omega arith) in
     rw (due, one-add)
 
--- .. and where the first event comes later, or none is left, the given one comes first
+-- .. and if the first event comes later, or none is left, the injected one comes first
 pub joined_given_first : (event : Event) (events : List Event) (given : Event) (later : List Event) → given.cycle < event.cycle
     → joined (event ∷ events) (given ∷ later) ≡ given ∷ joined (event ∷ events) later
 unfolding joined

@@ -1,4 +1,4 @@
--- A merge has both lists in it, each in its order, and each given event in its place.
+-- A merge has both lists in it, each in its order, and each injected event in its place.
 use Rattle.std.specs.Prelude.{◌≡◌, ℕ, suc, ◌≤◌, ◌<◌, List, [], ◌∷◌, ◌++◌, take, drop, map, filter_map, slice_index_or, All}
 use Rattle.std.proofs.Common.{refl, arith, sym, ap, inl, inr, one-add}
 use Rattle.std.proofs.lemmas.Bool.Decides.{leb_tells}
@@ -59,7 +59,7 @@ given_kept events (one ∷ given) =
     )
     refl
 
--- what holds of the events of both lists
+-- what is true of the events of both lists
 all_entries : (P : Entry → Type 0) (events given : List Event) → All (λ event. P (inl event)) events → All (λ event. P (inr event)) given
     → All P (entries_of events given)
 unfolding entries_of
@@ -80,7 +80,7 @@ scripts_before (event ∷ events) rest h r = (
   scripts_before events rest (All-tail (λ e. All (ComesBefore (inl e)) rest) event events h) r,
 )
 
--- the events after a given one all come later
+-- the events after an injected one all come later
 later_strictly : (c : ℕ) (events : List Event) → IsInOrder events → All (λ e. c < e.cycle) (drop (due_at c events) events)
 unfolding IsInOrder
 later_strictly c [] h = All-nil (λ e. c < e.cycle)

@@ -10,14 +10,14 @@ use Rattle.std.proofs.lemmas.List.Sums.{fold_push}
 use Rattle.agc_word.specs.Octal.{octal_digits}
 use Rattle.agc_word.specs.Numeral.{digits_value, is_digit, number_of}
 
--- as many digits as are asked for
+-- the requested number of digits
 pub length_octal : (width n : ℕ) → length (octal_digits width n) ≡ width
 unfolding octal_digits
 length_octal zero n = refl
 length_octal (suc width) n =
     length_push (octal_digits width (n / 8)) (48 + n % 8) ∙ ap (λ (k : ℕ). k + 1) (length_octal width (n / 8)) ∙ add-one width
 
--- what each digit passes, all pass
+-- what is true of each digit is true of all
 pub all_octal : (test : ℕ → Bool) → ((digit : ℕ) → digit < 8 → test (48 + digit) ≡ true) → (width n : ℕ) → list_all test (octal_digits width n) ≡ true
 unfolding octal_digits
 all_octal test each zero n = refl
@@ -37,7 +37,7 @@ value_octal (suc width) n h =
     fold_push (λ v b. v * 8 + (b - 48)) 0 (octal_digits width (n / 8)) (48 + n % 8)
     ∙ ap (λ (v : ℕ). v * 8 + (48 + n % 8 - 48)) (value_octal width (n / 8) less) ∙ last
 
--- the digits read back as the number, wherever so many may stand
+-- the digits read back as the number, if that many are allowed
 pub octal_back : (most width n : ℕ) → 0 < width → width ≤ most → n < 8 ^ width → number_of 8 most (octal_digits width n) ≡ Some n
 unfolding number_of
 octal_back most width n some room small =

@@ -1,4 +1,4 @@
--- There is one merge of a script with given events, and no other.
+-- There is only one merge of a script with injected events.
 use Rattle.std.specs.Prelude.{◌≡◌, ◌≤◌, ◌<◌, List, [], ◌∷◌, map, filter_map, All}
 use Rattle.std.proofs.Common.{refl, arith, sym, ap, ◌∙◌, inl, inr}
 use Rattle.std.proofs.lemmas.List.Elements.{All-tail}
@@ -6,7 +6,7 @@ use Rattle.agc_script.specs.declared.event.Event.{Event}
 use Rattle.agc_script.specs.Merge.{joined, Entry, event_of, scripted, given_of, ComesBefore, AreInPlace, IsMerge}
 use Rattle.agc_script.proofs.Merges.{joined_event_first, joined_given_first, joined_given_last, joined_none}
 
--- the first given event after a script's, and the first of the script's after a given one
+-- the first injected event after a script's, and the first of the script's after an injected one
 first_given : (event : Event) (rest : List Entry) (one : Event) (given : List Event) → All (ComesBefore (inl event)) rest → filter_map given_of rest ≡ one ∷ given
     → event.cycle ≤ one.cycle
 first_given event [] one given h e = cc
@@ -25,7 +25,7 @@ first_scripted one (inl other ∷ rest) event events h e =
     let same : other ≡ event = cc in
     rw same at later
 
--- the merge goes on with an event of the script, or with a given one
+-- the merge continues with an event of the script, or with an injected one
 event_next : (event : Event) (events given : List Event) → ((one : Event) (others : List Event) → given ≡ one ∷ others → event.cycle ≤ one.cycle)
     → joined (event ∷ events) given ≡ event ∷ joined events given
 event_next event events [] h = joined_none (event ∷ events) ∙ ap (λ (rest : List Event). event ∷ rest) (sym (joined_none events))

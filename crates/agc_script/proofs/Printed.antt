@@ -6,7 +6,7 @@ use Rattle.std.proofs.Common.{refl, arith, get_or}
 use Rattle.std.proofs.lemmas.Bool.Decides.{nat_tests}
 use Rattle.std.proofs.lemmas.List.Splits.{length-slice_split, slice_split_at}
 use Rattle.std.proofs.lemmas.List.Sums.{AllPass-from_list_all}
-use Rattle.agc_script.specs.Text.{is_line_feed, lines_of, without_empty_end}
+use Rattle.agc_word.specs.Text.{is_line_feed, lines_of, without_empty_end}
 use Rattle.agc_script.proofs.Spaced.{in_line, prints}
 
 -- a line whose bytes print ends in no carriage return

@@ -8,7 +8,7 @@ use Rattle.agc_script.specs.Laws.{first_number, with_ranges}
 use Rattle.agc_script.specs.declared.grammar.Command.{Command}
 use Rattle.agc_script.specs.declared.grammar.Command.TheVariants as command
 
--- what holds of numbers holds of them where a name is known
+-- what is true of numbers, if a name is known
 when_known : (known : Bool) (numbers : List Numeral) (P : List Numeral → Type 0) → P numbers → IfSome (where_known known numbers) P
 when_known true numbers P h = h
 when_known false numbers P h = tt

@@ -1,4 +1,4 @@
--- What a faultless line says: its start, and its events.
+-- The meaning of a faultless line: its start, and its events.
 use Rattle.std.specs.Prelude.{◌≡◌, ℕ, ◌+◌, nat_lt, Bool, true, false, List, [], ◌∷◌, length, Option, Some, None, Result, Ok, Err, if◌then◌else◌, option_map, option_and_then, codes}
 use Rattle.std.specs.List.{list_any}
 use Rattle.std.specs.Str.{bytes_eq}
@@ -7,15 +7,15 @@ use Rattle.agc_script.specs.declared.line.Repeat.{Repeat}
 use Rattle.agc_script.specs.declared.fault.FaultKind.{FaultKind}
 use Rattle.agc_script.specs.declared.fault.FaultKind.TheVariants.{LineTooLong, NotAscii, TooMany}
 use Rattle.agc_script.specs.Event.{most_events}
-use Rattle.agc_script.specs.Text.{words_of}
+use Rattle.agc_word.specs.Text.{words_of}
 use Rattle.agc_script.specs.Command.{and_then}
 use Rattle.agc_script.specs.Line.{every_of, within_bound, begins_comment, longest_line, is_beyond_ascii, words_meaning, meaning_of}
 use Rattle.agc_script.specs.Parse.{events_said}
-use Rattle.agc_script.specs.Said.{spelt_out, cycle_at, events_spelt}
+use Rattle.agc_script.specs.Injection.{spelt_out, cycle_at, events_spelt}
 use Rattle.agc_script.proofs.Faults.{once_every}
 use Rattle.agc_script.proofs.EveryLine.{every_says}
 
--- what a line says, and its start
+-- the meaning of a line, and its start
 pub record LineSays (words : Option (List (List ℕ))) (said : Option Repeat) : Type 0 where
   pub start : option_and_then (cycle_at 1) words ≡ option_map (λ repeat. repeat.start) said
   pub events : events_said said ≡ events_spelt words

@@ -1,4 +1,4 @@
--- A script as it is written down reads back as its events.
+-- A script that is written as text reads back as its events.
 use Rattle.std.specs.Prelude.{◌≡◌, ℕ, ◌+◌, ◌*◌, ◌≤◌, ◌<◌, nat_lt, true, false, List, [], ◌∷◌, ◌++◌, length, codes, Some, Ok, All}
 use Rattle.std.specs.Fmt.{decimal}
 use Rattle.std.specs.List.{list_all}
@@ -12,7 +12,7 @@ use Rattle.agc_script.specs.Event.{IsInRange, IsWhatInRange, last_cycle}
 use Rattle.agc_script.specs.Line.{begins_comment, cycle_of, cycle_word, in_turn, meaning_of, once_of, within_bound, words_meaning}
 use Rattle.agc_script.specs.Parse.{arranged, events_of, put_in, reading, script_of, taken}
 use Rattle.agc_script.specs.Script.{IsInOrder, IsScript}
-use Rattle.agc_script.specs.Text.{lines_of, words_of}
+use Rattle.agc_word.specs.Text.{lines_of, words_of}
 use Rattle.agc_script.specs.Written.{event_text, script_text}
 use Rattle.agc_script.specs.declared.event.Event.{Event}
 use Rattle.agc_script.specs.declared.event.What.{What}

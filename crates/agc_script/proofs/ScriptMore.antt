@@ -1,4 +1,4 @@
--- A script stays a script with one more event, and with its first alone.
+-- A script stays a script with one more event, and with its first events alone.
 use Rattle.std.specs.Prelude.{◌≡◌, ℕ, suc, ◌≤◌, ◌<◌, List, [], ◌∷◌, ◌++◌, length, take, Result, Ok, Err, is_ok, if◌then◌else◌}
 use Rattle.std.proofs.Common.{arith}
 use Rattle.std.proofs.lemmas.List.{length-take, length_push}
@@ -6,7 +6,7 @@ use Rattle.std.proofs.lemmas.List.Elements.{All-nil, All-push, All-take}
 use Rattle.agc_script.specs.declared.event.Event.{Event}
 use Rattle.agc_script.specs.declared.event.What.{What}
 use Rattle.agc_script.specs.Event.{IsInRange, IsWhatInRange, last_cycle}
-use Rattle.agc_script.specs.Said.{said_at}
+use Rattle.agc_script.specs.Injection.{said_at}
 use Rattle.agc_script.specs.Script.{IsInOrder, IsNotBefore, IsScript}
 use Rattle.agc_script.proofs.Merges.{take-in_order}
 
@@ -33,7 +33,7 @@ pub script_if : {T E : Type 0} (r : Result T E) (new now old : List Event) → n
 script_if (Ok x) new now old e a b = rw e a
 script_if (Err x) new now old e a b = rw e b
 
--- so many of its first events
+-- a number of its first events
 pub script_fewer : (n : ℕ) (events : List Event) → IsScript events → IsScript (take n events)
 script_fewer n events s = record {
   in_range = All-take IsInRange n events s.in_range;

@@ -1,4 +1,4 @@
--- Words in print with a space between them are cut as they were put together.
+-- Words written with a space between them are cut as they were put together.
 use Rattle.std.specs.Prelude.{◌≡◌, ℕ, ◌+◌, ◌*◌, ◌≤◌, nat_le, nat_lt, Bool, true, false, ◌&&◌, List, [], ◌∷◌, ◌++◌, length, All}
 use Rattle.std.specs.List.{list_all, list_any}
 use Rattle.std.proofs.Common.{refl, arith, ap, ◌∙◌}
@@ -10,7 +10,7 @@ use Rattle.std.proofs.lemmas.List.Folds.{list_all-append, list_any_none}
 use Rattle.std.proofs.lemmas.List.Splits.{slice_split_at, slice_split_none}
 use Rattle.std.proofs.lemmas.List.Sums.{AllPass-from_list_all, list_all-from_AllPass}
 use Rattle.agc_script.specs.Line.{is_beyond_ascii}
-use Rattle.agc_script.specs.Text.{is_blank, is_empty_part, is_line_feed, words_of}
+use Rattle.agc_word.specs.Text.{is_blank, is_empty_part, is_line_feed, words_of}
 
 -- a byte that prints in ASCII, and one that is no space beside
 abbrev pub prints : ℕ → Bool
@@ -19,7 +19,7 @@ prints b = nat_le 0x20 b && nat_lt b 0x7F
 abbrev pub is_solid : ℕ → Bool
 is_solid b = nat_lt 0x20 b && nat_lt b 0x7F
 
--- a word in print, of so many bytes at most
+-- a printed word, with at most this many bytes
 pub record IsWord (most : ℕ) (word : List ℕ) : Type 0 where
   pub solid : list_all is_solid word ≡ true
   pub some : is_empty_part word ≡ false
@@ -60,7 +60,7 @@ all_ascii line h = list_any_none is_beyond_ascii line (All-weaker (λ b. prints 
 pub in_line : (line : List ℕ) → list_all prints line ≡ true → All (λ b. is_line_feed b ≡ false) line
 in_line line h = All-weaker (λ b. prints b ≡ true) (λ b. is_line_feed b ≡ false) print_is_in_line line (AllPass-from_list_all prints line h)
 
--- a word before a space is the first, and one that stands alone is the only one
+-- a word before a space is the first, and a word alone is the only one
 first_word : (word rest : List ℕ) → list_all is_solid word ≡ true → is_empty_part word ≡ false → words_of (word ++ 0x20 ∷ rest) ≡ word ∷ words_of rest
 unfolding words_of
 first_word word rest solid some = rw (slice_split_at is_blank word 0x20 rest (no_blank word solid) refl, some) refl

@@ -1,4 +1,4 @@
--- A number that is written without zeros in front reads back as the number.
+-- A number that is written without leading zeros reads back as the number.
 use Rattle.std.specs.Prelude.{◌≡◌, ℕ, zero, suc, ◌+◌, ◌-◌, ◌*◌, ◌/◌, ◌%◌, ◌^◌, ◌<◌, ◌≤◌, ◌==◌, true, false, List, [], ◌∷◌, length, fold, Some}
 use Rattle.std.specs.Fmt.{digits, digits_onto}
 use Rattle.std.specs.List.{list_all}
@@ -36,7 +36,7 @@ record Spelt (base w n : ℕ) (acc text : List ℕ) : Type 0 where
   some : 1 ≤ length text
   short : length text ≤ w + length acc
 
--- the last digit, and one that others stand before
+-- the last digit, and one that follows others
 step_last : (base k n : ℕ) (acc : List ℕ) → n % base < 10 → (n / base == 0) ≡ true → digits_onto (suc k) base false n acc ≡ (48 + n % base) ∷ acc
 step_last base k n acc low e = rw e (grind (arith, nat_tests))
 

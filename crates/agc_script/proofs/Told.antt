@@ -1,12 +1,12 @@
--- What a refusal tells of a file, and what an acceptance does.
+-- What an error means for a file, and what a success does.
 use Rattle.std.specs.Prelude.{◌≡◌, ℕ, ◌≤◌, ◌<◌, List, [], length, Result, Ok, Err, IfErr}
 use Rattle.std.specs.List.Sorted.{IsPermutation}
 use Rattle.std.proofs.Common.{arith}
 use Rattle.agc_script.specs.declared.event.Event.{Event}
 use Rattle.agc_script.specs.declared.fault.ScriptFault.{ScriptFault}
-use Rattle.agc_script.specs.Text.{lines_of}
+use Rattle.agc_word.specs.Text.{lines_of}
 use Rattle.agc_script.specs.Parse.{reading, in_order_of, script_of, IsSoundLine}
-use Rattle.agc_script.specs.Said.{events_of_lines}
+use Rattle.agc_script.specs.Injection.{events_of_lines}
 use Rattle.agc_script.specs.Fault.{AreFaultless, IsFirstFault}
 use Rattle.agc_script.specs.Parse.{arranged}
 use Rattle.agc_script.specs.Laws.{IsArrangement}

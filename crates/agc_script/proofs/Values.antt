@@ -1,4 +1,4 @@
--- The events of a line are those at FROM, FROM + N and so on, as far as TO.
+-- The events of a line are those at FROM, FROM + N and so on, up to TO.
 use Rattle.std.specs.Prelude.{◌≡◌, ℕ, zero, suc, ◌+◌, ◌-◌, ◌*◌, ◌/◌, ◌≤◌, ◌<◌, ◌==◌, nat_lt, nat_le, Bool, true, false, ◌||◌, List, [], ◌∷◌, ◌++◌, map, filter, Some, None, Ok, Err, if◌then◌else◌, cond, length, slice_get, IfOk}
 use Rattle.std.specs.List.{range_with_len}
 use Rattle.std.proofs.Common.{refl, arith, ap, sym, ◌∙◌, add-one, inl, inr}
@@ -12,7 +12,7 @@ use Rattle.agc_script.specs.declared.event.What.{What}
 use Rattle.agc_script.specs.declared.fault.FaultKind.TheVariants.{OutOfRange}
 use Rattle.agc_script.specs.Line.{repeat_of}
 use Rattle.agc_script.specs.Parse.{events_of}
-use Rattle.agc_script.specs.Said.{cycles_said, said_at}
+use Rattle.agc_script.specs.Injection.{cycles_said, said_at}
 use Rattle.agc_script.proofs.Counts.{spans}
 
 longer : (f : ℕ → ℕ) (k : ℕ) → map f (range_with_len 0 (suc k)) ≡ map f (range_with_len 0 k) ++ f k ∷ []
@@ -60,7 +60,7 @@ unfolding events_of
 repeated_events n from to what some up =
     rw (reached n from to some up) (map_twice (said_at what) (λ i. from + i * n) (range_with_len 0 ((to - from) / n + 1)))
 
--- the event at a place: at FROM and so many times N, unless that is past TO
+-- the event at a position: at FROM plus that many times N, unless that is past TO
 pub nth_event : (n from to i : ℕ) (what : What) → 0 < n → from ≤ to
     → slice_get (events_of (record { start = from; period = n; times = (to - from) / n + 1; what = what })) i
     ≡ (if nat_le (from + i * n) to then Some (said_at what (from + i * n)) else None)

@@ -11,7 +11,7 @@ use Rattle.agc_script.specs.declared.fault.FaultKind.TheVariants.{BadCycle, OutO
 use Rattle.agc_script.specs.Event.{most_events}
 use Rattle.agc_script.specs.Command.{and_then, command_of}
 use Rattle.agc_script.specs.Line.{cycle_of, cycle_word, in_turn, repeat_of, every_of, within_bound}
-use Rattle.agc_script.specs.Said.{three_cycles}
+use Rattle.agc_script.specs.Injection.{three_cycles}
 use Rattle.agc_script.specs.Fault.{known_and, numbers_of, is_bad, is_beyond_range, is_no_span, goes_beyond, words_have}
 use Rattle.agc_script.proofs.Numbers.{lowest_of_three}
 use Rattle.agc_script.proofs.Commands.{command_judged}
@@ -40,7 +40,7 @@ steps before false false false true z n (Ok what) start repeat e h = cc
 steps before false false false false true n (Ok what) start repeat e h = refl
 steps before false false false false false n (Ok what) start repeat e h = e refl what
 
--- with all three cycles looked at before anything else
+-- with all three cycles checked before anything else
 cycles_judged : (last before : ℕ) (p s e : Option ℕ) (r : Result What FaultKind) (u b o : Bool) → result_err r ≡ lowest_of_three u b o
     → result_err (and_then (and_then (ok_or p BadCycle) (λ period. and_then (ok_or s BadCycle) (λ start. and_then (ok_or e BadCycle)
     (λ end. and_then (and_then (in_turn last start) (λ _. r)) (repeat_of period start end))))) (within_bound before))
@@ -54,7 +54,7 @@ cycles_judged last before (Some n) (Some from) (Some to) r u b o h =
     steps before (nat_lt from last) u b o ((n == 0) || nat_lt to from) (nat_le (from + (most_events - before) * n) to) r from
     (λ what. record { start = from; period = n; times = (to - from) / n + 1; what = what }) (λ z what. bounded before n from to what z) h
 
--- what the words of an event line are refused for, as they are spelt out
+-- the fault of an event line, from its words
 abbrev pub EveryJudged : ℕ → ℕ → List (List ℕ) → Type 0
 EveryJudged last before words =
     result_err (and_then (every_of last words) (within_bound before))

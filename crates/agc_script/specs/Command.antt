@@ -1,4 +1,4 @@
--- What the commands of a script say, or the lowest kind of fault in their words.
+-- The meaning of a script's commands, or the lowest kind of fault in their words.
 use Rattle.std.specs.Prelude.{ℕ, nat_le, Bool, ◌&&◌, List, [], ◌∷◌, Option, Some, None}
 use Rattle.std.specs.Prelude.{Result, Ok, Err, if◌then◌else◌, option_map, option_and_then}
 use Rattle.std.specs.Option.{ok_or}
@@ -20,13 +20,13 @@ use Rattle.agc_script.specs.declared.fault.FaultKind.{FaultKind}
 use Rattle.agc_script.specs.declared.fault.FaultKind.TheVariants.{UnknownWord, BadNumber}
 use Rattle.agc_script.specs.declared.fault.FaultKind.TheVariants.{OutOfRange}
 
--- what comes next, unless there is a fault already
+-- the next step, unless there is a fault already
 abbrev pub and_then : {T U : Type 0}
     → Result T FaultKind → (T → Result U FaultKind) → Result U FaultKind
 and_then (Ok x) next = next x
 and_then (Err kind) next = Err kind
 
--- what words have to say, if it is known
+-- the meaning of words, if it is known
 abbrev pub or_unknown : {T : Type 0} → Option T → Result T FaultKind
 or_unknown found = ok_or found UnknownWord
 
@@ -56,7 +56,7 @@ octal_of word = number_in base.Octal word
 abbrev pub decimal_of : List ℕ → Result ℕ FaultKind
 decimal_of word = number_in base.Decimal word
 
--- one octal number more, beside what was read before it
+-- one more octal number, beside those read before
 abbrev pub with_octal : {T : Type 0} → List ℕ → T → Result (T × ℕ) FaultKind
 with_octal word read = and_then (octal_of word) (λ number. Ok (read, number))
 
@@ -93,7 +93,7 @@ unfoldable pub input_of : List (List ℕ) → Result What FaultKind
 input_of words =
     and_then (and_then (or_unknown (two_of words)) two_octals) (λ n. input_event n.0 n.1)
 
--- `pulse COUNTER KIND`; the kind is looked at before the counter's digits
+-- `pulse COUNTER KIND`; the kind is checked before the counter's digits
 unfoldable pub pulse_event : Pulse → ℕ → Result What FaultKind
 pulse_event kind counter =
     if is_within first_counter last_counter counter
@@ -131,7 +131,7 @@ unfoldable pub poke_of_words : List (List ℕ) → Result What FaultKind
 poke_of_words words =
     and_then (and_then (or_unknown (three_of words)) three_octals) (λ n. poke_event n.0.0 n.0.1 n.1)
 
--- what a command says by the words after its name
+-- the meaning of a command by the words after its name
 unfoldable pub said_by : List (List ℕ) → Command → Result What FaultKind
 said_by words command.Key = key_of words
 said_by words command.Pro = pro_of words

@@ -42,7 +42,7 @@ IsCounter cell = (first_counter ≤ cell) × (cell ≤ last_counter)
 abbrev pub IsNarrow : Number → Type 0
 IsNarrow value = value.magnitude < 2 ^ 14
 
--- What happens has each of its numbers in range; no script has a Dinc, which is the timers' own.
+-- An event has each of its numbers in range; no script has a Dinc, which only the timers send.
 unfoldable pub IsWhatInRange : What → Type 0
 IsWhatInRange (what.Key key) = Unit {0}
 IsWhatInRange (what.Pro down) = Unit {0}

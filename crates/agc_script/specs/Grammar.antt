@@ -28,11 +28,11 @@ unfoldable pub all_commands : List Command
 all_commands =
     command.Key ∷ command.Pro ∷ command.Input ∷ command.Pulse ∷ command.Raise ∷ command.Poke ∷ []
 
--- the command of a name, where there is one
+-- the command with a name, if there is one
 unfoldable pub command_named : List ℕ → Option Command
 command_named name = find (λ c. bytes_eq (command_name c) name) all_commands
 
--- how many words stand after a command's name
+-- how many words follow the command's name
 unfoldable pub argument_count : Command → ℕ
 argument_count command.Key = 1
 argument_count command.Pro = 1
@@ -41,7 +41,7 @@ argument_count command.Pulse = 2
 argument_count command.Raise = 1
 argument_count command.Poke = 3
 
--- where PRO goes: down where true
+-- the directions of PRO: down is true
 unfoldable pub direction_name : Bool → List ℕ
 direction_name true = codes "down"
 direction_name false = codes "up"
@@ -60,7 +60,7 @@ pulses =
 unfoldable pub pulse_named : List ℕ → Option Pulse
 pulse_named name = find (λ p. bytes_eq (pulse_name p) name) pulses
 
--- the number that a base is
+-- the number of a base
 abbrev pub radix : Base → ℕ
 radix base.Octal = 8
 radix base.Decimal = 10
@@ -88,7 +88,7 @@ banks = octal_range 0 last_bank
 abbrev pub patterns : NumberRange
 patterns = octal_range 0 0o77777
 
--- the lowest offset of a poke, as far as its bank is a number
+-- the lowest offset of a poke, if its bank is a number
 abbrev pub lowest_offset : Option ℕ → ℕ
 lowest_offset None = 0
 lowest_offset (Some bank) = first_offset bank
@@ -96,8 +96,8 @@ lowest_offset (Some bank) = first_offset bank
 abbrev pub offsets_in : Option ℕ → NumberRange
 offsets_in bank = octal_range (lowest_offset bank) last_offset
 
--- The ranges of the words after a command's name, as many as a command has at most, where they are
--- numbers. `first` is what the first of these words writes.
+-- The ranges of the words after a command's name that are numbers, up to the most that a command
+-- has. `first` is the value of the first of these words.
 unfoldable pub ranges_of : Command → Option ℕ → List (Option NumberRange)
 ranges_of command.Key first = None ∷ None ∷ None ∷ []
 ranges_of command.Pro first = None ∷ None ∷ None ∷ []

@@ -5,7 +5,7 @@ use Rattle.std.specs.Str.{bytes_eq}
 use Rattle.agc_script.specs.declared.key.Key.{Key}
 use Rattle.agc_script.specs.declared.key.Key.TheVariants as key
 
--- the name that stands on the key, as a script writes it
+-- the name of the key, as a script writes it
 unfoldable pub name_of : Key → List ℕ
 name_of key.Zero = codes "0"
 name_of key.One = codes "1"
@@ -54,6 +54,6 @@ all_keys =
     ∷ key.Eight ∷ key.Nine ∷ key.Verb ∷ key.Noun ∷ key.Reset ∷ key.KeyRelease ∷ key.Plus
     ∷ key.Minus ∷ key.Enter ∷ key.Clear ∷ []
 
--- the key with this name, where there is one
+-- the key with this name, if there is one
 unfoldable pub key_named : List ℕ → Option Key
 key_named name = find (λ k. bytes_eq (name_of k) name) all_keys

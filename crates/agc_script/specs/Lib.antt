@@ -1,7 +1,6 @@
 pub mod Key
 pub mod Event
 pub mod Script
-pub mod Text
 pub mod Grammar
 pub mod Command
 pub mod Line
@@ -9,6 +8,6 @@ pub mod Parse
 pub mod Tape
 pub mod Merge
 pub mod Written
-pub mod Said
+pub mod Injection
 pub mod Fault
 pub mod Laws

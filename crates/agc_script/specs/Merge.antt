@@ -1,4 +1,4 @@
--- A script with given events in it: those of another script, or the live keys of a tape.
+-- A script merged with injected events: those of another script, or the live keys of a tape.
 use Rattle.std.specs.Prelude.{◌≡◌, ◌⊎◌, ℕ, ◌≤◌, ◌<◌, nat_lt, List, [], ◌∷◌, ◌++◌, map, take, drop}
 use Rattle.std.specs.Prelude.{filter_map, All, Option, Some, None}
 use Rattle.std.proofs.Common.{inl, inr}
@@ -13,12 +13,12 @@ use Rattle.agc_script.specs.declared.fault.FaultKind.TheVariants.{TooMany, Memor
 abbrev pub key_event : ℕ × Key → Event
 key_event entry = record { cycle = entry.0; what = what.Key entry.1 }
 
--- how many events stand before a given one: those of its cycle or less
+-- how many events precede an injected one: those of its cycle or earlier
 abbrev pub due_at : ℕ → List Event → ℕ
 due_at cycle events = position_or_len (λ event. nat_lt cycle event.cycle) events
 
--- The events of a script and given events in one list: each given event stands after all script
--- events of its cycle or less, and before all others.
+-- The events of a script and injected events in one list: each injected event comes after all
+-- script events of its cycle or earlier, and before all others.
 unfoldable pub joined : List Event → List Event → List Event
 joined events [] = events
 joined events (given ∷ later) =
@@ -29,7 +29,7 @@ joined events (given ∷ later) =
 abbrev pub merged : List Event → List (ℕ × Key) → List Event
 merged events tape = joined events (map key_event tape)
 
--- an entry of a merge: an event of the script, or a given one
+-- an entry of a merge: an event of the script, or an injected one
 abbrev pub Entry : Type 0
 Entry = Event ⊎ Event
 
@@ -38,7 +38,7 @@ abbrev pub event_of : Entry → Event
 event_of (inl event) = event
 event_of (inr given) = given
 
--- the script's event that an entry is, or the given one
+-- the script's event of an entry, or the injected one
 abbrev pub scripted : Entry → Option Event
 scripted (inl event) = Some event
 scripted (inr given) = None
@@ -47,8 +47,8 @@ abbrev pub given_of : Entry → Option Event
 given_of (inl event) = None
 given_of (inr given) = Some given
 
--- Of a script's event and a given one the script's stands first where it is due at the cycle of the
--- given one, and else the given one.
+-- A script's event comes before an injected one if it is due at the cycle of the injected one;
+-- otherwise after it.
 abbrev pub ComesBefore : Entry → Entry → Type 0
 ComesBefore (inl event) (inr given) = event.cycle ≤ given.cycle
 ComesBefore (inr given) (inl event) = given.cycle < event.cycle
@@ -59,8 +59,8 @@ unfoldable pub AreInPlace : List Entry → Type 0
 AreInPlace [] = Unit {0}
 AreInPlace (entry ∷ entries) = All (ComesBefore entry) entries × AreInPlace entries
 
--- A merge has both lists in it, each in its order, and nothing else; before each given event stand
--- the script's events of its cycle or less, and no others.
+-- A merge has both lists in it, each in its order, and nothing else; before each injected event are
+-- the script's events of its cycle or earlier, and no others.
 pub record IsMerge (events given all : List Event) : Type 0 where
   pub entries : List Entry
   pub all_are : all ≡ map event_of entries
@@ -68,7 +68,7 @@ pub record IsMerge (events given all : List Event) : Type 0 where
   pub given_are : filter_map given_of entries ≡ given
   pub in_place : AreInPlace entries
 
--- a merge is refused with no line
+-- a refused merge names no line
 abbrev pub too_many : ScriptFault
 too_many = record { line = 0; kind = TooMany }
 

@@ -1,8 +1,8 @@
--- The script that a file of lines is, or its first faulty line.
+-- The script of a file of lines, or its first faulty line.
 use Rattle.std.specs.Prelude.{ℕ, ◌+◌, ◌*◌, ◌<◌, ◌≤◌, nat_le, List, [], ◌∷◌, ◌++◌, length, map}
 use Rattle.std.specs.Prelude.{Option, Some, None, Result, Ok, Err, IfErr, if◌then◌else◌}
 use Rattle.std.specs.List.{range_with_len}
-use Rattle.agc_script.specs.Text.{lines_of}
+use Rattle.agc_word.specs.Text.{lines_of}
 use Rattle.agc_script.specs.Command.{and_then}
 use Rattle.agc_script.specs.Line.{meaning_of}
 use Rattle.agc_script.specs.declared.event.Event.{Event}
@@ -18,7 +18,7 @@ event_at repeat i = record { cycle = repeat.start + i * repeat.period; what = re
 unfoldable pub events_of : Repeat → List Event
 events_of repeat = map (event_at repeat) (range_with_len 0 repeat.times)
 
--- the events of what a line said, and the start that later lines are compared with
+-- the events of a line's meaning, and the start that later lines are compared with
 abbrev pub events_said : Option Repeat → List Event
 events_said None = []
 events_said (Some repeat) = events_of repeat
@@ -27,15 +27,15 @@ abbrev pub start_said : ℕ → Option Repeat → ℕ
 start_said last None = last
 start_said last (Some repeat) = repeat.start
 
--- The start and the events after one more line, where the last event line started at `last` and
--- these events stand before.
+-- The start and the events after one more line; the last event line started at `last`, and these
+-- events come before.
 unfoldable pub taken : ℕ → List Event → List ℕ → Result (ℕ × List Event) FaultKind
 taken last events line =
     and_then (meaning_of last (length events) line)
     (λ said. Ok (start_said last said, events ++ events_said said))
 
--- The events that lines bring, in the order of the lines, or the first faulty line with its lowest
--- kind of fault; n is the number of the first of the lines.
+-- The events of the lines, in the order of the lines, or the first faulty line with its lowest kind
+-- of fault; n is the number of the first line.
 unfoldable pub reading : ℕ → ℕ → List Event → List (List ℕ) → Result (List Event) ScriptFault
 reading n last events [] = Ok events
 reading n last events (line ∷ lines) =
@@ -44,7 +44,7 @@ reading n last events (line ∷ lines) =
       | Err kind ↦ Err (record { line = n; kind = kind })
     ]
 
--- a list in the order of the cycles with one more event, which stands before those of its cycle
+-- a list in the order of the cycles with one more event, which comes before those of its cycle
 unfoldable pub put_in : Event → List Event → List Event
 put_in event [] = event ∷ []
 put_in event (first ∷ events) =
@@ -55,7 +55,7 @@ unfoldable pub arranged : List Event → List Event
 arranged [] = []
 arranged (event ∷ events) = put_in event (arranged events)
 
--- the script that a file is, or why it is none
+-- the script of a file, or its fault
 abbrev pub in_order_of : Result (List Event) ScriptFault → Result (List Event) ScriptFault
 in_order_of (Ok events) = Ok (arranged events)
 in_order_of (Err fault) = Err fault

@@ -9,8 +9,8 @@ unfoldable pub IsInOrder : List Event → Type 0
 IsInOrder [] = Unit {0}
 IsInOrder (event ∷ events) = All (λ later. event.cycle ≤ later.cycle) events × IsInOrder events
 
--- what holds of every script: each event in its ranges, cycles that never fall, and no more events
--- than there may be
+-- what is true of every script: each event in its ranges, cycles that never fall, and no more
+-- events than allowed
 pub record IsScript (events : List Event) : Type 0 where
   pub in_range : All IsInRange events
   pub in_order : IsInOrder events

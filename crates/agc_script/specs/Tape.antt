@@ -8,7 +8,7 @@ unfoldable pub IsRising : List (ℕ × Key) → Type 0
 IsRising [] = Unit {0}
 IsRising (entry ∷ tape) = All (λ later. entry.0 < later.0) tape × IsRising tape
 
--- what holds of every tape: cycles that rise, up to the last one that a script may name
+-- what is true of every tape: cycles that rise, up to the last one that a script may name
 pub record IsTape (tape : List (ℕ × Key)) : Type 0 where
   pub rising : IsRising tape
   pub in_range : All (λ entry. entry.0 ≤ last_cycle) tape

@@ -1,4 +1,4 @@
--- How a script is written down: a line for each event.
+-- How a script is written as text: a line for each event.
 use Rattle.std.specs.Prelude.{ℕ, false, List, ◌++◌, codes}
 use Rattle.std.specs.Fmt.{decimal, digits}
 use Rattle.std.specs.List.{flat_map}
@@ -14,7 +14,7 @@ use Rattle.agc_script.specs.declared.event.What.TheVariants as what
 abbrev pub plain_octal : ℕ → List ℕ
 plain_octal n = digits 8 false n
 
--- what happens, as the command of a script says it
+-- an event, as the command of a script
 unfoldable pub what_text : What → List ℕ
 what_text (what.Key key) = codes "key " ++ name_of key
 what_text (what.Pro down) = codes "pro " ++ direction_name down

@@ -1,7 +1,7 @@
-//! The commands of a script: what each says, or the lowest kind of fault in its words.
+//! Parses the commands of a script, or returns the lowest kind of fault in their words.
 ghost use Rattle.std.specs.Prelude.{◌≡◌, IfOk, MatchOption, Some, None, ◌≢◌};
 ghost use Rattle.std.specs.Str.{bytes_eq};
-ghost use Rattle.agc_script.specs.Text.{words_of};
+ghost use Rattle.agc_word.specs.Text.{words_of};
 ghost use Rattle.agc_script.specs.Event.{IsWhatInRange};
 ghost use Rattle.agc_script.specs.Command.{one_of, two_of, three_of, number_in, key_of, pro_of};
 ghost use Rattle.agc_script.specs.Command.{input_event, input_of, pulse_event, pulse_of, raise_event};
@@ -14,11 +14,10 @@ use crate::grammar::{
     offsets, pulse_from_name,
 };
 use crate::key::Key;
-use crate::text::next_word;
-use agc_word::{Narrow, Pulse};
+use agc_word::{Narrow, Pulse, next_word};
 
-/// What a command and its arguments say, as they stand in a line of a script after its cycle. A
-/// refusal is the lowest kind of fault in the words, in the order of [`FaultKind`].
+/// Parses a command and its arguments, the part of a script line after the cycle. An error is the
+/// lowest kind of fault in the words, in the order of [`FaultKind`].
 #[tactic(auto, unfolding(crate::specs::Command::command_of, crate::specs::Command::said_by))]
 pub fn read_command(text: &[u8]) -> Result<What, FaultKind>
     ensures command { result ≡ command_of (words_of text.now) }
@@ -66,7 +65,7 @@ fn read_input(words: &[u8]) -> Result<What, FaultKind>
     input_event(channel, value)
 }
 
-/// The input of a value into a channel, where both are in range.
+/// Returns the input of a value into a channel, if both are in range.
 #[tactic(auto, unfolding(crate::specs::Command::input_event, crate::specs::Event::IsWhatInRange))]
 fn input_event(channel: u64, value: u64) -> Result<What, FaultKind>
     ensures input { result ≡ input_event channel value }
@@ -92,7 +91,7 @@ fn read_pulse(words: &[u8]) -> Result<What, FaultKind>
     pulse_event(kind, counter)
 }
 
-/// The pulse of a counter, where that is in range.
+/// Returns the pulse of a counter, if the counter is in range.
 #[tactic(auto, unfolding(crate::specs::Command::pulse_event, crate::specs::Event::IsWhatInRange))]
 fn pulse_event(kind: Pulse, counter: u64) -> Result<What, FaultKind>
     requires { kind ≢ Pulse.Dinc }
@@ -118,7 +117,7 @@ fn read_raise(words: &[u8]) -> Result<What, FaultKind>
     raise_event(number)
 }
 
-/// The request of an interrupt, where its number is in range.
+/// Returns the request of an interrupt, if its number is in range.
 #[tactic(auto, unfolding(crate::specs::Command::raise_event, crate::specs::Event::IsWhatInRange))]
 fn raise_event(number: u64) -> Result<What, FaultKind>
     ensures raise { result ≡ raise_event number }
@@ -142,7 +141,7 @@ fn read_poke(words: &[u8]) -> Result<What, FaultKind>
     poke_event(bank, offset, value)
 }
 
-/// The write of a value into a cell, where all three numbers are in range.
+/// Returns the write of a value into a cell, if all three numbers are in range.
 #[tactic(auto, unfolding(crate::specs::Command::poke_event, crate::specs::Event::IsWhatInRange))]
 fn poke_event(bank: u64, offset: u64, value: u64) -> Result<What, FaultKind>
     ensures poke { result ≡ poke_event bank offset value }
@@ -158,14 +157,14 @@ fn poke_event(bank: u64, offset: u64, value: u64) -> Result<What, FaultKind>
     })
 }
 
-/// Whether a word is this one.
+/// Returns whether a word is this one.
 pub(crate) fn is_word(word: &[u8], name: &str) -> bool
     ensures { result ≡ bytes_eq word.now name.now }
 {
     word == name.as_bytes()
 }
 
-/// The only word of a text.
+/// Returns the word of a text that has exactly one.
 #[tactic(auto, unfolding(crate::specs::Command::one_of))]
 fn one_word(text: &[u8]) -> Option<&[u8]>
     ensures { MatchOption result (one_of (words_of text.now) ≡ None)
@@ -178,7 +177,7 @@ fn one_word(text: &[u8]) -> Option<&[u8]>
     }
 }
 
-/// The words of a text of two.
+/// Returns the words of a text that has exactly two.
 #[tactic(auto, unfolding(crate::specs::Command::two_of))]
 fn two_words(text: &[u8]) -> Option<(&[u8], &[u8])>
     ensures { MatchOption result (two_of (words_of text.now) ≡ None)
@@ -189,7 +188,7 @@ fn two_words(text: &[u8]) -> Option<(&[u8], &[u8])>
     Some((first, second))
 }
 
-/// The words of a text of three.
+/// Returns the words of a text that has exactly three.
 #[tactic(auto, unfolding(crate::specs::Command::three_of))]
 fn three_words(text: &[u8]) -> Option<(&[u8], &[u8], &[u8])>
     ensures { MatchOption result (three_of (words_of text.now) ≡ None)
@@ -200,7 +199,7 @@ fn three_words(text: &[u8]) -> Option<(&[u8], &[u8], &[u8])>
     Some((first, second, third))
 }
 
-/// The number that a word has to write, in the base of its range.
+/// Reads a number in the base of its range; any other word is a `BadNumber`.
 #[tactic(auto, unfolding(crate::specs::Command::number_in))]
 fn number_argument(range: NumberRange, word: &[u8]) -> Result<u64, FaultKind>
     ensures { result ≡ number_in range.base word.now }

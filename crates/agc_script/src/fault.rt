@@ -1,7 +1,7 @@
 //! Why a script is refused.
 use thiserror::Error;
 
-/// What is wrong with a line. Of several faults of one line the first in this list is told.
+/// What is wrong with a line. If a line has several faults, the first in this list is reported.
 #[derive(Clone, Copy, Debug, Error, PartialEq, Eq)]
 pub enum FaultKind {
     /// More than 120 bytes.
@@ -16,7 +16,7 @@ pub enum FaultKind {
     /// The line starts at a lower cycle than the event line before it.
     #[error("the cycle is less than that of the line before")]
     OutOfOrder,
-    /// No such command, name, direction or kind, or another number of words.
+    /// An unknown command, name, direction or kind, or a wrong number of words.
     #[error("no such command, or not its words")]
     UnknownWord,
     /// A number is not 1 to 6 digits of its base.
@@ -33,8 +33,8 @@ pub enum FaultKind {
     Memory,
 }
 
-/// A refused script: its first faulty line, counted from 1, and what is wrong there. A merge has
-/// no line and names 0.
+/// A refused script: its first faulty line, counted from 1, and what is wrong there. A merge has no
+/// lines and reports line 0.
 #[derive(Clone, Copy, Debug, Error, PartialEq, Eq)]
 #[error("line {line}: {kind}")]
 pub struct ScriptFault {

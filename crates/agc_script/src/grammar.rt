@@ -1,5 +1,5 @@
-//! What scripts may say: the names of commands, directions and pulses, and the ranges of numbers.
-//! The parser reads by these tables, and whoever explains a fault looks here too.
+//! The grammar of scripts: the names of commands, directions and pulses, and the ranges of numbers.
+//! The parser reads these tables, and so does the explanation of a fault.
 ghost use Rattle.std.specs.Prelude.{◌≡◌, IfSome, ◌≢◌};
 ghost use Rattle.agc_word.specs.Numeral.{number_of};
 ghost use Rattle.agc_script.specs.Grammar.{command_name, command_named, argument_count};
@@ -36,7 +36,7 @@ impl Command {
         Command::Poke,
     ];
 
-    /// The command of this name.
+    /// Returns the command with this name.
     #[tactic(auto, unfolding(crate::specs::Grammar::command_named, crate::specs::Grammar::all_commands))]
     pub fn from_name(name: &[u8]) -> Option<Command>
         ensures command { result ≡ command_named name.now }
@@ -48,7 +48,7 @@ impl Command {
             .find(|command| command.name().as_bytes() == name)
     }
 
-    /// The word that begins the command.
+    /// Returns the word that begins the command.
     #[tactic(auto, unfolding(crate::specs::Grammar::command_name))]
     pub fn name(self) -> &'static str
         ensures { result.now ≡ command_name self }
@@ -63,7 +63,7 @@ impl Command {
         }
     }
 
-    /// The command with its words, as a person is told of it.
+    /// Returns the command with placeholders for its arguments, for messages.
     pub fn usage(self) -> &'static str {
         match self {
             Command::Key => "key NAME",
@@ -75,7 +75,7 @@ impl Command {
         }
     }
 
-    /// How many words stand after the command's name.
+    /// Returns how many words follow the command's name.
     #[tactic(auto, unfolding(crate::specs::Grammar::argument_count))]
     pub fn argument_count(self) -> usize
         ensures { result ≡ argument_count self }
@@ -87,9 +87,9 @@ impl Command {
         }
     }
 
-    /// The ranges of the words after the command's name, in their order: `None` for a word that is
-    /// no number, and where the command has no such word. The offsets of a poke depend on its bank,
-    /// which is `first`, where the first word writes a number.
+    /// Returns the ranges of the words after the command's name, in order: `None` for a word that
+    /// is not a number, and if the command has no such word. The offsets of a poke depend on its
+    /// bank: `first`, if the first word is a number.
     #[tactic(auto, unfolding(crate::specs::Grammar::ranges_of))]
     pub fn ranges(self, first: Option<u64>) -> [Option<NumberRange>; MOST_ARGUMENTS]
         ensures { result ≡ ranges_of self first }
@@ -104,13 +104,13 @@ impl Command {
     }
 }
 
-/// The most words that stand after a command's name.
+/// The most words that follow a command's name.
 pub const MOST_ARGUMENTS: usize = 3;
 
-/// Where PRO goes: down where true.
+/// The directions of PRO: down is true.
 pub const DIRECTIONS: [bool; 2] = [true, false];
 
-/// The pulses that a script may send. `Dinc` is not among them: the timers alone send it.
+/// The pulses that a script may send. `Dinc` is not among them: only the timers send it.
 pub const PULSES: [Pulse; 6] = [
     Pulse::Pinc,
     Pulse::Minc,
@@ -120,7 +120,7 @@ pub const PULSES: [Pulse; 6] = [
     Pulse::Shanc,
 ];
 
-/// The word for where PRO goes.
+/// Returns the word for a direction of PRO.
 #[tactic(auto, unfolding(crate::specs::Grammar::direction_name))]
 pub fn direction_name(down: bool) -> &'static str
     ensures { result.now ≡ direction_name down }
@@ -128,7 +128,7 @@ pub fn direction_name(down: bool) -> &'static str
     if down { "down" } else { "up" }
 }
 
-/// Whether a word says that PRO goes down.
+/// Returns the direction that a word names, true for down; `None` for any other word.
 #[tactic(auto, unfolding(crate::specs::Grammar::direction_named, crate::specs::Grammar::directions))]
 pub(crate) fn direction_from_name(name: &[u8]) -> Option<bool>
     ensures { result ≡ direction_named name.now }
@@ -139,7 +139,7 @@ pub(crate) fn direction_from_name(name: &[u8]) -> Option<bool>
         .find(|down| direction_name(*down).as_bytes() == name)
 }
 
-/// The pulse of a name; a script has no `Dinc`.
+/// Returns the pulse with this name; a script has no `Dinc`.
 #[tactic(auto, unfolding(crate::specs::Grammar::pulse_named, crate::specs::Grammar::pulses))]
 pub(crate) fn pulse_from_name(name: &[u8]) -> Option<Pulse>
     ensures named { result ≡ pulse_named name.now }
@@ -151,14 +151,14 @@ pub(crate) fn pulse_from_name(name: &[u8]) -> Option<Pulse>
         .find(|kind| kind.name().as_bytes() == name)
 }
 
-/// The base in which a word writes its number.
+/// The base of a number.
 #[derive(Clone, Copy, Debug, PartialEq, Eq)]
 pub enum Base {
     Octal,
     Decimal,
 }
 
-/// What a number of a command may be, both ends counted in, and the base in which it is written.
+/// The range of a number in a command, both ends included, and its base.
 #[derive(Clone, Copy, Debug, PartialEq, Eq)]
 pub struct NumberRange {
     pub base: Base,
@@ -167,7 +167,7 @@ pub struct NumberRange {
 }
 
 impl NumberRange {
-    /// The number that a word writes: 1 to 6 digits of the base.
+    /// Reads a number: 1 to 6 digits of the base.
     #[tactic(auto, unfolding(crate::specs::Grammar::radix))]
     pub fn read(self, word: &[u8]) -> Option<u64>
         ensures { result ≡ number_of (radix self.base) 6 word.now }
@@ -178,7 +178,7 @@ impl NumberRange {
         }
     }
 
-    /// Whether a number is in the range.
+    /// Returns whether a number is in the range.
     pub fn has(self, number: u64) -> bool
         ensures { result ≡ is_within self.low self.high number }
     {
@@ -189,15 +189,15 @@ impl NumberRange {
 /// The most digits that a number of a command has.
 pub const MOST_DIGITS: usize = 6;
 
-/// The channels that a script may set: those between the computer and the outside world. Below stand
-/// L, Q and the two halves of the scaler; 777 is the last that the nine bits of an order name.
+/// The channels that a script may set: those between the computer and the outside. Below them are L, Q and the two
+/// halves of the scaler; 777 octal is the last that the nine bits of an order can name.
 pub const CHANNELS: NumberRange = NumberRange {
     base: Base::Octal,
     low: FIRST_IO_CHANNEL as u64,
     high: LAST_IO_CHANNEL as u64,
 };
 
-/// The cells of bank 0 that pulses step, the counters from TIME2 to ALTM.
+/// The cells of bank 0 that pulses step: the counters from TIME2 to ALTM.
 pub const COUNTERS: NumberRange = NumberRange {
     base: Base::Octal,
     low: 0o24,
@@ -228,11 +228,10 @@ pub const PATTERNS: NumberRange = NumberRange {
 /// The last offset in a bank of erasable memory.
 const LAST_OFFSET: u64 = 0o377;
 
-/// How many words at the head of bank 0 are registers, from A to the one that is zero: no script
-/// pokes them.
+/// How many cells at the start of bank 0 are registers, from A to ZERO: no script may poke them.
 const REGISTER_COUNT: u64 = 0o10;
 
-/// The offsets that a script may poke in a bank, where the bank is known.
+/// Returns the offsets that a script may poke in a bank, if the bank is known.
 #[tactic(auto, unfolding(crate::specs::Grammar::offsets_in))]
 pub fn offsets(bank: Option<u64>) -> NumberRange
     ensures { result ≡ offsets_in bank }

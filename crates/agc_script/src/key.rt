@@ -5,7 +5,7 @@ ghost use Rattle.agc_script.specs.Key.{name_of, code_of, key_named};
 
 use agc_word::Narrow;
 
-/// A key of the keyboard with a code. PRO has none: it is a switch of its own in channel 32 octal.
+/// A key of the keyboard with a code. PRO has no code: it is a separate switch in channel 32 octal.
 #[derive(Clone, Copy, Debug, PartialEq, Eq)]
 pub enum Key {
     Zero,
@@ -51,7 +51,7 @@ impl Key {
         Key::Clear,
     ];
 
-    /// The key of this name, as scripts write it: names are in capitals.
+    /// Returns the key with this name, as scripts write it; names are in capitals.
     #[tactic(auto, unfolding(crate::specs::Key::key_named, crate::specs::Key::all_keys))]
     pub fn from_name(name: &[u8]) -> Option<Key>
         ensures key { result ≡ key_named name.now }
@@ -63,7 +63,7 @@ impl Key {
             .find(|key| key.name().as_bytes() == name)
     }
 
-    /// The name under which scripts know the key.
+    /// Returns the name that scripts use.
     #[tactic(auto, unfolding(crate::specs::Key::name_of, crate::specs::Key::key_named, crate::specs::Key::all_keys))]
     pub fn name(self) -> &'static str
         ensures name { result.now ≡ name_of self }
@@ -91,7 +91,7 @@ impl Key {
         }
     }
 
-    /// The code that the key puts into channel 15 octal, five bits.
+    /// Returns the code that the key puts into channel 15 octal, five bits.
     #[tactic(auto, unfolding(crate::specs::Key::code_of))]
     pub fn code(self) -> Narrow
         ensures { result ≡ number_from_pattern 15 (code_of self) }

@@ -1,5 +1,4 @@
-//! What happens to the computer from outside: scripts of keystrokes, counter pulses and input
-//! changes, the tape of keys that were pressed live, and the merge of both.
+//! Scripts: the events that reach the computer from outside, the tape of live keys, and the merge of both.
 #![tactic(auto)]
 
 mod command;
@@ -13,7 +12,6 @@ mod merge;
 mod parse;
 mod script;
 mod tape;
-mod text;
 mod written;
 
 pub use command::read_command;
@@ -27,5 +25,4 @@ pub use key::Key;
 pub use line::{EVERY, LONGEST_LINE, MOST_CYCLE_DIGITS, has_high_byte, read_cycle};
 pub use script::Script;
 pub use tape::Tape;
-pub use text::{next_line, next_word, without_return};
 pub use written::push_what;

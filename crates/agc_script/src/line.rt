@@ -1,8 +1,8 @@
-//! One line of a script: no event, one, or one that comes again and again.
+//! Parses one line of a script: no event, one, or a repeated one.
 ghost use Rattle.std.specs.Prelude.{◌≡◌, ◌-◌, ◌*◌, ◌+◌, ◌≤◌, length, IfOk, IfErr, IfSome, ◌≢◌};
 ghost use Rattle.std.specs.List.{list_any};
 ghost use Rattle.agc_script.specs.Event.{IsWhatInRange, last_cycle, most_events};
-ghost use Rattle.agc_script.specs.Text.{words_of};
+ghost use Rattle.agc_word.specs.Text.{words_of};
 ghost use Rattle.agc_script.specs.Line.{IsRepeatInRange, is_beyond_ascii, cycle_of, cycle_word};
 ghost use Rattle.agc_script.specs.Line.{in_turn, once_of, repeat_of, every_of, within_bound};
 ghost use Rattle.agc_script.specs.Line.{words_meaning, meaning_of};
@@ -10,18 +10,18 @@ ghost use Rattle.agc_script.specs.Line.{words_meaning, meaning_of};
 use crate::command::{is_word, read_command};
 use crate::event::{LAST_CYCLE, MOST_EVENTS, What};
 use crate::fault::FaultKind;
-use crate::text::next_word;
+use agc_word::next_word;
 
-/// The most bytes that a line may have, its end apart.
+/// The most bytes that a line may have, without its line end.
 pub const LONGEST_LINE: usize = 120;
 
-/// The word that begins a line `every N FROM TO`, whose command comes again and again.
+/// The word that begins a line `every N FROM TO`, whose command is repeated.
 pub const EVERY: &str = "every";
 
-/// The most decimal digits of a cycle, as many as [`LAST_CYCLE`] has.
+/// The most decimal digits of a cycle: as many as [`LAST_CYCLE`] has.
 pub const MOST_CYCLE_DIGITS: usize = 13;
 
-/// The events of one line: the same thing at `start`, `start + period` and so on, so many times.
+/// The events of one line: the same event at `start`, `start + period` and so on, `times` times.
 #[derive(Clone, Copy, Debug, PartialEq, Eq)]
 pub(crate) struct Repeat {
     pub start: u64,
@@ -30,8 +30,8 @@ pub(crate) struct Repeat {
     pub what: What,
 }
 
-/// What a line says, or the lowest kind of fault in it, where the last event line started at `last`
-/// and so many events stand before this line.
+/// Parses a line, or returns the lowest kind of fault in it. The last event line started at `last`,
+/// and `before` events precede this line.
 #[tactic(auto, unfolding(crate::specs::Line::meaning_of))]
 pub(crate) fn read_line(last: u64, before: usize, line: &[u8]) -> Result<Option<Repeat>, FaultKind>
     requires { before ≤ most_events }
@@ -50,7 +50,7 @@ pub(crate) fn read_line(last: u64, before: usize, line: &[u8]) -> Result<Option<
     }
 }
 
-/// Whether a byte of a line is beyond ASCII.
+/// Returns whether a line has a byte beyond ASCII.
 pub fn has_high_byte(line: &[u8]) -> bool
     ensures { result ≡ list_any is_beyond_ascii line.now }
 {
@@ -79,7 +79,7 @@ fn read_words(last: u64, before: usize, line: &[u8]) -> Result<Option<Repeat>, F
     bounded(before, repeat)
 }
 
-/// The events of a line, if the script has room for them.
+/// Returns the events of a line, if the script has room for them.
 #[tactic(auto, unfolding(crate::specs::Line::within_bound))]
 fn bounded(before: usize, repeat: Repeat) -> Result<Option<Repeat>, FaultKind>
     requires before { before ≤ most_events }
@@ -111,7 +111,7 @@ fn read_once(last: u64, first: &[u8], words: &[u8]) -> Result<Repeat, FaultKind>
     })
 }
 
-/// The cycle that a word writes: one to thirteen decimal digits, at most 1,000,000,000,000.
+/// Reads a cycle: one to thirteen decimal digits, at most 1,000,000,000,000.
 #[tactic(auto, unfolding(crate::specs::Line::cycle_of))]
 pub fn read_cycle(word: &[u8]) -> Option<u64>
     ensures cycle { result ≡ cycle_of word.now }
@@ -120,7 +120,7 @@ pub fn read_cycle(word: &[u8]) -> Option<u64>
     agc_word::read_decimal(MOST_CYCLE_DIGITS, word).filter(|cycle| *cycle <= LAST_CYCLE)
 }
 
-/// The cycle that a word has to write.
+/// Reads a cycle; any other word is a `BadCycle`.
 #[tactic(auto, unfolding(crate::specs::Line::cycle_word))]
 fn read_cycle_word(word: &[u8]) -> Result<u64, FaultKind>
     ensures cycle { result ≡ cycle_word word.now }
@@ -129,7 +129,7 @@ fn read_cycle_word(word: &[u8]) -> Result<u64, FaultKind>
     read_cycle(word).ok_or(FaultKind::BadCycle)
 }
 
-/// The start of a line, unless that lies before the last event line's.
+/// Returns the start of a line, unless it is before that of the last event line.
 #[tactic(auto, unfolding(crate::specs::Line::in_turn))]
 fn start_in_turn(last: u64, start: u64) -> Result<u64, FaultKind>
     ensures turn { result ≡ in_turn last start }
@@ -161,7 +161,7 @@ fn read_every(last: u64, words: &[u8]) -> Result<Repeat, FaultKind>
     repeated(period, start, end, what)
 }
 
-/// What happens each so many cycles from a start up to an end.
+/// Returns the repeated event, every `period` cycles from `start` to `end`.
 #[tactic(auto, unfolding(crate::specs::Line::repeat_of))]
 fn repeated(period: u64, start: u64, end: u64, what: What) -> Result<Repeat, FaultKind>
     requires end { end ≤ last_cycle }

@@ -1,4 +1,4 @@
-//! The merge: a script with given events in it, those of another script or the keys of a tape.
+//! Merges a script with injected events: those of another script or the keys of a tape.
 ghost use Rattle.std.specs.Prelude.{◌≡◌, ◌+◌, ◌<◌, ◌≤◌, [], ◌∷◌, ◌++◌, length, take, position};
 ghost use Rattle.std.specs.Prelude.{nat_lt, OnOk, IfOk, IfSome};
 ghost use Rattle.agc_script.specs.Event.{most_events};
@@ -7,7 +7,7 @@ ghost use Rattle.agc_script.specs.Merge.{joined, due_at};
 use crate::event::Event;
 use std::alloc::{AllocError, Global};
 
-/// A script's events and given ones in one list.
+/// Merges a script's events and the injected ones into one list.
 pub(crate) fn join_events(
     alloc: Global,
     script: &[Event],
@@ -21,8 +21,8 @@ pub(crate) fn join_events(
     Ok(events)
 }
 
-/// Puts a script's events and given ones at the end of a list, each given event after all events of
-/// its cycle or less.
+/// Appends a script's events and the injected ones to a list. Each injected event follows all
+/// script events of its cycle or earlier.
 fn push_joined(events: &mut Vec<Event>, script: &[Event], given: &[Event]) -> Result<(), AllocError>
     requires { length script.now ≤ most_events }
     ensures { OnOk result (events.new.items ≡ events.old.items ++ joined script.now given.now) }
@@ -35,8 +35,8 @@ fn push_joined(events: &mut Vec<Event>, script: &[Event], given: &[Event]) -> Re
     events.extend_from_slice(rest)
 }
 
-/// Puts a given event at the end of a list, after the events that are due at its cycle, and tells
-/// how many those are.
+/// Appends an injected event to a list, after the script events that are due at its cycle, and
+/// returns their number.
 fn push_given(events: &mut Vec<Event>, script: &[Event], given: Event) -> Result<usize, AllocError>
     ensures due { IfOk result (λ due. due ≡ due_at given.cycle script.now) }
     ensures bound { IfOk result (λ due. due ≤ length script.now) }
@@ -49,7 +49,7 @@ fn push_given(events: &mut Vec<Event>, script: &[Event], given: Event) -> Result
     Ok(due)
 }
 
-/// The place of the first event after a cycle.
+/// Returns the position of the first event after a cycle.
 fn first_later(events: &[Event], cycle: u64) -> Option<usize>
     ensures place { result ≡ position (λ event. nat_lt cycle event.cycle) events.now }
     ensures bound { IfSome result (λ place. place < length events.now) }

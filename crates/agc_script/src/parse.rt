@@ -1,8 +1,8 @@
-//! The parser: a file's lines, one after another, and their events in the order of their cycles.
+//! The parser: reads a file line by line and sorts the events by cycle.
 ghost use Rattle.std.specs.Prelude.{◌≡◌, ◌≢◌, ◌+◌, ◌*◌, ◌<◌, ◌≤◌, [], ◌++◌, length, Ok, Err, IsOk};
 ghost use Rattle.std.specs.Prelude.{IfOk, IfErr, OnOk, OnErr, All};
 ghost use Rattle.std.specs.List.Sorted.{IsPermutation};
-ghost use Rattle.agc_script.specs.Text.{lines_of};
+ghost use Rattle.agc_word.specs.Text.{lines_of};
 ghost use Rattle.agc_script.specs.Event.{IsInRange, most_events};
 ghost use Rattle.agc_script.specs.Fault.{AreFaultless, IsFirstFault};
 ghost use Rattle.agc_script.specs.Line.{IsRepeatInRange};
@@ -12,10 +12,10 @@ ghost use Rattle.agc_script.specs.Parse.{IsSoundLine};
 use crate::event::Event;
 use crate::fault::{FaultKind, ScriptFault};
 use crate::line::{Repeat, read_line};
-use crate::text::next_line;
+use agc_word::next_line;
 use std::alloc::{AllocError, Global};
 
-/// The events that the lines of a file bring, and how many lines there are.
+/// The events of a file's lines, and the number of lines.
 #[derive(Drop)]
 pub(crate) struct Reading {
     /// In the order of the lines.
@@ -23,12 +23,12 @@ pub(crate) struct Reading {
     pub lines: usize,
 }
 
-/// Reads the lines of a file, one after another, up to the first that is refused.
+/// Reads the lines of a file in order, up to the first that is refused.
 pub(crate) fn read_lines(alloc: Global, file: &[u8]) -> Result<Reading, ScriptFault>
     ensures ok { IfOk result (λ read. reading 1 0 [] (lines_of file.now) ≡ Ok read.events.items) }
     ensures lines { IfOk result (λ read. read.lines ≡ length (lines_of file.now)) }
     ensures range { IfOk result (λ read. All IsInRange read.events.items) }
-    ensures few { IfOk result (λ read. length read.events.items ≤ most_events) }
+    ensures bound { IfOk result (λ read. length read.events.items ≤ most_events) }
     ensures faultless { IfOk result
         (λ _. AreFaultless (lines_of file.now) (length (lines_of file.now))) }
     ensures fault { IfErr result
@@ -55,15 +55,15 @@ pub(crate) fn read_lines(alloc: Global, file: &[u8]) -> Result<Reading, ScriptFa
     Ok(Reading { events, lines })
 }
 
-/// Takes in one more line, and gives the start that the next one is compared with.
+/// Reads one more line, and returns the start that the next line is compared with.
 #[tactic(auto, unfolding(crate::specs::Parse::taken))]
 fn take_line(events: &mut Vec<Event>, last: u64, line: &[u8]) -> Result<u64, FaultKind>
     requires range { All IsInRange events.old.items }
-    requires few { length events.old.items ≤ most_events }
+    requires bound { length events.old.items ≤ most_events }
     ensures ok { IfOk result
         (λ start. taken last events.old.items line.now ≡ Ok (start, events.new.items)) }
     ensures range { OnOk result (All IsInRange events.new.items) }
-    ensures few { OnOk result (length events.new.items ≤ most_events) }
+    ensures bound { OnOk result (length events.new.items ≤ most_events) }
     ensures fault { IfErr result
         (λ kind. kind ≢ FaultKind.Memory → taken last events.old.items line.now ≡ Err kind) }
     ensures memory { IfErr result
@@ -72,7 +72,7 @@ fn take_line(events: &mut Vec<Event>, last: u64, line: &[u8]) -> Result<u64, Fau
     match read_line(last, events.len(), line)? {
         None => Ok(last),
         Some(repeat) => {
-            // The proof has to be shown the type of `what` here.
+            // The proof needs the type of `what` here.
             let _what = repeat.what;
             push_events(events, &repeat).map_err(|_| FaultKind::Memory)?;
             Ok(repeat.start)
@@ -80,7 +80,7 @@ fn take_line(events: &mut Vec<Event>, last: u64, line: &[u8]) -> Result<u64, Fau
     }
 }
 
-/// Puts the events of a line after those of the lines before it.
+/// Appends the events of a line to those of the lines before it.
 #[tactic(auto, unfolding(crate::specs::Parse::events_of))]
 fn push_events(events: &mut Vec<Event>, repeat: &Repeat) -> Result<(), AllocError>
     requires repeat { IsRepeatInRange repeat.now }
@@ -100,8 +100,7 @@ fn push_events(events: &mut Vec<Event>, repeat: &Repeat) -> Result<(), AllocErro
     Ok(())
 }
 
-/// Puts the events in the order of their cycles; those of one cycle stay in the order of their
-/// lines.
+/// Sorts the events by cycle; events of one cycle stay in the order of their lines.
 pub(crate) fn arrange(events: &mut Vec<Event>) -> Result<(), AllocError>
     ensures ok { OnOk result (events.new.items ≡ arranged events.old.items) }
     ensures same { IsPermutation events.old.items events.new.items }

@@ -3,11 +3,11 @@ ghost use Rattle.std.specs.Prelude.{◌≡◌, ◌≢◌, ◌==◌, ◌<◌, ◌
 ghost use Rattle.std.specs.Prelude.{Some, Ok, Err, IfOk, IfErr, IsErrOf, OnOk, OnErr, ◌+◌, ◌↔◌};
 ghost use Rattle.std.specs.Prelude.{map, nat_le, position, string_bytes, IfSome};
 ghost use Rattle.agc_script.specs.Event.{IsInRange, IsWhatInRange, last_cycle, most_events};
-ghost use Rattle.agc_script.specs.Text.{lines_of};
-ghost use Rattle.agc_script.specs.Said.{events_of_lines};
+ghost use Rattle.agc_word.specs.Text.{lines_of};
+ghost use Rattle.agc_script.specs.Injection.{events_of_lines};
 ghost use Rattle.agc_script.specs.Fault.{AreFaultless, IsFirstFault};
 ghost use Rattle.agc_script.specs.Laws.{IsArrangement};
-ghost use Rattle.agc_script.specs.Said.{said_at};
+ghost use Rattle.agc_script.specs.Injection.{said_at};
 ghost use Rattle.agc_script.specs.Script.{before, IsNotBefore, IsScript};
 ghost use Rattle.agc_script.specs.Parse.{script_of, IsSoundLine};
 ghost use Rattle.agc_script.specs.Merge.{joined, key_event, merged, IsMerge, too_many, no_memory};
@@ -23,8 +23,7 @@ use crate::written::push_event;
 use std::alloc::{AllocError, Global};
 use std::marker::Model;
 
-/// The events that a run meets, at most 65,536, each in its ranges and in the order of their
-/// cycles.
+/// The events of a run: at most 65,536, each in its ranges, in the order of their cycles.
 #[derive(Debug, Drop)]
 pub struct Script {
     events: Vec<Event>,
@@ -43,7 +42,7 @@ impl Model for Script {
 }
 
 impl Script {
-    /// The script in which nothing happens.
+    /// Returns the script without events.
     #[tactic(auto, unfolding(crate::specs::Script::IsInOrder))]
     pub fn empty(alloc: Global) -> Script
         ensures { result ≡ [] }
@@ -53,11 +52,11 @@ impl Script {
         }
     }
 
-    /// The script that a file's text is: its lines' events, in the order of their cycles.
+    /// Parses a file: the events of its lines, in the order of their cycles.
     ///
-    /// A refusal names the first faulty line, and of its faults the first in the list of
-    /// [`FaultKind`]. `Memory` names the line at which memory ran out, which is not faulty itself,
-    /// and the last line where that was while the events were put in order.
+    /// An error names the first faulty line, and its first fault in the order of [`FaultKind`].
+    /// `Memory` names the line at which memory ran out, which is not faulty itself, or the last
+    /// line if memory ran out while the events were sorted.
     pub fn parse(alloc: Global, file: &[u8]) -> Result<Script, ScriptFault>
         ensures ok { IfOk result (λ script. script_of file.now ≡ Ok script) }
         ensures faultless { IfOk result
@@ -83,7 +82,7 @@ impl Script {
         }
     }
 
-    /// The number of events, at most 65,536.
+    /// Returns the number of events, at most 65,536.
     pub fn len(&self) -> usize
         ensures count { result ≡ length self.now }
         ensures script { IsScript self.now }
@@ -91,14 +90,14 @@ impl Script {
         self.events.len()
     }
 
-    /// Whether nothing happens.
+    /// Returns whether there are no events.
     pub fn is_empty(&self) -> bool
         ensures { result ≡ (length self.now == 0) }
     {
         self.events.is_empty()
     }
 
-    /// The event at a place, counted from 0.
+    /// Returns the event at a position, counted from 0.
     pub fn at(&self, i: usize) -> Event
         requires { i < length self.now }
         ensures event { slice_get self.now i ≡ Some result }
@@ -107,7 +106,7 @@ impl Script {
         self.events[i]
     }
 
-    /// The events from a place on, counted from 0; none where there are no more than this.
+    /// Returns the events from a position on, counted from 0; an empty slice if there are no more.
     pub fn rest(&self, from: usize) -> &[Event]
         ensures { result.now ≡ drop from self.now }
     {
@@ -115,7 +114,7 @@ impl Script {
         &events[from.min(events.len())..]
     }
 
-    /// The events that come before a cycle, as a script of their own. Fails where memory runs out.
+    /// Returns the events before a cycle, as a script. Fails when memory runs out.
     pub fn before(&self, alloc: Global, cycle: u64) -> Result<Script, AllocError>
         ensures { IfOk result (λ script. script ≡ before cycle self.now) }
     {
@@ -126,15 +125,15 @@ impl Script {
         Ok(Script { events: earlier })
     }
 
-    /// Makes room for an event more, so that no memory is wanting when it is added.
+    /// Reserves room for one more event, so that adding it cannot run out of memory.
     pub fn reserve(&mut self) -> Result<(), AllocError>
         ensures { self.new ≡ self.old }
     {
         self.events.reserve(1)
     }
 
-    /// Adds an event after all others; none of them comes later. A refusal is `TooMany`, where the
-    /// script has 65,536 events, or else `Memory`; it names no line, and the script stays as it was.
+    /// Appends an event whose cycle is not before the last event's. Fails with `TooMany` if the script has 65,536
+    /// events, otherwise with `Memory`; the fault names no line, and the script stays unchanged.
     pub fn push(&mut self, cycle: u64, what: What) -> Result<(), ScriptFault>
         requires later { IsNotBefore self.old cycle }
         requires range { cycle ≤ last_cycle }
@@ -154,9 +153,9 @@ impl Script {
         }
     }
 
-    /// The script with the events of another in it, each after all events of this one of its cycle
-    /// or less. A refusal is `TooMany`, where both together have more than 65,536 events, or else
-    /// `Memory`; it names no line.
+    /// Returns the script merged with another; each injected event follows all events of this
+    /// script of its cycle or earlier. Fails with `TooMany` if both together have more than 65,536
+    /// events, otherwise with `Memory`; the fault names no line.
     pub fn join(&self, alloc: Global, given: &Script) -> Result<Script, ScriptFault>
         ensures ok { IfOk result (λ script. script ≡ joined self.now given.now) }
         ensures both { IfOk result (λ script. IsMerge self.now given.now script) }
@@ -172,9 +171,9 @@ impl Script {
         }
     }
 
-    /// The script with the keys of a tape in it, each after all events of its cycle or less. A
-    /// refusal is `TooMany`, where both together have more than 65,536 entries, or else `Memory`;
-    /// it names no line.
+    /// Returns the script merged with the keys of a tape; each key follows all events of its cycle
+    /// or earlier. Fails with `TooMany` if both together have more than 65,536 entries, otherwise
+    /// with `Memory`; the fault names no line.
     pub fn merge(&self, alloc: Global, tape: &Tape) -> Result<Script, ScriptFault>
         ensures ok { IfOk result (λ script. script ≡ merged self.now tape.now) }
         ensures both { IfOk result (λ script. IsMerge self.now (map key_event tape.now) script) }
@@ -190,8 +189,8 @@ impl Script {
         }
     }
 
-    /// Adds the script as text, a line for each event, which reads back as the same script. Fails
-    /// where memory runs out.
+    /// Appends the script as text, a line for each event; it reads back as the same script. Fails
+    /// when memory runs out.
     #[tactic(auto, unfolding(crate::specs::Written::script_text))]
     pub fn push_text(&self, text: &mut String) -> Result<(), AllocError>
         ensures { OnOk result
@@ -205,7 +204,7 @@ impl Script {
     }
 }
 
-/// The place of the first event at a cycle or later.
+/// Returns the position of the first event at a cycle or later.
 fn first_from(events: &[Event], cycle: u64) -> Option<usize>
     ensures place { result ≡ position (λ event. nat_le cycle event.cycle) events.now }
     ensures bound { IfSome result (λ place. place < length events.now) }
@@ -213,7 +212,7 @@ fn first_from(events: &[Event], cycle: u64) -> Option<usize>
     events.iter().position(|event| event.cycle >= cycle)
 }
 
-/// A script's events and the keys of a tape in one list.
+/// Merges a script's events and the keys of a tape into one list.
 fn merge_tape(alloc: Global, script: &[Event], tape: &Tape) -> Result<Vec<Event>, AllocError>
     requires { length script.now + length tape.now ≤ most_events }
     ensures merged { IfOk result (λ events. events.items ≡ merged script.now tape.now) }
@@ -223,7 +222,7 @@ fn merge_tape(alloc: Global, script: &[Event], tape: &Tape) -> Result<Vec<Event>
     join_events(alloc, script, &given)
 }
 
-/// Why a script is not made longer: no line is at fault.
+/// Returns the fault of a failed push or merge, which names no line.
 fn refused(kind: FaultKind) -> ScriptFault
     ensures { result ≡ record { line = 0; kind = kind } }
 {

@@ -1,4 +1,4 @@
-//! The tape: the keys that were pressed live, so that a run can be played again.
+//! The tape: the keys that were pressed live, so that a run can be replayed.
 ghost use Rattle.std.specs.Prelude.{◌≡◌, ◌==◌, ◌≤◌, ◌<◌, [], ◌∷◌, ◌++◌, length, slice_get, Some};
 ghost use Rattle.std.specs.Prelude.{map, OnOk, OnErr, IfOk};
 ghost use Rattle.agc_script.specs.Event.{last_cycle};
@@ -29,7 +29,7 @@ impl Model for Tape {
 }
 
 impl Tape {
-    /// A tape without entries. The allocator serves the pushes to come.
+    /// Returns an empty tape. Later pushes use this allocator.
     #[tactic(auto, unfolding(crate::specs::Tape::IsRising))]
     pub fn new(alloc: Global) -> Tape
         ensures { result ≡ [] }
@@ -39,7 +39,7 @@ impl Tape {
         }
     }
 
-    /// The number of keys that were taken.
+    /// Returns the number of keys.
     pub fn len(&self) -> usize
         ensures count { result ≡ length self.now }
         ensures tape { IsTape self.now }
@@ -47,15 +47,15 @@ impl Tape {
         self.entries.len()
     }
 
-    /// Whether no key was taken.
+    /// Returns whether there are no keys.
     pub fn is_empty(&self) -> bool
         ensures { result ≡ (length self.now == 0) }
     {
         self.entries.is_empty()
     }
 
-    /// The entry at a place, counted from 0: the cycle at which the machine took the key, and the
-    /// key.
+    /// Returns the entry at a position, counted from 0: the cycle at which the machine took the
+    /// key, and the key.
     pub fn at(&self, i: usize) -> (u64, Key)
         requires { i < length self.now }
         ensures entry { slice_get self.now i ≡ Some result }
@@ -64,8 +64,8 @@ impl Tape {
         self.entries[i]
     }
 
-    /// Adds an entry. Its cycle lies above the last one's and is at most 1,000,000,000,000. Out
-    /// of memory the tape stays as it was.
+    /// Appends an entry. Its cycle is above the last one's and at most 1,000,000,000,000. When
+    /// memory runs out, the tape stays unchanged.
     pub fn push(&mut self, cycle: u64, key: Key) -> Result<(), AllocError>
         requires later { IsAfter self.old cycle }
         requires range { cycle ≤ last_cycle }
@@ -76,7 +76,7 @@ impl Tape {
         Ok(())
     }
 
-    /// The keys as events, for the merge.
+    /// Returns the keys as events, for the merge.
     pub(crate) fn events(&self, alloc: Global) -> Result<Vec<Event>, AllocError>
         ensures events { IfOk result (λ events. events.items ≡ map key_event self.now) }
         ensures tape { IfOk result (λ _. IsTape self.now) }

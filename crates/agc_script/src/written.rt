@@ -1,4 +1,4 @@
-//! Scripts in print: the line of an event, which reads back as that event.
+//! Writes scripts as text: each event as a line that reads back as that event.
 ghost use Rattle.std.specs.Prelude.{◌≡◌, ◌++◌, OnOk, string_bytes};
 ghost use Rattle.agc_script.specs.Written.{event_text, what_text};
 
@@ -6,7 +6,7 @@ use crate::event::{Event, What};
 use crate::grammar::direction_name;
 use std::alloc::AllocError;
 
-/// Adds the line of an event: its machine cycle, what happens then, and a line feed.
+/// Appends the line of an event: its machine cycle, its command, and a line feed.
 pub(crate) fn push_event(text: &mut String, event: &Event) -> Result<(), AllocError>
     ensures { OnOk result (string_bytes text.new ≡ string_bytes text.old ++ event_text event.now) }
 {
@@ -16,8 +16,8 @@ pub(crate) fn push_event(text: &mut String, event: &Event) -> Result<(), AllocEr
     text.push_str("\n")
 }
 
-/// Adds what happens, as the command of a script says it: `key VERB`, `pro down`,
-/// `input 32 20000`, `pulse 37 pinc`, `raise 5`, `poke 3 100 00005`. Fails where memory runs out.
+/// Appends an event as a command of a script: `key VERB`, `pro down`, `input 32 20000`, `pulse 37
+/// pinc`, `raise 5`, `poke 3 100 00005`. Fails when memory runs out.
 #[tactic(auto, unfolding(crate::specs::Written::what_text))]
 pub fn push_what(text: &mut String, what: What) -> Result<(), AllocError>
     ensures { OnOk result (string_bytes text.new ≡ string_bytes text.old ++ what_text what) }

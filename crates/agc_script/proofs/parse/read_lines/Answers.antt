@@ -38,7 +38,7 @@ loop-line-preserved c =
       count = omega (arith, count);
       bytes = omega (arith, c.in-Some.ensures.shorter);
       range = c.in-Ok.ensures.range;
-      few = c.in-Ok.ensures.few;
+      few = c.in-Ok.ensures.bound;
     }
 
 pub returns-clause-ok : goal.returns-clause-ok

@@ -1,6 +1,6 @@
 use Rattle.std.specs.Prelude.{◌≡◌, ◌+◌, ◌≤◌, [], length, All}
 use Rattle.agc_script.specs.Event.{IsInRange}
-use Rattle.agc_script.specs.Text.{lines_of}
+use Rattle.agc_word.specs.Text.{lines_of}
 use Rattle.agc_script.specs.Parse.{reading}
 use Rattle.agc_script.proofs.parse.read_lines.Given as goal
 

@@ -10,7 +10,7 @@ pub invariant_of-result : goal.invariant_of-result
 invariant_of-result c = record {
   in_range = All-permutation IsInRange _ _ c.arrange.ensures.same c.in_ok-events.ensures.range;
   in_order = rw c.in-Ok.ensures.ok (arranged-in_order _);
-  few = omega (arith, length_permutation _ _ c.arrange.ensures.same, c.in_ok-events.ensures.few);
+  few = omega (arith, length_permutation _ _ c.arrange.ensures.same, c.in_ok-events.ensures.bound);
 }
 
 pub returns-in-Ok-clause-ok : goal.returns-in-Ok-clause-ok
