@@ -1,3 +1,0 @@
-pub mod Mistakes
-pub mod Parameters
-pub mod Values
