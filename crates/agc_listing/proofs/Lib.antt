@@ -1,0 +1,13 @@
+pub mod FileBack
+pub mod FileWords
+pub mod LineBack
+pub mod LinesBack
+pub mod Listings
+pub mod Octals
+pub mod OrderPrints
+pub mod PlaceBack
+pub mod Prints
+pub mod RopeBack
+pub mod RopeLines
+pub mod Woven
+pub mod SameWord

@@ -1,0 +1,11 @@
+pub mod Place
+pub mod Order
+pub mod List
+pub mod Line
+pub mod Weave
+pub mod Laws
+pub mod Text
+pub mod Number
+pub mod Location
+pub mod Cell
+pub mod Ranges

@@ -1,0 +1,33 @@
+//! Listings: places in memory, orders and ropes as text, and the rope that a listing describes.
+#![tactic(auto)]
+
+mod build;
+mod cell;
+mod fault;
+mod laws;
+mod line;
+mod listed;
+mod location;
+mod location_range;
+mod number;
+mod order;
+mod place;
+mod rope_builder;
+mod text;
+
+pub use build::{file_of, weave};
+pub use cell::{Cell, is_same_word, push_cell_word};
+pub use fault::{LineFault, WeaveFault};
+pub use laws::{files_say_rope_words, listings_say_their_words, words_listed_make_the_rope};
+pub use line::{PlacedWord, first_comma, has_other_byte, is_no_text, read_line, read_place};
+pub use listed::{is_asked_for, leads_on, list, listed_address, starts_run};
+pub use location::{
+    Location, bank_word, cell_address, complete_address, is_addressable, location_at,
+    location_named,
+};
+pub use location_range::{LocationRange, RangeFault, one_place, only_cells, two_places};
+pub use number::{Signed, decimal_word, octal_word, offset_named, signed_number};
+pub use order::{Operand, next_is_extracode, operand_in, push_order};
+pub use place::{Place, push_place};
+pub use rope_builder::RopeBuilder;
+pub use text::{cut_label, is_listed, is_name, next_said, only_word};

@@ -1,0 +1,175 @@
+//! Locations in memory: parses them, and converts them to and from addresses and banks.
+ghost use Rattle.std.specs.Prelude.{◌≡◌, ◌+◌, ◌*◌, ◌%◌, ◌<◌, ◌≤◌, IfSome};
+ghost use Rattle.agc_store.specs.Places.{
+  erasable_bank_size,
+  erasable_cells,
+  erasable_window,
+  fixed_bank_size,
+  fixed_window,
+  fixed_words,
+};
+ghost use Rattle.agc_listing.specs.Location.{
+  IsWithin,
+  bank_register,
+  cell_address,
+  cell_alone,
+  cell_in_bank,
+  cell_named,
+  cell_or_place,
+  complete_address,
+  location_at,
+  location_named,
+  is_addressable,
+};
+ghost use Rattle.agc_word.specs.Numeral.{octal_number};
+
+use crate::line::{first_comma, read_place};
+use agc_store::Addr;
+use agc_store::place::{
+    ERASABLE_BANK_SIZE, ERASABLE_WINDOW, FIXED_BANK_SIZE, FIXED_FIXED, FIXED_WINDOW, bank_of,
+    offset_of, place_of,
+};
+use agc_word::read_octal;
+
+/// A location in memory: a word of the rope or a cell.
+#[derive(Clone, Copy, Debug, PartialEq, Eq)]
+pub enum Location {
+    /// A place in the rope: 2000 octal times its bank, plus its offset.
+    Fixed(u32),
+    /// A cell of erasable memory: 400 octal times its bank, plus its offset.
+    Erasable(u32),
+}
+
+/// Parses a location: `En,oooo`, an address below 1400, `bb,oooo`, or an address from 4000 on, all octal.
+#[tactic(auto, unfolding(crate::specs::Location::location_named))]
+pub fn location_named(text: &[u8]) -> Option<Location>
+    ensures location { result ≡ location_named text.now }
+    ensures range { IfSome result IsWithin }
+{
+    match text {
+        [b'E', rest @ ..] => Some(Location::Erasable(cell_named(rest)?)),
+        _ => cell_or_place(text),
+    }
+}
+
+fn cell_or_place(text: &[u8]) -> Option<Location>
+    ensures location { result ≡ cell_or_place (cell_alone (octal_number 4 text.now)) text.now }
+    ensures range { IfSome result IsWithin }
+{
+    match cell_alone(text) {
+        Some(cell) => Some(Location::Erasable(cell)),
+        None => Some(Location::Fixed(read_place(text)? as u32)),
+    }
+}
+
+/// Parses the cell that an address without a bank names.
+fn cell_alone(text: &[u8]) -> Option<u32>
+    ensures cell { result ≡ cell_alone (octal_number 4 text.now) }
+    ensures range { IfSome result (λ cell. cell < erasable_window) }
+{
+    let address = read_octal(4, text)?;
+    if address < u64::from(ERASABLE_WINDOW) {
+        Some(address as u32)
+    } else {
+        None
+    }
+}
+
+/// Parses the cell that a bank and an address name, with a comma between them.
+#[tactic(auto, unfolding(crate::specs::Location::cell_named))]
+fn cell_named(text: &[u8]) -> Option<u32>
+    ensures cell { result ≡ cell_named text.now }
+    ensures range { IfSome result (λ cell. cell < erasable_cells) }
+{
+    let at = first_comma(text)?;
+    cell_in_bank(read_octal(1, &text[..at]), read_octal(4, &text[at + 1..]))
+}
+
+fn cell_in_bank(bank: Option<u64>, address: Option<u64>) -> Option<u32>
+    requires bank { IfSome bank (λ bank. bank < 8) }
+    ensures cell { result ≡ cell_in_bank bank address }
+    ensures range { IfSome result (λ cell. cell < erasable_cells) }
+{
+    let (bank, address) = (bank?, address?);
+    let size = u64::from(ERASABLE_BANK_SIZE);
+    if u64::from(ERASABLE_WINDOW) <= address && address < u64::from(FIXED_WINDOW) {
+        Some((size * bank + address % size) as u32)
+    } else if address / size == bank {
+        Some(address as u32)
+    } else {
+        None
+    }
+}
+
+/// Returns the location of the current order: the cell or the word that its bank and its address name.
+#[tactic(auto, unfolding(crate::specs::Location::location_at))]
+pub fn location_at(bank: u8, address: Addr) -> Location
+    ensures { result ≡ location_at bank address }
+{
+    let address = address.bits();
+    match address {
+        0..ERASABLE_WINDOW => Location::Erasable(u32::from(address)),
+        ERASABLE_WINDOW..FIXED_WINDOW => Location::Erasable(cell_of(bank, address)),
+        FIXED_WINDOW..FIXED_FIXED => Location::Fixed(place_of(bank, address % FIXED_BANK_SIZE)),
+        _ => Location::Fixed(u32::from(address)),
+    }
+}
+
+/// Returns the cell that an address in the window names.
+fn cell_of(bank: u8, address: u16) -> u32
+    ensures { result ≡ erasable_bank_size * bank + address % erasable_bank_size }
+{
+    u32::from(ERASABLE_BANK_SIZE) * u32::from(bank) + u32::from(address % ERASABLE_BANK_SIZE)
+}
+
+/// Returns the address by which an order names a cell: in the window if the cell is in banks 3 to 7.
+pub fn cell_address(cell: u32) -> u16
+    ensures address { result ≡ cell_address cell }
+    ensures range { result < fixed_window }
+{
+    if cell < u32::from(ERASABLE_WINDOW) {
+        cell as u16
+    } else {
+        ERASABLE_WINDOW + (cell % u32::from(ERASABLE_BANK_SIZE)) as u16
+    }
+}
+
+/// Returns the bank that FB holds for a place: with the superbank, ten octal less.
+fn bank_register(place: u32) -> u16
+    requires { place < fixed_words }
+    ensures bank { result ≡ bank_register place }
+    ensures range { result < 0o40 }
+{
+    let bank = u16::from(bank_of(place));
+    if bank < 0o40 {
+        bank
+    } else {
+        bank % 0o10 + 0o30
+    }
+}
+
+/// Returns the word that puts a place's bank into BB.
+pub fn bank_word(place: u32) -> u16
+    requires { place < fixed_words }
+    ensures word { result ≡ fixed_bank_size * bank_register place }
+    ensures range { result < 0o100000 }
+{
+    FIXED_BANK_SIZE * bank_register(place)
+}
+
+/// Returns the complete address of a place: the bank that FB holds for it, and the offset.
+pub fn complete_address(place: u32) -> u16
+    requires { place < fixed_words }
+    ensures address { result ≡ complete_address place }
+    ensures range { result < 0o100000 }
+{
+    FIXED_BANK_SIZE * bank_register(place) + offset_of(place)
+}
+
+/// Returns whether an order at `here` can address a place: it is in the same bank or in 4000 to 7777 octal.
+pub fn is_addressable(here: u32, place: u32) -> bool
+    ensures { result ≡ is_addressable here place }
+{
+    let size = u32::from(FIXED_BANK_SIZE);
+    u32::from(FIXED_FIXED) <= place && place < 0o10000 || place / size == here / size
+}

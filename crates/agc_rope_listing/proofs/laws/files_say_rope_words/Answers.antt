@@ -1,5 +1,0 @@
-use Rattle.agc_rope_listing.proofs.Listings.{are_rope_words}
-use Rattle.agc_rope_listing.proofs.laws.files_say_rope_words.Goals as goal
-
-pub returns : goal.returns
-returns c = are_rope_words

@@ -1,6 +1,0 @@
-use Rattle.std.specs.Prelude.{◌≡◌, take}
-use Rattle.agc_rope_listing.specs.Weave.{woven_file}
-use Rattle.agc_rope_listing.proofs.weaving.file_of.Given as goal
-
-abbrev pub invariant-loop-named : goal.invariant-loop-named
-invariant-loop-named l = l.bytes.items ≡ woven_file l.form (take l.named-index l.words)
