@@ -1,5 +1,0 @@
-mod Lines
-mod Firsts
-pub mod Nearests
-mod PlaceRead
-pub mod NamesRead

@@ -1,5 +1,0 @@
-use Rattle.agc_names.proofs.NamesRead.{names_read}
-use Rattle.agc_names.proofs.laws.written_names_are_read.Goals as goal
-
-pub returns : goal.returns
-returns c = names_read

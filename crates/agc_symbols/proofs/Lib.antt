@@ -1,0 +1,6 @@
+mod Lines
+mod Firsts
+pub mod Nearests
+mod PlaceRead
+pub mod NamesRead
+mod Refused

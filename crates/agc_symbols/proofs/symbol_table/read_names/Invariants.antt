@@ -1,0 +1,13 @@
+use Rattle.std.specs.Prelude.{◌≡◌, ◌+◌, ◌≤◌, [], length}
+use Rattle.agc_word.specs.Text.{lines_of}
+use Rattle.agc_symbols.specs.Symbols.{names_from}
+use Rattle.agc_symbols.proofs.symbol_table.read_names.Given as goal
+
+abbrev pub invariant-loop-line : goal.invariant-loop-line
+invariant-loop-line l = record {
+  same : names_from (l.lines + 1) l.names.items (lines_of l.rest) ≡ names_from 1 [] (lines_of l.fn.text);
+  bytes : l.lines + length l.rest ≤ length l.fn.text;
+}
+
+abbrev pub decreases-loop-line : goal.decreases-loop-line
+decreases-loop-line l = length l.rest

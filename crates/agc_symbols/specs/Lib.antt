@@ -1,0 +1,10 @@
+pub mod Symbols
+pub mod Nearest
+pub mod Index
+pub mod Column
+pub mod Listing
+pub mod Writing
+pub mod FaultText
+pub mod Lookup
+pub mod NamesFile
+pub mod Resolve

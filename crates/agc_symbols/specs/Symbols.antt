@@ -1,0 +1,79 @@
+-- What the lines of a symbol file mean.
+use Rattle.std.specs.Prelude.{ℕ, ◌+◌, Bool, not, ◌&&◌, List, [], ◌∷◌, ◌++◌, Option, Some, None}
+use Rattle.std.specs.Prelude.{Result, Ok, Err, if◌then◌else◌}
+use Rattle.std.specs.List.{list_any}
+use Rattle.agc_word.specs.Text.{lines_of}
+use Rattle.agc_listing.specs.Line.{is_no_text}
+use Rattle.agc_listing.specs.Location.{location_named}
+use Rattle.agc_listing.specs.Text.{is_name, said_by}
+use Rattle.agc_listing.specs.declared.location.Location.{Location}
+use Rattle.agc_symbols.specs.declared.fault.NameFault.{NameFault}
+use Rattle.agc_symbols.specs.declared.fault.NameFault.TheVariants as fault
+use Rattle.agc_symbols.specs.declared.fault.SymbolTableFault.{SymbolTableFault}
+use Rattle.agc_symbols.specs.declared.fault.SymbolTableFault.TheVariants as trouble
+use Rattle.agc_symbols.specs.declared.line.Said.{Said}
+
+-- a name and its location
+pub record Symbol : Type 0 where
+  pub place : Location
+  pub name : List ℕ
+
+-- a name as sources have them, of printable bytes
+abbrev pub is_place_name : List ℕ → Bool
+is_place_name word = is_name word && not (list_any is_no_text word)
+
+-- a place with its name, if no further word follows
+abbrev pub named_alone : Symbol → List (List ℕ) → Result (Option Symbol) NameFault
+named_alone named [] = Ok (Some named)
+named_alone named (word ∷ words) = Err fault.MoreWords
+
+-- the name after a place
+abbrev pub name_after : Location → List (List ℕ) → Result (Option Symbol) NameFault
+name_after place [] = Err fault.BadName
+name_after place (word ∷ words) =
+    if is_place_name word
+    then named_alone (record { place = place; name = word }) words
+    else Err fault.BadName
+
+abbrev pub name_at : Option Location → List (List ℕ) → Result (Option Symbol) NameFault
+name_at (Some place) words = name_after place words
+name_at None words = Err fault.BadPlace
+
+abbrev pub words_named : List (List ℕ) → Result (Option Symbol) NameFault
+words_named [] = Ok None
+words_named (first ∷ words) = name_at (location_named first) words
+
+-- what a line means: a place and its name, or nothing
+unfoldable pub line_named : List ℕ → Result (Option Symbol) NameFault
+line_named line =
+    if list_any is_no_text line then Err fault.NotText else words_named (said_by line)
+
+-- these names, and the name of a line if it has one
+abbrev pub names_with : List Symbol → Option Symbol → List Symbol
+names_with names None = names
+names_with names (Some named) = names ++ named ∷ []
+
+-- the names of lines after these, or the fault of the first faulty line; n is the number of the first line
+unfoldable pub names_from : ℕ → List Symbol → List (List ℕ) → Result (List Symbol) SymbolTableFault
+names_from n names [] = Ok names
+names_from n names (line ∷ lines) =
+    elim (line_named line) [
+      | Ok said ↦ names_from (n + 1) (names_with names said) lines
+      | Err why ↦ Err (trouble.Line n why)
+    ]
+
+-- the names of a text, in its order, or its first fault
+unfoldable pub names_in : List ℕ → Result (List Symbol) SymbolTableFault
+names_in text = names_from 1 [] (lines_of text)
+
+-- a line as the code returns it
+abbrev pub said_named : Said → Symbol
+said_named said = record { place = said.place; name = said.name.now }
+
+abbrev pub option_named : Option Said → Option Symbol
+option_named (Some said) = Some (said_named said)
+option_named None = None
+
+abbrev pub as_named : Result (Option Said) NameFault → Result (Option Symbol) NameFault
+as_named (Ok said) = Ok (option_named said)
+as_named (Err why) = Err why

@@ -1,0 +1,83 @@
+//! The faults of a symbol file's text.
+ghost use Rattle.std.specs.Prelude.{◌≡◌};
+ghost use Rattle.agc_symbols.specs.FaultText.{fault_name};
+
+use std::alloc::AllocError;
+use std::error::Error;
+use std::fmt;
+
+/// The fault of a line. The faults are checked in this order.
+#[derive(Clone, Copy, Debug, PartialEq, Eq)]
+pub enum NameFault {
+    /// A byte that is neither a tab nor printable ASCII.
+    NotText,
+    /// The first word is not a place: `bb,oooo`, `En,oooo`, or an address that needs no bank.
+    BadPlace,
+    /// The second word is missing, or is not a name.
+    BadName,
+    /// A third word that does not begin a comment.
+    MoreWords,
+}
+
+impl NameFault {
+    /// Returns its name.
+    pub fn name(self) -> &'static str
+        ensures { result.now ≡ fault_name self }
+    {
+        match self {
+            NameFault::NotText => "NotText",
+            NameFault::BadPlace => "BadPlace",
+            NameFault::BadName => "BadName",
+            NameFault::MoreWords => "MoreWords",
+        }
+    }
+}
+
+/// Why there is no symbol table: the fault of the first faulty line, or out of memory.
+#[derive(Clone, Copy, Debug, PartialEq, Eq)]
+pub enum SymbolTableFault {
+    /// The line with this number, counted from 1, has this fault.
+    Line(usize, NameFault),
+    /// Out of memory for the names.
+    Memory,
+}
+
+impl From<AllocError> for SymbolTableFault {
+    ghost use Rattle.std.specs.Prelude.{◌≡◌};
+    ghost use Rattle.agc_symbols.specs.declared.fault.SymbolTableFault.TheVariants.{Memory};
+
+    ghost from_gives = { λ _ trouble. trouble ≡ Memory };
+
+    fn from(_error: AllocError) -> SymbolTableFault {
+        SymbolTableFault::Memory
+    }
+}
+
+impl fmt::Display for NameFault {
+    ghost use Rattle.std.specs.Prelude.{Some};
+    ghost use Rattle.agc_symbols.specs.FaultText.{fault_name};
+
+    ghost output = { λ fault. Some (fault_name fault) };
+
+    fn fmt<W: fmt::Write>(&self, f: &mut fmt::Formatter<W>) -> fmt::Result {
+        f.write_str(self.name())
+    }
+}
+
+impl fmt::Display for SymbolTableFault {
+    ghost use Rattle.std.specs.Prelude.{Some};
+    ghost use Rattle.agc_symbols.specs.FaultText.{trouble_text};
+
+    ghost output = { λ trouble. Some (trouble_text trouble) };
+
+    fn fmt<W: fmt::Write>(&self, f: &mut fmt::Formatter<W>) -> fmt::Result {
+        match *self {
+            SymbolTableFault::Line(line, fault) => write!(f, "{fault} at line {line}"),
+            SymbolTableFault::Memory => f.write_str("memory"),
+        }
+    }
+}
+
+impl Error for NameFault {}
+
+impl Error for SymbolTableFault {}

@@ -1,0 +1,27 @@
+//! Symbols: names of places, the file that holds them, and the lookup in both directions.
+#![tactic(auto)]
+
+mod column;
+mod fault;
+mod index;
+mod laws;
+mod line;
+mod listing;
+mod location;
+mod lookup;
+mod names_file;
+mod place_name;
+mod ranges;
+mod symbol_table;
+mod writing;
+
+pub use column::{push_column, push_named};
+pub use fault::{NameFault, SymbolTableFault};
+pub use laws::{the_nearest_name_is_told, written_names_are_read};
+pub use listing::text_with_names;
+pub use lookup::resolve;
+pub use names_file::{SymbolFileFault, names_at, read_names};
+pub use place_name::PlaceName;
+pub use ranges::{resolve_cells, resolve_range};
+pub use symbol_table::{Nearest, SymbolTable};
+pub use writing::push_name_line;

@@ -1,0 +1,133 @@
+//! The symbol table: reads a symbol file, and finds the nearest name of a place.
+ghost use Rattle.std.specs.Prelude.{◌≡◌, ◌≢◌, find, get_or, option_map, Ok, Err, IfOk, IfErr, None, OnOk};
+ghost use Rattle.agc_symbols.specs.Index.{stands_at};
+ghost use Rattle.agc_symbols.specs.Symbols.{names_in, names_with, option_named};
+ghost use Rattle.agc_symbols.specs.Nearest.{as_nearby, nearest};
+ghost use Rattle.agc_symbols.specs.declared.fault.SymbolTableFault.TheVariants.{Memory};
+
+use crate::fault::SymbolTableFault;
+use crate::index::first_names;
+use crate::line::{Said, read_line};
+use crate::location::{number_of, room_below};
+use crate::place_name::PlaceName;
+use agc_listing::Location;
+use agc_word::next_line;
+use std::alloc::{AllocError, Global};
+use std::marker::Model;
+
+/// The names of a symbol file, in its order.
+#[derive(Drop)]
+pub struct SymbolTable {
+    names: Vec<PlaceName>,
+    /// For each number of a location, the index of the first name at it.
+    first: Vec<Option<usize>>,
+}
+
+impl Model for SymbolTable {
+    ghost use Rattle.std.specs.Prelude.{List};
+    ghost use Rattle.agc_symbols.specs.Index.{AreFirst};
+    ghost use Rattle.agc_symbols.specs.Symbols.{Symbol};
+
+    ghost Value = { List Symbol };
+
+    ghost view = { λ t. t.names.items };
+
+    ghost invariant = { λ t. AreFirst t.first.items t.names.items };
+}
+
+/// A name at or below a place, and how many words the place is beyond it.
+#[derive(Clone, Copy)]
+pub struct Nearest<'a> {
+    pub name: &'a str,
+    pub offset: usize,
+}
+
+impl SymbolTable {
+    /// Reads a symbol file. A line has a place and its name, `02,4071 LOOP` or `4071 LOOP` or `E3,1400 COUNT`,
+    /// separated by blanks, or is empty; a word that begins with `#` begins a comment. The fault is that of the first
+    /// faulty line, or `Memory`.
+    pub fn read(alloc: Global, text: &[u8]) -> Result<SymbolTable, SymbolTableFault>
+        ensures names { IfOk result (λ table. names_in text.now ≡ Ok table) }
+        ensures fault { IfErr result (λ why. why ≢ Memory → names_in text.now ≡ Err why) }
+    {
+        let names = read_names(alloc, text)?;
+        let first = first_names(alloc, names.as_slice())?;
+        Ok(SymbolTable { names, first })
+    }
+
+    /// Returns the names, in the order of the text.
+    pub fn names(&self) -> &[PlaceName]
+        ensures { result.now ≡ self.now }
+    {
+        self.names.as_slice()
+    }
+
+    /// Returns the nearest name at or below a place, in the same bank and at most 100 octal away. If several names have
+    /// the same place, the first one counts.
+    pub fn named_at(&self, at: Location) -> Option<Nearest<'_>>
+        ensures { option_map as_nearby result ≡ nearest self.now at }
+    {
+        let number = number_of(at);
+        for offset in 0..room_below(at) + 1 {
+            if let Some(name) = self.first_at(number - 2 * offset) {
+                return Some(Nearest { name, offset });
+            }
+        }
+        None
+    }
+
+    /// Returns the first of the names at a number.
+    fn first_at(&self, number: usize) -> Option<&str>
+        ensures { option_map (λ name. name.now) result
+            ≡ option_map (λ named. named.name) (find (stands_at number) self.now) }
+    {
+        match first_index(self.first.as_slice(), number) {
+            Some(index) => Some(self.names[index].name()),
+            None => None,
+        }
+    }
+}
+
+/// Returns the index at a number, if there is one.
+fn first_index(first: &[Option<usize>], number: usize) -> Option<usize>
+    ensures { result ≡ get_or first.now number None }
+{
+    if number < first.len() {
+        first[number]
+    } else {
+        None
+    }
+}
+
+/// Returns the names of a text, or the fault of its first faulty line.
+fn read_names(alloc: Global, text: &[u8]) -> Result<Vec<PlaceName>, SymbolTableFault>
+    ensures names { IfOk result (λ names. names_in text.now ≡ Ok names.items) }
+    ensures fault { IfErr result (λ why. why ≢ Memory → names_in text.now ≡ Err why) }
+{
+    let mut names = Vec::new(alloc);
+    let mut lines = 0;
+    let mut rest = text;
+    while let Some((line, after)) = next_line(rest) {
+        lines += 1;
+        match read_line(line) {
+            Ok(said) => add_said(alloc, &mut names, said)?,
+            Err(fault) => return Err(SymbolTableFault::Line(lines, fault)),
+        }
+        rest = after;
+    }
+    Ok(names)
+}
+
+/// Adds the name of a line, if it has one.
+fn add_said(
+    alloc: Global,
+    names: &mut Vec<PlaceName>,
+    said: Option<Said<'_>>,
+) -> Result<(), AllocError>
+    ensures { OnOk result (names.new.items ≡ names_with names.old.items (option_named said.entry)) }
+{
+    if let Some(Said { place, name }) = said {
+        names.push(PlaceName::new(alloc, place, name)?)?;
+    }
+    Ok(())
+}
