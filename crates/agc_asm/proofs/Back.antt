@@ -1,0 +1,144 @@
+-- The source of a rope names the words of the rope, and so assembles to it.
+use Rattle.std.specs.Prelude.{◌≡◌, ℕ, ◌+◌, ◌^◌, ◌<◌, ◌≤◌, Bool, true, false, List, [], ◌∷◌, ◌++◌, length, Option, Some, None, Result, Ok, Err}
+use Rattle.std.specs.List.{list_all}
+use Rattle.std.proofs.Common.{refl, ap, sym, ◌∙◌, arith, inl, inr}
+use Rattle.std.proofs.lemmas.Bool.{and_parts, both_ways, cases_lt}
+use Rattle.std.proofs.lemmas.List.{get_or_past, length-replicate}
+use Rattle.std.proofs.lemmas.List.Elements.{All-get_or}
+use Rattle.agc_word.specs.Number.{Number}
+use Rattle.agc_store.specs.Memory.{fixed_at, nothing}
+use Rattle.agc_listing.specs.Laws.{AreRopeWords, words_below, words_listed}
+use Rattle.agc_asm.specs.LocationCounter.{first_cursor}
+use Rattle.agc_asm.specs.Disassemble.{resolve_range, rope_source}
+use Rattle.agc_asm.specs.declared.location_counter.LocationCounter.{LocationCounter}
+use Rattle.agc_asm.proofs.Lines.{Stands}
+use Rattle.agc_asm.proofs.Stretches.{StandsIn, finds_none, finds_words}
+use Rattle.agc_word.specs.Text.{lines_of}
+use Rattle.agc_listing.specs.Line.{line_named}
+use Rattle.agc_listing.specs.Weave.{is_named, said_from, said_in, said_next, unless_named, woven_file}
+use Rattle.agc_listing.specs.declared.fault.LineFault.TheVariants as line_fault
+use Rattle.agc_listing.specs.declared.fault.WeaveFault.TheVariants as weave
+use Rattle.agc_listing.proofs.Listings.{rope_of_words}
+use Rattle.agc_asm.specs.Laws.{WeavesTo}
+use Rattle.agc_listing.proofs.Woven.{next_said}
+use Rattle.agc_asm.specs.declared.fault.SourceFault.{SourceFault}
+use Rattle.agc_asm.specs.declared.fault.SourceFault.TheVariants as fault
+use Rattle.agc_asm.specs.declared.fault.AssemblyFault.TheVariants as trouble
+use Rattle.agc_asm.proofs.Passes.{next_woven}
+use Rattle.agc_asm.specs.declared.pass2.Step.{Step}
+use Rattle.agc_listing.specs.declared.fault.LineFault.{LineFault}
+use Rattle.agc_listing.specs.declared.line.PlacedWord.{PlacedWord}
+use Rattle.agc_asm.specs.Source.{as_source, both_said, first_state, is_listing, line_woven, listed_woven, IsSourceWoven, names_in, source_in, words_from, words_in}
+use Rattle.agc_asm.specs.declared.pass2.State.{State}
+use Rattle.agc_asm.specs.Name.{Naming, own_names}
+use Rattle.agc_listing.specs.Text.{are_listed, said_by}
+
+-- In the second pass the lines of a listing mean what they mean in a listing.
+abbrev AgreeOn : Naming → State → List (List ℕ) → Type 0
+AgreeOn naming state lines = (n : ℕ) (said : List PlacedWord) → words_from n naming state said lines ≡ as_source (said_from n said lines)
+
+-- a faulty line, and a word whose place is taken
+faulty_line : (n : ℕ) (naming : Naming) (state : State) (said : List PlacedWord) (line : List ℕ) (lines : List (List ℕ)) (why : SourceFault) → line_woven naming state line ≡ Err why
+    → words_from n naming state said (line ∷ lines) ≡ Err (trouble.Line n why)
+unfolding words_from
+faulty_line n naming state said line lines why e = rw (e, words_from) refl
+
+wrong_word : (n : ℕ) (naming : Naming) (state : State) (said : List PlacedWord) (line : List ℕ) (lines : List (List ℕ)) (step : Step) (why : SourceFault) → line_woven naming state line ≡ Ok step
+    → both_said said step.first step.second ≡ Err why → words_from n naming state said (line ∷ lines) ≡ Err (trouble.Line n why)
+unfolding words_from
+wrong_word n naming state said line lines step why e f = rw (e, words_from) (rw f refl)
+
+faulty_said : (n : ℕ) (said : List PlacedWord) (line : List ℕ) (lines : List (List ℕ)) (why : LineFault) → said_next said line ≡ Err why → said_from n said (line ∷ lines) ≡ Err (weave.Line n why)
+unfolding said_from
+faulty_said n said line lines why e = rw (e, said_from) refl
+
+listed_line : (naming : Naming) (state : State) (line : List ℕ) (says : Result (Option PlacedWord) LineFault) → are_listed (said_by line) ≡ true → line_named line ≡ says
+    → line_woven naming state line ≡ listed_woven state says
+unfolding line_woven
+listed_line naming state line says listed is = rw (listed, is) refl
+
+next_of : (said : List PlacedWord) (line : List ℕ) (says : Result (Option PlacedWord) LineFault) → line_named line ≡ says → said_next said line ≡ unless_named said says
+unfolding said_next
+next_of said line says is = rw is refl
+
+agree_word : (naming : Naming) (state : State) (line : List ℕ) (lines : List (List ℕ)) (n : ℕ) (said : List PlacedWord) (word : PlacedWord) (twice : Bool) → are_listed (said_by line) ≡ true
+    → line_named line ≡ Ok (Some word) → is_named word.place said ≡ twice → AgreeOn naming state lines → words_from n naming state said (line ∷ lines) ≡ as_source (said_from n said (line ∷ lines))
+agree_word naming state line lines n said word true listed is named rest =
+    let step : Step = record { state = state; first = Some word; second = None } in
+    let both : both_said said (Some word) None ≡ Err (fault.Listed line_fault.NamedTwice) = rw named refl in
+    let next : said_next said line ≡ Err line_fault.NamedTwice = next_of said line (Ok (Some word)) is ∙ rw named refl in
+    wrong_word n naming state said line lines step (fault.Listed line_fault.NamedTwice) (listed_line naming state line (Ok (Some word)) listed is) both
+    ∙ sym (ap as_source (faulty_said n said line lines line_fault.NamedTwice next))
+agree_word naming state line lines n said word false listed is named rest =
+    let step : Step = record { state = state; first = Some word; second = None } in
+    let both : both_said said (Some word) None ≡ Ok (said ++ word ∷ []) = rw named refl in
+    let next : said_next said line ≡ Ok (Some word) = next_of said line (Ok (Some word)) is ∙ rw named refl in
+    next_woven n naming state said (said ++ word ∷ []) line lines step (listed_line naming state line (Ok (Some word)) listed is) both
+    ∙ rest (n + 1) (said ++ word ∷ [])
+    ∙ sym (ap as_source (next_said n said line lines (Some word) next))
+
+agree_line : (naming : Naming) (state : State) (line : List ℕ) (lines : List (List ℕ)) (n : ℕ) (said : List PlacedWord) (says : Result (Option PlacedWord) LineFault) → are_listed (said_by line) ≡ true
+    → line_named line ≡ says → AgreeOn naming state lines → words_from n naming state said (line ∷ lines) ≡ as_source (said_from n said (line ∷ lines))
+agree_line naming state line lines n said (Err why) listed is rest =
+    faulty_line n naming state said line lines (fault.Listed why) (listed_line naming state line (Err why) listed is)
+    ∙ sym (ap as_source (faulty_said n said line lines why (next_of said line (Err why) is)))
+agree_line naming state line lines n said (Ok None) listed is rest =
+    let step : Step = record { state = state; first = None; second = None } in
+    next_woven n naming state said said line lines step (listed_line naming state line (Ok None) listed is) refl
+    ∙ rest (n + 1) said
+    ∙ sym (ap as_source (next_said n said line lines None (next_of said line (Ok None) is)))
+agree_line naming state line lines n said (Ok (Some word)) listed is rest = agree_word naming state line lines n said word (is_named word.place said) listed is refl rest
+
+pub agree_on : (naming : Naming) (state : State) (lines : List (List ℕ)) → list_all (λ line. are_listed (said_by line)) lines ≡ true → AgreeOn naming state lines
+unfolding words_from said_from
+agree_on naming state [] h n said = refl
+agree_on naming state (line ∷ lines) h n said =
+    let parts = and_parts (are_listed (said_by line)) (list_all (λ other. are_listed (said_by other)) lines) h in
+    agree_line naming state line lines n said (line_named line) parts.0 refl (agree_on naming state lines parts.1)
+
+-- So a text without faults in both passes names the words of the second pass.
+source_by : (text : List ℕ) (said : List PlacedWord) (listing : Bool) → is_listing text ≡ listing → names_in text ≡ Ok own_names → words_in own_names text ≡ Ok said → source_in text ≡ Ok said
+unfolding source_in is_listing words_in said_in
+source_by text said true listing none says = rw listing (sym (agree_on own_names first_state (lines_of text) listing 1 []) ∙ says)
+source_by text said false listing none says = rw (listing, none) says
+
+-- a rope's words are narrow, also past its end
+narrow_at : (words : List Number) → AreRopeWords words → (place : ℕ) → (fixed_at place words).magnitude < 2 ^ 14
+unfolding fixed_at
+narrow_at words h place =
+    elim (cases_lt place (length words)) [
+      | inl inside ↦ All-get_or (λ (word : Number). word.magnitude < 2 ^ 14) words place nothing inside h.narrow
+      | inr past ↦ rw (get_or_past words place nothing past) (omega arith)
+    ]
+
+-- the source of a rope, read in both passes
+no_word_before : (words : List Number) (counter : LocationCounter) → length counter.left ≡ 36 → Stands words 0 counter
+no_word_before words counter banks = record { banks = banks; here = λ follows. absurd (both_ways false refl follows) }
+
+at_first : (words : List Number) → StandsIn words 0 first_state
+at_first words = record { counter = no_word_before words first_cursor (length-replicate {A = ℕ} 36 0); leads = λ follows. absurd (both_ways false refl follows) }
+
+places_say : (words : List Number) → ((place : ℕ) → (fixed_at place words).magnitude < 2 ^ 14) → (count : ℕ) → count ≤ 0o110000
+    → source_in (resolve_range count None words) ≡ Ok (words_below count words)
+unfolding resolve_range names_in words_in words_below
+places_say words narrow count room =
+    let text = resolve_range count None words in
+    source_by text (words_below count words) (is_listing text) refl
+    (finds_none words narrow count 0 (omega arith) 1 own_names first_cursor (at_first words).counter)
+    (finds_words words narrow count 0 (omega arith) 1 own_names first_state [] (at_first words) (record { none = λ place from. refl }))
+
+pub source_says : (words : List Number) → AreRopeWords words → source_in (rope_source None words) ≡ Ok (words_listed words)
+unfolding rope_source words_listed
+source_says words h = places_say words (narrow_at words h) 0o110000 (omega arith)
+
+-- and so the source assembles to the rope
+pub weaves_to : (words : List Number) (text : List ℕ) → text ≡ rope_source None words → AreRopeWords words → WeavesTo words text
+weaves_to words text is h form =
+    let says : source_in text ≡ Ok (words_listed words) = rw is (source_says words h) in
+    let woven : IsSourceWoven form text (woven_file form (words_listed words)) = (words_listed words, says, refl) in
+    (woven_file form (words_listed words), woven, rope_of_words form words h)
+
+-- the text of all places is the source
+pub whole_source : (bank : Option ℕ) (words : List Number) (start text : List ℕ) → bank ≡ None → start ≡ [] → text ≡ start ++ resolve_range 36864 bank words → text ≡ rope_source None words
+unfolding rope_source
+whole_source bank words start text all nothing is = rw (is, nothing, all) refl

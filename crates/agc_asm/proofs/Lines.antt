@@ -1,0 +1,154 @@
+-- Where the lines of a rope's source are read, in both passes.
+use Rattle.std.specs.Prelude.{◌≡◌, ℕ, ◌+◌, ◌-◌, ◌/◌, ◌%◌, ◌<◌, ◌==◌, true, false, not, List, [], ◌∷◌, ◌++◌, codes, length, get_or, None, Ok}
+use Rattle.std.specs.List.{list_all, list_any}
+use Rattle.std.proofs.Common.{refl, ap, ◌∙◌, arith}
+use Rattle.std.proofs.lemmas.Bool.{and_parts, and_right, both_ways}
+use Rattle.std.proofs.lemmas.List.{get_or-set_same, length-set}
+use Rattle.std.proofs.lemmas.Bool.Decides.{nat_tests}
+use Rattle.agc_word.specs.Number.{Number}
+use Rattle.agc_listing.specs.Laws.{has_line}
+use Rattle.agc_listing.specs.Order.{next_is_extracode}
+use Rattle.agc_listing.specs.Line.{is_no_text}
+use Rattle.agc_asm.specs.LocationCounter.{after_words, left_in, moved_to, room_at}
+use Rattle.agc_asm.specs.Disassemble.{follows_word}
+use Rattle.agc_listing.proofs.Prints.{all_text, prints}
+use Rattle.agc_listing.specs.Weave.{is_named}
+use Rattle.agc_listing.specs.declared.line.PlacedWord.{PlacedWord}
+use Rattle.agc_asm.specs.LineKind.{shape_of}
+use Rattle.agc_asm.specs.Source.{both_said, line_labelled, line_woven, names_from, naming_after, word_at, words_from}
+use Rattle.agc_asm.specs.declared.line_kind.LineKind.TheVariants as kind
+use Rattle.agc_asm.specs.declared.pass2.State.{State}
+use Rattle.agc_asm.specs.Name.{Naming}
+use Rattle.agc_listing.specs.Text.{are_listed, body_of, label_of, said_by}
+use Rattle.agc_asm.proofs.Orders.{Says}
+use Rattle.agc_asm.proofs.Passes.{next_named, next_woven}
+use Rattle.agc_asm.specs.declared.location_counter.At.TheVariants as at
+use Rattle.agc_asm.specs.declared.location_counter.LocationCounter.{LocationCounter}
+use Rattle.agc_listing.specs.declared.location.Location.TheVariants as location
+
+-- the next line goes to a place
+pub record IsHere (place : ℕ) (counter : LocationCounter) : Type 0 where
+  pub bank : counter.at ≡ at.Bank (place / 0o2000)
+  pub left : get_or counter.left (place / 0o2000) 0 ≡ place % 0o2000
+
+-- and it does if a word precedes that place
+pub record Stands (words : List Number) (place : ℕ) (counter : LocationCounter) : Type 0 where
+  pub banks : length counter.left ≡ 36
+  pub here : follows_word words place ≡ true → IsHere place counter
+
+pub has_room : (place : ℕ) (counter : LocationCounter) → IsHere place counter → room_at counter counter.at 1 ≡ Ok place
+has_room place counter h = rw (h.bank, h.left) (grind (arith, nat_tests))
+
+-- after a word
+next_here : (place : ℕ) (counter : LocationCounter) → IsHere place counter → length counter.left ≡ 36 → place < 0o110000 → not ((place + 1) % 0o2000 == 0) ≡ true
+    → IsHere (place + 1) (after_words counter counter.at 1)
+next_here place counter h banks inside same =
+    let bank : (place + 1) / 0o2000 ≡ place / 0o2000 = grind (arith, nat_tests) in
+    let offset : (place + 1) % 0o2000 ≡ place % 0o2000 + 1 = grind (arith, nat_tests) in
+    let is_in : place / 0o2000 < length counter.left = omega arith in
+    record {
+      bank = rw (h.bank, bank) refl;
+      left = rw (h.bank, h.left, bank, offset) (get_or-set_same counter.left (place / 0o2000) (place % 0o2000 + 1) 0 is_in);
+    }
+
+same_bank : (words : List Number) (place : ℕ) → follows_word words (place + 1) ≡ true → not ((place + 1) % 0o2000 == 0) ≡ true
+same_bank words place h = (and_parts _ _ h).0
+
+after_length : (counter : LocationCounter) (bank : ℕ) → counter.at ≡ at.Bank bank → length (after_words counter counter.at 1).left ≡ length counter.left
+after_length counter bank h = rw h (length-set counter.left bank (left_in counter bank + 1))
+
+pub after_word : (words : List Number) (place : ℕ) (counter : LocationCounter) → IsHere place counter → length counter.left ≡ 36 → place < 0o110000
+    → Stands words (place + 1) (after_words counter counter.at 1)
+after_word words place counter h banks inside = record {
+  banks = after_length counter (place / 0o2000) h.bank ∙ banks;
+  here = λ follows. next_here place counter h banks inside (same_bank words place follows);
+}
+
+-- after a SETLOC line
+pub moved_here : (place : ℕ) (counter : LocationCounter) → length counter.left ≡ 36 → place < 0o110000 → IsHere place (moved_to counter (location.Fixed place))
+moved_here place counter banks inside = record {
+  bank = refl;
+  left = get_or-set_same counter.left (place / 0o2000) (place % 0o2000) 0 (omega arith);
+}
+
+pub moved_banks : (place : ℕ) (counter : LocationCounter) → length counter.left ≡ 36 → length (moved_to counter (location.Fixed place)).left ≡ 36
+moved_banks place counter banks = length-set counter.left (place / 0o2000) (place % 0o2000) ∙ banks
+
+-- a place without a word
+pub skips : (words : List Number) (place : ℕ) (counter : LocationCounter) → Stands words place counter → has_line words place ≡ false → Stands words (place + 1) counter
+skips words place counter h none = record {
+  banks = h.banks;
+  here = λ follows.
+      let before : place + 1 - 1 ≡ place = omega arith in
+      let has : has_line words (place + 1 - 1) ≡ true = (and_parts _ _ follows).1 in
+      absurd (both_ways (has_line words place) none (rw before at has));
+}
+
+-- a line of the source has no name and is not a listing line
+pub record IsLine (line : List ℕ) : Type 0 where
+  pub text : list_any is_no_text line ≡ false
+  pub unlisted : are_listed (said_by line) ≡ false
+  pub label : label_of line ≡ None
+  pub body : body_of line ≡ said_by line
+
+pub is_line : (rest : List ℕ) → list_all prints (codes "        " ++ rest) ≡ true → are_listed (said_by (codes "        " ++ rest)) ≡ false → IsLine (codes "        " ++ rest)
+unfolding label_of body_of
+is_line rest h unlisted = record { text = all_text (codes "        " ++ rest) h; unlisted = unlisted; label = refl; body = refl }
+
+-- the first pass
+labelled_word : (naming : Naming) (counter : LocationCounter) (place : ℕ) (line : List ℕ) → IsLine line → shape_of (said_by line) ≡ Ok kind.Word → IsHere place counter
+    → line_labelled naming counter line ≡ Ok (record { counter = after_words counter counter.at 1; place = None })
+unfolding line_labelled
+labelled_word naming counter place line h takes here = rw (h.unlisted, h.text, h.label, h.body, takes, has_room place counter here) refl
+
+labelled_move : (naming : Naming) (counter : LocationCounter) (place : ℕ) (line : List ℕ) → IsLine line → shape_of (said_by line) ≡ Ok (kind.Moves (location.Fixed place))
+    → line_labelled naming counter line ≡ Ok (record { counter = moved_to counter (location.Fixed place); place = None })
+unfolding line_labelled
+labelled_move naming counter place line h moves = rw (h.unlisted, h.text, h.label, h.body, moves) refl
+
+no_name : (naming : Naming) (line : List ℕ) → IsLine line → naming_after naming (label_of line) None ≡ naming
+no_name naming line h = rw h.label refl
+
+pub names_word : (n : ℕ) (naming : Naming) (counter : LocationCounter) (place : ℕ) (line : List ℕ) (lines : List (List ℕ)) → IsLine line → shape_of (said_by line) ≡ Ok kind.Word → IsHere place counter
+    → names_from n naming counter (line ∷ lines) ≡ names_from (n + 1) naming (after_words counter counter.at 1) lines
+names_word n naming counter place line lines h takes here =
+    next_named n naming counter line lines (record { counter = after_words counter counter.at 1; place = None }) (labelled_word naming counter place line h takes here)
+    ∙ ap (λ (names : Naming). names_from (n + 1) names (after_words counter counter.at 1) lines) (no_name naming line h)
+
+pub names_move : (n : ℕ) (naming : Naming) (counter : LocationCounter) (place : ℕ) (line : List ℕ) (lines : List (List ℕ)) → IsLine line → shape_of (said_by line) ≡ Ok (kind.Moves (location.Fixed place))
+    → names_from n naming counter (line ∷ lines) ≡ names_from (n + 1) naming (moved_to counter (location.Fixed place)) lines
+names_move n naming counter place line lines h moves =
+    next_named n naming counter line lines (record { counter = moved_to counter (location.Fixed place); place = None }) (labelled_move naming counter place line h moves)
+    ∙ ap (λ (names : Naming). names_from (n + 1) names (moved_to counter (location.Fixed place)) lines) (no_name naming line h)
+
+-- the second pass
+abbrev pub state_after : State → Number → State
+state_after state word = record { counter = after_words state.counter state.counter.at 1; leads = next_is_extracode state.leads word }
+
+abbrev pub state_moved : State → ℕ → State
+state_moved state place = record { counter = moved_to state.counter (location.Fixed place); leads = false }
+
+woven_word : (naming : Naming) (state : State) (place : ℕ) (word : Number) (line : List ℕ) → IsLine line → Says state.leads word (said_by line) → IsHere place state.counter
+    → line_woven naming state line ≡ Ok (record { state = state_after state word; first = word_at place word; second = None })
+unfolding line_woven
+woven_word naming state place word line h says here = rw (h.unlisted, h.body, says.takes_up, has_room place state.counter here, says.means naming place) refl
+
+woven_move : (naming : Naming) (state : State) (place : ℕ) (line : List ℕ) → IsLine line → shape_of (said_by line) ≡ Ok (kind.Moves (location.Fixed place))
+    → line_woven naming state line ≡ Ok (record { state = state_moved state place; first = None; second = None })
+unfolding line_woven
+woven_move naming state place line h moves = rw (h.unlisted, h.body, moves, and_right state.leads false refl) refl
+
+both_once : (said : List PlacedWord) (place : ℕ) (word : Number) → is_named place said ≡ false → both_said said (word_at place word) None ≡ Ok (said ++ (record { place = place; word = word }) ∷ [])
+both_once said place word h = rw h refl
+
+pub words_word : (n : ℕ) (naming : Naming) (state : State) (said : List PlacedWord) (place : ℕ) (word : Number) (line : List ℕ) (lines : List (List ℕ)) → IsLine line → Says state.leads word (said_by line)
+    → IsHere place state.counter → is_named place said ≡ false
+    → words_from n naming state said (line ∷ lines) ≡ words_from (n + 1) naming (state_after state word) (said ++ (record { place = place; word = word }) ∷ []) lines
+words_word n naming state said place word line lines h says here none =
+    next_woven n naming state said (said ++ (record { place = place; word = word }) ∷ []) line lines (record { state = state_after state word; first = word_at place word; second = None })
+    (woven_word naming state place word line h says here) (both_once said place word none)
+
+pub words_move : (n : ℕ) (naming : Naming) (state : State) (said : List PlacedWord) (place : ℕ) (line : List ℕ) (lines : List (List ℕ)) → IsLine line → shape_of (said_by line) ≡ Ok (kind.Moves (location.Fixed place))
+    → words_from n naming state said (line ∷ lines) ≡ words_from (n + 1) naming (state_moved state place) said lines
+words_move n naming state said place line lines h moves =
+    next_woven n naming state said said line lines (record { state = state_moved state place; first = None; second = None }) (woven_move naming state place line h moves) refl

@@ -1,0 +1,115 @@
+-- The rope that a source assembles to, and its listing, have the orders that the source writes.
+use Rattle.std.specs.Prelude.{◌≡◌, ℕ, Bool, true, false, All, List, [], ◌∷◌, map, Result, Ok, Err}
+use Rattle.std.specs.List.{flat_map, list_all}
+use Rattle.std.proofs.Common.{refl, ◌∙◌, arith}
+use Rattle.std.proofs.lemmas.Bool.{and_parts}
+use Rattle.std.proofs.lemmas.List.{length-replicate}
+use Rattle.std.proofs.lemmas.List.Elements.{All-nil, All-weaker}
+use Rattle.agc_word.specs.Number.{Number}
+use Rattle.agc_store.specs.RopeFile.{rope_words}
+use Rattle.agc_store.specs.declared.rope_file.RopeForm.{RopeForm}
+use Rattle.agc_word.specs.Text.{lines_of}
+use Rattle.agc_listing.specs.Weave.{woven_file}
+use Rattle.agc_listing.specs.declared.line.PlacedWord.{PlacedWord}
+use Rattle.agc_asm.specs.Name.{Naming}
+use Rattle.agc_listing.specs.Text.{are_listed, said_by}
+use Rattle.agc_asm.specs.declared.fault.SourceFault.{SourceFault}
+use Rattle.agc_asm.specs.declared.fault.AssemblyFault.{AssemblyFault}
+use Rattle.agc_asm.specs.OrderLines.{HasOrder, IsListed, IsReadAlong, OrderLine, mnemonic_of, mnemonics_in, order_of, orders_by, orders_from, orders_in, since_after}
+use Rattle.agc_asm.specs.Source.{IsSourceWoven, first_state, is_listing, line_woven, names_in, source_in, words_after_names, words_in}
+use Rattle.agc_asm.specs.declared.pass2.State.{State}
+use Rattle.agc_asm.specs.declared.pass2.Step.{Step}
+use Rattle.agc_asm.proofs.Along.{Sound}
+use Rattle.agc_asm.proofs.FileHolds.{HasWord, Kept, StandsIn, has_word, kept_from}
+use Rattle.agc_asm.proofs.LinesShown.{orders_more, shown_from}
+use Rattle.agc_asm.proofs.OrderShown.{Shown}
+use Rattle.agc_asm.proofs.OrdersShown.{AreShown, none_shown}
+
+-- the state before the first line
+at_first : (words : List Number) → Sound words 0o4000 first_state.counter first_state.leads
+at_first words = record { banks = length-replicate {A = ℕ} 36 0; bank = omega arith; along = λ none inside. none }
+
+-- a text whose second pass yields words
+way_shown : (form : RopeForm) (text file : List ℕ) (naming : Naming) (said : List PlacedWord) → words_in naming text ≡ Ok said → file ≡ woven_file form said
+    → AreShown (rope_words form file) (orders_from naming 0o4000 first_state (lines_of text)) (flat_map mnemonic_of (lines_of text))
+unfolding words_in
+way_shown form text file naming said is woven =
+    let words = rope_words form file in
+    let kept : Kept form said = kept_from form (lines_of text) 1 naming first_state [] said is (All-nil (StandsIn form (woven_file form []))) in
+    let stand : All (StandsIn form file) said = rw woven kept in
+    let has = All-weaker (StandsIn form file) (HasWord words) (λ word h. has_word form file word h) said stand in
+    shown_from words (lines_of text) 1 naming 0o4000 first_state [] said is has (at_first words)
+
+named_shown : (form : RopeForm) (text file : List ℕ) (names : Result Naming AssemblyFault) (said : List PlacedWord) → words_after_names text names ≡ Ok said → file ≡ woven_file form said
+    → AreShown (rope_words form file) (orders_by names (lines_of text)) (flat_map mnemonic_of (lines_of text))
+named_shown form text file (Err why) said is woven = absurd cc
+named_shown form text file (Ok naming) said is woven = way_shown form text file naming said is woven
+
+-- a listing writes no orders
+no_order : (naming : Naming) (since : ℕ) (state : State) (line : List ℕ) → are_listed (said_by line) ≡ true → order_of naming since state line ≡ []
+unfolding order_of
+no_order naming since state line listed = rw listed refl
+
+no_mnemonic : (line : List ℕ) → are_listed (said_by line) ≡ true → mnemonic_of line ≡ []
+unfolding mnemonic_of
+no_mnemonic line listed = rw listed refl
+
+no_mnemonics : (lines : List (List ℕ)) → list_all (λ line. are_listed (said_by line)) lines ≡ true → flat_map mnemonic_of lines ≡ []
+no_mnemonics [] h = refl
+no_mnemonics (line ∷ lines) h =
+    let parts = and_parts (are_listed (said_by line)) (list_all (λ other. are_listed (said_by other)) lines) h in
+    rw (no_mnemonic line parts.0, no_mnemonics lines parts.1) refl
+
+abbrev WriteNone : List (List ℕ) → Type 0
+WriteNone lines = (naming : Naming) (since : ℕ) (state : State) → orders_from naming since state lines ≡ []
+
+faulty_line : (naming : Naming) (since : ℕ) (state : State) (line : List ℕ) (lines : List (List ℕ)) (why : SourceFault) → line_woven naming state line ≡ Err why → orders_from naming since state (line ∷ lines) ≡ []
+unfolding orders_from
+faulty_line naming since state line lines why e = rw (e, orders_from) refl
+
+no_orders_by : (naming : Naming) (since : ℕ) (state : State) (line : List ℕ) (lines : List (List ℕ)) (woven : Result Step SourceFault) → are_listed (said_by line) ≡ true → WriteNone lines → line_woven naming state line ≡ woven
+    → orders_from naming since state (line ∷ lines) ≡ []
+no_orders_by naming since state line lines (Err why) listed rest e = faulty_line naming since state line lines why e
+no_orders_by naming since state line lines (Ok step) listed rest e =
+    orders_more naming since state line lines step e ∙ rw (no_order naming since state line listed) (rest naming (since_after since line step.state.counter) step.state)
+
+no_orders : (lines : List (List ℕ)) → list_all (λ line. are_listed (said_by line)) lines ≡ true → WriteNone lines
+unfolding orders_from
+no_orders [] h naming since state = refl
+no_orders (line ∷ lines) h naming since state =
+    let parts = and_parts (are_listed (said_by line)) (list_all (λ other. are_listed (said_by other)) lines) h in
+    no_orders_by naming since state line lines (line_woven naming state line) parts.0 (no_orders lines parts.1) refl
+
+listing_shown : (words : List Number) (lines : List (List ℕ)) (names : Result Naming AssemblyFault) → list_all (λ line. are_listed (said_by line)) lines ≡ true → AreShown words (orders_by names lines) (flat_map mnemonic_of lines)
+listing_shown words lines (Err why) h = rw (no_mnemonics lines h) (none_shown words)
+listing_shown words lines (Ok naming) h = rw (no_orders lines h naming 0o4000 first_state, no_mnemonics lines h) (none_shown words)
+
+text_shown : (form : RopeForm) (text file : List ℕ) (said : List PlacedWord) (listing : Bool) → is_listing text ≡ listing → source_in text ≡ Ok said → file ≡ woven_file form said
+    → AreShown (rope_words form file) (orders_in text) (mnemonics_in text)
+unfolding source_in is_listing orders_in mnemonics_in
+text_shown form text file said true listing is woven = listing_shown (rope_words form file) (lines_of text) (names_in text) listing
+text_shown form text file said false listing is woven =
+    let way : words_after_names text (names_in text) ≡ Ok said = rw listing at is in
+    named_shown form text file (names_in text) said way woven
+
+source_shown : (form : RopeForm) (text file : List ℕ) → IsSourceWoven form text file → AreShown (rope_words form file) (orders_in text) (mnemonics_in text)
+source_shown form text file h = text_shown form text file h.0 (is_listing text) refl h.1 h.2
+
+-- the clauses of the law
+pub none_left_out : (form : RopeForm) (text file : List ℕ) → IsSourceWoven form text file → map (λ (line : OrderLine). line.mnemonic) (orders_in text) ≡ mnemonics_in text
+none_left_out form text file h = (source_shown form text file h).named
+
+pub words_have : (form : RopeForm) (text file : List ℕ) → IsSourceWoven form text file → All (HasOrder (rope_words form file)) (orders_in text)
+words_have form text file h =
+    let words = rope_words form file in
+    All-weaker (Shown words) (HasOrder words) (λ line shown. shown.has) (orders_in text) (source_shown form text file h).shown
+
+pub listing_shows : (form : RopeForm) (text file : List ℕ) → IsSourceWoven form text file → All (IsListed (rope_words form file)) (orders_in text)
+listing_shows form text file h =
+    let words = rope_words form file in
+    All-weaker (Shown words) (IsListed words) (λ line shown. shown.listed) (orders_in text) (source_shown form text file h).shown
+
+pub read_along : (form : RopeForm) (text file : List ℕ) → IsSourceWoven form text file → All (IsReadAlong (rope_words form file)) (orders_in text)
+read_along form text file h =
+    let words = rope_words form file in
+    All-weaker (Shown words) (IsReadAlong words) (λ line shown. shown.along) (orders_in text) (source_shown form text file h).shown

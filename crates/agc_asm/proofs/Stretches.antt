@@ -1,0 +1,219 @@
+-- The lines of a rope's source, read place by place.
+use Rattle.std.specs.Prelude.{◌≡◌, ℕ, zero, suc, ◌+◌, ◌-◌, ◌%◌, ◌^◌, ◌<◌, ◌≤◌, ◌==◌, Bool, true, false, not, ◌&&◌, List, [], ◌∷◌, ◌++◌, map, filter, None, Ok}
+use Rattle.std.specs.List.{flat_map, range_with_len}
+use Rattle.std.proofs.Common.{refl, ap, sym, ◌∙◌, arith, append_assoc, append-nil, add-one, ne_eqb, length}
+use Rattle.std.proofs.lemmas.Bool.{and_parts, and_right, both_ways}
+use Rattle.std.proofs.Math.Bool.{and-true}
+use Rattle.std.proofs.lemmas.Bool.Decides.{nat_tests}
+use Rattle.std.proofs.lemmas.List.Folds.{list_any-append}
+use Rattle.agc_word.specs.Number.{Number, pattern_of}
+use Rattle.agc_store.specs.Memory.{fixed_at}
+use Rattle.agc_word.specs.Text.{lines_of}
+use Rattle.agc_order.specs.Order.{basic_of, basic_orders, extracode_of, extracodes}
+use Rattle.agc_listing.specs.Laws.{has_line, named_word}
+use Rattle.agc_listing.specs.List.{is_extracode_at}
+use Rattle.agc_listing.specs.Order.{next_is_extracode}
+use Rattle.agc_listing.specs.declared.line.PlacedWord.{PlacedWord}
+use Rattle.agc_listing.proofs.LinesBack.{NoneFrom}
+use Rattle.agc_asm.specs.Source.{names_from, words_from}
+use Rattle.agc_asm.specs.LocationCounter.{after_words, moved_to}
+use Rattle.agc_asm.specs.Disassemble.{follows_word, is_wanted_at, line_of, line_to, lines_said, resolve}
+use Rattle.agc_asm.specs.declared.location_counter.LocationCounter.{LocationCounter}
+use Rattle.agc_asm.specs.declared.pass2.State.{State}
+use Rattle.agc_asm.specs.Name.{Naming}
+use Rattle.agc_listing.specs.declared.location.Location.TheVariants as location
+use Rattle.agc_asm.proofs.Cut.{lines_more, no_lines}
+use Rattle.agc_asm.proofs.Lines.{IsHere, IsLine, Stands, after_word, is_line, moved_banks, moved_here, names_move, names_word, skips, state_after, state_moved, words_move, words_word}
+use Rattle.agc_asm.proofs.Orders.{place_line, place_line_moves, place_line_prints, place_line_unlisted, word_line, word_line_prints, word_line_says, word_line_unlisted}
+
+-- both lines of a word are lines of the source
+place_is_line : (place : ℕ) → IsLine (place_line place)
+place_is_line place = is_line _ (place_line_prints place) (place_line_unlisted place)
+
+word_is_line : (wanted extracode : Bool) (word : Number) → IsLine (word_line wanted extracode word)
+word_is_line wanted extracode word = is_line _ (word_line_prints wanted extracode word) (word_line_unlisted wanted extracode word)
+
+-- and they are separate from what follows
+cut_word : (wanted extracode : Bool) (word : Number) (rest : List ℕ) → lines_of (line_of wanted extracode word ++ rest) ≡ word_line wanted extracode word ∷ lines_of rest
+cut_word wanted extracode word rest =
+    let line = word_line wanted extracode word in
+    ap lines_of (append_assoc line (0x0A ∷ []) rest) ∙ lines_more line rest (word_line_prints wanted extracode word)
+
+cut_place : (place : ℕ) (rest : List ℕ) → lines_of (line_to place ++ rest) ≡ place_line place ∷ lines_of rest
+cut_place place rest =
+    let line = place_line place in
+    ap lines_of (append_assoc line (0x0A ∷ []) rest) ∙ lines_more line rest (place_line_prints place)
+
+-- the lines of a word
+abbrev line_at : List Number → ℕ → List ℕ
+line_at words place = word_line (is_wanted_at words place) (is_extracode_at words place) (fixed_at place words)
+
+no_text : (words : List Number) (place : ℕ) → has_line words place ≡ false → resolve None words place ≡ []
+unfolding resolve
+no_text words place h = rw h refl
+
+some_text : (words : List Number) (place : ℕ) (follows : Bool) → has_line words place ≡ true → follows_word words place ≡ follows
+    → resolve None words place ≡ lines_said place follows (is_wanted_at words place) (is_extracode_at words place) (fixed_at place words)
+unfolding resolve
+some_text words place follows h is = rw (h, is) refl
+
+cut_follows : (words : List Number) (place : ℕ) (rest : List ℕ) → has_line words place ≡ true → follows_word words place ≡ true
+    → lines_of (resolve None words place ++ rest) ≡ line_at words place ∷ lines_of rest
+unfolding lines_said
+cut_follows words place rest has follows =
+    rw (some_text words place true has follows) (cut_word (is_wanted_at words place) (is_extracode_at words place) (fixed_at place words) rest)
+
+cut_begins : (words : List Number) (place : ℕ) (rest : List ℕ) → has_line words place ≡ true → follows_word words place ≡ false
+    → lines_of (resolve None words place ++ rest) ≡ place_line place ∷ line_at words place ∷ lines_of rest
+unfolding lines_said
+cut_begins words place rest has begins =
+    let wanted = is_wanted_at words place in
+    let extracode = is_extracode_at words place in
+    let word = fixed_at place words in
+    rw (some_text words place false has begins)
+    (ap lines_of (append_assoc (line_to place) (line_of wanted extracode word) rest)
+    ∙ cut_place place (line_of wanted extracode word ++ rest)
+    ∙ ap (λ (lines : List (List ℕ)). place_line place ∷ lines) (cut_word wanted extracode word rest))
+
+abbrev pub texts : List Number → ℕ → ℕ → List ℕ
+texts words first count = flat_map (resolve None words) (range_with_len first count)
+
+abbrev pub named : List Number → ℕ → ℕ → List PlacedWord
+named words first count = map (named_word words) (filter (has_line words) (range_with_len first count))
+
+-- the first pass finds no names
+abbrev FindsNone : List Number → ℕ → ℕ → Type 0
+FindsNone words first count = (n : ℕ) (naming : Naming) (counter : LocationCounter) → Stands words first counter → names_from n naming counter (lines_of (texts words first count)) ≡ Ok naming
+
+none_by : (words : List Number) → ((place : ℕ) → (fixed_at place words).magnitude < 2 ^ 14) → (count first n : ℕ) (naming : Naming) (counter : LocationCounter) (has follows : Bool) → first + suc count ≤ 0o110000
+    → Stands words first counter → has_line words first ≡ has → follows_word words first ≡ follows → FindsNone words (first + 1) count
+    → names_from n naming counter (lines_of (texts words first (suc count))) ≡ Ok naming
+none_by words narrow count first n naming counter false follows room stands has is rest =
+    rw (no_text words first has) (rest n naming counter (skips words first counter stands has))
+none_by words narrow count first n naming counter true true room stands has is rest =
+    let here = stands.here is in
+    let says = word_line_says (is_wanted_at words first) (is_extracode_at words first) (fixed_at first words) (narrow first) in
+    rw (cut_follows words first (texts words (first + 1) count) has is)
+    (names_word n naming counter first (line_at words first) (lines_of (texts words (first + 1) count)) (word_is_line _ _ _) says.takes_up here
+    ∙ rest (n + 1) naming (after_words counter counter.at 1) (after_word words first counter here stands.banks (omega arith)))
+none_by words narrow count first n naming counter true false room stands has is rest =
+    let moved = moved_to counter (location.Fixed first) in
+    let here = moved_here first counter stands.banks (omega arith) in
+    let says = word_line_says (is_wanted_at words first) (is_extracode_at words first) (fixed_at first words) (narrow first) in
+    rw (cut_begins words first (texts words (first + 1) count) has is)
+    (names_move n naming counter first (place_line first) (line_at words first ∷ lines_of (texts words (first + 1) count)) (place_is_line first) (place_line_moves first (omega arith))
+    ∙ names_word (n + 1) naming moved first (line_at words first) (lines_of (texts words (first + 1) count)) (word_is_line _ _ _) says.takes_up here
+    ∙ rest (n + 1 + 1) naming (after_words moved moved.at 1) (after_word words first moved here (moved_banks first counter stands.banks) (omega arith)))
+
+pub finds_none : (words : List Number) → ((place : ℕ) → (fixed_at place words).magnitude < 2 ^ 14) → (count first : ℕ) → first + count ≤ 0o110000 → FindsNone words first count
+unfolding names_from
+finds_none words narrow zero first room n naming counter stands = rw no_lines refl
+finds_none words narrow (suc count) first room n naming counter stands =
+    none_by words narrow count first n naming counter (has_line words first) (follows_word words first) room stands refl refl
+    (finds_none words narrow count (first + 1) (omega arith))
+
+is_zero : (n : ℕ) → not (n == 0) ≡ false → n ≡ 0
+is_zero n h = grind (arith, nat_tests)
+
+-- if no word precedes a place, its line is read as a basic order
+leads_to_none : (wanted : Bool) (word : Number) → not (pattern_of 15 word == 0) ≡ false → next_is_extracode wanted word ≡ false
+unfolding next_is_extracode basic_of basic_orders extracode_of extracodes
+leads_to_none true word h =
+    let none : pattern_of 15 word ≡ 0 = is_zero (pattern_of 15 word) h in
+    rw none refl
+leads_to_none false word h =
+    let none : pattern_of 15 word ≡ 0 = is_zero (pattern_of 15 word) h in
+    rw none refl
+
+after_none : (words : List Number) (place : ℕ) (same has : Bool) → not (suc place % 0o2000 == 0) ≡ same → has_line words place ≡ has → same && has ≡ false
+    → next_is_extracode (is_wanted_at words place) (fixed_at place words) && not (suc place % 0o2000 == 0) ≡ false
+after_none words place false has same is h = rw same (and_right _ false refl)
+after_none words place true false same is h = rw (leads_to_none (is_wanted_at words place) (fixed_at place words) is) refl
+after_none words place true true same is h = absurd (both_ways true h refl)
+
+wanted_none : (words : List Number) (place : ℕ) → follows_word words place ≡ false → is_wanted_at words place ≡ false
+unfolding is_wanted_at
+wanted_none words zero h = refl
+wanted_none words (suc place) h =
+    let before : suc place - 1 ≡ place = omega arith in
+    after_none words place (not (suc place % 0o2000 == 0)) (has_line words place) refl refl (rw before at h)
+
+wanted_next : (words : List Number) (place : ℕ) (leads : Bool) → leads ≡ is_wanted_at words place → follows_word words (place + 1) ≡ true
+    → next_is_extracode leads (fixed_at place words) ≡ is_wanted_at words (place + 1)
+unfolding is_wanted_at
+wanted_next words place leads is follows =
+    let same : not ((place + 1) % 0o2000 == 0) ≡ true = (and_parts _ _ follows).0 in
+    let same_next : not (suc place % 0o2000 == 0) ≡ true = rw add-one at same in
+    rw (add-one, same_next, is) (sym (and-true (next_is_extracode (is_wanted_at words place) (fixed_at place words))))
+
+-- a state is at a place, and reads the next line as it was written
+pub record StandsIn (words : List Number) (place : ℕ) (state : State) : Type 0 where
+  pub counter : Stands words place state.counter
+  pub leads : follows_word words place ≡ true → state.leads ≡ is_wanted_at words place
+
+state_skips : (words : List Number) (place : ℕ) (state : State) → StandsIn words place state → has_line words place ≡ false → StandsIn words (place + 1) state
+state_skips words place state h none = record {
+  counter = skips words place state.counter h.counter none;
+  leads = λ follows.
+      let before : place + 1 - 1 ≡ place = omega arith in
+      let has : has_line words (place + 1 - 1) ≡ true = (and_parts _ _ follows).1 in
+      absurd (both_ways (has_line words place) none (rw before at has));
+}
+
+state_next : (words : List Number) (place : ℕ) (state : State) → IsHere place state.counter → length state.counter.left ≡ 36 → state.leads ≡ is_wanted_at words place → place < 0o110000
+    → StandsIn words (place + 1) (state_after state (fixed_at place words))
+state_next words place state here banks leads inside = record {
+  counter = after_word words place state.counter here banks inside;
+  leads = λ follows. wanted_next words place state.leads leads follows;
+}
+
+-- places from one on stay free
+later : (first : ℕ) (said : List PlacedWord) → NoneFrom first said → NoneFrom (first + 1) said
+later first said h = record { none = λ place from. h.none place (omega arith) }
+
+named_more : (words : List Number) (first : ℕ) (said : List PlacedWord) → NoneFrom first said → NoneFrom (first + 1) (said ++ named_word words first ∷ [])
+named_more words first said h =
+    record {
+      none = λ place from.
+          let other : (first == place) ≡ false = ne_eqb first place (omega arith) in
+          list_any-append (λ (word : PlacedWord). word.place == place) said (named_word words first ∷ []) ∙ rw (h.none place (omega arith), other) refl;
+    }
+
+-- the second pass finds the words that have a line
+abbrev FindsWords : List Number → ℕ → ℕ → Type 0
+FindsWords words first count = (n : ℕ) (naming : Naming) (state : State) (said : List PlacedWord) → StandsIn words first state → NoneFrom first said
+    → words_from n naming state said (lines_of (texts words first count)) ≡ Ok (said ++ named words first count)
+
+words_by : (words : List Number) → ((place : ℕ) → (fixed_at place words).magnitude < 2 ^ 14) → (count first n : ℕ) (naming : Naming) (state : State) (said : List PlacedWord) (has follows : Bool)
+    → first + suc count ≤ 0o110000 → StandsIn words first state → NoneFrom first said → has_line words first ≡ has → follows_word words first ≡ follows → FindsWords words (first + 1) count
+    → words_from n naming state said (lines_of (texts words first (suc count))) ≡ Ok (said ++ named words first (suc count))
+words_by words narrow count first n naming state said false follows room stands free has is rest =
+    rw (no_text words first has, has) (rest n naming state said (state_skips words first state stands has) (later first said free))
+words_by words narrow count first n naming state said true true room stands free has is rest =
+    let here = stands.counter.here is in
+    let leads = stands.leads is in
+    let word = fixed_at first words in
+    let says = word_line_says (is_wanted_at words first) (is_extracode_at words first) word (narrow first) in
+    rw (cut_follows words first (texts words (first + 1) count) has is, has)
+    (words_word n naming state said first word (line_at words first) (lines_of (texts words (first + 1) count)) (word_is_line _ _ _) (rw leads says) here (free.none first (omega arith))
+    ∙ rest (n + 1) naming (state_after state word) (said ++ named_word words first ∷ []) (state_next words first state here stands.counter.banks leads (omega arith)) (named_more words first said free)
+    ∙ ap (λ (all : List PlacedWord). Ok all) (append_assoc said (named_word words first ∷ []) (named words (first + 1) count)))
+words_by words narrow count first n naming state said true false room stands free has is rest =
+    let moved = state_moved state first in
+    let here = moved_here first state.counter stands.counter.banks (omega arith) in
+    let banks = moved_banks first state.counter stands.counter.banks in
+    let leads : false ≡ is_wanted_at words first = sym (wanted_none words first is) in
+    let word = fixed_at first words in
+    let says = word_line_says (is_wanted_at words first) (is_extracode_at words first) word (narrow first) in
+    rw (cut_begins words first (texts words (first + 1) count) has is, has)
+    (words_move n naming state said first (place_line first) (line_at words first ∷ lines_of (texts words (first + 1) count)) (place_is_line first) (place_line_moves first (omega arith))
+    ∙ words_word (n + 1) naming moved said first word (line_at words first) (lines_of (texts words (first + 1) count)) (word_is_line _ _ _) (rw leads says) here (free.none first (omega arith))
+    ∙ rest (n + 1 + 1) naming (state_after moved word) (said ++ named_word words first ∷ []) (state_next words first moved here banks leads (omega arith)) (named_more words first said free)
+    ∙ ap (λ (all : List PlacedWord). Ok all) (append_assoc said (named_word words first ∷ []) (named words (first + 1) count)))
+
+pub finds_words : (words : List Number) → ((place : ℕ) → (fixed_at place words).magnitude < 2 ^ 14) → (count first : ℕ) → first + count ≤ 0o110000 → FindsWords words first count
+unfolding words_from
+finds_words words narrow zero first room n naming state said stands free = rw no_lines (ap (λ (all : List PlacedWord). Ok all) (sym (append-nil said)))
+finds_words words narrow (suc count) first room n naming state said stands free =
+    words_by words narrow count first n naming state said (has_line words first) (follows_word words first) room stands free refl refl
+    (finds_words words narrow count (first + 1) (omega arith))

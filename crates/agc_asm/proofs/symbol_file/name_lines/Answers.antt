@@ -1,0 +1,35 @@
+use Rattle.std.proofs.Common.{sym}
+use Rattle.agc_asm.proofs.ToldNames.{all_told, faulty_told, first_told, next_told}
+use Rattle.agc_asm.proofs.symbol_file.name_lines.Goals as goal
+
+pub loop-line-init : goal.loop-line-init
+loop-line-init c = record {
+  told = first_told c.args.text.now _ _ _ c.new-names.ensures c.new-counter.ensures.start c.new-told.ensures.items;
+  at = c.new-counter.ensures.range;
+}
+
+pub returns-in-Err-clause-written : goal.returns-in-Err-clause-written
+returns-in-Err-clause-written c =
+    let told = rw c.in-Some.ensures.lines at c.loop-line.invariant.told in
+    (faulty_told _ _ _ _ _ _ _ told (sym c.in-Err.ensures.labelled)).0
+
+pub returns-in-Err-clause-read : goal.returns-in-Err-clause-read
+returns-in-Err-clause-read c =
+    let told = rw c.in-Some.ensures.lines at c.loop-line.invariant.told in
+    (faulty_told _ _ _ _ _ _ _ told (sym c.in-Err.ensures.labelled)).1
+
+pub loop-line-preserved : goal.loop-line-preserved
+loop-line-preserved c =
+    let told = rw c.in-Some.ensures.lines at c.loop-line.invariant.told in
+    record {
+      told =
+          rw c.in_ok-note_label-in-Ok.ensures
+          (next_told _ _ _ _ _ _ _ c.in-Ok.next told (sym c.in-Ok.ensures.labelled) c.in-Ok.ensures.within c.in_ok-tell_label-in-Ok.ensures);
+      at = c.in-Ok.ensures.range;
+    }
+
+pub returns-clause-written : goal.returns-clause-written
+returns-clause-written c = (all_told _ _ _ _ (rw c.in_default.ensures.lines at c.loop-line.invariant.told)).0
+
+pub returns-clause-read : goal.returns-clause-read
+returns-clause-read c = (all_told _ _ _ _ (rw c.in_default.ensures.lines at c.loop-line.invariant.told)).1

@@ -1,0 +1,63 @@
+-- The source of a rope: an order line for each word that is not +0, and a SETLOC line if no word precedes it.
+use Rattle.std.specs.Prelude.{ℕ, zero, suc, ◌-◌, ◌%◌, ◌==◌, Bool, true, false, not, ◌&&◌}
+use Rattle.std.specs.Prelude.{List, [], ◌++◌, codes, Option, if◌then◌else◌}
+use Rattle.std.specs.List.{flat_map, range_with_len}
+use Rattle.agc_word.specs.Number.{Number, pattern_of}
+use Rattle.agc_word.specs.Octal.{word_digits}
+use Rattle.agc_store.specs.Places.{fixed_bank_size, fixed_words}
+use Rattle.agc_store.specs.Memory.{fixed_at}
+use Rattle.agc_listing.specs.Laws.{has_line}
+use Rattle.agc_listing.specs.List.{is_asked_for, is_extracode_at, listed_place}
+use Rattle.agc_listing.specs.Order.{next_is_extracode, order_text}
+use Rattle.agc_listing.specs.Place.{place_text}
+
+-- whether a word immediately precedes a place, in its bank
+abbrev pub follows_word : List Number → ℕ → Bool
+follows_word words place = not (place % fixed_bank_size == 0) && has_line words (place - 1)
+
+-- whether the line of a place is read as an extracode: it follows EXTEND, or INDEX as an extracode, in its bank
+unfoldable pub is_wanted_at : List Number → ℕ → Bool
+is_wanted_at words zero = false
+is_wanted_at words (suc place) =
+    next_is_extracode (is_wanted_at words place) (fixed_at place words)
+    && not (suc place % fixed_bank_size == 0)
+
+-- the order that `list` shows for a word if the line is read as that order; otherwise its digits
+abbrev pub word_said : Bool → Bool → Number → List ℕ
+word_said true true word = order_text true word
+word_said false false word = order_text false word
+word_said wanted extracode word = codes "OCT " ++ word_digits word
+
+-- The SETLOC line of a place. The line begins with spaces, so it has no name.
+abbrev pub line_to : ℕ → List ℕ
+line_to place = codes "        SETLOC " ++ place_text (listed_place place) ++ codes "\n"
+
+-- the line of a word
+abbrev pub line_of : Bool → Bool → Number → List ℕ
+line_of wanted extracode word = codes "        " ++ word_said wanted extracode word ++ codes "\n"
+
+-- the lines of a word at a place: a SETLOC line if it does not follow a word, and its own
+unfoldable pub lines_said : ℕ → Bool → Bool → Bool → Number → List ℕ
+lines_said place follows wanted extracode word =
+    (if follows then [] else line_to place) ++ line_of wanted extracode word
+
+-- the lines of the word at a place, if it is not +0 and its bank is selected
+abbrev pub text_said : Option ℕ → ℕ → Bool → Bool → Bool → Number → List ℕ
+text_said bank place follows wanted extracode word =
+    if not (pattern_of 15 word == 0) && is_asked_for bank place
+    then lines_said place follows wanted extracode word
+    else []
+
+-- the lines of a place in a rope
+unfoldable pub resolve : Option ℕ → List Number → ℕ → List ℕ
+resolve bank words place =
+    text_said bank place (follows_word words place) (is_wanted_at words place)
+    (is_extracode_at words place) (fixed_at place words)
+
+-- the lines of the first `count` places
+unfoldable pub resolve_range : ℕ → Option ℕ → List Number → List ℕ
+resolve_range count bank words = flat_map (resolve bank words) (range_with_len 0 count)
+
+-- the source of a rope, or of one of its banks
+unfoldable pub rope_source : Option ℕ → List Number → List ℕ
+rope_source bank words = resolve_range fixed_words bank words

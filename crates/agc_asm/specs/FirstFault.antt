@@ -1,0 +1,34 @@
+-- The fault reported for a source is the first of its pass.
+use Rattle.std.specs.Prelude.{◌≡◌, ◌⊎◌, ℕ, ◌-◌, ◌≤◌, List, [], length, take, Result, Ok, Err, IsOk}
+use Rattle.agc_listing.specs.declared.line.PlacedWord.{PlacedWord}
+use Rattle.agc_word.specs.Text.{lines_of}
+use Rattle.agc_asm.specs.Name.{Naming, own_names}
+use Rattle.agc_asm.specs.declared.fault.SourceFault.{SourceFault}
+use Rattle.agc_asm.specs.declared.fault.AssemblyFault.{AssemblyFault}
+use Rattle.agc_asm.specs.declared.fault.AssemblyFault.TheVariants as trouble
+use Rattle.agc_asm.specs.LocationCounter.{first_cursor}
+use Rattle.agc_asm.specs.Source.{first_state, names_from, names_in, words_from}
+
+-- a pass over lines: its result, or a fault
+abbrev pub Pass : Type 0 → Type 0
+Pass A = List (List ℕ) → Result A AssemblyFault
+
+-- the pass for the names, and with these the pass for the words
+abbrev pub names_pass : Pass Naming
+names_pass lines = names_from 1 own_names first_cursor lines
+
+abbrev pub words_pass : Naming → Pass (List PlacedWord)
+words_pass naming lines = words_from 1 naming first_state [] lines
+
+-- the lines before the n-th have no fault in a pass, and those up to it have this one
+pub record IsFirstOn {A : Type 0} (pass : Pass A) (lines : List (List ℕ)) (n : ℕ) (why : SourceFault) : Type 0 where
+  pub first : 1 ≤ n
+  pub last : n ≤ length lines
+  pub before : IsOk (pass (take (n - 1) lines))
+  pub here : pass (take n lines) ≡ Err (trouble.Line n why)
+
+-- a fault of a source: the first in the pass for the names, or, if that has none, the first in the pass for the words
+abbrev pub IsFirstFault : List ℕ → ℕ → SourceFault → Type 0
+IsFirstFault text n why =
+    IsFirstOn names_pass (lines_of text) n why
+    ⊎ ((naming : Naming) × (names_in text ≡ Ok naming) × IsFirstOn (words_pass naming) (lines_of text) n why)

@@ -1,0 +1,15 @@
+pub mod Row
+pub mod Name
+pub mod Mnemonic
+pub mod FaultText
+pub mod LocationCounter
+pub mod Operand
+pub mod LineKind
+pub mod Encode
+pub mod Source
+pub mod NameLines
+pub mod MnemonicCheck
+pub mod Disassemble
+pub mod Laws
+pub mod OrderLines
+pub mod FirstFault

@@ -1,0 +1,58 @@
+-- The location counter: where the next line of a source goes.
+use Rattle.std.specs.Prelude.{ℕ, ◌+◌, ◌*◌, ◌/◌, ◌%◌, ◌<◌, ◌≤◌, nat_le, get_or, set, replicate}
+use Rattle.std.specs.Prelude.{Result, Ok, Err, if◌then◌else◌}
+use Rattle.agc_store.specs.Places.{erasable_cells, fixed_bank_size, fixed_banks}
+use Rattle.agc_asm.specs.declared.location_counter.At.{At}
+use Rattle.agc_asm.specs.declared.location_counter.At.TheVariants as at
+use Rattle.agc_asm.specs.declared.location_counter.LocationCounter.{LocationCounter}
+use Rattle.agc_asm.specs.declared.fault.SourceFault.{SourceFault}
+use Rattle.agc_asm.specs.declared.fault.SourceFault.TheVariants as fault
+use Rattle.agc_listing.specs.declared.location.Location.{Location}
+use Rattle.agc_listing.specs.declared.location.Location.TheVariants as location
+
+-- one of the 36 banks, or a cell, or the end of erasable memory
+abbrev pub IsAt : At → Type 0
+IsAt (at.Bank bank) = bank < fixed_banks
+IsAt (at.Cell cell) = cell ≤ erasable_cells
+
+-- a source begins at the first place of bank 02, where runs start
+abbrev pub first_cursor : LocationCounter
+first_cursor = record { left = replicate fixed_banks 0; at = at.Bank 2 }
+
+-- the offset at which a bank was left
+abbrev pub left_in : LocationCounter → ℕ → ℕ
+left_in counter bank = get_or counter.left bank 0
+
+-- the location of the next line
+abbrev pub location_at : LocationCounter → At → Location
+location_at counter (at.Bank bank) = location.Fixed (fixed_bank_size * bank + left_in counter bank)
+location_at counter (at.Cell cell) = location.Erasable cell
+
+-- the place of the first of the next `count` words
+abbrev pub room_at : LocationCounter → At → ℕ → Result ℕ SourceFault
+room_at counter (at.Bank bank) count =
+    if nat_le (left_in counter bank + count) fixed_bank_size
+    then Ok (fixed_bank_size * bank + left_in counter bank)
+    else Err fault.Full
+room_at counter (at.Cell cell) count = Err fault.WrongMemory
+
+-- after `count` words
+abbrev pub after_words : LocationCounter → At → ℕ → LocationCounter
+after_words counter (at.Bank bank) count =
+    record counter { left = set counter.left bank (left_in counter bank + count) }
+after_words counter (at.Cell cell) count = counter
+
+-- at a location
+abbrev pub moved_to : LocationCounter → Location → LocationCounter
+moved_to counter (location.Fixed place) =
+    let bank = place / fixed_bank_size in
+    record { left = set counter.left bank (place % fixed_bank_size); at = at.Bank bank }
+moved_to counter (location.Erasable cell) = record counter { at = at.Cell cell }
+
+-- after `count` cells
+abbrev pub after_cells : LocationCounter → At → ℕ → Result LocationCounter SourceFault
+after_cells counter (at.Cell cell) count =
+    if nat_le (cell + count) erasable_cells
+    then Ok (record counter { at = at.Cell (cell + count) })
+    else Err fault.Full
+after_cells counter (at.Bank bank) count = Err fault.WrongMemory

@@ -1,0 +1,43 @@
+-- The mnemonics of orders and directives.
+use Rattle.std.specs.Prelude.{ℕ, Bool, List, [], ◌∷◌, ◌||◌, Option, find, is_some, codes}
+use Rattle.std.specs.Str.{bytes_eq}
+use Rattle.agc_order.specs.Row.{all_basics, all_extracodes, basic_row, extracode_row}
+use Rattle.agc_order.specs.declared.order.Basic.{Basic}
+use Rattle.agc_order.specs.declared.order.Extracode.{Extracode}
+use Rattle.agc_asm.specs.declared.mnemonic.Directive.{Directive}
+use Rattle.agc_asm.specs.declared.mnemonic.Directive.TheVariants as directive
+
+-- the orders by the mnemonics of listings
+unfoldable pub basic_named : List ℕ → Option Basic
+basic_named name = find (λ order. bytes_eq (basic_row order).mnemonic name) all_basics
+
+unfoldable pub extracode_named : List ℕ → Option Extracode
+extracode_named name = find (λ order. bytes_eq (extracode_row order).mnemonic name) all_extracodes
+
+-- the directives
+unfoldable pub directive_name : Directive → List ℕ
+directive_name directive.SetLoc = codes "SETLOC"
+directive_name directive.Bank = codes "BANK"
+directive_name directive.Oct = codes "OCT"
+directive_name directive.Dec = codes "DEC"
+directive_name directive.PairOct = codes "2OCT"
+directive_name directive.PairDec = codes "2DEC"
+directive_name directive.Adres = codes "ADRES"
+directive_name directive.Cadr = codes "CADR"
+directive_name directive.Bbcon = codes "BBCON"
+directive_name directive.Is = codes "="
+directive_name directive.Equals = codes "EQUALS"
+directive_name directive.Erase = codes "ERASE"
+
+unfoldable pub all_directives : List Directive
+all_directives =
+    directive.SetLoc ∷ directive.Bank ∷ directive.Oct ∷ directive.Dec ∷ directive.PairOct ∷
+    directive.PairDec ∷ directive.Adres ∷ directive.Cadr ∷ directive.Bbcon ∷ directive.Is ∷
+    directive.Equals ∷ directive.Erase ∷ []
+
+unfoldable pub directive_named : List ℕ → Option Directive
+directive_named name = find (λ d. bytes_eq (directive_name d) name) all_directives
+
+-- whether a word is the mnemonic of an order, basic or extracode
+abbrev pub is_order : List ℕ → Bool
+is_order name = is_some (basic_named name) || is_some (extracode_named name)

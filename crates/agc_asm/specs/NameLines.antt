@@ -1,0 +1,34 @@
+-- The names of a source, and the symbol file that holds them.
+use Rattle.std.specs.Prelude.{ℕ, ◌++◌, List, [], ◌∷◌, Option, Some, Ok, Err}
+use Rattle.agc_word.specs.Text.{lines_of}
+use Rattle.agc_symbols.specs.Symbols.{Symbol}
+use Rattle.agc_symbols.specs.Writing.{names_text}
+use Rattle.agc_asm.specs.LocationCounter.{first_cursor}
+use Rattle.agc_asm.specs.Source.{line_labelled, naming_after}
+use Rattle.agc_asm.specs.Name.{Naming, own_names}
+use Rattle.agc_listing.specs.Text.{label_of}
+use Rattle.agc_listing.specs.declared.location.Location.{Location}
+use Rattle.agc_asm.specs.declared.location_counter.LocationCounter.{LocationCounter}
+
+-- the name of a line, if it has a location
+abbrev pub label_named : Option (List ℕ) → Option Location → List Symbol
+label_named (Some label) (Some place) = record { place = place; name = label } ∷ []
+label_named label place = []
+
+-- the names of lines, after others, up to the first faulty line
+unfoldable pub labels_from : Naming → LocationCounter → List Symbol → List (List ℕ) → List Symbol
+labels_from naming counter named [] = named
+labels_from naming counter named (line ∷ lines) =
+    elim (line_labelled naming counter line) [
+      | Ok next ↦ labels_from (naming_after naming (label_of line) next.place) next.counter
+          (named ++ label_named (label_of line) next.place) lines
+      | Err why ↦ named
+    ]
+
+-- the names of a source, each with its place, in the order of its lines
+unfoldable pub labels_in : List ℕ → List Symbol
+labels_in text = labels_from own_names first_cursor [] (lines_of text)
+
+-- a line for each name
+unfoldable pub name_lines_in : List ℕ → List ℕ
+name_lines_in text = names_text (labels_in text)

@@ -1,0 +1,165 @@
+-- The orders that the lines of a source write, and how the assembled rope and its listing show them.
+use Rattle.std.specs.Prelude.{◌≡◌, ℕ, ◌^◌, ◌<◌, Bool, true, false, ◌||◌, List, [], ◌∷◌, ◌++◌, codes}
+use Rattle.std.specs.Prelude.{Option, Some, None, option_map, Result, Ok, Err, if◌then◌else◌}
+use Rattle.std.specs.List.{flat_map}
+use Rattle.agc_word.specs.Number.{Number, pattern_of}
+use Rattle.agc_word.specs.Octal.{word_digits}
+use Rattle.agc_order.specs.Order.{basic_of, extracode_of}
+use Rattle.agc_order.specs.Row.{Row, basic_row, extracode_row}
+use Rattle.agc_store.specs.Places.{fixed_fixed}
+use Rattle.agc_store.specs.Memory.{fixed_at}
+use Rattle.agc_word.specs.Text.{lines_of}
+use Rattle.agc_listing.specs.Laws.{has_line}
+use Rattle.agc_listing.specs.List.{is_extracode_at, listed_line, listed_place}
+use Rattle.agc_listing.specs.Order.{operand_in, operand_text}
+use Rattle.agc_listing.specs.Place.{place_text}
+use Rattle.agc_listing.specs.declared.order.Operand.{Operand}
+use Rattle.agc_asm.specs.Mnemonic.{basic_named, directive_named, extracode_named}
+use Rattle.agc_asm.specs.Name.{Naming}
+use Rattle.agc_listing.specs.Text.{are_listed, body_of, said_by}
+use Rattle.agc_asm.specs.declared.fault.SourceFault.{SourceFault}
+use Rattle.agc_asm.specs.declared.fault.SourceFault.TheVariants as fault
+use Rattle.agc_asm.specs.declared.fault.AssemblyFault.{AssemblyFault}
+use Rattle.agc_listing.specs.declared.location.Location.{Location}
+use Rattle.agc_listing.specs.declared.location.Location.TheVariants as location
+use Rattle.agc_asm.specs.declared.mnemonic.Directive.{Directive}
+use Rattle.agc_asm.specs.LocationCounter.{location_at, room_at}
+use Rattle.agc_asm.specs.Operand.{operand_for}
+use Rattle.agc_asm.specs.LineKind.{shape_of}
+use Rattle.agc_asm.specs.Source.{first_state, line_woven, names_in, stays_put}
+use Rattle.agc_asm.specs.declared.location_counter.LocationCounter.{LocationCounter}
+use Rattle.agc_asm.specs.declared.line_kind.LineKind.{LineKind}
+use Rattle.agc_asm.specs.declared.pass2.State.{State}
+
+-- An order that a line writes: its place, its mnemonic as written, the value of its operand, and whether an extracode
+-- is expected there. From `since` on, the lines before it are consecutive: that is where the last line that moved to
+-- another place went, or where the text began.
+pub record OrderLine : Type 0 where
+  pub place : ℕ
+  pub since : ℕ
+  pub extracode : Bool
+  pub mnemonic : List ℕ
+  pub operand : Operand
+
+-- the row of a mnemonic, as an extracode or as a basic order
+abbrev pub row_named : Bool → List ℕ → Option Row
+row_named true name = option_map extracode_row (extracode_named name)
+row_named false name = option_map basic_row (basic_named name)
+
+abbrev pub operand_read : Option Row → Naming → ℕ → List (List ℕ) → Result Operand SourceFault
+operand_read (Some row) naming place words = operand_for row.takes naming place words
+operand_read None naming place words = Err fault.UnknownOrder
+
+abbrev pub order_with : ℕ → ℕ → Bool → List ℕ → Result Operand SourceFault → List OrderLine
+order_with since place extracode name (Err why) = []
+order_with since place extracode name (Ok given) =
+    record { place = place; since = since; extracode = extracode; mnemonic = name; operand = given } ∷ []
+
+-- the order that words write at a place; directives write none
+abbrev pub order_by : Naming → ℕ → Bool → ℕ → Option Directive → List ℕ → List (List ℕ) → List OrderLine
+order_by naming since extracode place (Some d) word words = []
+order_by naming since extracode place None word words =
+    order_with since place extracode word (operand_read (row_named extracode word) naming place words)
+
+abbrev pub order_at : Naming → ℕ → Bool → ℕ → List (List ℕ) → List OrderLine
+order_at naming since extracode place [] = []
+order_at naming since extracode place (word ∷ words) =
+    order_by naming since extracode place (directive_named word) word words
+
+abbrev pub order_placed : Naming → ℕ → Bool → Result ℕ SourceFault → List (List ℕ) → List OrderLine
+order_placed naming since extracode (Err why) words = []
+order_placed naming since extracode (Ok place) words = order_at naming since extracode place words
+
+-- the order that a line writes, if it writes one
+unfoldable pub order_of : Naming → ℕ → State → List ℕ → List OrderLine
+order_of naming since state line =
+    if are_listed (said_by line)
+    then []
+    else order_placed naming since state.leads (room_at state.counter state.counter.at 1) (body_of line)
+
+-- where the next line goes; no word goes into erasable memory
+abbrev pub place_of : Location → ℕ
+place_of (location.Fixed place) = place
+place_of (location.Erasable cell) = 0
+
+abbrev pub shape_stays : Result LineKind SourceFault → Bool
+shape_stays (Ok s) = stays_put s
+shape_stays (Err why) = true
+
+-- whether a line does not move to another place
+abbrev pub stays : List ℕ → Bool
+stays line = are_listed (said_by line) || shape_stays (shape_of (body_of line))
+
+abbrev pub since_after : ℕ → List ℕ → LocationCounter → ℕ
+since_after since line counter = if stays line then since else place_of (location_at counter counter.at)
+
+-- the orders that lines write
+unfoldable pub orders_from : Naming → ℕ → State → List (List ℕ) → List OrderLine
+orders_from naming since state [] = []
+orders_from naming since state (line ∷ lines) =
+    elim (line_woven naming state line) [
+      | Ok step ↦ order_of naming since state line
+          ++ orders_from naming (since_after since line step.state.counter) step.state lines
+      | Err why ↦ []
+    ]
+
+abbrev pub orders_by : Result Naming AssemblyFault → List (List ℕ) → List OrderLine
+orders_by (Ok naming) lines = orders_from naming fixed_fixed first_state lines
+orders_by (Err why) lines = []
+
+-- the orders that a source writes, in the order of its lines
+unfoldable pub orders_in : List ℕ → List OrderLine
+orders_in text = orders_by (names_in text) (lines_of text)
+
+-- The mnemonic of a line that writes an order: it is not a listing line, and its first word after the name, if it has
+-- one, is not a directive.
+abbrev pub mnemonic_by : Option Directive → List ℕ → List (List ℕ)
+mnemonic_by (Some d) word = []
+mnemonic_by None word = word ∷ []
+
+abbrev pub mnemonic_in : List (List ℕ) → List (List ℕ)
+mnemonic_in [] = []
+mnemonic_in (word ∷ words) = mnemonic_by (directive_named word) word
+
+unfoldable pub mnemonic_of : List ℕ → List (List ℕ)
+mnemonic_of line = if are_listed (said_by line) then [] else mnemonic_in (body_of line)
+
+-- the mnemonics of a source, in the order of its lines
+unfoldable pub mnemonics_in : List ℕ → List (List ℕ)
+mnemonics_in text = flat_map mnemonic_of (lines_of text)
+
+-- the row of the order that a word names
+abbrev pub row_of : Bool → ℕ → Row
+row_of true bits = extracode_row (extracode_of bits)
+row_of false bits = basic_row (basic_of bits)
+
+-- a word names the order of a line, with its operand
+pub record Names (line : OrderLine) (bits : ℕ) : Type 0 where
+  pub mnemonic : (row_of line.extracode bits).mnemonic ≡ line.mnemonic
+  pub operand : operand_in (row_of line.extracode bits).takes bits ≡ line.operand
+
+-- at the place of a line the rope has the word that names its order with its operand, which is the only such word
+pub record HasOrder (words : List Number) (line : OrderLine) : Type 0 where
+  pub named : Names line (pattern_of 15 (fixed_at line.place words))
+  pub only : (bits : ℕ) → bits < 2 ^ 15 → Names line bits → bits ≡ pattern_of 15 (fixed_at line.place words)
+
+-- the listing line of a place and a word, with the order and the operand of a source's line
+abbrev pub line_with : OrderLine → Number → List ℕ
+line_with line word =
+    place_text (listed_place line.place)
+    ++ codes " " ++ word_digits word
+    ++ codes " " ++ (line.mnemonic ++ operand_text line.operand)
+    ++ codes "\n"
+
+-- whether a listing reads a word as its line was written, as an extracode or not
+abbrev pub IsReadSo : List Number → OrderLine → Type 0
+IsReadSo words line = is_extracode_at words line.place ≡ line.extracode
+
+-- a listing of a rope shows the order of a line, if it reads it that way and the word is not +0
+abbrev pub IsListed : List Number → OrderLine → Type 0
+IsListed words line = IsReadSo words line → has_line words line.place ≡ true
+    → listed_line None words line.place ≡ line_with line (fixed_at line.place words)
+
+-- it reads it that way if it reads no extracode at the place from which on the lines are consecutive
+abbrev pub IsReadAlong : List Number → OrderLine → Type 0
+IsReadAlong words line = is_extracode_at words line.since ≡ false → IsReadSo words line

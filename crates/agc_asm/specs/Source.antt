@@ -1,0 +1,240 @@
+-- How a source is assembled: first its names, then its words.
+use Rattle.std.specs.Prelude.{◌≡◌, ◌<◌, ℕ, ◌+◌, Bool, true, false, not, ◌&&◌, ◌∷◌, List, []}
+use Rattle.std.specs.Prelude.{Option, Some, None, Result, Ok, Err, is_some, if◌then◌else◌, IfSome}
+use Rattle.std.specs.List.{list_all, list_any}
+use Rattle.agc_word.specs.Number.{Number}
+use Rattle.agc_store.specs.Places.{fixed_words}
+use Rattle.agc_store.specs.declared.rope_file.RopeForm.{RopeForm}
+use Rattle.agc_word.specs.Text.{lines_of}
+use Rattle.agc_listing.specs.Line.{is_no_text, line_named}
+use Rattle.agc_listing.specs.Order.{next_is_extracode}
+use Rattle.agc_listing.specs.Weave.{said_in, said_with, unless_named, woven_file}
+use Rattle.agc_listing.specs.declared.fault.LineFault.{LineFault}
+use Rattle.agc_listing.specs.declared.fault.LineFault.TheVariants as line_fault
+use Rattle.agc_listing.specs.declared.fault.WeaveFault.{WeaveFault}
+use Rattle.agc_listing.specs.declared.fault.WeaveFault.TheVariants as weave
+use Rattle.agc_listing.specs.declared.line.PlacedWord.{PlacedWord}
+use Rattle.agc_asm.specs.LocationCounter.{after_words, first_cursor, location_at, room_at}
+use Rattle.agc_asm.specs.Encode.{pair_meaning, word_meaning}
+use Rattle.agc_asm.specs.Name.{Naming, own_names, with_name}
+use Rattle.agc_asm.specs.LineKind.{cursor_after, shape_of}
+use Rattle.agc_listing.specs.Text.{are_listed, body_of, is_name, label_of, said_by}
+use Rattle.agc_asm.specs.declared.location_counter.LocationCounter.{LocationCounter}
+use Rattle.agc_asm.specs.declared.fault.SourceFault.{SourceFault}
+use Rattle.agc_asm.specs.declared.fault.SourceFault.TheVariants as fault
+use Rattle.agc_asm.specs.declared.fault.AssemblyFault.{AssemblyFault}
+use Rattle.agc_asm.specs.declared.fault.AssemblyFault.TheVariants as trouble
+use Rattle.agc_asm.specs.declared.pass1.Labelled.{Labelled}
+use Rattle.agc_listing.specs.declared.location.Location.{Location}
+use Rattle.agc_asm.specs.declared.encode.Pair.{Pair}
+use Rattle.agc_asm.specs.declared.line_kind.LineKind.{LineKind}
+use Rattle.agc_asm.specs.declared.line_kind.LineKind.TheVariants as kind
+use Rattle.agc_asm.specs.declared.pass2.State.{State}
+use Rattle.agc_asm.specs.declared.pass2.Step.{Step}
+
+-- The first pass: the location of each name.
+
+-- the location of a line's name: its first word or cell, or the location that the line states
+abbrev pub label_place : LocationCounter → LineKind → Result (Option Location) SourceFault
+label_place counter kind.Word = Ok (Some (location_at counter counter.at))
+label_place counter kind.Pair = Ok (Some (location_at counter counter.at))
+label_place counter (kind.Cells count) = Ok (Some (location_at counter counter.at))
+label_place counter (kind.StandsFor place) = Ok (Some place)
+label_place counter (kind.Moves place) = Err fault.MisplacedName
+label_place counter (kind.Bank bank) = Err fault.MisplacedName
+
+-- a line without a name
+abbrev pub no_label : LineKind → Result (Option Location) SourceFault
+no_label (kind.StandsFor place) = Err fault.MisplacedName
+no_label s = Ok None
+
+abbrev pub place_labelled : Naming → LocationCounter → LineKind → Option (List ℕ) → Result (Option Location) SourceFault
+place_labelled naming counter s None = no_label s
+place_labelled naming counter s (Some label) =
+    if not (is_name label)
+    then Err fault.BadName
+    else (if is_some (naming label) then Err fault.NameTwice else label_place counter s)
+
+abbrev pub labelled : Result LocationCounter SourceFault → Result (Option Location) SourceFault → Result Labelled SourceFault
+labelled (Err why) place = Err why
+labelled (Ok next) (Err why) = Err why
+labelled (Ok next) (Ok place) = Ok (record { counter = next; place = place })
+
+abbrev pub shape_labelled : Naming → LocationCounter → Option (List ℕ) → Result LineKind SourceFault → Result Labelled SourceFault
+shape_labelled naming counter label (Err why) = Err why
+shape_labelled naming counter label (Ok s) =
+    labelled (cursor_after counter s) (place_labelled naming counter s label)
+
+-- a listing line has no name
+abbrev pub listed_labelled : LocationCounter → Result (Option PlacedWord) LineFault → Result Labelled SourceFault
+listed_labelled counter (Ok said) = Ok (record { counter = counter; place = None })
+listed_labelled counter (Err why) = Err (fault.Listed why)
+
+-- the location of a line's name, if it has one, and where the next line goes
+unfoldable pub line_labelled : Naming → LocationCounter → List ℕ → Result Labelled SourceFault
+line_labelled naming counter line =
+    if are_listed (said_by line)
+    then listed_labelled counter (line_named line)
+    else (if list_any is_no_text line
+    then Err (fault.Listed line_fault.NotText)
+    else shape_labelled naming counter (label_of line) (shape_of (body_of line)))
+
+abbrev pub naming_after : Naming → Option (List ℕ) → Option Location → Naming
+naming_after naming (Some label) (Some place) = with_name naming label place
+naming_after naming _ _ = naming
+
+-- the names of lines, or the first fault of these lines; n is the number of the first line
+unfoldable pub names_from : ℕ → Naming → LocationCounter → List (List ℕ) → Result Naming AssemblyFault
+names_from n naming counter [] = Ok naming
+names_from n naming counter (line ∷ lines) =
+    elim (line_labelled naming counter line) [
+      | Ok next ↦ names_from (n + 1) (naming_after naming (label_of line) next.place) next.counter lines
+      | Err why ↦ Err (trouble.Line n why)
+    ]
+
+unfoldable pub names_in : List ℕ → Result Naming AssemblyFault
+names_in text = names_from 1 own_names first_cursor (lines_of text)
+
+-- The second pass: the words.
+
+abbrev pub first_state : State
+first_state = record { counter = first_cursor; leads = false }
+
+abbrev pub word_at : ℕ → Number → Option PlacedWord
+word_at place word = Some (record { place = place; word = word })
+
+-- a line of one word
+abbrev pub one_word : State → ℕ → Result Number SourceFault → Result Step SourceFault
+one_word state place (Err why) = Err why
+one_word state place (Ok word) =
+    Ok (record {
+      state = record {
+        counter = after_words state.counter state.counter.at 1;
+        leads = next_is_extracode state.leads word;
+      };
+      first = word_at place word;
+      second = None;
+    })
+
+-- a line of two words
+abbrev pub two_words : State → ℕ → Result Pair SourceFault → Result Step SourceFault
+two_words state place (Err why) = Err why
+two_words state place (Ok pair) =
+    Ok (record {
+      state = record {
+        counter = after_words state.counter state.counter.at 2;
+        leads = next_is_extracode (next_is_extracode state.leads pair.upper) pair.lower;
+      };
+      first = word_at place pair.upper;
+      second = word_at (place + 1) pair.lower;
+    })
+
+-- an extracode is no longer expected after a line that moves to another place
+abbrev pub stays_put : LineKind → Bool
+stays_put (kind.Moves place) = false
+stays_put (kind.Bank bank) = false
+stays_put s = true
+
+-- a line without words
+abbrev pub no_word : State → LineKind → Result LocationCounter SourceFault → Result Step SourceFault
+no_word state s (Err why) = Err why
+no_word state s (Ok next) =
+    Ok (record {
+      state = record { counter = next; leads = state.leads && stays_put s };
+      first = None;
+      second = None;
+    })
+
+abbrev pub word_placed : Naming → State → List (List ℕ) → Result ℕ SourceFault → Result Step SourceFault
+word_placed naming state body (Err why) = Err why
+word_placed naming state body (Ok place) =
+    one_word state place (word_meaning naming place state.leads body)
+
+abbrev pub pair_placed : State → List (List ℕ) → Result ℕ SourceFault → Result Step SourceFault
+pair_placed state body (Err why) = Err why
+pair_placed state body (Ok place) = two_words state place (pair_meaning body)
+
+abbrev pub shape_woven : Naming → State → List (List ℕ) → Result LineKind SourceFault → Result Step SourceFault
+shape_woven naming state body (Err why) = Err why
+shape_woven naming state body (Ok kind.Word) =
+    word_placed naming state body (room_at state.counter state.counter.at 1)
+shape_woven naming state body (Ok kind.Pair) =
+    pair_placed state body (room_at state.counter state.counter.at 2)
+shape_woven naming state body (Ok s) = no_word state s (cursor_after state.counter s)
+
+-- a listing line changes nothing but its place
+abbrev pub listed_woven : State → Result (Option PlacedWord) LineFault → Result Step SourceFault
+listed_woven state (Ok said) = Ok (record { state = state; first = said; second = None })
+listed_woven state (Err why) = Err (fault.Listed why)
+
+-- the words of a line, with their places, and where the next line goes
+unfoldable pub line_woven : Naming → State → List ℕ → Result Step SourceFault
+line_woven naming state line =
+    if are_listed (said_by line)
+    then listed_woven state (line_named line)
+    else shape_woven naming state (body_of line) (shape_of (body_of line))
+
+-- no place is named twice
+abbrev pub more_said : List PlacedWord → Result (Option PlacedWord) LineFault → Result (List PlacedWord) SourceFault
+more_said said (Ok word) = Ok (said_with said word)
+more_said said (Err why) = Err (fault.Listed why)
+
+abbrev pub said_more : List PlacedWord → Option PlacedWord → Result (List PlacedWord) SourceFault
+said_more said word = more_said said (unless_named said (Ok word))
+
+abbrev pub also_said : Result (List PlacedWord) SourceFault → Option PlacedWord → Result (List PlacedWord) SourceFault
+also_said (Ok said) word = said_more said word
+also_said (Err why) word = Err why
+
+abbrev pub both_said : List PlacedWord → Option PlacedWord → Option PlacedWord → Result (List PlacedWord) SourceFault
+both_said said first second = also_said (said_more said first) second
+
+-- the result of a line, with its number if it is faulty
+abbrev pub told_at : ℕ → Result (List PlacedWord) SourceFault → Result (List PlacedWord) AssemblyFault
+told_at n (Ok said) = Ok said
+told_at n (Err why) = Err (trouble.Line n why)
+
+-- the words of lines after other words, or the first fault of these lines
+unfoldable pub words_from : ℕ → Naming → State → List PlacedWord → List (List ℕ) → Result (List PlacedWord) AssemblyFault
+words_from n naming state said [] = Ok said
+words_from n naming state said (line ∷ lines) =
+    elim (line_woven naming state line) [
+      | Ok step ↦ elim (both_said said step.first step.second) [
+        | Ok more ↦ words_from (n + 1) naming step.state more lines
+        | Err why ↦ Err (trouble.Line n why)
+      ]
+      | Err why ↦ Err (trouble.Line n why)
+    ]
+
+unfoldable pub words_in : Naming → List ℕ → Result (List PlacedWord) AssemblyFault
+words_in naming text = words_from 1 naming first_state [] (lines_of text)
+
+-- The faults of the first pass come before those of the second.
+abbrev pub words_after_names : List ℕ → Result Naming AssemblyFault → Result (List PlacedWord) AssemblyFault
+words_after_names text (Ok naming) = words_in naming text
+words_after_names text (Err why) = Err why
+
+-- a text with only places and words is a listing
+unfoldable pub is_listing : List ℕ → Bool
+is_listing text = list_all (λ line. are_listed (said_by line)) (lines_of text)
+
+abbrev pub as_source : Result (List PlacedWord) WeaveFault → Result (List PlacedWord) AssemblyFault
+as_source (Ok said) = Ok said
+as_source (Err (weave.Line n why)) = Err (trouble.Line n (fault.Listed why))
+as_source (Err weave.Memory) = Err trouble.Memory
+
+-- the words of a text, each with its place, or its first fault
+unfoldable pub source_in : List ℕ → Result (List PlacedWord) AssemblyFault
+source_in text =
+    if is_listing text then as_source (said_in text) else words_after_names text (names_in text)
+
+-- the file that a source assembles to
+abbrev pub IsSourceWoven : RopeForm → List ℕ → List ℕ → Type 0
+IsSourceWoven form text file =
+    (said : List PlacedWord) × (source_in text ≡ Ok said) × (file ≡ woven_file form said)
+
+-- the places of a step are in the rope
+abbrev pub IsPlaced : Step → Type 0
+IsPlaced step =
+    IfSome step.first (λ word. word.place < fixed_words)
+    × IfSome step.second (λ word. word.place < fixed_words)

@@ -1,0 +1,53 @@
+//! Assembles a source into a rope file.
+ghost use Rattle.std.specs.Prelude.{◌≡◌, ◌≢◌, true, Ok, Err, IfOk, IfErr};
+ghost use Rattle.agc_listing.specs.Weave.{IsWovenOf};
+ghost use Rattle.agc_asm.specs.Source.{IsSourceWoven, is_listing, source_in};
+ghost use Rattle.agc_asm.specs.declared.fault.AssemblyFault.TheVariants.{Memory};
+
+use crate::fault::{AssemblyFault, SourceFault};
+use crate::pass1::read_names;
+use crate::pass2::read_words;
+use agc_listing::{WeaveFault, file_of, is_listed, weave};
+use agc_store::RopeForm;
+use agc_word::next_line;
+use std::alloc::Global;
+
+/// Assembles a source into a rope file of the given form, as long as its words need, and at least one word long. A text
+/// whose lines all begin with places is built as `weave` of agc_listing does. Any other text is read in two passes,
+/// first for its names and then for its words: the fault is that of the first faulty line in the first pass that has
+/// one, or `Memory`.
+#[tactic(auto, unfolding(crate::specs::Source::source_in))]
+pub fn assemble(alloc: Global, form: RopeForm, text: &[u8]) -> Result<Vec<u8>, AssemblyFault>
+    ensures file { IfOk result (λ bytes. IsSourceWoven form text.now bytes.items) }
+    ensures fault { IfErr result (λ why. why ≢ Memory → source_in text.now ≡ Err why) }
+    ensures listing { is_listing text.now ≡ true
+        → IfOk result (λ bytes. IsWovenOf form text.now bytes.items) }
+{
+    if is_listing(text) {
+        return match weave(alloc, form, text) {
+            Ok(bytes) => Ok(bytes),
+            Err(WeaveFault::Line(line, fault)) => {
+                Err(AssemblyFault::Line(line, SourceFault::Listed(fault)))
+            }
+            Err(WeaveFault::Memory) => Err(AssemblyFault::Memory),
+        };
+    }
+    let names = read_names(alloc, text)?;
+    let builder = read_words(alloc, &names, text)?;
+    Ok(file_of(alloc, form, builder.words())?)
+}
+
+/// Returns whether a text has only places and words.
+#[tactic(auto, unfolding(crate::specs::Source::is_listing))]
+fn is_listing(text: &[u8]) -> bool
+    ensures { result ≡ is_listing text.now }
+{
+    let mut rest = text;
+    while let Some((line, after)) = next_line(rest) {
+        if !is_listed(line) {
+            return false;
+        }
+        rest = after;
+    }
+    true
+}

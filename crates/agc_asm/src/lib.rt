@@ -1,0 +1,30 @@
+//! The assembler: turns source text with names and orders into a rope file, and a rope back into source.
+#![tactic(auto)]
+
+mod assemble_source;
+mod disassemble;
+mod encode;
+mod fault;
+mod laws;
+mod line_kind;
+mod location_counter;
+mod mnemonic;
+mod mnemonic_check;
+mod names;
+mod operand;
+mod pass1;
+mod pass2;
+mod register;
+mod row;
+mod symbol_file;
+
+pub use agc_listing::Location;
+pub use assemble_source::assemble;
+pub use disassemble::rope_source;
+pub use fault::{AssemblyFault, SourceFault};
+pub use laws::{a_listing_shows_the_orders_of_a_source, the_fault_told_is_the_first};
+pub use mnemonic::{Directive, basic_named, extracode_named, is_order};
+pub use mnemonic_check::{Misnamed, Written, first_misnamed};
+pub use names::Names;
+pub use row::{basic_word, extracode_word};
+pub use symbol_file::name_lines;

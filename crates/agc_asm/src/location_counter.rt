@@ -1,0 +1,146 @@
+//! The location counter: where the next line of a source goes.
+ghost use Rattle.std.specs.Prelude.{◌≡◌, ◌+◌, ◌*◌, ◌<◌, ◌≤◌, get_or, IfOk, IsOk};
+ghost use Rattle.agc_store.specs.Places.{fixed_bank_size, fixed_banks, fixed_words};
+ghost use Rattle.agc_asm.specs.LocationCounter.{
+  IsAt,
+  after_cells,
+  after_words,
+  first_cursor,
+  location_at,
+  moved_to,
+  room_at,
+};
+ghost use Rattle.agc_listing.specs.Location.{IsWithin};
+ghost use Rattle.agc_asm.specs.declared.location_counter.At.TheVariants as at;
+
+use crate::fault::SourceFault;
+use agc_listing::Location;
+use agc_store::place::{ERASABLE_CELLS, FIXED_BANK_SIZE, bank_of, offset_of, place_of};
+
+/// Which memory the lines go into.
+#[derive(Clone, Copy, Debug, PartialEq, Eq)]
+pub(crate) enum At {
+    /// A fixed bank, from where it was left.
+    Bank(u8),
+    /// Erasable memory, from a cell on.
+    Cell(u32),
+}
+
+/// Where the next line goes, and the offset at which each bank was left.
+#[derive(Clone, Copy, Debug, PartialEq, Eq)]
+pub(crate) struct LocationCounter {
+    pub left: [u16; 36],
+    pub at: At,
+}
+
+impl LocationCounter {
+    /// Starts at the first place of bank 02.
+    pub fn new() -> LocationCounter
+        ensures start { result ≡ first_cursor }
+        ensures range { IsAt result.at }
+    {
+        LocationCounter {
+            left: [0; 36],
+            at: At::Bank(2),
+        }
+    }
+
+    /// Returns the location of the next line.
+    pub fn location(&self) -> Location
+        requires { IsAt self.now.at }
+        ensures { result ≡ location_at self.now self.now.at }
+    {
+        match self.at {
+            At::Bank(bank) => Location::Fixed(self.place_in(bank)),
+            At::Cell(cell) => Location::Erasable(cell),
+        }
+    }
+
+    /// Returns the place at which a bank was left.
+    fn place_in(&self, bank: u8) -> u32
+        requires { bank < fixed_banks }
+        ensures { result ≡ fixed_bank_size * bank + get_or self.now.left bank 0 }
+    {
+        place_of(bank, self.left[usize::from(bank)])
+    }
+
+    /// Returns the place of the first of the next `count` words.
+    pub fn room(&self, count: u16) -> Result<u32, SourceFault>
+        requires at { IsAt self.now.at }
+        requires bound { count ≤ 2 }
+        ensures place { result ≡ room_at self.now self.now.at count }
+        ensures range { IfOk result (λ place. place + count ≤ fixed_words) }
+    {
+        let At::Bank(bank) = self.at else {
+            return Err(SourceFault::WrongMemory);
+        };
+        let end = u32::from(self.left[usize::from(bank)]) + u32::from(count);
+        if end <= u32::from(FIXED_BANK_SIZE) {
+            Ok(self.place_in(bank))
+        } else {
+            Err(SourceFault::Full)
+        }
+    }
+
+    /// Moves past `count` words, for which there must be room.
+    pub fn after_words(self, count: u16) -> LocationCounter
+        requires at { IsAt self.at }
+        requires room { IsOk (room_at self self.at count) }
+        ensures after { result ≡ after_words self self.at count }
+        ensures range { IsAt result.at }
+    {
+        let mut next = self;
+        if let At::Bank(bank) = self.at {
+            next.left[usize::from(bank)] += count;
+        }
+        next
+    }
+
+    /// Moves to a location.
+    pub fn moved_to(self, location: Location) -> LocationCounter
+        requires { IsWithin location }
+        ensures moved { result ≡ moved_to self location }
+        ensures range { IsAt result.at }
+    {
+        let mut next = self;
+        match location {
+            Location::Fixed(place) => {
+                let bank = bank_of(place);
+                next.left[usize::from(bank)] = offset_of(place);
+                next.at = At::Bank(bank);
+            }
+            Location::Erasable(cell) => next.at = At::Cell(cell),
+        }
+        next
+    }
+
+    /// Moves to a bank, where it was left.
+    pub fn in_bank(self, bank: u8) -> LocationCounter
+        requires { bank < fixed_banks }
+        ensures bank { result ≡ record self { at = at.Bank bank } }
+        ensures range { IsAt result.at }
+    {
+        let mut next = self;
+        next.at = At::Bank(bank);
+        next
+    }
+
+    /// Moves past `count` cells.
+    pub fn after_cells(self, count: u32) -> Result<LocationCounter, SourceFault>
+        requires at { IsAt self.at }
+        requires bound { count ≤ 100000 }
+        ensures after { result ≡ after_cells self self.at count }
+        ensures range { IfOk result (λ counter. IsAt counter.at) }
+    {
+        let At::Cell(cell) = self.at else {
+            return Err(SourceFault::WrongMemory);
+        };
+        if cell + count <= u32::from(ERASABLE_CELLS) {
+            let mut next = self;
+            next.at = At::Cell(cell + count);
+            Ok(next)
+        } else {
+            Err(SourceFault::Full)
+        }
+    }
+}

@@ -1,0 +1,222 @@
+//! The second pass over a source: assembles the words of its lines.
+ghost use Rattle.std.specs.Prelude.{◌≡◌, ◌≢◌, ◌<◌, Ok, Err, IfOk, IfErr, IfSome, OnOk};
+ghost use Rattle.agc_store.specs.Places.{fixed_words};
+ghost use Rattle.agc_asm.specs.LocationCounter.{IsAt};
+ghost use Rattle.agc_asm.specs.Name.{naming_of};
+ghost use Rattle.agc_asm.specs.LineKind.{IsShape, shape_of};
+ghost use Rattle.agc_asm.specs.Source.{
+  IsPlaced,
+  both_said,
+  first_state,
+  line_woven,
+  listed_woven,
+  no_word,
+  pair_placed,
+  said_more,
+  stays_put,
+  told_at,
+  word_placed,
+  words_in,
+};
+ghost use Rattle.agc_asm.specs.LineKind.{cursor_after};
+ghost use Rattle.agc_asm.specs.LocationCounter.{room_at};
+ghost use Rattle.agc_listing.specs.Text.{body_of, said_by};
+ghost use Rattle.agc_listing.specs.Line.{line_named};
+ghost use Rattle.agc_asm.specs.declared.fault.AssemblyFault.TheVariants.{Memory};
+
+use crate::encode::{pair_meaning, word_meaning};
+use crate::fault::{AssemblyFault, SourceFault};
+use crate::line_kind::{LineKind, cursor_after, shape_of};
+use crate::location_counter::LocationCounter;
+use crate::names::Names;
+use agc_listing::{PlacedWord, RopeBuilder, cut_label, is_listed, next_is_extracode, read_line};
+use agc_word::next_line;
+use std::alloc::Global;
+
+/// The state after the lines so far: where the next one goes, and whether an extracode is expected there.
+#[derive(Clone, Copy, Debug, PartialEq, Eq)]
+pub(crate) struct State {
+    pub counter: LocationCounter,
+    pub leads: bool,
+}
+
+/// The result of a line: the state after it, and its words.
+#[derive(Clone, Copy, Debug, PartialEq, Eq)]
+pub(crate) struct Step {
+    pub state: State,
+    pub first: Option<PlacedWord>,
+    pub second: Option<PlacedWord>,
+}
+
+/// Returns the words of a source with these names, or its first fault in the second pass.
+pub(crate) fn read_words(
+    alloc: Global,
+    names: &Names,
+    text: &[u8],
+) -> Result<RopeBuilder, AssemblyFault>
+    ensures words { IfOk result (λ builder. words_in (naming_of names.now) text.now ≡ Ok builder) }
+    ensures fault { IfErr result (λ why. why ≢ Memory
+        → words_in (naming_of names.now) text.now ≡ Err why) }
+{
+    let mut builder = RopeBuilder::new(alloc)?;
+    let mut state = State {
+        counter: LocationCounter::new(),
+        leads: false,
+    };
+    let mut lines = 0;
+    let mut rest = text;
+    while let Some((line, after)) = next_line(rest) {
+        lines += 1;
+        match line_woven(names, state, line) {
+            Ok(step) => {
+                state = step.state;
+                add_words(&mut builder, lines, step)?;
+            }
+            Err(fault) => return Err(AssemblyFault::Line(lines, fault)),
+        }
+        rest = after;
+    }
+    Ok(builder)
+}
+
+/// Adds the words of a line; a fault carries the line's number.
+fn add_words(builder: &mut RopeBuilder, number: usize, step: Step) -> Result<(), AssemblyFault>
+    requires { IsPlaced step }
+    ensures said { OnOk result (both_said builder.old step.first step.second ≡ Ok builder.new) }
+    ensures fault { IfErr result (λ why. why ≢ Memory
+        → told_at number (both_said builder.old step.first step.second) ≡ Err why) }
+{
+    add_word(builder, number, step.first)?;
+    add_word(builder, number, step.second)
+}
+
+fn add_word(
+    builder: &mut RopeBuilder,
+    number: usize,
+    word: Option<PlacedWord>,
+) -> Result<(), AssemblyFault>
+    requires { IfSome word (λ word. word.place < fixed_words) }
+    ensures said { OnOk result (said_more builder.old word ≡ Ok builder.new) }
+    ensures fault { IfErr result (λ why. why ≢ Memory
+        → told_at number (said_more builder.old word) ≡ Err why) }
+{
+    match builder.unless_named(word) {
+        Ok(word) => {
+            builder.add(word)?;
+            Ok(())
+        }
+        Err(fault) => Err(AssemblyFault::Line(number, SourceFault::Listed(fault))),
+    }
+}
+
+/// Assembles a line: its words with their places, and where the next line goes.
+#[tactic(auto, unfolding(crate::specs::Source::line_woven))]
+fn line_woven(names: &Names, state: State, line: &[u8]) -> Result<Step, SourceFault>
+    requires { IsAt state.counter.at }
+    ensures woven { result ≡ line_woven (naming_of names.now) state line.now }
+    ensures range { IfOk result (λ step. IsAt step.state.counter.at) }
+    ensures placed { IfOk result IsPlaced }
+{
+    if is_listed(line) {
+        return listed_woven(state, line);
+    }
+    let (_, body) = cut_label(line);
+    match shape_of(body)? {
+        LineKind::Word => word_placed(names, state, body),
+        LineKind::Pair => pair_placed(state, body),
+        kind => no_word(state, kind),
+    }
+}
+
+/// Assembles a line of a listing.
+fn listed_woven(state: State, line: &[u8]) -> Result<Step, SourceFault>
+    requires { IsAt state.counter.at }
+    ensures woven { result ≡ listed_woven state (line_named line.now) }
+    ensures range { IfOk result (λ step. IsAt step.state.counter.at) }
+    ensures placed { IfOk result IsPlaced }
+{
+    match read_line(line) {
+        Ok(said) => Ok(Step {
+            state,
+            first: said,
+            second: None,
+        }),
+        Err(fault) => Err(SourceFault::Listed(fault)),
+    }
+}
+
+/// Assembles a line of one word.
+fn word_placed(names: &Names, state: State, body: &[u8]) -> Result<Step, SourceFault>
+    requires { IsAt state.counter.at }
+    ensures woven { result ≡ word_placed (naming_of names.now) state (said_by body.now)
+        (room_at state.counter state.counter.at 1) }
+    ensures range { IfOk result (λ step. IsAt step.state.counter.at) }
+    ensures placed { IfOk result IsPlaced }
+{
+    let place = state.counter.room(1)?;
+    let word = word_meaning(names, place, state.leads, body)?;
+    Ok(Step {
+        state: State {
+            counter: state.counter.after_words(1),
+            leads: next_is_extracode(state.leads, word),
+        },
+        first: Some(PlacedWord {
+            place: place as usize,
+            word,
+        }),
+        second: None,
+    })
+}
+
+/// Assembles a line of two words.
+fn pair_placed(state: State, body: &[u8]) -> Result<Step, SourceFault>
+    requires { IsAt state.counter.at }
+    ensures woven { result ≡ pair_placed state (said_by body.now)
+        (room_at state.counter state.counter.at 2) }
+    ensures range { IfOk result (λ step. IsAt step.state.counter.at) }
+    ensures placed { IfOk result IsPlaced }
+{
+    let place = state.counter.room(2)?;
+    let pair = pair_meaning(body)?;
+    let leads = next_is_extracode(state.leads, pair.upper);
+    Ok(Step {
+        state: State {
+            counter: state.counter.after_words(2),
+            leads: next_is_extracode(leads, pair.lower),
+        },
+        first: Some(PlacedWord {
+            place: place as usize,
+            word: pair.upper,
+        }),
+        second: Some(PlacedWord {
+            place: place as usize + 1,
+            word: pair.lower,
+        }),
+    })
+}
+
+/// Assembles a line without words.
+fn no_word(state: State, kind: LineKind) -> Result<Step, SourceFault>
+    requires at { IsAt state.counter.at }
+    requires kind { IsShape kind }
+    ensures woven { result ≡ no_word state kind (cursor_after state.counter kind) }
+    ensures range { IfOk result (λ step. IsAt step.state.counter.at) }
+    ensures placed { IfOk result IsPlaced }
+{
+    let next = cursor_after(state.counter, kind)?;
+    Ok(Step {
+        state: State {
+            counter: next,
+            leads: state.leads && stays_put(kind),
+        },
+        first: None,
+        second: None,
+    })
+}
+
+/// Returns whether an extracode that is expected still is after a line of this kind.
+fn stays_put(kind: LineKind) -> bool
+    ensures { result ≡ stays_put kind }
+{
+    !matches!(kind, LineKind::Moves(_) | LineKind::Bank(_))
+}

@@ -1,0 +1,56 @@
+//! Writes the names of a source as a symbol file.
+ghost use Rattle.std.specs.Prelude.{◌≡◌, ◌++◌, IfOk, Ok, OnOk};
+ghost use Rattle.agc_symbols.specs.Symbols.{names_in};
+ghost use Rattle.agc_symbols.specs.Writing.{names_text};
+ghost use Rattle.agc_asm.specs.NameLines.{label_named, labels_in, name_lines_in};
+ghost use Rattle.agc_listing.specs.Text.{label_of};
+
+use crate::location_counter::LocationCounter;
+use crate::names::Names;
+use crate::pass1::{line_labelled, note_label};
+use agc_listing::{Location, cut_label};
+use agc_symbols::push_name_line;
+use agc_word::next_line;
+use std::alloc::{AllocError, Global};
+
+/// Writes the names of a source, one line each with its place, in the order of its lines; for a faulty source, those
+/// before its first fault in the first pass. `SymbolTable::read` of agc_symbols reads from this text the same names at
+/// the same places, in the same order. Fails if out of memory.
+pub fn name_lines(alloc: Global, text: &[u8]) -> Result<Vec<u8>, AllocError>
+    ensures written { IfOk result (λ lines. lines.items ≡ name_lines_in text.now) }
+    ensures read { IfOk result (λ lines. names_in lines.items ≡ Ok (labels_in text.now)) }
+{
+    let mut told = Vec::new(alloc);
+    let mut names = Names::new(alloc);
+    let mut counter = LocationCounter::new();
+    let mut rest = text;
+    while let Some((line, after)) = next_line(rest) {
+        match line_labelled(&names, counter, line) {
+            Ok(next) => {
+                tell_label(alloc, &mut told, line, next.place)?;
+                note_label(&mut names, line, next.place)?;
+                counter = next.counter;
+            }
+            Err(_) => return Ok(told),
+        }
+        rest = after;
+    }
+    Ok(told)
+}
+
+/// Appends the symbol-file line of a line's name, if it has a location.
+#[tactic(auto, unfolding(agc_symbols::specs::Writing::names_text))]
+fn tell_label(
+    alloc: Global,
+    told: &mut Vec<u8>,
+    line: &[u8],
+    place: Option<Location>,
+) -> Result<(), AllocError>
+    ensures { OnOk result
+        (told.new.items ≡ told.old.items ++ names_text (label_named (label_of line.now) place)) }
+{
+    match (cut_label(line).0, place) {
+        (Some(label), Some(place)) => push_name_line(alloc, told, place, label),
+        _ => Ok(()),
+    }
+}

@@ -1,3 +1,0 @@
-pub mod BasicRows
-pub mod ExtracodeRows
-mod Naming
