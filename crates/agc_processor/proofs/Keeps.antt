@@ -1,4 +1,5 @@
--- Orders leave the timers, the requests and TIME6's switch alone, but for a write to the channel with that switch.
+-- Orders leave the timers, the requests and TIME6's switch unchanged, except for a write to the channel with that
+-- switch.
 use Rattle.std.proofs.Common.{◌≡◌, ℕ, Bool, true, false, Option, Some, None, refl, subst, sym, arith}
 use Rattle.std.specs.Prelude.{◌==◌, if◌then◌else◌, option_map, set}
 use Rattle.std.proofs.lemmas.Bool.Decides.{nat_tests}

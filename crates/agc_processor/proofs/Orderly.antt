@@ -1,5 +1,5 @@
--- Every order that runs takes at least a cycle and at most six, and shows a channel that outside
--- sees.
+-- Every order that runs takes at least one cycle and at most six, and shows a channel that the
+-- outside sees.
 use Rattle.std.proofs.Common.{◌≡◌, ℕ, Bool, true, false, Option, Some, None, arith, lit≤, refl}
 use Rattle.std.specs.Prelude.{if◌then◌else◌}
 use Rattle.std.proofs.lemmas.Bool.Decides.{nat_tests}

@@ -1,8 +1,8 @@
--- What holds of the timers goes on to hold after any order, if it also holds where TIME6's mark is at the periods gone by:
--- no order touches them but those that put its switch on, and these set the mark.
+-- What is true of the timers stays true after any order, if it is also true with TIME6's mark at the periods passed:
+-- only the orders that switch TIME6 on change the timers, and these set the mark.
 use Rattle.std.proofs.Common.{ℕ, Bool, true, false, Option, Some, None, sym, subst}
 use Rattle.std.specs.Prelude.{◌==◌, ◌&&◌, not, if◌then◌else◌, option_map}
-use Rattle.agc_clock.specs.Due.{time6_periods}
+use Rattle.agc_processor.specs.Due.{time6_periods}
 use Rattle.agc_word.specs.Number.{Number}
 use Rattle.agc_word.specs.Arithmetic.{narrow_of}
 use Rattle.agc_word.specs.Channels.{l_channel, q_channel, hiscalar, loscalar, superbnk, chan13}
@@ -20,7 +20,7 @@ use Rattle.agc_processor.specs.Processor.{fetched, a_of}
 use Rattle.agc_processor.specs.Signs.{is_zero, is_minus_or_plus_zero}
 use Rattle.agc_processor.proofs.Keeps.{basic_same, dim_same}
 
--- the timers where TIME6's mark is at the periods gone by
+-- the timers with TIME6's mark at the periods passed
 abbrev pub with_periods : ℕ → Timers → Timers
 with_periods c t = record t { mark = time6_periods c }
 

@@ -14,24 +14,23 @@ use Rattle.agc_processor.specs.Processor.{content, put, edit_again, names, names
 use Rattle.agc_processor.specs.Signs.{overflow_word, ccs_skip}
 use Rattle.agc_processor.specs.Logic.{and_words_of}
 
--- TC K: the word at K is taken in hand before Q takes the return address in Z, and Z goes on
--- after K.
+-- TC K: the word at K is fetched before Q takes the return address in Z, and Z continues after K.
 unfoldable pub tc_of : ℕ → Processor → Processor
 tc_of k p = p ▷ set_hand (fetch_of p.store k) ▷ set_q (narrow_number (z_at p)) ▷ jump (k + 1)
 
--- CCS K: A is the diminished absolute value, and the word's sort says how far to skip.
+-- CCS K: A is the diminished absolute value, and the word's sign and zero decide how far to skip.
 unfoldable pub ccs_of : ℕ → Processor → Processor
 ccs_of k p = let x = content k p in p ▷ edit_again k ▷ set_a (dabs_of x) ▷ skip (ccs_skip x)
 
--- TCF K: on to K
+-- TCF K: jump to K
 unfoldable pub tcf_of : ℕ → Processor → Processor
 tcf_of k p = p ▷ jump k
 
--- LXCH K: L and K change places, and L takes a corrected word.
+-- LXCH K: exchanges L and K; L takes a corrected word.
 unfoldable pub lxch_of : ℕ → Processor → Processor
 lxch_of k p = p ▷ put k (l_of p) ▷ set_l (narrow_of (content k p))
 
--- INCR K: one more
+-- INCR K: adds one.
 unfoldable pub incr_of : ℕ → Processor → Processor
 incr_of k p = p ▷ put k (sum_of (content k p) plus_one)
 
@@ -47,28 +46,27 @@ ca_of k p = p ▷ edit_again k ▷ set_a (content k p)
 unfoldable pub cs_of : ℕ → Processor → Processor
 cs_of k p = p ▷ edit_again k ▷ set_a (complement_of (content k p))
 
--- INDEX K: the word at K is added to the next order on its way into hand.
+-- INDEX K: the word at K is added to the next order as it is fetched.
 unfoldable pub index_of : ℕ → Processor → Processor
 index_of k p =
     let read = p ▷ edit_again k in
     let next = sum_of (fetch_of read.store (z_at read)) (content k p) in
     read ▷ set_hand (narrow_of next) ▷ skip 1
 
--- RESUME: Z and the order in hand are those that the interrupt left in ZRUPT and BRUPT, and the
--- service ends.
+-- RESUME: Z and the order in hand are restored from ZRUPT and BRUPT, and the service ends.
 unfoldable pub resume_of : Processor → Processor
 resume_of p =
     p ▷ set_hand (cell_of p.store 0 brupt_cell) ▷ serve false
     ▷ jump (pattern_of 15 (cell_of p.store 0 zrupt_cell))
 
--- TS K with overflow in A: one order is left out. A stays where K names A; else K takes A, and A is
--- +1 or -1. The skip comes first, so that a K that names Z replaces the Z that the skip made.
+-- TS K with overflow in A: one order is skipped. A stays if K names A; otherwise K takes A, and A
+-- is +1 or -1. The skip comes first, so that a K that names Z replaces the Z that the skip made.
 abbrev pub ts_with_overflow : ℕ → Processor → Processor
 ts_with_overflow k p =
     if names a_cell k p then p ▷ skip 1
     else (p ▷ skip 1 ▷ put k (a_of p) ▷ set_a (overflow_word (over_of (a_of p))))
 
--- TS K by A's overflow: without one K takes A, and that is all.
+-- TS K by A's overflow: without one K takes A, and nothing else changes.
 abbrev pub ts_by : Over → ℕ → Processor → Processor
 ts_by over.None k p = p ▷ put k (a_of p)
 ts_by over.Plus k p = p ▷ ts_with_overflow k
@@ -78,7 +76,7 @@ ts_by over.Minus k p = p ▷ ts_with_overflow k
 unfoldable pub ts_of : ℕ → Processor → Processor
 ts_of k p = p ▷ ts_by (over_of (a_of p)) k
 
--- XCH K: A and K change places.
+-- XCH K: exchanges A and K.
 unfoldable pub xch_of : ℕ → Processor → Processor
 xch_of k p = p ▷ put k (a_of p) ▷ set_a (content k p)
 
@@ -86,6 +84,6 @@ xch_of k p = p ▷ put k (a_of p) ▷ set_a (content k p)
 unfoldable pub ad_of : ℕ → Processor → Processor
 ad_of k p = let read = p ▷ edit_again k in read ▷ set_a (sum_of (a_of read) (content k p))
 
--- MASK K: A and K digit by digit, both narrow but where K names A or Q
+-- MASK K: A and K digit by digit, both narrow unless K names A or Q
 unfoldable pub mask_of : ℕ → Processor → Processor
 mask_of k p = p ▷ set_a (and_words_of (names_wide k p) (a_of p) (content k p))

@@ -1,4 +1,4 @@
--- The double orders. f is the address of the lower word, which comes first, and u that of the
+-- The double-word orders. f is the address of the lower word, which comes first, and u that of the
 -- upper.
 use Rattle.std.specs.Prelude.{ℕ, ◌+◌, ◌%◌, ◌==◌, if◌then◌else◌}
 use Rattle.agc_word.specs.Number.{Number, plus_one, minus_one}
@@ -16,15 +16,15 @@ before_in_ten f = (f + 0o1777) % 0o2000
 abbrev pub before_in_twelve : ℕ → ℕ
 before_in_twelve f = (f + 0o7777) % 0o10000
 
--- a sum with the carry of the lower word's overflow
+-- a sum plus the carry from the lower word's overflow
 abbrev pub with_carry : Over → Number → Number
 with_carry over.Plus t = sum_of t plus_one
 with_carry over.Minus t = sum_of t minus_one
 with_carry over.None t = t
 
--- DAS once the lower word is put: the upper word takes the sum t, L is +0 and A has t's overflow.
--- At address 1 exactly, where the words are L and A themselves, A takes t whole and nothing else
--- happens.
+-- DAS once the lower word is written: the upper word takes the sum t, L is +0 and A has t's
+-- overflow. At address 1 exactly, where the words are L and A themselves, A takes t whole and
+-- nothing else happens.
 abbrev pub das_upper : ℕ → Number → Processor → Processor
 das_upper f t p =
     if f == 1 then p ▷ set_a t
@@ -40,7 +40,7 @@ das_of f p =
     let upper = sum_of (a_of low) (content (before_in_ten f) low) in
     low ▷ das_upper f (with_carry (over_of s) upper)
 
--- DXCH F: A and L change places with the double word.
+-- DXCH F: exchanges A and L with the double word.
 unfoldable pub dxch_of : ℕ → Processor → Processor
 dxch_of f p =
     let u = before_in_ten f in

@@ -39,7 +39,7 @@ cycles order = (basic_row order).cycles
 abbrev pub extracode_cycles : Extracode → ℕ
 extracode_cycles order = (extracode_row order).cycles
 
--- the order took so many cycles, and nothing shows outside
+-- the order took this many cycles, and nothing is visible outside
 abbrev pub takes : ℕ → Processor → Processor × Ran
 takes n p = (p, ran.Quiet n)
 
@@ -47,29 +47,29 @@ takes n p = (p, ran.Quiet n)
 abbrev pub ends : ℕ → Processor → Processor × Ran
 ends n p = p ▷ plain ▷ fetched ▷ takes n
 
--- the cycles of WRITE, which are those of WAND and of WOR too
+-- the cycles of WRITE, and also of WAND and WOR
 abbrev pub write_cycles : ℕ
 write_cycles = extracode_cycles extra.Write
 
--- what a write to a channel shows: where outside sees the channel, the word that it then has
+-- what a write to a channel shows: if the outside sees the channel, the word that it then has
 abbrev pub shown : ℕ → Processor → Ran
 shown h p = if is_io_channel h then ran.Wrote h (channel_cell h p) else ran.Quiet write_cycles
 
 abbrev pub shows : ℕ → Processor → Processor × Ran
 shows h p = (p ▷ plain ▷ fetched, p ▷ shown h)
 
--- BZF and BZMF: a branch where the test holds, in one cycle, and else on to the next order
+-- BZF and BZMF: a branch if the test holds, in one cycle; otherwise on to the next order
 abbrev pub branches : Bool → Processor → Processor × Ran
 branches test p =
     if test then p ▷ jump (long_address p) ▷ ends 1 else (p ▷ ends (extracode_cycles extra.Bzf))
 
--- DV without a quotient halts the processor as it is
+-- DV without a quotient halts the processor unchanged
 abbrev pub divides : Option Processor → Processor → Processor × Ran
 divides (Some after) p = after ▷ ends (extracode_cycles extra.Dv)
 divides None p = (p, ran.Halted halt.DivisionUndefined)
 
--- What a basic order does. Only EXTEND leaves the extracode state on, and only it and INDEX stand
--- midway to the order that follows. TC, INDEX and RESUME have taken their next order in hand
+-- What a basic order does. Only EXTEND leaves the extracode state on, and only it and INDEX hold
+-- interrupts off before the next order. TC, INDEX and RESUME have fetched their next order
 -- themselves.
 unfoldable pub basic_effect : Basic → Processor → Processor × Ran
 basic_effect basic.Tc p = p ▷ tc_of (long_address p) ▷ plain ▷ takes (cycles basic.Tc)
@@ -92,7 +92,7 @@ basic_effect basic.Xch p = p ▷ xch_of (short_address p) ▷ ends (cycles basic
 basic_effect basic.Ad p = p ▷ ad_of (long_address p) ▷ ends (cycles basic.Ad)
 basic_effect basic.Mask p = p ▷ mask_of (long_address p) ▷ ends (cycles basic.Mask)
 
--- What an extracode does that begins at a cycle. INDEX leaves the extracode state on.
+-- What an extracode that begins at a cycle does. INDEX leaves the extracode state on.
 unfoldable pub extracode_effect : Extracode → ℕ → Processor → Processor × Ran
 extracode_effect extra.Read c p =
     p ▷ read_order c (channel_number p) ▷ ends (extracode_cycles extra.Read)
@@ -127,7 +127,7 @@ order_effect c p =
     let word = pattern_of 15 p.hand in
     if p.extracode then extracode_effect (extracode_of word) c p else basic_effect (basic_of word) p
 
--- an order that runs takes 1 to 6 cycles, and what it shows is a channel that outside sees
+-- an order that runs takes 1 to 6 cycles, and what it shows is a channel that the outside sees
 abbrev pub IsOrderly : Ran → Type 0
 IsOrderly (ran.Quiet n) = (1 ≤ n) × (n ≤ 6)
 IsOrderly (ran.Wrote channel value) = IsIoChannel channel

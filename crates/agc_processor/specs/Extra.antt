@@ -14,7 +14,7 @@ use Rattle.agc_processor.specs.Signs.{is_zero}
 abbrev pub in_a_and_l : Processor → Number × Number → Processor
 in_a_and_l p words = p ▷ set_a words.0 ▷ set_l words.1
 
--- DV K: A and L by K, where the quotient is defined
+-- DV K: divides A and L by K, if the quotient is defined
 unfoldable pub dv_of : ℕ → Processor → Option Processor
 dv_of k p =
     quotient_of (narrow_of (a_of p)) (l_of p) (narrow_of (content k p)) ▷ option_map (in_a_and_l p)
@@ -25,7 +25,7 @@ msu_of k p =
     let read = p ▷ edit_again k in
     read ▷ set_a (modular_difference_of (narrow_of (a_of read)) (narrow_of (content k p)))
 
--- QXCH K: Q and K change places.
+-- QXCH K: exchanges Q and K.
 unfoldable pub qxch_of : ℕ → Processor → Processor
 qxch_of k p = p ▷ put k (q_of p) ▷ set_q (content k p)
 
@@ -34,8 +34,8 @@ unfoldable pub aug_of : ℕ → Processor → Processor
 aug_of k p =
     let x = content k p in p ▷ put k (sum_of x (if x.minus then minus_one else plus_one))
 
--- DIM K: the magnitude falls by one. A zero is not written again, so that an editing register keeps
--- its word.
+-- DIM K: the magnitude shrinks by one. A zero is not written again, so that an editing register
+-- keeps its word.
 unfoldable pub dim_of : ℕ → Processor → Processor
 dim_of k p =
     let x = content k p in

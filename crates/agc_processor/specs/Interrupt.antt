@@ -43,7 +43,7 @@ rupts =
     rupt.T6rupt ∷ rupt.T5rupt ∷ rupt.T3rupt ∷ rupt.T4rupt ∷ rupt.Keyrupt1 ∷ rupt.Keyrupt2
     ∷ rupt.Uprupt ∷ rupt.Downrupt ∷ rupt.Radarupt ∷ rupt.Rupt10 ∷ []
 
--- an interrupt by its place in this order, and by its number
+-- an interrupt by its position in this order, and by its number
 abbrev pub rupt_at : ℕ → Rupt
 rupt_at place = get_or rupts place rupt.Rupt10
 
@@ -57,15 +57,15 @@ before_vectors = 0o4000
 abbrev pub vector_of : Rupt → ℕ
 vector_of r = before_vectors + 4 * rupt_number r
 
--- an interrupt is requested; a request that waits already stays one
+-- an interrupt is requested; if it is already requested, nothing changes
 abbrev pub request : Rupt → Processor → Processor
 request r p = record p { requests = set p.requests (rupt_number r - 1) true }
 
--- its request waits no more
+-- its request is cleared
 abbrev pub withdraw : Rupt → Processor → Processor
 withdraw r p = record p { requests = set p.requests (rupt_number r - 1) false }
 
--- of the interrupts whose requests wait the one with the lowest vector
+-- the requested interrupt with the lowest vector
 abbrev pub first_request : Processor → Option Rupt
 first_request p = option_map rupt_at (position (λ waits. waits) p.requests)
 
@@ -78,7 +78,7 @@ is_none_over over.Minus = false
 -- An interrupt waits while another is served, while INHINT is in force, while A has overflow, and
 -- between EXTEND or INDEX and the order that belongs to it.
 abbrev pub is_allowed : Processor → Bool
-is_allowed p = not p.serving && not p.inhibited && not p.midway && is_none_over (over_of (a_of p))
+is_allowed p = not p.serving && not p.inhibited && not p.uninterruptible && is_none_over (over_of (a_of p))
 
 -- the interrupt that is taken, if one is
 unfoldable pub pending : Processor → Option Rupt
@@ -88,8 +88,8 @@ pending p = if is_allowed p then first_request p else None
 abbrev pub interrupt_cycles : ℕ
 interrupt_cycles = 3
 
--- ZRUPT and BRUPT keep Z and the order in hand; the order at the vector comes into hand, and a
--- service begins.
+-- ZRUPT and BRUPT save Z and the order in hand; the order at the vector is fetched, and a service
+-- begins.
 unfoldable pub interrupted : Rupt → Processor → Processor
 interrupted r p =
     let saved =

@@ -1,3 +1,5 @@
+pub mod Period
+pub mod Due
 pub mod Signs
 pub mod Processor
 pub mod Logic
@@ -10,3 +12,8 @@ pub mod Timer
 pub mod Interrupt
 pub mod Start
 pub mod Keeps
+pub mod Leaves
+pub mod Service
+pub mod Row
+pub mod Table
+pub mod Requests

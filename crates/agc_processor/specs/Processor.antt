@@ -1,5 +1,4 @@
--- The words in which the orders are told: contents, registers, and what an order changes first and
--- last.
+-- The vocabulary of the orders: contents, registers, and what an order changes first and last.
 use Rattle.std.specs.Prelude.{ℕ, ◌+◌, ◌%◌, Bool, true, false, Option, Some, None, ◌==◌, ◌||◌}
 use Rattle.agc_word.specs.Number.{Number}
 use Rattle.agc_store.specs.Memory.{read_of}
@@ -23,7 +22,7 @@ l_of p = register l_cell p.store
 abbrev pub q_of : Processor → Number
 q_of p = register q_cell p.store
 
--- the address in Z, which is that of the next order to fetch
+-- the address in Z, that of the next order to fetch
 abbrev pub z_at : Processor → ℕ
 z_at p = z_of p.store
 
@@ -40,7 +39,7 @@ set_q w p = record p { store = put_of p.store q_cell w }
 abbrev pub jump : ℕ → Processor → Processor
 jump k p = record p { store = put_of p.store z_cell (narrow_number (k % 0o10000)) }
 
--- so many of the orders that follow are left out
+-- the next orders are skipped, this many
 abbrev pub skip : ℕ → Processor → Processor
 skip n p = p ▷ jump (z_at p + n)
 
@@ -52,15 +51,15 @@ set_hand w p = record p { hand = w }
 abbrev pub content : ℕ → Processor → Number
 content k p = read_of p.store k
 
--- a word is put where an address below 2000 octal names a cell
+-- a word is written where an address below 2000 octal names a cell
 abbrev pub put : ℕ → Number → Processor → Processor
 put k w p = record p { store = write_of p.store k w }
 
--- a word comes into a cell as it is, by bank and offset
+-- a word is stored in a cell unedited, by bank and offset
 abbrev pub poke : ℕ → ℕ → Number → Processor → Processor
 poke bank offset w p = record p { store = poke_of p.store bank offset w }
 
--- an editing register that the order has read is edited once more
+-- an editing register that the order has read is edited again
 abbrev pub edit_again : ℕ → Processor → Processor
 edit_again k p = record p { store = reedit_of p.store k }
 
@@ -77,11 +76,11 @@ names n k p = is_cell n (named_cell p.store k)
 abbrev pub names_wide : ℕ → Processor → Bool
 names_wide k p = names a_cell k p || names q_cell k p
 
--- The next order comes into hand: the word at Z is fetched, and then Z counts on.
+-- The next order is fetched: the word at Z is taken in hand, and then Z is incremented.
 unfoldable pub fetched : Processor → Processor
 fetched p = p ▷ set_hand (fetch_of p.store (z_at p)) ▷ skip 1
 
--- INHINT is in force, or is no more
+-- INHINT is in force, or no longer
 abbrev pub inhibit : Bool → Processor → Processor
 inhibit on p = record p { inhibited = on }
 
@@ -91,12 +90,12 @@ serve on p = record p { serving = on }
 
 -- The next order is a basic one, and an interrupt may come before it.
 abbrev pub plain : Processor → Processor
-plain p = record p { extracode = false; midway = false }
+plain p = record p { extracode = false; uninterruptible = false }
 
 -- The next order belongs to INDEX, and is a basic one.
 abbrev pub indexed : Processor → Processor
-indexed p = record p { extracode = false; midway = true }
+indexed p = record p { extracode = false; uninterruptible = true }
 
 -- The next order belongs to EXTEND or to the extracode INDEX, and is an extracode.
 abbrev pub extended : Processor → Processor
-extended p = record p { extracode = true; midway = true }
+extended p = record p { extracode = true; uninterruptible = true }

@@ -1,4 +1,4 @@
--- The signs of words: +1, -1 and +0, which orders add and leave, and what orders ask of a sign.
+-- The signs of words: +1, -1 and +0, which orders add and leave, and the tests of a sign.
 use Rattle.std.specs.Prelude.{ℕ, ◌==◌, ◌||◌, Bool, false, if◌then◌else◌}
 use Rattle.agc_word.specs.Number.{Number, plus_one, minus_one}
 use Rattle.agc_word.specs.declared.wide.Over.{Over}
@@ -22,6 +22,6 @@ is_zero x = x.magnitude == 0
 abbrev pub is_minus_or_plus_zero : Number → Bool
 is_minus_or_plus_zero x = x.minus || is_zero x
 
--- how many orders CCS leaves out: none for a positive word, then +0, negative, -0
+-- how many orders CCS skips: 0 for a positive word, then +0, negative, -0
 abbrev pub ccs_skip : Number → ℕ
 ccs_skip x = if x.minus then (if is_zero x then 3 else 2) else (if is_zero x then 1 else 0)

@@ -8,7 +8,7 @@ use Rattle.agc_processor.specs.declared.processor.Processor.{Processor}
 use Rattle.agc_processor.specs.Processor.{◌▷◌, jump}
 use Rattle.agc_processor.specs.Signs.{plus_zero}
 
--- The channels at the start: +0, but for the inputs from the spacecraft, whose bits are 1 where
+-- The channels at the start: +0, except the inputs from the spacecraft, whose bits are 1 when
 -- nothing is asserted.
 unfoldable pub channels_at_start : ℕ → List Number
 channels_at_start count =
@@ -21,8 +21,7 @@ channels_at_start count =
 abbrev pub start_address : ℕ
 start_address = 0o4000
 
--- Power comes on: the order at 4000 octal is in hand and Z is one past it, everything else is at
--- rest.
+-- Power on: the order at 4000 octal is in hand and Z is one past it, everything else is at rest.
 unfoldable pub start_processor : List Number → Processor
 start_processor words =
     let at_rest : Processor =
@@ -31,7 +30,7 @@ start_processor words =
       channels = channels_at_start 0o1000;
       hand = fetch_of (start_memory words) start_address;
       extracode = false;
-      midway = false;
+      uninterruptible = false;
       inhibited = false;
       serving = false;
       requests = replicate 10 false;

@@ -1,8 +1,8 @@
 -- The five timers, which count pulses.
 use Rattle.std.specs.Prelude.{ℕ, ◌≤◌, ◌+◌, ◌%◌, ◌^◌, ◌&&◌, ◌||◌, Bool}
 use Rattle.std.specs.Prelude.{List, codes, Option, Some, None, nat_lt, if◌then◌else◌}
-use Rattle.agc_clock.specs.Due.{is_due, time6_periods}
-use Rattle.agc_clock.specs.Period.{time1_first, time3_first, time4_first, time5_first}
+use Rattle.agc_processor.specs.Due.{is_due, time6_periods}
+use Rattle.agc_processor.specs.Period.{time1_first, time3_first, time4_first, time5_first}
 use Rattle.agc_word.specs.Number.{Number, pattern_of}
 use Rattle.agc_word.specs.Pulses.{pulsed}
 use Rattle.agc_word.specs.declared.pulse.Pulse.TheVariants as pulse
@@ -21,7 +21,7 @@ use Rattle.agc_processor.specs.Channel.{set_channel_cell, is_on, switch_word}
 use Rattle.agc_processor.specs.Processor.{◌▷◌, poke}
 use Rattle.agc_processor.specs.Interrupt.{request}
 
--- the name of a timer, which is that of its counter
+-- the name of a timer, which is its counter's
 abbrev pub timer_name : Timer → List ℕ
 timer_name timer.Time1 = codes "TIME1"
 timer_name timer.Time3 = codes "TIME3"
@@ -29,18 +29,18 @@ timer_name timer.Time4 = codes "TIME4"
 timer_name timer.Time5 = codes "TIME5"
 timer_name timer.Time6 = codes "TIME6"
 
--- TIME6's is due while it is on and a period has gone by that it has not counted.
+-- TIME6's step is due while it is on and a period has passed that it has not counted.
 abbrev pub is_time6_due : ℕ → Timers → Number → Bool
 is_time6_due cycle t switch = is_on switch && nat_lt t.mark (time6_periods cycle)
 
--- some timer's step is due at a cycle, where TIME6's switch is in this word
+-- some timer's step is due at a cycle, if TIME6's switch is in this word
 abbrev pub is_any_due : ℕ → Timers → Number → Bool
 is_any_due cycle t switch =
     is_due cycle time1_first t.time1 || is_due cycle time3_first t.time3
     || is_due cycle time4_first t.time4 || is_due cycle time5_first t.time5
     || is_time6_due cycle t switch
 
--- no timer has taken more steps than can be counted with, which are more than any run takes
+-- no timer has taken more steps than can be calculated with; any run takes fewer
 abbrev pub IsCounted : Timers → Type 0
 IsCounted t =
     (t.time1 ≤ 2 ^ 48) × (t.time3 ≤ 2 ^ 48) × (t.time4 ≤ 2 ^ 48) × (t.time5 ≤ 2 ^ 48)
@@ -54,32 +54,32 @@ steps_of timer.Time4 t = t.time4
 steps_of timer.Time5 t = t.time5
 steps_of timer.Time6 t = t.mark
 
--- the word of a counter, and the state where it has taken another
+-- the word of a counter, and the state after it has taken another
 abbrev pub counter : ℕ → Processor → Number
 counter place p = cell_of p.store 0 place
 
 abbrev pub set_counter : ℕ → Number → Processor → Processor
 set_counter place w p = p ▷ poke 0 place w
 
--- a carry asks for the interrupt
+-- a carry requests the interrupt
 abbrev pub carried : Rupt → Carry → Processor → Processor
 carried r carry.Out p = p ▷ request r
 carried r carry.None p = p
 
--- a counter in bank 0 gains one, and its carry asks for an interrupt
+-- a counter in bank 0 is incremented, and its carry requests an interrupt
 abbrev pub tick : ℕ → Rupt → Processor → Processor
 tick place r p =
     let stepped = pulsed pulse.Pinc (counter place p) in
     p ▷ set_counter place stepped.0 ▷ carried r stepped.1
 
--- TIME1's carry steps TIME2, at a cycle of its own; a carry of TIME2 is lost.
+-- TIME1's carry steps TIME2, at the cost of another cycle; a carry of TIME2 is lost.
 abbrev pub time2_by : Carry → Processor → Processor × ℕ
 time2_by carry.Out p =
     let stepped = pulsed pulse.Pinc (counter time2_cell p) in
     (p ▷ set_counter time2_cell stepped.0, 2)
 time2_by carry.None p = (p, 1)
 
--- TIME6 goes towards zero; the step that finds zero asks for T6RUPT and puts its switch off.
+-- TIME6 counts towards zero; the step that finds zero requests T6RUPT and turns its switch off.
 abbrev pub switched_off : Carry → Processor → Processor
 switched_off carry.Out p =
     let off = narrow_number (pattern_of 15 (switch_word p) % 0o40000) in

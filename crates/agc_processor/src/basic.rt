@@ -1,4 +1,4 @@
-//! The basic orders, up to the fetch of the order that follows.
+//! The basic orders, up to the fetch of the next order.
 use crate::logic::and_words;
 use crate::processor::Processor;
 use crate::signs::{orders_left_out, word_of_overflow};
@@ -115,7 +115,7 @@ impl Processor {
         self.store.write_in_range(k, a);
     }
 
-    /// A stays where K names A, else K takes it and A keeps its overflow alone.
+    /// Leaves A unchanged if K names A; otherwise stores A in K and leaves only the overflow in A.
     #[inline(never)]
     fn ts_with_overflow(&mut self, k: Addr)
         requires { k < 0o2000 }

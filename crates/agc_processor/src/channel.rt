@@ -3,16 +3,16 @@ ghost use Rattle.agc_store.specs.Cells.{narrow_number};
 ghost use Rattle.agc_processor.specs.Channel.{is_on};
 ghost use Rattle.std.specs.Prelude.{◌≡◌, ◌<◌, ◌≤◌, ◌^◌, ◌%◌};
 
+use crate::clock::{scaler, time6_periods};
 use crate::logic::{and_words, or_words, xor_words};
 use crate::processor::Processor;
-use agc_clock::{scaler, time6_periods};
 use agc_word::channels::{CHAN13, HISCALAR, L, LOSCALAR, Q, SUPERBNK};
 use agc_word::{Narrow, Wide, widen};
 
 impl Processor {
     ghost use Rattle.agc_processor.specs.Channel.{channel_word, channel_cell, set_channel_cell, switch_word, superbank_switched, time6_switched, set_channel, write_channel, read_order, write_order, rand_order, ror_order, rxor_order, wand_order, wor_order};
 
-    /// The word in a channel's cell, which the channels 1 to 4 do not show.
+    /// Returns the word in a channel's cell, which the channels 1 to 4 do not show.
     #[inline]
     pub fn channel_cell(&self, h: u16) -> Narrow
         requires { h < 0o1000 }
@@ -22,7 +22,7 @@ impl Processor {
         self.channels[cell]
     }
 
-    /// Puts a word into a channel's cell; neither the superbank nor TIME6's switch follows.
+    /// Stores a word in a channel's cell, without switching the superbank or TIME6.
     #[inline]
     pub fn set_channel_cell(&mut self, h: u16, word: Narrow)
         requires { h < 0o1000 }
@@ -31,7 +31,7 @@ impl Processor {
         self.channels[usize::from(h)] = word;
     }
 
-    /// The word that a channel shows at a cycle.
+    /// Returns the word that a channel shows at a cycle.
     #[tactic(auto, unfolding(crate::specs::Channel::channel_word))]
     pub fn channel(&self, cycle: u64, h: u16) -> Wide
         requires channel { h < 0o1000 }
@@ -47,8 +47,8 @@ impl Processor {
         }
     }
 
-    /// Puts a word into a channel's cell, as a script does too: the superbank's channel keeps three
-    /// bits, and a word with TIME6's switch switches it.
+    /// Stores a word in a channel, as a script does too: the superbank's channel keeps three bits,
+    /// and a word with TIME6's switch switches it.
     #[tactic(auto, unfolding(crate::specs::Channel::set_channel))]
     pub fn set_channel(&mut self, cycle: u64, h: u16, word: Narrow)
         requires channel { h < 0o1000 }
@@ -62,7 +62,7 @@ impl Processor {
         }
     }
 
-    /// The superbank's channel keeps bits 7 to 5, of which bit 7 is the superbank.
+    /// Writes the superbank's channel, which keeps bits 7 to 5; bit 7 is the superbank.
     fn set_superbank(&mut self, word: Narrow)
         ensures { self.new ≡ superbank_switched word self.old }
     {
@@ -71,7 +71,7 @@ impl Processor {
         self.store.set_superbank(word.bit(7));
     }
 
-    /// Where the switch goes from off to on, TIME6 counts the periods that end from now on.
+    /// Writes the channel of TIME6's switch. If it goes from off to on, TIME6 counts the periods that end from now on.
     fn set_time6_switch(&mut self, cycle: u64, word: Narrow)
         requires { cycle < 2 ^ 41 }
         ensures { self.new ≡ time6_switched cycle word self.old }
@@ -83,7 +83,7 @@ impl Processor {
         }
     }
 
-    /// TIME6's switch is on.
+    /// Returns whether TIME6's switch is on.
     #[inline]
     pub(crate) fn is_time6_on(&self) -> bool
         ensures { result ≡ is_on (switch_word self.now) }
@@ -91,7 +91,7 @@ impl Processor {
         self.channel_cell(CHAN13).bit(15)
     }
 
-    /// What a program's write to a channel does.
+    /// Does what a program's write to a channel does.
     #[tactic(auto, unfolding(crate::specs::Channel::write_channel))]
     fn write_channel(&mut self, cycle: u64, h: u16, word: Wide)
         requires channel { h < 0o1000 }
@@ -180,7 +180,7 @@ impl Processor {
     }
 }
 
-/// The low fourteen digits of a count, which a scaler channel shows.
+/// Returns the low fourteen digits of a count, which a scaler channel shows.
 fn scaler_word(count: u64) -> Wide
     ensures { result ≡ narrow_number (count % 0o40000) }
 {

@@ -1,4 +1,4 @@
-//! The double orders, whose lower word comes first.
+//! The double-word orders, which handle the lower word first.
 ghost use Rattle.std.specs.Prelude.{◌≡◌, ◌<◌};
 ghost use Rattle.agc_processor.specs.Double.{with_carry};
 
@@ -22,7 +22,7 @@ impl Processor {
         self.das_upper(f, add_carry(low.over(), upper));
     }
 
-    /// The upper word of DAS, and what is left in A and L.
+    /// Stores the upper sum of DAS, and sets what remains in A and L.
     #[inline]
     fn das_upper(&mut self, f: Addr, t: Wide)
         requires { f < 0o2000 }
@@ -77,7 +77,7 @@ impl Processor {
     }
 }
 
-/// An upper sum with the carry of the lower word's overflow.
+/// Returns an upper sum plus the carry from the lower word's overflow.
 fn add_carry(low: Over, t: Wide) -> Wide
     ensures { result ≡ with_carry low t }
 {

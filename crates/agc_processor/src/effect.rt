@@ -1,4 +1,4 @@
-//! The order in hand runs: one jump by the word's code, and the order's own way to the next.
+//! Runs the order in hand: one jump by the word's code, then each order's own path to the next.
 ghost use Rattle.std.specs.Prelude.{◌≡◌, ◌<◌, ◌^◌, ◌%◌, Bool};
 
 use crate::processor::{Halt, Processor, Ran, WRITE_MCT};
@@ -12,7 +12,7 @@ impl Processor {
     ghost use Rattle.agc_processor.specs.Processor.{jump};
     ghost use Rattle.agc_processor.specs.Effect.{basic_effect, extracode_effect, order_effect, IsOrderly, long_address, short_address, channel_number, branches, ends, shows};
 
-    /// The order's address of twelve bits.
+    /// Returns the order's address of twelve bits.
     #[inline(always)]
     fn long_address(&self) -> Addr
         ensures { result ≡ long_address self.now }
@@ -20,7 +20,7 @@ impl Processor {
         Addr::of_word(self.hand)
     }
 
-    /// The order's address of ten bits.
+    /// Returns the order's address of ten bits.
     #[inline(always)]
     fn short_address(&self) -> Addr
         ensures address { result ≡ short_address self.now }
@@ -29,7 +29,7 @@ impl Processor {
         Addr::of_word(self.hand).low_ten()
     }
 
-    /// The order's channel.
+    /// Returns the order's channel.
     #[inline(always)]
     fn channel_number(&self) -> u16
         ensures channel { result ≡ channel_number self.now }
@@ -38,18 +38,18 @@ impl Processor {
         self.hand.bits() % 0o1000
     }
 
-    /// Ends an order: the next one, a basic order, comes into hand.
+    /// Ends an order: fetches the next one, a basic order.
     #[inline]
     fn end(&mut self, cycles: u64) -> Ran
         ensures { (self.new, result) ≡ ends cycles self.old }
     {
         self.extracode = false;
-        self.midway = false;
+        self.uninterruptible = false;
         self.fetch_next();
         Ran::Quiet(cycles)
     }
 
-    /// Ends an order that wrote a channel, and shows the write where outside sees the channel.
+    /// Ends an order that wrote a channel, and reports the write if the outside sees the channel.
     #[inline]
     fn end_write(&mut self, h: u16) -> Ran
         requires { h < 0o1000 }
@@ -64,18 +64,18 @@ impl Processor {
         }
     }
 
-    /// Leaves the order's own next one in hand.
+    /// Ends an order that has already fetched the next one.
     #[inline]
-    fn go_on(&mut self, extracode: bool, midway: bool, cycles: u64) -> Ran
-        ensures state { self.new ≡ record self.old { extracode = extracode; midway = midway } }
+    fn go_on(&mut self, extracode: bool, uninterruptible: bool, cycles: u64) -> Ran
+        ensures state { self.new ≡ record self.old { extracode = extracode; uninterruptible = uninterruptible } }
         ensures quiet { result ≡ Ran.Quiet cycles }
     {
         self.extracode = extracode;
-        self.midway = midway;
+        self.uninterruptible = uninterruptible;
         Ran::Quiet(cycles)
     }
 
-    /// Jumps where the test holds, in one cycle, and else takes two.
+    /// Jumps in one cycle if the test holds; otherwise takes two cycles.
     #[inline]
     fn branch(&mut self, test: bool) -> Ran
         ensures { (self.new, result) ≡ branches test self.old }
@@ -87,14 +87,14 @@ impl Processor {
         }
     }
 
-    /// Ends a jump, which takes one cycle: the order at the address, a basic order, comes into hand.
+    /// Ends a jump, which takes one cycle: fetches the order at the address, a basic order.
     #[inline]
     #[tactic(auto, unfolding(crate::specs::Processor::fetched))]
     fn end_at(&mut self, k: Addr) -> Ran
         ensures { (self.new, result) ≡ ends 1 (jump k self.old) }
     {
         self.extracode = false;
-        self.midway = false;
+        self.uninterruptible = false;
         self.hand = self.store.fetch_at(k);
         Ran::Quiet(1)
     }

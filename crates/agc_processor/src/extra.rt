@@ -1,4 +1,4 @@
-//! The extracodes on A, L, Q and a memory word, up to the fetch of the order that follows.
+//! The extracodes on A, L, Q and a memory word, up to the fetch of the next order.
 use crate::processor::Processor;
 use crate::signs::{is_minus, is_zero};
 use agc_store::Addr;
@@ -8,7 +8,7 @@ impl Processor {
     ghost use Rattle.std.specs.Prelude.{◌≡◌, ◌<◌, Some, None, true, false};
     ghost use Rattle.agc_processor.specs.Extra.{dv_of, in_a_and_l, msu_of, qxch_of, aug_of, dim_of, su_of, mp_of};
 
-    /// Divides A and L; where there is no quotient nothing changes.
+    /// Divides A and L. If there is no quotient, nothing changes.
     #[inline(never)]
     #[tactic(auto, unfolding(crate::specs::Extra::dv_of))]
     pub(crate) fn dv(&mut self, k: Addr) -> bool

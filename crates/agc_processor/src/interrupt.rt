@@ -1,4 +1,4 @@
-//! Interrupts: the ten of them, which one is taken, and what that does.
+//! Interrupts: the ten requests, which one is taken, and what that does.
 ghost use Rattle.std.specs.Prelude.{◌≡◌, ◌<◌, length, position, IfSome};
 
 use crate::processor::Processor;
@@ -6,32 +6,32 @@ use agc_store::Addr;
 use agc_store::place::{BRUPT, ZRUPT};
 use agc_word::Over;
 
-/// The cycles of an interrupt: Z and the order in hand are saved, and the vector's order is fetched.
+/// The cycles of an interrupt: it saves Z and the order in hand, and fetches the order at the vector.
 pub const INTERRUPT_MCT: u64 = 3;
 
 /// The first vector is four words past this address.
 const VECTORS: u16 = 0o4000;
 
-/// The interrupts, in the order of their numbers, which is that of their vectors.
+/// The interrupts in the order of their numbers, which is the order of their vectors.
 #[derive(Clone, Copy, Debug, PartialEq, Eq)]
 pub enum Rupt {
     /// TIME6 was at zero.
     T6rupt,
-    /// TIME5 has carried.
+    /// TIME5 has overflowed.
     T5rupt,
-    /// TIME3 has carried.
+    /// TIME3 has overflowed.
     T3rupt,
-    /// TIME4 has carried.
+    /// TIME4 has overflowed.
     T4rupt,
     /// A key of the main keyboard was pressed.
     Keyrupt1,
     /// A key of the second keyboard was pressed.
     Keyrupt2,
-    /// The uplink's word is whole.
+    /// The uplink's word is complete.
     Uprupt,
     /// The downlink has sent its words.
     Downrupt,
-    /// The radar's word is whole.
+    /// The radar's word is complete.
     Radarupt,
     /// The hand controller has moved.
     Rupt10,
@@ -41,7 +41,7 @@ impl Rupt {
     ghost use Rattle.std.specs.Prelude.{◌≡◌, ℕ, ◌<◌, ◌≤◌, ◌-◌};
     ghost use Rattle.agc_processor.specs.Interrupt.{rupt_name, rupt_number, rupt_at, rupt_numbered, vector_of};
 
-    /// Its name in the memos, as traces print it.
+    /// Returns its name in the memos, as traces print it.
     pub fn name(self) -> &'static str
         ensures { result.now ≡ rupt_name self }
     {
@@ -59,7 +59,7 @@ impl Rupt {
         }
     }
 
-    /// Its number, as a script names it.
+    /// Returns its number, as scripts write it.
     pub fn number(self) -> u8
         ensures number { result ≡ rupt_number self }
         ensures first { 1 ≤ result }
@@ -79,7 +79,7 @@ impl Rupt {
         }
     }
 
-    /// The interrupt with a number.
+    /// Returns the interrupt with a number.
     pub fn numbered(number: u8) -> Rupt
         requires first { 1 ≤ number }
         requires last { number ≤ 10 }
@@ -88,7 +88,7 @@ impl Rupt {
         Rupt::at(usize::from(number) - 1)
     }
 
-    /// The interrupt at a place in the order of the numbers, from 0.
+    /// Returns the interrupt at a position in the order of the numbers, from 0.
     fn at(place: usize) -> Rupt
         requires { place < 10 }
         ensures { result ≡ rupt_at place }
@@ -108,7 +108,7 @@ impl Rupt {
         }
     }
 
-    /// Its place in the order of the numbers, from 0.
+    /// Returns its position in the order of the numbers, from 0.
     fn place(self) -> usize
         ensures place { result ≡ rupt_number self - 1 }
         ensures range { result < 10 }
@@ -116,7 +116,7 @@ impl Rupt {
         usize::from(self.number()) - 1
     }
 
-    /// Where its program begins, which has four words there.
+    /// Returns its vector: the address where its program begins, with four words.
     pub fn vector(self) -> Addr
         ensures { result ≡ vector_of self }
     {
@@ -128,14 +128,14 @@ impl Processor {
     ghost use Rattle.std.specs.Prelude.{◌≡◌, ◌<◌, IfNone, IfSome, OnSome, IsSome, Some, None, true, false};
     ghost use Rattle.agc_processor.specs.Interrupt.{is_allowed, pending, interrupted, request, first_request};
 
-    /// Requests an interrupt; a request that waits already stays one.
+    /// Requests an interrupt. If it is already requested, nothing changes.
     pub fn request(&mut self, rupt: Rupt)
         ensures { self.new ≡ request rupt self.old }
     {
         self.requests[rupt.place()] = true;
     }
 
-    /// Some interrupt waits.
+    /// Returns whether any interrupt is requested.
     pub fn is_requested(&self) -> bool
         ensures none { result ≡ false → first_request self.now ≡ None }
         ensures some { result ≡ true → IsSome (first_request self.now) }
@@ -143,14 +143,14 @@ impl Processor {
         self.first_request().is_some()
     }
 
-    /// Of the interrupts that wait the one with the lowest vector.
+    /// Returns the requested interrupt with the lowest vector.
     fn first_request(&self) -> Option<Rupt>
         ensures { result ≡ first_request self.now }
     {
         Some(Rupt::at(first_waiting(&self.requests)?))
     }
 
-    /// The interrupt that is taken next, where one is allowed at all.
+    /// Returns the interrupt that is taken next, if any is allowed.
     #[tactic(auto, unfolding(crate::specs::Interrupt::pending))]
     pub fn pending(&self) -> Option<Rupt>
         ensures { result ≡ pending self.now }
@@ -162,15 +162,19 @@ impl Processor {
         }
     }
 
-    /// No service, no INHINT, no order that belongs to EXTEND or INDEX, and no overflow in A.
+    /// Returns whether interrupts are allowed: no interrupt being served, no INHINT, no order that belongs to EXTEND or
+    /// INDEX, and no overflow in A.
     fn is_allowed(&self) -> bool
         ensures { result ≡ is_allowed self.now }
     {
-        !self.serving && !self.inhibited && !self.midway && self.store.a().over() == Over::None
+        !self.serving
+            && !self.inhibited
+            && !self.uninterruptible
+            && self.store.a().over() == Over::None
     }
 
-    /// Takes an interrupt: ZRUPT and BRUPT keep Z and the order in hand, and the order at the vector
-    /// comes into hand.
+    /// Takes an interrupt: saves Z in ZRUPT and the order in hand in BRUPT, and fetches the order
+    /// at the vector.
     #[tactic(auto, unfolding(crate::specs::Interrupt::interrupted))]
     pub fn interrupt(&mut self, rupt: Rupt)
         ensures { self.new ≡ interrupted rupt self.old }
@@ -185,7 +189,7 @@ impl Processor {
     }
 }
 
-/// The place of the first request that waits.
+/// Returns the position of the first pending request.
 fn first_waiting(requests: &[bool]) -> Option<usize>
     ensures place { result ≡ position (λ waits. waits) requests.now }
     ensures range { IfSome result (λ place. place < length requests.now) }

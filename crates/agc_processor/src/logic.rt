@@ -1,4 +1,4 @@
-//! Logic on words: wide where A or Q is the other operand, else on words corrected for overflow.
+//! Logical operations on words: wide if A or Q is the other operand, otherwise on words corrected for overflow.
 ghost use Rattle.std.specs.Prelude.{◌≡◌};
 ghost use Rattle.agc_processor.specs.Logic.{and_words_of, or_words_of, xor_words_of};
 

@@ -1,10 +1,10 @@
 //! The processor: memory, channels, the order in hand, and the flags and timers between orders; and
-//! the words in which the orders are told.
+//! the vocabulary of the orders.
 use agc_store::place::{A, Q};
 use agc_store::{Addr, Store};
 use agc_word::{Narrow, Wide};
 
-/// What the timers have counted: no order but those on channel 13 octal touches it.
+/// What the timers have counted. Only orders on channel 13 octal change it.
 #[derive(Drop)]
 pub struct Timers {
     /// The steps that TIME1 has taken.
@@ -15,28 +15,28 @@ pub struct Timers {
     pub time4: u64,
     /// The steps that TIME5 has taken.
     pub time5: u64,
-    /// The periods of TIME6 that have gone by or been counted.
+    /// The periods of TIME6 that have passed or been counted.
     pub mark: u64,
 }
 
-/// What the orders work on.
+/// The state that the orders work on.
 #[derive(Drop)]
 pub struct Processor {
-    /// The fixed words, and the erasable cells with A, L, Q, Z and the bank registers among them.
+    /// The fixed words, and the erasable cells including A, L, Q, Z and the bank registers.
     pub store: Store,
     /// The cells of the channels 0 to 777 octal; 1 to 4 show registers and the scaler instead.
     pub channels: [Narrow; 0o1000],
     /// The order in hand, which runs next.
     pub hand: Narrow,
-    /// After EXTEND and the extracode INDEX: the next order is an extracode.
+    /// Set after EXTEND and the extracode INDEX: the next order is an extracode.
     pub extracode: bool,
-    /// After EXTEND and both forms of INDEX, which the next order belongs to.
-    pub midway: bool,
+    /// Set after EXTEND and both forms of INDEX: no interrupt before the next order.
+    pub uninterruptible: bool,
     /// INHINT is in force.
     pub inhibited: bool,
-    /// An interrupt is being served, until RESUME.
+    /// An interrupt is being served; RESUME ends that.
     pub serving: bool,
-    /// Whether each interrupt waits, by number, T6RUPT first.
+    /// Which interrupts are requested, by number, T6RUPT first.
     pub requests: [bool; 10],
     /// The steps that the timers have taken.
     pub timers: Timers,
@@ -45,9 +45,9 @@ pub struct Processor {
 /// Why an order does not run.
 #[derive(Clone, Copy, Debug, PartialEq, Eq)]
 pub enum Halt {
-    /// DV has a divisor of zero magnitude, or a dividend beyond it.
+    /// DV has a divisor of zero magnitude, or a dividend too large for it.
     DivisionUndefined,
-    /// EDRUPT, whose effect is left out of this emulator.
+    /// EDRUPT, whose effect this emulator leaves out.
     Edrupt,
 }
 
@@ -57,7 +57,7 @@ pub const WRITE_MCT: u64 = 2;
 /// What an order did.
 #[derive(Clone, Copy, Debug, PartialEq, Eq)]
 pub enum Ran {
-    /// Nothing shows outside; the order took so many cycles.
+    /// Nothing is visible outside; the order took this many cycles.
     Quiet(u64),
     /// It wrote a channel from 5 to 777 octal, which then had this word. It took `WRITE_MCT` cycles.
     Wrote(u16, Narrow),
@@ -70,7 +70,7 @@ impl Processor {
     ghost use Rattle.agc_store.specs.Memory.{read_of};
     ghost use Rattle.agc_processor.specs.Processor.{edit_again, skip, fetched, names, names_wide};
 
-    /// Reads a word; an editing register is edited again.
+    /// Reads a word; an editing register edits it again.
     #[inline]
     pub(crate) fn read_again(&mut self, k: Addr) -> Wide
         ensures word { result ≡ read_of self.old.store k }
@@ -79,7 +79,7 @@ impl Processor {
         self.store.read_and_edit(k)
     }
 
-    /// Leaves out so many of the orders that follow.
+    /// Skips the next `count` orders.
     #[inline]
     pub(crate) fn skip(&mut self, count: u8)
         ensures { self.new ≡ skip count self.old }
@@ -88,7 +88,7 @@ impl Processor {
         self.store.set_z(z.skip(count));
     }
 
-    /// Takes the word at Z in hand, and counts Z on.
+    /// Fetches the word at Z, and increments Z.
     #[inline]
     #[tactic(auto, unfolding(crate::specs::Processor::fetched))]
     pub(crate) fn fetch_next(&mut self)
@@ -99,7 +99,7 @@ impl Processor {
         self.store.set_z(z.next());
     }
 
-    /// The address names this erasable cell.
+    /// Returns whether the address names this erasable cell.
     #[inline]
     pub(crate) fn names(&self, cell: u16, k: Addr) -> bool
         ensures { result ≡ names cell k self.now }
@@ -107,7 +107,7 @@ impl Processor {
         self.store.named_cell(k) == Some(cell)
     }
 
-    /// The address names A or Q.
+    /// Returns whether the address names A or Q.
     #[inline]
     pub(crate) fn names_wide(&self, k: Addr) -> bool
         ensures { result ≡ names_wide k self.now }

@@ -1,10 +1,10 @@
-//! The signs of words: +1, -1 and +0, which orders add and leave, and what orders ask of a sign.
+//! The signs of words: +1, -1 and +0, which orders add and leave, and the tests of a sign.
 ghost use Rattle.std.specs.Prelude.{◌≡◌, ◌==◌, ◌||◌, ◌<◌};
 ghost use Rattle.agc_processor.specs.Signs.{overflow_word, ccs_skip};
 
 use agc_word::{Over, Wide};
 
-/// What an overflow leaves in A: +1 or -1, or +0 where there is none.
+/// Returns what an overflow leaves in A: +1 or -1, or +0 without overflow.
 pub(crate) fn word_of_overflow(over: Over) -> Wide
     ensures { result ≡ overflow_word over }
 {
@@ -15,7 +15,7 @@ pub(crate) fn word_of_overflow(over: Over) -> Wide
     }
 }
 
-/// The sign, bit 16, is minus.
+/// Returns whether the sign, bit 16, is minus.
 #[inline]
 pub(crate) fn is_minus(x: Wide) -> bool
     ensures { result ≡ x.minus }
@@ -23,7 +23,7 @@ pub(crate) fn is_minus(x: Wide) -> bool
     x.bits() >= 0o100000
 }
 
-/// Either zero.
+/// Returns whether the word is either zero.
 #[inline]
 pub(crate) fn is_zero(x: Wide) -> bool
     ensures { result ≡ (x.magnitude == 0) }
@@ -32,7 +32,7 @@ pub(crate) fn is_zero(x: Wide) -> bool
     bits == 0 || bits == 0o177777
 }
 
-/// What BZMF jumps on: the sign minus, or +0.
+/// Returns whether BZMF jumps: the sign is minus, or the word is +0.
 #[inline]
 pub(crate) fn is_minus_or_plus_zero(x: Wide) -> bool
     ensures { result ≡ (x.minus || (x.magnitude == 0)) }
@@ -41,11 +41,11 @@ pub(crate) fn is_minus_or_plus_zero(x: Wide) -> bool
     bits == 0 || bits >= 0o100000
 }
 
-/// How many orders CCS leaves out: none for a positive word, then +0, negative, -0.
+/// Returns how many orders CCS skips: 0 for a positive word, 1 for +0, 2 for a negative word, 3 for -0.
 #[inline]
 pub(crate) fn orders_left_out(x: Wide) -> u8
     ensures left_out { result ≡ ccs_skip x }
-    ensures few { result < 4 }
+    ensures bound { result < 4 }
 {
     match x.bits() {
         0 => 1,

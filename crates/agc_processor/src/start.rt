@@ -7,13 +7,13 @@ use agc_store::{Addr, Rope, Store};
 use agc_word::Narrow;
 use agc_word::channels::{CHAN30, CHAN31, CHAN32, CHAN33};
 
-/// Where a run begins.
+/// The address where a run begins.
 const START: u16 = 0o4000;
 
 impl Processor {
     ghost use Rattle.agc_processor.specs.Start.{start_processor};
 
-    /// The processor at the start of a run: the order at 4000 octal is in hand.
+    /// Returns the processor at the start of a run: the order at 4000 octal is in hand.
     #[tactic(auto, unfolding(crate::specs::Start::start_processor, agc_store::specs::Cells::start_memory, agc_store::specs::Cells::put_of))]
     pub fn new(rope: Rope) -> Processor
         ensures start { result ≡ start_processor rope }
@@ -28,7 +28,7 @@ impl Processor {
             channels: start_channels(),
             hand,
             extracode: false,
-            midway: false,
+            uninterruptible: false,
             inhibited: false,
             serving: false,
             requests: [false; 10],
@@ -43,7 +43,7 @@ impl Processor {
     }
 }
 
-/// The channels at the start: the inputs from the spacecraft in 30 to 33 octal are not asserted.
+/// Returns the channels at the start: the inputs from the spacecraft in 30 to 33 octal are not asserted.
 #[tactic(auto, unfolding(crate::specs::Start::channels_at_start))]
 fn start_channels<const N: usize>() -> [Narrow; N]
     requires { 0o33 < N }

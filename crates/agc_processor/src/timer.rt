@@ -3,12 +3,12 @@ ghost use Rattle.std.specs.Prelude.{◌≡◌};
 ghost use Rattle.agc_store.specs.Places.{erasable_bank_size};
 ghost use Rattle.agc_processor.specs.Timer.{timer_name};
 
-use crate::interrupt::Rupt;
-use crate::processor::Processor;
-use agc_clock::{
+use crate::clock::{
     TIME1_FIRST, TIME3_FIRST, TIME4_FIRST, TIME5_FIRST, due_from, step_is_due, time6_due_from,
     time6_periods,
 };
+use crate::interrupt::Rupt;
+use crate::processor::Processor;
 use agc_store::place::{TIME1, TIME2, TIME3, TIME4, TIME5, TIME6};
 use agc_word::channels::CHAN13;
 use agc_word::{Carry, Narrow, Pulse};
@@ -24,7 +24,7 @@ pub enum Timer {
 }
 
 impl Timer {
-    /// The name of its counter.
+    /// Returns the name of its counter.
     pub fn name(self) -> &'static str
         ensures { result.now ≡ timer_name self }
     {
@@ -44,7 +44,7 @@ impl Processor {
     ghost use Rattle.agc_processor.specs.Channel.{switch_word};
     ghost use Rattle.agc_processor.specs.Timer.{is_any_due, due_timer, IsCounted, steps_of, timer_step, time1_step, time3_step, time4_step, time5_step, time6_step, is_time6_due, set_counter, counter, tick};
 
-    /// The first timer whose step is due at a cycle.
+    /// Returns the first timer whose step is due at a cycle.
     #[tactic(auto, unfolding(crate::specs::Timer::due_timer))]
     pub fn due_timer(&self, cycle: u64) -> Option<Timer>
         requires { cycle < 2 ^ 41 }
@@ -67,11 +67,11 @@ impl Processor {
         }
     }
 
-    /// A timer takes its step; returns the cycles that it costs.
+    /// Steps a timer; returns the cycles that the step costs.
     pub fn step_timer(&mut self, timer: Timer) -> u64
         requires counted { steps_of timer self.old.timers < 2 ^ 60 }
         ensures step { (self.new, result) ≡ timer_step timer self.old }
-        ensures few { result ≤ 2 }
+        ensures bound { result ≤ 2 }
     {
         match timer {
             Timer::Time1 => self.step_time1(),
@@ -82,7 +82,7 @@ impl Processor {
         }
     }
 
-    /// TIME6 is on, and a period has gone by that it has not counted.
+    /// Returns whether TIME6 is on and a period has passed that it has not counted.
     fn is_time6_due(&self, cycle: u64) -> bool
         requires { cycle < 2 ^ 41 }
         ensures { result ≡ is_time6_due cycle self.now.timers (switch_word self.now) }
@@ -90,8 +90,8 @@ impl Processor {
         self.is_time6_on() && self.timers.mark < time6_periods(cycle)
     }
 
-    /// The first cycle at which some timer's step is due; 0 where that is beyond counting.
-    pub fn timers_calm_until(&self) -> u64
+    /// Returns the first cycle at which some timer's step is due; 0 if that is unknown.
+    pub fn timers_quiet_until(&self) -> u64
         ensures none { (cycle : ℕ) → cycle < result → is_any_due cycle self.now.timers (switch_word self.now) ≡ false }
         ensures due { 0 < result → is_any_due result self.now.timers (switch_word self.now) ≡ true }
         ensures known { IsCounted self.now.timers → 0 < result }
@@ -121,7 +121,7 @@ impl Processor {
         carry
     }
 
-    /// Counts in a counter of bank 0, whose carry requests an interrupt.
+    /// Increments a counter of bank 0; its carry requests an interrupt.
     fn tick(&mut self, place: u16, rupt: Rupt)
         requires low { 0o10 ≤ place }
         requires high { place < erasable_bank_size }
@@ -132,12 +132,12 @@ impl Processor {
         }
     }
 
-    /// TIME1 steps; its carry steps TIME2, at a cycle of its own.
+    /// Steps TIME1; its carry steps TIME2, at the cost of another cycle.
     #[tactic(auto, unfolding(crate::specs::Timer::time1_step))]
     fn step_time1(&mut self) -> u64
         requires { self.old.timers.time1 < 2 ^ 60 }
         ensures step { (self.new, result) ≡ time1_step self.old }
-        ensures few { result ≤ 2 }
+        ensures bound { result ≤ 2 }
     {
         self.timers.time1 += 1;
         match self.pulse(TIME1, Pulse::Pinc) {
@@ -153,7 +153,7 @@ impl Processor {
     fn step_time3(&mut self) -> u64
         requires { self.old.timers.time3 < 2 ^ 60 }
         ensures step { (self.new, result) ≡ time3_step self.old }
-        ensures few { result ≤ 2 }
+        ensures bound { result ≤ 2 }
     {
         self.timers.time3 += 1;
         self.tick(TIME3, Rupt::T3rupt);
@@ -164,7 +164,7 @@ impl Processor {
     fn step_time4(&mut self) -> u64
         requires { self.old.timers.time4 < 2 ^ 60 }
         ensures step { (self.new, result) ≡ time4_step self.old }
-        ensures few { result ≤ 2 }
+        ensures bound { result ≤ 2 }
     {
         self.timers.time4 += 1;
         self.tick(TIME4, Rupt::T4rupt);
@@ -175,19 +175,19 @@ impl Processor {
     fn step_time5(&mut self) -> u64
         requires { self.old.timers.time5 < 2 ^ 60 }
         ensures step { (self.new, result) ≡ time5_step self.old }
-        ensures few { result ≤ 2 }
+        ensures bound { result ≤ 2 }
     {
         self.timers.time5 += 1;
         self.tick(TIME5, Rupt::T5rupt);
         1
     }
 
-    /// TIME6 goes towards zero; the step that finds zero requests T6RUPT and puts its switch off.
+    /// Steps TIME6 towards zero; a step that finds zero requests T6RUPT and switches TIME6 off.
     #[tactic(auto, unfolding(crate::specs::Timer::time6_step))]
     fn step_time6(&mut self) -> u64
         requires { self.old.timers.mark < 2 ^ 60 }
         ensures step { (self.new, result) ≡ time6_step self.old }
-        ensures few { result ≤ 2 }
+        ensures bound { result ≤ 2 }
     {
         self.timers.mark += 1;
         if self.pulse(TIME6, Pulse::Dinc) == Carry::Out {

@@ -1,8 +1,0 @@
-mod Extends
-mod Returns
-mod Steps
-mod Pairs
-mod Frame
-mod Still
-pub mod Rows
-mod First

@@ -1,8 +1,0 @@
-use Rattle.agc_laws.proofs.Rows.{basic_changes, extracode_changes}
-use Rattle.agc_laws.proofs.orders.orders_change_their_row.Goals as goal
-
-pub returns-clause-basic : goal.returns-clause-basic
-returns-clause-basic c = basic_changes
-
-pub returns-clause-extracode : goal.returns-clause-extracode
-returns-clause-extracode c = extracode_changes

@@ -1,5 +1,0 @@
-pub mod Leaves
-pub mod Service
-pub mod Row
-pub mod Table
-pub mod Requests
