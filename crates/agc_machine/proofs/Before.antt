@@ -1,4 +1,4 @@
--- The run up to a cycle: boundary after boundary, as the next write is found.
+-- The run up to a cycle: boundary after boundary, in the way the next write is found.
 use Rattle.std.proofs.Common.{◌≡◌, ℕ, ◌≤◌, ◌<◌, suc, zero, Bool, true, false, None, refl, ap, sym, ◌∙◌, subst, arith}
 use Rattle.std.specs.Prelude.{nat_le, if◌then◌else◌}
 use Rattle.std.proofs.lemmas.Bool.Decides.{nat_tests}
@@ -23,7 +23,7 @@ step_same cycle go stay s (t, stepped.Quiet) h f = either_same (nat_le cycle t.c
 step_same cycle go stay s (t, stepped.Wrote write) h f = refl
 step_same cycle go stay s (t, stepped.Stopped why) h f = refl
 
--- with boundaries enough, more make no difference
+-- with enough boundaries, more make no difference
 same_before : (n m cycle : ℕ) (s : State) → boundaries_left s ≤ n → boundaries_left s ≤ m → next_before_within n cycle s ≡ next_before_within m cycle s
 unfolding next_before_within
 same_before zero m cycle s h k = absurd (omega (arith, some_left s))
@@ -73,7 +73,8 @@ before_at_end cycle s t stepped.Quiet e shows = absurd (shows refl)
 before_at_end cycle s t (stepped.Wrote write) e shows = before_at_write cycle s t write e
 before_at_end cycle s t (stepped.Stopped why) e shows = before_at_stop cycle s t why e
 
--- A way up to a cycle is a part of the way to the next write, and of the way up to a later cycle: each goes on after it.
+-- A way up to a cycle is a part of the way to the next write, and of the way up to a later cycle: each continues after
+-- it.
 either_next : (b : Bool) (t : State) (way : State × Stepped) → next_of t ≡ while_quiet next_of way →
     next_of t ≡ while_quiet next_of (if b then (t, stepped.Quiet) else way)
 either_next true t way h = refl
@@ -194,7 +195,7 @@ way_by P cycle go_on (t, stepped.Quiet) h f = either_way P (nat_le cycle t.cycle
 way_by P cycle go_on (t, stepped.Wrote write) h f = h
 way_by P cycle go_on (t, stepped.Stopped why) h f = h
 
--- what holds where nothing shows, and after every boundary, holds where a way ends
+-- what is true if nothing is visible, and after every boundary, is true where a way ends
 within_holds : (P : State × Stepped → Type 0) → ((s : State) → P (s, stepped.Quiet)) → ((s : State) → P (boundary None s)) →
     (n cycle : ℕ) (s : State) → P (next_before_within n cycle s)
 unfolding next_before_within

@@ -47,7 +47,7 @@ pub first_due : (cycle : ℕ) (events : List Event) (what : What) → due_event 
 first_due cycle [] what h = cc
 first_due cycle (event ∷ rest) what h = due_by (nat_le event.cycle cycle) cycle event rest what refl h
 
--- from each case on what comes applies
+-- from each case, what comes applies
 address_applies : (b : Bool) (s : State) → is_reached s.until s.processor ≡ b → IsClockQuiet s → pending s.processor ≡ None →
     Applies ((if b then Some (upcoming.Stop stop.Reached) else None) otherwise order_comes s) s
 address_applies true s e q n = (q, n, e)
@@ -79,7 +79,7 @@ upcoming_applies s e =
     subst (λ (o : Option Stop). Applies (stop_again o otherwise limit_comes s otherwise event_comes s otherwise timer_comes s otherwise interrupt_comes s otherwise address_comes s otherwise order_comes s) s)
     (sym e) (limit_applies (nat_le s.limit s.cycle) s refl)
 
--- what comes does not ask whether the machine has begun
+-- what comes does not depend on whether the machine has begun
 pub applies_begun : (s : State) (u : Upcoming) → s.stopped ≡ None → u ≡ upcoming_of s → Applies u (record s { begun = true })
 unfolding upcoming_of
 applies_begun s u n e = subst (λ (u : Upcoming). Applies u (record s { begun = true })) (sym e) (upcoming_applies (record s { begun = true }) n)
@@ -90,7 +90,7 @@ pub event_upcoming : (s : State) (what : What) → s.stopped ≡ None → s.cycl
 unfolding upcoming_of
 event_upcoming s what e l d = let f : nat_le s.limit s.cycle ≡ false = grind (arith, nat_tests) in rw (e, f, d) refl
 
--- where the clock brings nothing an interrupt, the stop address or the order comes
+-- if the clock brings nothing, an interrupt, the stop address or the order comes
 clock_quiet : (s : State) → s.stopped ≡ None → IsClockQuiet s →
     upcoming_of s ≡ (interrupt_comes s otherwise address_comes s otherwise order_comes s)
 unfolding upcoming_of
@@ -110,14 +110,14 @@ pub order_upcoming : (s : State) → s.stopped ≡ None → IsClockQuiet s → p
     upcoming_of s ≡ upcoming.Order (in_hand s.processor)
 order_upcoming s e q n r = clock_quiet s e q ∙ rw (n, r) refl
 
--- what comes is the same where the same event is due
+-- what comes is the same if the same event is due
 pub same_upcoming : (s : State) (events : List Event) → due_event s.cycle events ≡ due_event s.cycle s.events →
     upcoming_of (record s { events = events }) ≡ upcoming_of s
 unfolding upcoming_of
 same_upcoming s events e =
     ap (λ (o : Option What). stop_again s.stopped otherwise limit_comes s otherwise option_map (λ what. upcoming.Event what) o otherwise timer_comes s otherwise interrupt_comes s otherwise address_comes s otherwise order_comes s) e
 
--- a stopped machine says why again
+-- a stopped machine returns its stop again
 stop_is_told : (o : Option Stop) (why : Stop) (rest : Upcoming) → o ≡ Some why → (stop_again o otherwise rest) ≡ upcoming.Stop why
 stop_is_told (Some other) why rest e = cc
 stop_is_told None why rest e = cc
@@ -142,7 +142,7 @@ by_stop : (o : Option Stop) (P : State × Stepped → Type 0) (s : State) → s.
 by_stop (Some why) P s e stays comes = stays why e
 by_stop None P s e stays comes = comes e
 
--- what holds after a stop and after whatever applies holds after every boundary
+-- what is true after a stop and after whatever applies is true after every boundary
 pub by_cases : (P : State × Stepped → Type 0) (s : State) → ((why : Stop) → s.stopped ≡ Some why → P (s, stepped.Stopped why)) →
     ((u : Upcoming) → Applies u s → P (carried_out u (record s { begun = true }))) → P (boundary None s)
 unfolding boundary

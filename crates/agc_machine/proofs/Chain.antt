@@ -1,4 +1,4 @@
--- The chain of boundaries comes to its end: what is left falls with each boundary, and enough is as good as more.
+-- The chain of boundaries comes to its end: what is left falls with each boundary, and extra boundaries change nothing.
 use Rattle.std.proofs.Common.{◌≡◌, ℕ, ◌+◌, ◌≤◌, ◌<◌, suc, zero, List, [], ◌∷◌, length, Option, Some, None, true, refl, ap, sym, ◌∙◌, subst, arith, lit≤}
 use Rattle.std.specs.Prelude.{IsSome}
 use Rattle.agc_word.specs.declared.pulse.Carry.{Carry}
@@ -37,7 +37,7 @@ by_order_falls : (s : State) → s.cycle < s.limit → Falls s (by_order s)
 unfolding by_order
 by_order_falls s h = order_falls s (order_effect s.cycle s.processor) h (order_effect-orderly s.cycle s.processor)
 
--- a timer's step costs a cycle at least
+-- a timer's step costs at least one cycle
 time2_costs : (c : Carry) (p : Processor) → 1 ≤ (time2_by c p).1
 time2_costs carry.Out p = lit≤ tt
 time2_costs carry.None p = lit≤ tt
@@ -77,7 +77,7 @@ pub some_left : (s : State) → 1 ≤ boundaries_left s
 unfolding boundaries_left
 some_left s = omega arith
 
--- with boundaries enough, more make no difference
+-- with enough boundaries, more make no difference
 pub same_next : (n m : ℕ) (s : State) → boundaries_left s ≤ n → boundaries_left s ≤ m → next_within n s ≡ next_within m s
 unfolding next_within
 same_next zero m s h k = absurd (omega (arith, some_left s))
@@ -103,7 +103,7 @@ next_after_quiet s t e =
     let fewer : boundaries_left t < boundaries_left s = fewer_after_quiet s t e in
     same_next (boundaries_left t) (boundaries_left s) t (omega arith) (omega arith) ∙ ap (while_quiet (next_within (boundaries_left s))) e ∙ sym (next_by_boundary s)
 
--- a boundary that writes, or that stops, is the next one itself
+-- a boundary that writes, or that stops, is itself the next one
 pub next_at_write : (s t : State) (write : ChannelWrite) → (t, stepped.Wrote write) ≡ boundary None s → (t, next.Wrote write) ≡ next_of s
 next_at_write s t write e = ap (while_quiet (next_within (boundaries_left s))) e ∙ sym (next_by_boundary s)
 
@@ -158,7 +158,7 @@ run_at_write s t write e = run_by_next s ∙ ap (while_writing run_of) (sym e)
 pub run_at_stop : (s t : State) (why : Stop) → (t, next.Stopped why) ≡ next_of s → run_of s ≡ record { writes = []; last = t }
 run_at_stop s t why e = run_by_next s ∙ ap (while_writing run_of) (sym e)
 
--- fewer boundaries are left after a write, which a loop over writes can count down by
+-- fewer boundaries are left after a write, so that a loop over writes can count down
 pub fewer_after_write : (s t : State) (write : ChannelWrite) → (t, next.Wrote write) ≡ next_of s → boundaries_left t < boundaries_left s
 fewer_after_write s t write e = (subst (Comes s) (sym e) (next_comes s)).0
 
@@ -190,7 +190,7 @@ stays : (stopped : Option Stop) (s : State) (why : Stop) → stopped ≡ Some wh
 stays (Some other) s why e = cc
 stays None s why e = cc
 
--- a stopped machine stays as it is, and says why again
+-- a stopped machine does not change, and returns its stop again
 pub stopped_stays : (s : State) (why : Stop) → s.stopped ≡ Some why → boundary None s ≡ (s, stepped.Stopped why)
 unfolding boundary
 stopped_stays s why e = stays s.stopped s why e
@@ -207,7 +207,7 @@ stops_by n s (t, stepped.Wrote write) h f = f t h.0
 stops_by n s (t, stepped.Stopped why) h f =
     subst (λ (u : State). IsSome u.stopped) (sym (stopped_for_ever n t why h.0)) (subst (λ (o : Option Stop). IsSome o) (sym h.0) refl)
 
--- no run goes on for more boundaries than are left at its start
+-- no run has more boundaries than are left at its start
 pub stops_in_time : (n : ℕ) (s : State) → boundaries_left s ≤ n → IsSome (after n s).stopped
 unfolding after
 stops_in_time zero s h = absurd (omega (arith, some_left s))

@@ -1,4 +1,4 @@
--- The events left are the script from the place of the next one on.
+-- The events left are the script from the position of the next one on.
 use Rattle.std.proofs.Common.{◌≡◌, ℕ, ◌+◌, ◌<◌, ◌≤◌, suc, zero, List, [], ◌∷◌, length, drop, Some, None, true, false, refl, add-one, arith}
 use Rattle.std.specs.Prelude.{slice_get, nat_le}
 use Rattle.std.proofs.lemmas.Bool.Decides.{nat_tests}

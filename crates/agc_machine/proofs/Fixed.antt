@@ -22,7 +22,7 @@ use Rattle.agc_processor.specs.Timer.{carried, counter, set_counter, switched_of
 use Rattle.agc_processor.specs.declared.timer.Timer.{Timer}
 use Rattle.agc_processor.specs.declared.timer.Timer.TheVariants as timer
 use Rattle.agc_processor.proofs.Fixed.{order_fixed}
-use Rattle.agc_machine.specs.Happening.{happened, is_shift, pressed, proceeded, pulsed_counter}
+use Rattle.agc_machine.specs.EventEffect.{happened, is_shift, pressed, proceeded, pulsed_counter}
 
 -- the fixed words are as they were
 abbrev pub SameFixed : Processor → Processor → Type 0

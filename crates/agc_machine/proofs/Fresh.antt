@@ -20,8 +20,8 @@ started s words events limit u v h = ap (λ (x : State). record x { until = v })
 pub sound_until : (m : Engine) (v : Option StopAddress) → IsSound m → m.begun ≡ false → IsSound (record m { until = v })
 sound_until m v h not_begun =
     record {
-      calm = λ l. absurd (true_is_not_false (sym (h.calm l).going.begun ∙ not_begun));
-      pace = λ l. absurd (true_is_not_false (sym (h.calm l).going.begun ∙ not_begun));
+      quiet = λ l. absurd (true_is_not_false (sym (h.quiet l).going.begun ∙ not_begun));
+      pace = λ l. absurd (true_is_not_false (sym (h.quiet l).going.begun ∙ not_begun));
       place = h.place;
       some = h.some;
       limit = h.limit;
@@ -30,7 +30,7 @@ sound_until m v h not_begun =
       fresh = λ f. started (state_of m) _ _ _ m.until v (h.fresh f);
     }
 
--- a start is told by its fixed words, its events, its limit and its stop address
+-- a start is determined by its fixed words, its events, its limit and its stop address
 same_start : (s t : State) → IsAtStart s → IsAtStart t → IsSameRun s t → s.events ≡ t.events → s ≡ t
 same_start s t h k same e =
     h ∙ ap (λ (words : List Number). start_state words s.events s.limit s.until) (sym same.0)

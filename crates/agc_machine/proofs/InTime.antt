@@ -1,4 +1,5 @@
--- The timers of a run are never ahead of its cycle, so none of them gets beyond counting below the largest limit.
+-- The timers of a run are never ahead of its cycle, so none of them exceeds what can be counted below the largest
+-- limit.
 use Rattle.std.proofs.Common.{◌≡◌, ℕ, ◌+◌, ◌<◌, ◌≤◌, List, length, Bool, true, false, Option, Some, None, refl, sym, subst, arith, lit≤}
 use Rattle.std.specs.Prelude.{◌==◌, ◌&&◌, ◌^◌, if◌then◌else◌, nat_lt, IfSome}
 use Rattle.std.proofs.lemmas.Bool.Decides.{nat_tests}
@@ -20,17 +21,17 @@ use Rattle.agc_processor.specs.declared.timer.Timer.TheVariants as timer
 use Rattle.agc_processor.specs.Channel.{is_on, switch_word}
 use Rattle.agc_processor.specs.Effect.{order_effect}
 use Rattle.agc_processor.specs.Interrupt.{interrupt_cycles, interrupted}
-use Rattle.agc_clock.specs.Due.{is_due, time6_periods}
-use Rattle.agc_clock.specs.Period.{pulses_at, time1_first, time3_first, time4_first, time5_first}
+use Rattle.agc_processor.specs.Due.{is_due, time6_periods}
+use Rattle.agc_processor.specs.Period.{pulses_at, time1_first, time3_first, time4_first, time5_first}
 use Rattle.agc_processor.specs.Processor.{◌▷◌}
 use Rattle.agc_processor.specs.Start.{start_processor}
 use Rattle.agc_processor.specs.Timer.{IsCounted, carried, counter, set_counter, switched_off, time2_by, time1_step, time3_step, time4_step, time5_step, time6_step, is_time6_due, due_timer, steps_of, timer_step}
 use Rattle.agc_processor.proofs.Timed.{order_timed, set_channel_timed, with_periods}
 use Rattle.agc_machine.specs.Engine.{IsInTime, IsSound}
 use Rattle.agc_machine.specs.declared.engine.Engine.{Engine}
-use Rattle.agc_machine.specs.Happening.{happened, is_shift, pressed, proceeded, pulsed_counter}
+use Rattle.agc_machine.specs.EventEffect.{happened, is_shift, pressed, proceeded, pulsed_counter}
 
--- at a later cycle the timers are in time still
+-- at a later cycle the timers are still in time
 pub later_in_time : (c d : ℕ) (t : Timers) → IsInTime c t → c ≤ d → IsInTime d t
 later_in_time c d t h l =
     record {
@@ -41,7 +42,7 @@ later_in_time c d t h l =
       mark = omega (arith, h.mark);
     }
 
--- and up to the end of the longest run they can be counted with
+-- and up to the end of the longest run they can be counted
 pub counted_with : (c : ℕ) (t : Timers) → IsInTime c t → c ≤ 1000000000006 → IsCounted t
 counted_with c t h l =
     (omega (arith, h.time1), omega (arith, h.time3), omega (arith, h.time4), omega (arith, h.time5), omega (arith, h.mark))
@@ -51,11 +52,11 @@ pub start_in_time : (words : List Number) → IsInTime 0 (start_processor words)
 unfolding start_processor
 start_in_time words = record { time1 = lit≤ tt; time3 = lit≤ tt; time4 = lit≤ tt; time5 = lit≤ tt; mark = omega arith }
 
--- TIME6's mark at the periods gone by is in time
+-- TIME6's mark at the periods passed is in time
 with_periods_in_time : (c : ℕ) (t : Timers) → IsInTime c t → IsInTime c (with_periods c t)
 with_periods_in_time c t h = record { time1 = h.time1; time3 = h.time3; time4 = h.time4; time5 = h.time5; mark = omega arith }
 
--- a word comes into a channel
+-- a word enters a channel
 set_channel_in_time : (c h : ℕ) (w : Number) (p : Processor) → IsInTime c p.timers → IsInTime c (happened c (what.Input h w) p).timers
 unfolding happened
 set_channel_in_time c h w p t = set_channel_timed (IsInTime c) c h w p t (with_periods_in_time c p.timers t)
@@ -73,7 +74,7 @@ unfolding interrupted
 interrupt_in_time c r p q t e =
     subst (λ (x : Processor). IsInTime (c + interrupt_cycles) x.timers) (sym e) (later_in_time c (c + interrupt_cycles) p.timers t (omega arith))
 
--- a carry asks for an interrupt, and leaves the timers alone
+-- a carry requests an interrupt, and leaves the timers unchanged
 carried_in_time : (c : ℕ) (r : Rupt) (x : Carry) (p : Processor) → IsInTime c p.timers → IsInTime c (carried r x p).timers
 carried_in_time c r carry.Out p t = t
 carried_in_time c r carry.None p t = t
@@ -113,7 +114,7 @@ switch_in_time : (c : ℕ) (x : Carry) (p : Processor) → IsInTime c p.timers �
 switch_in_time c carry.Out p t = t
 switch_in_time c carry.None p t = t
 
--- a step more where one is due is at most the pulses gone by
+-- one more step when one is due is at most the pulses passed
 step_counted : (c first taken : ℕ) → 0 < first → is_due c first taken ≡ true → taken + 1 ≤ pulses_at c
 step_counted c first taken some due = grind (arith, nat_tests)
 
@@ -176,7 +177,7 @@ step_in_time c d p q t cycles h e is l =
     let stepped = subst (λ (o : Option Timer). IfSome o (λ t. IsInTime c (timer_step t p).0.timers)) e (due_in_time c p h) in
     later_in_time c d q.timers (subst (λ (x : Processor × ℕ). IsInTime c x.0.timers) (sym is) stepped) l
 
--- and none has taken more steps than can be counted on
+-- and none has taken more steps than can be counted
 pub steps_counted : (t : Timer) (c : ℕ) (timers : Timers) → IsInTime c timers → c ≤ 1000000000006 → steps_of t timers < 2 ^ 60
 steps_counted timer.Time1 c timers h l = omega (arith, h.time1)
 steps_counted timer.Time3 c timers h l = omega (arith, h.time3)
@@ -184,9 +185,9 @@ steps_counted timer.Time4 c timers h l = omega (arith, h.time4)
 steps_counted timer.Time5 c timers h l = omega (arith, h.time5)
 steps_counted timer.Time6 c timers h l = omega (arith, h.mark)
 
--- a machine that has begun is sound where no calm cycle is known
+-- a machine that has begun is sound if `quiet_until` is 0
 pub sound_slowly : (m : Engine) → m.next ≤ length m.script → 0 < m.limit → m.limit ≤ 1000000000000 → m.cycle < m.limit + 6 →
-    IsInTime m.cycle m.processor.timers → m.calm_until ≡ 0 → m.begun ≡ true → IsSound m
+    IsInTime m.cycle m.processor.timers → m.quiet_until ≡ 0 → m.begun ≡ true → IsSound m
 sound_slowly m place some limit cycle in_time not_quiet begun =
     record {
       place = place;
@@ -194,7 +195,7 @@ sound_slowly m place some limit cycle in_time not_quiet begun =
       limit = limit;
       cycle = cycle;
       in_time = in_time;
-      calm = λ l. let no : ⊥ = omega arith in absurd no;
+      quiet = λ l. let no : ⊥ = omega arith in absurd no;
       pace = λ l. let no : ⊥ = omega arith in absurd no;
       fresh = λ e. cc;
     }

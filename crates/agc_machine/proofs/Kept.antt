@@ -1,4 +1,4 @@
--- No boundary changes what a run was given for good: the fixed words, the limit and the stop address.
+-- No boundary changes the constants of a run: the fixed words, the limit and the stop address.
 use Rattle.std.proofs.Common.{Option, Some, None, true, refl}
 use Rattle.agc_script.specs.declared.event.What.{What}
 use Rattle.agc_processor.specs.declared.processor.Processor.{Processor}

@@ -1,4 +1,4 @@
--- A live run goes on: by a boundary with a live event, by a stretch without one, and to its stop.
+-- A live run continues: by a boundary with a live event, by a stretch without one, and to its stop.
 use Rattle.std.proofs.Common.{◌≡◌, ℕ, ◌<◌, suc, zero, List, [], ◌∷◌, ◌++◌, replicate, Option, Some, None, Bool, true, false, refl, ap, sym, ◌∙◌, subst, arith}
 use Rattle.std.specs.Prelude.{nat_le, if◌then◌else◌, map, IsSome, All}
 use Rattle.std.proofs.lemmas.List.{append-nil, map-append}
@@ -64,7 +64,7 @@ pub live_starts : (s : State) → IsLive s [] [] s
 unfolding chain tape_of AreWanted writes_in
 live_starts s = record { lives = []; wanted = tt; taped = refl; written = refl; last = refl }
 
--- a live run, and some boundaries more
+-- a live run, and some more boundaries
 pub goes_on : (start now : State) (tape : List Event) (writes : List ChannelWrite) (more : List (Option What)) → IsLive start tape writes now →
     AreWanted more now → IsLive start (tape ++ tape_of more now) (writes ++ writes_in (chain more now).answers) (chain more now).last
 goes_on start now tape writes more h w =
@@ -186,7 +186,7 @@ stopped_tape start now tape writes why h e =
     subst (λ (t : List Event). TakesLive start t (with_tape t start)) (sym h.taped)
     (tape_is_taken h.lives start h.wanted (has_stopped start now tape writes why h e))
 
--- where the live events are keys: one key more
+-- for keys as live events: one more key
 pub live_key : (start now later : State) (tape : List (ℕ × Key)) (writes : List ChannelWrite) (key : Key) (answer : Stepped) →
     IsLive start (map key_event tape) writes now → WantsKey now → (later, answer) ≡ boundary (Some (what.Key key)) now →
     IsLive start (map key_event (tape ++ (now.cycle, key) ∷ [])) (writes ++ written answer) later

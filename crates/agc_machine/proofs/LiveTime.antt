@@ -1,4 +1,4 @@
--- In a live run time does not go back, and what was given was given before the present cycle.
+-- In a live run time does not go back, and all events were injected before the present cycle.
 use Rattle.std.specs.Prelude.{◌≡◌, ◌≤◌, List, [], ◌∷◌, ◌++◌, Option, Some, None}
 use Rattle.std.proofs.Common.{refl, subst, sym, ◌∙◌, arith, append-nil}
 use Rattle.std.proofs.lemmas.List.Elements.{All-cons, All-nil}
@@ -45,13 +45,13 @@ tape_before (Some what ∷ lives) s w =
     (omega (arith, live_later s what w.0, chain_later lives t w.1)) (tape_before lives t w.1)
 tape_before (None ∷ lives) s w = tape_before lives (boundary None s).0 w
 
--- what was given was given no later than now
+-- all events were injected no later than now
 pub live_is_not_before : (start now : State) (tape : List Event) (writes : List ChannelWrite) → IsLive start tape writes now → IsNotBefore tape now.cycle
 live_is_not_before start now tape writes h =
     subst (λ (s : State). IsNotBefore tape s.cycle) (sym h.last)
     (subst (λ (t : List Event). IsNotBefore t (chain h.lives start).last.cycle) (sym h.taped) (tape_before h.lives start h.wanted))
 
--- what a run was given for good stays
+-- the constants of a run stay
 chain_same : (lives : List (Option What)) (s : State) → IsSameRun s (chain lives s).last
 unfolding chain
 chain_same [] s = (refl, refl, refl)

@@ -1,4 +1,4 @@
--- Z is one past the address of the order in hand; past 7777 octal comes 0.
+-- Z is one past the address of the order in hand; 0 follows 7777 octal.
 use Rattle.std.proofs.Common.{◌≡◌, ℕ, ◌+◌, ◌<◌, arith}
 use Rattle.std.specs.Prelude.{◌==◌, ◌%◌}
 use Rattle.std.proofs.lemmas.Bool.Decides.{nat_tests}

@@ -1,4 +1,4 @@
--- Where the first comma stands, by what `split_once` answers.
+-- The position of the first comma, from the result of `split_once`.
 use Rattle.std.proofs.Common.{◌≡◌, ◌<◌, ℕ, List, length, arith}
 use Rattle.std.specs.Prelude.{Option, None, Some, MatchOption}
 use Rattle.std.specs.Borrow.{Bor}

@@ -21,7 +21,7 @@ use Rattle.agc_machine.proofs.Cases.{FirstDue, event_upcoming, first_due, none_d
 use Rattle.agc_machine.proofs.Before.{falls_shows}
 use Rattle.agc_machine.proofs.Kept.{boundary_keeps}
 use Rattle.agc_processor.specs.Effect.{order_effect}
-use Rattle.agc_machine.specs.Happening.{happened, cycles_of}
+use Rattle.agc_machine.specs.EventEffect.{happened, cycles_of}
 use Rattle.agc_machine.specs.Laws.{Falls, Comes, HasChannel, HasNextChannel}
 use Rattle.agc_machine.specs.Replay.{Chain, chain, tape_of, AreWanted, with_tape, writes_in, run_in}
 use Rattle.agc_machine.specs.Run.{Run, boundaries_left, next_of, run_of, while_writing}
@@ -32,7 +32,7 @@ use Rattle.agc_machine.proofs.Chain.{boundary_falls, stopped_stays, run_by_next,
 abbrev taped : List Event → State × Stepped → State × Stepped
 taped tape r = (with_tape tape r.0, r.1)
 
--- orders hand the events on
+-- orders leave the events unchanged
 ran_taped : (s : State) (tape : List Event) (r : Processor × Ran) → ran_order (with_tape tape s) r ≡ taped tape (ran_order s r)
 ran_taped s tape (p, ran.Quiet cycles) = refl
 ran_taped s tape (p, ran.Wrote channel value) = refl
@@ -78,7 +78,7 @@ later_tape s (t, stepped.Wrote write) [] e l f h = tt
 later_tape s (t, stepped.Wrote write) (entry ∷ tape) e l f h = let from : t.cycle ≤ entry.cycle = h.from in omega arith
 later_tape s (t, stepped.Stopped why) tape e l f h = subst (IsFrom (s.cycle + 1)) (sym (h.none why f.0)) tt
 
--- what is not due is so with live events of later cycles too
+-- what is not due is not due with later live events either
 not_due_by : (b : Bool) (cycle : ℕ) (event : Event) (events : List Event) (entry : Event) (tape : List Event) →
     nat_le event.cycle entry.cycle ≡ b → cycle < event.cycle → cycle + 1 ≤ entry.cycle → IsBefore cycle (joined (event ∷ events) (entry ∷ tape))
 not_due_by true cycle event events entry tape e h k =
@@ -114,7 +114,7 @@ begun s = record s { begun = true }
 comes_out : (s : State) (u : Upcoming) → s.stopped ≡ None → upcoming_of s ≡ u → boundary None s ≡ carried_out u (begun s)
 comes_out s u n e = (upcoming_comes s).comes n ∙ ap (λ (u : Upcoming). carried_out u (begun s)) e
 
--- the same comes with a tape among the events, where the same event is due
+-- the same comes with a tape among the events, if the same event is due
 along : (s : State) (u : Upcoming) (tape : List Event) → s.stopped ≡ None → upcoming_of s ≡ u →
     due_event s.cycle (joined s.events tape) ≡ due_event s.cycle s.events →
     carried_out u (with_tape tape (begun s)) ≡ taped tape (carried_out u (begun s)) → boundary None (with_tape tape s) ≡ taped tape (boundary None s)
@@ -191,7 +191,7 @@ pub live_happens : (s : State) (what : What) → WantsKey s →
 unfolding boundary
 live_happens s what w = event_boundary (fed (Some what) s) (live_event s what) s.events w.runs w.below refl (omega arith)
 
--- it is one without, where the tape begins with that event
+-- it is one without, if the tape begins with that event
 pub live_taped : (s : State) (what : What) (tape : List Event) → WantsKey s →
     boundary None (with_tape (live_event s what ∷ tape) s) ≡ taped tape (boundary (Some what) s)
 live_taped s what tape w =
@@ -228,7 +228,7 @@ tape_follows lives r w = record { from = tape_from lives r.0; none = λ why e. n
 abbrev chain_from : (lives : List (Option What)) → State × Stepped → Chain
 chain_from lives r = let rest = chain lives r.0 in record { answers = r.1 ∷ rest.answers; last = rest.last }
 
--- the chain of a live run, played again without live events
+-- the chain of a live run, replayed without live events
 pub chain_replays : (lives : List (Option What)) (s : State) → AreWanted lives s →
     chain (replicate (length lives) None) (with_tape (tape_of lives s) s) ≡ chain lives s
 unfolding chain tape_of AreWanted
@@ -280,7 +280,7 @@ live_run_replays lives s w h =
     let same : chain (replicate (length lives) None) (with_tape (tape_of lives s) s) ≡ chain lives s = chain_replays lives s w in
     chain_is_run (length lives) (with_tape (tape_of lives s) s) (subst (λ (c : Chain). IsSome c.last.stopped) (sym same) h) ∙ ap run_in same
 
--- a boundary shows writes to channels from 5 to 777 octal alone
+-- a boundary shows only writes to channels from 5 to 777 octal
 pub boundary_shows : (live : Option What) (s : State) (r : State × Stepped) → r ≡ boundary live s → HasChannel r.1
 unfolding boundary
 boundary_shows live s r e =
@@ -294,7 +294,7 @@ comes_shown s (t, next.Stopped why) c = tt
 pub next_shows : (s : State) (r : State × Next) → r ≡ next_of s → HasNextChannel r.1
 next_shows s r e = subst (λ (x : State × Next). HasNextChannel x.1) (sym e) (comes_shown s (next_of s) (next_comes s))
 
--- it leaves the events as they were, and answers nothing
+-- it leaves the events as they were, and returns nothing
 pub live_keeps_events : (s : State) (what : What) → WantsKey s → (boundary (Some what) s).0.events ≡ s.events
 live_keeps_events s what w = ap (λ (r : State × Stepped). r.0.events) (live_happens s what w)
 

@@ -1,4 +1,4 @@
--- An interrupt and the RESUME after it: Z and the order in hand lie in ZRUPT and BRUPT in between.
+-- An interrupt and the RESUME after it: Z and the order in hand are in ZRUPT and BRUPT in between.
 use Rattle.std.proofs.Common.{◌≡◌, ◌≢◌, ℕ, ◌+◌, ◌%◌, ◌<◌, ◌^◌, List, set, length, refl, ap, ◌∙◌, arith}
 use Rattle.std.proofs.lemmas.List.{length-set, get_or-set_same, get_or-set_other}
 use Rattle.std.proofs.lemmas.Bool.Decides.{nat_tests}
@@ -39,7 +39,7 @@ z_of-put m y h l =
     ∙ ap (λ (a : ℕ). pattern_of 15 (narrow_number a) % 4096) (z-address y h)
     ∙ z-address y h
 
--- what ZRUPT and BRUPT hold once Z has gone on to the vector
+-- what ZRUPT and BRUPT hold once Z is at the vector
 zrupt_held : (cells : List Number) (z hand w : Number) → 15 < length cells → cell_at zrupt_cell (cells_with (set (set cells zrupt_cell z) brupt_cell hand) z_cell w) ≡ z
 zrupt_held cells z hand w h =
     cell_at-cells_with (set (set cells zrupt_cell z) brupt_cell hand) z_cell zrupt_cell w (λ e. omega arith) (λ e. omega arith) (λ e. omega arith) (λ e. omega arith)

@@ -1,4 +1,4 @@
--- Below the calm cycle a boundary is an interrupt, the stop at the stop address, or the order in hand.
+-- Below `quiet_until` a boundary is an interrupt, the stop at the stop address, or the order in hand.
 use Rattle.std.proofs.Common.{◌≡◌, ℕ, ◌<◌, ◌≤◌, ◌⊎◌, min, Bool, true, false, Option, Some, None, refl, ap, sym, ◌∙◌, arith}
 use Rattle.std.specs.Prelude.{◌||◌, ◌&&◌, not, if◌then◌else◌}
 use Rattle.agc_machine.specs.declared.answer.Stop.TheVariants as stop
@@ -13,16 +13,16 @@ use Rattle.agc_processor.specs.Processor.{a_of}
 use Rattle.agc_word.specs.Arithmetic.{over_of}
 use Rattle.agc_processor.specs.declared.interrupt.Rupt.{Rupt}
 use Rattle.agc_processor.specs.Keeps.{IsSame}
-use Rattle.agc_machine.specs.Calm.{IsCalm, Serves}
-use Rattle.agc_machine.specs.declared.calm.Pace.{Pace}
-use Rattle.agc_machine.specs.declared.calm.Pace.TheVariants as pace
+use Rattle.agc_machine.specs.Quiet.{IsQuiet, Serves}
+use Rattle.agc_machine.specs.declared.quiet.Pace.{Pace}
+use Rattle.agc_machine.specs.declared.quiet.Pace.TheVariants as pace
 use Rattle.agc_machine.specs.State.{State}
 use Rattle.agc_processor.specs.Channel.{switch_word}
 use Rattle.agc_processor.specs.Timer.{due_timer, is_any_due, is_time6_due}
-use Rattle.agc_clock.specs.Due.{is_due}
-use Rattle.agc_clock.specs.Period.{time1_first, time3_first, time4_first, time5_first}
+use Rattle.agc_processor.specs.Due.{is_due}
+use Rattle.agc_processor.specs.Period.{time1_first, time3_first, time4_first, time5_first}
 
--- no timer steps where none is due
+-- no timer steps when none is due
 none_of_five : {X : Type 0} (a b c d e : Bool) (v w x y z : X) → (a || b || c || d || e) ≡ false →
     (if a then Some v else if b then Some w else if c then Some x else if d then Some y else if e then Some z else None) ≡ None
 none_of_five false false false false false v w x y z h = refl
@@ -42,70 +42,70 @@ pub none_or_none : (b : Bool) (o : Option Rupt) → o ≡ None → (if b then o 
 none_or_none true o e = e
 none_or_none false o e = refl
 
--- no interrupt is taken where none is requested
+-- no interrupt is taken when none is requested
 pub none_pending : (p : Processor) → first_request p ≡ None → pending p ≡ None
 unfolding pending
 none_pending p e = none_or_none (is_allowed p) _ e
 
-held_by : (serving inhibited midway none_over : Bool) (o : Option Rupt) → (serving || inhibited) ≡ true →
-    (if not serving && not inhibited && not midway && none_over then o else None) ≡ None
-held_by true inhibited midway none_over o e = refl
-held_by false true midway none_over o e = refl
-held_by false false midway none_over o e = cc
+held_by : (serving inhibited uninterruptible none_over : Bool) (o : Option Rupt) → (serving || inhibited) ≡ true →
+    (if not serving && not inhibited && not uninterruptible && none_over then o else None) ≡ None
+held_by true inhibited uninterruptible none_over o e = refl
+held_by false true uninterruptible none_over o e = refl
+held_by false false uninterruptible none_over o e = cc
 
--- nor while a service goes on or INHINT is in force
+-- nor during a service or while INHINT is in force
 pub held_off : (p : Processor) → (p.serving || p.inhibited) ≡ true → pending p ≡ None
 unfolding pending
-held_off p e = held_by p.serving p.inhibited p.midway (is_none_over (over_of (a_of p))) (first_request p) e
+held_off p e = held_by p.serving p.inhibited p.uninterruptible (is_none_over (over_of (a_of p))) (first_request p) e
 
-calm_clock : (until : ℕ) (s : State) → IsCalm until s → s.cycle < until → IsClockQuiet s
-calm_clock until s q h =
+quiet_clock : (until : ℕ) (s : State) → IsQuiet until s → s.cycle < until → IsClockQuiet s
+quiet_clock until s q h =
     record { below = q.limit s.cycle h; none_due = q.events s.cycle h; no_timer = no_timer s.cycle s.processor (q.timers s.cycle h) }
 
-calm_boundary : (until : ℕ) (s : State) (u : Upcoming) → IsCalm until s → upcoming_of s ≡ u → boundary None s ≡ carried_out u s
-calm_boundary until s u q e =
+quiet_boundary : (until : ℕ) (s : State) (u : Upcoming) → IsQuiet until s → upcoming_of s ≡ u → boundary None s ≡ carried_out u s
+quiet_boundary until s u q e =
     (upcoming_comes s).comes q.going.runs ∙ ap (λ (b : Bool). carried_out (upcoming_of s) (record s { begun = b })) (sym q.going.begun)
     ∙ ap (λ (u : Upcoming). carried_out u s) e
 
--- below the calm cycle a boundary is an interrupt, the stop at the stop address, or the order
-pub interrupt_step : (until : ℕ) (s : State) (r : Rupt) → IsCalm until s → s.cycle < until → pending s.processor ≡ Some r →
+-- below `quiet_until` a boundary is an interrupt, the stop at the stop address, or the order
+pub interrupt_step : (until : ℕ) (s : State) (r : Rupt) → IsQuiet until s → s.cycle < until → pending s.processor ≡ Some r →
     boundary None s ≡ carried_out (upcoming.Interrupt r) s
 interrupt_step until s r q h e =
-    calm_boundary until s _ q (interrupt_upcoming s r q.going.runs (calm_clock until s q h) e)
+    quiet_boundary until s _ q (interrupt_upcoming s r q.going.runs (quiet_clock until s q h) e)
 
-pub reached_step : (until : ℕ) (s : State) → IsCalm until s → s.cycle < until → pending s.processor ≡ None → is_reached s.until s.processor ≡ true →
+pub reached_step : (until : ℕ) (s : State) → IsQuiet until s → s.cycle < until → pending s.processor ≡ None → is_reached s.until s.processor ≡ true →
     boundary None s ≡ stops stop.Reached s
-reached_step until s q h e r = calm_boundary until s _ q (address_upcoming s q.going.runs (calm_clock until s q h) e r)
+reached_step until s q h e r = quiet_boundary until s _ q (address_upcoming s q.going.runs (quiet_clock until s q h) e r)
 
-pub order_step : (until : ℕ) (s : State) → IsCalm until s → s.cycle < until → pending s.processor ≡ None → is_reached s.until s.processor ≡ false →
+pub order_step : (until : ℕ) (s : State) → IsQuiet until s → s.cycle < until → pending s.processor ≡ None → is_reached s.until s.processor ≡ false →
     boundary None s ≡ by_order s
-order_step until s q h e r = calm_boundary until s _ q (order_upcoming s q.going.runs (calm_clock until s q h) e r)
+order_step until s q h e r = quiet_boundary until s _ q (order_upcoming s q.going.runs (quiet_clock until s q h) e r)
 
 -- without requests and a stop address the order in hand comes
 unreached : (until : Option StopAddress) (p : Processor) → until ≡ None → is_reached until p ≡ false
 unreached until p e = ap (λ (u : Option StopAddress). is_reached u p) e
 
-pub bare_step : (until : ℕ) (s : State) → IsCalm until s → s.cycle < until → Serves pace.Bare s → boundary None s ≡ by_order s
+pub bare_step : (until : ℕ) (s : State) → IsQuiet until s → s.cycle < until → Serves pace.Bare s → boundary None s ≡ by_order s
 bare_step until s q h serves = order_step until s q h (none_pending s.processor serves.0) (unreached s.until s.processor serves.1)
 
-pub bare_upcoming : (until : ℕ) (s : State) → IsCalm until s → s.cycle < until → Serves pace.Bare s → upcoming_of s ≡ upcoming.Order (in_hand s.processor)
+pub bare_upcoming : (until : ℕ) (s : State) → IsQuiet until s → s.cycle < until → Serves pace.Bare s → upcoming_of s ≡ upcoming.Order (in_hand s.processor)
 bare_upcoming until s q h serves =
-    order_upcoming s q.going.runs (calm_clock until s q h) (none_pending s.processor serves.0) (unreached s.until s.processor serves.1)
+    order_upcoming s q.going.runs (quiet_clock until s q h) (none_pending s.processor serves.0) (unreached s.until s.processor serves.1)
 
--- what is calm stays so while the timers and TIME6's switch are as they were
-pub calm_kept : (until : ℕ) (s : State) (p : Processor) (cycle : ℕ) → IsCalm until s → IsSame s.processor p →
-    IsCalm until (record s { processor = p; cycle = cycle })
-calm_kept until s p cycle q same =
+-- what is quiet stays so while the timers and TIME6's switch are unchanged
+pub quiet_kept : (until : ℕ) (s : State) (p : Processor) (cycle : ℕ) → IsQuiet until s → IsSame s.processor p →
+    IsQuiet until (record s { processor = p; cycle = cycle })
+quiet_kept until s p cycle q same =
     record { going = record { begun = q.going.begun; runs = q.going.runs }; limit = q.limit; events = q.events; timers = λ c l. rw (same.0, same.2) (q.timers c l) }
 
--- and an interrupt leaves them so
-pub interrupted_kept : (until : ℕ) (s : State) (r : Rupt) (cycle : ℕ) → IsCalm until s →
-    IsCalm until (record s { processor = interrupted r s.processor; cycle = cycle })
+-- and an interrupt leaves them unchanged
+pub interrupted_kept : (until : ℕ) (s : State) (r : Rupt) (cycle : ℕ) → IsQuiet until s →
+    IsQuiet until (record s { processor = interrupted r s.processor; cycle = cycle })
 unfolding interrupted
 interrupted_kept until s r cycle q =
     record { going = record { begun = q.going.begun; runs = q.going.runs }; limit = q.limit; events = q.events; timers = q.timers }
 
--- a pace that serves goes on to serve while the requests are as they were
+-- a pace that serves continues to serve while the requests are unchanged
 pub serves_kept : (pace : Pace) (s : State) (p : Processor) (cycle : ℕ) → Serves pace s → IsSame s.processor p →
     Serves pace (record s { processor = p; cycle = cycle })
 serves_kept pace.Bare s p cycle h same = (rw same.1 h.0, h.1)

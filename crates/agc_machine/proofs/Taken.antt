@@ -1,5 +1,5 @@
--- The plain run on the joined events takes each event of a live run's tape at its own cycle; and every
--- run meets the beginning of its events.
+-- The plain run on the joined events takes each event of a live run's tape at its own cycle; and every run takes its
+-- events from the first on.
 use Rattle.std.proofs.Common.{◌≡◌, ℕ, ◌+◌, ◌-◌, ◌≤◌, ◌<◌, ◌⊎◌, suc, zero, List, [], ◌∷◌, ◌++◌, length, map, take, replicate, Option, Some, None, Bool, true, false, refl, ap, sym, ◌∙◌, subst, arith, inl, inr, one-add}
 use Rattle.std.specs.Prelude.{drop, nat_lt, IsSome, All, slice_get, IfSome}
 use Rattle.std.proofs.lemmas.Bool.Decides.{nat_tests}
@@ -114,7 +114,7 @@ first_met s t event events cycle c e f =
     ∙ ap (at_cycle s.cycle) (one_met event events)
     ∙ ap (λ (n : ℕ). (n, event) ∷ []) c
 
--- so many boundaries from a state take the tape's events at their own cycles
+-- this many boundaries from a state take the tape's events at their own cycles
 abbrev Takes : ℕ → List Event → List Event → State → Type 0
 Takes n events tape u = marked (tape_marks events tape) (taken_within n u) ≡ map at_own_cycle tape
 
@@ -167,7 +167,7 @@ none_goes_on n s t u tape f (inr taken) is e h =
     ∙ ap (λ (events : List Event). marked (tape_marks events tape) (taken_within n (with_tape tape t))) (sym taken.1)
     ∙ h
 
--- as many plain boundaries on the joined events take the tape
+-- the same number of plain boundaries on the joined events take the tape
 taken_by_chain : (lives : List (Option What)) (s : State) → AreWanted lives s →
     Takes (length lives) s.events (tape_of lives s) (with_tape (tape_of lives s) s)
 unfolding tape_of AreWanted taken_within
@@ -226,7 +226,7 @@ last_of_more spacing first later tape entry h =
     let place : length (first ∷ later ∷ tape) - 1 ≡ suc (length (later ∷ tape) - 1) = omega arith in
     subst (λ (i : ℕ). IfSome (slice_get (first ∷ later ∷ tape) i) (λ last. last.0 + spacing ≤ entry.0)) place h
 
--- one key more, far enough back the last one
+-- one more key, far enough from the last one
 pub apart_snoc : (spacing : ℕ) (tape : List (ℕ × Key)) (entry : ℕ × Key) → AreApart spacing tape →
     IfSome (slice_get tape (length tape - 1)) (λ last. last.0 + spacing ≤ entry.0) → AreApart spacing (tape ++ entry ∷ [])
 unfolding AreApart
@@ -250,7 +250,7 @@ unfolding after
 ends_within zero s = record { met = []; had = refl }
 ends_within (suc n) s = ends_after s (boundary None s).0 (after n (boundary None s).0) (boundary_meets s) (ends_within n (boundary None s).0)
 
--- what stands before the end, by lengths
+-- what comes before the end, by lengths
 before_end : (met left : List Event) → take (length (met ++ left) - length left) (met ++ left) ≡ met
 before_end met left =
     let both = length-append met left in
@@ -261,7 +261,7 @@ by_lengths s t h =
     h.had ∙ ap (λ (met : List Event). met ++ t.events) (sym (before_end h.met t.events))
     ∙ ap (λ (events : List Event). take (length events - length t.events) events ++ t.events) (sym h.had)
 
--- a run meets the beginning of its events, and the rest is left
+-- a run takes the first of its events, and the rest is left
 pub run_meets : (s : State) → s.events ≡ met_between s (run_of s).last ++ (run_of s).last.events
 run_meets s =
     let last : (run_of s).last ≡ after (boundaries_left s) s =
@@ -269,7 +269,7 @@ run_meets s =
     subst (λ (t : State). s.events ≡ met_between s t ++ t.events) (sym last)
     (by_lengths s (after (boundaries_left s) s) (ends_within (boundaries_left s) s))
 
--- so that no more are left than stood
+-- so that no more are left than there were
 pub no_more_left : (s : State) → length (run_of s).last.events ≤ length s.events
 no_more_left s =
     let all = ap (λ (events : List Event). length events) (run_meets s) in

@@ -1,4 +1,4 @@
--- The names of the stops, as all texts have them.
+-- The names of the stops, as all texts print them.
 use Rattle.std.specs.Prelude.{ℕ, List, codes}
 use Rattle.agc_machine.specs.declared.answer.Stop.{Stop}
 use Rattle.agc_machine.specs.declared.answer.Stop.TheVariants as stop

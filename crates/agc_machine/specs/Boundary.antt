@@ -1,5 +1,5 @@
--- The boundary: what comes next, carried out. Of the things that may happen between two orders the
--- first that applies comes, and no other.
+-- The boundary: what comes next, carried out. Of all that may happen between two orders, only the
+-- first that applies comes.
 use Rattle.std.specs.Prelude.{◌≡◌, ℕ, ◌<◌, ◌≤◌, ◌+◌, ◌%◌, ◌==◌, ◌&&◌, Bool, true, false, List, [], ◌∷◌}
 use Rattle.std.specs.Prelude.{Option, Some, None, nat_lt, nat_le, option_map, if◌then◌else◌}
 use Rattle.agc_word.specs.declared.channel_write.ChannelWrite.{ChannelWrite}
@@ -18,7 +18,7 @@ use Rattle.agc_processor.specs.Effect.{order_effect, write_cycles}
 use Rattle.agc_processor.specs.Interrupt.{interrupt_cycles, interrupted, pending}
 use Rattle.agc_processor.specs.Processor.{z_at}
 use Rattle.agc_processor.specs.Timer.{due_timer, timer_step}
-use Rattle.agc_machine.specs.Happening.{happened, cycles_of}
+use Rattle.agc_machine.specs.EventEffect.{happened, cycles_of}
 use Rattle.agc_machine.specs.State.{State, fed}
 use Rattle.agc_machine.specs.declared.answer.Stepped.{Stepped}
 use Rattle.agc_machine.specs.declared.answer.Stepped.TheVariants as stepped
@@ -34,7 +34,7 @@ infixr 5 ◌otherwise◌
 abbrev pub limit_comes : State → Option Upcoming
 limit_comes s = if nat_le s.limit s.cycle then Some (upcoming.Stop stop.Limit) else None
 
--- the first event left, where it is due
+-- the first event left, if it is due
 abbrev pub due_event : ℕ → List Event → Option What
 due_event cycle [] = None
 due_event cycle (event ∷ rest) = if nat_le event.cycle cycle then Some event.what else None
@@ -51,8 +51,7 @@ timer_comes s = option_map (λ t. upcoming.Timer t) (due_timer s.cycle s.process
 abbrev pub interrupt_comes : State → Option Upcoming
 interrupt_comes s = option_map (λ r. upcoming.Interrupt r) (pending s.processor)
 
--- the bank of an address agrees with the one that is asked for, in the two windows that banks are
--- switched into
+-- the bank of an address agrees with the requested one, in the two windows of switched banks
 abbrev pub bank_agrees : StopAddress → Processor → Bool
 bank_agrees at p =
     if nat_lt at.address erasable_window then true
@@ -60,7 +59,7 @@ bank_agrees at p =
     else if nat_lt at.address fixed_fixed then selected_bank p.store == at.bank
     else true
 
--- the order at the stop address is in hand, which is one before Z
+-- the order at the stop address, one before Z, is in hand
 abbrev pub is_reached : Option StopAddress → Processor → Bool
 is_reached (Some at) p = ((z_at p + 0o7777) % 0o10000 == at.address) && bank_agrees at p
 is_reached None p = false
@@ -70,7 +69,7 @@ abbrev pub address_comes : State → Option Upcoming
 address_comes s =
     if is_reached s.until s.processor then Some (upcoming.Stop stop.Reached) else None
 
--- the bank that an address stands in, in the two windows that banks are switched into; elsewhere 0
+-- the bank that an address is in, in the two windows of switched banks; elsewhere 0
 abbrev pub bank_of_address : ℕ → Processor → ℕ
 bank_of_address address p =
     if nat_lt address erasable_window then 0
@@ -93,7 +92,7 @@ in_hand p =
 abbrev pub order_comes : State → Upcoming
 order_comes s = upcoming.Order (in_hand s.processor)
 
--- a machine that has stopped says why again
+-- a machine that has stopped returns its stop again
 abbrev pub stop_again : Option Stop → Option Upcoming
 stop_again stopped = option_map (λ why. upcoming.Stop why) stopped
 
@@ -112,7 +111,7 @@ upcoming_of s =
 abbrev pub stops : Stop → State → State × Stepped
 stops why s = (record s { stopped = Some why }, stepped.Stopped why)
 
--- some cycles go by in which nothing shows outside
+-- some cycles pass without anything visible outside
 abbrev pub passes : Processor → ℕ → State → State × Stepped
 passes p cycles s = (record s { processor = p; cycle = s.cycle + cycles }, stepped.Quiet)
 
@@ -121,7 +120,7 @@ abbrev pub later_events : List Event → List Event
 later_events [] = []
 later_events (event ∷ rest) = rest
 
--- the stop where an order does not run
+-- the stop for an order that does not run
 abbrev pub stop_of : Halt → Stop
 stop_of halt.DivisionUndefined = stop.DivisionUndefined
 stop_of halt.Edrupt = stop.Edrupt
@@ -138,7 +137,7 @@ ran_order s (p, ran.Halted why) = stops (stop_of why) (record s { processor = p 
 unfoldable pub by_order : State → State × Stepped
 by_order s = ran_order s (order_effect s.cycle s.processor)
 
--- What comes is done: the machine stops, the first event left happens, the timer steps, the
+-- What comes is carried out: the machine stops, the first event left happens, the timer steps, the
 -- interrupt is taken, which takes 3 cycles, or the order in hand runs.
 abbrev pub carried_out : Upcoming → State → State × Stepped
 carried_out (upcoming.Stop why) s = stops why s
@@ -149,7 +148,7 @@ carried_out (upcoming.Timer t) s = let step = timer_step t s.processor in passes
 carried_out (upcoming.Interrupt r) s = passes (interrupted r s.processor) interrupt_cycles s
 carried_out (upcoming.Order order) s = by_order s
 
--- a machine that has stopped stays as it is; in any other what comes is carried out, and it has
+-- a stopped machine does not change; in any other, what comes is carried out, and the machine has
 -- begun
 abbrev pub unless_stopped : Option Stop → State → State × Stepped
 unless_stopped (Some why) s = (s, stepped.Stopped why)
@@ -160,12 +159,12 @@ abbrev pub pressed_live : Option Key → Option What
 pressed_live (Some key) = Some (what.Key key)
 pressed_live None = None
 
--- one boundary, with a live event or none
+-- one boundary, with or without a live event
 unfoldable pub boundary : Option What → State → State × Stepped
 boundary live s = let with_live = fed live s in unless_stopped with_live.stopped with_live
 
--- The boundary does what comes: where the machine has stopped nothing, and the stop is told; else
--- what is told is done by a machine that has begun.
+-- The boundary does what comes: if the machine has stopped nothing, and the stop is returned;
+-- otherwise a machine that has begun carries out what comes.
 pub record ComesAsTold (s : State) (told : Upcoming) : Type 0 where
   pub stays : (why : Stop) → s.stopped ≡ Some why → told ≡ upcoming.Stop why
   pub comes : s.stopped ≡ None → boundary None s ≡ carried_out told (record s { begun = true })
@@ -181,7 +180,7 @@ pub record IsClockQuiet (s : State) : Type 0 where
   pub none_due : IsBefore s.cycle s.events
   pub no_timer : due_timer s.cycle s.processor ≡ None
 
--- Which case applies where, in a machine that has not stopped: what comes does, and none before it.
+-- Which case applies, in a machine that has not stopped: what comes does, and none before it.
 abbrev pub Applies : Upcoming → State → Type 0
 Applies (upcoming.Stop stop.Limit) s = s.limit ≤ s.cycle
 Applies (upcoming.Event what) s =
@@ -197,14 +196,14 @@ Applies (upcoming.Order order) s =
 Applies (upcoming.Stop stop.DivisionUndefined) s = ⊥
 Applies (upcoming.Stop stop.Edrupt) s = ⊥
 
--- a live key, as any live event, may be given where it happens at once: not after the stop, nor at
--- the limit, nor before events that are due
+-- a live key, like any live event, is allowed if it happens at once: not after the stop, nor at the
+-- limit, nor before events that are due
 pub record WantsKey (s : State) : Type 0 where
   pub runs : s.stopped ≡ None
   pub below : s.cycle < s.limit
   pub none_due : IsBefore s.cycle s.events
 
--- an order's place has its digits: two for the bank, and one for an erasable bank
+-- an order's bank has enough digits: two for a bank, and one for an erasable bank
 abbrev pub HasPlace : Upcoming → Type 0
 HasPlace (upcoming.Order order) =
     (order.bank < 0o50) × (order.address < fixed_window → order.bank < 0o10)

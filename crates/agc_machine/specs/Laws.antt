@@ -1,4 +1,4 @@
--- What holds of every run, above the definitions: it goes forwards in time, it comes to its end,
+-- What is true of every run, above the definitions: it goes forwards in time, it comes to its end,
 -- and its writes rise.
 use Rattle.std.specs.Prelude.{◌≡◌, ℕ, zero, suc, ◌+◌, ◌<◌, ◌≤◌, List, [], ◌∷◌, None, Some, false}
 use Rattle.agc_word.specs.Channels.{IsIoChannel}
@@ -13,9 +13,9 @@ use Rattle.agc_machine.specs.Boundary.{boundary}
 use Rattle.agc_machine.specs.Run.{boundaries_left}
 use Rattle.agc_machine.specs.State.{State}
 
--- What a boundary without a live key does to what is left and to the cycle: it never goes back, and
--- unless it stops fewer boundaries are left. A write shows the boundary's cycle and a channel from
--- 5 to 777 octal, and takes time; a stop is kept.
+-- The effect of a boundary without a live key on what is left and on the cycle: it never goes back,
+-- and unless it stops fewer boundaries are left. A write shows the boundary's cycle and a channel
+-- from 5 to 777 octal, and takes time; a stop is kept.
 abbrev pub Falls : State → State × Stepped → Type 0
 Falls s (t, stepped.Quiet) = (boundaries_left t < boundaries_left s) × (s.cycle ≤ t.cycle)
 Falls s (t, stepped.Wrote write) =
@@ -23,7 +23,7 @@ Falls s (t, stepped.Wrote write) =
     × IsIoChannel write.channel
 Falls s (t, stepped.Stopped why) = (t.stopped ≡ Some why) × (s.cycle ≤ t.cycle)
 
--- What the next write or stop leaves: after a write fewer boundaries are left, the write is not
+-- The effect of the next write or stop: after a write fewer boundaries are left, the write is not
 -- before the present cycle, and time has passed since; a stop is kept.
 abbrev pub Comes : State → State × Next → Type 0
 Comes s (t, next.Wrote write) =
@@ -31,14 +31,14 @@ Comes s (t, next.Wrote write) =
     × IsIoChannel write.channel
 Comes s (t, next.Stopped why) = (t.stopped ≡ Some why) × (s.cycle ≤ t.cycle)
 
--- What a run was given for good is the same in a later state: the fixed words, the limit and the
--- stop address.
+-- The constants of a run are the same in a later state: the fixed words, the limit and the stop
+-- address.
 abbrev pub IsSameRun : State → State → Type 0
 IsSameRun s t =
     (t.processor.store.fixed ≡ s.processor.store.fixed) × (t.limit ≡ s.limit) × (t.until ≡ s.until)
 
 -- a processor is back where it was interrupted: at the same Z, with the same order in hand, and no
--- service goes on
+-- interrupt being served
 abbrev pub ComesBack : Processor → Processor → Type 0
 ComesBack p q = (z_at q ≡ z_at p) × (q.hand ≡ p.hand) × (q.serving ≡ false)
 
@@ -66,7 +66,7 @@ AreRising from [] = Unit {0}
 AreRising from (write ∷ writes) =
     (from ≤ write.cycle) × IsIoChannel write.channel × AreRising (write.cycle + 1) writes
 
--- the state after so many boundaries without live keys
+-- the state after this many boundaries without live keys
 unfoldable pub after : ℕ → State → State
 after zero s = s
 after (suc more) s = after more (boundary None s).0

@@ -1,10 +1,10 @@
 pub mod Answer
-pub mod Happening
+pub mod EventEffect
 pub mod StopAddress
 pub mod State
 pub mod Boundary
 pub mod Run
-pub mod Calm
+pub mod Quiet
 pub mod Engine
 pub mod Laws
 pub mod Replay

@@ -1,4 +1,4 @@
--- A live run so far: what was given and shown from a start up to now.
+-- A live run so far: the events injected and the writes shown from a start up to now.
 use Rattle.std.specs.Prelude.{◌≡◌, List, Option}
 use Rattle.agc_word.specs.declared.channel_write.ChannelWrite.{ChannelWrite}
 use Rattle.agc_script.specs.declared.event.Event.{Event}

@@ -1,5 +1,5 @@
--- Runs with live events: a chain of boundaries with a live event or none at each, the tape of the
--- events that it took, and the plain run that comes to the same.
+-- Runs with live events: a chain of boundaries with or without a live event at each, the tape of
+-- the events that it took, and the plain run with the same result.
 use Rattle.std.specs.Prelude.{List, [], ◌∷◌, Option, None, Some}
 use Rattle.agc_word.specs.declared.channel_write.ChannelWrite.{ChannelWrite}
 use Rattle.agc_script.specs.Merge.{joined}
@@ -30,7 +30,7 @@ tape_of [] s = []
 tape_of (Some what ∷ lives) s = live_event s what ∷ tape_of lives (boundary (Some what) s).0
 tape_of (None ∷ lives) s = tape_of lives (boundary None s).0
 
--- each live event of a chain comes where the machine wants one
+-- each live event of a chain comes when the machine wants one
 unfoldable pub AreWanted : List (Option What) → State → Type 0
 AreWanted [] s = Unit {0}
 AreWanted (Some what ∷ lives) s = WantsKey s × AreWanted lives (boundary (Some what) s).0

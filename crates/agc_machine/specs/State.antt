@@ -8,8 +8,8 @@ use Rattle.agc_machine.specs.declared.stop_address.StopAddress.{StopAddress}
 use Rattle.agc_processor.specs.declared.processor.Processor.{Processor}
 use Rattle.agc_processor.specs.Start.{start_processor}
 
--- `events` are those that the run has not met yet, `begun` says that a boundary was taken, and
--- `stopped` says why it has stopped.
+-- `events` are those that the run has not taken yet, `begun` is set after the first boundary, and
+-- `stopped` is why it has stopped.
 pub record State : Type 0 where
   pub processor : Processor
   pub events : List Event
@@ -37,11 +37,11 @@ start_state words events limit until =
 abbrev pub IsAtStart : State → Type 0
 IsAtStart s = s ≡ start_state s.processor.store.fixed s.events s.limit s.until
 
--- what happens live as an event of the present cycle
+-- a live event as an event of the present cycle
 abbrev pub live_event : State → What → Event
 live_event s what = record { cycle = s.cycle; what = what }
 
--- a live event stands before all events left
+-- a live event comes before all events left
 abbrev pub fed : Option What → State → State
 fed (Some what) s = record s { events = live_event s what ∷ s.events }
 fed None s = s

@@ -16,8 +16,8 @@ place_in_range (Some bank) (Some address) =
     else None
 place_in_range bank address = None
 
--- The stop address that a text names: the bank before the first comma, the address after it, each
--- of one digit up to six. Any other text names none.
+-- The stop address of a text: the bank before the first comma, the address after it, each of one to
+-- six digits. Any other text has none.
 unfoldable pub stop_address_of : List ℕ → Option StopAddress
 stop_address_of text =
     if nat_lt (position_or_len is_bank_comma text) (length text)

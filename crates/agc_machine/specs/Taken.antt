@@ -9,7 +9,7 @@ use Rattle.agc_machine.specs.Boundary.{boundary}
 use Rattle.agc_machine.specs.Run.{boundaries_left}
 use Rattle.agc_machine.specs.State.{State, start_state}
 
--- the events that were left in one state and are left no more in a later one
+-- the events that were left in one state and are no longer left in a later one
 abbrev pub met_between : State → State → List Event
 met_between s t = take (length s.events - length t.events) s.events
 
@@ -17,7 +17,7 @@ met_between s t = take (length s.events - length t.events) s.events
 abbrev pub at_cycle : ℕ → List Event → List (ℕ × Event)
 at_cycle cycle events = map (λ event. (cycle, event)) events
 
--- the events that so many boundaries without live keys take, each with the cycle at which its
+-- the events that this many boundaries without live keys take, each with the cycle at which its
 -- boundary begins
 unfoldable pub taken_within : ℕ → State → List (ℕ × Event)
 taken_within zero s = []
@@ -35,7 +35,7 @@ tape_marks events (live ∷ tape) =
     let due = due_at live.cycle events in
     replicate due false ++ true ∷ tape_marks (drop due events) tape
 
--- what stands at the places that are marked
+-- the entries at the marked positions
 unfoldable pub marked : List Bool → List (ℕ × Event) → List (ℕ × Event)
 marked [] takings = []
 marked marks [] = []
@@ -57,14 +57,14 @@ TakesLive start tape joined_start =
 abbrev pub TakesTape : State → List (ℕ × Key) → State → Type 0
 TakesTape start tape merged_start = TakesLive start (map key_event tape) merged_start
 
--- keys that follow each other are at least so many cycles apart
+-- keys that follow each other are at least this many cycles apart
 unfoldable pub AreApart : ℕ → List (ℕ × Key) → Type 0
 AreApart spacing [] = Unit {0}
 AreApart spacing (entry ∷ []) = Unit {0}
 AreApart spacing (entry ∷ later ∷ tape) =
     (entry.0 + spacing ≤ later.0) × AreApart spacing (later ∷ tape)
 
--- the start at which a run with live keys can be played again: the script has the tape's keys among
+-- the start from which a run with live keys can be replayed: the script has the tape's keys among
 -- its events
 abbrev pub replayed : List (ℕ × Key) → State → State
 replayed tape s = start_state s.processor.store.fixed (merged s.events tape) s.limit s.until

@@ -6,21 +6,21 @@ ghost use Rattle.agc_machine.specs.Boundary.{stop_of};
 use agc_processor::Halt;
 use agc_word::ChannelWrite;
 
-/// Why the machine has stopped. A stopped machine stays as it is.
+/// Why the machine has stopped. A stopped machine does not change.
 #[derive(Clone, Copy, Debug, PartialEq, Eq)]
 pub enum Stop {
     /// The limit of cycles is reached.
     Limit,
-    /// DV had a divisor of zero magnitude, or a dividend beyond it.
+    /// DV had a divisor of zero magnitude, or a dividend too large for it.
     DivisionUndefined,
-    /// EDRUPT, whose effect is left out of this emulator.
+    /// EDRUPT, whose effect this emulator leaves out.
     Edrupt,
     /// The order at the stop address was in hand.
     Reached,
 }
 
 impl Stop {
-    /// The stop as all texts name it: `Limit`, `DivisionUndefined`, `Edrupt` or `Reached`.
+    /// Returns the stop's name as all texts print it: `Limit`, `DivisionUndefined`, `Edrupt` or `Reached`.
     #[tactic(auto, unfolding(crate::specs::Answer::stop_name))]
     pub fn name(self) -> &'static str
         ensures { result.now ≡ stop_name self }
@@ -33,7 +33,7 @@ impl Stop {
         }
     }
 
-    /// The stop where an order does not run.
+    /// Returns the stop for an order that does not run.
     pub(crate) fn at_halt(halt: Halt) -> Stop
         ensures { result ≡ stop_of halt }
     {
@@ -47,7 +47,7 @@ impl Stop {
 /// What one boundary did.
 #[derive(Clone, Copy, Debug, PartialEq, Eq)]
 pub enum Stepped {
-    /// Nothing that the outside sees: an event, a timer's step, an interrupt or an order.
+    /// Nothing visible outside: an event, a timer's step, an interrupt or an order.
     Quiet,
     /// The order in hand wrote to a channel.
     Wrote(ChannelWrite),
@@ -55,11 +55,11 @@ pub enum Stepped {
     Stopped(Stop),
 }
 
-/// The next thing that the outside sees of a run: a channel write, or the stop.
+/// The next thing of a run that is visible outside: a channel write, or the stop.
 #[derive(Clone, Copy, Debug, PartialEq, Eq)]
 pub enum Next {
     /// The next channel write; the run may go on.
     Wrote(ChannelWrite),
-    /// No write comes any more: the machine has stopped.
+    /// There are no more writes: the machine has stopped.
     Stopped(Stop),
 }

@@ -1,12 +1,12 @@
-//! The boundary: of the things that may happen between two orders, the first that applies.
+//! The boundary between two orders: carries out the first thing that applies of all that may happen there.
 ghost use Rattle.std.specs.Prelude.{◌≡◌, ◌<◌, ◌≤◌, ◌+◌, ◌%◌, ◌^◌, length};
 ghost use Rattle.agc_processor.specs.Effect.{order_effect, IsOrderly};
 ghost use Rattle.agc_processor.specs.Keeps.{Keeps};
 ghost use Rattle.agc_machine.specs.Engine.{state_of, IsInTime, IsSound};
 
 use crate::answer::{Next, Stepped, Stop};
-use crate::calm::Pace;
-use crate::happening::meet;
+use crate::event::apply_event;
+use crate::quiet::Pace;
 use crate::stop_address::StopAddress;
 use crate::upcoming::Upcoming;
 use agc_processor::{INTERRUPT_MCT, Processor, Ran, Rupt, Timer, WRITE_MCT};
@@ -16,31 +16,31 @@ use agc_store::{Addr, Rope};
 use agc_word::ChannelWrite;
 use agc_word::channels::CHAN13;
 
-/// The run's state and the script that it takes its events from.
+/// The state of a run, and the script that it takes its events from.
 #[derive(Drop)]
 pub(crate) struct Engine {
     pub(crate) processor: Processor,
     pub(crate) script: Script,
-    /// The place of the first event that the run has not met.
+    /// The position of the first event that the run has not taken.
     pub(crate) next: usize,
     pub(crate) limit: u64,
     pub(crate) cycle: u64,
     pub(crate) begun: bool,
     pub(crate) stopped: Option<Stop>,
     pub(crate) until: Option<StopAddress>,
-    /// Below this cycle the clock brings nothing; 0 where that is not known.
-    pub(crate) calm_until: u64,
+    /// Below this cycle the clock brings nothing; 0 if that is unknown.
+    pub(crate) quiet_until: u64,
     /// What may come before the order in hand below that cycle.
     pub(crate) pace: Pace,
 }
 
-/// What an order did that ran at a cycle which the engine need not keep, so that a loop over orders
-/// keeps it in a register.
+/// The result of an order that ran at a cycle outside the engine, so that a loop over orders keeps
+/// the cycle in a register.
 #[derive(Clone, Copy)]
 pub(crate) enum Paced {
-    /// Nothing shows outside, and the next boundary comes at this cycle, which the engine does not keep yet.
+    /// Nothing is visible outside. The next boundary comes at this cycle, which the engine does not hold yet.
     Goes(u64),
-    /// This shows outside; the engine keeps the cycle.
+    /// This is visible outside; the engine holds the cycle.
     Ends(Stepped),
 }
 
@@ -48,16 +48,16 @@ impl Engine {
     ghost use Rattle.std.specs.Prelude.{◌≡◌, ℕ, ◌<◌, ◌≤◌, ◌+◌, ◌%◌, ◌^◌, ◌↔◌, ◌||◌, length, drop, slice_get, true, false, IsTrue, IsSome, IfSome, IfNone, Some, None};
     ghost use Rattle.agc_script.specs.Event.{IsInRange, IsWhatInRange};
     ghost use Rattle.agc_machine.specs.Engine.{engine_at, state_of, IsSound, IsRunning, StandsInScript, paced_engine, paced_state};
-    ghost use Rattle.agc_machine.specs.Calm.{IsLongest, IsCalm, Serves, pace_of};
+    ghost use Rattle.agc_machine.specs.Quiet.{IsLongest, IsQuiet, Serves, pace_of};
     ghost use Rattle.agc_processor.specs.Timer.{due_timer};
     ghost use Rattle.agc_machine.specs.State.{start_state};
     ghost use Rattle.agc_machine.specs.Run.{next_before, next_of};
     ghost use Rattle.agc_machine.specs.Boundary.{Applies, boundary, WantsKey, IsBefore, by_order, carried_out, stops, is_reached, bank_agrees};
 
-    /// The state at the start of a run.
+    /// Returns the state at the start of a run.
     #[tactic(auto, unfolding(crate::specs::State::start_state))]
     pub(crate) fn new(rope: Rope, script: Script, limit: u64) -> Engine
-        requires some { 0 < limit }
+        requires positive { 0 < limit }
         requires limit { limit ≤ 1000000000000 }
         ensures start { state_of result ≡ start_state rope script limit None }
         ensures sound { IsSound result }
@@ -71,20 +71,20 @@ impl Engine {
             begun: false,
             stopped: None,
             until: None,
-            calm_until: 0,
+            quiet_until: 0,
             pace: Pace::Held,
         }
     }
 
-    /// Boundaries without live events, up to the next write or the stop.
+    /// Runs boundaries without live events, up to the next write or the stop.
     pub(crate) fn next_write(&mut self) -> Next
         requires sound { IsSound self.old }
         ensures next { (state_of self.new, result) ≡ next_of (state_of self.old) }
         ensures sound { IsSound self.new }
     {
         loop {
-            if self.cycle < self.calm_until {
-                match self.go_quickly(self.calm_until) {
+            if self.cycle < self.quiet_until {
+                match self.go_quickly(self.quiet_until) {
                     Stepped::Quiet => {}
                     Stepped::Wrote(write) => return Next::Wrote(write),
                     Stepped::Stopped(why) => return Next::Stopped(why),
@@ -99,16 +99,16 @@ impl Engine {
         }
     }
 
-    /// Boundaries without live events, up to the next write, the stop, or the first quiet boundary that
-    /// ends at a cycle or later.
+    /// Runs boundaries without live events, up to the next write, the stop, or the first quiet boundary that ends at
+    /// `cycle` or later.
     pub(crate) fn next_write_before(&mut self, cycle: u64) -> Stepped
         requires sound { IsSound self.old }
         ensures next { (state_of self.new, result) ≡ next_before cycle (state_of self.old) }
         ensures sound { IsSound self.new }
     {
         loop {
-            if self.cycle < self.calm_until {
-                match self.go_quickly(self.calm_until.min(cycle)) {
+            if self.cycle < self.quiet_until {
+                match self.go_quickly(self.quiet_until.min(cycle)) {
                     Stepped::Quiet => {
                         if cycle <= self.cycle {
                             return Stepped::Quiet;
@@ -131,14 +131,14 @@ impl Engine {
         }
     }
 
-    /// A live event would happen at once.
+    /// Returns whether a live event would happen at once.
     pub(crate) fn wants_key(&self) -> bool
         ensures { IsTrue result ↔ WantsKey (state_of self.now) }
     {
         self.stopped.is_none() && self.cycle < self.limit && self.is_before_events()
     }
 
-    /// No event of the script is due.
+    /// Returns whether no event of the script is due.
     #[tactic(auto, using(crate::proofs::Events::events_from, crate::proofs::Events::no_events))]
     fn is_before_events(&self) -> bool
         ensures { IsTrue result ↔ IsBefore self.now.cycle (drop self.now.next self.now.script) }
@@ -149,7 +149,7 @@ impl Engine {
         }
     }
 
-    /// One boundary.
+    /// Runs one boundary.
     #[inline(always)]
     pub(crate) fn step(&mut self, live: Option<What>) -> Stepped
         requires sound { IsSound self.old }
@@ -158,13 +158,13 @@ impl Engine {
         ensures step { (state_of self.new, result) ≡ boundary live (state_of self.old) }
         ensures sound { IsSound self.new }
     {
-        if live.is_none() && self.cycle < self.calm_until {
+        if live.is_none() && self.cycle < self.quiet_until {
             return self.step_quickly();
         }
         self.step_slowly(live)
     }
 
-    /// One boundary at which the clock may bring something.
+    /// Runs one boundary at which the clock may bring something.
     #[cold]
     #[inline(never)]
     fn step_slowly(&mut self, live: Option<What>) -> Stepped
@@ -173,29 +173,29 @@ impl Engine {
         requires range { IfSome live IsWhatInRange }
         ensures step { (state_of self.new, result) ≡ boundary live (state_of self.old) }
         ensures sound { IsSound self.new }
-        ensures longest { IsLongest self.new.calm_until (state_of self.new) }
+        ensures longest { IsLongest self.new.quiet_until (state_of self.new) }
         ensures pace { self.new.pace ≡ pace_of (state_of self.new) }
     {
-        self.calm_until = 0;
+        self.quiet_until = 0;
         let stepped = self.step_by_cases(live);
-        self.calm_until = self.calm_from_here();
+        self.quiet_until = self.quiet_from_here();
         self.pace = self.pace_from_here();
         stepped
     }
 
-    /// A live event happens, where one is given; else what comes next is carried out.
+    /// Applies the live event, if there is one; otherwise carries out what comes next.
     #[tactic(auto, unfolding(crate::specs::Boundary::boundary))]
     fn step_by_cases(&mut self, live: Option<What>) -> Stepped
         requires sound { IsSound self.old }
         requires wanted { IsSome live → WantsKey (state_of self.old) }
         requires range { IfSome live IsWhatInRange }
-        requires not_quiet { self.old.calm_until ≡ 0 }
+        requires not_quiet { self.old.quiet_until ≡ 0 }
         ensures step { (state_of self.new, result) ≡ boundary live (state_of self.old) }
         ensures sound { IsSound self.new }
     {
         if let Some(what) = live {
             self.begun = true;
-            self.cycle += meet(&mut self.processor, self.cycle, what);
+            self.cycle += apply_event(&mut self.processor, self.cycle, what);
             return Stepped::Quiet;
         }
         if let Some(why) = self.stopped {
@@ -206,11 +206,11 @@ impl Engine {
         self.carry_out(next)
     }
 
-    /// What comes is done.
+    /// Carries out what comes next.
     fn carry_out(&mut self, next: Upcoming) -> Stepped
         requires sound { IsSound self.old }
         requires begun { self.old.begun ≡ true }
-        requires not_quiet { self.old.calm_until ≡ 0 }
+        requires not_quiet { self.old.quiet_until ≡ 0 }
         requires applies { Applies next (state_of self.old) }
         requires script { StandsInScript next self.old }
         ensures step { (state_of self.new, result) ≡ carried_out next (state_of self.old) }
@@ -220,7 +220,7 @@ impl Engine {
             Upcoming::Stop(why) => self.stop(why),
             Upcoming::Event(what) => {
                 self.next += 1;
-                self.cycle += meet(&mut self.processor, self.cycle, what);
+                self.cycle += apply_event(&mut self.processor, self.cycle, what);
                 Stepped::Quiet
             }
             Upcoming::Timer(timer) => {
@@ -232,7 +232,7 @@ impl Engine {
         }
     }
 
-    /// The first event that the run has not met.
+    /// Returns the first event that the run has not taken.
     pub(crate) fn next_event(&self) -> Option<Event>
         ensures event { IfSome result (λ event. slice_get self.now.script self.now.next ≡ Some event) }
         ensures place { IfSome result (λ event. self.now.next < 2 ^ 16) }
@@ -246,13 +246,13 @@ impl Engine {
         }
     }
 
-    /// An interrupt is taken.
+    /// Takes an interrupt.
     #[inline(always)]
     pub(crate) fn take_interrupt(&mut self, rupt: Rupt) -> Stepped
         requires running { IsRunning self.old }
-        requires calm { 0 < self.old.calm_until → IsCalm self.old.calm_until (state_of self.old) }
+        requires quiet { 0 < self.old.quiet_until → IsQuiet self.old.quiet_until (state_of self.old) }
         ensures step { (state_of self.new, result) ≡ carried_out (Upcoming.Interrupt rupt) (state_of self.old) }
-        ensures calm_until { self.new.calm_until ≡ self.old.calm_until }
+        ensures quiet_until { self.new.quiet_until ≡ self.old.quiet_until }
         ensures sound { IsSound self.new }
     {
         self.processor.interrupt(rupt);
@@ -261,7 +261,7 @@ impl Engine {
         Stepped::Quiet
     }
 
-    /// A service or INHINT holds every interrupt off.
+    /// Returns whether a service or INHINT holds every interrupt off.
     #[inline(always)]
     pub(crate) fn is_held_off(&self) -> bool
         ensures { result ≡ self.now.processor.serving || self.now.processor.inhibited }
@@ -269,7 +269,7 @@ impl Engine {
         self.processor.inhibited || self.processor.serving
     }
 
-    /// The order at the stop address is in hand.
+    /// Returns whether the order at the stop address is in hand.
     #[inline(always)]
     pub(crate) fn is_reached(&self) -> bool
         ensures { result ≡ is_reached self.now.until self.now.processor }
@@ -280,7 +280,7 @@ impl Engine {
         }
     }
 
-    /// The order at this stop address is in hand: Z is one past it then.
+    /// Returns whether the order at this stop address is in hand: Z is then one past it.
     #[inline(always)]
     #[tactic(auto, using(crate::proofs::OnePast::stands_one_past))]
     pub(crate) fn is_one_past(&self, past: Addr, at: &StopAddress) -> bool
@@ -291,7 +291,7 @@ impl Engine {
         self.processor.store.z() == past && self.is_in_bank(*at)
     }
 
-    /// The bank at the stop address agrees, in the two windows that banks are switched into.
+    /// Returns whether the bank of the stop address agrees; it counts only in the two windows of switched banks.
     fn is_in_bank(&self, at: StopAddress) -> bool
         ensures { result ≡ bank_agrees at self.now.processor }
     {
@@ -304,15 +304,15 @@ impl Engine {
         }
     }
 
-    /// The order in hand runs.
+    /// Runs the order in hand.
     #[inline(always)]
     pub(crate) fn run_order(&mut self) -> Stepped
         requires running { IsRunning self.old }
-        requires calm { 0 < self.old.calm_until → IsCalm self.old.calm_until (state_of self.old) }
-        requires pace { 0 < self.old.calm_until → Serves self.old.pace (state_of self.old) }
+        requires quiet { 0 < self.old.quiet_until → IsQuiet self.old.quiet_until (state_of self.old) }
+        requires pace { 0 < self.old.quiet_until → Serves self.old.pace (state_of self.old) }
         ensures step { (state_of self.new, result) ≡ by_order (state_of self.old) }
         ensures sound { IsSound self.new }
-        ensures calm_until { result ≡ Stepped.Quiet → self.new.calm_until ≡ self.old.calm_until }
+        ensures quiet_until { result ≡ Stepped.Quiet → self.new.quiet_until ≡ self.old.quiet_until }
         ensures pace { self.new.pace ≡ self.old.pace }
     {
         match self.order_at(self.cycle) {
@@ -324,17 +324,17 @@ impl Engine {
         }
     }
 
-    /// The order in hand runs, which begins at this cycle, whatever cycle the engine keeps. Where the
-    /// run goes on the engine's own cycle stays as it was.
+    /// Runs the order in hand at this cycle, whatever cycle the engine holds. If the run continues, the engine's own
+    /// cycle is unchanged.
     #[inline(always)]
     #[tactic(auto, unfolding(crate::specs::Boundary::by_order))]
     pub(crate) fn order_at(&mut self, cycle: u64) -> Paced
         requires running { IsRunning (engine_at cycle self.old) }
-        requires calm { 0 < self.old.calm_until → IsCalm self.old.calm_until (state_of (engine_at cycle self.old)) }
-        requires pace { 0 < self.old.calm_until → Serves self.old.pace (state_of (engine_at cycle self.old)) }
+        requires quiet { 0 < self.old.quiet_until → IsQuiet self.old.quiet_until (state_of (engine_at cycle self.old)) }
+        requires pace { 0 < self.old.quiet_until → Serves self.old.pace (state_of (engine_at cycle self.old)) }
         ensures step { paced_state self.new result ≡ by_order (state_of (engine_at cycle self.old)) }
         ensures sound { IsSound (paced_engine self.new result) }
-        ensures calm_until { (next : ℕ) → result ≡ Paced.Goes next → self.new.calm_until ≡ self.old.calm_until }
+        ensures quiet_until { (next : ℕ) → result ≡ Paced.Goes next → self.new.quiet_until ≡ self.old.quiet_until }
         ensures pace { self.new.pace ≡ self.old.pace }
         ensures until { self.new.until ≡ self.old.until }
         ensures shows { (stepped : Stepped) → result ≡ Paced.Ends stepped → stepped ≡ Stepped.Quiet → ⊥ }
@@ -343,7 +343,7 @@ impl Engine {
             Ran::Quiet(cycles) => Paced::Goes(cycle + cycles),
             Ran::Wrote(channel, value) => {
                 if channel == CHAN13 {
-                    self.calm_until = 0;
+                    self.quiet_until = 0;
                 }
                 self.cycle = cycle + WRITE_MCT;
                 Paced::Ends(Stepped::Wrote(ChannelWrite {
@@ -354,7 +354,7 @@ impl Engine {
             }
             Ran::Halted(halt) => {
                 self.cycle = cycle;
-                self.calm_until = 0;
+                self.quiet_until = 0;
                 Paced::Ends(self.stop(Stop::at_halt(halt)))
             }
         }
@@ -370,7 +370,7 @@ impl Engine {
     }
 }
 
-/// The order in hand runs in a processor; its timers stay no later than the cycle.
+/// Runs the order in hand in a processor; its timers never get ahead of the cycle.
 #[inline(always)]
 fn run_in_time(processor: &mut Processor, cycle: u64) -> Ran
     requires cycle { cycle < 2 ^ 41 }

@@ -18,7 +18,7 @@ ghost use Rattle.agc_machine.specs.declared.answer.Stop.{Stop};
 ghost use Rattle.agc_machine.specs.declared.answer.Next.TheVariants as next;
 ghost use Rattle.agc_machine.specs.declared.answer.Stepped.TheVariants as stepped;
 
-/// A boundary never goes back in time; unless it stops it leaves fewer boundaries, and a write
+/// A boundary never goes back in time. Unless it stops, fewer boundaries are left after it; a write
 /// shows its cycle and a channel from 5 to 777 octal.
 pub fn boundaries_fall()
     ensures { (s : State) → Falls s (boundary None s) }
@@ -30,39 +30,39 @@ pub fn reruns_are_exact()
     ensures { (s t : State) → IsAtStart s → IsAtStart t → IsSameRun s t → s.events ≡ t.events → run_of s ≡ run_of t }
 {}
 
-/// No boundary, with a live event or without one, changes the fixed words, the limit or the stop
+/// No boundary, with or without a live event, changes the fixed words, the limit or the stop
 /// address.
 pub fn the_rope_stays()
     ensures { (live : Option What) (s : State) → IsSameRun s (boundary live s).0 }
 {}
 
-/// An interrupt that RESUME follows comes back: to the same Z and the same order in hand, with no
-/// service. Every store holds its registers, and the order in hand is narrow.
+/// An interrupt that ends with RESUME comes back to the same Z and the same order in hand, with no
+/// interrupt being served. Every store holds its registers, and the order in hand is narrow.
 pub fn interrupts_come_back()
     ensures { (r : Rupt) (p : Processor) → HoldsRegisters p.store.erasable → p.hand.magnitude < 2 ^ 14
         → ComesBack p (p ▷ interrupted r ▷ resume_of) }
 {}
 
-/// A machine that has stopped stays as it is and returns the same stop, by boundaries and by writes.
+/// A stopped machine does not change and returns the same stop, from boundaries and from `next_write`.
 pub fn a_stop_is_final()
     ensures boundary { (s : State) (why : Stop) → s.stopped ≡ Some why → boundary None s ≡ (s, stepped.Stopped why) }
     ensures next { (s : State) (why : Stop) → s.stopped ≡ Some why → next_of s ≡ (s, next.Stopped why) }
 {}
 
-/// A live event, as a key is one, is an event of the present cycle put before the events left: the
-/// boundary that meets it is the plain one from there.
+/// A live event, such as a key, is an event of the present cycle put before the events left: the
+/// boundary that takes it is the plain one from there.
 #[tactic(auto, unfolding(crate::specs::Boundary::boundary))]
 pub fn live_keys_are_events()
     ensures { (what : What) (s : State) → boundary (Some what) s ≡ boundary None (fed (Some what) s) }
 {}
 
-/// A run meets the beginning of its events, and what it leaves is the rest of them.
+/// A run takes its events in order from the first, and leaves the rest.
 #[tactic(auto, using(crate::proofs::Taken::run_meets))]
 pub fn runs_meet_the_first_events()
     ensures { (s : State) → s.events ≡ met_between s (run_of s).last ++ (run_of s).last.events }
 {}
 
-/// A run has stopped after as many boundaries as cycles and events were left, and one.
+/// A run stops after at most as many boundaries as there were cycles and events left, plus one.
 pub fn runs_stop()
     ensures { (n : ℕ) (s : State) → boundaries_left s ≤ n → IsSome (after n s).stopped }
 {}
@@ -78,14 +78,13 @@ pub fn runs_go_by_writes()
     ensures { (s : State) → run_of s ≡ while_writing run_of (next_of s) }
 {}
 
-/// The cycles of a run's writes strictly rise, and its channels are 5 to 777 octal.
+/// The cycles of a run's writes strictly increase, and its channels are 5 to 777 octal.
 pub fn writes_rise()
     ensures { (s : State) → AreRising s.cycle (run_of s).writes }
 {}
 
-/// Live keys, as all live events, can be played again: a chain of boundaries with live events that the
-/// machine wanted, however far apart, is the plain chain from the state whose events have the tape of
-/// those events among them.
+/// Live keys, and all live events, can be replayed: a chain of boundaries with live events that the machine wanted,
+/// however far apart, is the plain chain from the state whose events are joined with the tape of those events.
 pub fn live_keys_replay()
     ensures { (lives : List (Option What)) (s : State) → AreWanted lives s
         → chain (replicate (length lives) None) (with_tape (tape_of lives s) s) ≡ chain lives s }
@@ -96,21 +95,21 @@ pub fn chains_are_runs()
     ensures { (n : ℕ) (s : State) → IsSome (chain (replicate n None) s).last.stopped → run_of s ≡ run_in (chain (replicate n None) s) }
 {}
 
-/// A live run that has come to a stop is the run of the state whose events have its tape among them.
+/// A live run that has come to a stop is the run of the state whose events are joined with its tape.
 pub fn live_runs_replay()
     ensures { (lives : List (Option What)) (s : State) → AreWanted lives s → IsSome (chain lives s).last.stopped
         → run_of (with_tape (tape_of lives s) s) ≡ run_in (chain lives s) }
 {}
 
-/// A run is its chain of boundaries: with as many as are left the chain has stopped, and the run's
+/// A run is its chain of boundaries: after as many as are left the chain has stopped, and the run's
 /// writes and last state are the chain's.
 pub fn a_run_is_its_chain()
     ensures chain { (s : State) → run_of s ≡ run_in (chain (replicate (boundaries_left s) None) s) }
     ensures stopped { (s : State) → IsSome (chain (replicate (boundaries_left s) None) s).last.stopped }
 {}
 
-/// The run on the events joined with the tape of a live run that has come to a stop takes each event
-/// of the tape, in order, at a boundary that begins at the event's own cycle.
+/// The run on the events joined with the tape of a stopped live run takes each event of the tape,
+/// in order, at a boundary that begins at the event's own cycle.
 pub fn tapes_are_taken()
     ensures { (lives : List (Option What)) (s : State) → AreWanted lives s → IsSome (chain lives s).last.stopped
         → TakesLive s (tape_of lives s) (with_tape (tape_of lives s) s) }

@@ -1,16 +1,16 @@
-//! The machine: the boundary between two orders, at which one thing happens, and the runs of a rope
-//! and a script that boundaries make.
+//! The machine: a processor with its script, its limit and its stop, run boundary by boundary.
 #![tactic(auto)]
 
 mod answer;
-mod calm;
 mod engine;
-mod happening;
+mod event;
 pub mod laws;
 mod machine;
+mod quiet;
 mod stop_address;
 mod upcoming;
 
+pub use agc_word::ChannelWrite;
 pub use answer::{Next, Stepped, Stop};
 pub use machine::{LimitFault, Machine, Refused};
 pub use stop_address::StopAddress;

@@ -1,4 +1,4 @@
-//! The machine as callers see it: a run that goes on by boundaries or from write to write.
+//! The machine as callers see it: it runs by boundaries or from write to write.
 ghost use Rattle.std.specs.Prelude.{◌≡◌, ◌<◌, ◌≤◌, ◌↔◌, IsTrue, IsSome, IfSome, IfOk, IfErr, IsOk, OnOk};
 ghost use Rattle.agc_script.specs.Event.{IsWhatInRange};
 ghost use Rattle.agc_machine.specs.Boundary.{pressed_live};
@@ -40,7 +40,7 @@ pub enum LimitFault {
     TooLarge,
 }
 
-/// A refusal, with the rope and the script that were handed in.
+/// A refusal, which returns the rope and the script.
 #[derive(Drop)]
 pub struct Refused {
     pub fault: LimitFault,
@@ -57,7 +57,7 @@ impl Machine {
     ghost use Rattle.agc_processor.specs.Channel.{channel_word};
     ghost use Rattle.agc_word.specs.Arithmetic.{narrow_of};
 
-    /// The machine at the start of a run: the order at 4000 octal is in hand.
+    /// Returns the machine at the start of a run: the order at 4000 octal is in hand.
     pub fn new(rope: Rope, script: Script, limit: u64) -> Result<Machine, Refused>
         ensures start { IfOk result (λ machine. machine ≡ start_state rope script limit None) }
         ensures refused { IfErr result (λ refused. (refused.rope ≡ rope) × (refused.script ≡ script)) }
@@ -84,8 +84,8 @@ impl Machine {
         })
     }
 
-    /// The same machine, but its run also stops where the order at an address comes into hand. The
-    /// bank counts in the windows of the switched banks alone. A second address replaces the first.
+    /// Sets a stop address: the run also stops when the order there comes into hand. The bank
+    /// counts only in the windows of switched banks. A second address replaces the first.
     pub fn until(mut self, bank: u8, address: Addr) -> Machine
         requires { self.begun ≡ false }
         ensures { result ≡ record self { until = Some (record { bank = bank; address = address }) } }
@@ -94,8 +94,8 @@ impl Machine {
         self
     }
 
-    /// One boundary: one event, timer step, interrupt or order, or the stop. A live key, which is
-    /// taken as an event of the present cycle, may come only where `wants_key` says so.
+    /// Runs one boundary: one event, timer step, interrupt or order, or the stop. A live key is
+    /// taken as an event of the present cycle and is allowed only if `wants_key` is true.
     pub fn step(&mut self, live: Option<Key>) -> Stepped
         requires { IsSome live → WantsKey self.old }
         ensures boundary { (self.new, result) ≡ boundary (pressed_live live) self.old }
@@ -104,9 +104,9 @@ impl Machine {
         self.engine.step(pressed_live(live))
     }
 
-    /// An event happens at the present cycle, as any event of a script may: a key, PRO, an input, a
-    /// pulse, a request or a poke. It may come only where `wants_key` says so.
-    pub fn give(&mut self, what: What)
+    /// Applies an event at the present cycle, like any event of a script: a key, PRO, an input, a
+    /// pulse, a request or a poke. Allowed only if `wants_key` is true.
+    pub fn inject(&mut self, what: What)
         requires wants { WantsKey self.old }
         requires range { IsWhatInRange what }
         ensures { (self.new, Stepped.Quiet) ≡ boundary (Some what) self.old }
@@ -114,7 +114,7 @@ impl Machine {
         self.engine.step(Some(what));
     }
 
-    /// Goes on to the next channel write, or to the stop where none comes before it.
+    /// Runs to the next channel write, or to the stop if no write comes before it.
     pub fn next_write(&mut self) -> Next
         ensures next { (self.new, result) ≡ next_of self.old }
         ensures channel { HasNextChannel result }
@@ -122,8 +122,8 @@ impl Machine {
         self.engine.next_write()
     }
 
-    /// Goes on as `next_write` does, but no further than to the first quiet boundary that ends at a
-    /// cycle or later; returns `Quiet` there. At least one boundary is taken.
+    /// Runs as `next_write` does, but at most to the first quiet boundary that ends at `cycle` or
+    /// later; returns `Quiet` there. Runs at least one boundary.
     pub fn next_write_before(&mut self, cycle: u64) -> Stepped
         ensures next { (self.new, result) ≡ next_before cycle self.old }
         ensures channel { HasChannel result }
@@ -131,8 +131,8 @@ impl Machine {
         self.engine.next_write_before(cycle)
     }
 
-    /// A live key may be given now: the machine has not stopped, its cycle is below the limit, and
-    /// no event of the script is due.
+    /// Returns whether a live key would be taken now: the machine has not stopped, its cycle is
+    /// below the limit, and no event of the script is due.
     pub fn wants_key(&self) -> bool
         ensures wants { IsTrue result ↔ WantsKey self.now }
         ensures limit { self.now.limit ≤ 1000000000000 }
@@ -140,14 +140,14 @@ impl Machine {
         self.engine.wants_key()
     }
 
-    /// Why the machine has stopped, where it has; no boundary changes that any more.
+    /// Returns why the machine has stopped, if it has; no boundary changes that.
     pub fn stopped(&self) -> Option<Stop>
         ensures { result ≡ self.now.stopped }
     {
         self.engine.stopped
     }
 
-    /// No boundary was taken yet: the machine is at the start of its run.
+    /// Returns whether the machine is at the start of its run, before its first boundary.
     pub fn fresh(&self) -> bool
         ensures fresh { result ≡ not self.now.begun }
         ensures start { IsTrue result → IsAtStart self.now }
@@ -155,28 +155,28 @@ impl Machine {
         !self.engine.begun
     }
 
-    /// The events of the script that the run has not met yet.
+    /// Returns the events of the script that the run has not taken yet.
     pub fn events_left(&self) -> &[Event]
         ensures { result.now ≡ self.now.events }
     {
         self.engine.script.rest(self.engine.next)
     }
 
-    /// The machine cycle, which counts from 0; 1,024,000 / 12 of them are a second.
+    /// Returns the machine cycle, counted from 0; a second has 1,024,000 / 12 cycles.
     pub fn cycle(&self) -> u64
         ensures cycle { result ≡ self.now.cycle }
     {
         self.engine.cycle
     }
 
-    /// The memory as it is now.
+    /// Returns the present memory.
     pub fn store(&self) -> &Store
         ensures { result.now ≡ self.now.processor.store }
     {
         &self.engine.processor.store
     }
 
-    /// What a channel shows at the present cycle; channel 2 shows Q corrected for overflow.
+    /// Returns what a channel shows at the present cycle; channel 2 shows Q corrected for overflow.
     pub fn channel(&self, channel: u16) -> Narrow
         requires { channel ≤ 0o777 }
         ensures { result ≡ narrow_of (channel_word self.now.cycle channel self.now.processor) }
@@ -187,9 +187,9 @@ impl Machine {
             .narrow()
     }
 
-    /// The machine at the start of another run of the same rope, with these events, the same limit
-    /// and no stop address.
-    pub fn anew(self, script: Script) -> Machine
+    /// Returns the machine at the start of another run of the same rope, with these events, the
+    /// same limit and no stop address.
+    pub fn restart_with(self, script: Script) -> Machine
         ensures { result ≡ start_state self.processor.store.fixed script self.limit None }
     {
         let limit = self.engine.limit;
@@ -199,7 +199,7 @@ impl Machine {
         }
     }
 
-    /// The memory as the run left it.
+    /// Returns the memory as the run left it.
     pub fn into_store(self) -> Store
         ensures { result ≡ self.processor.store }
     {
@@ -210,7 +210,7 @@ impl Machine {
     }
 }
 
-/// A live key as the event that it is.
+/// Converts a live key into its event.
 #[tactic(auto, unfolding(agc_script::specs::Event::IsWhatInRange))]
 fn pressed_live(live: Option<Key>) -> Option<What>
     ensures event { result ≡ pressed_live live }

@@ -1,4 +1,4 @@
-//! The address at which a run is to stop, and the text that names one.
+//! The address at which a run stops, and its text form.
 ghost use Rattle.std.specs.Prelude.{◌≡◌};
 ghost use Rattle.agc_machine.specs.StopAddress.{place_in_range, stop_address_of};
 
@@ -8,15 +8,15 @@ use agc_word::read_octal;
 /// An address at which a run stops when its order comes into hand.
 #[derive(Clone, Copy, Debug, PartialEq, Eq)]
 pub struct StopAddress {
-    /// 0 to 47 octal: for 1400 to 1777 the erasable bank, for 2000 to 3777 the fixed bank, with
-    /// the superbank's ten added; elsewhere it is ignored.
+    /// 0 to 47 octal: for 1400 to 1777 the erasable bank, for 2000 to 3777 the fixed bank, with the
+    /// superbank's ten added; for other addresses it is ignored.
     pub bank: u8,
     pub address: Addr,
 }
 
 impl StopAddress {
-    /// Reads `BANK,ADDR`: two octal numbers of one to six digits, at most 47 and 7777 octal. `None`
-    /// for any other text.
+    /// Parses `BANK,ADDR`: two octal numbers of one to six digits, at most 47 and 7777 octal.
+    /// Returns `None` for any other text.
     pub fn read(text: &str) -> Option<StopAddress>
         ensures { result ≡ stop_address_of text.now }
     {
@@ -30,7 +30,7 @@ impl StopAddress {
     }
 }
 
-/// The stop address with these two numbers, where both are there and in range.
+/// Returns the stop address with these two numbers, if both are present and in range.
 fn in_range(bank: Option<u64>, address: Option<u64>) -> Option<StopAddress>
     ensures { result ≡ place_in_range bank address }
 {

@@ -1,34 +1,34 @@
-//! What the next boundary will be: of its cases the first that applies, told and not done.
+//! Predicts the next boundary: the first case that applies, without carrying it out.
 ghost use Rattle.std.specs.Prelude.{◌≡◌, ◌<◌, None};
 ghost use Rattle.agc_machine.specs.State.{State};
 ghost use Rattle.agc_store.specs.Places.{fixed_window};
 ghost use Rattle.agc_machine.specs.Boundary.{Applies, ComesAsTold, HasPlace, bank_of_address, in_hand, upcoming_of};
 
 use crate::answer::Stop;
-use crate::calm::Pace;
 use crate::engine::Engine;
 use crate::machine::Machine;
+use crate::quiet::Pace;
 use agc_processor::{Processor, Rupt, Timer};
 use agc_script::What;
 use agc_store::Addr;
 use agc_store::place::{ERASABLE_WINDOW, FIXED_FIXED, FIXED_WINDOW};
 use agc_word::Narrow;
 
-/// The order in hand, which runs where nothing else happens.
+/// The order in hand, which runs if nothing else happens.
 #[derive(Clone, Copy, Debug, PartialEq, Eq)]
 pub struct InHand {
-    /// For 1400 to 1777 octal the erasable bank, for 2000 to 3777 the fixed bank, 0 to 47 octal with
-    /// the superbank's ten added; elsewhere 0.
+    /// For 1400 to 1777 octal the erasable bank, for 2000 to 3777 the fixed bank, 0 to 47 octal
+    /// with the superbank's ten added; for other addresses 0.
     pub bank: u8,
     /// One before Z.
     pub address: Addr,
-    /// The word that runs: what INDEX has added is in it.
+    /// The word that runs, with what INDEX has added.
     pub word: Narrow,
-    /// The word is run as an extracode.
+    /// Whether the word runs as an extracode.
     pub extracode: bool,
 }
 
-/// What a boundary without a live key will be.
+/// The next boundary, if no live key comes.
 #[derive(Clone, Copy, Debug, PartialEq, Eq)]
 pub enum Upcoming {
     /// The machine has stopped, or it stops at its limit or its stop address.
@@ -39,12 +39,12 @@ pub enum Upcoming {
     Timer(Timer),
     /// An interrupt is taken.
     Interrupt(Rupt),
-    /// The order in hand runs; of the orders alone DV and EDRUPT may stop the machine.
+    /// The order in hand runs; among orders only DV and EDRUPT may stop the machine.
     Order(InHand),
 }
 
-/// What is told of a state comes: where the machine has not stopped it is the case that applies, where
-/// none before it does, and the boundary does what is told.
+/// The prediction comes true: if the machine has not stopped, it is the case that applies when no earlier one does, and
+/// the boundary does what it predicts.
 pub fn the_upcoming_comes()
     ensures cases { (s : State) → s.stopped ≡ None → Applies (upcoming_of s) s }
     ensures boundary { (s : State) → ComesAsTold s (upcoming_of s) }
@@ -54,7 +54,7 @@ impl Machine {
     ghost use Rattle.std.specs.Prelude.{◌≡◌};
     ghost use Rattle.agc_machine.specs.Boundary.{ComesAsTold, HasPlace, upcoming_of};
 
-    /// What the next boundary will be, as long as no live key is given.
+    /// Returns what the next boundary will be if no live key comes.
     pub fn upcoming(&self) -> Upcoming
         ensures told { result ≡ upcoming_of self.now }
         ensures comes { ComesAsTold self.now result }
@@ -69,20 +69,20 @@ impl Engine {
     ghost use Rattle.agc_machine.specs.Engine.{state_of, IsSound, StandsInScript};
     ghost use Rattle.agc_machine.specs.Boundary.{HasPlace, due_event, upcoming_of};
 
-    /// Of the things that may happen at the next boundary the first that applies. Where the clock brings
-    /// nothing and nothing may come before it, that is the order in hand.
+    /// Returns the first case that applies at the next boundary. If the clock brings nothing and nothing may come
+    /// before the order in hand, that is the order.
     fn upcoming(&self) -> Upcoming
         requires sound { IsSound self.now }
         ensures told { result ≡ upcoming_of (state_of self.now) }
         ensures place { HasPlace result }
     {
-        if self.cycle < self.calm_until && self.pace == Pace::Bare {
+        if self.cycle < self.quiet_until && self.pace == Pace::Bare {
             return Upcoming::Order(in_hand(&self.processor));
         }
         self.upcoming_by_cases()
     }
 
-    /// The same, by looking at all of them.
+    /// Returns the same, by checking every case.
     #[tactic(auto, unfolding(crate::specs::Boundary::upcoming_of))]
     pub(crate) fn upcoming_by_cases(&self) -> Upcoming
         requires sound { IsSound self.now }
@@ -111,7 +111,7 @@ impl Engine {
         Upcoming::Order(in_hand(&self.processor))
     }
 
-    /// The first event that the run has not met, where it is due.
+    /// Returns the first event that the run has not taken, if it is due.
     #[tactic(auto, using(crate::proofs::Events::no_events))]
     fn due_event(&self) -> Option<What>
         ensures due { result ≡ due_event self.now.cycle (drop self.now.next self.now.script) }
@@ -126,7 +126,7 @@ impl Engine {
     }
 }
 
-/// The order in hand, with its place.
+/// Returns the order in hand, with its place.
 #[tactic(auto, unfolding(crate::specs::Boundary::in_hand))]
 fn in_hand(processor: &Processor) -> InHand
     ensures order { result ≡ in_hand processor.now }
@@ -141,7 +141,7 @@ fn in_hand(processor: &Processor) -> InHand
     }
 }
 
-/// The bank that an address stands in, in the two windows; elsewhere 0.
+/// Returns the bank that an address is in, in the two windows; elsewhere 0.
 fn bank_of_address(processor: &Processor, address: Addr) -> u8
     ensures bank { result ≡ bank_of_address address processor.now }
     ensures range { result < 0o50 }

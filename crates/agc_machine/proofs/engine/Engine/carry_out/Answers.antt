@@ -6,14 +6,14 @@ use Rattle.agc_machine.proofs.engine.Engine.carry_out.Goals as goal
 pub returns-in-Event-clause-step : goal.returns-in-Event-clause-step
 returns-in-Event-clause-step c =
     let script = rw c.in-Event.is at c.requires.script in
-    rw (c.in-Event.is, c.meet.ensures.state, c.meet.ensures.cycles, later_from c.args.self.now.script c.args.self.now.next script.0) refl
+    rw (c.in-Event.is, c.apply_event.ensures.state, c.apply_event.ensures.cycles, later_from c.args.self.now.script c.args.self.now.next script.0) refl
 
 pub returns-in-Event-clause-sound : goal.returns-in-Event-clause-sound
 returns-in-Event-clause-sound c =
     let script = rw c.in-Event.is at c.requires.script in
     let applies = rw c.in-Event.is at c.requires.applies in
-    sound_slowly _ (omega (arith, script.0)) c.requires.sound.some c.requires.sound.limit (omega (arith, applies.0, c.meet.ensures.few))
-    (event_in_time _ _ _ _ _ c.requires.sound.in_time c.meet.ensures.state (omega arith)) c.requires.not_quiet c.requires.begun
+    sound_slowly _ (omega (arith, script.0)) c.requires.sound.some c.requires.sound.limit (omega (arith, applies.0, c.apply_event.ensures.bound))
+    (event_in_time _ _ _ _ _ c.requires.sound.in_time c.apply_event.ensures.state (omega arith)) c.requires.not_quiet c.requires.begun
 
 pub step_timer-requires : goal.step_timer-requires
 step_timer-requires c =
@@ -23,5 +23,5 @@ step_timer-requires c =
 pub returns-in-Timer-clause-sound : goal.returns-in-Timer-clause-sound
 returns-in-Timer-clause-sound c =
     let applies = rw c.in-Timer.is at c.requires.applies in
-    sound_slowly _ c.requires.sound.place c.requires.sound.some c.requires.sound.limit (omega (arith, applies.0, c.step_timer.ensures.few))
+    sound_slowly _ c.requires.sound.place c.requires.sound.some c.requires.sound.limit (omega (arith, applies.0, c.step_timer.ensures.bound))
     (step_in_time _ _ _ _ _ _ c.requires.sound.in_time applies.2 c.step_timer.ensures.step (omega arith)) c.requires.not_quiet c.requires.begun

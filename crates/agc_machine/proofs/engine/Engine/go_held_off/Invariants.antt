@@ -8,7 +8,7 @@ use Rattle.agc_machine.proofs.engine.Engine.go_held_off.Given as goal
 abbrev pub invariant-loop-self : goal.invariant-loop-self
 invariant-loop-self l =
     IsSound (engine_at l.cycle l.self) × (next_before l.fn.end (state_of (engine_at l.cycle l.self)) ≡ next_before l.fn.end (state_of l.initial.self))
-    × (l.cycle < l.self.calm_until) × (l.fn.end ≤ l.self.calm_until) × (l.self.until ≡ None)
+    × (l.cycle < l.self.quiet_until) × (l.fn.end ≤ l.self.quiet_until) × (l.self.until ≡ None)
 
 abbrev pub decreases-loop-self : goal.decreases-loop-self
 decreases-loop-self l = boundaries_left (state_of (engine_at l.cycle l.self))

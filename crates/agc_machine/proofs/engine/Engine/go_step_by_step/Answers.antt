@@ -11,7 +11,7 @@ loop-self-smaller c = fewer_after_quiet _ _ c.in-Quiet.ensures.step
 
 pub loop-self-preserved : goal.loop-self-preserved
 loop-self-preserved c =
-    let same = c.in-Quiet.ensures.calm_until refl in
+    let same = c.in-Quiet.ensures.quiet_until refl in
     (c.in-Quiet.ensures.sound, before_after_quiet _ _ _ c.in-Quiet.ensures.step (omega arith) ∙ c.loop-self.invariant.1, omega arith, omega arith)
 
 pub returns-in-Wrote-clause-next : goal.returns-in-Wrote-clause-next

@@ -7,7 +7,7 @@ use Rattle.agc_machine.proofs.engine.Engine.go_step_by_step.Given as goal
 abbrev pub invariant-loop-self : goal.invariant-loop-self
 invariant-loop-self l =
     IsSound l.self × (next_before l.fn.end (state_of l.self) ≡ next_before l.fn.end (state_of l.initial.self))
-    × (l.self.cycle < l.self.calm_until) × (l.fn.end ≤ l.self.calm_until)
+    × (l.self.cycle < l.self.quiet_until) × (l.fn.end ≤ l.self.quiet_until)
 
 abbrev pub decreases-loop-self : goal.decreases-loop-self
 decreases-loop-self l = boundaries_left (state_of l.self)

@@ -31,11 +31,11 @@ pub returns-clause-sound : goal.returns-clause-sound
 returns-clause-sound c =
     record {
       place = omega arith;
-      some = c.requires.some;
+      some = c.requires.positive;
       limit = c.requires.limit;
       cycle = omega arith;
       in_time = subst (λ (p : Processor). IsInTime 0 p.timers) (sym c.new.ensures.start) (start_in_time _);
-      calm = λ l. let no : ⊥ = omega arith in absurd no;
+      quiet = λ l. let no : ⊥ = omega arith in absurd no;
       pace = λ l. let no : ⊥ = omega arith in absurd no;
       fresh = λ e. fresh_start _ _ _ _ c.new.ensures.start c.new.ensures.fixed;
     }

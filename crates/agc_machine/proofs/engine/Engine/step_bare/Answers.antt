@@ -5,5 +5,5 @@ use Rattle.agc_machine.proofs.engine.Engine.step_bare.Goals as goal
 
 pub returns-clause-step : goal.returns-clause-step
 returns-clause-step c =
-    let some : 0 < c.args.self.now.calm_until = omega arith in
-    c.run_order.ensures.step ∙ sym (bare_step c.args.self.now.calm_until (state_of c.args.self.now) (c.requires.sound.calm some) c.requires.calm (rw c.requires.pace at c.requires.sound.pace some))
+    let some : 0 < c.args.self.now.quiet_until = omega arith in
+    c.run_order.ensures.step ∙ sym (bare_step c.args.self.now.quiet_until (state_of c.args.self.now) (c.requires.sound.quiet some) c.requires.quiet (rw c.requires.pace at c.requires.sound.pace some))

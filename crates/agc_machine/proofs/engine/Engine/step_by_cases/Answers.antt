@@ -21,11 +21,11 @@ returns-clause-step c =
 pub returns-in-Some-clause-step : goal.returns-in-Some-clause-step
 returns-in-Some-clause-step c =
     let wanted = rw c.in-Some.is at c.requires.wanted in
-    rw (c.in-Some.is, c.meet.ensures.state, c.meet.ensures.cycles) (sym (live_happens (state_of c.args.self.now) c.in-Some.what (wanted refl)))
+    rw (c.in-Some.is, c.apply_event.ensures.state, c.apply_event.ensures.cycles) (sym (live_happens (state_of c.args.self.now) c.in-Some.what (wanted refl)))
 
 pub returns-in-Some-clause-sound : goal.returns-in-Some-clause-sound
 returns-in-Some-clause-sound c =
     let wanted = rw c.in-Some.is at c.requires.wanted in
     let below = (wanted refl).below in
-    sound_slowly _ c.requires.sound.place c.requires.sound.some c.requires.sound.limit (omega (arith, below, c.meet.ensures.few))
-    (event_in_time _ _ _ _ _ c.requires.sound.in_time c.meet.ensures.state (omega arith)) c.requires.not_quiet refl
+    sound_slowly _ c.requires.sound.place c.requires.sound.some c.requires.sound.limit (omega (arith, below, c.apply_event.ensures.bound))
+    (event_in_time _ _ _ _ _ c.requires.sound.in_time c.apply_event.ensures.state (omega arith)) c.requires.not_quiet refl

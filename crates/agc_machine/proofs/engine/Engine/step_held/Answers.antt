@@ -5,6 +5,6 @@ use Rattle.agc_machine.proofs.engine.Engine.step_held.Goals as goal
 
 pub returns-in-Some-clause-step : goal.returns-in-Some-clause-step
 returns-in-Some-clause-step c =
-    let some : 0 < c.args.self.now.calm_until = omega arith in
+    let some : 0 < c.args.self.now.quiet_until = omega arith in
     c.take_interrupt.ensures.step
-    ∙ sym (interrupt_step c.args.self.now.calm_until (state_of c.args.self.now) c.in-Some.rupt (c.requires.sound.calm some) c.requires.calm (sym c.in-Some.ensures))
+    ∙ sym (interrupt_step c.args.self.now.quiet_until (state_of c.args.self.now) c.in-Some.rupt (c.requires.sound.quiet some) c.requires.quiet (sym c.in-Some.ensures))

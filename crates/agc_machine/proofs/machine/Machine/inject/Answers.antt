@@ -3,7 +3,7 @@ use Rattle.agc_machine.specs.State.{State}
 use Rattle.agc_machine.specs.declared.answer.Stepped.{Stepped}
 use Rattle.agc_machine.specs.declared.answer.Stepped.TheVariants as stepped
 use Rattle.agc_machine.proofs.Replay.{live_happens}
-use Rattle.agc_machine.proofs.machine.Machine.give.Goals as goal
+use Rattle.agc_machine.proofs.machine.Machine.inject.Goals as goal
 
 pub returns : goal.returns
 returns c =

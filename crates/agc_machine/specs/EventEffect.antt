@@ -1,4 +1,4 @@
--- What an event of a script, or a live one, does to the processor. None of them is a channel write.
+-- What an event, scripted or live, does to the processor. No event is a channel write.
 use Rattle.std.specs.Prelude.{ℕ, ◌+◌, ◌*◌, ◌/◌, ◌%◌, ◌==◌, ◌&&◌, Bool, true, false, if◌then◌else◌}
 use Rattle.agc_word.specs.Number.{pattern_of}
 use Rattle.agc_word.specs.Pulses.{pulsed}
@@ -19,7 +19,7 @@ use Rattle.agc_processor.specs.Interrupt.{request, rupt_numbered}
 use Rattle.agc_processor.specs.Timer.{counter, set_counter, carried}
 use Rattle.agc_processor.specs.declared.interrupt.Rupt.TheVariants as rupt
 
--- a key: its code comes into the keyboard's channel, and KEYRUPT1 is requested
+-- a key: its code goes into the keyboard's channel, and KEYRUPT1 is requested
 unfoldable pub pressed : Key → Processor → Processor
 pressed key p =
     p ▷ set_channel_cell mnkeyin (narrow_number (code_of key)) ▷ request rupt.Keyrupt1
@@ -32,7 +32,7 @@ proceeded down p =
     let changed = narrow_number (word / 0o40000 * 0o40000 + bit + word % 0o20000) in
     p ▷ set_channel_cell chan32 changed
 
--- only the shifts of INLINK, by which the uplink comes in, ask for UPRUPT with their carry
+-- only the shifts of INLINK, through which the uplink comes in, request UPRUPT with their carry
 abbrev pub is_shift : Pulse → Bool
 is_shift pulse.Shinc = true
 is_shift pulse.Shanc = true

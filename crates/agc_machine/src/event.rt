@@ -1,8 +1,8 @@
-//! What events, of the script or live, do to the processor.
+//! What events, scripted or live, do to the processor.
 ghost use Rattle.std.specs.Prelude.{◌≡◌, ◌<◌, ◌≤◌, ◌^◌};
 ghost use Rattle.agc_store.specs.Places.{erasable_bank_size};
 ghost use Rattle.agc_script.specs.Event.{IsWhatInRange};
-ghost use Rattle.agc_machine.specs.Happening.{pressed, proceeded, pulsed_counter, happened, cycles_of};
+ghost use Rattle.agc_machine.specs.EventEffect.{pressed, proceeded, pulsed_counter, happened, cycles_of};
 
 use agc_processor::{Processor, Rupt};
 use agc_script::{Key, What};
@@ -10,8 +10,8 @@ use agc_store::place::INLINK;
 use agc_word::channels::{CHAN32, MNKEYIN};
 use agc_word::{Carry, Narrow, Pulse};
 
-/// A key: its code comes into its channel, and KEYRUPT1 is requested.
-#[tactic(auto, unfolding(crate::specs::Happening::pressed))]
+/// Presses a key: puts its code into its channel, and requests KEYRUPT1.
+#[tactic(auto, unfolding(crate::specs::EventEffect::pressed))]
 fn press(processor: &mut Processor, key: Key)
     ensures { processor.new ≡ pressed key processor.old }
 {
@@ -19,8 +19,8 @@ fn press(processor: &mut Processor, key: Key)
     processor.request(Rupt::Keyrupt1);
 }
 
-/// The PRO key goes down, or up: bit 14 of its channel, 0 while it is down.
-#[tactic(auto, unfolding(crate::specs::Happening::proceeded))]
+/// Moves the PRO key down or up: bit 14 of its channel, which is 0 while the key is down.
+#[tactic(auto, unfolding(crate::specs::EventEffect::proceeded))]
 fn proceed(processor: &mut Processor, down: bool)
     ensures { processor.new ≡ proceeded down processor.old }
 {
@@ -30,8 +30,8 @@ fn proceed(processor: &mut Processor, down: bool)
     processor.set_channel_cell(CHAN32, changed);
 }
 
-/// A pulse from outside; the shift that fills INLINK requests UPRUPT.
-#[tactic(auto, unfolding(crate::specs::Happening::pulsed_counter))]
+/// Applies a pulse from outside; the shift that fills INLINK requests UPRUPT.
+#[tactic(auto, unfolding(crate::specs::EventEffect::pulsed_counter))]
 fn pulse_counter(processor: &mut Processor, place: u16, kind: Pulse)
     requires low { 0o10 ≤ place }
     requires high { place < erasable_bank_size }
@@ -44,14 +44,14 @@ fn pulse_counter(processor: &mut Processor, place: u16, kind: Pulse)
     }
 }
 
-/// An event happens at a boundary that begins at this cycle; returns the cycles that it takes.
-#[tactic(auto, unfolding(crate::specs::Happening::happened, crate::specs::Happening::cycles_of, agc_script::specs::Event::IsWhatInRange))]
-pub(crate) fn meet(processor: &mut Processor, cycle: u64, what: What) -> u64
+/// Applies an event at a boundary that begins at this cycle; returns the cycles that it takes.
+#[tactic(auto, unfolding(crate::specs::EventEffect::happened, crate::specs::EventEffect::cycles_of, agc_script::specs::Event::IsWhatInRange))]
+pub(crate) fn apply_event(processor: &mut Processor, cycle: u64, what: What) -> u64
     requires cycle { cycle < 2 ^ 41 }
     requires range { IsWhatInRange what }
     ensures state { processor.new ≡ happened cycle what processor.old }
     ensures cycles { result ≡ cycles_of what }
-    ensures few { result ≤ 1 }
+    ensures bound { result ≤ 1 }
 {
     match what {
         What::Key(key) => press(processor, key),

@@ -1,5 +1,5 @@
--- Where the clock brings nothing, and what can come then before the order in hand: what the machine
--- keeps beside its state, so that calm orders look at one number.
+-- When the clock brings nothing, and what can then come before the order in hand: what the machine
+-- keeps beside its state, so that orders in quiet check one number.
 use Rattle.std.specs.Prelude.{◌≡◌, ℕ, ◌<◌, ◌≤◌, ◌⊎◌, Bool, true, false, List, [], ◌∷◌, Option, None, Some}
 use Rattle.agc_script.specs.declared.event.Event.{Event}
 use Rattle.agc_processor.specs.Channel.{switch_word}
@@ -8,8 +8,8 @@ use Rattle.agc_processor.specs.Timer.{is_any_due}
 use Rattle.agc_processor.specs.declared.interrupt.Rupt.{Rupt}
 use Rattle.agc_machine.specs.Boundary.{IsBefore}
 use Rattle.agc_machine.specs.State.{State}
-use Rattle.agc_machine.specs.declared.calm.Pace.{Pace}
-use Rattle.agc_machine.specs.declared.calm.Pace.TheVariants as pace
+use Rattle.agc_machine.specs.declared.quiet.Pace.{Pace}
+use Rattle.agc_machine.specs.declared.quiet.Pace.TheVariants as pace
 use Rattle.agc_machine.specs.declared.stop_address.StopAddress.{StopAddress}
 
 -- a machine that has begun and has not stopped
@@ -23,7 +23,7 @@ is_timer_due cycle s = is_any_due cycle s.processor.timers (switch_word s.proces
 
 -- below this cycle the clock brings nothing: no limit, no event and no timer's step, whatever
 -- orders run and whatever interrupts are taken
-pub record IsCalm (until : ℕ) (s : State) : Type 0 where
+pub record IsQuiet (until : ℕ) (s : State) : Type 0 where
   pub going : IsGoing s
   pub limit : (cycle : ℕ) → cycle < until → cycle < s.limit
   pub events : (cycle : ℕ) → cycle < until → IsBefore cycle s.events
@@ -54,6 +54,6 @@ IsEventDue cycle (event ∷ rest) = event.cycle ≤ cycle
 abbrev pub IsDue : ℕ → State → Type 0
 IsDue cycle s = (s.limit ≤ cycle) ⊎ (IsEventDue cycle s.events ⊎ (is_timer_due cycle s ≡ true))
 
--- the longest calm there is: the cycle up to which it is calm brings something
+-- the longest quiet possible: the cycle up to which it is quiet brings something
 abbrev pub IsLongest : ℕ → State → Type 0
 IsLongest until s = IsGoing s → IsDue until s
