@@ -9,14 +9,14 @@ use Rattle.agc_panel.specs.Field.{field_after}
 use Rattle.agc_panel.specs.declared.lamp.Lamps.{Lamps}
 use Rattle.agc_panel.specs.declared.lamp.Source.TheVariants.{Dsalmout, LampRow}
 
--- the states of the lamps, one after another, are all that is kept of them
+-- the states of the lamps, in order, are all that is kept of them
 lit_in_order : (lamps : Lamps) → length lamps.lit ≡ length printed_order → lamps.lit ≡ map (is_lit lamps) printed_order
 lit_in_order lamps long =
     let lit = λ (k : ℕ). get_or lamps.lit k false in
     let each = λ (k : ℕ) (h : k < length lamps.lit). sym (get_or-map-range_with_len lit 0 (length printed_order) k k false (omega (arith, long)) (omega arith)) in
     ext_get_or false lamps.lit (map lit (range_with_len 0 (length printed_order))) long each
 
--- where a write is neither of the words that light lamps
+-- if a write is neither of the words that light lamps
 pub no_lamp_named : (lamps : Lamps) (write : ChannelWrite) → length lamps.lit ≡ length printed_order → is_from LampRow write ≡ false → is_from Dsalmout write ≡ false
     → lamps_after lamps (write ∷ []) ≡ lamps
 unfolding bit_given field_after

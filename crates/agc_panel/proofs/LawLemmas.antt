@@ -1,4 +1,4 @@
--- What the laws of the panel stand on.
+-- Lemmas for the laws of the panel.
 use Rattle.std.proofs.Common.{◌≡◌, ◌≢◌, ◌⊎◌, ◌∙◌, ◌==◌, ap, Bool, true, false, ℕ, inl, inr, List, [], ◌∷◌, map, Option, None, refl, sym}
 use Rattle.std.proofs.lemmas.Bool.{and_parts, cases_Bool, eqb-true, false_from_ne_true}
 use Rattle.std.proofs.lemmas.List.Elements.{recursion_from_All}
@@ -119,7 +119,7 @@ unnamed : {A : Type 0} (before : A) (given : ChannelWrite → Option A) (writes 
 unnamed before given [] h = refl
 unnamed before given (write ∷ writes) h = rw (h.0, unnamed before given writes h.1) refl
 
--- where no write names a row, it gives each nothing
+-- if no write names a row, it gives each nothing
 silent_row : {A : Type 0} (row : ℕ) (given : ChannelWrite → Option A) (writes : List ChannelWrite) → ((write : ChannelWrite) → names_row row write ≡ false → given write ≡ None)
     → AllByRecursion (λ write. fields_named write ≢ OfRow row) writes → AllByRecursion (λ write. given write ≡ None) writes
 silent_row row given [] none h = tt

@@ -1,3 +1,6 @@
+pub mod Numbers
+pub mod Entries
+pub mod Lines
 pub mod Taken
 pub mod LampLemmas
 pub mod LawLemmas

@@ -78,7 +78,7 @@ same_sign a b h = sym (sign_back a) ∙ ap sign_read h ∙ sign_back b
 pair_from : {a b : Pair} → a.left ≡ b.left → a.right ≡ b.right → a ≡ b
 pair_from {a} {b} l r = rw (l, r) refl
 
--- what stands after FLASH tells whether the flash is on
+-- the text after FLASH shows whether the flash is on
 same_flash : (a b : Bool) (s t : List ℕ)
     → get_or ((if a then codes "on" else codes "off") ++ codes "\n" ++ s) 1 0 ≡ get_or ((if b then codes "on" else codes "off") ++ codes "\n" ++ t) 1 0 → a ≡ b
 same_flash true true s t h = refl

@@ -1,4 +1,4 @@
--- The digits of the panel: what a relay code stands for, and how it is printed.
+-- The digits of the panel: the digit for each relay code, and how it is printed.
 use Rattle.std.specs.Prelude.{ℕ, ◌==◌, Bool, List, [], ◌∷◌, codes, find}
 use Rattle.std.specs.Option.{option_map_or}
 use Rattle.agc_panel.specs.declared.digit.Digit.{Digit}

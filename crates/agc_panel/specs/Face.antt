@@ -1,4 +1,4 @@
--- The panel of a list of channel writes: each field as the last write that names it gives it.
+-- The panel of a list of channel writes: each field has the value of the last write that names it.
 use Rattle.std.specs.Prelude.{ℕ, false, List}
 use Rattle.agc_word.specs.declared.channel_write.ChannelWrite.{ChannelWrite}
 use Rattle.agc_panel.specs.declared.digit.Digit.TheVariants.{Blank}
@@ -10,14 +10,14 @@ use Rattle.agc_panel.specs.Lamp.{bit_given, lamps_after, dark_lamps}
 use Rattle.agc_panel.specs.RelayWord.{sign_of_row, left_of_row, right_of_row}
 use Rattle.agc_panel.specs.Field.{field_after}
 
--- Two digits that have a row of their own, after a list of writes.
+-- Two digits that share a row, after a list of writes.
 unfoldable pub pair_after : ℕ → Pair → List ChannelWrite → Pair
 pair_after row before writes = record {
   left = field_after before.left (left_of_row row) writes;
   right = field_after before.right (right_of_row row) writes;
 }
 
--- the bit of DSALMOUT that lets verb and noun flash
+-- the bit of DSALMOUT that makes verb and noun flash
 abbrev pub flash_bit : ℕ
 flash_bit = 6
 

@@ -3,7 +3,7 @@ use Rattle.std.specs.Prelude.{List, Option, None, unwrap_or}
 use Rattle.std.specs.List.{filter_map, last_or}
 use Rattle.agc_word.specs.declared.channel_write.ChannelWrite.{ChannelWrite}
 
--- what the last write that names a field gives it, or what stood there before where none does
+-- the value from the last write that names a field, or the earlier one if none does
 unfoldable pub field_after : {A : Type 0}
     → A → (ChannelWrite → Option A) → List ChannelWrite → A
 field_after before given writes = unwrap_or (last_or None (filter_map given writes)) before

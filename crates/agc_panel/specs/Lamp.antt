@@ -1,4 +1,4 @@
--- The lamps: where each is wired, the words on it, and which of them are on.
+-- The lamps: where each is wired, its legend, and which of them are on.
 use denote.Enum.Declared.{tag_of}
 use Rattle.std.specs.Prelude.{ℕ, ◌==◌, Bool, false, if◌then◌else◌, List, [], ◌∷◌, Option, Some}
 use Rattle.std.specs.Prelude.{None, codes, get_or, map}
@@ -15,7 +15,7 @@ use Rattle.agc_panel.specs.contracts.lamp.Lamp.{the_type}
 use Rattle.agc_panel.specs.RelayWord.{is_bit_on, names_row}
 use Rattle.agc_panel.specs.Field.{field_after}
 
--- a row of the wiring table: the word that lights a lamp, its bit there, and the words on the lamp
+-- a row of the wiring table: the word that lights a lamp, its bit there, and the legend on the lamp
 pub record Wiring : Type 0 where
   pub source : Source
   pub bit : ℕ
@@ -36,11 +36,11 @@ wiring Alt = record { source = LampRow; bit = 5; words = codes "ALT" }
 wiring Vel = record { source = LampRow; bit = 3; words = codes "VEL" }
 wiring Iss = record { source = Dsalmout; bit = 1; words = codes "ISS" }
 
--- the words on a lamp
+-- the legend on a lamp
 abbrev pub words_on : Lamp → List ℕ
 words_on lamp = (wiring lamp).words
 
--- the order in which the lamps are printed, and in which their states stand
+-- the order in which the lamps are printed, and in which their states are kept
 abbrev pub printed_order : List Lamp
 printed_order =
     CompActy ∷ UplinkActy ∷ NoAtt ∷ Temp ∷ GimbalLock ∷ Prog
@@ -51,15 +51,15 @@ abbrev pub is_from : Source → ChannelWrite → Bool
 is_from LampRow write = names_row 12 write
 is_from Dsalmout write = write.channel == dsalmout
 
--- what a write gives a bit of such a word
+-- what a write sets a bit of such a word to
 unfoldable pub bit_given : Source → ℕ → ChannelWrite → Option Bool
 bit_given source bit write = if is_from source write then Some (is_bit_on bit write.value) else None
 
--- what a write gives a lamp
+-- what a write sets a lamp to
 abbrev pub lamp_given : Lamp → ChannelWrite → Option Bool
 lamp_given lamp write = bit_given (wiring lamp).source (wiring lamp).bit write
 
--- a lamp's place in the order of print, in which its variants are declared
+-- a lamp's position in print order, in which its variants are declared
 abbrev pub lamp_place : Lamp → ℕ
 lamp_place lamp = tag_of the_type lamp
 

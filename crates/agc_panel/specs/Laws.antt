@@ -1,4 +1,4 @@
--- What the laws of the panel speak of: what a write names, and what two panels show alike.
+-- The terms of the panel's laws: what a write names, and when two panels show the same.
 use Rattle.std.specs.Prelude.{◌≡◌, ◌≢◌, ℕ, ◌==◌, if◌then◌else◌, List, All}
 use Rattle.agc_word.specs.declared.channel_write.ChannelWrite.{ChannelWrite}
 use Rattle.agc_word.specs.Channels.{dsalmout, out0}
@@ -28,7 +28,7 @@ fields_named write =
 abbrev pub AreUnnamed : Fields → List ChannelWrite → Type 0
 AreUnnamed fields writes = All (λ write. fields_named write ≢ fields) writes
 
--- the fields among which a lamp stands
+-- the fields that a lamp belongs to
 abbrev pub fields_of_source : Source → Fields
 fields_of_source LampRow = OfRow 12
 fields_of_source Dsalmout = OfDsalmout

@@ -1,3 +1,8 @@
+pub mod WatchSpec
+pub mod CoreSet
+pub mod Tables
+pub mod TablesText
+pub mod Watcher
 pub mod Digit
 pub mod RelayWord
 pub mod Field

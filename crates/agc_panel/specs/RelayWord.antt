@@ -27,18 +27,18 @@ right_digit word = digit_of (bits 5 1 word)
 abbrev pub names_row : ℕ → ChannelWrite → Bool
 names_row row write = (write.channel == out0) && (bits 15 12 write.value == row)
 
--- what a write gives a field of a row
+-- what a write sets a field of a row to
 abbrev pub given_by_row : {A : Type 0} → ℕ → (Number → A) → ChannelWrite → Option A
 given_by_row row field write = if names_row row write then Some (field write.value) else None
 
--- what a write gives the sign of a row: bit 11
+-- what a write sets the sign of a row to: bit 11
 unfoldable pub sign_of_row : ℕ → ChannelWrite → Option Bool
 sign_of_row row write = given_by_row row (is_bit_on 11) write
 
--- what a write gives the left digit of a row
+-- what a write sets the left digit of a row to
 unfoldable pub left_of_row : ℕ → ChannelWrite → Option Digit
 left_of_row row write = given_by_row row left_digit write
 
--- what a write gives the right digit of a row
+-- what a write sets the right digit of a row to
 unfoldable pub right_of_row : ℕ → ChannelWrite → Option Digit
 right_of_row row write = given_by_row row right_digit write

@@ -11,7 +11,7 @@ use Rattle.agc_panel.specs.declared.text.Sign.TheVariants.{Plus, Minus, Blank}
 use Rattle.agc_panel.specs.Digit.{glyph}
 use Rattle.agc_panel.specs.Lamp.{is_lit, printed_order, words_on}
 
--- the sign of a register: plus where the plus relay is on, else minus where the minus relay is on
+-- the sign of a register: plus if the plus relay is on, otherwise minus if the minus relay is on
 abbrev pub sign_of : Register → Sign
 sign_of register = if register.plus then Plus else (if register.minus then Minus else Blank)
 
@@ -43,7 +43,7 @@ abbrev pub names_of_lamps : List Lamp → List ℕ
 names_of_lamps [] = codes "none"
 names_of_lamps (lamp ∷ lamps) = join_by words_on (codes ", ") (lamp ∷ lamps)
 
--- the lamps that are on, in the order of print
+-- the lamps that are on, in print order
 abbrev pub lit_lamps : Lamps → List Lamp
 lit_lamps lamps = filter (is_lit lamps) printed_order
 

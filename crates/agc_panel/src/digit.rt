@@ -4,7 +4,7 @@ ghost use Rattle.agc_panel.specs.Digit.{digit_of, glyph};
 
 use std::fmt;
 
-/// What one digit's place shows. At the start of a run it is blank.
+/// What the place of one digit shows. At the start of a run it is blank.
 #[derive(Clone, Copy, Debug, PartialEq, Eq)]
 pub enum Digit {
     Blank,
@@ -18,12 +18,12 @@ pub enum Digit {
     Seven,
     Eight,
     Nine,
-    /// A code that stands for no digit.
+    /// A code that is no digit.
     Unknown,
 }
 
 impl Digit {
-    /// The digit that a code of the relay word stands for, 0 to 37 octal.
+    /// Returns the digit for a code of the relay word, 0 to 37 octal.
     #[tactic(auto, unfolding(crate::specs::Digit::digit_of))]
     pub fn from_code(code: u16) -> Digit
         ensures { result ≡ digit_of code }
@@ -44,7 +44,7 @@ impl Digit {
         }
     }
 
-    /// The one character that the digit is printed as: `_` for a blank, `?` for an unknown code.
+    /// Returns the character that the digit prints as: `_` for a blank, `?` for an unknown code.
     #[tactic(auto, unfolding(crate::specs::Digit::glyph))]
     pub fn glyph(self) -> &'static str
         ensures { result.now ≡ glyph self }

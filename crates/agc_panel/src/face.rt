@@ -1,4 +1,4 @@
-//! The fields of the panel, and what a channel write puts into them.
+//! The fields of the panel, and how a channel write changes them.
 #![tactic(auto, unfolding(crate::specs::Face::face_after, crate::specs::Face::pair_after, crate::specs::Field::field_after, crate::specs::RelayWord::sign_of_row, crate::specs::RelayWord::left_of_row, crate::specs::RelayWord::right_of_row))]
 
 ghost use Rattle.std.specs.Prelude.{◌≡◌, [], ◌∷◌};
@@ -11,10 +11,10 @@ use crate::relay_word::{left_of, right_of, row_of, sign_of};
 use agc_word::channels::OUT0;
 use agc_word::{ChannelWrite, Narrow};
 
-/// The bit of DSALMOUT that lets verb and noun flash.
+/// The bit of DSALMOUT that makes verb and noun flash.
 const FLASH_BIT: u32 = 6;
 
-/// Two digits side by side, as of a program, a verb or a noun.
+/// Two digits side by side, of a program, a verb or a noun.
 #[derive(Clone, Copy, Debug, PartialEq, Eq)]
 pub struct Pair {
     pub left: Digit,
@@ -22,7 +22,7 @@ pub struct Pair {
 }
 
 impl Pair {
-    /// The digits of a relay word.
+    /// Returns the two digits of a relay word.
     fn of(word: Narrow) -> Pair
         ensures { result ≡ record { left = left_digit word; right = right_digit word } }
     {
@@ -60,7 +60,7 @@ pub struct Face {
 }
 
 impl Face {
-    /// The panel before any write: every digit blank, every sign and lamp and the flash off.
+    /// Returns the panel before any write: every digit blank, every sign and lamp and the flash off.
     #[tactic(auto, unfolding(crate::specs::Face::blank_face))]
     pub(crate) fn blank() -> Face
         ensures { result ≡ blank_face }
@@ -90,7 +90,7 @@ impl Face {
         }
     }
 
-    /// Puts what a write names into its fields, and leaves all others.
+    /// Puts a write's value into the fields that it names, and leaves all others unchanged.
     pub(crate) fn take(&mut self, write: &ChannelWrite)
         ensures { self.new ≡ face_after self.old (write.now ∷ []) }
     {
@@ -103,8 +103,8 @@ impl Face {
         self.lamps.take(write);
     }
 
-    /// Puts the sign and the digits of a relay word into the fields of its row. The row comes first,
-    /// so that no digit is looked up that no field takes.
+    /// Puts the sign and the digits of a relay word into the fields of its row. The row is checked
+    /// first, so that no digit is decoded that no field takes.
     fn take_digits(&mut self, write: &ChannelWrite)
         requires { write.now.channel ≡ OUT0 }
         ensures { self.new ≡ record (face_after self.old (write.now ∷ [])) {

@@ -19,7 +19,7 @@ pub(crate) enum Source {
 }
 
 impl Source {
-    /// Whether a write is such a word.
+    /// Returns whether a write is such a word.
     fn is_written_by(self, write: &ChannelWrite) -> bool
         ensures { result ≡ is_from self write.now }
     {
@@ -29,7 +29,7 @@ impl Source {
         }
     }
 
-    /// What a write gives a bit of the word, where it is such a word.
+    /// Returns what a write sets a bit of the word to, if it writes that word.
     #[tactic(auto, unfolding(crate::specs::Lamp::bit_given))]
     pub(crate) fn bit_given(self, bit: u32, write: &ChannelWrite) -> Option<bool>
         requires counted { 1 ≤ bit }
@@ -44,7 +44,7 @@ impl Source {
     }
 }
 
-/// A lamp. The order is that of print.
+/// A lamp. The variants are in print order.
 #[derive(Clone, Copy, Debug, PartialEq, Eq)]
 pub enum Lamp {
     CompActy,
@@ -62,10 +62,10 @@ pub enum Lamp {
 }
 
 impl Lamp {
-    /// How many lamps there are.
+    /// The number of lamps.
     const COUNT: usize = 12;
 
-    /// All lamps, in the order in which they are printed.
+    /// All lamps, in print order.
     pub const PRINTED: [Lamp; Lamp::COUNT] = [
         Lamp::CompActy,
         Lamp::UplinkActy,
@@ -81,8 +81,8 @@ impl Lamp {
         Lamp::Iss,
     ];
 
-    /// The lamp's row of the wiring table: the word that lights it, its bit there, and the words on
-    /// the lamp.
+    /// Returns the lamp's row of the wiring table: the word that lights it, its bit there, and the
+    /// legend on the lamp.
     fn wiring(self) -> (Source, u32, &'static str)
         ensures source { result.0 ≡ (wiring self).source }
         ensures bit { result.1 ≡ (wiring self).bit }
@@ -106,14 +106,14 @@ impl Lamp {
         }
     }
 
-    /// The words on the lamp.
+    /// Returns the legend on the lamp.
     pub fn name(self) -> &'static str
         ensures { result.now ≡ words_on self }
     {
         self.wiring().2
     }
 
-    /// What a write gives the lamp, where it names it.
+    /// Returns what a write sets the lamp to, if it names it.
     fn given(self, write: &ChannelWrite) -> Option<bool>
         ensures { result ≡ lamp_given self write.now }
     {
@@ -121,7 +121,7 @@ impl Lamp {
         source.bit_given(bit, write)
     }
 
-    /// The lamp's place in the order of print.
+    /// Returns the lamp's position in print order.
     fn place(self) -> usize
         ensures place { result ≡ lamp_place self }
         ensures within { result < length printed_order }
@@ -141,12 +141,12 @@ impl AsStr for Lamp {
 /// Which lamps are on.
 #[derive(Clone, Copy, Debug, PartialEq, Eq)]
 pub struct Lamps {
-    /// In the order of print.
+    /// In print order.
     lit: [bool; Lamp::COUNT],
 }
 
 impl Lamps {
-    /// All lamps off.
+    /// Returns all lamps off.
     pub(crate) fn dark() -> Lamps
         ensures { result ≡ dark_lamps }
     {
@@ -155,14 +155,14 @@ impl Lamps {
         }
     }
 
-    /// Whether a lamp is on.
+    /// Returns whether a lamp is on.
     pub fn is_lit(&self, lamp: Lamp) -> bool
         ensures { result ≡ is_lit self.now lamp }
     {
         self.lit[lamp.place()]
     }
 
-    /// Whether a lamp is on after a write.
+    /// Returns whether a lamp is on after a write.
     #[tactic(auto, unfolding(crate::specs::Field::field_after))]
     fn lit_after(&self, lamp: Lamp, write: &ChannelWrite) -> bool
         ensures { result ≡ lit_after self.now (write.now ∷ []) lamp }
@@ -170,7 +170,7 @@ impl Lamps {
         lamp.given(write).unwrap_or(self.is_lit(lamp))
     }
 
-    /// Turns each lamp that a write names on or off, and leaves all others.
+    /// Turns each lamp that a write names on or off, and leaves all others unchanged.
     #[tactic(auto, using(crate::proofs::LampLemmas::no_lamp_named))]
     pub(crate) fn take(&mut self, write: &ChannelWrite)
         ensures { self.new ≡ lamps_after self.old (write.now ∷ []) }

@@ -10,14 +10,14 @@ ghost use Rattle.agc_panel.specs.Text.{panel_text};
 ghost use Rattle.agc_panel.specs.declared.face.Face.{Face};
 ghost use Rattle.agc_panel.specs.declared.lamp.Lamp.{Lamp};
 
-/// Two writes that name different fields can change places: the panel after both is the same.
+/// Two writes that name different fields can be swapped: the panel after both is the same.
 #[tactic(auto, using(crate::proofs::LawLemmas::changed_places))]
 pub fn writes_change_places()
     ensures { (face : Face) (a b : ChannelWrite) → fields_named a ≢ fields_named b
         → face_after face (a ∷ b ∷ []) ≡ face_after face (b ∷ a ∷ []) }
 {}
 
-/// A field that no write names is blank, and a lamp that none names is dark.
+/// A field that no write names is blank, and a lamp that no write names is dark.
 #[tactic(auto, using(crate::proofs::LawLemmas::blank_fields))]
 pub fn unnamed_fields_are_blank()
     ensures program { (writes : List ChannelWrite) → AreUnnamed (OfRow 11) writes

@@ -1,4 +1,4 @@
-//! The panel as the display keeps it up, write by write.
+//! The panel, updated write by write.
 ghost use Rattle.std.specs.Prelude.{◌≡◌, List, [], ◌∷◌, ◌++◌, IfOk, map, string_bytes};
 ghost use Rattle.agc_word.specs.declared.channel_write.ChannelWrite.{ChannelWrite};
 ghost use Rattle.agc_panel.specs.Face.{face_after, panel_of};
@@ -27,7 +27,7 @@ impl Model for Panel {
 }
 
 impl Panel {
-    /// The panel before any write: every digit blank, every sign and lamp and the flash off.
+    /// Returns the panel before any write: every digit blank, every sign and lamp and the flash off.
     #[tactic(auto, unfolding(crate::specs::Face::face_after, crate::specs::Face::pair_after, crate::specs::Face::blank_face, crate::specs::Field::field_after))]
     pub fn new() -> Panel
         ensures { result ≡ panel_of [] }
@@ -38,7 +38,7 @@ impl Panel {
     }
 
     /// Takes one channel write: each field that it names gets the write's value, all others stay. A
-    /// write names a field where its channel and, on channel 10 octal, its row are the field's own.
+    /// write names a field if its channel and, on channel 10 octal, its row are the field's own.
     #[tactic(auto, using(crate::proofs::Taken::takes_all))]
     pub fn take(&mut self, write: &ChannelWrite)
         ensures named { self.new ≡ face_after self.old (write.now ∷ []) }
@@ -48,21 +48,21 @@ impl Panel {
         self.face.take(write);
     }
 
-    /// The panel in print: eight lines, each ended by a line feed. Fails where memory runs out.
+    /// Prints the panel: eight lines, each ended by a line feed. Fails when memory runs out.
     pub fn text(&self, alloc: Global) -> Result<String, AllocError>
         ensures { IfOk result (λ text. string_bytes text ≡ panel_text self.now) }
     {
         text_of(alloc, &self.face)
     }
 
-    /// The same lines one by one, each ended by a line feed. Fails where memory runs out.
+    /// Prints the same lines one by one, each ended by a line feed. Fails when memory runs out.
     pub fn lines(&self, alloc: Global) -> Result<Vec<String>, AllocError>
         ensures { IfOk result (λ lines. map string_bytes lines.items ≡ panel_lines self.now) }
     {
         lines_of(alloc, &self.face)
     }
 
-    /// What the panel shows.
+    /// Returns what the panel shows.
     pub fn face(&self) -> Face
         ensures { result ≡ self.now }
     {

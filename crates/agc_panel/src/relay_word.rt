@@ -5,7 +5,7 @@ ghost use Rattle.agc_panel.specs.RelayWord.{bits, is_bit_on, left_digit, right_d
 use crate::digit::Digit;
 use agc_word::Narrow;
 
-/// The row that a relay word names.
+/// Returns the row that a relay word names.
 #[tactic(auto, unfolding(crate::specs::RelayWord::bits))]
 pub(crate) fn row_of(word: Narrow) -> u16
     ensures { result ≡ bits 15 12 word }
@@ -13,14 +13,14 @@ pub(crate) fn row_of(word: Narrow) -> u16
     word.bits() >> 11
 }
 
-/// The sign that a relay word gives its row.
+/// Returns the sign that a relay word sets in its row.
 pub(crate) fn sign_of(word: Narrow) -> bool
     ensures { result ≡ is_bit_on 11 word }
 {
     word.bit(11)
 }
 
-/// The left digit of a relay word.
+/// Returns the left digit of a relay word.
 #[tactic(auto, unfolding(crate::specs::RelayWord::bits))]
 pub(crate) fn left_of(word: Narrow) -> Digit
     ensures { result ≡ left_digit word }
@@ -28,7 +28,7 @@ pub(crate) fn left_of(word: Narrow) -> Digit
     Digit::from_code((word.bits() >> 5) % 0o40)
 }
 
-/// The right digit of a relay word.
+/// Returns the right digit of a relay word.
 #[tactic(auto, unfolding(crate::specs::RelayWord::bits))]
 pub(crate) fn right_of(word: Narrow) -> Digit
     ensures { result ≡ right_digit word }

@@ -17,7 +17,7 @@ pub enum Sign {
 }
 
 impl Register {
-    /// The register's sign: plus wins where both relays are on.
+    /// Returns the register's sign; plus wins if both relays are on.
     pub fn sign(&self) -> Sign
         ensures { result ≡ sign_of self.now }
     {
@@ -86,7 +86,7 @@ fn push_flash(text: &mut String, flash: bool) -> Result<(), AllocError>
     text.push_str(if flash { "FLASH on\n" } else { "FLASH off\n" })
 }
 
-/// The lamps that are on, in the order of print.
+/// Returns the lamps that are on, in print order.
 fn lit_lamps(alloc: Global, lamps: &Lamps) -> Result<Vec<Lamp>, AllocError>
     ensures { IfOk result (λ lit. lit.items ≡ lit_lamps lamps.now) }
 {
@@ -109,7 +109,7 @@ fn push_lamps(text: &mut String, alloc: Global, lamps: &Lamps) -> Result<(), All
     writeln!(text, "LAMPS {names}")
 }
 
-/// The eight lines of the panel.
+/// Returns the eight lines of the panel as one text.
 #[tactic(auto, unfolding(crate::specs::Text::panel_text))]
 pub(crate) fn text_of(alloc: Global, face: &Face) -> Result<String, AllocError>
     ensures { IfOk result (λ text. string_bytes text ≡ panel_text face.now) }
@@ -126,7 +126,7 @@ pub(crate) fn text_of(alloc: Global, face: &Face) -> Result<String, AllocError>
     Ok(text)
 }
 
-/// The eight lines of the panel, one by one.
+/// Returns the eight lines of the panel, one by one.
 #[tactic(auto, unfolding(crate::specs::Text::panel_lines))]
 pub(crate) fn lines_of(alloc: Global, face: &Face) -> Result<Vec<String>, AllocError>
     ensures { IfOk result (λ lines. map string_bytes lines.items ≡ panel_lines face.now) }

@@ -1,6 +1,0 @@
-use Rattle.std.proofs.Common.{◌≡◌, ◌++◌, string_bytes, take}
-use Rattle.agc_executive.specs.TablesText.{numbered, task_line}
-use Rattle.agc_executive.proofs.tables_text.push_tasks.Given as goal
-
-abbrev pub invariant-loop-k : goal.invariant-loop-k
-invariant-loop-k l = string_bytes l.text ≡ string_bytes l.initial.text ++ numbered task_line (take l.k l.tasks)
