@@ -1,4 +1,0 @@
-pub mod Denied
-pub mod There
-pub mod Told
-pub mod Whole

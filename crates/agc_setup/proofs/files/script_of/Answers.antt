@@ -1,5 +1,0 @@
-use Rattle.agc_setup.proofs.Denied.{script_faulty}
-use Rattle.agc_setup.proofs.files.script_of.Goals as goal
-
-pub returns-in-Err-clause-refused : goal.returns-in-Err-clause-refused
-returns-in-Err-clause-refused c = script_faulty c.args.bytes.now c.in-Err.fault c.in-Err.ensures.fault c.in-Err.ensures.memory
