@@ -1,13 +1,13 @@
--- The lines of a file, by their numbers.
+-- The lines of a file by number.
 use Rattle.std.proofs.Common.{◌≡◌, ℕ, zero, suc, ◌<◌, List, [], ◌∷◌, length, refl, ap, sym, ◌∙◌, arith}
 use Rattle.std.specs.Prelude.{Some, None, slice_get, option_map}
 use Rattle.std.specs.List.{slice_split}
 use Rattle.std.specs.Str.Lines.{strip_carriage_return}
 use Rattle.std.proofs.lemmas.List.{length-map}
 use Rattle.std.proofs.lemmas.Option.{slice_get-map, slice_get-get_or}
-use Rattle.agc_script.specs.Text.{is_line_feed, lines_of, without_empty_end}
+use Rattle.agc_word.specs.Text.{is_line_feed, lines_of, without_empty_end}
 
--- what follows the last line feed is no part of the file where it is empty, and all before stays
+-- if nothing follows the last line feed, there is no line there; all lines before stay
 kept : (parts : List (List ℕ)) (k : ℕ) → k < length (without_empty_end parts) → slice_get (without_empty_end parts) k ≡ slice_get parts k
 unfolding without_empty_end
 kept [] k within = refl
@@ -16,7 +16,7 @@ kept ((b ∷ bs) ∷ []) k within = refl
 kept (part ∷ next ∷ parts) zero within = refl
 kept (part ∷ next ∷ parts) (suc k) within = kept (next ∷ parts) k (omega (arith, within))
 
--- the line of a number is the part of that number, without a carriage return
+-- the line with a number is the part with that number, without a carriage return
 pub line_of_part : (file part : List ℕ) (k : ℕ) → k < length (lines_of file) → slice_get (slice_split is_line_feed file) k ≡ Some part
     → slice_get (lines_of file) k ≡ Some (strip_carriage_return part)
 unfolding lines_of

@@ -1,4 +1,4 @@
--- A fault of a rope's parity stands within the rope.
+-- A parity fault is in the rope.
 use Rattle.std.proofs.Common.{◌≡◌, ℕ, zero, suc, ◌+◌, ◌<◌, Bool, true, false, List, length, refl, arith, sym, subst}
 use Rattle.std.specs.Prelude.{Option, Some, None, IfSome, unwrap_or, option_map, if◌then◌else◌, nat_lt, find, ◌/◌}
 use Rattle.std.specs.List.{range_with_len}
@@ -15,7 +15,7 @@ found_if true a n rest within = omega arith
 found_if false a n None within = tt
 found_if false a n (Some i) within = omega (arith, within)
 
--- what is found among numbers is one of them
+-- a number that is found among others is one of them
 found : (p : ℕ → Bool) (a n : ℕ) → IfSome (find p (range_with_len a n)) (λ i. i < a + n)
 found p a zero = tt
 found p a (suc n) = found_if (p a) a n (find p (range_with_len (a + 1) n)) (found p (a + 1) n)

@@ -8,7 +8,7 @@ pub no_vectors : (words : List Number) (text : List ℕ) → text ++ first_vecto
 unfolding first_vectors_text
 no_vectors words text = append-nil text
 
--- one vector more
+-- one more vector
 pub vectors_more : (words : List Number) (index : ℕ) (old text new : List ℕ)
     → text ≡ old ++ first_vectors_text index words → new ≡ text ++ vector_text words index
     → new ≡ old ++ first_vectors_text (index + 1) words

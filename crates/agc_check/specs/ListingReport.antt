@@ -1,20 +1,19 @@
--- What is told of the text of a rope: that it has no fault, or the first fault of the first faulty line on the way
--- through it.
+-- The report on the text of a rope: that it has no fault, or the first fault of the first faulty line found.
 use Rattle.std.specs.Prelude.{◌≡◌, ℕ, List, ◌++◌, codes, Result, Ok, Err}
 use Rattle.std.specs.Fmt.{decimal}
-use Rattle.agc_source.specs.Source.{source_in}
-use Rattle.agc_source_words.specs.Told.{fault_text}
-use Rattle.agc_source_words.specs.declared.fault.SourceFault.{SourceFault}
-use Rattle.agc_source_words.specs.declared.fault.SourceTrouble.{SourceTrouble}
-use Rattle.agc_source_words.specs.declared.fault.SourceTrouble.TheVariants as trouble
+use Rattle.agc_asm.specs.Source.{source_in}
+use Rattle.agc_asm.specs.FaultText.{fault_text}
+use Rattle.agc_asm.specs.declared.fault.SourceFault.{SourceFault}
+use Rattle.agc_asm.specs.declared.fault.AssemblyFault.{AssemblyFault}
+use Rattle.agc_asm.specs.declared.fault.AssemblyFault.TheVariants as trouble
 
--- the number of a line, and its fault: that of a place and its word by its name, any other in a sentence
+-- the number of a line, and its fault: for a place and its word by name, otherwise as a sentence
 unfoldable pub listing_fault_text : ℕ → SourceFault → List ℕ
 listing_fault_text n fault =
     codes "text line " ++ decimal n ++ codes ": " ++ fault_text fault ++ codes "\n"
 
 -- `why` shows the line, and which of its words is wrong
-abbrev pub listing_told : {Said : Type 0} → Result Said SourceTrouble → List ℕ → List ℕ
+abbrev pub listing_told : {Said : Type 0} → Result Said AssemblyFault → List ℕ → List ℕ
 listing_told (Ok said) why = codes "text: no fault\n"
 listing_told (Err (trouble.Line n fault)) why = listing_fault_text n fault ++ why
 listing_told (Err trouble.Memory) why = why

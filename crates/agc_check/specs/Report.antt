@@ -1,14 +1,14 @@
--- What is told of a rope file and a script file: what they hold, or their faults.
+-- The report on a rope file and a script file: what they hold, or their faults.
 use Rattle.std.specs.Prelude.{◌≡◌, ℕ, ◌-◌, List, [], ◌++◌, codes, slice_get, unwrap_or}
 use Rattle.std.specs.Prelude.{Option, Some, None, Result, Ok, Err}
 use Rattle.std.specs.Fmt.{decimal}
 use Rattle.agc_store.specs.declared.rope_file.RopeForm.{RopeForm}
-use Rattle.agc_script.specs.Text.{lines_of}
+use Rattle.agc_word.specs.Text.{lines_of}
 use Rattle.agc_script.specs.Parse.{script_of}
 use Rattle.agc_script.specs.declared.event.Event.{Event}
 use Rattle.agc_script.specs.declared.fault.ScriptFault.{ScriptFault}
-use Rattle.agc_setup.specs.Refusal.{refusal_text}
-use Rattle.agc_setup.specs.declared.refusal.Refusal.TheVariants as refusal
+use Rattle.agc_load.specs.Fault.{refusal_text}
+use Rattle.agc_load.specs.declared.fault.LoadFault.TheVariants as refusal
 use Rattle.agc_check.specs.Holdings.{script_holdings}
 use Rattle.agc_check.specs.RopeReport.{rope_report}
 use Rattle.agc_check.specs.Shown.{shown_line}
@@ -24,22 +24,22 @@ unfoldable pub script_holdings_text : ScriptHoldings → List ℕ
 script_holdings_text held =
     codes "script: events " ++ decimal held.events ++ span_text held.span ++ codes "\n"
 
--- the line of a number, counted from 1
+-- the line with a number, counted from 1
 abbrev pub line_numbered : List ℕ → ℕ → List ℕ
 line_numbered file n = unwrap_or (slice_get (lines_of file) (n - 1)) []
 
--- a fault in the words of `agc`, and the line where it is
+-- a fault worded as in `agc`, and the line with the fault
 unfoldable pub script_fault_text : List ℕ → ScriptFault → List ℕ
 script_fault_text file fault =
     refusal_text (refusal.Script fault) ++ codes "\n"
     ++ codes "    " ++ shown_line (line_numbered file fault.line) ++ codes "\n"
 
--- what is told of a script file; `why` explains a fault by the words of its line
+-- the report on a script file; `why` explains a fault by the words of its line
 abbrev pub script_told : Result (List Event) ScriptFault → List ℕ → List ℕ → List ℕ
 script_told (Ok events) file why = script_holdings_text (script_holdings events)
 script_told (Err fault) file why = script_fault_text file fault ++ why
 
--- what is told of a script file stands after what was told before
+-- the report on a script file follows the text before it
 pub record IsScriptReport (file before after : List ℕ) : Type 0 where
   pub why : List ℕ
   pub text : after ≡ before ++ script_told (script_of file) file why

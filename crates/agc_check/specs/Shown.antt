@@ -1,10 +1,10 @@
--- How bytes of a file stand in print.
+-- How bytes of a file are printed.
 use Rattle.std.specs.Prelude.{ℕ, nat_lt, List, [], ◌∷◌, ◌++◌, length, take, codes, if◌then◌else◌}
 use Rattle.std.specs.List.{flat_map}
 use Rattle.agc_word.specs.Octal.{octal_digits}
-use Rattle.agc_rope_listing.specs.Line.{is_no_text}
+use Rattle.agc_listing.specs.Line.{is_no_text}
 
--- a byte that prints, or a tab, as it is, and each other one by its three octal digits
+-- a printable byte or a tab as it is, every other byte by its three octal digits
 unfoldable pub shown_byte : ℕ → List ℕ
 shown_byte b = if is_no_text b then codes "\\" ++ octal_digits 3 b else b ∷ []
 

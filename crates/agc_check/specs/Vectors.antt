@@ -1,12 +1,12 @@
--- Which vectors of a rope hold +0: an interrupt that comes there leads the run astray.
+-- Which vectors of a rope hold +0: a run goes astray at an interrupt there.
 use Rattle.std.specs.Prelude.{ℕ, zero, suc, ◌+◌, ◌*◌, Bool, not, List, [], ◌++◌, codes, if◌then◌else◌}
 use Rattle.std.specs.List.{list_any, range_with_len}
 use Rattle.agc_word.specs.Number.{Number}
-use Rattle.agc_rope_listing.specs.Place.{place_text}
-use Rattle.agc_rope_listing.specs.declared.place.Place.TheVariants as place
+use Rattle.agc_listing.specs.Place.{place_text}
+use Rattle.agc_listing.specs.declared.place.Place.TheVariants as place
 use Rattle.agc_check.specs.Holdings.{is_woven_at}
 
--- where the services of the ten interrupts begin: 4004, 4010 and so on to 4050 octal
+-- the vectors of the ten interrupts: 4004, 4010 and so on to 4050 octal
 unfoldable pub vector_of : ℕ → ℕ
 vector_of index = 0o4004 + 4 * index
 
@@ -24,7 +24,7 @@ vector_text words index =
     then codes " " ++ place_text (place.Plain (vector_of index))
     else []
 
--- the vectors that hold +0, of the first so many
+-- those of the first n vectors that hold +0
 unfoldable pub first_vectors_text : ℕ → List Number → List ℕ
 first_vectors_text zero words = []
 first_vectors_text (suc index) words =
@@ -37,10 +37,10 @@ empty_vectors_text words = first_vectors_text 10 words
 unfoldable pub remark_head : List ℕ
 remark_head = codes "    at these interrupt vectors stands +0, and a run goes astray there:"
 
--- the remark on the vectors that hold +0, of which there are some
+-- the remark on the vectors that hold +0, when there are any
 unfoldable pub vectors_remark : List Number → List ℕ
 vectors_remark words = remark_head ++ empty_vectors_text words ++ codes "\n"
 
--- the same, where there is one
+-- the same, if there are any
 unfoldable pub vectors_text : List Number → List ℕ
 vectors_text words = if has_empty_vector words then vectors_remark words else []

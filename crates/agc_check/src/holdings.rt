@@ -1,4 +1,4 @@
-//! What a rope and a script hold, counted.
+//! Counts what a rope and a script hold.
 ghost use Rattle.std.specs.Prelude.{◌≡◌, ◌<◌, ◌*◌, ◌+◌};
 ghost use Rattle.agc_store.specs.Places.{fixed_banks, fixed_words};
 ghost use Rattle.agc_check.specs.Holdings.{
@@ -15,21 +15,21 @@ use agc_script::Script;
 use agc_store::place::{FIXED_BANK_SIZE, FIXED_BANKS, FIXED_WORDS};
 use agc_store::{Rope, Store};
 
-/// How much of a rope is woven.
+/// How much of a rope is used.
 #[derive(Clone, Copy, Debug, PartialEq, Eq)]
 pub struct RopeHoldings {
     /// The words that are not +0, at most 36,864.
     pub words: usize,
-    /// The banks that hold such a word, at most 36.
+    /// The banks that have such a word, at most 36.
     pub banks: usize,
 }
 
 /// How many events a script has, and when.
 #[derive(Clone, Copy, Debug, PartialEq, Eq)]
 pub struct ScriptHoldings {
-    /// At most 65,536.
+    /// The number of events, at most 65,536.
     pub events: usize,
-    /// `None` where there are no events.
+    /// `None` if there are no events.
     pub span: Option<Span>,
 }
 
@@ -77,7 +77,7 @@ fn bank_count(store: &Store) -> usize
         .count()
 }
 
-/// Whether a bank holds a word that is not +0.
+/// Returns whether a bank has a word that is not +0.
 #[tactic(auto, unfolding(crate::specs::Holdings::has_words))]
 fn has_words(store: &Store, bank: usize) -> bool
     requires { bank < fixed_banks }
@@ -87,7 +87,7 @@ fn has_words(store: &Store, bank: usize) -> bool
     (0..size).any(|offset| is_woven_at(store, size * bank + offset))
 }
 
-/// Whether the word at a place, 2000 octal times its bank plus its offset, is not +0.
+/// Returns whether the word at a place, 2000 octal times its bank plus its offset, is not +0.
 #[tactic(auto, unfolding(crate::specs::Holdings::is_woven_at))]
 pub(crate) fn is_woven_at(store: &Store, place: usize) -> bool
     requires { place < fixed_words }

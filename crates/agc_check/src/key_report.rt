@@ -1,18 +1,18 @@
-//! What is wrong with a text of live keys, for a person; or how many keys it names.
+//! Reports what is wrong with a text of live keys, or how many keys it names.
 ghost use Rattle.std.specs.Prelude.{◌≡◌, ◌++◌, IfOk, OnOk, is_none, is_some, map, string_bytes};
 ghost use Rattle.std.specs.List.{list_any};
-ghost use Rattle.agc_setup.specs.Keys.{all_there};
+ghost use Rattle.agc_load.specs.Keys.{all_there};
 ghost use Rattle.agc_check.specs.KeyReport.{IsKeyReport, are_keys, key_holdings_text};
 
 use crate::remarks::push_no_key;
 use crate::reports::Report;
 use crate::shown::SHOWN_BYTES;
+use agc_load::{is_white, named_keys};
 use agc_script::Key;
-use agc_setup::{is_white, named_keys};
 use std::alloc::{AllocError, Global};
 
-/// Looks at a text of live keys. The text tells how many keys it names, or the first word that is no key's,
-/// and what is wanted. Fails where memory runs out.
+/// Checks a text of live keys. The report gives the number of keys, or the first word that is not a key and what is
+/// expected. Fails if out of memory.
 #[tactic(auto, unfolding(crate::specs::KeyReport::are_keys))]
 pub fn check_keys(alloc: Global, file: &[u8]) -> Result<Report, AllocError>
     ensures sound { IfOk result (λ report. report.is_sound ≡ are_keys file.now) }
@@ -31,7 +31,7 @@ pub fn check_keys(alloc: Global, file: &[u8]) -> Result<Report, AllocError>
     Ok(Report { text, is_sound })
 }
 
-/// Whether every name is a key's.
+/// Returns whether every word names a key.
 #[tactic(auto, using(crate::proofs::AllKeys::none_missing))]
 fn are_all_there(found: &[Option<Key>]) -> bool
     ensures { result ≡ is_some (all_there found.now) }
@@ -52,7 +52,7 @@ fn push_key_holdings(text: &mut String, count: usize) -> Result<(), AllocError>
     writeln!(text, "keys: {count}")
 }
 
-/// The line on the first word that is no key's: its number, counted from 1, and what is wanted.
+/// Returns the line about the first word that is not a key: its number, counted from 1, and what is expected.
 fn remark(alloc: Global, file: &[u8]) -> Result<String, AllocError> {
     let mut text = String::new(alloc);
     let words = file.split(|b| is_white(*b)).filter(|name| !name.is_empty());
@@ -66,7 +66,7 @@ fn remark(alloc: Global, file: &[u8]) -> Result<String, AllocError> {
     Ok(text)
 }
 
-/// Adds why a word is no key's.
+/// Appends why a word is not a key.
 fn push_bad_key(alloc: Global, text: &mut String, word: &[u8]) -> Result<(), AllocError> {
     let word = if word.len() > SHOWN_BYTES {
         let (start, _) = word.split_at(SHOWN_BYTES);

@@ -1,5 +1,4 @@
-//! What is wrong with a rope file and a script file, a text of live keys or the text of a rope, for a person; or what
-//! they hold.
+//! Checks a rope, a script, a listing or live keys, and reports what is wrong and what looks wrong.
 #![tactic(auto)]
 
 mod holdings;

@@ -1,6 +1,6 @@
-//! What is wrong with the text of a rope, for a person.
+//! Reports what is wrong with the text of a rope or with a source.
 ghost use Rattle.std.specs.Prelude.{◌≡◌, ◌++◌, IfOk, OnOk, is_ok, string_bytes};
-ghost use Rattle.agc_source.specs.Source.{source_in};
+ghost use Rattle.agc_asm.specs.Source.{source_in};
 ghost use Rattle.agc_check.specs.ListingReport.{IsListingReport, listing_fault_text};
 
 use crate::lines::part_at;
@@ -8,22 +8,21 @@ use crate::remarks::{push_quoted, push_quoted_then, words_of};
 use crate::reports::Report;
 use crate::shown::push_line;
 use crate::source_remark::push_source_why;
-use agc_rope_listing::LineFault;
-use agc_script::without_return;
-use agc_source::{SourceFault, SourceTrouble, weave_source};
-use agc_source_words::is_listed;
+use agc_asm::{AssemblyFault, SourceFault, assemble};
+use agc_listing::{LineFault, is_listed};
 use agc_store::RopeForm;
+use agc_word::without_return;
 use std::alloc::{AllocError, Global};
 
-/// Looks at the text of a rope, as `weave` takes it: places and words, or names, orders and directives. The text tells
-/// that it has no fault, or the first fault of the first faulty line on the way through it, and what is wrong there.
-/// Fails where memory runs out.
+/// Checks the text of a rope as `weave` reads it: places and words, or names, orders and directives. The report says
+/// that it has no fault, or gives the first fault of the first faulty line found and what is wrong there. Fails if out
+/// of memory.
 pub fn check_listing(alloc: Global, file: &[u8]) -> Result<Report, AllocError>
     ensures sound { IfOk result (λ report. report.is_sound ≡ is_ok (source_in file.now)) }
     ensures text { IfOk result (λ report. IsListingReport file.now (string_bytes report.text)) }
 {
     let mut text = String::new(alloc);
-    match weave_source(alloc, RopeForm::Classic, file) {
+    match assemble(alloc, RopeForm::Classic, file) {
         Ok(_) => {
             text.push_str("text: no fault\n")?;
             Ok(Report {
@@ -31,8 +30,8 @@ pub fn check_listing(alloc: Global, file: &[u8]) -> Result<Report, AllocError>
                 is_sound: true,
             })
         }
-        Err(SourceTrouble::Memory) => Err(AllocError),
-        Err(SourceTrouble::Line(number, fault)) => {
+        Err(AssemblyFault::Memory) => Err(AllocError),
+        Err(AssemblyFault::Line(number, fault)) => {
             push_listing_fault(&mut text, number, fault)?;
             let remark = remark(alloc, file, number, fault)?;
             text.push_str(remark.as_str())?;
@@ -44,7 +43,7 @@ pub fn check_listing(alloc: Global, file: &[u8]) -> Result<Report, AllocError>
     }
 }
 
-/// Adds the number of a line and its fault.
+/// Appends the number of a line and its fault.
 #[tactic(auto, unfolding(crate::specs::ListingReport::listing_fault_text))]
 fn push_listing_fault(
     text: &mut String,
@@ -59,7 +58,7 @@ fn push_listing_fault(
     text.push_str("\n")
 }
 
-/// The faulty line, and below it the word that is wrong and what is wanted.
+/// Returns the faulty line, and below it the word that is wrong and what is expected.
 fn remark(
     alloc: Global,
     file: &[u8],
@@ -75,7 +74,7 @@ fn remark(
     Ok(text)
 }
 
-/// The line of a number, counted from 1, without its end.
+/// Returns the line with a number, counted from 1, without its end.
 fn line_at(file: &[u8], number: usize) -> &[u8] {
     match part_at(file, number.saturating_sub(1)) {
         Some(line) => without_return(line),
@@ -83,7 +82,7 @@ fn line_at(file: &[u8], number: usize) -> &[u8] {
     }
 }
 
-/// Adds the word that is wrong in a line, and what is wanted.
+/// Appends the word that is wrong in a line, and what is expected.
 fn push_line_why(
     alloc: Global,
     text: &mut String,
@@ -112,7 +111,7 @@ fn push_why(text: &mut String, fault: LineFault, words: &[&[u8]]) -> Result<(), 
     }
 }
 
-/// Adds the word at a place, or what stands for it where there is none.
+/// Appends the word at an index, or a substitute if the line is shorter.
 fn push_word(text: &mut String, words: &[&[u8]], place: usize) -> Result<(), AllocError> {
     if place < words.len() {
         push_quoted(text, words[place])

@@ -1,5 +1,5 @@
-//! What is wrong in a line of a script, and what would be right: for a person. The grammar is that of
-//! `agc_script`; here are its sentences alone.
+//! Explains what is wrong in a line of a script, and what would be right. `agc_script` has the
+//! grammar; this file only has the sentences.
 ghost use Rattle.std.specs.Prelude.{◌≤◌};
 
 use crate::lines::last_start;
@@ -11,7 +11,7 @@ use agc_script::{
 };
 use std::alloc::{AllocError, Global};
 
-/// The line that explains a fault of a script by the words of its line.
+/// Returns the line that explains a fault of a script by the words of its line.
 pub(crate) fn remark(
     alloc: Global,
     file: &[u8],
@@ -27,7 +27,7 @@ pub(crate) fn remark(
     Ok(text)
 }
 
-/// The words of a line with a fault. A line that is too long may have any length: it is not cut into words.
+/// Returns the words of a faulty line. A line that is too long may have any length: it is not split into words.
 fn words_at_fault<'a>(
     alloc: Global,
     kind: FaultKind,
@@ -39,7 +39,7 @@ fn words_at_fault<'a>(
     }
 }
 
-/// Adds what is wrong with a line, or with one of its words.
+/// Appends what is wrong with a line, or with one of its words.
 fn push_why(
     alloc: Global,
     text: &mut String,
@@ -75,7 +75,7 @@ pub(crate) fn push_quoted(text: &mut String, word: &[u8]) -> Result<(), AllocErr
     text.push_str("`")
 }
 
-/// Adds a word in quotes, and what follows it.
+/// Appends a word in quotes, and what follows it.
 pub(crate) fn push_quoted_then(
     text: &mut String,
     word: &[u8],
@@ -85,7 +85,7 @@ pub(crate) fn push_quoted_then(
     text.push_str(what)
 }
 
-/// Adds a sentence that begins with the word at fault, or with `otherwise` where none was found.
+/// Appends the subject of a sentence: the word at fault, or `otherwise` if no word was found.
 pub(crate) fn push_subject(
     text: &mut String,
     word: Option<&[u8]>,
@@ -104,7 +104,7 @@ fn is_every(words: &[&[u8]]) -> bool {
     }
 }
 
-/// The place of the command among the words of a line: after `every N FROM TO`, or after a cycle.
+/// Returns the index of the command among the words of a line: after `every N FROM TO`, or after a cycle.
 fn command_place(words: &[&[u8]]) -> usize
     ensures { result ≤ 4 }
 {
@@ -130,7 +130,7 @@ fn push_not_ascii(text: &mut String, words: &[&[u8]]) -> Result<(), AllocError> 
     text.push_str(" is not ASCII: no byte of a script is 200 octal or above\n")
 }
 
-/// The first word with a byte beyond ASCII.
+/// Returns the first word with a byte that is not ASCII.
 fn word_beyond_ascii<'a>(words: &[&'a [u8]]) -> Option<&'a [u8]> {
     for word in words {
         if word.iter().any(|b| *b >= 0o200) {
@@ -148,7 +148,7 @@ fn push_bad_cycle(text: &mut String, words: &[&[u8]]) -> Result<(), AllocError> 
     )
 }
 
-/// The first word that should be a cycle and is none.
+/// Returns the first word that should be a cycle and is not.
 fn word_of_no_cycle<'a>(words: &[&'a [u8]]) -> Option<&'a [u8]> {
     let first = if is_every(words) { 1 } else { 0 };
     for place in first..command_place(words).min(words.len()) {
@@ -187,7 +187,7 @@ fn push_unknown(alloc: Global, text: &mut String, words: &[&[u8]]) -> Result<(),
     }
 }
 
-/// Tells that a word is no command, and the nearest one.
+/// Appends that a word is not a command, and the nearest one.
 fn push_no_command(alloc: Global, text: &mut String, word: &[u8]) -> Result<(), AllocError> {
     if word == EVERY.as_bytes() {
         text.push_str(
@@ -199,7 +199,7 @@ fn push_no_command(alloc: Global, text: &mut String, word: &[u8]) -> Result<(), 
     }
 }
 
-/// Tells how a command is written, where too many words or too few stand after it.
+/// Appends how a command is written, if it has too many or too few words after it.
 fn push_wrong_count(text: &mut String, command: Command, given: usize) -> Result<(), AllocError> {
     push_quoted_then(text, command.usage().as_bytes(), " is right: here ")?;
     match given {
@@ -208,7 +208,7 @@ fn push_wrong_count(text: &mut String, command: Command, given: usize) -> Result
     }
 }
 
-/// Tells that the command is missing, and with `every` perhaps some of its cycles.
+/// Appends that the command is missing, and with `every` perhaps some of its cycles.
 fn push_missing(text: &mut String, words: &[&[u8]]) -> Result<(), AllocError> {
     if is_every(words) {
         text.push_str("`every N FROM TO` wants these three cycles and a command after them\n")
@@ -229,7 +229,7 @@ fn push_missing(text: &mut String, words: &[&[u8]]) -> Result<(), AllocError> {
     }
 }
 
-/// Tells the name of a key, a direction or a kind of pulse that there is not.
+/// Appends that the name of a key, a direction or a kind of pulse is unknown.
 fn push_unknown_name(
     alloc: Global,
     text: &mut String,
@@ -265,8 +265,8 @@ fn push_unknown_name(
     }
 }
 
-/// Tells that a word is no key's name, and the nearest one; of the PRO key, which stands beside those with
-/// a code, what `pro_is` says.
+/// Appends that a word is not a key name, and the nearest one; for the PRO key, which is separate from those with a
+/// code, `pro_is`.
 pub(crate) fn push_no_key(
     alloc: Global,
     text: &mut String,
@@ -286,12 +286,12 @@ pub(crate) fn push_no_key(
     }
 }
 
-/// Whether a word means the PRO key.
+/// Returns whether a word means the PRO key.
 fn is_pro(word: &[u8]) -> bool {
     word.eq_ignore_ascii_case(b"pro") || word.eq_ignore_ascii_case(b"proceed")
 }
 
-/// Tells that a word is no name of a kind, and the name that was perhaps meant.
+/// Appends that a word is not a name of this kind, and the name that was probably meant.
 pub(crate) fn push_nearest(
     alloc: Global,
     text: &mut String,
@@ -323,7 +323,7 @@ fn push_bad_number(text: &mut String, words: &[&[u8]]) -> Result<(), AllocError>
     }
 }
 
-/// The first word of the command that should be a number and writes none, with its range.
+/// Returns the first argument of the command that should be a number and is not, with its range.
 fn word_of_no_number<'a>(words: &[&'a [u8]]) -> Option<(&'a [u8], NumberRange)> {
     let after = command_place(words) + 1;
     for place in after..words.len() {
@@ -337,7 +337,7 @@ fn word_of_no_number<'a>(words: &[&'a [u8]]) -> Option<(&'a [u8], NumberRange)> 
     None
 }
 
-/// The range of the word at a place of a line, where that is a number of the command.
+/// Returns the range of the word at an index of a line, if the command takes a number there.
 fn range_at(words: &[&[u8]], place: usize) -> Option<NumberRange> {
     let command_place = command_place(words);
     if place <= command_place || place >= words.len() {
@@ -373,7 +373,7 @@ fn push_out_of_range(text: &mut String, words: &[&[u8]]) -> Result<(), AllocErro
     }
 }
 
-/// The first word of the command that writes a number out of its range, with the range.
+/// Returns the first argument of the command that is a number out of its range, with the range.
 fn word_out_of_range<'a>(words: &[&'a [u8]]) -> Option<(&'a [u8], NumberRange)> {
     let after = command_place(words) + 1;
     for place in after..words.len() {
@@ -390,7 +390,7 @@ fn word_out_of_range<'a>(words: &[&'a [u8]]) -> Option<(&'a [u8], NumberRange)> 
     None
 }
 
-/// Adds a range: both ends, and the base.
+/// Appends a range: both ends, and the base.
 fn push_range(text: &mut String, range: NumberRange) -> Result<(), AllocError> {
     let (low, high) = (range.low, range.high);
     match range.base {

@@ -1,6 +1,6 @@
-//! The report on a rope file and a script file, for a person.
+//! Reports on a rope file and a script file.
 ghost use Rattle.std.specs.Prelude.{◌≡◌, ◌++◌, ◌&&◌, ◌≤◌, length, is_none, is_ok, IfOk, OnOk, string_bytes};
-ghost use Rattle.agc_script.specs.Text.{lines_of};
+ghost use Rattle.agc_word.specs.Text.{lines_of};
 ghost use Rattle.agc_store.specs.RopeFile.{rope_fault_of};
 ghost use Rattle.agc_script.specs.Parse.{script_of};
 ghost use Rattle.agc_check.specs.Report.{IsFileReport, IsScriptReport, span_text};
@@ -11,12 +11,12 @@ use crate::lines::line_at;
 use crate::remarks::remark;
 use crate::rope_report::push_rope;
 use crate::shown::push_line;
+use agc_load::LoadFault;
 use agc_script::{FaultKind, Script, ScriptFault};
-use agc_setup::Refusal;
 use agc_store::RopeForm;
 use std::alloc::{AllocError, Global};
 
-/// What a person is told of a rope file and a script file.
+/// The report on a rope file and a script file.
 #[derive(Debug, Drop)]
 pub struct Report {
     pub text: String,
@@ -24,9 +24,9 @@ pub struct Report {
     pub is_sound: bool,
 }
 
-/// Looks at a rope file of a form and at a script file. The text tells of each either what it holds, or
-/// its fault: that of `Rope::read_as`, that of `Script::parse`, and what is wrong there. Fails where
-/// memory runs out.
+/// Checks a rope file of the given form and a script file. For each file the report gives either
+/// what it holds, or its fault (of `Rope::read_as` or `Script::parse`) and what is wrong there.
+/// Fails if out of memory.
 pub fn check(
     alloc: Global,
     form: RopeForm,
@@ -46,7 +46,7 @@ pub fn check(
     })
 }
 
-/// Adds what is told of a script file, and returns whether nothing is wrong with it.
+/// Appends the report on a script file, and returns whether nothing is wrong with it.
 fn push_script(alloc: Global, text: &mut String, file: &[u8]) -> Result<bool, AllocError>
     ensures sound { IfOk result (λ sound. sound ≡ is_ok (script_of file.now)) }
     ensures text { OnOk result
@@ -72,7 +72,7 @@ fn push_script(alloc: Global, text: &mut String, file: &[u8]) -> Result<bool, Al
     }
 }
 
-/// Adds the line of what a script holds.
+/// Appends the line about what a script holds.
 #[tactic(auto, unfolding(crate::specs::Report::script_holdings_text))]
 fn push_script_holdings(text: &mut String, holdings: ScriptHoldings) -> Result<(), AllocError>
     ensures { OnOk result
@@ -93,7 +93,7 @@ fn push_span(text: &mut String, span: Option<Span>) -> Result<(), AllocError>
     }
 }
 
-/// Adds the fault of a script in the words of `agc`, and the line where it is.
+/// Appends the fault of a script, worded as in `agc`, and the line with the fault.
 #[tactic(auto, unfolding(crate::specs::Report::script_fault_text))]
 fn push_script_fault(text: &mut String, file: &[u8], fault: ScriptFault) -> Result<(), AllocError>
     requires first { 1 ≤ fault.line }
@@ -101,7 +101,7 @@ fn push_script_fault(text: &mut String, file: &[u8], fault: ScriptFault) -> Resu
     ensures { OnOk result
         (string_bytes text.new ≡ string_bytes text.old ++ script_fault_text file.now fault) }
 {
-    let refusal = Refusal::Script(fault);
+    let refusal = LoadFault::Script(fault);
     writeln!(text, "{refusal}")?;
     text.push_str("    ")?;
     push_line(text, line_at(file, fault.line))?;

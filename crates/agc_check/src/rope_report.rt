@@ -1,21 +1,21 @@
-//! What is told of a rope file.
+//! Reports on a rope file.
 ghost use Rattle.std.specs.Prelude.{◌≡◌, ◌<◌, ◌*◌, ◌+◌, ◌++◌, get_or, is_none, IfOk, OnOk, string_bytes};
 ghost use Rattle.agc_store.specs.RopeFile.{file_word, rope_fault_of};
-ghost use Rattle.agc_rope_listing.specs.List.{listed_address};
+ghost use Rattle.agc_listing.specs.List.{listed_address};
 ghost use Rattle.agc_store.specs.Places.{fixed_bank_size, fixed_banks, fixed_words};
 ghost use Rattle.agc_check.specs.RopeReport.{IsPlaced, bad_word_text, parity_why, rope_fault_text};
 ghost use Rattle.agc_check.specs.RopeReport.{rope_holdings_text, rope_report, rope_why, sound_rope_text, word_with_parity};
 
 use crate::holdings::{RopeHoldings, holdings_in};
 use crate::vectors::push_vectors;
-use agc_rope_listing::{Place, listed_address, push_place};
-use agc_setup::Refusal;
+use agc_listing::{Place, listed_address, push_place};
+use agc_load::LoadFault;
 use agc_store::place::place_of;
 use agc_store::{Rope, RopeFault, RopeForm, Store};
 use agc_word::Narrow;
 use std::alloc::{AllocError, Global};
 
-/// Adds what is told of a rope file, and returns whether nothing is wrong with it.
+/// Appends the report on a rope file, and returns whether nothing is wrong with it.
 #[tactic(auto, unfolding(crate::specs::RopeReport::rope_report))]
 pub(crate) fn push_rope(
     alloc: Global,
@@ -40,7 +40,7 @@ pub(crate) fn push_rope(
     }
 }
 
-/// Adds what a rope holds, and a remark on the interrupts' vectors that hold +0.
+/// Appends what a rope holds, and a remark on the interrupt vectors that hold +0.
 #[tactic(auto, unfolding(crate::specs::RopeReport::sound_rope_text, agc_store::specs::Cells::start_memory))]
 fn push_sound(text: &mut String, rope: Rope) -> Result<(), AllocError>
     ensures { OnOk result (string_bytes text.new ≡ string_bytes text.old ++ sound_rope_text rope) }
@@ -50,7 +50,7 @@ fn push_sound(text: &mut String, rope: Rope) -> Result<(), AllocError>
     push_vectors(text, &store)
 }
 
-/// Adds the line of what a rope holds.
+/// Appends the line about what a rope holds.
 #[tactic(auto, unfolding(crate::specs::RopeReport::rope_holdings_text))]
 fn push_holdings(text: &mut String, holdings: RopeHoldings) -> Result<(), AllocError>
     ensures { OnOk result
@@ -60,14 +60,14 @@ fn push_holdings(text: &mut String, holdings: RopeHoldings) -> Result<(), AllocE
     writeln!(text, "rope: words {words}, banks {banks}")
 }
 
-/// Adds the fault of a rope file in the words of `agc`, and what would be right.
+/// Appends the fault of a rope file, worded as in `agc`, and what would be right.
 #[tactic(auto, unfolding(crate::specs::RopeReport::rope_fault_text))]
 fn push_fault(text: &mut String, file: &[u8], fault: RopeFault) -> Result<(), AllocError>
     requires { IsPlaced fault }
     ensures { OnOk result
         (string_bytes text.new ≡ string_bytes text.old ++ rope_fault_text file.now fault) }
 {
-    let refusal = Refusal::Rope(fault);
+    let refusal = LoadFault::Rope(fault);
     writeln!(text, "{refusal}")?;
     push_why(text, file, fault)
 }
@@ -97,8 +97,7 @@ fn push_why(text: &mut String, file: &[u8], fault: RopeFault) -> Result<(), Allo
     }
 }
 
-/// Adds which word has the wrong parity: its place, its digits and its parity bit, and how many one bits
-/// these have.
+/// Appends which word has wrong parity: its place, its digits, its parity bit, and its number of one bits.
 #[tactic(auto, unfolding(crate::specs::RopeReport::parity_why))]
 fn push_parity_why(text: &mut String, file: &[u8], bank: u8, offset: u16) -> Result<(), AllocError>
     requires bank { bank < fixed_banks }
@@ -110,7 +109,7 @@ fn push_parity_why(text: &mut String, file: &[u8], bank: u8, offset: u16) -> Res
     push_bad_word(text, bank, listed_address(place), word_in_file(file, place))
 }
 
-/// Adds a place of a fixed bank and the word that stands there in the file.
+/// Appends a place of a fixed bank and its word in the file.
 #[tactic(auto, unfolding(crate::specs::RopeReport::bad_word_text))]
 fn push_bad_word(text: &mut String, bank: u8, address: u16, word: u16) -> Result<(), AllocError>
     requires bank { bank < fixed_banks }
@@ -123,7 +122,7 @@ fn push_bad_word(text: &mut String, bank: u8, address: u16, word: u16) -> Result
     push_word(text, word)
 }
 
-/// Adds the digits of a file's word, its parity bit and the count of its one bits.
+/// Appends the digits of a word in the file, its parity bit and its number of one bits.
 #[tactic(auto, unfolding(crate::specs::RopeReport::word_with_parity))]
 fn push_word(text: &mut String, word: u16) -> Result<(), AllocError>
     ensures { OnOk result (string_bytes text.new ≡ string_bytes text.old ++ word_with_parity word) }
@@ -136,7 +135,7 @@ fn push_word(text: &mut String, word: u16) -> Result<(), AllocError>
     )
 }
 
-/// The sixteen bits of a file's word, the higher byte first; 0 past its end.
+/// Returns the sixteen bits of a word in the file, the higher byte first; 0 past its end.
 #[tactic(auto, unfolding(agc_store::specs::RopeFile::file_word))]
 fn word_in_file(file: &[u8], index: usize) -> u16
     requires { index < fixed_words }
@@ -145,7 +144,7 @@ fn word_in_file(file: &[u8], index: usize) -> u16
     256 * u16::from(byte_at(file, 2 * index)) + u16::from(byte_at(file, 2 * index + 1))
 }
 
-/// A byte of a file, 0 past its end.
+/// Returns a byte of the file; 0 past its end.
 fn byte_at(file: &[u8], place: usize) -> u8
     ensures { result ≡ get_or file.now place 0 }
 {

@@ -1,15 +1,15 @@
-//! Bytes of a file in print.
+//! Prints bytes of a file.
 ghost use Rattle.std.specs.Prelude.{◌≡◌, ◌++◌, codes, OnOk, string_bytes};
 ghost use Rattle.agc_word.specs.Octal.{octal_digits};
 ghost use Rattle.agc_check.specs.Shown.{printable, shown_byte, shown_line};
 
-use agc_rope_listing::is_no_text;
+use agc_listing::is_no_text;
 use std::alloc::AllocError;
 
-/// The most bytes of a line that are shown.
+/// The maximum number of bytes of a line that are printed.
 pub(crate) const SHOWN_BYTES: usize = 120;
 
-/// Adds a line of a file: its first 120 bytes, and ` ..` where there are more.
+/// Appends a line of a file: its first 120 bytes, and ` ..` if it has more.
 #[tactic(auto, unfolding(crate::specs::Shown::shown_line))]
 pub(crate) fn push_line(text: &mut String, line: &[u8]) -> Result<(), AllocError>
     ensures { OnOk result (string_bytes text.new ≡ string_bytes text.old ++ shown_line line.now) }
@@ -23,7 +23,7 @@ pub(crate) fn push_line(text: &mut String, line: &[u8]) -> Result<(), AllocError
     }
 }
 
-/// Adds bytes: those that print in ASCII, and tabs, as they are, each other one as `\` and three octal digits.
+/// Appends bytes: printable ASCII and tabs as they are, every other byte as `\` and three octal digits.
 #[tactic(auto, unfolding(crate::specs::Shown::printable))]
 pub(crate) fn push_bytes(text: &mut String, bytes: &[u8]) -> Result<(), AllocError>
     ensures { OnOk result (string_bytes text.new ≡ string_bytes text.old ++ printable bytes.now) }

@@ -1,13 +1,13 @@
-//! The word at fault in a line of a source, for a person: the name in its first column, its order, or its operand.
+//! Explains which word of a source line is at fault: the name in its first column, its order, or its operand.
 use crate::remarks::{push_nearest, push_quoted, push_quoted_then, push_subject};
 use crate::shown::push_bytes;
+use agc_asm::{Directive, Names, SourceFault};
+use agc_listing::{cut_label, is_listed, is_name, next_said};
 use agc_order::{Basic, Extracode};
-use agc_script::without_return;
-use agc_source::SourceFault;
-use agc_source_words::{Directive, Names, cut_label, is_listed, is_name, next_said};
+use agc_word::without_return;
 use std::alloc::{AllocError, Global};
 
-/// Adds which word of a source's line is at fault, and what it is beside or near.
+/// Appends which word of a source line is at fault, and what it is next to or close to.
 pub(crate) fn push_source_why(
     alloc: Global,
     text: &mut String,
@@ -41,14 +41,14 @@ pub(crate) fn push_source_why(
     }
 }
 
-/// Adds what stands in the first column, before the order or directive.
+/// Appends the word in the first column, before the order or directive.
 fn push_label(text: &mut String, label: Option<&[u8]>, order: &[u8]) -> Result<(), AllocError> {
     push_subject(text, label, "no name")?;
     text.push_str(" stands before ")?;
     push_quoted_then(text, order, "\n")
 }
 
-/// Adds whose a name is already: the computer's own, or an earlier line's.
+/// Appends who has a name already: the computer itself, or an earlier line.
 fn push_taken(
     alloc: Global,
     text: &mut String,
@@ -64,13 +64,13 @@ fn push_taken(
     writeln!(text, " is the name of line {number}")
 }
 
-/// Adds that the order of a line is none, and the nearest order or directive.
+/// Appends that the order of a line is unknown, and the nearest order or directive.
 fn push_no_order(alloc: Global, text: &mut String, order: &[u8]) -> Result<(), AllocError> {
     let names = orders_and_directives(alloc)?;
     push_nearest(alloc, text, order, "order or directive", names.as_slice())
 }
 
-/// All that a line may begin with behind its name.
+/// Returns all orders and directives, with which a line may begin after its name.
 fn orders_and_directives(alloc: Global) -> Result<Vec<&'static [u8]>, AllocError> {
     let mut names = Vec::new(alloc);
     for order in Basic::ALL {
@@ -85,7 +85,7 @@ fn orders_and_directives(alloc: Global) -> Result<Vec<&'static [u8]>, AllocError
     Ok(names)
 }
 
-/// Adds that an operand's name is no line's, and the nearest one that is.
+/// Appends that no line has an operand's name, and the nearest name.
 fn push_no_name(
     alloc: Global,
     text: &mut String,
@@ -97,14 +97,14 @@ fn push_no_name(
     push_nearest(alloc, text, name, "name of a line", names.as_slice())
 }
 
-/// The names of a source's lines, in their order.
+/// Returns the names of a source's lines, in their order.
 fn names_of(alloc: Global, file: &[u8]) -> Result<Vec<&[u8]>, AllocError> {
     file.split(|b| *b == b'\n')
         .filter_map(|line| name_of(line))
         .collect(alloc)
 }
 
-/// The name in the first column of a source's line.
+/// Returns the name in the first column of a source line.
 fn name_of(line: &[u8]) -> Option<&[u8]> {
     let line = without_return(line);
     if is_listed(line) {
@@ -114,20 +114,20 @@ fn name_of(line: &[u8]) -> Option<&[u8]> {
     label.filter(|label| is_name(label))
 }
 
-/// Adds what an order or directive is.
+/// Appends what an order or directive is.
 fn push_order(text: &mut String, order: &[u8], what: &str) -> Result<(), AllocError> {
     push_quoted(text, order)?;
     writeln!(text, " is {what}")
 }
 
-/// Adds the words that stand after an order or directive.
+/// Appends the words after an order or directive.
 fn push_operand(text: &mut String, order: &[u8], operand: &[u8]) -> Result<(), AllocError> {
     push_words(text, operand)?;
     text.push_str(" stands after ")?;
     push_quoted_then(text, order, "\n")
 }
 
-/// Adds the words of an operand before its comment, a space between two.
+/// Appends the words of an operand before its comment, separated by spaces.
 fn push_words(text: &mut String, operand: &[u8]) -> Result<(), AllocError> {
     let Some((first, mut rest)) = next_said(operand) else {
         return text.push_str("no operand");

@@ -1,15 +1,15 @@
-//! The interrupts' vectors at which a rope holds +0.
+//! Finds the interrupt vectors at which a rope holds +0.
 ghost use Rattle.std.specs.Prelude.{◌≡◌, ◌<◌, ◌++◌, OnOk, string_bytes};
 ghost use Rattle.agc_check.specs.Vectors.{empty_vectors_text, has_empty_vector, is_empty_vector, remark_head};
 ghost use Rattle.agc_check.specs.Vectors.{vector_of, vector_text, vectors_remark, vectors_text};
 
 use crate::holdings::is_woven_at;
-use agc_rope_listing::{Place, push_place};
+use agc_listing::{Place, push_place};
 use agc_store::Store;
 use std::alloc::AllocError;
 
-/// Adds a remark on the vectors that hold +0, where there is one: an interrupt that comes there runs such
-/// words, and leads the run astray.
+/// Appends a remark on the vectors that hold +0, if there are any: an interrupt there would execute such words and run
+/// off.
 #[tactic(auto, unfolding(crate::specs::Vectors::vectors_text))]
 pub(crate) fn push_vectors(text: &mut String, store: &Store) -> Result<(), AllocError>
     ensures { OnOk result
@@ -22,7 +22,7 @@ pub(crate) fn push_vectors(text: &mut String, store: &Store) -> Result<(), Alloc
     }
 }
 
-/// Adds the remark on the vectors that hold +0, of which there are some.
+/// Appends the remark on the vectors that hold +0.
 #[tactic(auto, unfolding(crate::specs::Vectors::vectors_remark))]
 fn push_remark(text: &mut String, store: &Store) -> Result<(), AllocError>
     ensures { OnOk result
@@ -47,7 +47,7 @@ fn has_empty_vector(store: &Store) -> bool
     (0..10).any(|index| is_empty_vector(store, index))
 }
 
-/// Adds the vectors that hold +0.
+/// Appends the vectors that hold +0.
 #[tactic(auto, unfolding(crate::specs::Vectors::empty_vectors_text))]
 fn push_empty_vectors(text: &mut String, store: &Store) -> Result<(), AllocError>
     ensures { OnOk result
@@ -59,7 +59,7 @@ fn push_empty_vectors(text: &mut String, store: &Store) -> Result<(), AllocError
     Ok(())
 }
 
-/// Adds a vector, where it holds +0.
+/// Appends a vector if it holds +0.
 #[tactic(auto, unfolding(crate::specs::Vectors::vector_text))]
 fn push_vector(text: &mut String, store: &Store, index: usize) -> Result<(), AllocError>
     requires { index < 10 }
@@ -74,7 +74,7 @@ fn push_vector(text: &mut String, store: &Store, index: usize) -> Result<(), All
     }
 }
 
-/// Whether the word at a vector is +0.
+/// Returns whether the word at a vector is +0.
 #[tactic(auto, unfolding(crate::specs::Vectors::is_empty_vector))]
 fn is_empty_vector(store: &Store, index: usize) -> bool
     requires { index < 10 }
@@ -83,7 +83,7 @@ fn is_empty_vector(store: &Store, index: usize) -> bool
     !is_woven_at(store, vector_of(index))
 }
 
-/// Where the service of an interrupt begins, of which there are ten, four words apart.
+/// Returns the start of an interrupt's service: there are ten, four words apart, from 4004 octal on.
 #[tactic(auto, unfolding(crate::specs::Vectors::vector_of))]
 fn vector_of(index: usize) -> usize
     requires { index < 10 }
