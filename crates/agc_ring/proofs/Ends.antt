@@ -17,7 +17,7 @@ same_ring {T} {A} {P} a b e = (
   ap (λ (r : End T A P). r.heap) (sym e),
 )
 
--- what the protocol allows one after another is all outside
+-- items that follow the protocol are all visible outside
 pub all_outside : (before items : List Item) → Allowed (λ _ item. IsOutside item) before items → All IsOutside items
 all_outside before [] a = All-nil IsOutside
 all_outside before (item ∷ items) a = All-cons IsOutside item items a.0 (all_outside (before ++ item ∷ []) items a.1)

@@ -4,7 +4,7 @@ use Rattle.agc_word.specs.declared.channel_write.ChannelWrite.{ChannelWrite}
 use Rattle.agc_ring.specs.declared.item.Item.{Item}
 use Rattle.agc_ring.specs.declared.item.Item.TheVariants as item
 
--- what is sent of a run
+-- what is sent for a run
 unfoldable pub items_of : List ChannelWrite → List Item
 items_of writes = map (λ write. item.Write write) writes ++ item.End ∷ []
 

@@ -1,4 +1,3 @@
 pub mod Item
 pub mod Items
 pub mod Ring
-pub mod Screen

@@ -1,20 +1,20 @@
-//! The ring between the machine and its display: what is sent comes out once, in order, and the display keeps it.
+//! The ring between machine and display: its two ends, blocks of items, and the gate that both threads call.
+//!
+//! Nothing about a gate is proved: no clause can describe what is behind a lock that another thread may change.
 #![tactic(auto)]
 
-mod display;
-mod feed;
+mod block_sender;
+mod gate;
 mod item;
-mod outgoing;
 mod receiver;
 mod rest;
 mod ring;
 mod sender;
 mod slots;
 
-pub use display::{Screen, Taken, take_all};
-pub use feed::{Feed, NoFeed};
+pub use block_sender::BlockSender;
+pub use gate::{Gate, Open};
 pub use item::{BLOCK, Item};
-pub use outgoing::Outgoing;
 pub use receiver::Receiver;
 pub use rest::{Rest, rejoin};
 pub use ring::{LinkFault, link, link_of};

@@ -1,14 +1,14 @@
-//! The end of the ring that receives.
-use crate::item::{BLOCK, Item, Outside};
+//! The receiving end of the ring.
+use crate::item::{BLOCK, IoWrites, Item};
 use arrayvec::ArrayVec;
 use rtrb::Consumer;
 use std::alloc::Global;
 use std::marker::Model;
 
-/// The end that receives. It may move to another thread.
+/// The receiving end. It may move to another thread.
 #[derive(Drop)]
 pub struct Receiver {
-    pub(crate) consumer: Consumer<Item, Global, Outside>,
+    pub(crate) consumer: Consumer<Item, Global, IoWrites>,
 }
 
 impl Model for Receiver {
@@ -27,7 +27,7 @@ impl Receiver {
     ghost use Rattle.arrayvec.specs.ArrayVec.{array_vec_len};
     ghost use Rattle.agc_ring.specs.Item.{IsOutside};
 
-    /// The next item, where one is there.
+    /// Returns the next item, if one has arrived.
     pub fn try_next(&mut self) -> Option<Item>
         ensures some { IfSome result
             (λ item. self.new ≡ record self.old { received = self.old.received ++ item ∷ [] }) }
@@ -37,16 +37,15 @@ impl Receiver {
         self.consumer.pop().ok()
     }
 
-    /// No item is there. No contract speaks of the answer: one may come at any time.
-    pub(crate) fn is_empty(&mut self) -> bool
+    /// Returns whether no item has arrived. No contract speaks of the result, because an item may arrive at any time.
+    pub fn is_empty(&mut self) -> bool
         ensures { self.new ≡ self.old }
     {
         self.consumer.is_empty()
     }
 
-    /// Puts the next items at the start of a slice, as many as are there and as it has places for, and
-    /// tells how many those are.
-    pub(crate) fn next_items(&mut self, items: &mut [Item]) -> usize
+    /// Takes the next items into a slice, as many as have arrived and fit, and returns their number.
+    pub fn next_items(&mut self, items: &mut [Item]) -> usize
         ensures received { self.new
             ≡ record self.old { received = self.old.received ++ take result items.new } }
         ensures count { result ≤ length items.old }
@@ -55,8 +54,8 @@ impl Receiver {
         self.consumer.pop_partial_slice(items)
     }
 
-    /// Appends the next items to a block, as many as are there and as it has room for, and tells
-    /// how many those are.
+    /// Appends the next items to a block, as many as have arrived and fit, and returns their
+    /// number.
     pub fn next_block(&mut self, block: &mut ArrayVec<Item, 64>) -> usize
         ensures received { self.new
             ≡ record self.old {

@@ -1,7 +1,7 @@
-//! The two ends together again: what was sent and not received.
+//! Brings the two ends together again: the items sent and not received.
 ghost use Rattle.std.specs.Prelude.{◌≡◌, ◌++◌};
 
-use crate::item::{Item, Outside};
+use crate::item::{IoWrites, Item};
 use crate::receiver::Receiver;
 use crate::sender::Sender;
 use rtrb::Consumer;
@@ -11,7 +11,7 @@ use std::marker::Model;
 /// The items that are still in a ring.
 #[derive(Drop)]
 pub struct Rest {
-    consumer: Consumer<Item, Global, Outside>,
+    consumer: Consumer<Item, Global, IoWrites>,
     left: usize,
 }
 
@@ -29,7 +29,7 @@ impl Model for Rest {
     ghost invariant = { λ r. r.left ≡ length (known_items r.consumer) };
 }
 
-/// Brings both ends of a ring together: what was received and what is left are what was sent.
+/// Joins both ends of a ring: the items received and the items left are the items sent.
 pub fn rejoin(sender: Sender, receiver: Receiver) -> Rest
     requires { sender.ring ≡ receiver.ring }
     ensures { receiver.received ++ result ≡ sender.sent }
@@ -44,7 +44,7 @@ impl Rest {
     ghost use Rattle.std.specs.Prelude.{◌≡◌, [], ◌∷◌, IfSome, IfNone};
     ghost use Rattle.agc_ring.specs.Item.{IsOutside};
 
-    /// The next item that is left, in the order in which they were sent.
+    /// Returns the next item left, in the order of sending.
     pub fn next(&mut self) -> Option<Item>
         ensures some { IfSome result (λ item. self.old ≡ item ∷ self.new) }
         ensures outside { IfSome result IsOutside }

@@ -1,13 +1,13 @@
-//! The end of the ring that sends.
-use crate::item::{Item, Outside};
+//! The sending end of the ring.
+use crate::item::{IoWrites, Item};
 use rtrb::{Producer, PushError};
 use std::alloc::Global;
 use std::marker::Model;
 
-/// The end that sends. It may move to another thread.
+/// The sending end. It may move to another thread.
 #[derive(Drop)]
 pub struct Sender {
-    pub(crate) producer: Producer<Item, Global, Outside>,
+    pub(crate) producer: Producer<Item, Global, IoWrites>,
 }
 
 impl Model for Sender {
@@ -30,16 +30,16 @@ impl Sender {
     ghost use Rattle.std.specs.Prelude.{IsTrue, IsFalse};
     ghost use Rattle.agc_ring.specs.Item.{IsOutside};
 
-    /// How many items the ring holds at most, 1 to 65,536.
+    /// Returns the number of slots of the ring, 1 to 65,536.
     pub fn capacity(&self) -> usize
         ensures slots { result ≡ self.now.slots }
-        ensures some { 0 < result }
+        ensures positive { 0 < result }
         ensures bound { result ≤ 65536 }
     {
         self.producer.capacity()
     }
 
-    /// Sends an item, or gives it back where no slot is free; nothing was sent then.
+    /// Sends an item, or returns it if no slot is free; then nothing was sent.
     pub fn try_send(&mut self, item: Item) -> Result<(), Item>
         requires { IsOutside item }
         ensures ok { OnOk result
@@ -52,10 +52,10 @@ impl Sender {
         }
     }
 
-    /// Sends all items of a block, or none where they do not all fit, and tells whether it did. A block has 1 to 64 items,
-    /// and no more than the ring holds.
+    /// Sends all items of a block, or none if they do not all fit, and returns whether it did. A block has 1 to 64
+    /// items, and no more than the ring holds.
     pub fn send_block(&mut self, items: &[Item]) -> bool
-        requires some { 0 < length items.now }
+        requires nonempty { 0 < length items.now }
         requires block { length items.now ≤ 64 }
         requires fits { length items.now ≤ self.old.slots }
         requires outside { All IsOutside items.now }

@@ -1,11 +1,11 @@
-//! The slots of a ring, once they were looked at.
+//! The checked number of slots of a ring.
 use crate::ring::LinkFault;
 use std::marker::Model;
 
-/// The most items that a ring may hold.
+/// The most slots that a ring may have.
 pub const MOST_SLOTS: usize = 65_536;
 
-/// How many slots a ring has: 1 to 65,536.
+/// The number of slots of a ring: 1 to 65,536.
 #[derive(Clone, Copy, Debug, PartialEq, Eq)]
 pub struct Slots {
     count: usize,
@@ -27,7 +27,7 @@ impl Slots {
     ghost use Rattle.std.specs.Prelude.{◌≡◌, ◌<◌, ◌≤◌, ◌↔◌, ◌⊎◌, IfOk, IfErr, IsErrOf};
     ghost use Rattle.agc_ring.specs.declared.ring.LinkFault.TheVariants as fault;
 
-    /// So many slots: `NoSlots` for 0, `TooManySlots` above 65,536, and no other fault.
+    /// Checks a number of slots: `NoSlots` for 0, `TooManySlots` above 65,536, and no other fault.
     pub fn new(count: usize) -> Result<Slots, LinkFault>
         ensures slots { IfOk result (λ slots. slots ≡ count) }
         ensures no_slots { IsErrOf result fault.NoSlots ↔ (count ≡ 0) }
@@ -43,7 +43,7 @@ impl Slots {
         Ok(Slots { count })
     }
 
-    /// Their number.
+    /// Returns the number.
     pub fn count(self) -> usize
         ensures number { result ≡ self }
         ensures range { (0 < result) × (result ≤ 65536) }

@@ -1,30 +1,30 @@
-//! The sending end at work: writes are put into blocks, and each block is sent whole, in order, and the
-//! end after all of them.
+//! The sending end in blocks: collects writes into blocks and sends each block whole, in order, and the end after all
+//! blocks.
 ghost use Rattle.std.specs.Prelude.{◌≡◌, ◌<◌, ◌≤◌, [], ◌++◌, length, All};
 ghost use Rattle.agc_ring.specs.Item.{IsOutside};
 ghost use Rattle.arrayvec.specs.ArrayVec.{array_vec_len};
 
+use crate::gate::Gate;
 use crate::item::{BLOCK, Item};
 use crate::sender::Sender;
-use agc_gate::Gate;
 use agc_word::ChannelWrite;
 use arrayvec::ArrayVec;
 use std::marker::Model;
 use std::sync::Wait;
 use std::thread;
 
-/// The sending end with the items that wait for their block to be full. What waits counts as sent.
+/// The sending end with the items that wait until their block is full. Waiting items count as sent.
 #[derive(Drop)]
-pub struct Outgoing {
+pub struct BlockSender {
     sender: Sender,
     block: ArrayVec<Item, BLOCK>,
-    /// How many items make the block full: as many as it has places, or as the ring holds.
+    /// The number of items in a full block: the places of the block or of the ring, whichever is less.
     full: usize,
-    /// The writes that the gate was told of.
+    /// The number of writes already announced to the gate.
     told: u64,
 }
 
-impl Model for Outgoing {
+impl Model for BlockSender {
     ghost use Rattle.agc_ring.specs.Ring.{Sending};
 
     ghost Value = { Sending };
@@ -39,17 +39,17 @@ impl Model for Outgoing {
         × (o.full ≤ 64) × (o.full ≤ o.sender.slots) };
 }
 
-impl Outgoing {
+impl BlockSender {
     ghost use Rattle.std.specs.Prelude.{◌≡◌, ◌<◌, ◌≤◌, [], ◌∷◌, ◌++◌};
     ghost use Rattle.agc_ring.specs.Item.{IsOutside};
     ghost use Rattle.agc_ring.specs.declared.item.Item.TheVariants as item;
 
-    /// Sends by this end; nothing waits yet.
-    pub fn new(sender: Sender) -> Outgoing
+    /// Makes a sender for this end; nothing waits yet.
+    pub fn new(sender: Sender) -> BlockSender
         ensures { result ≡ sender }
     {
         let full = BLOCK.min(sender.capacity());
-        Outgoing {
+        BlockSender {
             sender,
             block: ArrayVec::new(),
             full,
@@ -57,8 +57,8 @@ impl Outgoing {
         }
     }
 
-    /// Puts a write to a channel from 5 to 777 octal after those that wait; where that makes the block full, sends it as
-    /// soon as the ring has room.
+    /// Appends a write to a channel from 5 to 777 octal to the waiting items. If that fills the block, sends it as soon
+    /// as the ring has room.
     pub fn put<R: Wait, G: Gate>(&mut self, rt: &R, gate: &G, write: ChannelWrite)
         requires { IsOutside (item.Write write) }
         ensures { self.new ≡ record self.old { sent = self.old.sent ++ item.Write write ∷ [] } }
@@ -70,11 +70,11 @@ impl Outgoing {
         }
     }
 
-    /// Sends what waits, with the end after it, as soon as the ring has room, and gives the sender back.
+    /// Sends the waiting items and the end, as soon as the ring has room, and returns the sender.
     pub fn finish<R: Wait, G: Gate>(self, rt: &R, gate: &G) -> Sender
         ensures { result ≡ record self { sent = self.sent ++ item.End ∷ [] } }
     {
-        let Outgoing {
+        let BlockSender {
             mut sender,
             mut block,
             told,
@@ -87,8 +87,7 @@ impl Outgoing {
     }
 }
 
-/// Tells the gate of so many writes more, in order, after those that it was told of; returns how many
-/// it was told of then.
+/// Announces this many more writes to the gate, in order; returns the number announced so far.
 fn tell<G: Gate>(gate: &G, told: u64, writes: usize) -> u64 {
     for n in 0..writes as u64 {
         gate.before_send(told.saturating_add(n + 1));
@@ -96,9 +95,9 @@ fn tell<G: Gate>(gate: &G, told: u64, writes: usize) -> u64 {
     told.saturating_add(writes as u64)
 }
 
-/// Sends a block whole, and leaves it empty.
+/// Sends a block whole, and empties it.
 fn send<R: Wait>(rt: &R, sender: &mut Sender, block: &mut ArrayVec<Item, BLOCK>)
-    requires some { 0 < array_vec_len block.old }
+    requires nonempty { 0 < array_vec_len block.old }
     requires fits { array_vec_len block.old ≤ sender.old.slots }
     requires outside { All IsOutside block.old.items }
     ensures sender { sender.new ≡ record sender.old { sent = sender.old.sent ++ block.old.items } }
@@ -110,7 +109,7 @@ fn send<R: Wait>(rt: &R, sender: &mut Sender, block: &mut ArrayVec<Item, BLOCK>)
 
 /// Waits until a block is sent.
 fn send_waiting<R: Wait>(rt: &R, sender: &mut Sender, items: &[Item])
-    requires some { 0 < length items.now }
+    requires nonempty { 0 < length items.now }
     requires block { length items.now ≤ 64 }
     requires fits { length items.now ≤ sender.old.slots }
     requires outside { All IsOutside items.now }

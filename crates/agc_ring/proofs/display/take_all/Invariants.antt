@@ -1,8 +1,0 @@
-use Rattle.std.proofs.Common.{◌≡◌, false}
-use Rattle.agc_ring.specs.Screen.{IsShowing}
-use Rattle.agc_ring.specs.Items.{has_end, shown_in}
-use Rattle.agc_ring.proofs.display.take_all.Given as goal
-
-abbrev pub invariant-loop : goal.invariant-loop
-invariant-loop g l =
-    (l.receiver.ring ≡ l.fn.receiver.ring) × (has_end l.receiver.received ≡ false) × IsShowing l.screen (shown_in l.receiver.received) × (l.feed ≡ l.initial.feed)
