@@ -1,3 +1,4 @@
+pub mod Takes
 mod Sends
 mod Taking
 mod Lives

@@ -1,4 +1,4 @@
--- A run that is being sent: what was sent so far, and then the run from where the machine stands.
+-- A run that is being sent: what was sent so far, and the run from the machine's present state.
 use Rattle.std.proofs.Common.{◌≡◌, List, [], ◌∷◌, ◌++◌, sym, ◌∙◌, ap, append_assoc, append-nil}
 use Rattle.std.specs.Prelude.{map, Some}
 use Rattle.agc_word.specs.declared.channel_write.ChannelWrite.{ChannelWrite}
@@ -29,16 +29,16 @@ after_write whole sent s t write under e =
       last = under.last ∙ ap (λ (run : Run). run.last) step;
     }
 
--- at the stop all writes were sent, and the machine stands at its last state
+-- at the stop all writes were sent, and the machine is at its last state
 pub record IsSent (whole : Run) (sent : List Item) (end : State) (why : Stop) : Type 0 where
   pub items : sent ++ item.End ∷ [] ≡ items_of whole.writes
   pub last : end ≡ whole.last
   pub stop : whole.last.stopped ≡ Some why
 
-pub at_stop : (whole : Run) (sent : List Item) (s t : State) (why : Stop)
+pub stopped : (whole : Run) (sent : List Item) (s t : State) (why : Stop)
     → IsSending whole sent (run_of s) → (t, next.Stopped why) ≡ next_of s → IsSent whole sent t why
 unfolding items_of
-at_stop whole sent s t why under e =
+stopped whole sent s t why under e =
     let step = run_at_stop s t why e in
     let last = under.last ∙ ap (λ (run : Run). run.last) step in
     let all : written whole.writes ≡ sent = under.writes ∙ ap (λ (run : Run). sent ++ written run.writes) step ∙ append-nil sent in
@@ -48,7 +48,7 @@ at_stop whole sent s t why under e =
       stop = ap (λ (state : State). state.stopped) last ∙ stop_is_kept s t why e;
     }
 
--- an end that differs from another in what was sent alone
+-- an end that differs from another only in what was sent
 pub same_end : (old new sender : Sending) (sent : List Item) → new ≡ record old { sent = sent } → old ≡ record sender { sent = old.sent } →
     new ≡ record sender { sent = new.sent }
 same_end old new sender sent e f =

@@ -1,4 +1,4 @@
--- The key ring: what was taken stands on the tape, and what was not taken is left.
+-- The key ring: the keys taken are on the tape, and the others are left.
 use Rattle.std.proofs.Common.{◌≡◌, ℕ, ◌+◌, ◌-◌, ◌≤◌, ◌<◌, suc, zero, List, [], ◌∷◌, ◌++◌, length, take, drop, Bool, false, refl, ap, sym, ◌∙◌, subst}
 use Rattle.std.proofs.lemmas.List.{append_assoc}
 use Rattle.std.specs.Prelude.{map, slice_get, IfSome}
@@ -7,7 +7,7 @@ use Rattle.agc_machine.specs.Taken.{AreApart}
 use Rattle.agc_machine.proofs.Taken.{apart_snoc}
 use Rattle.agc_pipe.specs.Keys.{key_in}
 
--- what a taker keeps: its keys come far enough apart, and while the tape has memory they are those received
+-- what a taker keeps: its keys are far enough apart, and while the tape has memory they are those received
 abbrev pub Keeps : ℕ → List (ℕ × Key) → Bool → List Key → Type 0
 Keeps spacing tape refused received = (0 < spacing) × AreApart spacing tape × (refused ≡ false → map key_in tape ≡ received)
 
@@ -43,7 +43,7 @@ take_and_drop zero keys = refl
 take_and_drop (suc n) [] = refl
 take_and_drop (suc n) (key ∷ keys) = ap (λ (rest : List Key). key ∷ rest) (take_and_drop n keys)
 
--- the tape's keys and what is left after as many are the keys handed in
+-- the tape's keys and those left after as many are the caller's keys
 pub no_key_is_lost : (tape : List (ℕ × Key)) (keys received left rest : List Key) (fed : ℕ) → map key_in tape ≡ received →
     received ++ left ≡ take fed keys → rest ≡ drop (length tape) keys → map key_in tape ++ rest ≡ keys
 no_key_is_lost tape keys received left rest fed e f g =

@@ -1,4 +1,4 @@
--- What each end of the key ring shows: which ring it belongs to, and what was handed in or taken.
+-- What each end of the key ring shows: which ring it belongs to, and the keys fed or taken.
 use Rattle.std.specs.Prelude.{ℕ, Bool, List}
 use Rattle.std.specs.declared.alloc.Global.{Global}
 use Rattle.rtrb.specs.declared.end.End.{End}
@@ -9,13 +9,13 @@ use Rattle.agc_script.specs.declared.key.Key.{Key}
 abbrev pub key_in : ℕ × Key → Key
 key_in entry = entry.1
 
--- The end that feeds: its ring, and all keys that were handed in.
+-- The feeding end: its ring, and all keys of the caller.
 pub record Feeding : Type 0 where
   pub ring : End Key Global AnyItems
   pub keys : List Key
 
--- The end that takes: its ring, the cycles that lie between two keys at least, the tape of the keys
--- taken, and whether the tape is out of memory.
+-- The taking end: its ring, the least number of cycles between two keys, the tape of the keys
+-- taken, and whether the tape ran out of memory.
 pub record Taking : Type 0 where
   pub ring : End Key Global AnyItems
   pub spacing : ℕ

@@ -1,4 +1,4 @@
--- A live run: what the machine's thread hands back of it, and what the call does.
+-- A live run: the result of the machine's thread, and of the call.
 use Rattle.std.specs.Prelude.{◌≡◌, ◌++◌, ◌<◌, ℕ, List, All, map}
 use Rattle.agc_script.specs.declared.key.Key.{Key}
 use Rattle.agc_machine.specs.Run.{run_of}
@@ -19,8 +19,8 @@ pub record IsSentLive (start : State) (fresh : Sending) (keys : Taking)
   pub ring : live.taker.ring ≡ keys.ring
   pub spacing : live.taker.spacing ≡ keys.spacing
 
--- What is handed back of a live run: the run on the script merged with the tape, a tape that was
--- taken, and no key lost.
+-- The result of a live run: the run on the script merged with the tape, a tape that was taken, and
+-- no key lost.
 pub record ShowsLive (start : State) (spacing : ℕ) (handed : List Key) (live : Live) : Type 0 where
   pub shown : ShowsRun (run_of (replayed live.tape start)) live.shown
   pub tape : IsTakenTape spacing start live.tape

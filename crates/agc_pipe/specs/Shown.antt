@@ -1,4 +1,4 @@
--- What a call hands back of a run, and what the machine's thread hands back of it.
+-- The result of a run: of the call, and of the machine's thread.
 use Rattle.std.specs.Prelude.{◌≡◌, Some}
 use Rattle.agc_machine.specs.Run.{Run}
 use Rattle.agc_panel.specs.Face.{panel_of}
@@ -7,8 +7,8 @@ use Rattle.agc_ring.specs.Ring.{Sending}
 use Rattle.agc_pipe.specs.declared.sending.Sent.{Sent}
 use Rattle.agc_pipe.specs.declared.shown.Shown.{Shown}
 
--- What a call hands back of a run: every channel write in order, the panel that they make, and the
--- memory, the stop and the cycle at its end.
+-- The result of a call: every channel write in order, the panel that they make, and the memory, the
+-- stop and the cycle at its end.
 pub record ShowsRun (run : Run) (shown : Shown) : Type 0 where
   pub log : shown.log.items ≡ run.writes
   pub panel : shown.panel ≡ panel_of run.writes
@@ -16,8 +16,8 @@ pub record ShowsRun (run : Run) (shown : Shown) : Type 0 where
   pub stop : run.last.stopped ≡ Some shown.stop
   pub cycle : shown.cycle ≡ run.last.cycle
 
--- What the machine's thread hands back: the sender has sent the run's writes and the end, and the
--- machine stands at its stop.
+-- The result of the machine's thread: the sender has sent the run's writes and the end, and the
+-- machine is at its stop.
 pub record IsSentRun (run : Run) (fresh : Sending) (sent : Sent) : Type 0 where
   pub sender : sent.sender ≡ record fresh { sent = items_of run.writes }
   pub machine : sent.machine ≡ run.last

@@ -1,12 +1,12 @@
-//! The key ring: keys on their way from the display's thread to the machine's, and the tape of
-//! those that the machine took.
+//! The key ring: carries keys from the display's thread to the machine's, with the tape of the keys
+//! that the machine took.
 ghost use Rattle.std.specs.Prelude.{◌≡◌, ◌<◌, ◌≤◌, [], ◌++◌, map, length, drop, IfOk, IfSome};
 ghost use Rattle.agc_pipe.specs.Keys.{key_in};
 ghost use Rattle.agc_machine.specs.Taken.{AreApart};
 
-use agc_gate::Gate;
+use crate::feed::Feed;
 use agc_machine::Machine;
-use agc_ring::Feed;
+use agc_ring::Gate;
 use agc_script::{Key, Tape};
 use rtrb::{Consumer, Producer, RingBuffer};
 use std::alloc::{AllocError, Global};
@@ -14,20 +14,20 @@ use std::marker::Model;
 use std::sync::Arc;
 use std::sync::atomic::{AtomicBool, Ordering};
 
-/// How many keys the ring holds at most.
+/// The number of slots of the key ring.
 const KEY_SLOTS: usize = 64;
 
-/// How many machine cycles go by between two looks for a key.
+/// Machine cycles between two looks for a key.
 const LOOK: u64 = 256;
 
-/// The end that the display's thread feeds, with the keys that were handed in.
+/// The end that the display's thread feeds, with the keys of the run.
 #[derive(Drop)]
 pub(crate) struct KeyFeed {
     producer: Producer<Key, Global>,
     keys: Vec<Key>,
     /// How many of the keys were put into the ring.
     fed: usize,
-    /// The machine has stopped, and takes no more keys.
+    /// Set when the machine has stopped and takes no more keys.
     over: Arc<AtomicBool, Global>,
 }
 
@@ -47,7 +47,7 @@ impl Model for KeyFeed {
 }
 
 impl Feed for KeyFeed {
-    /// Puts the next key into the ring, where there is one and it has room; tells the gate.
+    /// Puts the next key into the ring, if there is one and the ring has room, and calls the gate.
     fn offer<G: Gate>(&mut self, gate: &G) {
         if self.fed == self.keys.len() || self.over.load(Ordering::SeqCst) {
             return;
@@ -59,14 +59,14 @@ impl Feed for KeyFeed {
     }
 }
 
-/// The end at which the machine takes keys, with the tape of those that it took.
+/// The end at which the machine takes keys, with the tape of the keys taken.
 #[derive(Drop)]
 pub(crate) struct KeyTaker {
     consumer: Consumer<Key, Global>,
     tape: Tape,
-    /// How many cycles lie between two keys at least.
+    /// The least number of cycles between two keys.
     spacing: u64,
-    /// The tape is out of memory; no key was taken since.
+    /// The tape ran out of memory; no key was taken since.
     refused: bool,
     /// The cycle before which no key is looked for.
     next_look: u64,
@@ -90,7 +90,7 @@ impl Model for KeyTaker {
         × (t.refused ≡ false → map key_in t.tape ≡ received t.consumer) };
 }
 
-/// The two ends of a new key ring: one with the keys that are to be fed, one with an empty tape.
+/// Makes a key ring: one end with the keys to feed, one with an empty tape.
 pub(crate) fn link_keys(
     alloc: Global,
     keys: Vec<Key>,
@@ -126,8 +126,8 @@ impl KeyTaker {
     ghost use Rattle.std.specs.Prelude.{IfSome, IfNone, IsTrue};
     ghost use Rattle.agc_machine.specs.Boundary.{WantsKey};
 
-    /// The next key, where it is time to look for one, the machine wants one, the last one is far
-    /// enough back and one is there. It stands on the tape then, at the machine's cycle.
+    /// Takes the next key, if it is time to look for one, the machine wants one, the last one is
+    /// far enough back and one has arrived. It is then on the tape, at the machine's cycle.
     pub(crate) fn take(&mut self, machine: &Machine) -> Option<Key>
         ensures some { IfSome result
             (λ key. self.new ≡ record self.old {
@@ -157,7 +157,7 @@ impl KeyTaker {
         }
     }
 
-    /// The cycle at which the machine is to look for a key again.
+    /// Returns the cycle at which the machine looks for a key again.
     pub(crate) fn next_look(&self) -> u64 {
         self.next_look
     }
@@ -167,7 +167,7 @@ impl KeyTaker {
         self.over.store(true, Ordering::SeqCst);
     }
 
-    /// No key was taken yet, or the last one at least `spacing` cycles before this one.
+    /// Returns whether no key was taken yet, or the last one at least `spacing` cycles before this cycle.
     fn is_far_enough(&self, cycle: u64) -> bool
         ensures { IsTrue result ↔ IfSome (slice_get self.now.tape (length self.now.tape - 1))
             (λ last. last.0 + self.now.spacing ≤ cycle) }
@@ -181,8 +181,7 @@ impl KeyTaker {
     }
 }
 
-/// The tape, and the keys that were handed in and not taken; `None` where the tape is out of
-/// memory.
+/// Returns the tape, and the keys that were not taken; `None` if the tape ran out of memory.
 pub(crate) fn part_keys(feed: KeyFeed, taker: KeyTaker) -> Option<(Tape, Vec<Key>)>
     requires { feed.ring ≡ taker.ring }
     ensures tape { IfSome result (λ parts. parts.0 ≡ taker.tape) }
@@ -208,7 +207,7 @@ pub(crate) fn part_keys(feed: KeyFeed, taker: KeyTaker) -> Option<(Tape, Vec<Key
     Some((tape, rest))
 }
 
-/// The keys but for so many at their front.
+/// Removes the first `count` keys.
 fn without_first(mut keys: Vec<Key>, count: usize) -> Vec<Key>
     requires { count ≤ length keys.items }
     ensures { result.items ≡ drop count keys.items }

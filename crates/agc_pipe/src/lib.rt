@@ -1,6 +1,8 @@
-//! A run shown: the machine on a thread of its own, its display on the caller's, and the ring between them.
+//! A run with its display: the machine on its own thread, the display on the caller's, and live keys.
 #![tactic(auto)]
 
+mod display;
+mod feed;
 mod keys;
 mod live;
 mod live_sending;
@@ -9,9 +11,10 @@ mod shown;
 mod spacing;
 mod threads;
 
-pub use agc_gate::{Gate, Open};
-pub use agc_ring::{LinkFault, Slots};
-pub use live::{Live, run_live, show_live_run};
-pub use shown::{ShowFault, Shown, run_shown, show_run};
+pub use agc_ring::{Gate, Item, LinkFault, Open, Receiver, Rest, Sender, Slots, link, rejoin};
+pub use display::{Display, Drained, drain};
+pub use feed::{Feed, NoFeed};
+pub use live::{Live, run_live, run_live_in};
+pub use shown::{ShowFault, Shown, run_shown, run_shown_in};
 pub use spacing::Spacing;
 pub use threads::try_thread;

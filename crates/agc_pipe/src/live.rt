@@ -1,5 +1,5 @@
-//! A live run: the machine takes keys while it runs, which the display's thread feeds it through a
-//! ring of their own.
+//! A live run: the machine takes keys while it runs, from the display's thread through a second
+//! ring.
 ghost use Rattle.std.specs.Prelude.{◌≡◌, ◌<◌, ◌≤◌, ◌⊎◌, ◌↔◌, [], ◌++◌, true, false, map, IfOk};
 ghost use Rattle.std.specs.Prelude.{IfErr, IsErrOf, Some};
 ghost use Rattle.agc_machine.specs.Run.{run_of};
@@ -7,19 +7,19 @@ ghost use Rattle.agc_machine.specs.State.{State, IsAtStart};
 ghost use Rattle.agc_machine.specs.Taken.{IsTakenTape, replayed};
 ghost use Rattle.agc_panel.specs.Face.{panel_of};
 ghost use Rattle.agc_ring.specs.Ring.{Sending};
-ghost use Rattle.agc_ring.specs.Screen.{IsShowing};
+ghost use Rattle.agc_pipe.specs.Display.{IsShowing};
 ghost use Rattle.agc_ring.specs.Items.{has_end, shown_in};
 ghost use Rattle.agc_pipe.specs.Keys.{Taking, key_in};
 ghost use Rattle.agc_pipe.specs.Live.{IsSentLive, ShowsLive};
 ghost use Rattle.agc_pipe.specs.declared.shown.ShowFault.TheVariants as fault;
 
+use crate::display::{Drained, drain};
 use crate::keys::{KeyFeed, KeyTaker, link_keys, part_keys};
 use crate::live_sending::{LiveSent, send_live_run};
 use crate::shown::{ShowFault, Shown, link_shown, put_together};
 use crate::spacing::Spacing;
-use agc_gate::Gate;
 use agc_machine::Machine;
-use agc_ring::{Receiver, Sender, Slots, Taken, take_all};
+use agc_ring::{Gate, Receiver, Sender, Slots};
 use agc_script::{Key, Tape};
 use std::alloc::Global;
 use std::snapshot::Snapshot;
@@ -32,13 +32,13 @@ use std::thread::{Promise, Threads};
 pub struct Live {
     /// What the run on the script merged with the tape leaves.
     pub shown: Shown,
-    /// The keys that the machine took, each with the machine cycle at which it did.
+    /// The keys that the machine took, each with its machine cycle.
     pub tape: Tape,
-    /// The keys that it did not take, in the order in which they were handed in.
+    /// The keys that it did not take, in the order given by the caller.
     pub rest: Vec<Key>,
 }
 
-/// What the machine's thread promises.
+/// The contract of the machine's thread.
 #[derive(Drop)]
 struct SendsLiveRun {
     machine: Snapshot<Machine>,
@@ -52,11 +52,11 @@ impl Promise<LiveSent> for SendsLiveRun {
     ghost kept_by = { λ promise live. IsSentLive promise.machine.value promise.sender.value promise.taker.value live };
 }
 
-/// Runs a fresh machine to its stop on a thread of its own, as `run_shown` does, while the
-/// display's thread feeds it keys, of which it takes one only where at least `spacing` machine
-/// cycles have passed since the last. Whatever the schedule of the two threads, what is shown is
-/// the run on the machine's script merged with the tape of the keys that were taken, each at its
-/// own cycle; the tape's keys and then the rest are the keys handed in.
+/// Runs a fresh machine to its stop on its own thread, as `run_shown` does, while the display's
+/// thread feeds it keys. The machine takes a key only if at least `spacing` machine cycles have
+/// passed since the last. Whatever the schedule of the two threads, the result is the run on the
+/// machine's script merged with the tape of the keys taken, each at its own cycle; the tape's keys
+/// followed by the rest are the caller's keys.
 pub fn run_live<R: Threads + Wait + Sync, G: Gate + Sync>(
     rt: &R,
     alloc: Global,
@@ -89,12 +89,12 @@ pub fn run_live<R: Threads + Wait + Sync, G: Gate + Sync>(
     let Some(spacing) = Spacing::new(spacing) else {
         return Err(ShowFault::Spacing);
     };
-    show_live_run(rt, alloc, machine, keys, spacing, slots, gate)
+    run_live_in(rt, alloc, machine, keys, spacing, slots, gate)
 }
 
-/// What `run_live` does, for slots and a spacing that were looked at: it is refused for want of
-/// memory or of a thread alone.
-pub fn show_live_run<R: Threads + Wait + Sync, G: Gate + Sync>(
+/// Does what `run_live` does, with checked slots and spacing: it fails only when it runs out of
+/// memory or cannot start a thread.
+pub fn run_live_in<R: Threads + Wait + Sync, G: Gate + Sync>(
     rt: &R,
     alloc: Global,
     machine: Machine,
@@ -114,7 +114,7 @@ pub fn show_live_run<R: Threads + Wait + Sync, G: Gate + Sync>(
     show_live_between(rt, alloc, machine, gate, sender, receiver, feed, taker)
 }
 
-/// The two ends of a new key ring for a live run.
+/// Makes the key ring of a live run.
 fn link_fed(
     alloc: Global,
     keys: Vec<Key>,
@@ -131,8 +131,8 @@ fn link_fed(
     }
 }
 
-/// Runs the machine into one end of a ring and shows what comes out at the other, with keys going
-/// the other way through theirs.
+/// Runs the machine into one end of a ring and shows what comes out at the other, while keys go the
+/// other way through their own ring.
 fn show_live_between<R: Threads + Wait + Sync, G: Gate + Sync>(
     rt: &R,
     alloc: Global,
@@ -179,17 +179,17 @@ fn show_live_between<R: Threads + Wait + Sync, G: Gate + Sync>(
                 return Err(ShowFault::Thread);
             };
             let mut feed = feed;
-            let taken = take_all(rt, alloc, gate, receiver, &mut feed);
+            let taken = drain(rt, alloc, gate, receiver, &mut feed);
             put_live_together(child.join(rt), taken, feed)
         },
     )
 }
 
-/// Puts together what both threads hand on.
-fn put_live_together(live: LiveSent, taken: Taken, feed: KeyFeed) -> Result<Live, ShowFault>
+/// Combines the results of both threads.
+fn put_live_together(live: LiveSent, taken: Drained, feed: KeyFeed) -> Result<Live, ShowFault>
     requires ring { live.sent.sender.ring ≡ taken.receiver.ring }
     requires end { has_end taken.receiver.received ≡ true }
-    requires shown { IsShowing taken.screen (shown_in taken.receiver.received) }
+    requires shown { IsShowing taken.display (shown_in taken.receiver.received) }
     requires key_ring { feed.ring ≡ live.taker.ring }
     ensures live { (start : State) (sender : Sending) (keys : Taking)
         → IsSentLive start sender keys live

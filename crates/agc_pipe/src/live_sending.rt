@@ -1,5 +1,5 @@
-//! The machine's thread of a live run: it looks for a key every so often, sends each channel write,
-//! and the end.
+//! The machine's thread of a live run: looks for keys at intervals, and sends each channel write,
+//! then the end.
 ghost use Rattle.std.specs.Prelude.{◌≡◌, [], ◌∷◌, ◌++◌, List, map};
 ghost use Rattle.agc_word.specs.declared.channel_write.ChannelWrite.{ChannelWrite};
 ghost use Rattle.agc_script.specs.Merge.{key_event};
@@ -11,20 +11,19 @@ ghost use Rattle.agc_pipe.specs.Live.{IsSentLive};
 
 use crate::keys::KeyTaker;
 use crate::sending::{Sent, tell_mark};
-use agc_gate::Gate;
 use agc_machine::{Machine, Stepped};
-use agc_ring::{Outgoing, Sender};
+use agc_ring::{BlockSender, Gate, Sender};
 use std::sync::Wait;
 
-/// What the machine's thread of a live run hands back.
+/// What the machine's thread of a live run returns.
 #[derive(Drop)]
 pub(crate) struct LiveSent {
     pub(crate) sent: Sent,
     pub(crate) taker: KeyTaker,
 }
 
-/// Runs a machine with live keys to its stop, sends its writes and the end, and ends the feeding
-/// of keys at the stop.
+/// Runs a machine with live keys to its stop, sends its writes and the end, and ends the feeding of
+/// keys at the stop.
 pub(crate) fn send_live_run<R: Wait, G: Gate>(
     rt: &R,
     gate: &G,
@@ -37,16 +36,16 @@ pub(crate) fn send_live_run<R: Wait, G: Gate>(
     requires start { IsAtStart machine }
     ensures { IsSentLive machine sender taker result }
 {
-    let mut outgoing = Outgoing::new(sender);
+    let mut block_sender = BlockSender::new(sender);
     let mut mark = 0u64;
     for _ in rt.forever() {
         match go_on(&mut machine, &mut taker) {
             Stepped::Quiet => mark = told_past(gate, mark, machine.cycle()),
-            Stepped::Wrote(write) => outgoing.put(rt, gate, write),
+            Stepped::Wrote(write) => block_sender.put(rt, gate, write),
             Stepped::Stopped(stop) => {
                 taker.close();
-                gate.at_stop();
-                let sender = outgoing.finish(rt, gate);
+                gate.stopped();
+                let sender = block_sender.finish(rt, gate);
                 let sent = Sent {
                     sender,
                     machine,
@@ -59,17 +58,16 @@ pub(crate) fn send_live_run<R: Wait, G: Gate>(
     unreachable!()
 }
 
-/// Tells a gate that is to be told to which cycle a run has come, where that is the mark or past it; returns the
-/// next mark.
+/// Reports the cycle of a run to a gate that wants progress, if it has reached the mark; returns the next mark.
 fn told_past<G: Gate>(gate: &G, mark: u64, cycle: u64) -> u64 {
-    if cycle < mark || !gate.is_told() {
+    if cycle < mark || !gate.wants_progress() {
         mark
     } else {
         tell_mark(gate, cycle)
     }
 }
 
-/// Gives the machine a key, where one is to be had now; else goes on to the next write, the stop or
+/// Gives the machine a key, if one can be taken now; otherwise runs to the next write, the stop or
 /// the next look for a key.
 fn go_on(machine: &mut Machine, taker: &mut KeyTaker) -> Stepped
     ensures live { (start : State) (writes : List ChannelWrite)

@@ -1,17 +1,15 @@
-//! The machine's thread: it runs the machine to its stop and sends each channel write, then the
-//! end.
+//! The machine's thread: runs the machine to its stop and sends each channel write, then the end.
 ghost use Rattle.std.specs.Prelude.{◌≡◌, [], Some};
 ghost use Rattle.agc_machine.specs.Laws.{HasNextChannel};
 ghost use Rattle.agc_machine.specs.Run.{next_of, run_of};
 ghost use Rattle.agc_ring.specs.Items.{items_of};
 
-use agc_gate::Gate;
+use agc_io::next_mark;
 use agc_machine::{Machine, Next, Stepped, Stop};
-use agc_progress::mark_past;
-use agc_ring::{Outgoing, Sender};
+use agc_ring::{BlockSender, Gate, Sender};
 use std::sync::Wait;
 
-/// What the machine's thread hands back.
+/// What the machine's thread returns.
 #[derive(Drop)]
 pub(crate) struct Sent {
     pub(crate) sender: Sender,
@@ -20,8 +18,8 @@ pub(crate) struct Sent {
     pub(crate) stop: Stop,
 }
 
-/// Runs a machine to its stop, and sends its writes and the end. Between them the gate is told now and then how far
-/// the run has come.
+/// Runs a machine to its stop, and sends its writes and the end. Now and then it reports to the gate how far the run
+/// has come.
 pub(crate) fn send_run<R: Wait, G: Gate>(
     rt: &R,
     gate: &G,
@@ -33,15 +31,15 @@ pub(crate) fn send_run<R: Wait, G: Gate>(
     ensures machine { result.machine ≡ (run_of machine).last }
     ensures stop { (run_of machine).last.stopped ≡ Some result.stop }
 {
-    let mut outgoing = Outgoing::new(sender);
+    let mut block_sender = BlockSender::new(sender);
     let mut mark = 0u64;
     loop {
         match next_told(gate, &mut machine, &mut mark) {
-            Next::Wrote(write) => outgoing.put(rt, gate, write),
+            Next::Wrote(write) => block_sender.put(rt, gate, write),
             Next::Stopped(stop) => {
-                gate.at_stop();
+                gate.stopped();
                 return Sent {
-                    sender: outgoing.finish(rt, gate),
+                    sender: block_sender.finish(rt, gate),
                     machine,
                     stop,
                 };
@@ -50,13 +48,12 @@ pub(crate) fn send_run<R: Wait, G: Gate>(
     }
 }
 
-/// Goes on to the next channel write or the stop; a gate that is to be told is told at each mark how far the run has
-/// come.
+/// Runs to the next channel write or the stop; reports the progress at each mark to a gate that wants it.
 fn next_told<G: Gate>(gate: &G, machine: &mut Machine, mark: &mut u64) -> Next
     ensures next { (machine.new, result) ≡ next_of machine.old }
     ensures channel { HasNextChannel result }
 {
-    if !gate.is_told() {
+    if !gate.wants_progress() {
         return machine.next_write();
     }
     loop {
@@ -68,8 +65,8 @@ fn next_told<G: Gate>(gate: &G, machine: &mut Machine, mark: &mut u64) -> Next
     }
 }
 
-/// Tells the gate to which cycle a run has come; returns the mark at which it is to be told again.
+/// Reports the cycle of a run to the gate; returns the mark of the next report.
 pub(crate) fn tell_mark<G: Gate>(gate: &G, cycle: u64) -> u64 {
-    gate.come_to(cycle);
-    mark_past(cycle)
+    gate.progress(cycle);
+    next_mark(cycle)
 }

@@ -1,18 +1,19 @@
-//! A run shown: the machine on a thread of its own, the display on the caller's, a ring between.
+//! A run with its display: the machine on its own thread, the display on the caller's, a ring between them.
 ghost use Rattle.std.specs.Prelude.{◌≡◌, ◌≢◌, ◌<◌, ◌⊎◌, ◌↔◌, [], true, false, IfOk, IfErr, IsErrOf};
 ghost use Rattle.std.specs.Prelude.{Some, Err};
 ghost use Rattle.agc_machine.specs.Run.{Run, run_of};
 ghost use Rattle.agc_panel.specs.Face.{panel_of};
-ghost use Rattle.agc_ring.specs.Screen.{IsShowing};
+ghost use Rattle.agc_pipe.specs.Display.{IsShowing};
 ghost use Rattle.agc_ring.specs.Items.{has_end, items_of, shown_in};
 ghost use Rattle.agc_pipe.specs.Shown.{IsSentRun, ShowsRun};
 ghost use Rattle.agc_pipe.specs.declared.shown.ShowFault.TheVariants as fault;
 
+use crate::display::{Display, Drained, drain};
+use crate::feed::NoFeed;
 use crate::sending::{Sent, send_run};
-use agc_gate::Gate;
 use agc_machine::{Machine, Stop};
 use agc_panel::Panel;
-use agc_ring::{NoFeed, Receiver, Screen, Sender, Slots, Taken, link_of, rejoin, take_all};
+use agc_ring::{Gate, Receiver, Sender, Slots, link_of, rejoin};
 use agc_store::Store;
 use agc_word::ChannelWrite;
 use std::alloc::Global;
@@ -27,7 +28,7 @@ use thiserror::Error;
 pub struct Shown {
     /// Its channel writes, in order, as the display took them.
     pub log: Vec<ChannelWrite>,
-    /// What the display shows after them.
+    /// The panel after them.
     pub panel: Panel,
     /// The memory at the stop.
     pub store: Store,
@@ -36,7 +37,7 @@ pub struct Shown {
     pub cycle: u64,
 }
 
-/// Why a run was not shown.
+/// Why a run failed.
 #[derive(Clone, Copy, Debug, Error, PartialEq, Eq)]
 pub enum ShowFault {
     #[error("the ring's slots are not 1 to 65536")]
@@ -49,7 +50,7 @@ pub enum ShowFault {
     Thread,
 }
 
-/// What the machine's thread promises.
+/// The contract of the machine's thread.
 #[derive(Drop)]
 struct SendsRun {
     machine: Snapshot<Machine>,
@@ -64,9 +65,9 @@ impl Promise<Sent> for SendsRun {
         (run_of promise.machine.value) promise.sender.value sent };
 }
 
-/// Runs a fresh machine to its stop on a thread of its own, and shows its channel writes on the
-/// caller's thread, through a ring of so many slots. Whatever the schedule of the two threads, the
-/// log is exactly the writes of the run, each once and in order.
+/// Runs a fresh machine to its stop on its own thread, and shows its channel writes on the caller's
+/// thread, through a ring of `slots` slots. Whatever the schedule of the two threads, the log is
+/// exactly the writes of the run, each once and in order.
 pub fn run_shown<R: Threads + Wait + Sync, G: Gate + Sync>(
     rt: &R,
     alloc: Global,
@@ -84,14 +85,14 @@ pub fn run_shown<R: Threads + Wait + Sync, G: Gate + Sync>(
     ensures spacing { result ≢ Err fault.Spacing }
 {
     match Slots::new(slots) {
-        Ok(slots) => show_run(rt, alloc, machine, slots, gate),
+        Ok(slots) => run_shown_in(rt, alloc, machine, slots, gate),
         Err(_) => Err(ShowFault::Slots),
     }
 }
 
-/// What `run_shown` does, for slots that were looked at: it is refused for want of memory or of a
-/// thread alone.
-pub fn show_run<R: Threads + Wait + Sync, G: Gate + Sync>(
+/// Does what `run_shown` does, with checked slots: it fails only when it runs out of memory or
+/// cannot start a thread.
+pub fn run_shown_in<R: Threads + Wait + Sync, G: Gate + Sync>(
     rt: &R,
     alloc: Global,
     machine: Machine,
@@ -106,7 +107,7 @@ pub fn show_run<R: Threads + Wait + Sync, G: Gate + Sync>(
     show_between(rt, alloc, machine, gate, sender, receiver)
 }
 
-/// The two ends of a new ring for a run to be shown.
+/// Makes the ring of a run.
 pub(crate) fn link_shown(alloc: Global, slots: Slots) -> Result<(Sender, Receiver), ShowFault>
     ensures ring { IfOk result (λ ends. ends.0.ring ≡ ends.1.ring) }
     ensures sent { IfOk result (λ ends. ends.0.sent ≡ []) }
@@ -156,17 +157,17 @@ fn show_between<R: Threads + Wait + Sync, G: Gate + Sync>(
             ) else {
                 return Err(ShowFault::Thread);
             };
-            let taken = take_all(rt, alloc, gate, receiver, &mut NoFeed);
+            let taken = drain(rt, alloc, gate, receiver, &mut NoFeed);
             put_together(child.join(rt), taken)
         },
     )
 }
 
-/// Puts together what both threads hand on.
-pub(crate) fn put_together(sent: Sent, taken: Taken) -> Result<Shown, ShowFault>
+/// Combines the results of both threads.
+pub(crate) fn put_together(sent: Sent, taken: Drained) -> Result<Shown, ShowFault>
     requires ring { sent.sender.ring ≡ taken.receiver.ring }
     requires end { has_end taken.receiver.received ≡ true }
-    requires shown { IsShowing taken.screen (shown_in taken.receiver.received) }
+    requires shown { IsShowing taken.display (shown_in taken.receiver.received) }
     ensures shown { (run : Run) → (sent.sender.sent ≡ items_of run.writes)
         × (sent.machine ≡ run.last) × (run.last.stopped ≡ Some sent.stop)
         → IfOk result (ShowsRun run) }
@@ -177,14 +178,14 @@ pub(crate) fn put_together(sent: Sent, taken: Taken) -> Result<Shown, ShowFault>
         machine,
         stop,
     } = sent;
-    let Taken { receiver, screen } = taken;
+    let Drained { receiver, display } = taken;
     let _rest = rejoin(sender, receiver);
-    let Screen {
+    let Display {
         log,
         panel,
         refused,
         ..
-    } = screen;
+    } = display;
     if refused {
         return Err(ShowFault::Memory);
     }

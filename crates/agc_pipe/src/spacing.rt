@@ -1,7 +1,7 @@
-//! How far apart live keys come, once that was looked at.
+//! The checked spacing of live keys.
 use std::marker::Model;
 
-/// How many machine cycles lie between two live keys at least: 1 or more.
+/// The least number of machine cycles between two live keys: 1 or more.
 #[derive(Clone, Copy, Debug, PartialEq, Eq)]
 pub struct Spacing {
     cycles: u64,
@@ -22,7 +22,7 @@ impl Model for Spacing {
 impl Spacing {
     ghost use Rattle.std.specs.Prelude.{◌≡◌, ◌<◌, ◌↔◌, IfSome, IsSome};
 
-    /// So many cycles; `None` for 0.
+    /// Checks a number of cycles; `None` for 0.
     pub fn new(cycles: u64) -> Option<Spacing>
         ensures fits { IsSome result ↔ (0 < cycles) }
         ensures spacing { IfSome result (λ spacing. spacing ≡ cycles) }
@@ -34,7 +34,7 @@ impl Spacing {
         }
     }
 
-    /// Their number.
+    /// Returns the number.
     pub fn cycles(self) -> u64
         ensures number { result ≡ self }
         ensures range { 0 < result }

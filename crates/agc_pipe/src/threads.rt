@@ -1,4 +1,4 @@
-//! Whether a thread can be had, where no run will need it.
+//! Probes whether a thread can be started.
 ghost use Rattle.std.specs.Prelude.{◌≡◌, IfErr};
 ghost use Rattle.agc_pipe.specs.declared.shown.ShowFault.TheVariants as fault;
 
@@ -6,8 +6,8 @@ use crate::shown::ShowFault;
 use std::thread;
 use std::thread::Threads;
 
-/// Starts a thread that does nothing, and waits for its end: a run to be shown would want one, and where
-/// none can be had this is told as it is told there.
+/// Starts a thread that does nothing, and waits for its end. If no thread can be started, it fails with the fault of a
+/// run, which would have needed one.
 pub fn try_thread<R: Threads>(rt: &R) -> Result<(), ShowFault>
     ensures fault { IfErr result (λ why. why ≡ fault.Thread) }
 {

@@ -6,7 +6,7 @@ use Rattle.agc_pipe.proofs.live_sending.send_live_run.Goals as goal
 
 pub loop-init : goal.loop-init
 loop-init g c = (
-  subst (λ (out : Sending). IsLiveSending c.args.machine c.args.sender out c.args.taker.tape c.args.machine) (sym c.new-outgoing.ensures)
+  subst (λ (out : Sending). IsLiveSending c.args.machine c.args.sender out c.args.taker.tape c.args.machine) (sym c.new-block_sender.ensures)
       (sending_starts c.args.machine c.args.sender c.args.taker.tape c.requires.sent c.requires.tape),
   refl,
   refl,
@@ -14,7 +14,7 @@ loop-init g c = (
 
 pub loop-preserved-in-Quiet : goal.loop-preserved-in-Quiet
 loop-preserved-in-Quiet g c = (
-  after_quiet c.args.machine c.loop.machine c.go_on.new.machine c.args.sender c.loop.outgoing c.loop.taker.tape c.go_on.new.taker.tape stepped.Quiet refl
+  after_quiet c.args.machine c.loop.machine c.go_on.new.machine c.args.sender c.loop.block_sender c.loop.taker.tape c.go_on.new.taker.tape stepped.Quiet refl
       c.in-Quiet.ensures.live c.loop.invariant.0,
   c.in-Quiet.ensures.ring ∙ c.loop.invariant.1,
   c.in-Quiet.ensures.spacing ∙ c.loop.invariant.2,
@@ -22,7 +22,7 @@ loop-preserved-in-Quiet g c = (
 
 pub loop-preserved : goal.loop-preserved
 loop-preserved g c = (
-  after_live_write c.args.machine c.loop.machine c.go_on.new.machine c.args.sender c.loop.outgoing c.put.new.self c.loop.taker.tape c.go_on.new.taker.tape
+  after_live_write c.args.machine c.loop.machine c.go_on.new.machine c.args.sender c.loop.block_sender c.put.new.self c.loop.taker.tape c.go_on.new.taker.tape
       (stepped.Wrote c.in-Wrote.write) c.in-Wrote.write refl c.in-Wrote.ensures.live c.put.ensures c.loop.invariant.0,
   c.in-Wrote.ensures.ring ∙ c.loop.invariant.1,
   c.in-Wrote.ensures.spacing ∙ c.loop.invariant.2,
@@ -30,7 +30,7 @@ loop-preserved g c = (
 
 pub returns-in-Stopped : goal.returns-in-Stopped
 returns-in-Stopped g c =
-    let done = at_live_stop c.args.machine c.loop.machine c.go_on.new.machine c.args.sender c.loop.outgoing c.finish-sender.result c.loop.taker.tape
+    let done = at_live_stop c.args.machine c.loop.machine c.go_on.new.machine c.args.sender c.loop.block_sender c.finish-sender.result c.loop.taker.tape
     c.go_on.new.taker.tape (stepped.Stopped c.in-Stopped.stop) c.in-Stopped.stop c.requires.start refl c.in-Stopped.ensures.live c.in-Stopped.ensures.stop
     c.finish-sender.ensures c.loop.invariant.0 in
     record {

@@ -5,7 +5,7 @@ use Rattle.agc_pipe.proofs.sending.send_run.Given as goal
 
 abbrev pub invariant-loop-write : goal.invariant-loop-write
 invariant-loop-write g l =
-    IsSending (run_of l.fn.machine) l.outgoing.sent (run_of l.machine) × (l.outgoing ≡ record l.fn.sender { sent = l.outgoing.sent })
+    IsSending (run_of l.fn.machine) l.block_sender.sent (run_of l.machine) × (l.block_sender ≡ record l.fn.sender { sent = l.block_sender.sent })
 
 abbrev pub decreases-loop-write : goal.decreases-loop-write
 decreases-loop-write g l = boundaries_left l.machine

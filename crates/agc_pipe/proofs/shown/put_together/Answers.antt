@@ -2,7 +2,7 @@ use Rattle.std.proofs.Common.{◌≡◌, ◌∙◌, ap}
 use Rattle.agc_machine.specs.State.{State}
 use Rattle.agc_panel.specs.Face.{panel_of}
 use Rattle.agc_ring.specs.Items.{shown_in}
-use Rattle.agc_ring.proofs.Takes.{whole_shown}
+use Rattle.agc_pipe.proofs.Takes.{whole_shown}
 use Rattle.agc_pipe.proofs.shown.put_together.Goals as goal
 
 pub returns-clause-shown : goal.returns-clause-shown

@@ -25,7 +25,7 @@ returns g c =
     subst (λ (k : Taking). IsSentLive c.captures.machine c.captures.sender k c.join.result) taker from_sender in
     record {
       live = subst (λ (keys : List Key). IfOk c.put_live_together.result (ShowsLive c.captures.machine c.captures.taker.spacing keys))
-          (ap (λ (f : Feeding). f.keys) c.take_all-taken.ensures.feed)
+          (ap (λ (f : Feeding). f.keys) c.drain-taken.ensures.feed)
           (c.put_live_together.ensures.live c.captures.machine c.captures.sender c.captures.taker sent);
       fault = memory_or_thread c.put_live_together.result c.put_live_together.ensures.fault;
     }
