@@ -1,0 +1,4 @@
+pub mod Channels
+pub mod Printed
+pub mod Refused
+pub mod Taped
