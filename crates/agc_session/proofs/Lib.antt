@@ -1,4 +1,6 @@
-pub mod Channels
-pub mod Printed
-pub mod Refused
-pub mod Taped
+pub mod Begun
+pub mod Gone
+pub mod Reached
+pub mod Joins
+pub mod Again
+pub mod OneRun

@@ -1,4 +1,1 @@
-pub mod Report
-pub mod Text
-pub mod Print
-pub mod Entry
+pub mod Session

@@ -1,11 +1,11 @@
-//! A session: two files and the options give the text of a run, or the line of a refusal.
+//! An interactive session: run, inject events in response to the display, rewind, export a script that replays it.
 #![tactic(auto)]
 
-mod entry;
-mod print;
-mod report;
-mod run;
-mod run_options;
-mod text;
+mod arguments;
+mod fault;
+pub mod laws;
+mod session;
 
-pub use entry::session;
+pub use arguments::{SessionArgs, open_session, session_args, with_session_args};
+pub use fault::{BeginFault, InjectFault, RewindFailed};
+pub use session::Session;

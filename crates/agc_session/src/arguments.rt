@@ -1,0 +1,77 @@
+//! The command-line arguments of a session: its files, its limit and the rope's form.
+ghost use Rattle.std.specs.Prelude.{◌≡◌, IfErr};
+
+use crate::fault::BeginFault;
+use crate::session::Session;
+use agc_cli::{form_of, form_option, number_of, path_of, rope_file, text_of, with_parameter};
+use agc_io::InputFile;
+use agc_load::{LoadFault, read_rope, read_script};
+use agc_script::Script;
+use agc_store::RopeForm;
+use clap::{Arg, ArgMatches, Command};
+use std::alloc::{AllocError, Global};
+use std::fs;
+use std::rt::Files;
+
+/// The arguments that start a session.
+#[derive(Debug, Drop)]
+pub struct SessionArgs {
+    /// The path of the rope file.
+    pub rope: String,
+    /// The path of the script file, if there is one.
+    pub script: Option<String>,
+    /// The cycle at which the machine stops.
+    pub limit: u64,
+    /// How the rope file is laid out.
+    pub form: RopeForm,
+}
+
+/// Adds a session's arguments to a command: the rope, `script` for the script, the limit and the rope's form.
+pub fn with_session_args<'a>(
+    alloc: Global,
+    command: Command<'a>,
+    script: Arg<'a>,
+) -> Result<Command<'a>, AllocError> {
+    let command = with_parameter(command, rope_file(alloc))?;
+    let command = with_parameter(command, script)?;
+    let command = with_parameter(command, limit_option(alloc))?;
+    with_parameter(command, form_option(alloc))
+}
+
+/// Returns the `--limit` option of a session. Its default is the last possible cycle.
+fn limit_option<'a>(alloc: Global) -> Arg<'a> {
+    agc_cli::limit_option(alloc)
+        .required(false)
+        .default_value("1000000000000")
+}
+
+/// Returns the session's arguments among the parsed ones.
+pub fn session_args(alloc: Global, matches: &ArgMatches<'_>) -> Result<SessionArgs, AllocError> {
+    Ok(SessionArgs {
+        rope: path_of(alloc, matches, "rope")?,
+        script: text_of(alloc, matches, "script")?,
+        limit: number_of(matches, "limit", 0),
+        form: form_of(matches),
+    })
+}
+
+/// Opens a session at the start of time. Checks the rope first, then the script, then the limit.
+pub fn open_session<R: Files + AllocGlobal>(
+    rt: &R,
+    start: &SessionArgs,
+) -> Result<Session, LoadFault> {
+    let mut rope = InputFile::new(fs::open(rt, start.rope.as_str()));
+    let rope = read_rope(rt.alloc(), start.form, &mut rope)?;
+    let script = match &start.script {
+        Some(path) => {
+            let mut script = InputFile::new(fs::open(rt, path.as_str()));
+            read_script(rt.alloc(), &mut script)?
+        }
+        None => Script::empty(rt.alloc()),
+    };
+    match Session::new(rt.alloc(), rope, script, start.limit) {
+        Ok(session) => Ok(session),
+        Err(BeginFault::Limit(limit)) => Err(LoadFault::Limit(limit)),
+        Err(BeginFault::Memory) => Err(LoadFault::Memory),
+    }
+}

@@ -1,0 +1,310 @@
+//! The interactive session: a machine, the panel that its writes make, and the events injected so far.
+ghost use Rattle.std.specs.Prelude.{◌≡◌, ◌+◌, ◌<◌, ◌≤◌, ◌↔◌, List, [], ◌∷◌, ◌++◌, length, None, Some};
+ghost use Rattle.std.specs.Prelude.{IfOk, IfErr, IfSome, IsErrOf, IsOk, OnOk, OnErr};
+ghost use Rattle.agc_word.specs.declared.channel_write.ChannelWrite.{ChannelWrite};
+ghost use Rattle.agc_script.specs.Event.{IsWhatInRange, last_cycle, most_events};
+ghost use Rattle.agc_script.specs.Injection.{said_at};
+ghost use Rattle.agc_script.specs.Merge.{joined};
+ghost use Rattle.agc_script.specs.Script.{IsInOrder, IsNotBefore};
+ghost use Rattle.agc_machine.specs.Boundary.{boundary, WantsKey};
+ghost use Rattle.agc_machine.specs.Laws.{HasChannel};
+ghost use Rattle.agc_machine.specs.Run.{next_before};
+ghost use Rattle.agc_machine.specs.State.{start_state};
+ghost use Rattle.agc_machine.specs.Replay.{writes_in};
+ghost use Rattle.agc_panel.specs.Face.{panel_of};
+ghost use Rattle.agc_session.specs.Session.{HasGone, HasReached, IsReplay, injected_now, shown_after, start_with};
+ghost use Rattle.agc_session.specs.Session.{discarded, retained_before, script_of, script_before};
+
+use crate::fault::{BeginFault, InjectFault, RewindFailed};
+use agc_machine::{LimitFault, Machine, Stepped};
+use agc_panel::Panel;
+use agc_script::{MOST_EVENTS, Script, What};
+use agc_store::Rope;
+use std::alloc::Global;
+use std::marker::Model;
+
+/// The scripts that a rewind starts from.
+#[derive(Drop)]
+struct Known {
+    retained: Script,
+    script: Script,
+    /// A second copy of the script, for the machine.
+    events: Script,
+}
+
+/// An interactive session: runs by boundaries, takes events at the present cycle, and rewinds. Its state and what it
+/// has shown are always those of the plain run of [`Session::script`].
+#[derive(Drop)]
+pub struct Session {
+    machine: Machine,
+    panel: Panel,
+    /// The script that the session was opened with.
+    base: Script,
+    /// The events injected before the last rewind that it retained.
+    retained: Script,
+    /// The events known at the last start: `base` and `retained` merged.
+    script: Script,
+    /// The events injected since then, each at the cycle of its injection.
+    injected: Script,
+}
+
+impl Model for Session {
+    ghost use Rattle.agc_session.specs.Session.{IsSession, SessionState};
+
+    ghost Value = { SessionState };
+
+    ghost view = { λ s. record { base = s.base; retained = s.retained; script = s.script; injected = s.injected; now = s.machine; panel = s.panel } };
+
+    ghost invariant = { λ s. IsSession (record { base = s.base; retained = s.retained; script = s.script; injected = s.injected; now = s.machine; panel = s.panel }) };
+}
+
+impl Session {
+    /// Creates a session at the start of time: nothing has happened yet. The script may be empty.
+    pub fn new(alloc: Global, rope: Rope, script: Script, limit: u64) -> Result<Session, BeginFault>
+        ensures base { IfOk result (λ session. session.base ≡ script) }
+        ensures retained { IfOk result (λ session. session.retained ≡ []) }
+        ensures script { IfOk result (λ session. session.script ≡ script) }
+        ensures injected { IfOk result (λ session. session.injected ≡ []) }
+        ensures now { IfOk result (λ session. session.now ≡ start_state rope script limit None) }
+        ensures panel { IfOk result (λ session. session.panel ≡ panel_of []) }
+        ensures zero { IsErrOf result (BeginFault.Limit LimitFault.Zero)
+            ↔ (limit ≡ 0) × (IsErrOf result BeginFault.Memory → ⊥) }
+        ensures too_large { IsErrOf result (BeginFault.Limit LimitFault.TooLarge)
+            ↔ (1000000000000 < limit) × (IsErrOf result BeginFault.Memory → ⊥) }
+        ensures in_range { IsOk result
+            ↔ (0 < limit) × (limit ≤ 1000000000000) × (IsErrOf result BeginFault.Memory → ⊥) }
+    {
+        let known = copied(alloc, &script).ok_or(BeginFault::Memory)?;
+        let events = copied(alloc, &script).ok_or(BeginFault::Memory)?;
+        match Machine::new(rope, events, limit) {
+            Ok(machine) => Ok(Session {
+                machine,
+                panel: Panel::new(),
+                base: script,
+                retained: Script::empty(alloc),
+                script: known,
+                injected: Script::empty(alloc),
+            }),
+            Err(refused) => Err(BeginFault::Limit(refused.fault)),
+        }
+    }
+
+    /// Takes one boundary: an event, a timer step, an interrupt, an order, or the stop.
+    pub fn step(&mut self) -> Stepped
+        ensures gone { HasGone self.old (boundary None self.old.now) result self.new }
+        ensures channel { HasChannel result }
+    {
+        let stepped = self.machine.step(None);
+        show(&mut self.panel, stepped)
+    }
+
+    /// Runs to the next channel write or to the stop, but no further than the first boundary that ends at `cycle` or
+    /// later, for which it returns `Quiet`. Takes at least one boundary.
+    pub fn go_on(&mut self, cycle: u64) -> Stepped
+        ensures gone { HasGone self.old (next_before cycle self.old.now) result self.new }
+        ensures channel { HasChannel result }
+    {
+        let stepped = self.machine.next_write_before(cycle);
+        show(&mut self.panel, stepped)
+    }
+
+    /// Runs to the first boundary that ends at `cycle` or later, or to the stop if that comes first.
+    pub fn go_to(&mut self, cycle: u64)
+        ensures reached { HasReached cycle self.old.now self.new.now }
+        ensures base { self.new.base ≡ self.old.base }
+        ensures retained { self.new.retained ≡ self.old.retained }
+        ensures script { self.new.script ≡ self.old.script }
+        ensures injected { self.new.injected ≡ self.old.injected }
+    {
+        while self.machine.cycle() < cycle {
+            match self.go_on(cycle) {
+                Stepped::Quiet => {}
+                Stepped::Wrote(_) => {}
+                Stepped::Stopped(_) => return,
+            }
+        }
+    }
+
+    /// Restarts at the start of time without the events injected at `cycle` or later, which are discarded. Those
+    /// injected earlier will happen again. Injecting all discarded events again restores the script. If memory runs
+    /// out, returns the session unchanged.
+    pub fn rewind(self, alloc: Global, cycle: u64) -> Result<Session, RewindFailed>
+        ensures base { IfOk result (λ session. session.base ≡ self.base) }
+        ensures retained { IfOk result (λ session. session.retained ≡ retained_before cycle self) }
+        ensures script { IfOk result (λ session. session.script ≡ script_before cycle self) }
+        ensures again { IfOk result (λ session. joined session.script (discarded cycle self) ≡ script_of self) }
+        ensures injected { IfOk result (λ session. session.injected ≡ []) }
+        ensures now { IfOk result
+            (λ session. session.now ≡ start_with (script_before cycle self) self.now) }
+        ensures panel { IfOk result (λ session. session.panel ≡ panel_of []) }
+        ensures err { IfErr result (λ refused. refused.session ≡ self) }
+    {
+        let Some(known) = self.known_before(alloc, cycle) else {
+            return Err(RewindFailed { session: self });
+        };
+        let Known {
+            retained,
+            script,
+            events,
+        } = known;
+        let Session { machine, base, .. } = self;
+        Ok(Session {
+            machine: machine.restart_with(events),
+            panel: Panel::new(),
+            base,
+            retained,
+            script,
+            injected: Script::empty(alloc),
+        })
+    }
+
+    /// Restarts as [`rewind`](Session::rewind) does, and runs to `cycle`. If memory runs out, returns the session
+    /// unchanged.
+    pub fn rewind_to(self, alloc: Global, cycle: u64) -> Result<Session, RewindFailed>
+        ensures base { IfOk result (λ session. session.base ≡ self.base) }
+        ensures retained { IfOk result (λ session. session.retained ≡ retained_before cycle self) }
+        ensures script { IfOk result (λ session. session.script ≡ script_before cycle self) }
+        ensures again { IfOk result (λ session. joined session.script (discarded cycle self) ≡ script_of self) }
+        ensures injected { IfOk result (λ session. session.injected ≡ []) }
+        ensures reached { IfOk result
+            (λ session. HasReached cycle (start_with (script_before cycle self) self.now) session.now) }
+        ensures err { IfErr result (λ refused. refused.session ≡ self) }
+    {
+        let mut session = self.rewind(alloc, cycle)?;
+        session.go_to(cycle);
+        Ok(session)
+    }
+
+    /// Returns the scripts for a rewind to before `cycle`, or `None` if memory runs out.
+    fn known_before(&self, alloc: Global, cycle: u64) -> Option<Known>
+        ensures retained { IfSome result (λ known. known.retained ≡ retained_before cycle self.now) }
+        ensures script { IfSome result (λ known. known.script ≡ script_before cycle self.now) }
+        ensures again { IfSome result (λ known. joined known.script (discarded cycle self.now) ≡ script_of self.now) }
+        ensures same { IfSome result (λ known. known.events ≡ known.script) }
+        ensures bound { IfSome result (λ known. length known.script ≤ most_events) }
+    {
+        rises(&self.retained);
+        rises(&self.injected);
+        let retained = self.retained.before(alloc, cycle).ok()?;
+        let injected = self.injected.before(alloc, cycle).ok()?;
+        let retained = retained.join(alloc, &injected).ok()?;
+        let script = self.base.join(alloc, &retained).ok()?;
+        let events = copied(alloc, &script)?;
+        Some(Known {
+            retained,
+            script,
+            events,
+        })
+    }
+
+    /// Injects an event at the present cycle, after the script's events of this cycle and after the events injected
+    /// at it before.
+    pub fn inject(&mut self, what: What) -> Result<(), InjectFault>
+        requires { IsWhatInRange what }
+        ensures ok { OnOk result (self.new ≡ injected_now what self.old) }
+        ensures err { OnErr result (self.new ≡ self.old) }
+        ensures wanted { OnOk result (WantsKey self.old.now) }
+        ensures unwanted { IsErrOf result InjectFault.Unwanted ↔ (WantsKey self.old.now → ⊥) }
+        ensures many { WantsKey self.old.now → (IsErrOf result InjectFault.TooMany
+            ↔ (length self.old.script + length self.old.injected ≡ most_events)) }
+    {
+        if !self.machine.wants_key() {
+            return Err(InjectFault::Unwanted);
+        }
+        if self.script.len() + self.injected.len() == MOST_EVENTS {
+            return Err(InjectFault::TooMany);
+        }
+        let cycle = self.machine.cycle();
+        // The proof needs the type of `what` spelled out here.
+        let event = what;
+        keep(&mut self.injected, cycle, event)?;
+        self.machine.inject(what);
+        Ok(())
+    }
+
+    /// Reserves room for one more event. Fails with `TooMany` or `Memory`.
+    pub fn make_room(&mut self) -> Result<(), InjectFault>
+        ensures same { self.new ≡ self.old }
+        ensures many { IsErrOf result InjectFault.TooMany
+            ↔ (length self.old.script + length self.old.injected ≡ most_events) }
+        ensures fault { IsErrOf result InjectFault.Unwanted → ⊥ }
+    {
+        if MOST_EVENTS <= self.script.len() + self.injected.len() {
+            return Err(InjectFault::TooMany);
+        }
+        match self.injected.reserve() {
+            Ok(()) => Ok(()),
+            Err(_) => Err(InjectFault::Memory),
+        }
+    }
+
+    /// Returns the script of the session, whose plain run replays the session up to now, or `None` if memory runs
+    /// out.
+    pub fn script(&self, alloc: Global) -> Option<Script>
+        ensures script_of { IfSome result (λ script. script ≡ script_of self.now) }
+        ensures replay { IfSome result (λ script. IsReplay script self.now) }
+    {
+        self.script.join(alloc, &self.injected).ok()
+    }
+
+    /// Returns the machine in its present state.
+    pub fn machine(&self) -> &Machine
+        ensures { result.now ≡ self.now.now }
+    {
+        &self.machine
+    }
+
+    /// Returns the panel in its present state.
+    pub fn panel(&self) -> &Panel
+        ensures { result.now ≡ self.now.panel }
+    {
+        &self.panel
+    }
+}
+
+/// Applies the write of a boundary, if there is one, to the panel.
+#[tactic(auto, unfolding(agc_machine::specs::Replay::writes_in))]
+fn show(panel: &mut Panel, stepped: Stepped) -> Stepped
+    ensures same { result ≡ stepped }
+    ensures named { panel.new ≡ shown_after stepped panel.old }
+    ensures all { (taken : List ChannelWrite) → panel.old ≡ panel_of taken
+        → panel.new ≡ panel_of (taken ++ writes_in (stepped ∷ [])) }
+{
+    match stepped {
+        Stepped::Quiet => Stepped::Quiet,
+        Stepped::Wrote(write) => {
+            panel.take(&write);
+            Stepped::Wrote(write)
+        }
+        Stepped::Stopped(why) => Stepped::Stopped(why),
+    }
+}
+
+/// Shows the proof that the cycles of a script never fall. Does nothing at run time.
+fn rises(script: &Script)
+    ensures { IsInOrder script.now }
+{
+    let _events = script.len();
+}
+
+/// Appends an event at this cycle to the injected ones.
+fn keep(injected: &mut Script, cycle: u64, what: What) -> Result<(), InjectFault>
+    requires later { IsNotBefore injected.old cycle }
+    requires range { cycle ≤ last_cycle }
+    requires what { IsWhatInRange what }
+    ensures ok { OnOk result (injected.new ≡ injected.old ++ said_at what cycle ∷ []) }
+    ensures err { OnErr result (injected.new ≡ injected.old) }
+    ensures fault { IfErr result (λ fault. fault ≡ InjectFault.Memory) }
+{
+    match injected.push(cycle, what) {
+        Ok(()) => Ok(()),
+        Err(_) => Err(InjectFault::Memory),
+    }
+}
+
+/// Returns a copy of the script, or `None` if memory runs out.
+fn copied(alloc: Global, script: &Script) -> Option<Script>
+    ensures { IfSome result (λ copy. copy ≡ script.now) }
+{
+    script.join(alloc, &Script::empty(alloc)).ok()
+}

@@ -1,6 +1,0 @@
-pub mod Begun
-pub mod Gone
-pub mod Reached
-pub mod Joins
-pub mod Again
-pub mod OneRun

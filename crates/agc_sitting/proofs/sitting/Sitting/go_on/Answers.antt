@@ -1,7 +1,0 @@
-use Rattle.agc_sitting.proofs.Gone.{goes_on_before}
-use Rattle.agc_sitting.proofs.sitting.Sitting.go_on.Goals as goal
-
-pub invariant_of-self : goal.invariant_of-self
-invariant_of-self c =
-    goes_on_before c.args.cycle _ c.next_write_before-stepped.new.self c.show.new.panel c.next_write_before-stepped.result c.self.invariant
-    c.next_write_before-stepped.ensures.next c.show.ensures.all

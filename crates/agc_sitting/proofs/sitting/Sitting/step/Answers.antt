@@ -1,6 +1,0 @@
-use Rattle.agc_sitting.proofs.Gone.{goes_by_boundary}
-use Rattle.agc_sitting.proofs.sitting.Sitting.step.Goals as goal
-
-pub invariant_of-self : goal.invariant_of-self
-invariant_of-self c =
-    goes_by_boundary _ c.step-stepped.new.self c.show.new.panel c.step-stepped.result c.self.invariant c.step-stepped.ensures.boundary c.show.ensures.all

@@ -1,5 +1,0 @@
-use Rattle.agc_sitting.proofs.Begun.{when_told}
-use Rattle.agc_sitting.proofs.sitting.Sitting.told.Goals as goal
-
-pub returns-clause-replay : goal.returns-clause-replay
-returns-clause-replay c = when_told c.join.result _ _ _ c.ok.ensures.value c.join.ensures.ok c.self.view_is c.self.invariant
