@@ -1,4 +1,4 @@
--- A boundary leaves the cells past EDOP alone that are not among those that it may touch.
+-- A boundary does not change the cells past EDOP that it cannot touch.
 use Rattle.std.proofs.Common.{◌≡◌, ◌≢◌, ℕ, ◌+◌, ◌*◌, ◌<◌, List, [], ◌∷◌, Option, Some, None, Bool, true, false, refl, ap, sym, ◌∙◌, subst, arith}
 use Rattle.std.specs.Prelude.{◌||◌, ◌&&◌, not, nat_le, filter, map, if◌then◌else◌}
 use Rattle.std.specs.List.{list_any, range_with_len}
@@ -26,9 +26,9 @@ use Rattle.agc_processor.specs.declared.timer.Timer.{Timer}
 use Rattle.agc_processor.specs.declared.timer.Timer.TheVariants as timer
 use Rattle.agc_processor.specs.Effect.{basic_effect, extracode_effect, order_effect}
 use Rattle.agc_processor.specs.Timer.{carried, counter, set_counter, switched_off, tick, time1_step, time1_taken, time2_by, time3_step, time3_taken, time4_step, time4_taken, time5_step, time5_taken, time6_step, time6_taken, timer_step}
-use Rattle.agc_laws.specs.Row.{IsElsewhere, IsNoneOf, IsNotEdited, IsOutOfReach, Reach, below, no_cell, written, two_written, edited_again, far_edited_again, two_edited_again, channel, place_of, ten_bits, upper_place}
-use Rattle.agc_laws.specs.Table.{basic_row, extracode_row}
-use Rattle.agc_laws.proofs.Rows.{basic_changes, extracode_changes}
+use Rattle.agc_processor.specs.Row.{IsElsewhere, IsNoneOf, IsNotEdited, IsOutOfReach, Reach, below, no_cell, written, two_written, edited_again, far_edited_again, two_edited_again, channel, place_of, ten_bits, upper_place}
+use Rattle.agc_processor.specs.Table.{basic_row, extracode_row}
+use Rattle.agc_processor.proofs.Rows.{basic_changes, extracode_changes}
 use Rattle.agc_machine.specs.Boundary.{Applies, boundary, carried_out, in_hand, ran_order, by_order, upcoming_of}
 use Rattle.agc_machine.specs.State.{State}
 use Rattle.agc_machine.specs.declared.answer.Stop.{Stop}
@@ -36,24 +36,24 @@ use Rattle.agc_machine.specs.declared.upcoming.InHand.{InHand}
 use Rattle.agc_machine.specs.declared.upcoming.Upcoming.{Upcoming}
 use Rattle.agc_machine.specs.declared.upcoming.Upcoming.TheVariants as upcoming
 use Rattle.agc_machine.proofs.Cases.{upcoming_applies, upcoming_comes}
-use Rattle.agc_source_words.specs.declared.location.Location.{Location}
-use Rattle.agc_source_words.specs.declared.location.Location.TheVariants as location
-use Rattle.agc_places.specs.Cell.{same_word}
+use Rattle.agc_listing.specs.declared.location.Location.{Location}
+use Rattle.agc_listing.specs.declared.location.Location.TheVariants as location
+use Rattle.agc_listing.specs.Cell.{same_word}
 use Rattle.agc_trace.specs.Change.{changes_since, is_changed, is_named, named_below, named_cells, seen_in}
-use Rattle.agc_places.specs.Places.{has_place, is_from_to}
+use Rattle.agc_listing.specs.Ranges.{has_place, is_from_to}
 use Rattle.agc_trace.specs.Touched.{are_past, begins_by, cell_in, is_away, reach_of, touched_at, touched_by}
 use Rattle.agc_trace.specs.declared.change.Change.{Change}
 use Rattle.agc_trace.specs.declared.change.Seen.{Seen}
-use Rattle.agc_places.specs.declared.places.Places.{Places}
+use Rattle.agc_listing.specs.declared.location_range.LocationRange.{LocationRange}
 use Rattle.agc_trace.specs.declared.touched.Touched.{Touched}
 use Rattle.agc_trace.specs.declared.touched.Touched.TheVariants as touched
 use Rattle.agc_trace.specs.Entry.{entry_of}
 use Rattle.agc_trace.specs.Watch.{watched_of}
 use Rattle.agc_trace.specs.declared.entry.Entry.{Entry}
-use Rattle.agc_places.proofs.SameWord.{same_word-refl}
+use Rattle.agc_listing.proofs.SameWord.{same_word-refl}
 use Rattle.agc_trace.proofs.Changes.{seen_after, watched_is}
 
--- a cell past EDOP is not among those that are touched
+-- a cell past EDOP that is not among the touched ones
 abbrev IsAway : Touched → ℕ → Type 0
 IsAway touched.Nothing c = Unit {0}
 IsAway (touched.One cell) c = c ≢ cell
@@ -98,14 +98,14 @@ place_is : (cells : List Number) (k : ℕ) → erasable_place cells k ≡ cell_i
 unfolding erasable_place
 place_is cells k = refl
 
--- a cell past EDOP is no register, and no editing one
+-- a cell past EDOP is neither a register nor an editing register
 elsewhere : (place c : ℕ) → edop_cell < c → c ≢ place → IsElsewhere place c
 elsewhere place c h other = (other, λ is. grind (arith, nat_tests))
 
 not_edited : (k : ℕ) (p : Processor) (c : ℕ) → edop_cell < c → IsNotEdited k p c
 not_edited k p c h = λ erasable editing. grind (arith, nat_tests)
 
--- the upper word's cell, where the lower one is no register
+-- the upper word's cell, if the lower one is not a register
 upper_is : (p q : Processor) → zero_cell < place_of (ten_bits p) p → upper_place p q ≡ place_of (below 0o1777 (ten_bits p)) p
 upper_is p q h = grind (arith, nat_tests)
 
@@ -130,7 +130,7 @@ out_of_reach far_edited_again p q c h away = not_edited _ p c h
 out_of_reach two_edited_again p q c h away = (not_edited _ p c h, not_edited _ p c h)
 out_of_reach channel p q c h away = (λ is. omega arith, λ is. omega arith)
 
--- what an order leaves alone
+-- what an order does not change
 order_kept : (extracode : Bool) (word n : ℕ) (p : Processor) (c : ℕ) → edop_cell < c
     → IsAway (touched_at (if extracode then (extracode_row (extracode_of word)).reach else (basic_row (basic_of word)).reach) (erasable_bank p.store.erasable) (ten_bits p)) c
     → cell_at c (if extracode then extracode_effect (extracode_of word) n p else basic_effect (basic_of word) p).0.store.erasable ≡ cell_at c p.store.erasable
@@ -197,7 +197,7 @@ timer_kept timer.Time4 p c h = tick_kept time4_cell rupt.T4rupt (time4_taken p) 
 timer_kept timer.Time5 p c h = tick_kept time5_cell rupt.T5rupt (time5_taken p) c (omega arith)
 timer_kept timer.Time6 p c h = time6_kept p c h
 
--- what comes leaves alone what it does not touch
+-- what comes does not change what it does not touch
 come_kept : (u : Upcoming) (s : State) (c : ℕ) → Applies u s → edop_cell < c → IsAway (touched_by (erasable_bank s.processor.store.erasable) u) c
     → cell_at c (carried_out u (record s { begun = true })).0.processor.store.erasable ≡ cell_at c s.processor.store.erasable
 unfolding touched_by
@@ -220,7 +220,7 @@ kept_unless (Some why) s c e h away =
 kept_unless None s c e h away =
     ap (λ r. cell_at c r.0.processor.store.erasable) ((upcoming_comes s).comes e) ∙ come_kept (upcoming_of s) s c (upcoming_applies s e) h away
 
--- a cell that is named, of which all stand past another
+-- a watched cell, when all watched cells come after another cell
 past_first : (first last : Location) (bound c : ℕ) → begins_by bound first ≡ false → is_from_to first last (location.Erasable c) ≡ true → bound < c
 past_first (location.Erasable first) (location.Erasable last) bound c e h = grind (arith, nat_tests)
 past_first (location.Erasable first) (location.Fixed last) bound c e h = cc
@@ -232,7 +232,7 @@ past_by true b x y bound c f g e h = cc
 past_by false b true y bound c f g e h = f refl refl
 past_by false b false y bound c f g e h = g e h
 
-past : (several : List Places) (bound c : ℕ) → list_any (λ places. begins_by bound places.first) several ≡ false → is_named several c ≡ true → bound < c
+past : (several : List LocationRange) (bound c : ℕ) → list_any (λ places. begins_by bound places.first) several ≡ false → is_named several c ≡ true → bound < c
 past [] bound c e h = cc
 past (places ∷ several) bound c e h =
     past_by (begins_by bound places.first) (list_any (λ places. begins_by bound places.first) several) (has_place places (location.Erasable c)) (is_named several c) bound c
@@ -246,11 +246,11 @@ both : (a b : Bool) → (a && b) ≡ true → (a ≡ true) × (b ≡ true)
 both true b e = (refl, e)
 both false b e = cc
 
--- a cell that is named is no other that is not
-is_other : (several : List Places) (c cell : ℕ) → not (is_named several cell) ≡ true → is_named several c ≡ true → c ≢ cell
+-- a watched cell differs from every cell that is not watched
+is_other : (several : List LocationRange) (c cell : ℕ) → not (is_named several cell) ≡ true → is_named several c ≡ true → c ≢ cell
 is_other several c cell e h = λ same. let n : is_named several cell ≡ true = subst (λ (k : ℕ). is_named several k ≡ true) same h in let f = not_true (is_named several cell) e in cc
 
-away_from : (t : Touched) (several : List Places) (c : ℕ) → is_away several t ≡ true → is_named several c ≡ true → (edop_cell < c) × IsAway t c
+away_from : (t : Touched) (several : List LocationRange) (c : ℕ) → is_away several t ≡ true → is_named several c ≡ true → (edop_cell < c) × IsAway t c
 away_from touched.Nothing several c e h = (past several edop_cell c (not_true _ e) h, tt)
 away_from (touched.One cell) several c e h =
     let b = both _ _ e in
@@ -263,8 +263,8 @@ away_from touched.Counter several c e h =
     let p = past several time6_cell c (not_true _ e) h in (omega arith, p)
 away_from touched.Any several c e h = cc
 
--- a cell that is named stays, where none of them is touched
-named_kept : (several : List Places) (s : State) → is_away several (touched_by (erasable_bank s.processor.store.erasable) (upcoming_of s)) ≡ true
+-- a watched cell keeps its word if no watched cell is touched
+named_kept : (several : List LocationRange) (s : State) → is_away several (touched_by (erasable_bank s.processor.store.erasable) (upcoming_of s)) ≡ true
     → (c : ℕ) → is_named several c ≡ true → cell_at c (boundary None s).0.processor.store.erasable ≡ cell_at c s.processor.store.erasable
 named_kept several s e c h =
     let a = away_from (touched_by (erasable_bank s.processor.store.erasable) (upcoming_of s)) several c e h in
@@ -284,8 +284,8 @@ none_moved : (before after : Memory) (p : ℕ → Bool) (cells : List ℕ) → (
 none_moved before after p [] h = refl
 none_moved before after p (c ∷ cells) h = none_by (p c) before after c (filter p cells) (h c) (none_moved before after p cells h)
 
--- so nothing has changed of what has been seen
-pub none_touched : (several : List Places) (s : State) (seen : List Seen) → seen ≡ map (seen_in s.processor.store) (named_cells several)
+-- so nothing that was read has changed
+pub none_touched : (several : List LocationRange) (s : State) (seen : List Seen) → seen ≡ map (seen_in s.processor.store) (named_cells several)
     → is_away several (touched_by (erasable_bank s.processor.store.erasable) (upcoming_of s)) ≡ true
     → list_any (λ x. is_changed (boundary None s).0.processor.store x) seen ≡ false
 unfolding named_cells named_below
@@ -293,8 +293,8 @@ none_touched several s seen h e =
     ap (list_any (λ x. is_changed (boundary None s).0.processor.store x)) h
     ∙ none_moved s.processor.store (boundary None s).0.processor.store (is_named several) (range_with_len 0 erasable_cells) (named_kept several s e)
 
--- the same by what code has found: the bank before the boundary, what happened, and the memory after it
-pub none_found : (several : List Places) (s t : State) (m : Memory) (entry : Entry) (seen : List Seen) (bank : ℕ) (b : Bool)
+-- the same in terms of the code: the bank before the boundary, what happened, and the memory after it
+pub none_found : (several : List LocationRange) (s t : State) (m : Memory) (entry : Entry) (seen : List Seen) (bank : ℕ) (b : Bool)
     → seen ≡ map (seen_in s.processor.store) (named_cells several) → bank ≡ erasable_bank s.processor.store.erasable → entry ≡ entry_of s → t ≡ (boundary None s).0
     → m ≡ t.processor.store → b ≡ is_away several (touched_by bank entry.happening) → b ≡ true
     → list_any (λ x. is_changed m x) seen ≡ false

@@ -1,4 +1,4 @@
--- The cells that are looked at, boundary by boundary.
+-- The watched cells, read boundary by boundary.
 use Rattle.std.proofs.Common.{◌≡◌, ℕ, ◌+◌, List, [], ◌∷◌, ◌++◌, Bool, true, false, None, refl, ap, sym, ◌∙◌, zero-add, add-one}
 use Rattle.std.specs.Prelude.{◌==◌, ◌&&◌, ◌||◌, not, filter, map, IsTrue, if◌then◌else◌}
 use Rattle.std.specs.List.{list_any, range_with_len}
@@ -7,9 +7,9 @@ use Rattle.std.proofs.lemmas.List.Elements.{filter-append}
 use Rattle.std.proofs.lemmas.List.{map-append}
 use Rattle.agc_word.specs.Number.{Number}
 use Rattle.agc_store.specs.Memory.{Memory, cell_at}
-use Rattle.agc_rope_listing.proofs.RopeLines.{range_more}
-use Rattle.agc_places.proofs.SameWord.{same_word-refl, same_word-same}
-use Rattle.agc_places.specs.Cell.{same_word}
+use Rattle.agc_listing.proofs.RopeLines.{range_more}
+use Rattle.agc_listing.proofs.SameWord.{same_word-refl, same_word-same}
+use Rattle.agc_listing.specs.Cell.{same_word}
 use Rattle.agc_trace.specs.Change.{change_of, changes_between, changes_since, is_changed, is_named, named_below, seen_in}
 use Rattle.agc_machine.specs.Boundary.{boundary}
 use Rattle.agc_machine.specs.State.{State}
@@ -18,14 +18,14 @@ use Rattle.agc_trace.specs.Watch.{Watched, watched_of}
 use Rattle.agc_trace.specs.declared.entry.Entry.{Entry}
 use Rattle.agc_trace.specs.declared.change.Change.{Change}
 use Rattle.agc_trace.specs.declared.change.Seen.{Seen}
-use Rattle.agc_places.specs.declared.places.Places.{Places}
+use Rattle.agc_listing.specs.declared.location_range.LocationRange.{LocationRange}
 
 one_by : (m : Memory) (cell : ℕ) (b : Bool) → map (seen_in m) (if b then cell ∷ [] else []) ≡ (if b then seen_in m cell ∷ [] else [])
 one_by m cell true = refl
 one_by m cell false = refl
 
--- the cells that are named, one more looked at
-pub seen_more : (m : Memory) (several : List Places) (count : ℕ) →
+-- the watched cells, after one more cell
+pub seen_more : (m : Memory) (several : List LocationRange) (count : ℕ) →
     map (seen_in m) (named_below (count + 1) several)
     ≡ map (seen_in m) (named_below count several) ++ (if is_named several count then seen_in m count ∷ [] else [])
 unfolding named_below
@@ -38,8 +38,8 @@ seen_more m several count =
     ∙ map-append (seen_in m) (filter (is_named several) before) (filter (is_named several) (count ∷ []))
     ∙ ap (λ (xs : List Seen). map (seen_in m) (filter (is_named several) before) ++ xs) (one_by m count (is_named several count)))
 
--- a cell more, where it is named
-pub seen_next : (m : Memory) (several : List Places) (count : ℕ) (b : Bool) (cell : Seen) (items new : List Seen) → b ≡ is_named several count → cell ≡ seen_in m count →
+-- one more cell, if it is watched
+pub seen_next : (m : Memory) (several : List LocationRange) (count : ℕ) (b : Bool) (cell : Seen) (items new : List Seen) → b ≡ is_named several count → cell ≡ seen_in m count →
     items ≡ map (seen_in m) (named_below count several) → new ≡ items ++ (if b then cell ∷ [] else []) →
     new ≡ map (seen_in m) (named_below (count + 1) several)
 seen_next m several count b cell items new e f h k =
@@ -48,7 +48,7 @@ seen_next m several count b cell items new e f h k =
     ∙ ap (λ (x : Seen). map (seen_in m) (named_below count several) ++ (if is_named several count then x ∷ [] else [])) f
     ∙ sym (seen_more m several count)
 
-pub seen_none : (m : Memory) (several : List Places) → map (seen_in m) (named_below 0 several) ≡ []
+pub seen_none : (m : Memory) (several : List LocationRange) → map (seen_in m) (named_below 0 several) ≡ []
 unfolding named_below
 seen_none m several = refl
 
@@ -60,7 +60,7 @@ neither : (a b : Bool) → (a || b) ≡ false → (a ≡ false) × (b ≡ false)
 neither true b e = cc
 neither false b e = (refl, e)
 
--- a cell of which the word is the same
+-- a cell whose word is the same
 same_again : (m : Memory) (seen : Seen) → is_changed m seen ≡ false → seen_in m seen.cell ≡ seen
 same_again m seen e =
     let same = not_false (same_word seen.word (cell_at seen.cell m.erasable)) e in
@@ -84,13 +84,12 @@ none_changed m (seen ∷ several) e =
     let both = neither (is_changed m seen) (list_any (λ s. is_changed m s) several) e in
     none_by (is_changed m seen) m seen several both.0 (none_changed m several both.1)
 
--- cells that were seen in one memory, seen again in another
+-- cells that were read in one memory, read again in another
 pub again_in : (before after : Memory) (cells : List ℕ) → map (λ s. seen_in after s.cell) (map (seen_in before) cells) ≡ map (seen_in after) cells
 again_in before after [] = refl
 again_in before after (cell ∷ cells) = ap (λ (xs : List Seen). seen_in after cell ∷ xs) (again_in before after cells)
 
--- The cells that are watched have been seen before a boundary: what has changed of them after it makes its entry, and they
--- are seen again.
+-- The watched cells were read before a boundary: what has changed after it makes its entry, and they are read again.
 pub watched_is : (cells : List ℕ) (s t : State) (entry : Entry) (seen : List Seen) (changes : List Change) →
     entry ≡ entry_of s → t ≡ (boundary None s).0 → seen ≡ map (seen_in s.processor.store) cells → changes ≡ changes_since seen t.processor.store →
     record { entry = entry; changes = changes } ≡ watched_of cells s
@@ -105,7 +104,7 @@ pub seen_after : (cells : List ℕ) (before after : Memory) (seen again : List S
 seen_after cells before after seen again h k =
     k ∙ ap (λ (xs : List Seen). map (λ x. seen_in after x.cell) xs) h ∙ again_in before after cells
 
--- the same by the changes as they are shown
+-- the same, in terms of the changes as printed
 pub shown_is : (watched : Watched) (entry : Entry) (changes shown : List Change) → shown ≡ changes →
     record { entry = entry; changes = changes } ≡ watched → record { entry = entry; changes = shown } ≡ watched
 shown_is watched entry changes shown e h = ap (λ (xs : List Change). record { entry = entry; changes = xs }) e ∙ h

@@ -1,4 +1,4 @@
--- Each entry of a trace tells its own boundary, and no entry is before the one before it.
+-- Each entry of a trace is that of its own boundary, and no entry is earlier than the one before it.
 use Rattle.std.proofs.Common.{◌≡◌, ℕ, ◌≤◌, ◌<◌, suc, zero, List, [], ◌∷◌, length, Option, Some, None, Bool, true, false, refl, arith}
 use Rattle.std.specs.Prelude.{if◌then◌else◌, slice_get}
 use Rattle.agc_machine.specs.Boundary.{boundary, upcoming_of}
@@ -24,7 +24,7 @@ entry_within (suc fuel) zero s l = refl
 entry_within (suc fuel) (suc n) s l =
     shorter_by (is_stop (upcoming_of s)) n (entry_of s) (trace_within fuel (boundary None s).0) _ l (entry_within fuel n (boundary None s).0)
 
--- each entry tells the boundary that comes after so many others
+-- each entry is that of the boundary that comes after as many others
 pub entry_is_told : (n : ℕ) (s : State) → n < length (trace_of s) → slice_get (trace_of s) n ≡ Some (entry_of (after n s))
 unfolding trace_of
 entry_is_told n s l = entry_within (entries_left s) n s l
@@ -51,7 +51,7 @@ forward_within (suc n) s = (
       (never_earlier s (boundary None s) (boundary_falls s)) (forward_within n (boundary None s).0),
 )
 
--- no entry is before the one before it
+-- no entry is earlier than the one before it
 pub trace_goes_forward : (s : State) → NeverGoBack s.cycle (trace_of s)
 unfolding trace_of
 trace_goes_forward s = forward_within (entries_left s) s

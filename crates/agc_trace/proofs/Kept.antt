@@ -1,4 +1,4 @@
--- The last of the entries that are selected, kept boundary by boundary.
+-- The last selected entries, kept boundary by boundary.
 use Rattle.std.proofs.Common.{◌≡◌, ℕ, ◌-◌, ◌≤◌, List, [], ◌∷◌, ◌++◌, length, drop, None, true, false, refl, ap, sym, ◌∙◌, subst, arith, append_assoc, append-nil, length-drop, length-append}
 use Rattle.std.proofs.lemmas.List.{drop-append-le, drop-drop, drop_all}
 use Rattle.agc_machine.specs.Boundary.{boundary}
@@ -9,7 +9,7 @@ use Rattle.agc_trace.specs.Watch.{Watched, watch_of, watched_of}
 use Rattle.agc_trace.specs.declared.selection.Selection.{Selection}
 use Rattle.agc_trace.proofs.Lines.{entries_after, entries_of_stop}
 
--- the last of these entries are kept, of which those that are left make the whole
+-- the last of these entries are kept, and with those that are left they make the whole
 pub record IsKept (most : ℕ) (items left whole : List Watched) : Type 0 where
   pub seen : List Watched
   pub last : items ≡ last_of most seen
@@ -46,7 +46,7 @@ pub kept_whole : (most : ℕ) (items left whole : List Watched) → left ≡ [] 
 kept_whole most items left whole e h =
     h.last ∙ ap (λ (xs : List Watched). last_of most xs) (sym (append-nil h.seen) ∙ ap (λ (xs : List Watched). h.seen ++ xs) (sym e) ∙ h.rest)
 
--- one more entry is looked at, and what is left is of the next boundary's watch
+-- one more entry is taken, and what is left belongs to the next boundary's watch
 pub entry_kept : (w : Selection) (cells : List ℕ) (most : ℕ) (items new : List Watched) (s t : State) (entry : Watched) (whole : List Watched) →
     entry ≡ watched_of cells s → t ≡ (boundary None s).0 → is_stop entry.entry.happening ≡ false →
     IsKept most items (selected w (watch_of cells s)) whole → new ≡ last_of most (items ++ selected w (entry ∷ [])) →
@@ -55,7 +55,7 @@ entry_kept w cells most items new s t entry whole e f stop h k =
     kept_more most items new (selected w (entry ∷ [])) (selected w (watch_of cells t)) whole
     (subst (λ (xs : List Watched). IsKept most items xs whole) (entries_after w cells s t entry e f stop) h) k
 
--- the last entry is looked at
+-- the last entry is taken
 pub all_kept : (w : Selection) (cells : List ℕ) (most : ℕ) (items new : List Watched) (s : State) (entry : Watched) (whole : List Watched) →
     entry ≡ watched_of cells s → is_stop entry.entry.happening ≡ true →
     IsKept most items (selected w (watch_of cells s)) whole → new ≡ last_of most (items ++ selected w (entry ∷ [])) →
@@ -65,13 +65,13 @@ all_kept w cells most items new s entry whole e stop h k =
     (kept_more most items new (selected w (entry ∷ [])) [] whole
     (subst (λ (xs : List Watched). IsKept most items xs whole) (entries_of_stop w cells s entry e stop ∙ sym (append-nil (selected w (entry ∷ [])))) h) k)
 
--- one that is not taken changes nothing
+-- an entry that is not selected changes nothing
 pub none_more : {T : Type 0} (most : ℕ) (items : List T) → length items ≤ most → items ≡ last_of most (items ++ [])
 none_more most items few =
     let none : length items - most ≡ 0 = omega arith in
     rw (append-nil items) (rw none refl)
 
--- where nothing comes first nothing is left
+-- if nothing comes first, nothing is left
 pub nothing_left : (xs ys : List Watched) → xs ≡ ys → ys ≡ drop 1 xs → xs ≡ []
 nothing_left [] ys e f = refl
 nothing_left (x ∷ xs) ys e f =

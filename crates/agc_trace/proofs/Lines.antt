@@ -1,11 +1,11 @@
--- The lines of a watch boundary by boundary, and what is written of them.
+-- The lines of a watch boundary by boundary, and what is written so far.
 use Rattle.std.proofs.Common.{◌≡◌, ℕ, List, [], ◌∷◌, ◌++◌, Option, Some, None, Bool, true, false, refl, ap, sym, ◌∙◌, subst, append_assoc, append-nil}
 use Rattle.std.specs.Prelude.{if◌then◌else◌, filter}
 use Rattle.std.proofs.lemmas.Grind.{flat_map-append}
 use Rattle.std.specs.Io.KnownBytes.{Appends}
 use Rattle.agc_machine.specs.Boundary.{boundary, upcoming_of}
 use Rattle.agc_machine.specs.State.{State}
-use Rattle.agc_names.specs.Names.{Named}
+use Rattle.agc_symbols.specs.Symbols.{Symbol}
 use Rattle.agc_trace.specs.NamedLine.{watched_line}
 use Rattle.agc_trace.specs.Selection.{is_selected, kept, last_of, lines_of, selected, selected_lines}
 use Rattle.agc_trace.specs.Trace.{is_stop}
@@ -24,15 +24,15 @@ no_entry_by true entry rest e = cc
 no_entry_by false entry rest e = refl
 
 -- the lines of two lists, one after the other
-pub lines_of-append : (names : Option (List Named)) (xs ys : List Watched) → lines_of names (xs ++ ys) ≡ lines_of names xs ++ lines_of names ys
+pub lines_of-append : (names : Option (List Symbol)) (xs ys : List Watched) → lines_of names (xs ++ ys) ≡ lines_of names xs ++ lines_of names ys
 unfolding lines_of
 lines_of-append names xs ys = flat_map-append (watched_line names) xs ys
 
-pub lines_of-none : (names : Option (List Named)) → lines_of names [] ≡ []
+pub lines_of-none : (names : Option (List Symbol)) → lines_of names [] ≡ []
 unfolding lines_of
 lines_of-none names = refl
 
-pub lines_of-cons : (names : Option (List Named)) (entry : Watched) (entries : List Watched) → lines_of names (entry ∷ entries) ≡ watched_line names entry ++ lines_of names entries
+pub lines_of-cons : (names : Option (List Symbol)) (entry : Watched) (entries : List Watched) → lines_of names (entry ∷ entries) ≡ watched_line names entry ++ lines_of names entries
 unfolding lines_of
 lines_of-cons names entry entries = refl
 
@@ -45,13 +45,13 @@ module _ (w : Selection) where
   unfolding selected
   no_entry entry entries e = no_entry_by (is_selected w entry) entry (filter (is_selected w) entries) e
 
-  -- where no number of last lines is said, every selected entry has its line
-  pub all_lines : (names : Option (List Named)) (xs ys : List Watched) → w.last ≡ None → selected w xs ≡ selected w ys → lines_of names (selected w xs) ≡ selected_lines names w ys
+  -- without a number of last lines, every selected entry has its line
+  pub all_lines : (names : Option (List Symbol)) (xs ys : List Watched) → w.last ≡ None → selected w xs ≡ selected w ys → lines_of names (selected w xs) ≡ selected_lines names w ys
   unfolding selected_lines
   all_lines names xs ys e f =
       ap (λ (zs : List Watched). lines_of names zs) (f ∙ ap (λ (o : Option ℕ). kept o (selected w ys)) (sym e))
 
-  pub last_lines : (names : Option (List Named)) (most : ℕ) (xs ys : List Watched) → w.last ≡ Some most → selected w xs ≡ selected w ys →
+  pub last_lines : (names : Option (List Symbol)) (most : ℕ) (xs ys : List Watched) → w.last ≡ Some most → selected w xs ≡ selected w ys →
       lines_of names (last_of most (selected w xs)) ≡ selected_lines names w ys
   unfolding selected_lines
   last_lines names most xs ys e f =
@@ -71,7 +71,7 @@ module _ (w : Selection) where
         ap (λ (xs : List Watched). selected w xs) (watch_by_entry cells s)
         ∙ ap (λ (xs : List Watched). selected w (watched_of cells s ∷ xs)) (watch_ends (is_stop (upcoming_of s)) (watch_of cells (boundary None s).0) f)
 
-    -- the same of a boundary that was told
+    -- the same for a boundary whose entry was returned
     pub entries_after : (s t : State) (entry : Watched) → entry ≡ watched_of cells s → t ≡ (boundary None s).0 → is_stop entry.entry.happening ≡ false →
         selected w (watch_of cells s) ≡ selected w (entry ∷ []) ++ selected w (watch_of cells t)
     entries_after s t entry e f stop =
@@ -83,7 +83,7 @@ module _ (w : Selection) where
         selected w (watch_of cells s) ≡ selected w (entry ∷ [])
     entries_of_stop s entry e stop = entries_at_stop s (watched_by cells true s entry e stop) ∙ ap (λ (x : Watched). selected w (x ∷ [])) (sym e)
 
--- what a writer took since a start, and what is left of the whole
+-- what a writer received since a start, and what is left of the whole
 abbrev pub IsWritten : Option (List ℕ) → Option (List ℕ) → List ℕ → List ℕ → Type 0
 IsWritten start now left whole = (written : List ℕ) × Appends start now written × (written ++ left ≡ whole)
 
@@ -111,14 +111,14 @@ pub written_more : (start now new : Option (List ℕ)) (line left whole : List �
 written_more start now new line left whole h k =
     (h.0 ++ line, appends_more start now new h.0 line h.1 k, append_assoc h.0 line left ∙ h.2)
 
--- a line is that of the same entry and changes, whichever way they are had
-pub line_as : (names : Option (List Named)) (now new : Option (List ℕ)) (x : Watched) (entry : Entry) (changes items : List Change) → changes ≡ items →
+-- a line depends only on its entry and changes, however they were obtained
+pub line_as : (names : Option (List Symbol)) (now new : Option (List ℕ)) (x : Watched) (entry : Entry) (changes items : List Change) → changes ≡ items →
     record { entry = entry; changes = items } ≡ x → Appends now new (watched_line names (record { entry = entry; changes = changes })) → Appends now new (watched_line names x)
 line_as names now new x entry changes items e f h =
     subst (λ (y : Watched). Appends now new (watched_line names y)) (ap (λ (cs : List Change). record { entry = entry; changes = cs }) e ∙ f) h
 
-module _ (names : Option (List Named)) (w : Selection) (cells : List ℕ) where
-  -- one more line is written, and what is left is that of the next boundary's watch
+module _ (names : Option (List Symbol)) (w : Selection) (cells : List ℕ) where
+  -- one more line is written, and what is left belongs to the next boundary's watch
   pub line_written : (start now new : Option (List ℕ)) (s t : State) (entry : Watched) (whole : List ℕ) →
       entry ≡ watched_of cells s → t ≡ (boundary None s).0 → is_stop entry.entry.happening ≡ false →
       IsWritten start now (lines_of names (selected w (watch_of cells s))) whole → Appends now new (lines_of names (selected w (entry ∷ []))) →

@@ -1,4 +1,4 @@
--- Boundaries that are passed over have no line, and leave what is named as it was.
+-- Boundaries that are passed over have no line, and do not change the watched cells.
 use Rattle.std.proofs.Common.{◌≡◌, ℕ, ◌≤◌, ◌<◌, List, [], ◌∷◌, length, Option, None, Bool, true, false, refl, ap, sym, ◌∙◌, subst, arith}
 use Rattle.std.specs.Prelude.{◌==◌, ◌&&◌, ◌||◌, not, nat_le, filter, map, string_bytes, if◌then◌else◌}
 use Rattle.std.specs.List.{list_any, range_with_len}
@@ -8,7 +8,7 @@ use Rattle.agc_machine.specs.Boundary.{boundary, upcoming_of}
 use Rattle.agc_machine.specs.State.{State}
 use Rattle.agc_machine.specs.declared.upcoming.Upcoming.{Upcoming}
 use Rattle.agc_machine.specs.declared.upcoming.Upcoming.TheVariants as upcoming
-use Rattle.agc_places.specs.declared.places.Places.{Places}
+use Rattle.agc_listing.specs.declared.location_range.LocationRange.{LocationRange}
 use Rattle.agc_trace.specs.Change.{changes_between, changes_since, is_changed, is_named, named_below, named_cells, seen_in}
 use Rattle.agc_trace.specs.Entry.{entry_of}
 use Rattle.agc_trace.specs.Passing.{is_met_by, is_passed}
@@ -44,7 +44,7 @@ neither a true c e f = cc
 neither a false c e f = never a c f
 
 -- a stop may change any cell
-away_goes : (several : List Places) (bank : ℕ) (u : Upcoming) → is_away several (touched_by bank u) ≡ true → is_stop u ≡ false
+away_goes : (several : List LocationRange) (bank : ℕ) (u : Upcoming) → is_away several (touched_by bank u) ≡ true → is_stop u ≡ false
 unfolding touched_by
 away_goes several bank (upcoming.Order order) e = refl
 away_goes several bank (upcoming.Timer t) e = refl
@@ -79,13 +79,13 @@ unchanged true true true false x e = refl
 unchanged true true true true x e = e
 
 module _ (w : Selection) where
-  -- what is passed over is no stop
+  -- what is passed over is not a stop
   goes_by : (b : Bool) (bank : ℕ) (u : Upcoming) →
       (if b then (not (is_stop u) && not (is_met_by w u)) else is_away w.cells.items (touched_by bank u)) ≡ true → is_stop u ≡ false
   goes_by true bank u e = not_true (is_stop u) (both (not (is_stop u)) (not (is_met_by w u)) e).0
   goes_by false bank u e = away_goes w.cells.items bank u e
 
-  -- the cells that are named have the words that they had
+  -- the watched cells keep their words
   seen_by : (b : Bool) (s : State) → (length w.cells.items == 0) ≡ b →
       (if b then (not (is_stop (upcoming_of s)) && not (is_met_by w (upcoming_of s))) else is_away w.cells.items (touched_by (erasable_bank s.processor.store.erasable) (upcoming_of s))) ≡ true →
       map (seen_in (boundary None s).0.processor.store) (named_cells w.cells.items) ≡ map (seen_in s.processor.store) (named_cells w.cells.items)
@@ -103,7 +103,7 @@ module _ (w : Selection) where
   nothing_changed s e =
       none_changed (boundary None s).0.processor.store (map (seen_in s.processor.store) (named_cells w.cells.items)) (none_touched w.cells.items s _ refl e)
 
-  -- it answers not all that is asked
+  -- it does not meet every condition
   unanswered : (b : Bool) (s : State) (entry : Entry) (changes : List Change) → (length w.cells.items == 0) ≡ b → entry.happening ≡ upcoming_of s →
       changes ≡ (watched_of (named_cells w.cells.items) s).changes →
       (if b then (not (is_stop (upcoming_of s)) && not (is_met_by w (upcoming_of s))) else is_away w.cells.items (touched_by (erasable_bank s.processor.store.erasable) (upcoming_of s))) ≡ true →
@@ -140,8 +140,8 @@ module _ (w : Selection) where
         ∙ ap (λ (xs : List Watched). selected w (watched_of cells s ∷ xs)) (watch_goes_on (is_stop (upcoming_of s)) (watch_of cells (boundary None s).0) stays)
         ∙ no_entry w (watched_of cells s) (watch_of cells (boundary None s).0) unselected)
 
-  -- The boundary is passed over, by what code has: what happens, the bank before it, and the state after it. What is still
-  -- to be told stays.
+  -- The boundary is passed over, in terms of the code: what happens, the bank before it, and the state after it. The
+  -- entries still to come are the same.
   pub passes : (s : State) (bank : ℕ) (u : Upcoming) → u ≡ upcoming_of s → bank ≡ erasable_bank s.processor.store.erasable → is_passed w bank u ≡ true →
       is_passed w (erasable_bank s.processor.store.erasable) (upcoming_of s) ≡ true
   passes s bank u e f h = ap (λ (v : Upcoming). is_passed w (erasable_bank s.processor.store.erasable) v) (sym e) ∙ ap (λ (n : ℕ). is_passed w n u) (sym f) ∙ h

@@ -1,4 +1,4 @@
--- Where no entry of a trace is selected: before the first cycle that is selected, and after the last one.
+-- When no entry of a trace is selected: before the first selected cycle, and after the last one.
 use Rattle.std.proofs.Common.{◌≡◌, ◌⊎◌, inl, inr, ℕ, ◌≤◌, ◌<◌, suc, zero, List, [], ◌∷◌, None, Bool, true, false, refl, ap, sym, ◌∙◌, subst, arith}
 use Rattle.std.specs.Prelude.{if◌then◌else◌, map, nat_le, ◌&&◌, ◌||◌}
 use Rattle.std.proofs.lemmas.Bool.Decides.{nat_tests}
@@ -76,11 +76,11 @@ module _ (w : Selection) where
         ∙ ap (λ (xs : List Watched). selected w (watched_of cells s ∷ xs)) (watch_goes_on (is_stop (upcoming_of s)) (watch_of cells (boundary None s).0) f)
         ∙ no_entry w (watched_of cells s) (watch_of cells (boundary None s).0) unseen)
 
-    -- a boundary that begins before the first cycle is not selected, and after a stop none is either
+    -- a boundary that begins before the first cycle is not selected, and none is after a stop
     no_early_entry : (s : State) → s.cycle < w.from → selected w (watch_of cells (boundary None s).0) ≡ selected w (watch_of cells s)
     no_early_entry s l = early_by (is_stop (upcoming_of s)) s refl l
 
--- What a boundary before a cycle leaves as it is, the way to that cycle does.
+-- What a boundary before a cycle leaves unchanged, the run to that cycle leaves unchanged.
 module _ {X : Type 0} (told : State → X) (from : ℕ) (stays : (s : State) → s.cycle < from → told (boundary None s).0 ≡ told s) where
   abbrev pub IsStillOf : State → State × Stepped → Type 0
   IsStillOf s r = told r.0 ≡ told s
@@ -106,12 +106,12 @@ module _ {X : Type 0} (told : State → X) (from : ℕ) (stays : (s : State) →
   unfolding next_before
   stays_before end s t answer l k e = subst (λ (r : State × Stepped). IsStillOf s r) (sym e) (way_within (boundaries_left s) end s l k)
 
--- on the way to the first cycle no entry is selected
+-- in the run to the first cycle no entry is selected
 pub no_entry_before : (w : Selection) (cells : List ℕ) (end : ℕ) (s t : State) (answer : Stepped) → end ≤ w.from → s.cycle < w.from → (t, answer) ≡ next_before end s →
     selected w (watch_of cells t) ≡ selected w (watch_of cells s)
 no_entry_before w cells = stays_before (λ (s : State). selected w (watch_of cells s)) w.from (no_early_entry w cells)
 
--- the way to a quiet boundary or a write leaves fewer boundaries
+-- running to a quiet boundary or a write leaves fewer boundaries
 pub fewer_on_way : (end : ℕ) (s t : State) (answer : Stepped) → (t, answer) ≡ next_before end s →
     (answer ≡ stepped.Quiet) ⊎ ((write : ChannelWrite) × (answer ≡ stepped.Wrote write)) → boundaries_left t < boundaries_left s
 fewer_on_way end s t stepped.Quiet e goes = fewer_after_way end s t e

@@ -1,4 +1,4 @@
--- The service that goes on at the stop, boundary by boundary.
+-- The service in progress at the stop, boundary by boundary.
 use Rattle.std.proofs.Common.{◌≡◌, ℕ, ◌≤◌, ◌<◌, List, [], ◌∷◌, Option, None, Bool, true, false, refl, ap, sym, ◌∙◌, arith}
 use Rattle.std.specs.Prelude.{if◌then◌else◌, nat_le}
 use Rattle.std.proofs.lemmas.Bool.Decides.{nat_tests}
@@ -25,14 +25,14 @@ module _ (w : Selection) where
   unfolding service_at_stop
   within before entry entries b c e f = rw (e, f) refl
 
-  -- past the range none is told of
+  -- past the range there is none
   pub none_past : (before : Option Service) (s : State) → w.to < s.cycle → service_at_stop w before (trace_of s) ≡ None
   none_past before s l =
       let long : nat_le s.cycle w.to ≡ false = grind (arith, nat_tests) in
       ap (λ (xs : List Entry). service_at_stop w before xs) (trace_by_entry s)
       ∙ within before (entry_of s) _ false (is_stop (entry_of s).happening) (ap (λ (c : ℕ). nat_le c w.to) (begins s) ∙ long) refl
 
-  -- at the stop what went on before it does
+  -- at the stop it is the one before it
   pub left_at_stop : (before : Option Service) (s : State) (entry : Entry) → entry ≡ entry_of s → s.cycle ≤ w.to → is_stop entry.happening ≡ true →
       service_at_stop w before (trace_of s) ≡ before
   left_at_stop before s entry e l f =
@@ -43,7 +43,7 @@ module _ (w : Selection) where
       ∙ ap (λ (x : Entry). service_at_stop w before (x ∷ (if is_stop (upcoming_of s) then [] else trace_of (boundary None s).0))) (sym e)
       ∙ within before entry _ true true short f
 
-  -- any other boundary leaves the rest of the trace to tell
+  -- any other boundary leaves the rest of the trace to decide
   pub left_after : (before : Option Service) (s t : State) (entry : Entry) → entry ≡ entry_of s → t ≡ (boundary None s).0 → s.cycle ≤ w.to →
       is_stop entry.happening ≡ false → service_at_stop w (service_after w before entry) (trace_of t) ≡ service_at_stop w before (trace_of s)
   left_after before s t entry e next l f =

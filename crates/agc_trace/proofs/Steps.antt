@@ -39,7 +39,7 @@ runs_by None s f e = f
 runs : (s : State) → is_stop (upcoming_of s) ≡ false → s.stopped ≡ None
 runs s e = runs_by s.stopped s refl e
 
--- a boundary that is no stop leaves fewer entries
+-- a boundary that is not a stop leaves fewer entries
 pub fewer_entries : (s : State) → is_stop (upcoming_of s) ≡ false → entries_left (boundary None s).0 < entries_left s
 fewer_entries s e = falls_fewer s (boundary None s) (runs s e) (boundary_falls s)
 
@@ -56,7 +56,7 @@ same_rest : (b : Bool) (entry : Entry) (xs ys : List Entry) → (b ≡ false →
 same_rest true entry xs ys h = refl
 same_rest false entry xs ys h = ap (λ (zs : List Entry). entry ∷ zs) (h refl)
 
--- with entries enough, more make no difference
+-- if the bound is large enough, a larger one makes no difference
 same_trace : (n m : ℕ) (s : State) → entries_left s ≤ n → entries_left s ≤ m → trace_within n s ≡ trace_within m s
 unfolding trace_within
 same_trace zero m s h k = absurd (omega (arith, some_entry s))
@@ -89,7 +89,7 @@ tells s = refl
 pub told_by : (b : Bool) (s : State) (entry : Entry) → entry ≡ entry_of s → is_stop entry.happening ≡ b → is_stop (upcoming_of s) ≡ b
 told_by b s entry e f = ap is_stop (sym (tells s) ∙ ap (λ (x : Entry). x.happening) (sym e)) ∙ f
 
--- a boundary that was told and is no stop leaves fewer entries
+-- a boundary that was taken and is not a stop leaves fewer entries
 pub fewer_after_entry : (s t : State) (entry : Entry) → entry ≡ entry_of s → t ≡ (boundary None s).0 → is_stop entry.happening ≡ false →
     entries_left t < entries_left s
 fewer_after_entry s t entry e f h =

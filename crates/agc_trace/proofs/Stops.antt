@@ -1,4 +1,4 @@
--- What a stop leaves, and how a trace ends with it.
+-- What a stop changes, and that a trace ends with it.
 use Rattle.std.proofs.Common.{◌≡◌, ℕ, ◌≤◌, suc, zero, List, [], ◌∷◌, Option, Some, None, Bool, true, false, refl, ap, sym, ◌∙◌, subst, arith}
 use Rattle.std.specs.Prelude.{if◌then◌else◌}
 use Rattle.agc_machine.specs.Boundary.{boundary, ComesAsTold, carried_out, upcoming_of}
@@ -19,7 +19,7 @@ use Rattle.agc_trace.specs.TraceLaws.{EndsWithStop, TellsStop}
 use Rattle.agc_trace.specs.declared.entry.Entry.{Entry}
 use Rattle.agc_trace.proofs.Steps.{fewer_entries, some_entry}
 
--- what is told is a stop, and the boundary leaves all as it is but for the stop
+-- the entry is a stop, and the boundary changes nothing but that
 pub record Stays (s : State) (told : Upcoming) (r : State × Stepped) : Type 0 where
   pub why : Stop
   pub happening : told ≡ upcoming.Stop why
@@ -43,7 +43,7 @@ stays_by None s told r o e c f = stop_done told s r (e ∙ c.comes o) f
 pub stop_stays : (s : State) → is_stop (upcoming_of s) ≡ true → Stays s (upcoming_of s) (boundary None s)
 stop_stays s f = stays_by s.stopped s (upcoming_of s) (boundary None s) refl refl (upcoming_comes s) f
 
--- a machine that has stopped tells its stop
+-- a stopped machine returns its stop
 pub stopped_tells : (s : State) (why : Stop) → s.stopped ≡ Some why → is_stop (upcoming_of s) ≡ true
 stopped_tells s why e = ap is_stop ((upcoming_comes s).stays why e)
 

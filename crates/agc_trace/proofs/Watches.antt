@@ -36,7 +36,7 @@ module _ (cells : List ℕ) where
   pub watched_by : (b : Bool) (s : State) (entry : Watched) → entry ≡ watched_of cells s → is_stop entry.entry.happening ≡ b → is_stop (upcoming_of s) ≡ b
   watched_by b s entry e f = told_by b s entry.entry (ap (λ (x : Watched). x.entry) e ∙ watches s) f
 
-  -- with entries enough, more make no difference
+  -- if the bound is large enough, a larger one makes no difference
   same_watch : (n m : ℕ) (s : State) → entries_left s ≤ n → entries_left s ≤ m → watch_within cells n s ≡ watch_within cells m s
   unfolding watch_within
   same_watch zero m s h k = absurd (omega (arith, some_entry s))

@@ -1,4 +1,4 @@
--- What a trace that is cut off has written.
+-- What a trace that was cut off has written.
 use Rattle.std.specs.Prelude.{◌≡◌, ℕ, List, ◌++◌, Option}
 use Rattle.std.specs.Io.KnownBytes.{Appends}
 use Rattle.agc_trace.specs.declared.tracing.TraceFault.{TraceFault}
@@ -11,7 +11,7 @@ pub record IsBegun (before after : Option (List ℕ)) (text : List ℕ) : Type 0
   pub appends : Appends before after written
   pub whole : written ++ left ≡ text
 
--- want of memory leaves a beginning of the lines; of a write that fails nothing is known
+-- out of memory: a beginning of the lines was written; a failed write: nothing is known
 abbrev pub IsCut : TraceFault → Option (List ℕ) → Option (List ℕ) → List ℕ → Type 0
 IsCut fault.Memory before after text = IsBegun before after text
 IsCut fault.Write before after text = Unit {0}

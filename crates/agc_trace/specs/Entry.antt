@@ -31,8 +31,7 @@ write_shown stepped.Quiet = None
 write_shown (stepped.Wrote write) = Some write
 write_shown (stepped.Stopped why) = None
 
--- the boundary that begins in a state: its cycle, what happens, and the write and the registers
--- that it leaves
+-- the boundary that begins in a state: its cycle, what happens, and the write and the registers after it
 unfoldable pub entry_of : State → Entry
 entry_of s =
     let done = boundary None s in
@@ -48,7 +47,7 @@ abbrev pub FitsWrite : Option ChannelWrite → Type 0
 FitsWrite (Some write) = write.channel < 0o1000
 FitsWrite None = Unit {0}
 
--- each number of an entry has its digits in the line
+-- each number of an entry fits its digits in the line
 pub record FitsLine (entry : Entry) : Type 0 where
   pub place : HasPlace entry.happening
   pub write : FitsWrite entry.write

@@ -10,3 +10,4 @@ pub mod Service
 pub mod Cut
 pub mod TraceLaws
 pub mod Passing
+pub mod StateLines

@@ -1,4 +1,4 @@
--- An entry of the trace as a line.
+-- How an entry of the trace is printed as a line.
 use Rattle.std.specs.Prelude.{ℕ, nat_lt, if◌then◌else◌}
 use Rattle.std.specs.Prelude.{List, [], ◌++◌, codes, Option, Some, None}
 use Rattle.std.specs.Fmt.{decimal}
@@ -12,10 +12,10 @@ use Rattle.agc_script.specs.Written.{what_text}
 use Rattle.agc_machine.specs.Answer.{stop_name}
 use Rattle.agc_machine.specs.declared.upcoming.Upcoming.{Upcoming}
 use Rattle.agc_machine.specs.declared.upcoming.Upcoming.TheVariants as upcoming
-use Rattle.agc_rope_listing.specs.Order.{order_text}
-use Rattle.agc_rope_listing.specs.Place.{place_text}
-use Rattle.agc_rope_listing.specs.declared.place.Place.{Place}
-use Rattle.agc_rope_listing.specs.declared.place.Place.TheVariants as place
+use Rattle.agc_listing.specs.Order.{order_text}
+use Rattle.agc_listing.specs.Place.{place_text}
+use Rattle.agc_listing.specs.declared.place.Place.{Place}
+use Rattle.agc_listing.specs.declared.place.Place.TheVariants as place
 use Rattle.agc_trace.specs.declared.entry.Entry.{Entry}
 use Rattle.agc_trace.specs.declared.entry.Registers.{Registers}
 
@@ -37,7 +37,7 @@ happening_text (upcoming.Order order) =
     place_text (order_place order.bank order.address) ++ codes " " ++ word_digits order.word
     ++ codes " " ++ order_text order.extracode order.word
 
--- a channel write, where there is one
+-- a channel write, if there is one
 abbrev pub shown_text : Option ChannelWrite → List ℕ
 shown_text (Some write) =
     codes " > " ++ octal_digits 3 write.channel ++ codes " " ++ word_digits write.value

@@ -1,5 +1,5 @@
--- Which boundaries of a run have a line: those that begin in a range of cycles, all of them or
--- those that answer each question that is asked, and the stop; of these the last so many, or all.
+-- Which boundaries of a run have a line: those that begin in a range of cycles and meet every
+-- condition, and the stop; of these all, or only the last ones.
 use Rattle.std.specs.Prelude.{ℕ, ◌+◌, ◌-◌, ◌%◌, ◌==◌, ◌&&◌, ◌||◌, not, Bool, true, false, nat_le}
 use Rattle.std.specs.Prelude.{List, drop, length, filter, flat_map, string_bytes}
 use Rattle.std.specs.Prelude.{Option, Some, None, is_some, if◌then◌else◌}
@@ -12,26 +12,26 @@ use Rattle.agc_order.specs.declared.order.Basic.{Basic}
 use Rattle.agc_order.specs.declared.order.Basic.TheVariants as basic
 use Rattle.agc_order.specs.declared.order.Extracode.{Extracode}
 use Rattle.agc_order.specs.declared.order.Extracode.TheVariants as extra
-use Rattle.agc_source_words.specs.Location.{location_at}
+use Rattle.agc_listing.specs.Location.{location_at}
 use Rattle.agc_machine.specs.State.{State}
 use Rattle.agc_machine.specs.declared.upcoming.InHand.{InHand}
 use Rattle.agc_machine.specs.declared.upcoming.Upcoming.{Upcoming}
 use Rattle.agc_machine.specs.declared.upcoming.Upcoming.TheVariants as upcoming
-use Rattle.agc_names.specs.Names.{Named}
+use Rattle.agc_symbols.specs.Symbols.{Symbol}
 use Rattle.agc_trace.specs.Change.{named_cells}
 use Rattle.agc_trace.specs.NamedLine.{watched_line}
-use Rattle.agc_places.specs.Places.{has_place}
+use Rattle.agc_listing.specs.Ranges.{has_place}
 use Rattle.agc_trace.specs.Trace.{is_stop}
 use Rattle.agc_trace.specs.Watch.{Watched, watch_of}
 use Rattle.agc_trace.specs.declared.change.Change.{Change}
 use Rattle.agc_trace.specs.declared.entry.Entry.{Entry}
 use Rattle.agc_trace.specs.declared.entry.Registers.{Registers}
-use Rattle.agc_places.specs.declared.places.Places.{Places}
+use Rattle.agc_listing.specs.declared.location_range.LocationRange.{LocationRange}
 use Rattle.agc_trace.specs.declared.selection.Only.{Only}
 use Rattle.agc_trace.specs.declared.selection.Only.TheVariants as only
 use Rattle.agc_trace.specs.declared.selection.Selection.{Selection}
 
--- RESUME, with which the service of an interrupt ends
+-- RESUME, which ends the service of an interrupt
 abbrev pub is_resume : Basic → Bool
 is_resume basic.Resume = true
 is_resume _ = false
@@ -47,11 +47,11 @@ is_interrupt (upcoming.Stop why) = false
 is_interrupt (upcoming.Event what) = false
 is_interrupt (upcoming.Timer t) = false
 
--- the order in hand stands one before Z
+-- the order in hand is at one before Z
 abbrev pub hand_before : ℕ → ℕ
 hand_before z = (z + 0o7777) % 0o10000
 
--- an order after which another one is in hand than the one at the next address
+-- an order that is not followed by the order at the next address
 abbrev pub is_jump : Upcoming → Registers → Bool
 is_jump (upcoming.Order order) after =
     not (hand_before after.z == (order.address + 1) % 0o10000)
@@ -66,13 +66,13 @@ is_of_kind only.Writes entry = is_some entry.write
 is_of_kind only.Interrupts entry = is_interrupt entry.happening
 is_of_kind only.Jumps entry = is_jump entry.happening entry.registers
 
--- where no kind is asked for, any will do
+-- without a kind, any entry
 abbrev pub is_of_kinds : Option Only → Entry → Bool
 is_of_kinds None entry = true
 is_of_kinds (Some kind) entry = is_of_kind kind entry
 
--- an order that stands at one of these places
-abbrev pub runs_at : Places → Upcoming → Bool
+-- an order at one of these places
+abbrev pub runs_at : LocationRange → Upcoming → Bool
 runs_at places (upcoming.Order order) = has_place places (location_at order.bank order.address)
 runs_at places (upcoming.Stop why) = false
 runs_at places (upcoming.Event what) = false
@@ -94,7 +94,7 @@ is_called name (upcoming.Event what) = false
 is_called name (upcoming.Timer t) = false
 is_called name (upcoming.Interrupt r) = false
 
--- READ, WRITE, RAND, WAND, ROR, WOR and RXOR, the orders that read or write a channel
+-- READ, WRITE, RAND, WAND, ROR, WOR and RXOR: the orders that read or write a channel
 abbrev pub is_channel_order : Extracode → Bool
 is_channel_order extra.Read = true
 is_channel_order extra.Write = true
@@ -115,15 +115,15 @@ touches channel (upcoming.Event what) = false
 touches channel (upcoming.Timer t) = false
 touches channel (upcoming.Interrupt r) = false
 
--- what one of several asks for; where none is said, anything will do
+-- one of several conditions is met; without any, everything is
 abbrev pub is_asked : {A : Type 0} → (A → Bool) → List A → Bool
 is_asked test several = (length several == 0) || list_any test several
 
--- a boundary that changes one of the cells that are named; where none is, any will do
-abbrev pub changes_one : List Places → List Change → Bool
+-- a boundary that changes a watched cell; without watched cells, any
+abbrev pub changes_one : List LocationRange → List Change → Bool
 changes_one cells changes = (length cells == 0) || not (length changes == 0)
 
--- an entry that answers every question
+-- an entry that meets every condition
 abbrev pub is_answer : Selection → Entry → List Change → Bool
 is_answer s entry changes =
     is_of_kinds s.only entry && is_asked (λ places. runs_at places entry.happening) s.places.items
@@ -131,37 +131,38 @@ is_answer s entry changes =
     && is_asked (λ channel. touches channel entry.happening) s.channels.items
     && changes_one s.cells.items changes
 
--- an entry whose boundary begins at a cycle of a range
+-- an entry whose boundary begins in the range of cycles
 abbrev pub is_between : ℕ → ℕ → Entry → Bool
 is_between from to entry = nat_le from entry.cycle && nat_le entry.cycle to
 
--- in the range the answers have a line, and the stop, which says why nothing more comes
+-- in the range, the entries that meet every condition have a line, and so has the stop, which says
+-- why nothing follows
 unfoldable pub is_selected : Selection → Watched → Bool
 is_selected s watched =
     is_between s.from s.to watched.entry
     && (is_stop watched.entry.happening || is_answer s watched.entry watched.changes)
 
--- a run's entries, with what each boundary changes of the cells that are named
+-- a run's entries, with the changes of watched cells at each boundary
 abbrev pub watch_for : Selection → State → List Watched
 watch_for s start = watch_of (named_cells s.cells.items) start
 
--- the entries that are selected
+-- the selected entries
 unfoldable pub selected : Selection → List Watched → List Watched
 selected s entries = filter (is_selected s) entries
 
--- the last so many of several, or all where there are no more
+-- the last `most` of a list, or all if it is shorter
 abbrev pub last_of : {A : Type 0} → ℕ → List A → List A
 last_of most several = drop (length several - most) several
 
--- the last so many, where a number is said
+-- the last ones, if a number is selected
 abbrev pub kept : Option ℕ → List Watched → List Watched
 kept None entries = entries
 kept (Some most) entries = last_of most entries
 
--- the lines of entries, with names where there are any
-unfoldable pub lines_of : Option (List Named) → List Watched → List ℕ
+-- the lines of entries, with symbols if there are any
+unfoldable pub lines_of : Option (List Symbol) → List Watched → List ℕ
 lines_of names entries = flat_map (watched_line names) entries
 
--- the lines of the entries that are selected, or of the last so many of them
-unfoldable pub selected_lines : Option (List Named) → Selection → List Watched → List ℕ
+-- the lines of the selected entries, or of the last of them
+unfoldable pub selected_lines : Option (List Symbol) → Selection → List Watched → List ℕ
 selected_lines names s entries = lines_of names (kept s.last (selected s entries))

@@ -1,4 +1,4 @@
--- The trace: an entry for each boundary of the chain without live keys, up to the stop.
+-- The trace: an entry for each boundary up to the stop, of the chain without live keys.
 use Rattle.std.specs.Prelude.{ℕ, zero, suc, ◌+◌, Bool, true, false, if◌then◌else◌}
 use Rattle.std.specs.Prelude.{List, [], ◌∷◌, Option, Some, None}
 use Rattle.agc_machine.specs.Boundary.{boundary, upcoming_of}
@@ -18,14 +18,14 @@ is_stop (upcoming.Timer t) = false
 is_stop (upcoming.Interrupt r) = false
 is_stop (upcoming.Order order) = false
 
--- the entries of so many boundaries, of which there are enough
+-- the entries of at most this many boundaries; the bound must be large enough
 unfoldable pub trace_within : ℕ → State → List Entry
 trace_within zero s = []
 trace_within (suc more) s =
     entry_of s ∷ (if is_stop (upcoming_of s) then [] else trace_within more (boundary None s).0)
 
--- No trace has more entries than this: a machine that has stopped has its stop to tell, and any
--- other one boundary more than it may have left.
+-- No trace has more entries than this: a stopped machine has its stop, and any other one more
+-- boundary than it may have left.
 abbrev pub entries_unless : Option Stop → State → ℕ
 entries_unless (Some why) s = 1
 entries_unless None s = boundaries_left s + 1

@@ -1,4 +1,4 @@
--- What holds of every trace: it never goes back in time, and it ends with the run's stop.
+-- What holds for every trace: it never goes back in time, and it ends with the run's stop.
 use Rattle.std.specs.Prelude.{◌≡◌, ℕ, ◌≤◌, false, List, [], ◌∷◌, Some, None}
 use Rattle.agc_machine.specs.State.{State}
 use Rattle.agc_machine.specs.declared.answer.Stop.{Stop}
@@ -7,13 +7,13 @@ use Rattle.agc_trace.specs.Entry.{registers_of}
 use Rattle.agc_trace.specs.Trace.{is_stop}
 use Rattle.agc_trace.specs.declared.entry.Entry.{Entry}
 
--- the entries from a cycle on: none begins before the one before it
+-- the entries from a cycle on: none begins before its predecessor
 abbrev pub NeverGoBack : ℕ → List Entry → Type 0
 NeverGoBack from [] = Unit {0}
 NeverGoBack from (entry ∷ entries) = (from ≤ entry.cycle) × NeverGoBack entry.cycle entries
 
--- an entry tells the stop of a run that has come to this state: its reason, at the state's cycle,
--- with the registers that the run leaves
+-- an entry is the stop of a run that has come to this state: its reason, at the state's cycle, with
+-- the registers that the run leaves
 pub record TellsStop (last : State) (entry : Entry) : Type 0 where
   pub why : Stop
   pub stopped : last.stopped ≡ Some why
@@ -22,7 +22,7 @@ pub record TellsStop (last : State) (entry : Entry) : Type 0 where
   pub write : entry.write ≡ None
   pub registers : entry.registers ≡ registers_of last.processor.store
 
--- the last entry tells the stop of this state, and no entry before it is a stop
+-- the last entry is the stop of this state, and no entry before it is a stop
 abbrev pub EndsWithStop : State → List Entry → Type 0
 EndsWithStop last [] = ⊥
 EndsWithStop last (entry ∷ []) = TellsStop last entry

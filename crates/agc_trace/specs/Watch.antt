@@ -1,4 +1,4 @@
--- The watch of a run: its trace, with what each boundary changes of some cells.
+-- The watch of a run: its trace, with the changes of some cells at each boundary.
 use Rattle.std.specs.Prelude.{ℕ, zero, suc, List, [], ◌∷◌, None, if◌then◌else◌}
 use Rattle.agc_machine.specs.Boundary.{boundary, upcoming_of}
 use Rattle.agc_machine.specs.State.{State}
@@ -8,12 +8,12 @@ use Rattle.agc_trace.specs.Trace.{entries_left, is_stop}
 use Rattle.agc_trace.specs.declared.change.Change.{Change}
 use Rattle.agc_trace.specs.declared.entry.Entry.{Entry}
 
--- a boundary, and what it changes of the cells that are watched
+-- a boundary, and its changes of the watched cells
 pub record Watched : Type 0 where
   pub entry : Entry
   pub changes : List Change
 
--- the boundary that begins in a state: the state before it and the one after tell what it changes
+-- the boundary that begins in a state: its changes follow from the states before and after it
 unfoldable pub watched_of : List ℕ → State → Watched
 watched_of cells s =
     record {
@@ -21,7 +21,7 @@ watched_of cells s =
       changes = changes_between cells s.processor.store (boundary None s).0.processor.store;
     }
 
--- those of so many boundaries, of which there are enough
+-- those of at most this many boundaries; the bound must be large enough
 unfoldable pub watch_within : List ℕ → ℕ → State → List Watched
 watch_within cells zero s = []
 watch_within cells (suc more) s =
@@ -32,6 +32,6 @@ watch_within cells (suc more) s =
 unfoldable pub watch_of : List ℕ → State → List Watched
 watch_of cells s = watch_within cells (entries_left s) s
 
--- each number of the entry has its digits in the line
+-- each number of the entry fits its digits in the line
 abbrev pub FitsWatched : Watched → Type 0
 FitsWatched watched = FitsLine watched.entry

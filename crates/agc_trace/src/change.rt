@@ -1,4 +1,4 @@
-//! What a boundary changes of the cells that a question to a trace names: they are looked at after each that may change one.
+//! Finds what a boundary changes in the watched cells, which are read again after each boundary that may change one.
 ghost use Rattle.std.specs.Prelude.{◌≡◌, [], ◌∷◌, ◌++◌, IfOk, IsTrue, None, OnOk, false, if◌then◌else◌, map, not, string_bytes};
 ghost use Rattle.std.specs.List.{list_any};
 ghost use Rattle.agc_machine.specs.Boundary.{boundary};
@@ -18,16 +18,14 @@ ghost use Rattle.agc_trace.specs.Watch.{watched_of};
 use crate::entry::{Entry, next_entry};
 use crate::selection::Selection;
 use crate::touched::is_away;
+use agc_listing::{Cell, Location, LocationRange, is_same_word, push_cell_word, push_place};
 use agc_machine::Machine;
-use agc_places::{Cell, Places, is_same_word, push_cell_word};
-use agc_rope_listing::push_place;
-use agc_source_words::Location;
 use agc_store::Store;
 use agc_store::place::ERASABLE_CELLS;
 use agc_word::Wide;
 use std::alloc::{AllocError, Global};
 
-/// A cell that has another word after a boundary than before.
+/// A cell whose word differs before and after a boundary.
 #[derive(Clone, Copy, Debug, PartialEq, Eq)]
 pub struct Change {
     pub cell: Cell,
@@ -37,18 +35,18 @@ pub struct Change {
     pub new: Wide,
 }
 
-/// A cell with the word that it had where it was looked at.
+/// A cell with its word when it was last read.
 #[derive(Clone, Copy, Debug, PartialEq, Eq)]
 pub(crate) struct Seen {
     cell: Cell,
     word: Wide,
 }
 
-/// The cells that are named, each once and in the order of their numbers, with their words.
+/// Reads the watched cells, each once and in the order of their numbers.
 #[tactic(auto, unfolding(crate::specs::Change::named_cells))]
 pub(crate) fn see_named(
     alloc: Global,
-    several: &[Places],
+    several: &[LocationRange],
     store: &Store,
 ) -> Result<Vec<Seen>, AllocError>
     ensures { IfOk result (λ seen. seen.items ≡ map (seen_in store.now) (named_cells several.now)) }
@@ -61,7 +59,7 @@ pub(crate) fn see_named(
     Ok(seen)
 }
 
-/// Adds a cell, where it is named.
+/// Adds a cell if it is watched.
 fn push_where(seen: &mut Vec<Seen>, is_named: bool, cell: Seen) -> Result<(), AllocError>
     ensures { OnOk result
         (seen.new.items ≡ seen.old.items ++ (if is_named then cell ∷ [] else [])) }
@@ -72,15 +70,15 @@ fn push_where(seen: &mut Vec<Seen>, is_named: bool, cell: Seen) -> Result<(), Al
     Ok(())
 }
 
-/// One of several stretches of places has this cell.
-pub(crate) fn is_named(several: &[Places], number: u16) -> bool
+/// Returns whether one of several ranges contains this cell.
+pub(crate) fn is_named(several: &[LocationRange], number: u16) -> bool
     ensures { result ≡ is_named several.now number }
 {
     let cell = Location::Erasable(u32::from(number));
     several.iter().any(|places| places.has(cell))
 }
 
-/// A cell with the word that it has.
+/// Reads a cell.
 fn see(cell: Cell, store: &Store) -> Seen
     ensures { result ≡ seen_in store.now cell }
 {
@@ -90,9 +88,8 @@ fn see(cell: Cell, store: &Store) -> Seen
     }
 }
 
-/// Takes one boundary of a machine, tells it, and what it has changed of the cells that are named, which were seen
-/// before it: they are looked at again where it may have changed one of them. Where none are named, that costs next to
-/// nothing.
+/// Steps a machine over one boundary, and returns its entry and what it changed in the watched cells, which were read
+/// before it. They are read again only if it may have changed one. Without watched cells this costs next to nothing.
 #[inline]
 pub(crate) fn next_watched(
     alloc: Global,
@@ -118,8 +115,8 @@ pub(crate) fn next_watched(
     Ok(entry)
 }
 
-/// Looks at cells again after a boundary, unless it is known to leave them as they are: what it has changed of them is
-/// told, and they are kept with the words that they have now.
+/// Reads the cells again after a boundary, unless it is known not to change them. Sets the changes, and keeps the cells
+/// with their new words.
 #[inline]
 fn look(
     alloc: Global,
@@ -142,7 +139,7 @@ fn look(
     Ok(())
 }
 
-/// None of the cells has another word now: they are known to be as they were, or looked at.
+/// Returns whether no cell has changed: either that is known, or the cells are read.
 #[inline]
 fn are_same(stays: bool, seen: &[Seen], store: &Store) -> bool
     requires { IsTrue stays → list_any (λ s. is_changed store.now s) seen.now ≡ false }
@@ -151,7 +148,7 @@ fn are_same(stays: bool, seen: &[Seen], store: &Store) -> bool
     stays || !has_changed(seen, store)
 }
 
-/// One of the cells has another word now.
+/// Returns whether a cell has changed.
 #[inline]
 fn has_changed(seen: &[Seen], store: &Store) -> bool
     ensures { result ≡ list_any (λ s. is_changed store.now s) seen.now }
@@ -159,14 +156,14 @@ fn has_changed(seen: &[Seen], store: &Store) -> bool
     seen.iter().any(|cell| is_changed(*cell, store))
 }
 
-/// A cell that was seen has another word now.
+/// Returns whether this cell has changed.
 fn is_changed(seen: Seen, store: &Store) -> bool
     ensures { result ≡ is_changed store.now seen }
 {
     !is_same_word(seen.word, seen.cell.word(store))
 }
 
-/// What has changed of the cells.
+/// Returns the changes of the cells.
 fn changes_since(alloc: Global, seen: &[Seen], store: &Store) -> Result<Vec<Change>, AllocError>
     ensures { IfOk result (λ changes. changes.items ≡ changes_since seen.now store.now) }
 {
@@ -186,14 +183,14 @@ fn change_of(seen: Seen, store: &Store) -> Change
     }
 }
 
-/// The cells with the words that they have now.
+/// Returns the cells with their present words.
 fn see_again(alloc: Global, seen: &[Seen], store: &Store) -> Result<Vec<Seen>, AllocError>
     ensures { IfOk result (λ again. again.items ≡ map (λ s. seen_in store.now s.cell) seen.now) }
 {
     seen.iter().map(|cell| see(cell.cell, store)).collect(alloc)
 }
 
-/// Adds what has changed: ` | PLACE WORD to WORD` for each cell.
+/// Appends the changes: ` | PLACE WORD to WORD` for each cell.
 #[tactic(auto, unfolding(crate::specs::Change::changes_text))]
 pub(crate) fn push_changes(text: &mut String, changes: &[Change]) -> Result<(), AllocError>
     ensures { OnOk result

@@ -1,4 +1,4 @@
-//! One boundary of a run as a value: what happened, and the write and the registers that it left.
+//! One boundary of a run as a value: what happened, and the channel write and the registers after it.
 ghost use Rattle.std.specs.Prelude.{◌≡◌, ◌<◌, None};
 ghost use Rattle.agc_machine.specs.Boundary.{boundary};
 ghost use Rattle.agc_trace.specs.Entry.{FitsLine, entry_of, registers_of, write_shown};
@@ -20,7 +20,7 @@ pub struct Registers {
     pub z: Addr,
     /// The bank in EB, 0 to 7.
     pub erasable_bank: u8,
-    /// The bank in FB, 0 to 37 octal, whatever the superbank does.
+    /// The bank in FB, 0 to 37 octal, whatever the superbank is.
     pub fixed_bank: u8,
 }
 
@@ -41,7 +41,7 @@ impl Entry {
     ghost use Rattle.std.specs.Prelude.{◌≡◌};
     ghost use Rattle.agc_trace.specs.Trace.{is_stop};
 
-    /// The boundary is the stop.
+    /// Returns whether the boundary is the stop.
     pub fn is_stop(&self) -> bool
         ensures { result ≡ is_stop self.now.happening }
     {
@@ -49,7 +49,7 @@ impl Entry {
     }
 }
 
-/// Takes one boundary of a machine, and tells it.
+/// Steps a machine over one boundary, and returns its entry.
 #[tactic(auto, unfolding(crate::specs::Entry::entry_of))]
 pub fn next_entry(machine: &mut Machine) -> Entry
     ensures entry { result ≡ entry_of machine.old }
@@ -67,7 +67,7 @@ pub fn next_entry(machine: &mut Machine) -> Entry
     }
 }
 
-/// The write that a boundary showed.
+/// Returns the write that a boundary showed.
 pub fn write_shown(stepped: Stepped) -> Option<ChannelWrite>
     ensures { result ≡ write_shown stepped }
 {
@@ -77,7 +77,7 @@ pub fn write_shown(stepped: Stepped) -> Option<ChannelWrite>
     }
 }
 
-/// The registers of a memory.
+/// Returns the registers in a memory.
 #[tactic(auto, unfolding(crate::specs::Entry::registers_of))]
 pub fn registers_in(store: &Store) -> Registers
     ensures registers { result ≡ registers_of store.now }

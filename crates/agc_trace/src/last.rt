@@ -1,4 +1,4 @@
-//! The last lines of a trace: so many entries are kept, and written where the run has come to its end.
+//! Writes the last lines of a trace: keeps a number of entries, and writes them when the run has ended.
 ghost use Rattle.std.specs.Prelude.{◌≡◌, ◌≤◌, [], ◌∷◌, ◌++◌, All, IfErr, IfOk, OnOk, if◌then◌else◌, length};
 ghost use Rattle.std.specs.Io.KnownBytes.{Appends};
 ghost use Rattle.agc_trace.specs.Cut.{IsCut};
@@ -14,15 +14,15 @@ use crate::passing::pass_unasked;
 use crate::selection::Selection;
 use crate::service::{Service, service_after};
 use crate::tracing::{TraceFault, write_line};
+use agc_io::{Progress, report_at};
 use agc_machine::Machine;
-use agc_names::NameTable;
-use agc_progress::{Progress, tell_at};
+use agc_symbols::SymbolTable;
 use std::alloc::Global;
 use std::collections::VecDeque;
 use std::io::Write;
 use std::marker::Model;
 
-/// An entry that is kept, with what its boundary has changed of the cells that are named.
+/// A kept entry, with what its boundary changed in the watched cells.
 #[derive(Drop)]
 struct Kept {
     entry: Entry,
@@ -37,13 +37,13 @@ impl Model for Kept {
     ghost view = { λ k. record { entry = k.entry; changes = k.changes.items } };
 }
 
-/// Runs a machine to its stop, or past the last cycle that is selected, and writes the lines of the last
-/// selected entries, at most so many. Memory holds no more of them.
+/// Runs a machine to its stop, or past the last selected cycle, and writes the lines of the last
+/// `most` selected entries. No more entries than that are kept in memory.
 pub(crate) fn write_last<W: Write, P: Progress>(
     alloc: Global,
     machine: &mut Machine,
     selection: &Selection,
-    names: &Option<NameTable>,
+    names: &Option<SymbolTable>,
     most: u64,
     out: &mut W,
     progress: &mut P,
@@ -60,7 +60,7 @@ pub(crate) fn write_last<W: Write, P: Progress>(
     Ok(service)
 }
 
-/// Runs a machine to its stop, or past the last cycle that is selected, and keeps the last selected entries.
+/// Runs a machine to its stop, or past the last selected cycle, and keeps the last selected entries.
 fn keep_last<P: Progress>(
     alloc: Global,
     machine: &mut Machine,
@@ -87,13 +87,13 @@ fn keep_last<P: Progress>(
             return Ok(service);
         }
         service = service_after(selection, service, &entry);
-        mark = tell_at(mark, entry.cycle, progress);
+        mark = report_at(mark, entry.cycle, progress);
         service = pass_unasked(machine, selection, service, &mut mark, progress);
     }
     Ok(None)
 }
 
-/// Keeps an entry with its changes as the last one, where it is selected.
+/// Keeps an entry with its changes as the last one, if it is selected.
 #[tactic(auto, unfolding(crate::specs::Selection::selected))]
 fn keep_selected(
     alloc: Global,
@@ -103,7 +103,7 @@ fn keep_selected(
     entry: &Entry,
     changes: &[Change],
 ) -> Result<(), TraceFault>
-    requires few { length last.old.items ≤ most }
+    requires bound { length last.old.items ≤ most }
     requires fits { All FitsWatched last.old.items }
     requires digits { FitsLine entry.now }
     ensures kept { OnOk result (last.new.items ≡ last_of most (last.old.items
@@ -119,7 +119,7 @@ fn keep_selected(
     push_last(last, most, Kept { entry, changes })
 }
 
-/// Puts a value after the last ones, and lets the first of these go where there are too many.
+/// Appends a value, and drops the first one if there are more than `most`.
 fn push_last<T: Drop>(last: &mut VecDeque<T>, most: u64, value: T) -> Result<(), TraceFault>
     requires { length last.old.items ≤ most }
     ensures kept { OnOk result (last.new.items ≡ last_of most (last.old.items ++ value ∷ [])) }
@@ -134,10 +134,10 @@ fn push_last<T: Drop>(last: &mut VecDeque<T>, most: u64, value: T) -> Result<(),
     Ok(())
 }
 
-/// Writes the lines of the entries that are kept.
+/// Writes the lines of the kept entries.
 fn write_kept<W: Write>(
     alloc: Global,
-    names: &Option<NameTable>,
+    names: &Option<SymbolTable>,
     last: &mut VecDeque<Kept>,
     out: &mut W,
 ) -> Result<(), TraceFault>

@@ -1,4 +1,4 @@
-//! Laws of every trace, each the contract of a function that does nothing.
+//! Laws of every trace, each the contract of a function with an empty body.
 ghost use Rattle.std.specs.Prelude.{◌≡◌, ℕ, ◌<◌, List, length, map, slice_get, Some};
 ghost use Rattle.agc_machine.specs.Laws.{after};
 ghost use Rattle.agc_machine.specs.Run.{run_of};
@@ -8,24 +8,24 @@ ghost use Rattle.agc_trace.specs.Trace.{trace_of};
 ghost use Rattle.agc_trace.specs.TraceLaws.{EndsWithStop, NeverGoBack};
 ghost use Rattle.agc_trace.specs.Watch.{watch_of};
 
-/// An entry of a trace, counted from 0, tells the boundary that comes after so many others.
+/// Entry n of a trace, counted from 0, is the boundary that comes after n others.
 pub fn an_entry_tells_its_boundary()
     ensures { (n : ℕ) (s : State) → n < length (trace_of s)
         → slice_get (trace_of s) n ≡ Some (entry_of (after n s)) }
 {}
 
-/// A trace ends with the stop of the run: it tells why the run stopped, at which cycle, and the
-/// registers that it leaves. No entry before it is a stop.
+/// A trace ends with the stop of the run: its last entry has the reason, the cycle, and the
+/// registers that the run leaves. No entry before it is a stop.
 pub fn a_trace_ends_with_the_stop()
     ensures { (s : State) → EndsWithStop (run_of s).last (trace_of s) }
 {}
 
-/// No entry of a trace is before the one before it, and none before the state's own cycle.
+/// No entry of a trace is earlier than the one before it, nor than the state's own cycle.
 pub fn a_trace_never_goes_back()
     ensures { (s : State) → NeverGoBack s.cycle (trace_of s) }
 {}
 
-/// The entries of a watch are those of the trace, each once and in its order, whatever cells are watched.
+/// The entries of a watch are those of the trace, each once and in order, whatever cells are watched.
 pub fn a_watch_tells_the_trace()
     ensures { (cells : List ℕ) (s : State) → map (λ watched. watched.entry) (watch_of cells s) ≡ trace_of s }
 {}

@@ -1,4 +1,4 @@
-//! The trace of a run: what each boundary did, as values and as lines.
+//! Traces: what each boundary of a run did, as values and as lines.
 #![tactic(auto)]
 
 mod change;
@@ -11,6 +11,7 @@ mod passing;
 mod selection;
 mod service;
 mod span;
+mod state_lines;
 mod touched;
 mod tracing;
 
@@ -21,4 +22,5 @@ pub use named_line::{push_line_with, push_named_happening};
 pub use selection::{Only, Selection};
 pub use service::Service;
 pub use span::Span;
+pub use state_lines::{push_next_line, push_next_line_with, push_registers_line};
 pub use tracing::{TraceFault, trace};

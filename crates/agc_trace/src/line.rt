@@ -1,8 +1,8 @@
-//! An entry of the trace as a line.
+//! Prints an entry of the trace as a line.
 ghost use Rattle.std.specs.Prelude.{◌≡◌, ◌++◌, ◌<◌, OnOk, codes, string_bytes};
 ghost use Rattle.agc_store.specs.Places.{fixed_window};
 ghost use Rattle.agc_machine.specs.Boundary.{HasPlace};
-ghost use Rattle.agc_rope_listing.specs.Place.{IsInPrint};
+ghost use Rattle.agc_listing.specs.Place.{IsInPrint};
 ghost use Rattle.agc_trace.specs.Entry.{FitsLine, FitsWrite};
 ghost use Rattle.agc_word.specs.Octal.{word_digits};
 ghost use Rattle.agc_trace.specs.Line.{
@@ -15,17 +15,17 @@ ghost use Rattle.agc_trace.specs.Line.{
 };
 
 use crate::entry::{Entry, Registers};
+use agc_listing::{Place, push_order, push_place};
 use agc_machine::{InHand, Upcoming};
-use agc_rope_listing::{Place, push_order, push_place};
 use agc_script::push_what;
 use agc_store::Addr;
 use agc_store::place::{ERASABLE_WINDOW, FIXED_FIXED, FIXED_WINDOW};
 use agc_word::{ChannelWrite, Narrow};
 use std::alloc::AllocError;
 
-/// Adds the line of an entry: `CYCLE PLACE WORD ORDER operand | A .. FB ff`, with ` > ccc vvvvv`
-/// before the bar for a channel write, and `- event ..`, `- timer ..`, `- interrupt ..` or
-/// `- stop ..` where no order ran. Fails where memory runs out.
+/// Appends the line of an entry: `CYCLE PLACE WORD ORDER operand | A .. FB ff`, with ` > ccc vvvvv`
+/// before the bar for a channel write, and `- event ..`, `- timer ..`, `- interrupt ..` or `- stop
+/// ..` if no order ran. Fails if out of memory.
 #[tactic(auto, unfolding(crate::specs::Line::line_of))]
 pub fn push_line(text: &mut String, entry: &Entry) -> Result<(), AllocError>
     requires { FitsLine entry.now }
@@ -35,7 +35,7 @@ pub fn push_line(text: &mut String, entry: &Entry) -> Result<(), AllocError>
     text.push_str("\n")
 }
 
-/// Adds an entry without the end of its line.
+/// Appends an entry without the end of its line.
 #[tactic(auto, unfolding(crate::specs::Line::entry_text))]
 pub(crate) fn push_entry(text: &mut String, entry: &Entry) -> Result<(), AllocError>
     requires { FitsLine entry.now }
@@ -49,8 +49,8 @@ pub(crate) fn push_entry(text: &mut String, entry: &Entry) -> Result<(), AllocEr
     push_registers(text, entry.registers)
 }
 
-/// Adds what happened, or will: an order with its place and its word, or after a dash anything else. Fails
-/// where memory runs out.
+/// Appends what happened, or will happen: an order with its place and its word, or anything else after a dash. Fails if
+/// out of memory.
 #[tactic(auto, unfolding(crate::specs::Line::happening_text))]
 pub fn push_happening(text: &mut String, happening: Upcoming) -> Result<(), AllocError>
     requires { HasPlace happening }
@@ -78,7 +78,7 @@ pub fn push_happening(text: &mut String, happening: Upcoming) -> Result<(), Allo
     }
 }
 
-/// Adds an order with its place and its word.
+/// Appends an order with its place and its word.
 #[tactic(auto, unfolding(crate::specs::Line::happening_text))]
 fn push_in_hand(text: &mut String, order: InHand) -> Result<(), AllocError>
     requires { HasPlace (Upcoming.Order order) }
@@ -97,7 +97,7 @@ fn push_in_hand(text: &mut String, order: InHand) -> Result<(), AllocError>
     push_order(text, extracode, word)
 }
 
-/// Adds a word between spaces.
+/// Appends a word between spaces.
 fn push_word(text: &mut String, word: Narrow) -> Result<(), AllocError>
     ensures { OnOk result (string_bytes text.new
         ≡ string_bytes text.old ++ codes " " ++ word_digits word ++ codes " ") }
@@ -105,7 +105,7 @@ fn push_word(text: &mut String, word: Narrow) -> Result<(), AllocError>
     write!(text, " {word} ")
 }
 
-/// The place of an order.
+/// Returns the place of an order.
 pub(crate) fn order_place(bank: u8, address: Addr) -> Place
     requires bank { bank < 0o50 }
     requires erasable { address < fixed_window → bank < 0o10 }
@@ -120,7 +120,7 @@ pub(crate) fn order_place(bank: u8, address: Addr) -> Place
     }
 }
 
-/// Adds a channel write, where there is one.
+/// Appends a channel write, if there is one.
 pub(crate) fn push_write(text: &mut String, write: Option<ChannelWrite>) -> Result<(), AllocError>
     requires { FitsWrite write }
     ensures { OnOk result (string_bytes text.new ≡ string_bytes text.old ++ shown_text write) }
@@ -135,7 +135,7 @@ pub(crate) fn push_write(text: &mut String, write: Option<ChannelWrite>) -> Resu
     }
 }
 
-/// Adds the registers: `A aaaaaa L lllll Q qqqqqq Z zzzz EB e FB ff`. Fails where memory runs out.
+/// Appends the registers: `A aaaaaa L lllll Q qqqqqq Z zzzz EB e FB ff`. Fails if out of memory.
 #[tactic(auto, unfolding(crate::specs::Line::registers_text))]
 pub fn push_registers(text: &mut String, registers: Registers) -> Result<(), AllocError>
     requires erasable { registers.erasable_bank < 0o10 }

@@ -1,4 +1,4 @@
-//! An entry of the trace as a line, with the name of an order's place and the cells that were changed.
+//! Prints an entry of the trace as a line, with the name of an order's place and the changed cells.
 ghost use Rattle.std.specs.Prelude.{◌≡◌, ◌++◌, OnOk, codes, string_bytes};
 ghost use Rattle.agc_machine.specs.Boundary.{HasPlace};
 ghost use Rattle.agc_machine.specs.declared.upcoming.Upcoming.TheVariants as upcoming;
@@ -16,19 +16,18 @@ ghost use Rattle.agc_trace.specs.NamedLine.{
 use crate::change::{Change, push_changes};
 use crate::entry::Entry;
 use crate::line::{order_place, push_entry, push_happening, push_registers, push_write};
+use agc_listing::{location_at, push_order, push_place};
 use agc_machine::{InHand, Upcoming};
-use agc_names::{NameTable, push_column};
-use agc_rope_listing::{push_order, push_place};
-use agc_source_words::location_at;
+use agc_symbols::{SymbolTable, push_column};
 use agc_word::Narrow;
 use std::alloc::AllocError;
 
-/// Adds the line of an entry, as `push_line` does. Where names are given, an order has between its place and its word the
-/// column of that place: its name and blanks, thirteen characters. Fails where memory runs out.
+/// Appends the line of an entry, as `push_line` does. With a symbol table, an order has the name column of its place
+/// between its place and its word: the name padded to thirteen characters. Fails if out of memory.
 #[tactic(auto, unfolding(crate::specs::NamedLine::line_with))]
 pub fn push_line_with(
     text: &mut String,
-    names: &Option<NameTable>,
+    names: &Option<SymbolTable>,
     entry: &Entry,
 ) -> Result<(), AllocError>
     requires { FitsLine entry.now }
@@ -39,11 +38,11 @@ pub fn push_line_with(
     text.push_str("\n")
 }
 
-/// Adds that line with what its boundary has changed of some cells, after the registers: ` | PLACE WORD to WORD` for each.
+/// Appends that line, with the changes of watched cells after the registers: ` | PLACE WORD to WORD` for each.
 #[tactic(auto, unfolding(crate::specs::NamedLine::watched_line))]
 pub(crate) fn push_watched_line(
     text: &mut String,
-    names: &Option<NameTable>,
+    names: &Option<SymbolTable>,
     entry: &Entry,
     changes: &[Change],
 ) -> Result<(), AllocError>
@@ -56,11 +55,11 @@ pub(crate) fn push_watched_line(
     text.push_str("\n")
 }
 
-/// Adds an entry without the end of its line.
+/// Appends an entry without the end of its line.
 #[tactic(auto, unfolding(crate::specs::NamedLine::text_with))]
 fn push_entry_with(
     text: &mut String,
-    names: &Option<NameTable>,
+    names: &Option<SymbolTable>,
     entry: &Entry,
 ) -> Result<(), AllocError>
     requires { FitsLine entry.now }
@@ -74,7 +73,7 @@ fn push_entry_with(
 }
 
 #[tactic(auto, unfolding(crate::specs::NamedLine::named_text))]
-fn push_named_entry(text: &mut String, names: &NameTable, entry: &Entry) -> Result<(), AllocError>
+fn push_named_entry(text: &mut String, names: &SymbolTable, entry: &Entry) -> Result<(), AllocError>
     requires { FitsLine entry.now }
     ensures { OnOk result
         (string_bytes text.new ≡ string_bytes text.old ++ named_text names.now entry.now) }
@@ -87,10 +86,11 @@ fn push_named_entry(text: &mut String, names: &NameTable, entry: &Entry) -> Resu
     push_registers(text, entry.registers)
 }
 
-/// Adds what happened, or will, as `push_happening` does, an order with the column of its place. Fails where memory runs out.
+/// Appends what happened, or will happen, as `push_happening` does, and the name column for an order. Fails if out of
+/// memory.
 pub fn push_named_happening(
     text: &mut String,
-    names: &NameTable,
+    names: &SymbolTable,
     happening: Upcoming,
 ) -> Result<(), AllocError>
     requires { HasPlace happening }
@@ -106,7 +106,7 @@ pub fn push_named_happening(
 }
 
 #[tactic(auto, unfolding(crate::specs::NamedLine::named_order))]
-fn push_named_order(text: &mut String, names: &NameTable, order: InHand) -> Result<(), AllocError>
+fn push_named_order(text: &mut String, names: &SymbolTable, order: InHand) -> Result<(), AllocError>
     requires { HasPlace (upcoming.Order order) }
     ensures { OnOk result
         (string_bytes text.new ≡ string_bytes text.old ++ named_order names.now order) }
@@ -124,7 +124,7 @@ fn push_named_order(text: &mut String, names: &NameTable, order: InHand) -> Resu
     push_order(text, extracode, word)
 }
 
-/// Adds a word and a space.
+/// Appends a word and a space.
 fn push_digits(text: &mut String, word: Narrow) -> Result<(), AllocError>
     ensures { OnOk result
         (string_bytes text.new ≡ string_bytes text.old ++ word_digits word ++ codes " ") }

@@ -1,5 +1,5 @@
-//! Boundaries that have no line, as what happens tells before they are taken: no entry is made of them, as that would go
-//! through memory.
+//! Passes over boundaries that are known in advance to have no line, without building entries, which would go through
+//! memory.
 ghost use Rattle.std.specs.Prelude.{◌≡◌, ◌<◌, ◌≤◌, map};
 ghost use Rattle.agc_trace.specs.Change.{named_cells, seen_in};
 ghost use Rattle.agc_trace.specs.Passing.{is_passed};
@@ -10,11 +10,11 @@ ghost use Rattle.agc_trace.specs.Trace.{entries_left, is_stop, trace_of};
 use crate::selection::Selection;
 use crate::service::{Service, service_past};
 use crate::touched::is_away;
+use agc_io::{Progress, report_at};
 use agc_machine::{Machine, Upcoming};
-use agc_progress::{Progress, tell_at};
 
-/// Takes boundaries for as long as what happens tells that they have no line. Returns the service that goes on then, after
-/// the one that did before. The loop is a call of its own, so that what it keeps stays in registers.
+/// Steps over boundaries as long as it is known in advance that they have no line. Returns the interrupt service in
+/// progress then, given the one before. The loop is a function of its own, so that its state stays in registers.
 #[inline(never)]
 pub(crate) fn pass_unasked<P: Progress>(
     machine: &mut Machine,
@@ -41,13 +41,13 @@ pub(crate) fn pass_unasked<P: Progress>(
         }
         machine.step(None);
         service = service_past(selection, service, cycle, &happening);
-        *mark = tell_at(*mark, cycle, progress);
+        *mark = report_at(*mark, cycle, progress);
     }
     service
 }
 
-/// The boundary has no line, as far as what happens and the bank in EB tell: it changes no cell that is named, or where
-/// none is, it answers not all other questions.
+/// Returns whether the boundary has no line, judged by what happens and the bank in EB: it changes no watched cell or,
+/// if no cells are watched, it is not the stop and does not meet the conditions on places, mnemonics and channels.
 #[inline]
 fn is_passed(selection: &Selection, bank: u8, happening: &Upcoming) -> bool
     requires { bank < 8 }
@@ -60,7 +60,7 @@ fn is_passed(selection: &Selection, bank: u8, happening: &Upcoming) -> bool
     }
 }
 
-/// What happens is the stop.
+/// Returns whether the boundary is the stop.
 fn is_stop(happening: &Upcoming) -> bool
     ensures { result ≡ is_stop happening.now }
 {

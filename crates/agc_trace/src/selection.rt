@@ -1,4 +1,4 @@
-//! Which boundaries of a run have a line.
+//! Selects the boundaries of a run that have a line.
 ghost use Rattle.std.specs.Prelude.{◌≡◌, string_bytes};
 ghost use Rattle.std.specs.List.{list_any};
 ghost use Rattle.agc_trace.specs.Selection.{
@@ -17,40 +17,39 @@ ghost use Rattle.agc_trace.specs.Selection.{
 
 use crate::change::Change;
 use crate::entry::{Entry, Registers};
+use agc_listing::{LocationRange, location_at};
 use agc_machine::{InHand, Upcoming};
 use agc_order::{Basic, Extracode};
-use agc_places::Places;
-use agc_source_words::location_at;
 
-/// A kind of boundaries.
+/// A kind of boundary.
 #[derive(Clone, Copy, Debug, PartialEq, Eq)]
 pub enum Only {
     /// Orders that write to a channel.
     Writes,
-    /// Interrupts, and RESUME, with which their services end.
+    /// Interrupts, and RESUME, which ends their services.
     Interrupts,
-    /// Orders after which another one is in hand than the one at the next address.
+    /// Orders that are not followed by the order at the next address.
     Jumps,
 }
 
-/// Which boundaries have a line: in the range those that answer every question, and the stop.
+/// Which boundaries have a line: those in the range that meet every condition, and the stop.
 #[derive(Debug, Drop)]
 pub struct Selection {
     /// The first cycle at which such a boundary may begin.
     pub from: u64,
     /// The last cycle at which it may begin.
     pub to: u64,
-    /// Its kind; with `None` any.
+    /// Its kind; `None` for any.
     pub only: Option<Only>,
-    /// The places at which its order may stand; without one anything may happen.
-    pub places: Vec<Places>,
-    /// The mnemonics that its order may have; likewise.
+    /// Its order is at one of these places; if empty, anything may happen.
+    pub places: Vec<LocationRange>,
+    /// Its order has one of these mnemonics; likewise.
     pub orders: Vec<String>,
-    /// The channels of which its order may read or write one; likewise.
+    /// Its order reads or writes one of these channels; likewise.
     pub channels: Vec<u16>,
-    /// The cells of erasable memory of which it may change one; likewise.
-    pub cells: Vec<Places>,
-    /// How many of them have a line, the last ones; with `None` all.
+    /// It changes one of these cells of erasable memory; likewise.
+    pub cells: Vec<LocationRange>,
+    /// How many boundaries have a line, counted from the end; `None` for all.
     pub last: Option<u64>,
 }
 
@@ -59,7 +58,7 @@ impl Selection {
     ghost use Rattle.agc_trace.specs.Passing.{is_met_by};
     ghost use Rattle.agc_trace.specs.Selection.{is_answer, is_selected};
 
-    /// The boundary of an entry, which has changed these of the cells that are named, has a line.
+    /// Returns whether the boundary of an entry, with its changes of watched cells, has a line.
     #[tactic(auto, unfolding(crate::specs::Selection::is_selected))]
     pub fn takes(&self, entry: &Entry, changes: &[Change]) -> bool
         ensures { result
@@ -70,7 +69,7 @@ impl Selection {
             && (entry.is_stop() || self.is_answer(entry, changes))
     }
 
-    /// What happens answers the questions of places, of mnemonics and of channels.
+    /// Returns whether what happens meets the conditions on places, mnemonics and channels.
     #[inline]
     pub(crate) fn is_met_by(&self, happening: &Upcoming) -> bool
         ensures { result ≡ is_met_by self.now happening.now }
@@ -80,7 +79,7 @@ impl Selection {
             && touches_one(self.channels.as_slice(), *happening)
     }
 
-    /// The boundary answers every question.
+    /// Returns whether the boundary meets every condition.
     fn is_answer(&self, entry: &Entry, changes: &[Change]) -> bool
         ensures { result ≡ is_answer self.now entry.now changes.now }
     {
@@ -92,7 +91,7 @@ impl Selection {
     }
 }
 
-/// The boundary is of the kind that is asked for.
+/// Returns whether the boundary is of the selected kind.
 fn is_of_kinds(only: Option<Only>, entry: &Entry) -> bool
     ensures { result ≡ is_of_kinds only entry.now }
 {
@@ -102,21 +101,21 @@ fn is_of_kinds(only: Option<Only>, entry: &Entry) -> bool
     }
 }
 
-/// The order stands at one of several places, where any are asked for.
-fn runs_at_one(several: &[Places], happening: Upcoming) -> bool
+/// Returns whether the order is at one of several places, or none are selected.
+fn runs_at_one(several: &[LocationRange], happening: Upcoming) -> bool
     ensures { result ≡ is_asked (λ places. runs_at places happening) several.now }
 {
     several.is_empty() || runs_at_any(several, happening)
 }
 
-fn runs_at_any(several: &[Places], happening: Upcoming) -> bool
+fn runs_at_any(several: &[LocationRange], happening: Upcoming) -> bool
     ensures { result ≡ list_any (λ places. runs_at places happening) several.now }
 {
     several.iter().any(|places| runs_at(*places, happening))
 }
 
-/// What happens is an order that stands at one of these places.
-fn runs_at(places: Places, happening: Upcoming) -> bool
+/// Returns whether this is an order at one of these places.
+fn runs_at(places: LocationRange, happening: Upcoming) -> bool
     ensures { result ≡ runs_at places happening }
 {
     match happening {
@@ -126,7 +125,7 @@ fn runs_at(places: Places, happening: Upcoming) -> bool
     }
 }
 
-/// The order has one of several mnemonics, where any are asked for.
+/// Returns whether the order has one of several mnemonics, or none are selected.
 fn is_called_one(several: &[String], happening: Upcoming) -> bool
     ensures { result ≡ is_asked (λ name. is_called (string_bytes name) happening) several.now }
 {
@@ -141,7 +140,7 @@ fn is_called_any(several: &[String], happening: Upcoming) -> bool
         .any(|name| is_called(name.as_bytes(), happening))
 }
 
-/// What happens is an order of this mnemonic.
+/// Returns whether this is an order with this mnemonic.
 fn is_called(name: &[u8], happening: Upcoming) -> bool
     ensures { result ≡ is_called name.now happening }
 {
@@ -152,7 +151,7 @@ fn is_called(name: &[u8], happening: Upcoming) -> bool
     }
 }
 
-/// The mnemonic by which a line names an order.
+/// Returns the mnemonic by which a line names an order.
 fn mnemonic_of(order: InHand) -> &'static str
     ensures { result.now ≡ mnemonic_of order }
 {
@@ -163,7 +162,7 @@ fn mnemonic_of(order: InHand) -> &'static str
     }
 }
 
-/// The order reads or writes one of several channels, where any are asked for.
+/// Returns whether the order reads or writes one of several channels, or none are selected.
 fn touches_one(several: &[u16], happening: Upcoming) -> bool
     ensures { result ≡ is_asked (λ channel. touches channel happening) several.now }
 {
@@ -176,7 +175,7 @@ fn touches_any(several: &[u16], happening: Upcoming) -> bool
     several.iter().any(|channel| touches(*channel, happening))
 }
 
-/// What happens is an order that reads or writes this channel.
+/// Returns whether this is an order that reads or writes this channel.
 fn touches(channel: u16, happening: Upcoming) -> bool
     ensures { result ≡ touches channel happening }
 {
@@ -189,7 +188,7 @@ fn touches(channel: u16, happening: Upcoming) -> bool
     }
 }
 
-/// The orders that read or write a channel.
+/// Returns whether an order reads or writes a channel.
 fn is_channel_order(order: Extracode) -> bool
     ensures { result ≡ is_channel_order order }
 {
@@ -205,7 +204,7 @@ fn is_channel_order(order: Extracode) -> bool
     )
 }
 
-/// The boundary is of a kind.
+/// Returns whether the boundary is of a kind.
 fn is_of_kind(kind: Only, entry: &Entry) -> bool
     ensures { result ≡ is_of_kind kind entry.now }
 {
@@ -216,7 +215,7 @@ fn is_of_kind(kind: Only, entry: &Entry) -> bool
     }
 }
 
-/// An interrupt, or RESUME.
+/// Returns whether this is an interrupt, or RESUME.
 fn is_interrupt(happening: Upcoming) -> bool
     ensures { result ≡ is_interrupt happening }
 {
@@ -227,15 +226,15 @@ fn is_interrupt(happening: Upcoming) -> bool
     }
 }
 
-/// The order in hand is RESUME.
+/// Returns whether the order in hand is RESUME.
 pub(crate) fn ends_service(order: InHand) -> bool
     ensures { result ≡ ends_service order }
 {
     !order.extracode && matches!(Basic::named_by(order.word), Basic::Resume)
 }
 
-/// An order after which another one is in hand than the one at the next address. The order in hand
-/// stands one before Z.
+/// Returns whether this is an order that is not followed by the order at the next address. The
+/// order in hand is at one before Z.
 fn is_jump(happening: Upcoming, after: Registers) -> bool
     ensures { result ≡ is_jump happening after }
 {

@@ -1,4 +1,4 @@
-//! The service of an interrupt that goes on where a run stops.
+//! The interrupt service that is still in progress when a run stops.
 ghost use Rattle.std.specs.Prelude.{◌≡◌, if◌then◌else◌, nat_le};
 ghost use Rattle.agc_trace.specs.Service.{served, service_after};
 
@@ -7,7 +7,7 @@ use crate::selection::{Selection, ends_service};
 use agc_machine::Upcoming;
 use agc_processor::Rupt;
 
-/// The service of an interrupt, which RESUME has not ended yet.
+/// The service of an interrupt that RESUME has not ended yet.
 #[derive(Clone, Copy, Debug, PartialEq, Eq)]
 pub struct Service {
     pub rupt: Rupt,
@@ -15,8 +15,8 @@ pub struct Service {
     pub cycle: u64,
 }
 
-/// The service that goes on after a boundary, where one did before it or not. One that begins before
-/// the range is left out.
+/// Returns the service in progress after a boundary, given the one before it. A service that begins
+/// before the range does not count.
 pub fn service_after(
     selection: &Selection,
     before: Option<Service>,
@@ -27,7 +27,7 @@ pub fn service_after(
     service_past(selection, before, entry.cycle, &entry.happening)
 }
 
-/// The same by the cycle of the boundary and what happened.
+/// Returns the same from the cycle of the boundary and what happened.
 #[inline]
 pub(crate) fn service_past(
     selection: &Selection,
@@ -45,7 +45,7 @@ pub(crate) fn service_past(
     }
 }
 
-/// What happens at a cycle begins a service, ends it, or leaves it as it was.
+/// Returns the service after what happens at a cycle, which begins one, ends it, or leaves it unchanged.
 fn served(cycle: u64, happening: Upcoming, before: Option<Service>) -> Option<Service>
     ensures { result ≡ served cycle happening before }
 {

@@ -1,8 +1,9 @@
-//! Which cells a boundary may change: by the table of the orders mostly none past the registers, or one or two.
+//! Determines which cells a boundary may change: by the table of orders usually none beyond the registers, or one or
+//! two.
 ghost use Rattle.std.specs.Prelude.{◌≡◌, ◌<◌};
 ghost use Rattle.std.specs.List.{list_any};
-ghost use Rattle.agc_laws.specs.Row.{below};
-ghost use Rattle.agc_laws.specs.Table.{basic_row, extracode_row};
+ghost use Rattle.agc_processor.specs.Row.{below};
+ghost use Rattle.agc_processor.specs.Table.{basic_row, extracode_row};
 ghost use Rattle.agc_trace.specs.Touched.{
   are_past,
   begins_by,
@@ -15,10 +16,9 @@ ghost use Rattle.agc_trace.specs.Touched.{
 };
 
 use crate::change::is_named;
+use agc_listing::{Location, LocationRange};
 use agc_machine::{InHand, Upcoming};
 use agc_order::{Basic, Extracode};
-use agc_places::Places;
-use agc_source_words::Location;
 use agc_store::place::{EDOP, ERASABLE_BANK_SIZE, ERASABLE_WINDOW, TIME6, ZERO};
 
 /// The cells past EDOP that a boundary may change.
@@ -26,17 +26,17 @@ use agc_store::place::{EDOP, ERASABLE_BANK_SIZE, ERASABLE_WINDOW, TIME6, ZERO};
 pub(crate) enum Touched {
     Nothing,
     One(u16),
-    /// The lower and the upper word of a double one.
+    /// The lower and the upper word of a double word.
     Two(u16, u16),
     /// One of the timers.
     Counter,
-    /// It may be any.
+    /// Any cell.
     Any,
 }
 
-/// No cell that is named is changed by what happens, as far as that and the bank in EB tell.
+/// Returns whether it is known, from what happens and the bank in EB, that no watched cell changes.
 #[inline]
-pub(crate) fn is_away(several: &[Places], bank: u8, happening: Upcoming) -> bool
+pub(crate) fn is_away(several: &[LocationRange], bank: u8, happening: Upcoming) -> bool
     requires { bank < 8 }
     ensures { result ≡ is_away several.now (touched_by bank happening) }
 {
@@ -51,7 +51,7 @@ pub(crate) fn is_away(several: &[Places], bank: u8, happening: Upcoming) -> bool
     }
 }
 
-/// The cells past EDOP that what happens may change.
+/// Returns the cells past EDOP that may change.
 #[inline]
 #[tactic(auto, unfolding(crate::specs::Touched::touched_by, crate::specs::Touched::reach_of))]
 fn touched_by(happening: Upcoming, bank: u8) -> Touched
@@ -73,7 +73,7 @@ fn touched_by(happening: Upcoming, bank: u8) -> Touched
 }
 
 #[inline]
-#[tactic(auto, unfolding(agc_laws::specs::Table::basic_row))]
+#[tactic(auto, unfolding(agc_processor::specs::Table::basic_row))]
 fn basic_touched(order: Basic, bank: u8, address: u16) -> Touched
     requires bank { bank < 8 }
     requires address { address < 0o2000 }
@@ -89,7 +89,7 @@ fn basic_touched(order: Basic, bank: u8, address: u16) -> Touched
 }
 
 #[inline]
-#[tactic(auto, unfolding(agc_laws::specs::Table::extracode_row))]
+#[tactic(auto, unfolding(agc_processor::specs::Table::extracode_row))]
 fn extracode_touched(order: Extracode, bank: u8, address: u16) -> Touched
     requires bank { bank < 8 }
     requires address { address < 0o2000 }
@@ -101,8 +101,8 @@ fn extracode_touched(order: Extracode, bank: u8, address: u16) -> Touched
     }
 }
 
-/// The cells of a double word, by the address of its lower one. Where that is a register, the upper one may
-/// be of another bank.
+/// Returns the cells of a double word, from the address of its lower word. If that is a register, the upper word may be
+/// in another bank.
 fn two_touched(bank: u8, address: u16) -> Touched
     requires bank { bank < 8 }
     requires address { address < 0o2000 }
@@ -115,7 +115,7 @@ fn two_touched(bank: u8, address: u16) -> Touched
     Touched::Two(low, cell_in(bank, below(address)))
 }
 
-/// The address below, 1777 octal below 0.
+/// Returns the address below; 1777 octal is below 0.
 fn below(address: u16) -> u16
     requires { address < 0o2000 }
     ensures value { result ≡ below 0o1777 address }
@@ -124,7 +124,7 @@ fn below(address: u16) -> u16
     if address == 0 { 0o1777 } else { address - 1 }
 }
 
-/// The cell that an address names while a bank is in EB.
+/// Returns the cell that an address names with this bank in EB.
 #[inline]
 fn cell_in(bank: u8, address: u16) -> u16
     requires bank { bank < 8 }
@@ -138,22 +138,22 @@ fn cell_in(bank: u8, address: u16) -> u16
     }
 }
 
-/// All cells that are named stand past a cell.
+/// Returns whether all watched cells come after a cell.
 #[inline]
-fn are_past(several: &[Places], cell: u16) -> bool
+fn are_past(several: &[LocationRange], cell: u16) -> bool
     ensures { result ≡ are_past cell several.now }
 {
     !begins_by(several, cell)
 }
 
 #[inline]
-fn begins_by(several: &[Places], cell: u16) -> bool
+fn begins_by(several: &[LocationRange], cell: u16) -> bool
     ensures { result ≡ list_any (λ places. begins_by cell places.first) several.now }
 {
     several.iter().any(|places| is_begun_by(places.first, cell))
 }
 
-/// Places with this first one begin at a cell or below it.
+/// Returns whether a range with this first location begins at a cell or below it.
 #[inline]
 fn is_begun_by(first: Location, cell: u16) -> bool
     ensures { result ≡ begins_by cell first }

@@ -1,4 +1,4 @@
-//! The trace of a run, written line by line: memory does not grow with the run.
+//! Writes the trace of a run line by line, so that memory use does not grow with the run.
 ghost use Rattle.std.specs.Prelude.{◌≡◌, [], ◌∷◌, OnOk, IfOk, IfErr};
 ghost use Rattle.std.specs.Io.KnownBytes.{Appends, Keeps};
 ghost use Rattle.agc_trace.specs.Cut.{IsCut};
@@ -15,14 +15,14 @@ use crate::named_line::push_watched_line;
 use crate::passing::pass_unasked;
 use crate::selection::Selection;
 use crate::service::{Service, service_after};
+use agc_io::{Progress, report_at};
 use agc_machine::{Machine, Stepped};
-use agc_names::NameTable;
-use agc_progress::{Progress, tell_at};
+use agc_symbols::SymbolTable;
 use std::alloc::{AllocError, Global};
 use std::io::Write;
 use thiserror::Error;
 
-/// Why a trace was cut off: no line comes after the fault.
+/// Why a trace was cut off: no line follows the fault.
 #[derive(Clone, Copy, Debug, PartialEq, Eq, Error)]
 pub enum TraceFault {
     #[error("out of memory")]
@@ -42,14 +42,14 @@ impl From<AllocError> for TraceFault {
     }
 }
 
-/// Runs a machine, and writes the line of each boundary that is selected, with the names that are given. The run goes to its stop, or
-/// as far as such a boundary may come: past the last cycle that is selected there is none. At the stop the
-/// service is returned that an interrupt has begun in the range of cycles, and no RESUME has ended.
+/// Runs a machine, and writes the line of each selected boundary, with symbols if there is a table. Runs to the stop,
+/// or past the last selected cycle, because no boundary is selected after it. At the stop, returns the interrupt
+/// service that began in the range of cycles and that no RESUME has ended.
 pub fn trace<W: Write, P: Progress>(
     alloc: Global,
     machine: &mut Machine,
     selection: &Selection,
-    names: &Option<NameTable>,
+    names: &Option<SymbolTable>,
     out: &mut W,
     progress: &mut P,
 ) -> Result<Option<Service>, TraceFault>
@@ -66,7 +66,7 @@ pub fn trace<W: Write, P: Progress>(
     }
 }
 
-/// Runs a machine to the first cycle that is selected, or to its stop where that comes before.
+/// Runs a machine to the first selected cycle, or to its stop if that comes first.
 fn go_to_first<P: Progress>(machine: &mut Machine, selection: &Selection, progress: &mut P)
     ensures entries { selected selection.now (watch_for selection.now machine.new)
         ≡ selected selection.now (watch_for selection.now machine.old) }
@@ -75,7 +75,7 @@ fn go_to_first<P: Progress>(machine: &mut Machine, selection: &Selection, progre
 {
     let mut mark = 0;
     while machine.cycle() < selection.from {
-        mark = tell_at(mark, machine.cycle(), progress);
+        mark = report_at(mark, machine.cycle(), progress);
         match machine.next_write_before(selection.from.min(mark)) {
             Stepped::Quiet | Stepped::Wrote(_) => {}
             Stepped::Stopped(_) => return,
@@ -83,12 +83,12 @@ fn go_to_first<P: Progress>(machine: &mut Machine, selection: &Selection, progre
     }
 }
 
-/// Runs a machine to its stop, or past the last cycle that is selected, and writes the lines.
+/// Runs a machine to its stop, or past the last selected cycle, and writes the lines.
 fn write_lines<W: Write, P: Progress>(
     alloc: Global,
     machine: &mut Machine,
     selection: &Selection,
-    names: &Option<NameTable>,
+    names: &Option<SymbolTable>,
     out: &mut W,
     progress: &mut P,
 ) -> Result<Option<Service>, TraceFault>
@@ -109,18 +109,18 @@ fn write_lines<W: Write, P: Progress>(
             return Ok(service);
         }
         service = service_after(selection, service, &entry);
-        mark = tell_at(mark, entry.cycle, progress);
+        mark = report_at(mark, entry.cycle, progress);
         service = pass_unasked(machine, selection, service, &mut mark, progress);
     }
     Ok(None)
 }
 
-/// Writes the line of an entry, where it is selected.
+/// Writes the line of an entry, if it is selected.
 #[tactic(auto, unfolding(crate::specs::Selection::lines_of, crate::specs::Selection::selected))]
 fn write_selected<W: Write>(
     alloc: Global,
     selection: &Selection,
-    names: &Option<NameTable>,
+    names: &Option<SymbolTable>,
     entry: &Entry,
     changes: &[Change],
     out: &mut W,
@@ -141,7 +141,7 @@ fn write_selected<W: Write>(
 /// Writes the line of an entry.
 pub(crate) fn write_line<W: Write>(
     alloc: Global,
-    names: &Option<NameTable>,
+    names: &Option<SymbolTable>,
     entry: &Entry,
     changes: &[Change],
     out: &mut W,

@@ -6,8 +6,8 @@ use Rattle.agc_trace.proofs.Steps.{fewer_after_entry}
 use Rattle.agc_trace.proofs.Changes.{shown_is}
 use Rattle.agc_trace.proofs.last.keep_last.Goals as goal
 
-pub keep_selected-requires-clause-few : goal.keep_selected-requires-clause-few
-keep_selected-requires-clause-few g c = few_kept _ _ _ _ c.loop-alloc.invariant.kept
+pub keep_selected-requires-clause-bound : goal.keep_selected-requires-clause-bound
+keep_selected-requires-clause-bound g c = few_kept _ _ _ _ c.loop-alloc.invariant.kept
 
 pub returns-then-is_stop-clause-entries : goal.returns-then-is_stop-clause-entries
 returns-then-is_stop-clause-entries g c =
