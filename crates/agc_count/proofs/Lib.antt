@@ -1,9 +1,0 @@
-mod Told
-mod Left
-mod Places
-mod Readers
-mod Lengths
-mod Sums
-mod Room
-mod Running
-mod Interrupts

@@ -1,0 +1,10 @@
+mod Told
+mod Left
+mod Places
+mod Readers
+mod Lengths
+mod Sums
+mod Room
+mod Running
+mod Interrupts
+mod Lines

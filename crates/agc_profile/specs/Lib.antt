@@ -1,0 +1,12 @@
+pub mod Tally
+pub mod Opcode
+pub mod Context
+pub mod DataReads
+pub mod Readers
+pub mod Step
+pub mod Number
+pub mod Profile
+pub mod Laws
+pub mod Sums
+pub mod Row
+pub mod Report

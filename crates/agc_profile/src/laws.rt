@@ -1,0 +1,65 @@
+//! Laws of every profile, each the contract of a function with an empty body.
+ghost use Rattle.std.specs.Prelude.{◌≡◌, ◌+◌, ◌-◌, ◌<◌, ℕ, List, filter, length, map};
+ghost use Rattle.agc_store.specs.Places.{erasable_cells, fixed_places};
+ghost use Rattle.agc_processor.specs.Interrupt.{rupt_number};
+ghost use Rattle.agc_processor.specs.declared.interrupt.Rupt.{Rupt};
+ghost use Rattle.agc_machine.specs.Run.{run_of};
+ghost use Rattle.agc_machine.specs.State.{State};
+ghost use Rattle.agc_listing.specs.declared.location.Location.TheVariants as location;
+ghost use Rattle.agc_profile.specs.Profile.{count_of};
+ghost use Rattle.agc_profile.specs.Laws.{
+  counted_cycles,
+  ran_at,
+  read_at,
+  read_before,
+  serves,
+  takes,
+  tally_of,
+  tally_of_both,
+};
+ghost use Rattle.agc_profile.specs.Context.{at_start};
+ghost use Rattle.agc_profile.specs.Step.{passages};
+ghost use Rattle.agc_profile.specs.Tally.{tally_at};
+ghost use Rattle.agc_profile.specs.Readers.{Told, all_told};
+ghost use Rattle.agc_trace.specs.Trace.{trace_of};
+ghost use Rattle.agc_profile.specs.declared.step.Step.{Step};
+
+/// The tally of a place is the number and the cycles of the boundaries that ran the order at this place.
+pub fn a_place_has_its_boundaries()
+    ensures fixed { (place : ℕ) (ps : List Step) → place < fixed_places
+        → tally_at place (count_of ps).fixed ≡ tally_of (filter (ran_at (location.Fixed place)) ps) }
+    ensures erasable { (cell : ℕ) (ps : List Step) → cell < erasable_cells
+        → tally_at cell (count_of ps).erasable ≡ tally_of (filter (ran_at (location.Erasable cell)) ps) }
+{}
+
+/// The data tally of a place covers the boundaries whose order reads it by its address, plus those whose double-word
+/// order reads it as the word before its address.
+pub fn a_place_has_its_readers()
+    ensures fixed { (place : ℕ) (ps : List Step) → place < fixed_places
+        → tally_at place (count_of ps).fixed_data
+        ≡ tally_of_both (read_at (location.Fixed place)) (read_before (location.Fixed place)) ps }
+    ensures erasable { (cell : ℕ) (ps : List Step) → cell < erasable_cells
+        → tally_at cell (count_of ps).erasable_data
+        ≡ tally_of_both (read_at (location.Erasable cell)) (read_before (location.Erasable cell)) ps }
+{}
+
+/// Each interrupt's tally has the number of boundaries that took it, and the cycles of all boundaries of its services,
+/// including the entries.
+pub fn an_interrupt_has_its_services()
+    ensures taken { (r : Rupt) (ps : List Step)
+        → (tally_at (rupt_number r - 1) (count_of ps).interrupts).times ≡ length (filter (takes r) ps) }
+    ensures cycles { (r : Rupt) (ps : List Step)
+        → (tally_at (rupt_number r - 1) (count_of ps).interrupts).cycles
+        ≡ (tally_of (filter (serves r) ps)).cycles }
+{}
+
+/// The boundaries that are counted are those of the trace, entry by entry.
+pub fn the_boundaries_are_the_trace()
+    ensures { (s : State) → map (λ (told : Told). told.entry) (all_told s) ≡ trace_of s }
+{}
+
+/// The cycles of a whole run, by kinds, add up to its length.
+pub fn the_cycles_add_up()
+    ensures { (s : State) → counted_cycles (count_of (passages at_start (all_told s))) + s.cycle
+        ≡ (run_of s).last.cycle }
+{}
