@@ -1,8 +1,0 @@
-use Rattle.agc_dialogue.proofs.Answering.{when_kept}
-use Rattle.agc_dialogue.proofs.Sessions.{still_answered}
-use Rattle.agc_dialogue.proofs.conversation.answer_out.Goals as goal
-
-pub returns : goal.returns
-returns g c =
-    when_kept _ c.flush.result c.in_ok-left.left c.keep_if.result c.keep_if.ensures c.flush.ensures
-    (λ kept. still_answered c.args.names.now c.args.request c.args.talk c.in_ok-left.left _ _ _ c.in_ok-left.ensures kept)

@@ -1,0 +1,185 @@
+-- How the parts of an answer make up the whole.
+use Rattle.std.specs.Prelude.{◌≡◌, ◌≢◌, ◌⊎◌, ℕ, ◌+◌, ◌==◌, Bool, true, false, List, [], ◌++◌, length, Option, None, Some, Result, Ok, Err, IfOk, MatchResult, OnOk, IsErrOf, codes, flat_map, if◌then◌else◌}
+use Rattle.std.specs.Io.KnownBytes.{Appends, append_known}
+use Rattle.std.proofs.Common.{refl, ap, sym, subst, ◌∙◌}
+use Rattle.std.proofs.KnownBytes.{Appends-trans}
+use Rattle.std.proofs.lemmas.Bool.{eq-eqb, eqb-true}
+use Rattle.agc_repl.specs.Fault.{fault_text}
+use Rattle.agc_repl.specs.declared.command.Command.{Command}
+use Rattle.agc_repl.specs.declared.command.Command.TheVariants as command
+use Rattle.agc_repl.specs.declared.command.Breakpoint.{Breakpoint}
+use Rattle.agc_repl.specs.declared.fault.CommandFault.{CommandFault}
+use Rattle.agc_script.specs.Event.{most_events}
+use Rattle.agc_script.specs.declared.event.What.{What}
+use Rattle.agc_session.specs.Session.{injected_now}
+use Rattle.agc_session.specs.declared.fault.InjectFault.{InjectFault}
+use Rattle.agc_session.specs.declared.fault.InjectFault.TheVariants as fault
+use Rattle.agc_trace.specs.NamedLine.{line_with}
+use Rattle.agc_trace.specs.Trace.{trace_within}
+use Rattle.agc_repl.specs.Answer.{error_line}
+use Rattle.agc_repl.specs.Answered.{Answer, GoesNotBack, Grows, IsLeft, Request, RunsOut, Tells, answer_to, answered, cycles_on, done, ended, given_answer, last_line, refusal_text, refused_by, shown_until, shown_stretch}
+use Rattle.agc_repl.specs.Queries.{shown_text}
+use Rattle.agc_repl.specs.Repl.{GoesOn, after_boundaries, after_due, gone_back, takes_event}
+use Rattle.agc_repl.specs.Stretch.{sought_in, stretch_to}
+use Rattle.agc_repl.specs.declared.stop_at.Stop_.TheVariants as stop_
+use Rattle.agc_repl.specs.declared.conversation.ReplFault.{ReplFault}
+use Rattle.agc_repl.specs.declared.repl.Repl.{Repl}
+use Rattle.agc_repl.proofs.Going.{stays_put}
+use Rattle.agc_repl.proofs.Telling.{grown}
+use Rattle.agc_symbols.specs.Symbols.{Symbol}
+
+-- an answer with its end
+pub tells_end : (a : Answer) (t : Repl) (begun o : Option (List ℕ)) (old new : List ℕ) → Tells a t begun (append_known o old) → new ≡ old ++ last_line t
+    → Tells (ended a) t begun (append_known o new)
+tells_end a t begun o old new h e =
+    let line : Appends (append_known o old) (append_known o new) (last_line a.0) =
+    subst (λ (u : Repl). Appends (append_known o old) (append_known o new) (last_line u)) h.0 (grown o old new (last_line t) e) in
+    (h.0, Appends-trans begun (append_known o old) (append_known o new) a.1 (last_line a.0) h.1 line)
+
+pub answered_other : (names : Option (List Symbol)) (c : Command) (s : Repl) → ((what : What) → c ≡ command.Inject what → ⊥) → answered names c s ≡ ended (done names c s)
+unfolding answered
+answered_other names (command.Inject what) s h = absurd (h what refl)
+answered_other names c s h = refl
+
+pub answered_event : (names : Option (List Symbol)) (c : Command) (what : What) (s : Repl) → c ≡ command.Inject what → answered names c s ≡ given_answer what s
+unfolding answered
+answered_event names c what s e = ap (λ (x : Command). answered names x s) e
+
+pub answer_of_command : (names : Option (List Symbol)) (request : Request) (said : Option Command) (c : Command) (s : Repl) → request ≡ Ok said → said ≡ Some c → answer_to names request s ≡ answered names c s
+unfolding answer_to
+answer_of_command names request said c s e f = ap (λ (x : Request). answer_to names x s) (e ∙ ap Ok f)
+
+pub answer_of_nothing : (names : Option (List Symbol)) (request : Request) (said : Option Command) (s : Repl) → request ≡ Ok said → said ≡ None → answer_to names request s ≡ (s, last_line s)
+unfolding answer_to
+answer_of_nothing names request said s e f = ap (λ (x : Request). answer_to names x s) (e ∙ ap Ok f)
+
+pub answer_of_fault : (names : Option (List Symbol)) (request : Request) (why : CommandFault) (s : Repl) → request ≡ Err why → answer_to names request s ≡ (s, error_line (fault_text why))
+unfolding answer_to
+answer_of_fault names request why s e = ap (λ (x : Request). answer_to names x s) e
+
+pub tells_same : (a b : Answer) (t : Repl) (old new : Option (List ℕ)) → a ≡ b → Tells b t old new → Tells a t old new
+tells_same a b t old new e h = rw e h
+
+-- an event that was injected or rejected
+not_equal : (m n : ℕ) (b : Bool) → (m == n) ≡ b → (m ≡ n → ⊥) → b ≡ false
+not_equal m n true e h = absurd (h (eqb-true m n e))
+not_equal m n false e h = refl
+
+given_by : (full takes : Bool) (x y z : Answer) → full ≡ false → takes ≡ true → (if full then x else (if takes then y else z)) ≡ y
+given_by full takes x y z e f = rw (e, f) refl
+
+refused_so : (full takes : Bool) (x y z : Answer) → full ≡ false → takes ≡ false → (if full then x else (if takes then y else z)) ≡ z
+refused_so full takes x y z e f = rw (e, f) refl
+
+full_by : (full : Bool) (x y : Answer) → full ≡ true → (if full then x else y) ≡ x
+full_by full x y e = rw e refl
+
+abbrev events : Repl → ℕ
+events s = length s.session.script + length s.session.injected
+
+pub given_there : (what : What) (s : Repl) → events s ≢ most_events → takes_event (after_due s.session).now ≡ true
+    → given_answer what s ≡ ended (record { session = injected_now what (after_due s.session); writes = s.writes }, [])
+unfolding given_answer
+given_there what s h e = given_by (events s == most_events) (takes_event (after_due s.session).now) _ _ _ (not_equal (events s) most_events _ refl h) e
+
+pub refused_there : (what : What) (s : Repl) → events s ≢ most_events → takes_event (after_due s.session).now ≡ false
+    → given_answer what s ≡ refused_by fault.Unwanted (record { session = after_due s.session; writes = s.writes })
+unfolding given_answer
+refused_there what s h e = refused_so (events s == most_events) (takes_event (after_due s.session).now) _ _ _ (not_equal (events s) most_events _ refl h) e
+
+pub full_there : (what : What) (s : Repl) → events s ≡ most_events → given_answer what s ≡ refused_by fault.TooMany s
+unfolding given_answer
+full_there what s h = full_by (events s == most_events) _ _ (eq-eqb (events s) most_events h)
+
+-- memory ran out
+pub ran_out : (names : Option (List Symbol)) (request : Request) (s t : Repl) (a b c : Option (List ℕ)) → IsLeft names request s t → Grows a b → Appends b c (codes "error: memory\n")
+    → RunsOut names request s t a c
+ran_out names request s t a b c left h k =
+    record { left = left; said = h.0; ends = Appends-trans a b c h.0 (codes "error: memory\n") h.1 k }
+
+-- what each command does
+pub done_go : (names : Option (List Symbol)) (c : Command) (cycles end : ℕ) (s : Repl) → c ≡ command.Go cycles → end ≡ cycles_on cycles s
+    → done names c s ≡ shown_stretch (stretch_to stop_.Nothing end s.session.now) s
+unfolding done
+done_go names c cycles end s e f = rw f (ap (λ (x : Command). done names x s) e)
+
+pub done_to : (names : Option (List Symbol)) (c : Command) (cycle : ℕ) (s : Repl) → c ≡ command.GoTo cycle → done names c s ≡ shown_stretch (stretch_to stop_.Nothing cycle s.session.now) s
+unfolding done
+done_to names c cycle s e = ap (λ (x : Command). done names x s) e
+
+pub done_step : (names : Option (List Symbol)) (c : Command) (boundaries : ℕ) (s : Repl) → c ≡ command.Step boundaries
+    → done names c s ≡ (after_boundaries boundaries s, flat_map (line_with names) (trace_within boundaries s.session.now))
+unfolding done
+done_step names c boundaries s e = ap (λ (x : Command). done names x s) e
+
+pub done_until : (names : Option (List Symbol)) (c : Command) (what : Breakpoint) (within : ℕ) (s : Repl) → c ≡ command.Until what within
+    → done names c s ≡ shown_until (stretch_to (sought_in s.session.now what) (cycles_on within s) s.session.now) s
+unfolding done
+done_until names c what within s e = ap (λ (x : Command). done names x s) e
+
+pub done_shown : (names : Option (List Symbol)) (c : Command) (s : Repl) → GoesNotBack c → ((cycles : ℕ) → c ≡ command.Go cycles → ⊥) → ((cycle : ℕ) → c ≡ command.GoTo cycle → ⊥)
+    → ((boundaries : ℕ) → c ≡ command.Step boundaries → ⊥) → ((what : Breakpoint) (within : ℕ) → c ≡ command.Until what within → ⊥)
+    → done names c s ≡ (s, shown_text names c s.session s.writes)
+unfolding done
+done_shown names (command.Go cycles) s h a b d e = absurd (a cycles refl)
+done_shown names (command.GoTo cycle) s h a b d e = absurd (b cycle refl)
+done_shown names (command.Step boundaries) s h a b d e = absurd (d boundaries refl)
+done_shown names (command.Until what within) s h a b d e = absurd (e what within refl)
+done_shown names (command.Back cycle) s h a b d e = absurd h
+done_shown names c s h a b d e = refl
+
+pub answered_back : (names : Option (List Symbol)) (cycle : ℕ) (s : Repl) → answer_to names (Ok (Some (command.Back cycle))) s ≡ ended (gone_back cycle s, [])
+unfolding answer_to answered done
+answered_back names cycle s = refl
+
+pub when_both : {P Q R : Type 0} (r : Result (Unit {0}) ReplFault) → OnOk r P → OnOk r Q → (P → Q → R) → OnOk r R
+when_both (Ok u) h k f = f h k
+when_both (Err why) h k f = tt
+
+pub left_same : (a b : Answer) (t : Repl) (P : Type 0) → a ≡ b → ((t ≡ b.0) ⊎ P) → (t ≡ a.0) ⊎ P
+left_same a b t P e h = rw e h
+
+-- a part of an answer that is not yet written
+pub tells_waiting : (a : Answer) (t : Repl) (o : Option (List ℕ)) (old new : List ℕ) → t ≡ a.0 → new ≡ old ++ a.1 → Tells a t (append_known o old) (append_known o new)
+tells_waiting a t o old new e h = (e, grown o old new a.1 h)
+
+-- a rejection, by why the event was not injected
+pub refused_is : (what : What) (s t : Repl) (r : Result (Unit {0}) InjectFault) (why : InjectFault) → r ≡ Err why → (why ≡ fault.Memory → ⊥)
+    → (IsErrOf r fault.Unwanted → (t ≡ record s { session = after_due s.session }) × (takes_event (after_due s.session).now ≡ false) × (events s ≢ most_events))
+    → (IsErrOf r fault.TooMany → (t ≡ s) × (events s ≡ most_events))
+    → (t ≡ (given_answer what s).0) × (error_line (refusal_text why) ≡ (given_answer what s).1)
+refused_is what s t r fault.Memory e never u m = absurd (never refl)
+refused_is what s t r fault.Unwanted e never u m =
+    let so = u e in
+    let is = refused_there what s so.2 so.1 in
+    (so.0 ∙ ap (λ (a : Answer). a.0) (sym is), ap (λ (a : Answer). a.1) (sym is))
+refused_is what s t r fault.TooMany e never u m =
+    let so = m e in
+    let is = full_there what s so.1 in
+    (so.0 ∙ ap (λ (a : Answer). a.0) (sym is), ap (λ (a : Answer). a.1) (sym is))
+
+pub given_is : (what : What) (s t : Repl) → t ≡ record s { session = injected_now what (after_due s.session) } → takes_event (after_due s.session).now ≡ true
+    → events s ≢ most_events → (t ≡ (given_answer what s).0) × (last_line t ≡ (given_answer what s).1)
+given_is what s t e takes room =
+    let is = given_there what s room takes in
+    (e ∙ ap (λ (a : Answer). a.0) (sym is), ap last_line e ∙ ap (λ (a : Answer). a.1) (sym is))
+
+pub line_is : (old new line other : List ℕ) → new ≡ old ++ line → line ≡ other → new ≡ old ++ other
+line_is old new line other h e = h ∙ ap (λ (x : List ℕ). old ++ x) e
+
+-- the last line of the answer to `back`
+pub end_written : (a b : Option (List ℕ)) (none : List ℕ) (t u : Repl) → none ≡ [] → t ≡ u → Appends a b (none ++ last_line t) → Appends a b ([] ++ last_line u)
+end_written a b none t u n same h = subst (Appends a b) (ap (λ (x : List ℕ). x ++ last_line t) n ∙ ap last_line same) h
+
+-- a REPL is kept if its answer could be written
+pub when_kept : {P : Type 0} (Q : Repl → Type 0) (told : Result (Unit {0}) ReplFault) (t : Repl) (r : Result Repl ReplFault)
+    → MatchResult told (λ u. r ≡ Ok t) (λ why. r ≡ Err why) → OnOk told P → (P → Q t) → IfOk r Q
+when_kept Q (Ok u) t r e h f = rw e (f h)
+when_kept Q (Err why) t r e h f = rw e tt
+
+pub when_stayed : {P : Type 0} (Q : Repl → Type 0) (t : Repl) (r : Result Repl ReplFault) → IfOk r (λ left. (left ≡ t) × P) → (P → Q t) → IfOk r Q
+when_stayed Q t (Ok left) h f = rw h.0 (f h.1)
+when_stayed Q t (Err why) h f = tt
+
+pub same_goes : (s t : Repl) → t ≡ s → GoesOn s.session t.session
+same_goes s t e = subst (λ (x : Repl). GoesOn s.session x.session) (sym e) (stays_put s.session)

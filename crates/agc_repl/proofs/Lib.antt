@@ -1,0 +1,10 @@
+pub mod Ascii
+pub mod Answering
+pub mod Cells
+pub mod Due
+pub mod Going
+pub mod Input
+pub mod Sessions
+pub mod Stepping
+pub mod Telling
+pub mod Ways

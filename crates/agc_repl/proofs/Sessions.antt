@@ -1,0 +1,152 @@
+-- The requests of an input are answered one after another.
+use Rattle.std.specs.Prelude.{◌≡◌, ◌⊎◌, ℕ, List, [], ◌∷◌, ◌++◌, Option, None, Some, Result, Ok, IfOk, IfSome, codes}
+use Rattle.std.specs.Io.KnownBytes.{Appends, Keeps}
+use Rattle.std.proofs.Common.{refl, ap, sym, subst, ◌∙◌, append-nil, append_assoc, inl, inr}
+use Rattle.std.proofs.KnownBytes.{Appends-retained, Appends-trans, Keeps-refl}
+use Rattle.agc_repl.specs.Answered.{Grows, IsAnswered, Request, RunsOut, Tells, answer_to}
+use Rattle.agc_repl.specs.Input.{ReadsRequest}
+use Rattle.agc_repl.specs.Transcript.{AreAnswered, RanOut, requests_in, session_text}
+use Rattle.agc_repl.specs.declared.conversation.ReplFault.{ReplFault}
+use Rattle.agc_repl.specs.declared.repl.Repl.{Repl}
+use Rattle.agc_symbols.specs.Symbols.{Symbol}
+
+-- answering the rest of the input from here completes the session
+abbrev pub Goes : Option (List Symbol) → Option (List ℕ) → Option (List ℕ) → Repl → Repl → Option (List ℕ) → Option (List ℕ) → Type 0
+Goes names known left s t old now =
+    IfSome known (λ input. (rest : List ℕ) × (left ≡ Some rest)
+    × ((end : Option (List ℕ)) → AreAnswered names (requests_in names rest) t now end → AreAnswered names (requests_in names input) s old end))
+
+pub nothing_answered : (names : Option (List Symbol)) (known left : Option (List ℕ)) (s : Repl) (old : Option (List ℕ)) → left ≡ known → Goes names known left s s old old
+nothing_answered names None left s old e = tt
+nothing_answered names (Some input) left s old e = (input, e, λ end h. h)
+
+pub still_answered : (names : Option (List Symbol)) (request : Request) (s t : Repl) (old mid new : Option (List ℕ)) → IsAnswered names request s t old mid → Keeps mid new → IsAnswered names request s t old new
+still_answered names request s t old mid new (inl h) k = inl (h.0, Appends-retained old mid new (answer_to names request s).1 h.1 k)
+still_answered names request s t old mid new (inr h) k =
+    inr (record { left = h.left; said = h.said; ends = Appends-retained old mid new _ h.ends k })
+
+first_answered : (names : Option (List Symbol)) (request : Request) (requests : List Request) (s t : Repl) (old mid new : Option (List ℕ)) → IsAnswered names request s t old mid
+    → AreAnswered names requests t mid new → AreAnswered names (request ∷ requests) s old new
+unfolding AreAnswered
+first_answered names request requests s t old mid new h k = (t, mid, h, k)
+
+one_answered : (names : Option (List Symbol)) (left later : Option (List ℕ)) (rest : List ℕ) (request : Request) → left ≡ Some rest → ReadsRequest names left later (Some request)
+    → (more : List ℕ) × (later ≡ Some more) × (requests_in names rest ≡ request ∷ requests_in names more)
+one_answered names None later rest request e h = cc
+one_answered names (Some other) later rest request e h =
+    let same : Some other ≡ Some rest = e in
+    subst (λ (o : Option (List ℕ)). ReadsRequest names o later (Some request)) same h
+
+pub one_more_answered : (names : Option (List Symbol)) (known left later : Option (List ℕ)) (s t u : Repl) (old now mid new : Option (List ℕ)) (request : Request) → Goes names known left s t old now
+    → ReadsRequest names left later (Some request) → IsAnswered names request t u now mid → Keeps mid new → Goes names known later s u old new
+one_more_answered names None left later s t u old now mid new request h r a k = tt
+one_more_answered names (Some input) left later s t u old now mid new request h r a k =
+    let next = one_answered names left later h.0 request h.1 r in (
+      next.0,
+      next.1,
+      λ end more. h.2 end (subst (λ (requests : List Request). AreAnswered names requests t now end) (sym next.2)
+          (first_answered names request (requests_in names next.0) t u now new end (still_answered names request t u now mid new a k) more)),
+    )
+
+none_left : (names : Option (List Symbol)) (left later : Option (List ℕ)) (rest : List ℕ) → left ≡ Some rest → ReadsRequest names left later None → requests_in names rest ≡ []
+none_left names None later rest e h = cc
+none_left names (Some other) later rest e h = subst (λ (o : Option (List ℕ)). ReadsRequest names o later None) e h
+
+no_requests : (names : Option (List Symbol)) (t : Repl) (known : Option (List ℕ)) → AreAnswered names [] t known known
+unfolding AreAnswered
+no_requests names t known = Keeps-refl known
+
+pub all_answered : (names : Option (List Symbol)) (known left later : Option (List ℕ)) (s t : Repl) (old now : Option (List ℕ)) → Goes names known left s t old now → ReadsRequest names left later None
+    → IfSome known (λ input. AreAnswered names (requests_in names input) s old now)
+all_answered names None left later s t old now h r = tt
+all_answered names (Some input) left later s t old now h r =
+    h.2 now (subst (λ (requests : List Request). AreAnswered names requests t now now) (sym (none_left names left later h.0 h.1 r)) (no_requests names t now))
+
+-- if memory suffices, the text is that of the session
+kept_is_none : (a b : Option (List ℕ)) → Keeps a b → Appends a b []
+kept_is_none None b h = tt
+kept_is_none (Some xs) None h = absurd h
+kept_is_none (Some xs) (Some ys) h = h ∙ sym (append-nil xs)
+
+answer_grows : (names : Option (List Symbol)) (request : Request) (s t : Repl) (old new : Option (List ℕ)) → IsAnswered names request s t old new → Grows old new
+answer_grows names request s t old new (inl h) = ((answer_to names request s).1, h.1)
+answer_grows names request s t old new (inr h) = (h.said ++ codes "error: memory\n", h.ends)
+
+answers_grow : (names : Option (List Symbol)) (requests : List Request) (s : Repl) (old new : Option (List ℕ)) → AreAnswered names requests s old new → Grows old new
+unfolding AreAnswered
+answers_grow names [] s old new h = ([], kept_is_none old new h)
+answers_grow names (request ∷ requests) s old new h =
+    let one = answer_grows names request s h.0 old h.1 h.2 in
+    let more = answers_grow names requests h.0 h.1 new h.3 in
+    (one.0 ++ more.0, Appends-trans old h.1 new one.0 more.0 one.1 more.1)
+
+text_then : (names : Option (List Symbol)) (request : Request) (requests : List Request) (s : Repl)
+    → session_text names (request ∷ requests) s ≡ (answer_to names request s).1 ++ session_text names requests (answer_to names request s).0
+unfolding session_text
+text_then names request requests s = refl
+
+no_text : (names : Option (List Symbol)) (s : Repl) → session_text names [] s ≡ []
+unfolding session_text
+no_text names s = refl
+
+-- an answer comes before the rest of a session
+answer_first : (names : Option (List Symbol)) (request : Request) (requests : List Request) (s t : Repl) (old mid new : Option (List ℕ)) → Tells (answer_to names request s) t old mid
+    → (Appends mid new (session_text names requests t) ⊎ RanOut names requests t mid new) → Appends old new (session_text names (request ∷ requests) s) ⊎ RanOut names (request ∷ requests) s old new
+answer_first names request requests s t old mid new h (inl k) =
+    let whole : (answer_to names request s).1 ++ session_text names requests t ≡ session_text names (request ∷ requests) s =
+    ap (λ (u : Repl). (answer_to names request s).1 ++ session_text names requests u) h.0 ∙ sym (text_then names request requests s) in
+    inl (subst (Appends old new) whole (Appends-trans old mid new (answer_to names request s).1 (session_text names requests t) h.1 k))
+answer_first names request requests s t old mid new h (inr k) =
+    let rest = k.said ++ (codes "error: memory\n" ++ k.more) in
+    let whole : (answer_to names request s).1 ++ (session_text names k.earlier t ++ rest) ≡ session_text names (request ∷ k.earlier) s ++ rest =
+    sym (append_assoc (answer_to names request s).1 (session_text names k.earlier t) rest)
+    ∙ ap (λ (u : Repl). ((answer_to names request s).1 ++ session_text names k.earlier u) ++ rest) h.0
+    ∙ ap (λ (text : List ℕ). text ++ rest) (sym (text_then names request k.earlier s)) in
+    inr (record {
+      earlier = request ∷ k.earlier;
+      rest = k.rest;
+      requests_are = ap (λ (more : List Request). request ∷ more) k.requests_are;
+      said = k.said;
+      more = k.more;
+      text = subst (Appends old new) whole (Appends-trans old mid new (answer_to names request s).1 (session_text names k.earlier t ++ rest) h.1 k.text);
+    })
+
+ran_out_first : (names : Option (List Symbol)) (request : Request) (requests : List Request) (s t : Repl) (old mid new : Option (List ℕ)) → RunsOut names request s t old mid → Grows mid new
+    → RanOut names (request ∷ requests) s old new
+ran_out_first names request requests s t old mid new h k =
+    let here : Appends old new ((h.said ++ codes "error: memory\n") ++ k.0) = Appends-trans old mid new (h.said ++ codes "error: memory\n") k.0 h.ends k.1 in
+    record {
+      earlier = [];
+      rest = request ∷ requests;
+      requests_are = refl;
+      said = h.said;
+      more = k.0;
+      text = subst (Appends old new) (append_assoc h.said (codes "error: memory\n") k.0 ∙ ap (λ (text : List ℕ). text ++ (h.said ++ (codes "error: memory\n" ++ k.0))) (sym (no_text names s))) here;
+    }
+
+by_answer : (names : Option (List Symbol)) (request : Request) (requests : List Request) (s t : Repl) (old mid new : Option (List ℕ)) → IsAnswered names request s t old mid → AreAnswered names requests t mid new
+    → (Appends mid new (session_text names requests t) ⊎ RanOut names requests t mid new) → Appends old new (session_text names (request ∷ requests) s) ⊎ RanOut names (request ∷ requests) s old new
+by_answer names request requests s t old mid new (inl h) k more = answer_first names request requests s t old mid new h more
+by_answer names request requests s t old mid new (inr h) k more = inr (ran_out_first names request requests s t old mid new h (answers_grow names requests t mid new k))
+
+session_told : (names : Option (List Symbol)) (requests : List Request) (s : Repl) (old new : Option (List ℕ)) → AreAnswered names requests s old new
+    → Appends old new (session_text names requests s) ⊎ RanOut names requests s old new
+unfolding AreAnswered
+session_told names [] s old new h = inl (subst (Appends old new) (sym (no_text names s)) (kept_is_none old new h))
+session_told names (request ∷ requests) s old new h =
+    by_answer names request requests s h.0 old h.1 new h.2 h.3 (session_told names requests h.0 h.1 new h.3)
+
+pub text_told : (names : Option (List Symbol)) (known : Option (List ℕ)) (s : Repl) (old new : Option (List ℕ)) → IfSome known (λ input. AreAnswered names (requests_in names input) s old new)
+    → IfSome known (λ input. Appends old new (session_text names (requests_in names input) s) ⊎ RanOut names (requests_in names input) s old new)
+text_told names None s old new h = tt
+text_told names (Some input) s old new h = session_told names (requests_in names input) s old new h
+
+-- at first the reader contains the whole input
+pub session_so : (names : Option (List Symbol)) (known left : Option (List ℕ)) (s t : Repl) (old new : Option (List ℕ)) → left ≡ known → t ≡ s
+    → IfSome left (λ input. AreAnswered names (requests_in names input) t old new) → IfSome known (λ input. AreAnswered names (requests_in names input) s old new)
+session_so names known left s t old new e same h = rw (sym e, sym same) h
+
+-- what was read, as the arms of a match know it
+pub reads_as : (names : Option (List Symbol)) (left later : Option (List ℕ)) (r : Result (Option Request) ReplFault) (said next : Option Request) → r ≡ Ok said → said ≡ next
+    → IfOk r (λ x. ReadsRequest names left later x) → ReadsRequest names left later next
+reads_as names left later r said next e f h = rw (e, f) at h

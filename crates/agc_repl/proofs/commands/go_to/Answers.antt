@@ -1,0 +1,68 @@
+use Rattle.std.proofs.Common.{◌≡◌, ap, sym, ◌∙◌, true, false}
+use Rattle.std.proofs.lemmas.Result.{err_from_is_err_and}
+use Rattle.agc_machine.specs.State.{State}
+use Rattle.agc_repl.specs.Stretch.{has_come}
+use Rattle.agc_repl.proofs.Going.{goes_then, stays_put, under_way}
+use Rattle.agc_repl.proofs.Telling.{grows_then, stays_known}
+use Rattle.agc_repl.proofs.Ways.{Onward, came_not, came_there, followed_there, followed_up, follows, follows_on, nothing_said, said_all, said_there, says_on}
+use Rattle.agc_repl.proofs.commands.go_to.Goals as goal
+
+pub loop-repl-init : goal.loop-repl-init
+loop-repl-init g c = (follows _ _ _, nothing_said _ _ c.args.repl.now _, stays_put _, stays_known _)
+
+pub loop-repl-preserved : goal.loop-repl-preserved
+loop-repl-preserved g c =
+    let so_far = c.loop-repl.invariant in
+    let onward : Onward c.args.stop_.now c.args.cycle c.loop-repl.repl c.advance-stepped.new.repl c.advance-stepped.result =
+    (c.advance-stepped.ensures.stretch, c.advance-stepped.ensures.shown) in
+    let not_yet : has_come c.args.stop_.now c.advance-stepped.new.repl.session.now c.advance-stepped.result ≡ false =
+    ap (λ (s : State). has_come c.args.stop_.now s c.advance-stepped.result) (sym c.machine.ensures) ∙ sym c.has_come.ensures ∙ c.if-has_come.false in (
+      follows_on _ _ _ _ _ _ so_far.0 onward not_yet,
+      says_on _ _ c.args.repl.now c.loop-repl.repl c.advance-stepped.new.repl _ _ _ _ so_far.1 onward not_yet c.in_ok-tell.ensures.told,
+      goes_then _ _ _ so_far.2 c.advance-stepped.ensures.on,
+      grows_then _ _ _ so_far.3 (c.in_ok-tell.ensures.grows (λ e. cc)),
+    )
+
+pub loop-repl-smaller : goal.loop-repl-smaller
+loop-repl-smaller g c = c.advance-stepped.ensures.advances (under_way c.args.cycle c.loop-repl.repl.session.now (sym c.is_before.ensures ∙ c.loop-repl-test.true)).1
+
+pub returns-then-has_come-clause-gone : goal.returns-then-has_come-clause-gone
+returns-then-has_come-clause-gone g c =
+    let there : has_come c.args.stop_.now c.advance-stepped.new.repl.session.now c.advance-stepped.result ≡ true =
+    ap (λ (s : State). has_come c.args.stop_.now s c.advance-stepped.result) (sym c.machine.ensures) ∙ sym c.has_come.ensures ∙ c.if-has_come.true in
+    followed_there _ _ _ _ _ _ c.loop-repl.invariant.0 (c.advance-stepped.ensures.stretch, c.advance-stepped.ensures.shown) there
+
+pub returns-then-has_come-clause-hit : goal.returns-then-has_come-clause-hit
+returns-then-has_come-clause-hit g c =
+    let there : has_come c.args.stop_.now c.advance-stepped.new.repl.session.now c.advance-stepped.result ≡ true =
+    ap (λ (s : State). has_come c.args.stop_.now s c.advance-stepped.result) (sym c.machine.ensures) ∙ sym c.has_come.ensures ∙ c.if-has_come.true in
+    came_there _ _ _ _ _ _ c.loop-repl.invariant.0 (c.advance-stepped.ensures.stretch, c.advance-stepped.ensures.shown) there
+
+pub returns-then-has_come-clause-told : goal.returns-then-has_come-clause-told
+returns-then-has_come-clause-told g c =
+    let there : has_come c.args.stop_.now c.advance-stepped.new.repl.session.now c.advance-stepped.result ≡ true =
+    ap (λ (s : State). has_come c.args.stop_.now s c.advance-stepped.result) (sym c.machine.ensures) ∙ sym c.has_come.ensures ∙ c.if-has_come.true in
+    said_there _ _ c.args.repl.now c.loop-repl.repl c.advance-stepped.new.repl _ _ _ _ c.loop-repl.invariant.1 (c.advance-stepped.ensures.stretch, c.advance-stepped.ensures.shown) there c.in_ok-tell.ensures.told
+
+pub returns-then-has_come-clause-on : goal.returns-then-has_come-clause-on
+returns-then-has_come-clause-on g c = goes_then _ _ _ c.loop-repl.invariant.2 c.advance-stepped.ensures.on
+
+pub returns-then-has_come-clause-grows : goal.returns-then-has_come-clause-grows
+returns-then-has_come-clause-grows g c never = grows_then _ _ _ c.loop-repl.invariant.3 (c.in_ok-tell.ensures.grows (λ e. cc))
+
+pub returns-in_err-tell-clause-on : goal.returns-in_err-tell-clause-on
+returns-in_err-tell-clause-on g c = goes_then _ _ _ c.loop-repl.invariant.2 c.advance-stepped.ensures.on
+
+pub returns-in_err-tell-clause-grows : goal.returns-in_err-tell-clause-grows
+returns-in_err-tell-clause-grows g c never =
+    let p = err_from_is_err_and c.from_residual.result c.from_residual.ensures.1 in
+    grows_then _ _ _ c.loop-repl.invariant.3 (c.tell.ensures.grows (λ e. never (cc (p.1, p.2, c.in_err-tell.was, e))))
+
+pub returns-clause-gone : goal.returns-clause-gone
+returns-clause-gone g c = followed_up _ _ _ _ c.loop-repl.invariant.0 (sym c.is_before.ensures ∙ c.loop-repl-test.false)
+
+pub returns-clause-hit : goal.returns-clause-hit
+returns-clause-hit g c = came_not _ _ _ _ c.loop-repl.invariant.0 (sym c.is_before.ensures ∙ c.loop-repl-test.false)
+
+pub returns-clause-told : goal.returns-clause-told
+returns-clause-told g c = said_all _ _ c.args.repl.now c.loop-repl.repl _ _ c.loop-repl.invariant.1 (sym c.is_before.ensures ∙ c.loop-repl-test.false)

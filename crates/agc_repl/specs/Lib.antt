@@ -1,0 +1,14 @@
+pub mod Name
+pub mod Fault
+pub mod Words
+pub mod Number
+pub mod Place
+pub mod Command
+pub mod Help
+pub mod Answer
+pub mod Repl
+pub mod Stretch
+pub mod Queries
+pub mod Answered
+pub mod Transcript
+pub mod Input

@@ -1,0 +1,50 @@
+-- The first words of the console's own commands.
+use Rattle.std.specs.Prelude.{ℕ, List, [], ◌∷◌, Option, codes, find}
+use Rattle.std.specs.Str.{bytes_eq}
+use Rattle.agc_repl.specs.declared.name.CommandName.{CommandName}
+use Rattle.agc_repl.specs.declared.name.CommandName.TheVariants as name
+
+-- the first word of a command
+unfoldable pub name_text : CommandName → List ℕ
+name_text name.Go = codes "go"
+name_text name.Step = codes "step"
+name_text name.Until = codes "until"
+name_text name.Panel = codes "panel"
+name_text name.Watch = codes "watch"
+name_text name.Registers = codes "registers"
+name_text name.Next = codes "next"
+name_text name.Cell = codes "cell"
+name_text name.Channel = codes "channel"
+name_text name.Writes = codes "writes"
+name_text name.Back = codes "back"
+name_text name.Script = codes "script"
+name_text name.Help = codes "help"
+name_text name.Quit = codes "quit"
+
+-- every name, once
+unfoldable pub all_names : List CommandName
+all_names =
+    name.Go ∷ name.Step ∷ name.Until ∷ name.Panel ∷ name.Watch ∷ name.Registers ∷ name.Next
+    ∷ name.Cell ∷ name.Channel ∷ name.Writes ∷ name.Back ∷ name.Script ∷ name.Help ∷ name.Quit ∷ []
+
+-- the name that a word spells, if any
+unfoldable pub name_named : List ℕ → Option CommandName
+name_named word = find (λ n. bytes_eq (name_text n) word) all_names
+
+-- the syntax of a command
+unfoldable pub usage_text : CommandName → List ℕ
+usage_text name.Go = codes "go N, or go to C"
+usage_text name.Step = codes "step, or step N"
+usage_text name.Until =
+    codes "until PLACE, until write CCC or until cell PLACE, and within N after it or not"
+usage_text name.Panel = codes "panel"
+usage_text name.Watch = codes "watch SPEC"
+usage_text name.Registers = codes "registers"
+usage_text name.Next = codes "next"
+usage_text name.Cell = codes "cell PLACE, or cell PLACE N"
+usage_text name.Channel = codes "channel CCC"
+usage_text name.Writes = codes "writes"
+usage_text name.Back = codes "back C"
+usage_text name.Script = codes "script"
+usage_text name.Help = codes "help"
+usage_text name.Quit = codes "quit"

@@ -1,0 +1,108 @@
+-- The run of a machine up to a cycle or a breakpoint.
+use Rattle.std.specs.Prelude.{◌<◌, ℕ, zero, suc, nat_eq, nat_lt, Bool, true, false, not, ◌&&◌, List, [], ◌∷◌, ◌++◌, is_none, None, if◌then◌else◌, flat_map}
+use Rattle.agc_word.specs.declared.channel_write.ChannelWrite.{ChannelWrite}
+use Rattle.agc_machine.specs.Boundary.{boundary, upcoming_of}
+use Rattle.agc_machine.specs.Replay.{writes_in}
+use Rattle.agc_machine.specs.Run.{boundaries_left}
+use Rattle.agc_machine.specs.State.{State}
+use Rattle.agc_machine.specs.declared.answer.Stepped.{Stepped}
+use Rattle.agc_machine.specs.declared.answer.Stepped.TheVariants as stepped
+use Rattle.agc_machine.specs.declared.upcoming.Upcoming.{Upcoming}
+use Rattle.agc_machine.specs.declared.upcoming.Upcoming.TheVariants as upcoming
+use Rattle.agc_repl.specs.declared.command.Breakpoint.{Breakpoint}
+use Rattle.agc_repl.specs.declared.command.Breakpoint.TheVariants as target
+use Rattle.agc_listing.specs.Location.{location_at}
+use Rattle.agc_listing.specs.declared.location.Location.{Location}
+use Rattle.agc_listing.specs.declared.location.Location.TheVariants as location
+use Rattle.agc_store.specs.Cells.{cell_of}
+use Rattle.agc_store.specs.Memory.{Memory}
+use Rattle.agc_store.specs.Places.{erasable_bank_size, erasable_cells}
+use Rattle.agc_word.specs.Number.{Number, pattern_of}
+use Rattle.std.specs.Prelude.{◌/◌, ◌%◌}
+use Rattle.agc_repl.specs.Answer.{write_line}
+use Rattle.agc_repl.specs.declared.stop_at.Stop_.{Stop_}
+use Rattle.agc_repl.specs.declared.stop_at.Stop_.TheVariants as stop_
+
+abbrev pub same_location : Location → Location → Bool
+same_location (location.Fixed here) (location.Fixed there) = nat_eq here there
+same_location (location.Erasable here) (location.Erasable there) = nat_eq here there
+same_location (location.Fixed here) (location.Erasable there) = false
+same_location (location.Erasable here) (location.Fixed there) = false
+
+-- the order at a place comes next
+abbrev pub is_order_at : Location → Upcoming → Bool
+is_order_at place (upcoming.Order order) = same_location (location_at order.bank order.address) place
+is_order_at place (upcoming.Stop why) = false
+is_order_at place (upcoming.Event what) = false
+is_order_at place (upcoming.Timer t) = false
+is_order_at place (upcoming.Interrupt r) = false
+
+-- a boundary returned a write to a channel
+abbrev pub is_write_to : ℕ → Stepped → Bool
+is_write_to channel (stepped.Wrote write) = nat_eq write.channel channel
+is_write_to channel stepped.Quiet = false
+is_write_to channel (stepped.Stopped why) = false
+
+-- the word of a cell by its number, overflow corrected
+abbrev pub word_at : ℕ → Memory → Number
+word_at cell m = cell_of m (cell / erasable_bank_size) (cell % erasable_bank_size)
+
+-- a cell has another word than this
+abbrev pub is_other_word : ℕ → Number → State → Bool
+is_other_word cell before s = not (nat_eq (pattern_of 15 (word_at cell s.processor.store)) (pattern_of 15 before))
+
+-- A boundary has hit the target, by the state that it led to and what it returned.
+unfoldable pub has_come : Stop_ → State → Stepped → Bool
+has_come stop_.Nothing s answer = false
+has_come (stop_.Write channel) s answer = is_write_to channel answer
+has_come (stop_.Order place) s answer = is_order_at place (upcoming_of s)
+has_come (stop_.Cell cell before) s answer = is_other_word cell before s
+
+-- a targeted cell exists
+abbrev pub IsSoughtInRange : Stop_ → Type 0
+IsSoughtInRange (stop_.Cell cell before) = cell < erasable_cells
+IsSoughtInRange stop_.Nothing = Unit {0}
+IsSoughtInRange (stop_.Write channel) = Unit {0}
+IsSoughtInRange (stop_.Order place) = Unit {0}
+
+-- the target of a breakpoint that is set in this state
+abbrev pub sought_in : State → Breakpoint → Stop_
+sought_in s (target.Order place) = stop_.Order place
+sought_in s (target.Write channel) = stop_.Write channel
+sought_in s (target.Cell cell) = stop_.Cell cell (word_at cell s.processor.store)
+
+-- The state that a stretch ends in, its channel writes in order, and whether the target was hit.
+pub record Stretch : Type 0 where
+  pub last : State
+  pub writes : List ChannelWrite
+  pub hit : Bool
+
+abbrev pub no_way : State → Stretch
+no_way s = record { last = s; writes = []; hit = false }
+
+-- a machine has neither stopped nor reached a cycle
+abbrev pub is_short_of : ℕ → State → Bool
+is_short_of cycle s = nat_lt s.cycle cycle && is_none s.stopped
+
+-- a boundary, then the rest unless the boundary hit the target
+abbrev pub and_on : Stop_ → State × Stepped → Stretch → Stretch
+and_on stop_ (s, answer) rest =
+    if has_come stop_ s answer
+    then record { last = s; writes = writes_in (answer ∷ []); hit = true }
+    else record { last = rest.last; writes = writes_in (answer ∷ []) ++ rest.writes; hit = rest.hit }
+
+-- the stretch within this many boundaries, which are enough
+unfoldable pub way_within : ℕ → Stop_ → ℕ → State → Stretch
+way_within zero stop_ cycle s = no_way s
+way_within (suc more) stop_ cycle s =
+    let next = boundary None s in
+    if is_short_of cycle s then and_on stop_ next (way_within more stop_ cycle next.0) else no_way s
+
+-- The stretch to a cycle: boundaries with nothing injected, as long as the cycle is not reached and the machine has
+-- not stopped, up to the first that hits the target.
+unfoldable pub stretch_to : Stop_ → ℕ → State → Stretch
+stretch_to stop_ cycle s = way_within (boundaries_left s) stop_ cycle s
+
+-- a line for each channel write
+abbrev pub writes_text : List ChannelWrite → List ℕ
+writes_text writes = flat_map write_line writes

@@ -1,0 +1,52 @@
+//! The parsed commands of the console.
+use agc_listing::Location;
+use agc_panel::WatchSpec;
+use agc_script::What;
+
+/// A breakpoint: what `until` runs to.
+#[derive(Clone, Copy, Debug, PartialEq, Eq)]
+pub enum Breakpoint {
+    /// The order at this place is the next to execute.
+    Order(Location),
+    /// The next write to this channel, 0 to 777 octal.
+    Write(u16),
+    /// The next change of this cell: 400 octal times its bank, plus its offset.
+    Cell(u16),
+}
+
+/// A command of the console.
+#[derive(Clone, Copy, Debug, PartialEq, Eq)]
+pub enum Command {
+    /// Run for this many cycles.
+    Go(u64),
+    /// Run until this cycle is reached or passed.
+    GoTo(u64),
+    /// Take this many boundaries.
+    Step(u64),
+    /// Run to a breakpoint, for at most this many cycles.
+    Until { what: Breakpoint, within: u64 },
+    /// Inject an event now.
+    Inject(What),
+    /// Show the lines of the panel.
+    Panel,
+    /// Show the Executive's tables at these places.
+    Watch(WatchSpec),
+    /// Show the registers.
+    Registers,
+    /// Show what comes next.
+    Next,
+    /// Show this many cells of erasable memory, from this one on: 400 octal times its bank, plus its offset.
+    Cells { first: u16, count: u16 },
+    /// Show the word of this channel, 0 to 777 octal.
+    Channel(u16),
+    /// Show the number of channel writes.
+    Writes,
+    /// Rewind to the state before this cycle.
+    Back(u64),
+    /// Export the script that replays the session.
+    Script,
+    /// List the commands.
+    Help,
+    /// End the session.
+    Quit,
+}

@@ -1,0 +1,226 @@
+//! Executes the commands that move the machine.
+ghost use Rattle.std.specs.Prelude.{◌≡◌, ◌≢◌, true, false, ◌+◌, ◌-◌, ◌^◌, [], ◌∷◌, min, IsErrOf, IfErr, IfOk, OnOk, OnErr, flat_map, length, string_bytes};
+ghost use Rattle.std.specs.Io.KnownBytes.{Appends, append_known};
+ghost use Rattle.agc_machine.specs.Boundary.{boundary, upcoming_of};
+ghost use Rattle.agc_machine.specs.Laws.{HasChannel};
+ghost use Rattle.agc_machine.specs.Replay.{writes_in};
+ghost use Rattle.agc_session.specs.Session.{injected_now};
+ghost use Rattle.agc_trace.specs.Entry.{FitsLine, entry_of};
+ghost use Rattle.agc_trace.specs.NamedLine.{line_with};
+ghost use Rattle.agc_trace.specs.Trace.{trace_within};
+ghost use Rattle.agc_repl.specs.Command.{IsBreakpointInRange};
+ghost use Rattle.agc_repl.specs.Answered.{Grows, Tells, refusal_text, shown_until, shown_stretch};
+ghost use Rattle.agc_repl.specs.Repl.{GoesOn, after_boundaries, after_due, after_stretch, gone_on, takes_event};
+ghost use Rattle.agc_repl.specs.Stretch.{IsSoughtInRange, sought_in, stretch_to, writes_text};
+ghost use Rattle.agc_repl.specs.declared.stop_at.Stop_.TheVariants.{Nothing};
+ghost use Rattle.agc_script.specs.Event.{IsWhatInRange, most_events};
+
+use crate::answer::{push_hit_line, push_write_line};
+use crate::command::Breakpoint;
+use crate::conversation::ReplFault;
+use crate::output::write_part;
+use crate::repl::Repl;
+use crate::stop_at::Stop_;
+use agc_machine::{Stepped, Upcoming};
+use agc_script::{MOST_EVENTS, What};
+use agc_session::InjectFault;
+use agc_symbols::SymbolTable;
+use agc_trace::{Entry, push_line_with, registers_in};
+use std::io::Write;
+
+/// Runs for `cycles` cycles or to the stop, and prints each channel write.
+pub(crate) fn go<W: Write>(
+    repl: &mut Repl,
+    cycles: u64,
+    text: &mut String,
+    output: &mut W,
+) -> Result<(), ReplFault>
+    ensures told { OnOk result (Tells (shown_stretch (stretch_to Nothing
+        (min (repl.old.session.now.cycle + cycles) (2 ^ 64 - 1)) repl.old.session.now) repl.old) repl.new
+        (append_known (W.contents output.old) (string_bytes text.old))
+        (append_known (W.contents output.new) (string_bytes text.new))) }
+    ensures on { GoesOn repl.old.session repl.new.session }
+    ensures grows { (IsErrOf result ReplFault.Write → ⊥) → Grows (W.contents output.old) (W.contents output.new) }
+{
+    let cycle = repl.cycle().saturating_add(cycles);
+    go_on_to(repl, cycle, text, output)
+}
+
+/// Runs to `cycle` or to the stop, and prints each channel write.
+pub(crate) fn go_on_to<W: Write>(
+    repl: &mut Repl,
+    cycle: u64,
+    text: &mut String,
+    output: &mut W,
+) -> Result<(), ReplFault>
+    ensures told { OnOk result (Tells (shown_stretch (stretch_to Nothing cycle repl.old.session.now) repl.old) repl.new
+        (append_known (W.contents output.old) (string_bytes text.old))
+        (append_known (W.contents output.new) (string_bytes text.new))) }
+    ensures on { GoesOn repl.old.session repl.new.session }
+    ensures grows { (IsErrOf result ReplFault.Write → ⊥) → Grows (W.contents output.old) (W.contents output.new) }
+{
+    go_to(repl, &Stop_::Nothing, cycle, text, output)?;
+    Ok(())
+}
+
+/// Runs to `cycle`, to the stop or until `stop_` is hit, and prints each channel write. Returns whether it was hit.
+fn go_to<W: Write>(
+    repl: &mut Repl,
+    stop_: &Stop_,
+    cycle: u64,
+    text: &mut String,
+    output: &mut W,
+) -> Result<bool, ReplFault>
+    requires { IsSoughtInRange stop_.now }
+    ensures gone { OnOk result (repl.new ≡ after_stretch (stretch_to stop_.now cycle repl.old.session.now) repl.old) }
+    ensures hit { IfOk result (λ hit. hit ≡ (stretch_to stop_.now cycle repl.old.session.now).hit) }
+    ensures told { OnOk result (Appends (append_known (W.contents output.old) (string_bytes text.old))
+        (append_known (W.contents output.new) (string_bytes text.new))
+        (writes_text (stretch_to stop_.now cycle repl.old.session.now).writes)) }
+    ensures on { GoesOn repl.old.session repl.new.session }
+    ensures grows { (IsErrOf result ReplFault.Write → ⊥) → Grows (W.contents output.old) (W.contents output.new) }
+{
+    while repl.is_before(cycle) {
+        let stepped = stop_.advance(repl, cycle);
+        tell(&stepped, text, output)?;
+        if stop_.has_come(repl.machine(), &stepped) {
+            return Ok(true);
+        }
+    }
+    Ok(false)
+}
+
+/// Prints the line of a channel write, if there was one.
+fn tell<W: Write>(stepped: &Stepped, text: &mut String, output: &mut W) -> Result<(), ReplFault>
+    requires { HasChannel stepped.now }
+    ensures told { OnOk result (Appends (append_known (W.contents output.old) (string_bytes text.old))
+        (append_known (W.contents output.new) (string_bytes text.new)) (writes_text (writes_in (stepped.now ∷ [])))) }
+    ensures grows { (IsErrOf result ReplFault.Write → ⊥) → Grows (W.contents output.old) (W.contents output.new) }
+{
+    let Stepped::Wrote(write) = stepped else {
+        return Ok(());
+    };
+    push_write_line(text, write)?;
+    write_part(text, output)
+}
+
+/// Takes `boundaries` boundaries, but none after the stop, and prints each one's trace line, with the symbols in
+/// `names`.
+pub(crate) fn step<W: Write>(
+    repl: &mut Repl,
+    names: &Option<SymbolTable>,
+    boundaries: u64,
+    text: &mut String,
+    output: &mut W,
+) -> Result<(), ReplFault>
+    ensures gone { OnOk result (repl.new ≡ after_boundaries boundaries repl.old) }
+    ensures lines { OnOk result (Appends (append_known (W.contents output.old) (string_bytes text.old))
+        (append_known (W.contents output.new) (string_bytes text.new))
+        (flat_map (line_with names.now) (trace_within boundaries repl.old.session.now))) }
+    ensures on { GoesOn repl.old.session repl.new.session }
+    ensures grows { (IsErrOf result ReplFault.Write → ⊥) → Grows (W.contents output.old) (W.contents output.new) }
+{
+    for _boundary in 0..boundaries {
+        let entry = next_entry(repl);
+        push_line_with(text, names, &entry)?;
+        write_part(text, output)?;
+        if entry.is_stop() {
+            return Ok(());
+        }
+    }
+    Ok(())
+}
+
+/// Takes one boundary and returns its trace entry.
+#[tactic(auto, unfolding(agc_trace::specs::Entry::entry_of))]
+fn next_entry(repl: &mut Repl) -> Entry
+    ensures entry { result ≡ entry_of repl.old.session.now }
+    ensures now { repl.new.session.now ≡ (boundary None repl.old.session.now).0 }
+    ensures shown { repl.new ≡ gone_on repl.new.session.now
+        (writes_in ((boundary None repl.old.session.now).1 ∷ [])) repl.old }
+    ensures on { GoesOn repl.old.session repl.new.session }
+    ensures fits { FitsLine result }
+{
+    let cycle = repl.cycle();
+    let happening = repl.machine().upcoming();
+    let write = match repl.step() {
+        Stepped::Wrote(write) => Some(write),
+        Stepped::Quiet | Stepped::Stopped(_) => None,
+    };
+    Entry {
+        cycle,
+        happening,
+        write,
+        registers: registers_in(repl.machine().store()),
+    }
+}
+
+/// Runs to a breakpoint, for at most `within` cycles or to the stop. Prints each channel write, and whether the
+/// breakpoint was hit.
+pub(crate) fn until<W: Write>(
+    repl: &mut Repl,
+    what: Breakpoint,
+    within: u64,
+    text: &mut String,
+    output: &mut W,
+) -> Result<(), ReplFault>
+    requires { IsBreakpointInRange what }
+    ensures told { OnOk result (Tells (shown_until (stretch_to (sought_in repl.old.session.now what)
+        (min (repl.old.session.now.cycle + within) (2 ^ 64 - 1)) repl.old.session.now) repl.old) repl.new
+        (append_known (W.contents output.old) (string_bytes text.old))
+        (append_known (W.contents output.new) (string_bytes text.new))) }
+    ensures on { GoesOn repl.old.session repl.new.session }
+    ensures grows { (IsErrOf result ReplFault.Write → ⊥) → Grows (W.contents output.old) (W.contents output.new) }
+{
+    let stop_ = Stop_::new(repl.machine(), what);
+    let end = repl.cycle().saturating_add(within);
+    let hit = go_to(repl, &stop_, end, text, output)?;
+    push_hit_line(text, hit)?;
+    Ok(())
+}
+
+/// Injects an event, after the script's events that are due.
+pub(crate) fn inject(repl: &mut Repl, what: What) -> Result<(), InjectFault>
+    requires { IsWhatInRange what }
+    ensures injected { OnOk result (repl.new ≡ record repl.old { session = injected_now what (after_due repl.old.session) }) }
+    ensures taken { OnOk result (takes_event (after_due repl.old.session).now ≡ true) }
+    ensures room { OnOk result (length repl.old.session.script + length repl.old.session.injected ≢ most_events) }
+    ensures unwanted { IsErrOf result InjectFault.Unwanted
+        → (repl.new ≡ record repl.old { session = after_due repl.old.session })
+        × (takes_event (after_due repl.old.session).now ≡ false)
+        × (length repl.old.session.script + length repl.old.session.injected ≢ most_events) }
+    ensures many { IsErrOf result InjectFault.TooMany → (repl.new ≡ repl.old)
+        × (length repl.old.session.script + length repl.old.session.injected ≡ most_events) }
+    ensures on { OnErr result (GoesOn repl.old.session repl.new.session) }
+{
+    repl.session.make_room()?;
+    take_due_events(repl);
+    repl.session.inject(what)
+}
+
+/// Lets the script's events that are due happen.
+fn take_due_events(repl: &mut Repl)
+    ensures taken { repl.new ≡ record repl.old { session = after_due repl.old.session } }
+    ensures on { GoesOn repl.old.session repl.new.session }
+{
+    for _event in 0..MOST_EVENTS + 1 {
+        match repl.machine().upcoming() {
+            Upcoming::Event(_) => {
+                repl.step();
+            }
+            _ => return,
+        }
+    }
+}
+
+/// Returns why an event was not injected, in the words of the answer.
+#[tactic(auto, unfolding(crate::specs::Answered::refusal_text))]
+pub(crate) fn refusal(fault: InjectFault) -> &'static str
+    ensures { result.now ≡ refusal_text fault }
+{
+    match fault {
+        InjectFault::Unwanted => "Stopped: the machine takes no event any more",
+        InjectFault::TooMany => "TooMany: a script has at most 65536 events",
+        InjectFault::Memory => "memory",
+    }
+}

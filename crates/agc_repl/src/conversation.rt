@@ -1,0 +1,400 @@
+//! Reads commands line by line, and answers each one before it reads the next.
+//!
+//! Unless memory runs out, the output is the session's text: this is the contract of [`run_repl`]. Part of a long
+//! answer is written before the rest is known; if memory runs out then, the machine has already moved. An event that
+//! is rejected because the machine takes no more events is tried after the script's events that were due, and those
+//! have happened. No clause states that an answer is written before the next line is read; only tests show it.
+ghost use Rattle.std.specs.Prelude.{◌≡◌, ◌⊎◌, ◌++◌, Some, Ok, Err, codes, IfErr, IfOk, IfSome, IsErrOf, MatchOption, MatchResult, OnOk, string_bytes};
+ghost use Rattle.std.specs.Io.KnownBytes.{Appends, Keeps, append_known};
+ghost use Rattle.agc_repl.specs.Answer.{end_line, error_line};
+ghost use Rattle.agc_repl.specs.Answered.{
+  GoesNotBack,
+  Grows,
+  IsAnswered,
+  IsLeft,
+  IsOfNow,
+  Tells,
+  answer_to,
+  answered,
+  done,
+  given_answer,
+  refusal_text,
+};
+ghost use Rattle.agc_repl.specs.Transcript.{AreAnswered, RanOut, requests_in, session_text};
+ghost use Rattle.agc_repl.specs.Queries.{shown_text};
+ghost use Rattle.agc_repl.specs.Repl.{GoesOn, at_start};
+ghost use Rattle.agc_script.specs.Event.{IsWhatInRange};
+ghost use Rattle.agc_repl.specs.Fault.{fault_text};
+ghost use Rattle.agc_repl.specs.Command.{IsCommandInRange};
+ghost use Rattle.agc_repl.specs.declared.conversation.ReplFault.TheVariants.{Memory};
+
+use crate::answer::{push_end_line, push_error_line, push_fault_line};
+use crate::command::Command;
+use crate::commands::{go, go_on_to, inject, refusal, step, until};
+use crate::fault::CommandFault;
+use crate::lines::{Request, next_request};
+use crate::output::write_text;
+use crate::queries::push_shown;
+use crate::repl::Repl;
+use agc_script::What;
+use agc_session::{InjectFault, Session};
+use agc_symbols::SymbolTable;
+use std::alloc::{AllocError, Global};
+use std::io::{BufReader, Read, Write};
+use thiserror::Error;
+
+/// Why a session ended before its input did.
+#[derive(Clone, Copy, Debug, PartialEq, Eq, Error)]
+pub enum ReplFault {
+    #[error("the input could not be read")]
+    Read,
+    #[error("an answer could not be written")]
+    Write,
+    #[error("out of memory")]
+    Memory,
+}
+
+impl From<AllocError> for ReplFault {
+    ghost from_gives = { λ _ fault. fault ≡ Memory };
+
+    fn from(_error: AllocError) -> ReplFault {
+        ReplFault::Memory
+    }
+}
+
+/// The answer if memory runs out.
+const OUT_OF_MEMORY: &str = "error: memory\n";
+
+/// The number of bytes reserved before a command is executed: enough for the longest last line of an answer.
+const LONGEST_END: usize = 64;
+
+/// Answers each line of the input, up to `quit` or the end of the input. With `names`, a symbol can be written for
+/// its place, and lines that show an order get a column with the symbol of its place.
+pub fn run_repl<R: Read, W: Write>(
+    alloc: Global,
+    session: Session,
+    names: &Option<SymbolTable>,
+    input: &mut R,
+    output: &mut W,
+) -> Result<(), ReplFault>
+    ensures session { OnOk result (IfSome (R.remaining input.old) (λ bytes. AreAnswered names.now (requests_in names.now bytes)
+        (at_start session) (W.contents output.old) (W.contents output.new))) }
+    ensures text { OnOk result (IfSome (R.remaining input.old) (λ bytes.
+        Appends (W.contents output.old) (W.contents output.new) (session_text names.now (requests_in names.now bytes) (at_start session))
+        ⊎ RanOut names.now (requests_in names.now bytes) (at_start session) (W.contents output.old) (W.contents output.new))) }
+{
+    let Ok(mut reader) = BufReader::new(alloc, input) else {
+        // An explicit drop of a session or a REPL is one step of the proof. Dropping the parts is expensive to prove.
+        drop(session);
+        return Err(ReplFault::Memory);
+    };
+    let repl = Repl::new(session);
+    answer_each(alloc, names, repl, &mut reader, output)
+}
+
+/// Answers the remaining requests, each before the next is read.
+fn answer_each<R: Read, W: Write>(
+    alloc: Global,
+    names: &Option<SymbolTable>,
+    mut repl: Repl,
+    reader: &mut R,
+    output: &mut W,
+) -> Result<(), ReplFault>
+    ensures { OnOk result (IfSome (R.remaining reader.old) (λ bytes. AreAnswered names.now (requests_in names.now bytes)
+        repl (W.contents output.old) (W.contents output.new))) }
+{
+    for _line in 0..u64::MAX {
+        match next_request(alloc, names, reader) {
+            Ok(Some(request)) => {
+                repl = reply(alloc, names, repl, request, output)?;
+            }
+            Ok(None) => {
+                drop(repl);
+                return Ok(());
+            }
+            Err(fault) => {
+                drop(repl);
+                return Err(fault);
+            }
+        }
+    }
+    drop(repl);
+    Err(ReplFault::Read)
+}
+
+/// Answers a request and flushes the output.
+fn reply<W: Write>(
+    alloc: Global,
+    names: &Option<SymbolTable>,
+    repl: Repl,
+    request: Request,
+    output: &mut W,
+) -> Result<Repl, ReplFault>
+    requires { IfOk request (λ said. IfSome said IsCommandInRange) }
+    ensures { IfOk result (λ left. IsAnswered names.now request repl left (W.contents output.old) (W.contents output.new)) }
+{
+    let left = answer(alloc, names, repl, request, output)?;
+    keep_if(flush(output), left)
+}
+
+/// Flushes the output.
+fn flush<W: Write>(output: &mut W) -> Result<(), ReplFault>
+    ensures { OnOk result (Keeps (W.contents output.old) (W.contents output.new)) }
+{
+    match output.flush() {
+        Ok(()) => Ok(()),
+        Err(_) => Err(ReplFault::Write),
+    }
+}
+
+/// Answers a request. If memory runs out, the answer ends by reporting it.
+fn answer<W: Write>(
+    alloc: Global,
+    names: &Option<SymbolTable>,
+    mut repl: Repl,
+    request: Request,
+    output: &mut W,
+) -> Result<Repl, ReplFault>
+    requires { IfOk request (λ said. IfSome said IsCommandInRange) }
+    ensures { IfOk result (λ left. IsAnswered names.now request repl left (W.contents output.old) (W.contents output.new)) }
+{
+    match goes_back_to(&request) {
+        Some(cycle) => rewind_to(alloc, names, repl, cycle, output),
+        None => {
+            let told = answer_now(alloc, names, &mut repl, request, output);
+            keep_if(told, repl)
+        }
+    }
+}
+
+/// Returns the cycle that a request rewinds to, or `None` if it is another request.
+fn goes_back_to(request: &Request) -> Option<u64>
+    ensures { MatchOption result (IsOfNow request.now)
+        (λ cycle. request.now ≡ Ok (Some (Command.Back cycle))) }
+{
+    match request {
+        Ok(Some(Command::Back(cycle))) => Some(*cycle),
+        _ => None,
+    }
+}
+
+/// Answers a request that does not rewind.
+fn answer_now<W: Write>(
+    alloc: Global,
+    names: &Option<SymbolTable>,
+    repl: &mut Repl,
+    request: Request,
+    output: &mut W,
+) -> Result<(), ReplFault>
+    requires range { IfOk request (λ said. IfSome said IsCommandInRange) }
+    requires now { IsOfNow request }
+    ensures { OnOk result (IsAnswered names.now request repl.old repl.new (W.contents output.old) (W.contents output.new)) }
+{
+    let Ok(mut text) = String::with_capacity(alloc, LONGEST_END) else {
+        return write_text(output, OUT_OF_MEMORY);
+    };
+    match execute(alloc, names, repl, request, &mut text, output) {
+        Ok(()) => write_text(output, &text),
+        Err(fault) => end_short(fault, output),
+    }
+}
+
+/// Ends an answer in which something failed. If memory ran out, reports that; else returns the fault.
+fn end_short<W: Write>(fault: ReplFault, output: &mut W) -> Result<(), ReplFault>
+    ensures { OnOk result ((fault ≡ ReplFault.Memory)
+        × Appends (W.contents output.old) (W.contents output.new) (codes "error: memory\n")) }
+{
+    match fault {
+        ReplFault::Memory => write_text(output, OUT_OF_MEMORY),
+        other => Err(other),
+    }
+}
+
+/// Executes a request, and adds the unwritten rest of its answer.
+#[tactic(auto, unfolding(crate::specs::Answered::answer_to))]
+fn execute<W: Write>(
+    alloc: Global,
+    names: &Option<SymbolTable>,
+    repl: &mut Repl,
+    request: Request,
+    text: &mut String,
+    output: &mut W,
+) -> Result<(), ReplFault>
+    requires range { IfOk request (λ said. IfSome said IsCommandInRange) }
+    requires now { IsOfNow request }
+    ensures said { OnOk result (Tells (answer_to names.now request repl.old) repl.new
+        (append_known (W.contents output.old) (string_bytes text.old))
+        (append_known (W.contents output.new) (string_bytes text.new))) }
+    ensures left { IsLeft names.now request repl.old repl.new }
+    ensures grows { (IsErrOf result ReplFault.Write → ⊥) → Grows (W.contents output.old) (W.contents output.new) }
+{
+    match request {
+        Ok(Some(command)) => say_command(alloc, names, repl, command, text, output),
+        Ok(None) => push_end(repl, text),
+        Err(fault) => push_refusal(fault, text),
+    }
+}
+
+/// Executes a command, and adds the unwritten rest of its answer.
+#[tactic(auto, unfolding(crate::specs::Command::IsCommandInRange, crate::specs::Answered::answered))]
+fn say_command<W: Write>(
+    alloc: Global,
+    names: &Option<SymbolTable>,
+    repl: &mut Repl,
+    command: Command,
+    text: &mut String,
+    output: &mut W,
+) -> Result<(), ReplFault>
+    requires range { IsCommandInRange command }
+    requires now { GoesNotBack command }
+    ensures said { OnOk result (Tells (answered names.now command repl.old) repl.new
+        (append_known (W.contents output.old) (string_bytes text.old))
+        (append_known (W.contents output.new) (string_bytes text.new))) }
+    ensures left { (repl.new ≡ (answered names.now command repl.old).0) ⊎ GoesOn repl.old.session repl.new.session }
+    ensures grows { (IsErrOf result ReplFault.Write → ⊥) → Grows (W.contents output.old) (W.contents output.new) }
+{
+    match command {
+        Command::Inject(what) => push_given(repl, what, text),
+        other => {
+            carry_out(alloc, names, repl, other, text, output)?;
+            push_end(repl, text)
+        }
+    }
+}
+
+/// Injects an event, and adds the answer.
+#[tactic(auto, unfolding(crate::specs::Answered::given_answer))]
+fn push_given(repl: &mut Repl, what: What, text: &mut String) -> Result<(), ReplFault>
+    requires { IsWhatInRange what }
+    ensures gone { OnOk result (repl.new ≡ (given_answer what repl.old).0) }
+    ensures said { OnOk result (string_bytes text.new ≡ string_bytes text.old ++ (given_answer what repl.old).1) }
+    ensures left { (repl.new ≡ (given_answer what repl.old).0) ⊎ GoesOn repl.old.session repl.new.session }
+{
+    match inject(repl, what) {
+        Ok(()) => push_end(repl, text),
+        Err(fault) => push_refused(fault, text),
+    }
+}
+
+/// Adds why an event was not injected, unless memory ran out.
+fn push_refused(fault: InjectFault, text: &mut String) -> Result<(), ReplFault>
+    ensures { OnOk result ((fault ≡ InjectFault.Memory → ⊥)
+        × (string_bytes text.new ≡ string_bytes text.old ++ error_line (refusal_text fault))) }
+{
+    match fault {
+        InjectFault::Memory => Err(ReplFault::Memory),
+        InjectFault::Unwanted | InjectFault::TooMany => {
+            push_error_line(text, refusal(fault))?;
+            Ok(())
+        }
+    }
+}
+
+/// Adds the answer to an invalid command line.
+fn push_refusal(fault: CommandFault, text: &mut String) -> Result<(), ReplFault>
+    ensures { OnOk result
+        (string_bytes text.new ≡ string_bytes text.old ++ error_line (fault_text fault)) }
+{
+    push_fault_line(text, fault)?;
+    Ok(())
+}
+
+/// Executes a command that neither injects nor rewinds, and adds its answer without the last line.
+#[tactic(auto, unfolding(crate::specs::Command::IsCommandInRange, crate::specs::Answered::done))]
+fn carry_out<W: Write>(
+    alloc: Global,
+    names: &Option<SymbolTable>,
+    repl: &mut Repl,
+    command: Command,
+    text: &mut String,
+    output: &mut W,
+) -> Result<(), ReplFault>
+    requires range { IsCommandInRange command }
+    requires now { GoesNotBack command }
+    ensures told { OnOk result (Tells (done names.now command repl.old) repl.new
+        (append_known (W.contents output.old) (string_bytes text.old))
+        (append_known (W.contents output.new) (string_bytes text.new))) }
+    ensures on { GoesOn repl.old.session repl.new.session }
+    ensures grows { (IsErrOf result ReplFault.Write → ⊥) → Grows (W.contents output.old) (W.contents output.new) }
+{
+    match command {
+        Command::Go(cycles) => go(repl, cycles, text, output),
+        Command::GoTo(cycle) => go_on_to(repl, cycle, text, output),
+        Command::Step(boundaries) => step(repl, names, boundaries, text, output),
+        Command::Until { what, within } => until(repl, what, within, text, output),
+        shown => show(alloc, names, repl, shown, text),
+    }
+}
+
+/// Adds the lines that a command shows.
+fn show(
+    alloc: Global,
+    names: &Option<SymbolTable>,
+    repl: &Repl,
+    command: Command,
+    text: &mut String,
+) -> Result<(), ReplFault>
+    requires { IsCommandInRange command }
+    ensures { OnOk result (string_bytes text.new
+        ≡ string_bytes text.old ++ shown_text names.now command repl.now.session repl.now.writes) }
+{
+    push_shown(alloc, names, repl, command, text)?;
+    Ok(())
+}
+
+/// Adds the last line of an answer.
+fn push_end(repl: &Repl, text: &mut String) -> Result<(), ReplFault>
+    ensures { OnOk result (string_bytes text.new
+        ≡ string_bytes text.old ++ end_line repl.now.session.now.stopped repl.now.session.now.cycle) }
+{
+    push_end_line(text, repl.stopped(), repl.cycle())?;
+    Ok(())
+}
+
+/// Rewinds to the state before `cycle`, and answers. If memory runs out before that, nothing changes.
+fn rewind_to<W: Write>(
+    alloc: Global,
+    names: &Option<SymbolTable>,
+    repl: Repl,
+    cycle: u64,
+    output: &mut W,
+) -> Result<Repl, ReplFault>
+    ensures { IfOk result (λ left. IsAnswered names.now (Ok (Some (Command.Back cycle))) repl left
+        (W.contents output.old) (W.contents output.new)) }
+{
+    let Ok(text) = String::with_capacity(alloc, LONGEST_END) else {
+        return stay(repl, output);
+    };
+    match repl.back(alloc, cycle) {
+        Ok(earlier) => {
+            let told = write_end(&earlier, text, output);
+            keep_if(told, earlier)
+        }
+        Err(same) => stay(same, output),
+    }
+}
+
+/// Answers that memory ran out, and changes nothing.
+fn stay<W: Write>(repl: Repl, output: &mut W) -> Result<Repl, ReplFault>
+    ensures { IfOk result (λ left. (left ≡ repl)
+        × Appends (W.contents output.old) (W.contents output.new) (codes "error: memory\n")) }
+{
+    let told = write_text(output, OUT_OF_MEMORY);
+    keep_if(told, repl)
+}
+
+/// Writes a text with the last line of an answer.
+fn write_end<W: Write>(repl: &Repl, mut text: String, output: &mut W) -> Result<(), ReplFault>
+    ensures { OnOk result (Appends (W.contents output.old) (W.contents output.new)
+        (string_bytes text ++ end_line repl.now.session.now.stopped repl.now.session.now.cycle)) }
+{
+    push_end(repl, &mut text)?;
+    write_text(output, &text)
+}
+
+/// Returns the REPL if its answer could be written, else the fault.
+fn keep_if(told: Result<(), ReplFault>, repl: Repl) -> Result<Repl, ReplFault>
+    ensures { MatchResult told (λ _. result ≡ Ok repl) (λ fault. result ≡ Err fault) }
+{
+    told.map(|()| repl)
+}

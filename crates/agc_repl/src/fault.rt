@@ -1,0 +1,131 @@
+//! Faults of a command line, with their names and advice.
+ghost use Rattle.std.specs.Prelude.{◌≡◌};
+ghost use Rattle.agc_repl.specs.Fault.{event_advice, watch_advice};
+
+use crate::name::CommandName;
+use agc_panel::WatchFault;
+use agc_script::FaultKind;
+use std::error::Error;
+use std::fmt;
+
+/// What is wrong with a command line.
+#[derive(Clone, Copy, Debug, PartialEq, Eq)]
+pub enum CommandFault {
+    /// The line has more than 120 bytes.
+    LineTooLong,
+    /// The line has a byte of 200 octal or above.
+    NotAscii,
+    /// The first word is not a command.
+    UnknownCommand,
+    /// A word is missing, or there is one too many.
+    Usage(CommandName),
+    /// Not a number of cycles or boundaries: 1 to 13 decimal digits, at most 1,000,000,000,000.
+    BadNumber,
+    /// Not a place in memory.
+    BadPlace,
+    /// A place in fixed memory where a cell is expected.
+    NotErasable,
+    /// Not 1 to 6 octal digits, or above 777 octal.
+    BadChannel,
+    /// Not 1 to 6 decimal digits, or 0, or past the end of erasable memory.
+    BadCount,
+    /// The event has this fault.
+    BadEvent(FaultKind),
+    /// Not seven octal numbers.
+    BadSpec,
+    /// The tables cannot be at these places.
+    Watch(WatchFault),
+}
+
+impl CommandFault {
+    ghost use Rattle.std.specs.Prelude.{◌≡◌};
+    ghost use Rattle.agc_repl.specs.Fault.{fault_name, fault_advice};
+
+    /// Returns the name of the fault.
+    #[tactic(auto, unfolding(crate::specs::Fault::fault_name))]
+    pub fn name(self) -> &'static str
+        ensures { result.now ≡ fault_name self }
+    {
+        match self {
+            CommandFault::LineTooLong => "LineTooLong",
+            CommandFault::NotAscii => "NotAscii",
+            CommandFault::UnknownCommand => "UnknownCommand",
+            CommandFault::Usage(_) => "Usage",
+            CommandFault::BadNumber => "BadNumber",
+            CommandFault::BadPlace => "BadPlace",
+            CommandFault::NotErasable => "NotErasable",
+            CommandFault::BadChannel => "BadChannel",
+            CommandFault::BadCount => "BadCount",
+            CommandFault::BadEvent(_) => "BadEvent",
+            CommandFault::BadSpec => "BadSpec",
+            CommandFault::Watch(_) => "BadWatch",
+        }
+    }
+
+    /// Returns what would be valid instead.
+    #[tactic(auto, unfolding(crate::specs::Fault::fault_advice))]
+    pub fn advice(self) -> &'static str
+        ensures { result.now ≡ fault_advice self }
+    {
+        match self {
+            CommandFault::LineTooLong => "a line has at most 120 bytes",
+            CommandFault::NotAscii => "a line is ASCII alone",
+            CommandFault::UnknownCommand => "help lists the commands",
+            CommandFault::Usage(name) => name.usage(),
+            CommandFault::BadNumber =>
+                "cycles and boundaries are 1 to 13 decimal digits, at most 1000000000000",
+            CommandFault::BadPlace =>
+                "a place is En,oooo, or an address below 1400, or bb,oooo, or an address from 4000 on, in octal",
+            CommandFault::NotErasable =>
+                "a cell stands in erasable memory: En,oooo, or an address below 1400, in octal",
+            CommandFault::BadChannel => "a channel is octal, 0 to 777",
+            CommandFault::BadCount =>
+                "cells are counted in decimal, from 1 up to the last cell, E7,1777",
+            CommandFault::BadEvent(kind) => event_advice(kind),
+            CommandFault::BadSpec =>
+                "tables are seven octal numbers with commas between: bank, offset and count of core sets, bank and offset of LST1, bank and offset of LST2",
+            CommandFault::Watch(fault) => watch_advice(fault),
+        }
+    }
+}
+
+/// Returns what would be a valid event.
+#[tactic(auto, unfolding(crate::specs::Fault::event_advice))]
+pub(crate) fn event_advice(kind: FaultKind) -> &'static str
+    ensures { result.now ≡ event_advice kind }
+{
+    match kind {
+        FaultKind::BadNumber => "numbers are 1 to 6 octal digits, of raise decimal ones",
+        FaultKind::OutOfRange =>
+            "channels are 5 to 777, words 0 to 77777, counters 24 to 60, interrupts 1 to 10, banks 0 to 7, offsets 0 to 377, in bank 0 from 10 on",
+        _ =>
+            "key NAME, pro down or up, input CCC WORD, pulse COUNTER KIND, raise N, or poke BANK OFFSET WORD",
+    }
+}
+
+/// Returns which tables would be valid.
+#[tactic(auto, unfolding(crate::specs::Fault::watch_advice))]
+fn watch_advice(fault: WatchFault) -> &'static str
+    ensures { result.now ≡ watch_advice fault }
+{
+    match fault {
+        WatchFault::OutOfErasable { .. } => "each table stands in erasable memory, whole",
+        WatchFault::TooManySets => "at most 20 core sets, octal",
+        WatchFault::Memory => "out of memory",
+    }
+}
+
+impl fmt::Display for CommandFault {
+    ghost use Rattle.std.specs.Prelude.{Some};
+    ghost use Rattle.agc_repl.specs.Fault.{fault_text};
+
+    ghost output = { λ fault. Some (fault_text fault) };
+
+    #[tactic(auto, unfolding(crate::specs::Fault::fault_text))]
+    fn fmt<W: fmt::Write>(&self, f: &mut fmt::Formatter<W>) -> fmt::Result {
+        let (name, advice) = (self.name(), self.advice());
+        write!(f, "{name}: {advice}")
+    }
+}
+
+impl Error for CommandFault {}

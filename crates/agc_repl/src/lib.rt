@@ -1,0 +1,30 @@
+//! The console's language: commands, their parsing, and the answer to each one.
+#![tactic(auto)]
+
+mod answer;
+mod command;
+mod commands;
+mod conversation;
+mod fault;
+mod help;
+mod lines;
+mod name;
+mod number;
+mod output;
+mod place;
+mod queries;
+mod repl;
+mod request;
+mod stop_at;
+mod words;
+
+pub use answer::{
+    push_cell_lines, push_channel_line, push_end_line, push_error_line, push_fault_line,
+    push_hit_line, push_write_line, push_writes_line,
+};
+pub use command::{Breakpoint, Command};
+pub use conversation::{ReplFault, run_repl};
+pub use fault::CommandFault;
+pub use help::push_help;
+pub use name::CommandName;
+pub use request::parse_command;

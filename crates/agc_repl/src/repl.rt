@@ -1,0 +1,129 @@
+//! The state of a console: a session, and the number of channel writes that it has shown.
+ghost use Rattle.std.specs.Prelude.{◌≡◌, [], ◌∷◌, IfOk, IfErr};
+ghost use Rattle.agc_machine.specs.Boundary.{boundary};
+ghost use Rattle.agc_machine.specs.Laws.{HasChannel};
+ghost use Rattle.agc_machine.specs.Replay.{writes_in};
+ghost use Rattle.agc_machine.specs.Run.{next_before};
+ghost use Rattle.agc_repl.specs.Repl.{
+  Advances,
+  GoesOn,
+  after_stretch,
+  at_start,
+  counted,
+  gone_back,
+  gone_on,
+};
+ghost use Rattle.agc_repl.specs.Stretch.{is_short_of, stretch_to};
+ghost use Rattle.agc_repl.specs.declared.stop_at.Stop_.TheVariants.{Nothing};
+
+use agc_machine::{Machine, Stepped, Stop};
+use agc_session::Session;
+use std::alloc::Global;
+
+/// A session, and the number of channel writes that it has shown.
+#[derive(Drop)]
+pub(crate) struct Repl {
+    pub(crate) session: Session,
+    pub(crate) writes: usize,
+}
+
+impl Repl {
+    /// Creates the console's state for a session that has shown no writes.
+    pub(crate) fn new(session: Session) -> Repl
+        ensures { result ≡ at_start session }
+    {
+        Repl { session, writes: 0 }
+    }
+
+    /// Returns the machine in its present state.
+    pub(crate) fn machine(&self) -> &Machine
+        ensures { result.now ≡ self.now.session.now }
+    {
+        self.session.machine()
+    }
+
+    /// Returns the present cycle.
+    pub(crate) fn cycle(&self) -> u64
+        ensures { result ≡ self.now.session.now.cycle }
+    {
+        self.session.machine().cycle()
+    }
+
+    /// Returns why the machine has stopped, or `None` while it has not.
+    pub(crate) fn stopped(&self) -> Option<Stop>
+        ensures { result ≡ self.now.session.now.stopped }
+    {
+        self.session.machine().stopped()
+    }
+
+    /// Returns whether the machine has neither reached `cycle` nor stopped.
+    pub(crate) fn is_before(&self, cycle: u64) -> bool
+        ensures { result ≡ is_short_of cycle self.now.session.now }
+    {
+        self.cycle() < cycle && self.stopped().is_none()
+    }
+
+    /// Takes one boundary.
+    pub(crate) fn step(&mut self) -> Stepped
+        ensures boundary { (self.new.session.now, result) ≡ boundary None self.old.session.now }
+        ensures shown { self.new ≡ gone_on self.new.session.now (writes_in (result ∷ [])) self.old }
+        ensures on { GoesOn self.old.session self.new.session }
+        ensures advances { Advances self.old.session.now self.new.session.now }
+        ensures channel { HasChannel result }
+    {
+        let stepped = self.session.step();
+        self.note(stepped)
+    }
+
+    /// Runs as [`Session::go_on`] does.
+    pub(crate) fn go_on(&mut self, cycle: u64) -> Stepped
+        ensures before { (self.new.session.now, result) ≡ next_before cycle self.old.session.now }
+        ensures shown { self.new ≡ gone_on self.new.session.now (writes_in (result ∷ [])) self.old }
+        ensures on { GoesOn self.old.session self.new.session }
+        ensures advances { Advances self.old.session.now self.new.session.now }
+        ensures channel { HasChannel result }
+    {
+        let stepped = self.session.go_on(cycle);
+        self.note(stepped)
+    }
+
+    /// Counts the write of a boundary, if there is one.
+    fn note(&mut self, stepped: Stepped) -> Stepped
+        ensures same { result ≡ stepped }
+        ensures session { self.new.session ≡ self.old.session }
+        ensures counted { self.new.writes ≡ counted stepped self.old.writes }
+    {
+        if let Stepped::Wrote(_) = stepped {
+            self.writes = self.writes.saturating_add(1);
+        }
+        stepped
+    }
+
+    /// Runs to `cycle` without printing anything.
+    fn go_silently(&mut self, cycle: u64)
+        ensures { self.new ≡ after_stretch (stretch_to Nothing cycle self.old.session.now) self.old }
+    {
+        while self.is_before(cycle) {
+            self.go_on(cycle);
+        }
+    }
+
+    /// Rewinds to the state before `cycle`. If memory runs out, returns the unchanged state.
+    pub(crate) fn back(self, alloc: Global, cycle: u64) -> Result<Repl, Repl>
+        ensures ok { IfOk result (λ repl. repl ≡ gone_back cycle self) }
+        ensures err { IfErr result (λ repl. repl ≡ self) }
+    {
+        let Repl { session, writes } = self;
+        match session.rewind(alloc, cycle) {
+            Ok(session) => {
+                let mut earlier = Repl::new(session);
+                earlier.go_silently(cycle);
+                Ok(earlier)
+            }
+            Err(same) => Err(Repl {
+                session: same.session,
+                writes,
+            }),
+        }
+    }
+}

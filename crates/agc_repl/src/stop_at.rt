@@ -1,0 +1,127 @@
+//! What can end a run before its cycle is reached.
+ghost use Rattle.std.specs.Prelude.{◌≡◌, ◌<◌, [], ◌∷◌, true};
+ghost use Rattle.agc_machine.specs.Boundary.{upcoming_of};
+ghost use Rattle.agc_machine.specs.Laws.{HasChannel};
+ghost use Rattle.agc_machine.specs.Replay.{writes_in};
+ghost use Rattle.agc_repl.specs.Command.{IsBreakpointInRange};
+ghost use Rattle.agc_store.specs.Places.{erasable_cells};
+ghost use Rattle.agc_repl.specs.Repl.{Advances, GoesOn, gone_on};
+ghost use Rattle.agc_repl.specs.Stretch.{
+  and_on,
+  IsSoughtInRange,
+  has_come,
+  is_order_at,
+  is_short_of,
+  is_write_to,
+  same_location,
+  sought_in,
+  stretch_to,
+  word_at,
+};
+
+use crate::command::Breakpoint;
+use crate::repl::Repl;
+use agc_listing::{Location, location_at};
+use agc_machine::{Machine, Stepped, Upcoming};
+use agc_store::Store;
+use agc_store::place::ERASABLE_BANK_SIZE;
+use agc_word::Narrow;
+
+/// What the machine runs to, before it reaches a cycle.
+#[derive(Clone, Copy)]
+pub(crate) enum Stop_ {
+    /// Nothing: run to the cycle.
+    Nothing,
+    /// The next write to a channel.
+    Write(u16),
+    /// The order at a place comes next.
+    Order(Location),
+    /// A cell has another word than this.
+    Cell { cell: u16, before: Narrow },
+}
+
+impl Stop_ {
+    /// Returns the target of a breakpoint that is set now.
+    #[tactic(auto, unfolding(crate::specs::Command::IsBreakpointInRange))]
+    pub(crate) fn new(machine: &Machine, what: Breakpoint) -> Stop_
+        requires { IsBreakpointInRange what }
+        ensures stop_ { result ≡ sought_in machine.now what }
+        ensures range { IsSoughtInRange result }
+    {
+        match what {
+            Breakpoint::Order(place) => Stop_::Order(place),
+            Breakpoint::Write(channel) => Stop_::Write(channel),
+            Breakpoint::Cell(cell) => Stop_::Cell {
+                cell,
+                before: word_of(machine.store(), cell),
+            },
+        }
+    }
+
+    /// Runs as far as the target cannot be hit, but no further than `cycle`: to the next write, or by one boundary.
+    pub(crate) fn advance(&self, repl: &mut Repl, cycle: u64) -> Stepped
+        requires { is_short_of cycle repl.old.session.now ≡ true }
+        ensures stretch { stretch_to self.now cycle repl.old.session.now
+            ≡ and_on self.now (repl.new.session.now, result) (stretch_to self.now cycle repl.new.session.now) }
+        ensures shown { repl.new ≡ gone_on repl.new.session.now (writes_in (result ∷ [])) repl.old }
+        ensures on { GoesOn repl.old.session repl.new.session }
+        ensures advances { Advances repl.old.session.now repl.new.session.now }
+        ensures channel { HasChannel result }
+    {
+        match self {
+            Stop_::Nothing => repl.go_on(cycle),
+            Stop_::Write(_) => repl.go_on(cycle),
+            Stop_::Order(_) => repl.step(),
+            Stop_::Cell { .. } => repl.step(),
+        }
+    }
+
+    /// Returns whether the target was hit, by the machine's present state and the last boundary.
+    #[tactic(auto, unfolding(crate::specs::Stretch::has_come))]
+    pub(crate) fn has_come(&self, machine: &Machine, stepped: &Stepped) -> bool
+        requires { IsSoughtInRange self.now }
+        ensures { result ≡ has_come self.now machine.now stepped.now }
+    {
+        match self {
+            Stop_::Nothing => false,
+            Stop_::Write(channel) => is_write_to(stepped, *channel),
+            Stop_::Order(place) => is_in_hand(machine, *place),
+            Stop_::Cell { cell, before } => word_of(machine.store(), *cell) != *before,
+        }
+    }
+}
+
+/// Returns whether a boundary wrote to this channel.
+fn is_write_to(stepped: &Stepped, channel: u16) -> bool
+    ensures { result ≡ is_write_to channel stepped.now }
+{
+    match stepped {
+        Stepped::Wrote(write) => write.channel == channel,
+        Stepped::Quiet | Stepped::Stopped(_) => false,
+    }
+}
+
+/// Returns whether the order at a place comes next.
+fn is_in_hand(machine: &Machine, place: Location) -> bool
+    ensures { result ≡ is_order_at place (upcoming_of machine.now) }
+{
+    match machine.upcoming() {
+        Upcoming::Order(order) => is_at(location_at(order.bank, order.address), place),
+        _ => false,
+    }
+}
+
+/// Returns whether two places are the same.
+fn is_at(here: Location, there: Location) -> bool
+    ensures { result ≡ same_location here there }
+{
+    here == there
+}
+
+/// Returns the word of a cell by its number.
+fn word_of(store: &Store, cell: u16) -> Narrow
+    requires { cell < erasable_cells }
+    ensures { result ≡ word_at cell store.now }
+{
+    store.cell((cell / ERASABLE_BANK_SIZE) as u8, cell % ERASABLE_BANK_SIZE)
+}
