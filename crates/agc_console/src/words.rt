@@ -1,30 +1,32 @@
-//! The words of the command line: what the console is asked for.
-use agc_command_line::{script_file, text_of, with_parameter};
-use agc_front::{Asked, Start, names_option, start_in, with_start};
+//! The command-line arguments of the console.
+use agc_cli::{Args, names_option, script_file, text_of, with_parameter};
+use agc_session::{SessionArgs, session_args, with_session_args};
 use clap::{ArgMatches, Command};
 use std::alloc::{AllocError, Global};
 
-/// What a console sits before.
+/// The arguments of the console.
 #[derive(Debug, Drop)]
 pub struct Console {
-    pub start: Start,
-    /// The path of the file of names, where there is one.
+    pub start: SessionArgs,
+    /// The path of the symbol file, if there is one.
     pub names: Option<String>,
 }
 
-impl Asked for Console {
-    /// The program's command: the files and the options of `agc` that a console has, with the last cycle of all as its
-    /// limit where none is named.
+impl Args for Console {
+    const NAME: &'static str = "agc-console";
+
+    /// Returns the program's command: the files and the options of `agc` that a console has. The default of its limit
+    /// is the last possible cycle.
     fn command<'a>(alloc: Global) -> Result<Command<'a>, AllocError> {
-        let command = Command::new(alloc, "agc-console").about(
+        let command = Command::new(alloc, Console::NAME).about(
             "Runs a rope on an emulated Block II computer by commands: a line each on standard input, answered before the next is read. The command help lists them. The script may be /dev/null.",
         );
-        let command = with_start(alloc, command, script_file(alloc))?;
+        let command = with_session_args(alloc, command, script_file(alloc))?;
         with_parameter(command, names_option(alloc))
     }
 
-    fn asked_in(alloc: Global, matches: &ArgMatches<'_>) -> Result<Console, AllocError> {
-        let start = start_in(alloc, matches)?;
+    fn from_matches(alloc: Global, matches: &ArgMatches<'_>) -> Result<Console, AllocError> {
+        let start = session_args(alloc, matches)?;
         let names = text_of(alloc, matches, "names")?;
         Ok(Console { start, names })
     }
