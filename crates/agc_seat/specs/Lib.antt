@@ -1,2 +1,0 @@
-pub mod Recent
-pub mod Inside

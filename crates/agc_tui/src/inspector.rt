@@ -1,0 +1,56 @@
+//! Formats the inspector (last boundaries, registers, what comes next) and the Executive's tables.
+ghost use Rattle.std.specs.Prelude.{◌≡◌, ◌++◌, OnOk, string_bytes};
+ghost use Rattle.agc_panel.specs.Watcher.{watch_text};
+ghost use Rattle.agc_tui.specs.Inspector.{inspector, state_lines};
+
+use crate::history::History;
+use agc_machine::Machine;
+use agc_panel::{WatchSpec, watch};
+use agc_session::Session;
+use agc_trace::{push_next_line, push_registers_line};
+use std::alloc::{AllocError, Global};
+
+/// Adds the last boundaries of a session, `most` at most, its registers, and what comes next, each a line after a
+/// space. Fails if memory runs out.
+pub fn push_inspector(
+    alloc: Global,
+    text: &mut String,
+    history: &History,
+    most: usize,
+    session: &Session,
+) -> Result<(), AllocError>
+    ensures { OnOk result (string_bytes text.new
+        ≡ string_bytes text.old ++ inspector most history.now session.now.now) }
+{
+    history.push_last(alloc, text, most)?;
+    push_state(text, session.machine())
+}
+
+/// Adds the registers, and what comes next.
+#[tactic(auto, unfolding(crate::specs::Inspector::state_lines))]
+fn push_state(text: &mut String, machine: &Machine) -> Result<(), AllocError>
+    ensures { OnOk result (string_bytes text.new
+        ≡ string_bytes text.old ++ state_lines machine.now) }
+{
+    text.push_str(" ")?;
+    push_registers_line(text, machine.store())?;
+    text.push_str(" ")?;
+    push_next_line(text, machine.upcoming())
+}
+
+/// Adds the Executive's tables of a session, as `agc` prints them. Fails if memory runs out or the places of the
+/// tables are invalid.
+pub fn push_tables(
+    alloc: Global,
+    text: &mut String,
+    session: &Session,
+    spec: WatchSpec,
+) -> Result<(), AllocError>
+    ensures { OnOk result (string_bytes text.new
+        ≡ string_bytes text.old ++ watch_text session.now.now.processor.store spec) }
+{
+    match watch(alloc, session.machine().store(), &spec) {
+        Ok(tables) => text.push_str(&tables),
+        Err(_) => Err(AllocError),
+    }
+}

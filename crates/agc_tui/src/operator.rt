@@ -1,0 +1,359 @@
+//! The operator: queues typed keys and presses each one when the machine can accept it.
+ghost use Rattle.agc_script.specs.Event.{IsWhatInRange};
+
+use crate::history::{History, KEPT};
+use crate::keyboard::Button;
+use agc_machine::{Machine, Stop};
+use agc_script::{MOST_EVENTS, Script, What};
+use agc_session::{InjectFault, Session};
+use std::alloc::{AllocError, Global};
+
+/// The least number of cycles between two keys: a tenth of a second, so that a program that each key interrupts has
+/// time to take it.
+const SPACING: u64 = 8_533;
+
+/// The number of cycles that PRO is held: a fifth of a second.
+const PRO_HELD: u64 = 17_067;
+
+/// The most cycles that the boundaries of a full history take: no boundary takes more than six.
+const RECENT_CYCLES: u64 = 72;
+
+/// A key press.
+#[derive(Clone, Copy, Debug, PartialEq, Eq)]
+struct Press {
+    button: Button,
+    /// The cycle at which the key went down.
+    cycle: u64,
+    /// The cycle at which PRO was released.
+    released: Option<u64>,
+}
+
+/// A session, the keys that wait to be pressed, and those that were pressed.
+#[derive(Drop)]
+pub struct Operator {
+    session: Session,
+    /// The last boundaries of the session; empty if they are not known.
+    history: History,
+    /// The keys that were typed but not yet pressed, in the order of typing.
+    waiting: Vec<Button>,
+    /// The keys that were pressed, in order.
+    pressed: Vec<Press>,
+}
+
+impl Operator {
+    /// Creates an operator who has typed nothing.
+    pub fn new(alloc: Global, session: Session) -> Result<Operator, AllocError> {
+        let history = History::new(alloc)?;
+        Ok(Operator {
+            session,
+            history,
+            waiting: Vec::new(alloc),
+            pressed: Vec::new(alloc),
+        })
+    }
+
+    /// Queues a typed key until it can be pressed.
+    pub fn type_key(&mut self, button: Button) -> Result<(), AllocError> {
+        match self.waiting.push(button) {
+            Ok(()) => Ok(()),
+            Err(_) => Err(AllocError),
+        }
+    }
+
+    /// Returns the number of waiting keys.
+    pub fn waiting(&self) -> usize {
+        self.waiting.len()
+    }
+
+    pub fn session(&self) -> &Session {
+        &self.session
+    }
+
+    /// Returns the last boundaries of the session, if they are known.
+    pub fn history(&self) -> &History {
+        &self.history
+    }
+
+    pub fn machine(&self) -> &Machine {
+        self.session.machine()
+    }
+
+    /// Returns the present cycle.
+    pub fn cycle(&self) -> u64 {
+        self.machine().cycle()
+    }
+
+    /// Returns the limit with which `agc` gets as far as this session. It is above the present cycle if a key was
+    /// pressed at this cycle or an order stopped the machine, because both only happen below the limit.
+    pub fn limit_to_repeat(&self) -> u64 {
+        let cycle = self.cycle();
+        match self.machine().stopped() {
+            Some(Stop::Limit) => cycle.max(1),
+            None if !self.has_just_pressed() => cycle.max(1),
+            _ => cycle.saturating_add(1),
+        }
+    }
+
+    /// Returns whether a key was pressed, or PRO released, at the present cycle.
+    fn has_just_pressed(&self) -> bool {
+        let cycle = self.cycle();
+        match self.pressed.last() {
+            Some(last) => last.released.unwrap_or(last.cycle) == cycle,
+            None => false,
+        }
+    }
+
+    /// Runs to `cycle` or to the stop, and presses each waiting key on the way as soon as it can be.
+    pub fn go_to(&mut self, cycle: u64) -> Result<(), InjectFault> {
+        for _key in 0..u64::MAX {
+            self.press_due()?;
+            if cycle <= self.cycle() || self.has_stopped() {
+                return Ok(());
+            }
+            let next = cycle.min(self.next_due());
+            self.run_to(next);
+        }
+        Ok(())
+    }
+
+    /// Takes one boundary, after the keys that are due.
+    pub fn step(&mut self) -> Result<(), InjectFault> {
+        self.press_due()?;
+        self.take_boundary();
+        Ok(())
+    }
+
+    /// Takes as many boundaries as the history keeps, one by one, so that they are recorded.
+    pub fn step_tail(&mut self) -> Result<(), InjectFault> {
+        for _boundary in 0..KEPT {
+            self.step()?;
+        }
+        Ok(())
+    }
+
+    /// Runs to `cycle` or to the stop at full speed, without recording boundaries.
+    fn run_to(&mut self, cycle: u64) {
+        self.history.forget();
+        self.session.go_to(cycle);
+    }
+
+    /// Takes one boundary, or none if the machine has stopped.
+    fn take_boundary(&mut self) {
+        if !self.has_stopped() {
+            self.history.step(&mut self.session);
+        }
+    }
+
+    /// Runs to `cycle` or to the stop, and takes the last boundaries one by one so that they are recorded.
+    fn come_to(&mut self, cycle: u64) {
+        self.run_to(cycle.saturating_sub(RECENT_CYCLES));
+        for _boundary in 0..u64::MAX {
+            if cycle <= self.cycle() || self.has_stopped() {
+                return;
+            }
+            self.take_boundary();
+        }
+    }
+
+    /// Returns whether the machine has stopped.
+    pub fn has_stopped(&self) -> bool {
+        self.machine().stopped().is_some()
+    }
+
+    /// Returns the cycle at which the next key is pressed or PRO released, or the largest number if nothing is due.
+    fn next_due(&self) -> u64 {
+        let up = self.release_due().unwrap_or(u64::MAX);
+        match self.waiting.first() {
+            Some(_) if up == u64::MAX => self.press_possible(),
+            _ => up,
+        }
+    }
+
+    /// Returns the cycle from which on a key may be pressed: some time after the last press, or after the release of
+    /// PRO.
+    fn press_possible(&self) -> u64 {
+        match self.pressed.last() {
+            Some(last) => last.released.unwrap_or(last.cycle).saturating_add(SPACING),
+            None => 0,
+        }
+    }
+
+    /// Returns the cycle at which PRO is released, if it is down.
+    fn release_due(&self) -> Option<u64> {
+        match self.pressed.last() {
+            Some(
+                Press {
+                    button: Button::Pro,
+                    cycle,
+                    released: None,
+                },
+            ) => Some(cycle.saturating_add(PRO_HELD)),
+            _ => None,
+        }
+    }
+
+    /// Releases PRO if that is due, and presses the next key if possible. A machine that has stopped takes no keys,
+    /// so those that wait are dropped.
+    fn press_due(&mut self) -> Result<(), InjectFault> {
+        if self.has_stopped() {
+            self.waiting.clear();
+            return Ok(());
+        }
+        if let Some(due) = self.release_due() {
+            return if due <= self.cycle() {
+                self.release()
+            } else {
+                Ok(())
+            };
+        }
+        if self.press_possible() <= self.cycle() {
+            self.press_first()
+        } else {
+            Ok(())
+        }
+    }
+
+    /// Releases PRO. If the event cannot be injected, PRO still counts as released, so that it does not hold up the
+    /// machine.
+    #[tactic(auto, unfolding(agc_script::specs::Event::IsWhatInRange))]
+    fn release(&mut self) -> Result<(), InjectFault> {
+        let injected = self.inject(What::Pro(false));
+        let cycle = self.cycle();
+        if let Some(last) = self.pressed.last_mut() {
+            last.released = Some(cycle);
+        }
+        injected
+    }
+
+    /// Presses the first waiting key, if there is one. If that fails, drops all that wait.
+    fn press_first(&mut self) -> Result<(), InjectFault> {
+        let Some(button) = self.waiting.first().copied() else {
+            return Ok(());
+        };
+        let pressed = self.press(button);
+        match pressed {
+            Ok(()) if !self.waiting.is_empty() => {
+                self.waiting.remove(0);
+            }
+            Ok(()) => {}
+            Err(_) => self.waiting.clear(),
+        }
+        pressed
+    }
+
+    /// Presses a key, and records that.
+    fn press(&mut self, button: Button) -> Result<(), InjectFault> {
+        if self.pressed.reserve(1).is_err() {
+            return Err(InjectFault::Memory);
+        }
+        self.inject(button.press())?;
+        let cycle = self.cycle();
+        let press = Press {
+            button,
+            cycle,
+            released: None,
+        };
+        match self.pressed.push(press) {
+            Ok(()) => Ok(()),
+            Err(_) => Err(InjectFault::Memory),
+        }
+    }
+
+    /// Injects an event, after the events of the script that are due.
+    fn inject(&mut self, what: What) -> Result<(), InjectFault>
+        requires { IsWhatInRange what }
+    {
+        self.session.make_room()?;
+        for _event in 0..2 * MOST_EVENTS {
+            if self.machine().wants_key() || self.has_stopped() {
+                break;
+            }
+            self.take_boundary();
+        }
+        self.history.inject(&mut self.session, what)
+    }
+
+    /// Goes back to `cycle`, and discards the keys pressed at it or later and all that wait. A PRO that was down then
+    /// is released as it would have been. Returns false if memory ran out; then nothing has changed.
+    pub fn back(self, alloc: Global, cycle: u64) -> (Operator, bool) {
+        let (mut operator, is_new) = self.rewind(alloc, cycle);
+        if is_new {
+            operator.waiting.clear();
+            forget_from(&mut operator.pressed, cycle);
+            operator.come_to(cycle);
+        }
+        (operator, is_new)
+    }
+
+    /// Rebuilds an empty history of a stopped machine, by running it again to its stop. If memory runs out, nothing
+    /// has changed.
+    pub fn rebuild_history(self, alloc: Global) -> Operator {
+        let stop = self.cycle();
+        if !self.has_stopped() || !self.history.is_empty() {
+            return self;
+        }
+        let (mut operator, is_new) = self.rewind(alloc, u64::MAX);
+        if is_new {
+            operator.come_to(stop.saturating_add(1));
+        }
+        operator
+    }
+
+    /// Restarts the session without the events injected at `cycle` or later. Returns false if memory ran out; then
+    /// nothing has changed.
+    fn rewind(self, alloc: Global, cycle: u64) -> (Operator, bool) {
+        let Operator {
+            session,
+            history,
+            waiting,
+            pressed,
+        } = self;
+        let (session, is_new) = match session.rewind(alloc, cycle) {
+            Ok(session) => (session, true),
+            Err(same) => (same.session, false),
+        };
+        let operator = Operator {
+            session,
+            history,
+            waiting,
+            pressed,
+        };
+        (operator, is_new)
+    }
+
+    /// Returns the number of keys pressed.
+    pub fn presses(&self) -> usize {
+        self.pressed.len()
+    }
+
+    /// Returns the key that was pressed last.
+    pub fn last_pressed(&self) -> Option<Button> {
+        match self.pressed.last() {
+            Some(last) => Some(last.button),
+            None => None,
+        }
+    }
+
+    /// Returns the script of the session, or `None` if memory runs out.
+    pub fn script(&self, alloc: Global) -> Option<Script> {
+        self.session.script(alloc)
+    }
+}
+
+/// Forgets the keys pressed at `cycle` or later, and a release of PRO at `cycle` or later.
+fn forget_from(pressed: &mut Vec<Press>, cycle: u64) {
+    for _press in 0..pressed.len() {
+        match pressed.last() {
+            Some(last) if cycle <= last.cycle => {
+                pressed.pop();
+            }
+            _ => break,
+        }
+    }
+    if let Some(last) = pressed.last_mut() {
+        match last.released {
+            Some(released) if cycle <= released => last.released = None,
+            _ => {}
+        }
+    }
+}
