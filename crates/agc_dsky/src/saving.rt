@@ -1,5 +1,5 @@
-//! The script that repeats a session, as a file or on the terminal.
-use crate::trouble::Trouble;
+//! Saves or prints the script that repeats a session.
+use crate::error::Error;
 use agc_script::Script;
 use agc_store::RopeForm;
 use std::alloc::{AllocError, Global};
@@ -7,7 +7,7 @@ use std::fs;
 use std::io::{self, ErrorKind, Write};
 use std::rt::Files;
 
-/// How a session is repeated.
+/// The arguments that repeat a session.
 #[derive(Clone, Copy, Debug)]
 pub struct Run<'a> {
     pub rope: &'a str,
@@ -16,22 +16,22 @@ pub struct Run<'a> {
     pub limit: u64,
 }
 
-/// Takes the name for the script before the session begins: a file of that name must not be there with anything in it,
-/// unless it may be written over.
-pub fn reserve<R: Files>(rt: &R, path: &str, force: bool) -> Result<(), Trouble> {
+/// Reserves the file for the script before the session starts. An existing file must be empty, unless `force` permits
+/// overwriting it.
+pub fn reserve<R: Files>(rt: &R, path: &str, force: bool) -> Result<(), Error> {
     let mut how = fs::OpenOptions::new();
     how.write(true).create_new(true);
     match how.open(rt, path) {
         Ok(_made) => Ok(()),
         Err(error) => match error.kind() {
             ErrorKind::AlreadyExists if force || is_empty_file(rt, path) => Ok(()),
-            ErrorKind::AlreadyExists => Err(Trouble::SaveTaken),
-            _ => Err(Trouble::SaveNotMade),
+            ErrorKind::AlreadyExists => Err(Error::SaveTaken),
+            _ => Err(Error::SaveNotMade),
         },
     }
 }
 
-/// There is nothing in the file at a path, as where a program was killed that had taken its name.
+/// Returns whether the file at a path is empty, for example because a program was killed after it reserved the file.
 fn is_empty_file<R: Files>(rt: &R, path: &str) -> bool {
     match fs::metadata(rt, path) {
         Ok(about) => about.is_file() && about.len() == 0,
@@ -39,21 +39,21 @@ fn is_empty_file<R: Files>(rt: &R, path: &str) -> bool {
     }
 }
 
-/// The script as text.
+/// Returns the script as text.
 pub fn text_of(alloc: Global, script: &Script) -> Result<String, AllocError> {
     let mut text = String::new(alloc);
     script.push_text(&mut text)?;
     Ok(text)
 }
 
-/// Writes the text of the script to its file, whole.
+/// Writes the whole text of the script to its file.
 pub fn save<R: Files>(rt: &R, path: &str, text: &str) -> io::Result<()> {
     let mut file = fs::create(rt, path)?;
     file.write_all(text.as_bytes())?;
     file.flush()
 }
 
-/// Tells how the session is repeated, up to a limit, and filmed.
+/// Prints how to repeat the session, up to a limit, and how to film it.
 pub fn tell_how<W: Write>(out: &mut W, run: &Run<'_>) -> io::Result<()> {
     out.write_all(b"again: ./agc ")?;
     write_run(out, run)?;
@@ -62,7 +62,7 @@ pub fn tell_how<W: Write>(out: &mut W, run: &Run<'_>) -> io::Result<()> {
     out.write_all(b" > film.html\n")
 }
 
-/// The words of a run: its files, its limit and its form.
+/// Writes the arguments of a run: its files, its limit and its form.
 fn write_run<W: Write>(out: &mut W, run: &Run<'_>) -> io::Result<()> {
     write_word(out, run.rope)?;
     out.write_all(b" ")?;
@@ -75,7 +75,7 @@ fn write_run<W: Write>(out: &mut W, run: &Run<'_>) -> io::Result<()> {
     }
 }
 
-/// A word as a shell reads it: between quotes where it has a byte that may mean something to a shell.
+/// Writes a word for a shell: in quotes if it has a byte that may have a meaning to a shell.
 fn write_word<W: Write>(out: &mut W, word: &str) -> io::Result<()> {
     if !word.is_empty() && word.bytes().all(is_plain) {
         return out.write_all(word.as_bytes());

@@ -1,41 +1,43 @@
-//! The words of the command line: what is sat before.
-use agc_command_line::{script_file, text_of, with_parameter};
-use agc_front::{Asked, Start, start_in, with_start};
-use agc_seat::Speed;
+//! The command-line arguments of `agc-dsky`.
+use agc_cli::{Args, script_file, text_of, with_parameter};
+use agc_session::{SessionArgs, session_args, with_session_args};
+use agc_tui::Speed;
 use clap::{Arg, ArgAction, ArgMatches, Command};
 use std::alloc::{AllocError, Global};
 
-/// What is sat before.
+/// The arguments of the program.
 #[derive(Debug, Drop)]
 pub struct Dsky {
-    pub start: Start,
+    pub start: SessionArgs,
     pub speed: Speed,
-    /// The path of the file that the script is saved to.
+    /// The path of the file that the script is saved to, if there is one.
     pub save: Option<String>,
-    /// A file that is there already is written over.
+    /// Whether an existing file is overwritten.
     pub force: bool,
-    /// Where the Executive's tables stand, which `t` shows.
+    /// The places of the Executive's tables, which `t` shows.
     pub watch: Option<String>,
 }
 
 /// The names of the speeds.
 const SPEEDS: [&str; 5] = ["1", "10", "100", "1000", "max"];
 
-impl Asked for Dsky {
+impl Args for Dsky {
+    const NAME: &'static str = "agc-dsky";
+
     fn command<'a>(alloc: Global) -> Result<Command<'a>, AllocError> {
-        let command = Command::new(alloc, "agc-dsky").about(
+        let command = Command::new(alloc, Dsky::NAME).about(
             "Sits before the DSKY of an emulated Block II computer that runs a rope: shows it on this terminal, and presses its keys as they are typed.",
         );
-        let command = with_start(alloc, command, script_file(alloc).required(false))?;
+        let command = with_session_args(alloc, command, script_file(alloc).required(false))?;
         let command = with_parameter(command, speed_option(alloc))?;
         let command = with_parameter(command, save_option(alloc))?;
         let command = with_parameter(command, watch_option(alloc))?;
         with_parameter(command, force_option(alloc))
     }
 
-    fn asked_in(alloc: Global, matches: &ArgMatches<'_>) -> Result<Dsky, AllocError> {
+    fn from_matches(alloc: Global, matches: &ArgMatches<'_>) -> Result<Dsky, AllocError> {
         Ok(Dsky {
-            start: start_in(alloc, matches)?,
+            start: session_args(alloc, matches)?,
             speed: speed_of(matches),
             save: text_of(alloc, matches, "save")?,
             force: matches.get_flag("force"),

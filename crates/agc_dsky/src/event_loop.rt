@@ -1,0 +1,339 @@
+//! The event loop: reads keys, runs the machine and draws the screen, at most a hundred times a second.
+use crate::screen::{Content, DrawFault, Screen, ask_size};
+use agc_panel::WatchSpec;
+use agc_session::InjectFault;
+use agc_tui::{Button, Decoder, InputEvent, Operator, Pacer, Speed, cycles_in, micros_of};
+use std::alloc::Global;
+use std::io::{Read, Write};
+use std::thread;
+use std::time::{Clock, Duration};
+
+/// The most microseconds that the machine runs before keys are read again.
+const TURN: u64 = 15_000;
+
+/// The milliseconds of sleep between two turns.
+const REST: u64 = 10;
+
+/// The most cycles that the machine runs before the clock is read.
+const CHUNK: u64 = 100_000;
+
+/// The number of cycles in a second of the machine.
+const SECOND: u64 = 85_333;
+
+/// The microseconds for which a pressed key is lit.
+const LIT: u64 = 300_000;
+
+/// The microseconds between two requests for the terminal's size; the speed is measured over the same period.
+const ASKED_EVERY: u64 = 500_000;
+
+/// How a session ended.
+#[derive(Clone, Copy, Debug, PartialEq, Eq)]
+pub enum Ended {
+    /// The user quit.
+    Quit,
+    /// The terminal is gone: it can be neither read nor drawn on.
+    Gone,
+    /// Memory ran out.
+    Memory,
+}
+
+/// A session on a terminal: its operator, screen and pacer, and what is shown.
+#[derive(Drop)]
+pub struct EventLoop {
+    pub operator: Operator,
+    pub screen: Screen,
+    pub pacer: Pacer,
+    decoder: Decoder,
+    is_inside: bool,
+    /// The places of the tables that can be shown, and whether they are shown.
+    watch: Option<WatchSpec>,
+    are_tables: bool,
+    remark: &'static str,
+    runs_at: Option<u64>,
+    /// The time of the clock and the cycle of the last request for the terminal's size.
+    asked: u64,
+    asked_at: u64,
+    /// The number of key presses at the last look, and the time until which the last key is lit.
+    presses: usize,
+    lit_until: u64,
+}
+
+/// What a typed byte requests of the caller of the event loop.
+#[derive(Clone, Copy, Debug, PartialEq, Eq)]
+pub enum Action {
+    None,
+    /// Go back a little.
+    Back,
+    Save,
+    Quit,
+}
+
+impl EventLoop {
+    /// Creates an event loop that starts at a speed.
+    pub fn new<C: Clock>(
+        clock: &C,
+        operator: Operator,
+        screen: Screen,
+        speed: Speed,
+        watch: Option<WatchSpec>,
+    ) -> EventLoop {
+        let micros = micros_of(clock);
+        let cycle = operator.cycle();
+        EventLoop {
+            operator,
+            screen,
+            pacer: Pacer::new(speed, micros, cycle),
+            decoder: Decoder::new(),
+            is_inside: false,
+            watch,
+            are_tables: false,
+            remark: "",
+            runs_at: None,
+            asked: micros,
+            asked_at: cycle,
+            presses: 0,
+            lit_until: 0,
+        }
+    }
+
+    /// Shows a remark until the next key is typed.
+    pub fn say(&mut self, remark: &'static str) {
+        self.remark = remark;
+    }
+
+    /// Handles a typed byte. Returns what the caller has to do.
+    pub fn take<C: Clock>(&mut self, clock: &C, byte: u8) -> Action {
+        match self.decoder.take(byte) {
+            None => Action::None,
+            Some(InputEvent::Size { lines, columns }) => {
+                self.screen.resize(lines, columns);
+                Action::None
+            }
+            Some(input_event) => {
+                self.remark = "";
+                self.handle(clock, input_event)
+            }
+        }
+    }
+
+    /// Handles an event.
+    fn handle<C: Clock>(&mut self, clock: &C, input_event: InputEvent) -> Action {
+        match input_event {
+            InputEvent::Quit => {
+                self.press_now();
+                return Action::Quit;
+            }
+            InputEvent::Save => {
+                self.press_now();
+                return Action::Save;
+            }
+            InputEvent::Back => return Action::Back,
+            InputEvent::Key(button) => self.type_key(button),
+            InputEvent::Pause => self.pause_or_go_on(),
+            InputEvent::Step => self.step(),
+            InputEvent::Faster => self.pacer.go_faster(),
+            InputEvent::Slower => self.pacer.go_slower(),
+            InputEvent::Inside => self.is_inside = !self.is_inside,
+            InputEvent::Tables => self.show_tables(),
+            InputEvent::Size { .. } => {}
+        }
+        self.begin_pace(clock);
+        Action::None
+    }
+
+    /// Queues a key.
+    fn type_key(&mut self, button: Button) {
+        if self.operator.type_key(button).is_err() {
+            self.remark = "no memory for this key";
+        }
+    }
+
+    /// Presses the key that may be pressed at the present cycle.
+    fn press_now(&mut self) {
+        let cycle = self.operator.cycle();
+        let pressed = self.operator.go_to(cycle);
+        self.note(pressed);
+    }
+
+    /// Shows or hides the Executive's tables, if their places are known.
+    fn show_tables(&mut self) {
+        match self.watch {
+            Some(_) => self.are_tables = !self.are_tables,
+            None => self.remark = "no tables are named: start with --watch SPEC",
+        }
+    }
+
+    /// Restarts the pace from the machine's present cycle.
+    fn begin_pace<C: Clock>(&mut self, clock: &C) {
+        self.pacer.begin_at(micros_of(clock), self.operator.cycle());
+    }
+
+    /// Pauses or resumes. Before a pause takes the last boundaries one by one, so that they are recorded.
+    fn pause_or_go_on(&mut self) {
+        self.pacer.pause_or_go_on();
+        if self.pacer.is_paused() {
+            let slowed = self.operator.step_tail();
+            self.note(slowed);
+        }
+    }
+
+    /// Takes one boundary if the session is paused, else pauses it.
+    fn step(&mut self) {
+        if !self.pacer.is_paused() {
+            return self.pause_or_go_on();
+        }
+        let stepped = self.operator.step();
+        self.note(stepped);
+    }
+
+    /// Rebuilds the history if the inspector is shown and the machine has stopped by itself.
+    pub fn look_inside(self, alloc: Global) -> EventLoop {
+        if !self.is_inside {
+            return self;
+        }
+        let operator = self.operator.rebuild_history(alloc);
+        EventLoop { operator, ..self }
+    }
+
+    /// Goes back by a second, or by a tenth of a second during a pause.
+    pub fn back<C: Clock>(self, alloc: Global, clock: &C) -> EventLoop {
+        let EventLoop {
+            operator,
+            screen,
+            pacer,
+            decoder,
+            is_inside,
+            watch,
+            are_tables,
+            asked,
+            lit_until,
+            ..
+        } = self;
+        let way = if pacer.is_paused() {
+            SECOND / 10
+        } else {
+            SECOND
+        };
+        let cycle = operator.cycle().saturating_sub(way);
+        let (operator, went) = operator.back(alloc, cycle);
+        let asked_at = operator.cycle();
+        let presses = operator.presses();
+        let mut event_loop = EventLoop {
+            operator,
+            screen,
+            pacer,
+            decoder,
+            is_inside,
+            watch,
+            are_tables,
+            remark: if went { "" } else { "no memory to go back" },
+            runs_at: None,
+            asked,
+            asked_at,
+            presses,
+            lit_until,
+        };
+        event_loop.begin_pace(clock);
+        event_loop
+    }
+
+    /// Runs the machine to the cycle that is due now, or as far as it gets within a turn.
+    pub fn go_on<C: Clock>(&mut self, clock: &C) {
+        let start = micros_of(clock);
+        let due = self.pacer.due(start);
+        let end = start.saturating_add(TURN);
+        for _chunk in 0..u64::MAX {
+            let cycle = self.operator.cycle();
+            let next = due.min(cycle.saturating_add(CHUNK));
+            let gone = self.operator.go_to(next);
+            self.note(gone);
+            if due <= self.operator.cycle() || self.operator.cycle() == cycle {
+                return;
+            }
+            let now = micros_of(clock);
+            if end <= now || now == start {
+                // The machine cannot keep up: the cycles that it is behind are skipped.
+                self.begin_pace(clock);
+                return;
+            }
+        }
+    }
+
+    /// Shows why a key was not injected.
+    fn note(&mut self, gone: Result<(), InjectFault>) {
+        match gone {
+            Ok(()) => {}
+            Err(InjectFault::Unwanted) => self.remark = "the machine takes no key any more",
+            Err(InjectFault::TooMany) => self.remark = "no key more: the script has 65536 events",
+            Err(InjectFault::Memory) => self.remark = "no memory for a key",
+        }
+    }
+
+    /// Draws what has changed. Twice a second requests the terminal's size and measures the speed.
+    pub fn draw<C: Clock, W: Write>(
+        &mut self,
+        alloc: Global,
+        clock: &C,
+        out: &mut W,
+    ) -> Result<(), DrawFault> {
+        let micros = micros_of(clock);
+        let since = micros.saturating_sub(self.asked);
+        if ASKED_EVERY <= since {
+            ask_size(out)?;
+            self.measure(since);
+            self.asked = micros;
+            self.asked_at = self.operator.cycle();
+        }
+        let pressed = self.lit(micros);
+        let shown = Content {
+            micros,
+            pacer: self.pacer,
+            pressed,
+            runs_at: self.runs_at,
+            is_inside: self.is_inside,
+            tables: if self.are_tables { self.watch } else { None },
+            remark: self.remark,
+        };
+        self.screen.draw(alloc, &self.operator, shown, out)
+    }
+
+    /// Returns the lit key: the last one pressed, for a moment.
+    fn lit(&mut self, micros: u64) -> Option<Button> {
+        if self.presses != self.operator.presses() {
+            self.presses = self.operator.presses();
+            self.lit_until = micros.saturating_add(LIT);
+        }
+        if micros < self.lit_until {
+            self.operator.last_pressed()
+        } else {
+            None
+        }
+    }
+
+    /// Measures the speed over `micros` microseconds as a multiple of the hardware's. It is shown if it is clearly
+    /// below the requested speed, or if that is as fast as possible.
+    fn measure(&mut self, micros: u64) {
+        let cycles = self.operator.cycle().saturating_sub(self.asked_at);
+        let times = match cycles_in(micros, 1) {
+            0 => 0,
+            real => cycles / real,
+        };
+        self.runs_at = match self.pacer.speed().factor() {
+            Some(factor) if factor.saturating_mul(9) / 10 <= times => None,
+            _ => Some(times),
+        };
+    }
+}
+
+/// Reads what was typed, without waiting. Returns `None` if the terminal is gone.
+pub fn read_input<K: Read>(keys: &mut K, buffer: &mut [u8]) -> Option<usize> {
+    match keys.read(buffer) {
+        Ok(count) => Some(count),
+        Err(_) => None,
+    }
+}
+
+/// Sleeps between two turns.
+pub fn rest<C: Clock>(clock: &C) {
+    thread::sleep(clock, Duration::from_millis(REST));
+}
