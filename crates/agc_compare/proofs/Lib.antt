@@ -1,5 +1,0 @@
-pub mod Nothing
-pub mod Passed
-pub mod Followed
-pub mod Memories
-pub mod Compared

@@ -1,5 +1,0 @@
-use Rattle.agc_compare.proofs.Followed.{end_with}
-use Rattle.agc_compare.proofs.follower.Follower.finish.Goals as goal
-
-pub returns : goal.returns
-returns g c = end_with _ _ _ _ _ _ c.panel_with.ensures c.run_out.ensures

@@ -1,6 +1,0 @@
-use Rattle.agc_compare.proofs.Compared.{ends_told}
-use Rattle.agc_compare.proofs.runs.run_apart.Goals as goal
-
-pub returns : goal.returns
-returns g c =
-    ends_told c.args.common c.args.fork _ _ _ _ _ _ _ _ _ _ _ _ _ c.held_writes.ensures.left c.held_writes.ensures.right c.in_ok-write.ensures c.finish.ensures c.finish-2.ensures

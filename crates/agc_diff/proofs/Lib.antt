@@ -1,0 +1,10 @@
+pub mod Kept
+pub mod Alike
+pub mod Follows
+pub mod Together
+pub mod Told
+pub mod Nothing
+pub mod Passed
+pub mod Followed
+pub mod Memories
+pub mod Compared

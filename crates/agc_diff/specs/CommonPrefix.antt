@@ -1,0 +1,70 @@
+-- What two runs have in common from their starts, and where they diverge.
+use Rattle.std.specs.Prelude.{◌≡◌, ◌≢◌, List, [], ◌∷◌, ◌++◌, All, flat_map, length, Option, Some, None}
+use Rattle.circular_buffer.specs.Buffer.{Buffer, buffer, keep_last}
+use Rattle.agc_word.specs.declared.channel_write.ChannelWrite.{ChannelWrite}
+use Rattle.agc_machine.specs.Run.{Run, run_of}
+use Rattle.agc_machine.specs.State.{State}
+use Rattle.agc_panel.specs.Face.{panel_of}
+use Rattle.agc_diff.specs.ObservedPrefix.{kept}
+use Rattle.agc_trace.specs.Entry.{FitsLine}
+use Rattle.agc_trace.specs.Trace.{trace_of}
+use Rattle.agc_trace.specs.declared.entry.Entry.{Entry}
+use Rattle.agc_diff.specs.declared.common_prefix.Common.{Common}
+use Rattle.agc_diff.specs.declared.common_prefix.Divergence.{Divergence}
+
+-- a write, if there is one
+abbrev pub one_write : Option ChannelWrite → List ChannelWrite
+one_write (Some write) = write ∷ []
+one_write None = []
+
+-- the channel writes that entries show
+unfoldable pub entry_writes : List Entry → List ChannelWrite
+entry_writes entries = flat_map (λ entry. one_write entry.write) entries
+
+-- a run with these writes before its own
+abbrev pub run_after : List ChannelWrite → Run → Run
+run_after writes run = record { writes = writes ++ run.writes; last = run.last }
+
+-- the summary of the entries that two runs have in common
+pub record TellsEntries (entries : List Entry) (common : Common)
+    (last : Buffer Entry) : Type 0 where
+  pub boundaries : common.boundaries ≡ length entries
+  pub writes : common.writes ≡ length (entry_writes entries)
+  pub panel : common.panel ≡ panel_of (entry_writes entries)
+  pub last_ones : last ≡ buffer (keep_last kept entries) kept
+  pub fits : All FitsLine entries
+
+-- the boundaries between two states of a run are these entries
+pub record HasPassed (s : State) (entries : List Entry) (t : State) : Type 0 where
+  pub trace : trace_of s ≡ entries ++ trace_of t
+  pub run : run_of s ≡ run_after (entry_writes entries) (run_of t)
+
+-- these entries are the rest of the trace of a run that has reached its stop
+pub record HasEnded (s : State) (entries : List Entry) (t : State) : Type 0 where
+  pub trace : trace_of s ≡ entries
+  pub run : run_of s ≡ run_after (entry_writes entries) (run_of t)
+
+-- a run has passed these entries, and then one more
+pub record HasParted (s : State) (entries : List Entry) (entry : Entry) (t : State) : Type 0 where
+  pub rest : List Entry
+  pub trace : trace_of s ≡ entries ++ entry ∷ rest
+  pub run : run_of s ≡ run_after (entry_writes entries ++ one_write entry.write) (run_of t)
+  pub fits : FitsLine entry
+
+-- Two runs have reached a divergence after their common entries, or their stops if they have all entries in common.
+abbrev pub ComesApart : State → State → Common → Buffer Entry → Option Divergence → State → State → Type 0
+ComesApart s t common last None u v =
+    (entries : List Entry) × TellsEntries entries common last × HasEnded s entries u
+    × HasEnded t entries v
+ComesApart s t common last (Some fork) u v =
+    (entries : List Entry) × TellsEntries entries common last × HasParted s entries fork.left u
+    × HasParted t entries fork.right v × (fork.left ≢ fork.right)
+
+-- the writes of the boundaries at a divergence
+abbrev pub held_left : Option Divergence → Option ChannelWrite
+held_left None = None
+held_left (Some fork) = fork.left.write
+
+abbrev pub held_right : Option Divergence → Option ChannelWrite
+held_right None = None
+held_right (Some fork) = fork.right.write

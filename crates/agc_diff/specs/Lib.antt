@@ -1,0 +1,12 @@
+pub mod Observation
+pub mod ObservedCursor
+pub mod ObservedPrefix
+pub mod ObservedCompared
+pub mod ObservedReport
+pub mod CommonPrefix
+pub mod Cursor
+pub mod Cells
+pub mod Compare
+pub mod Divergence
+pub mod Report
+pub mod SideNames

@@ -1,0 +1,103 @@
+//! Finds the boundaries that two runs have in common from their starts.
+ghost use Rattle.std.specs.Prelude.{◌≡◌, [], IfOk};
+ghost use Rattle.circular_buffer.specs.Buffer.{buffer};
+ghost use Rattle.agc_diff.specs.ObservedPrefix.{kept};
+ghost use Rattle.agc_diff.specs.CommonPrefix.{ComesApart};
+
+use crate::observed::{one_more, push_last};
+use crate::same::is_same_entry;
+use agc_io::{Progress, report_at};
+use agc_machine::Machine;
+use agc_panel::Panel;
+use agc_trace::{Entry, next_entry};
+use agc_word::ChannelWrite;
+use circular_buffer::HeapCircularBuffer;
+use std::alloc::AllocError;
+
+/// The common start of two runs.
+#[derive(Clone, Copy, Debug, PartialEq, Eq)]
+pub(crate) struct Common {
+    /// The number of boundaries from the start that are the same.
+    pub(crate) boundaries: u64,
+    /// The number of channel writes of these boundaries.
+    pub(crate) writes: u64,
+    /// The panel of these writes.
+    pub(crate) panel: Panel,
+}
+
+/// The entries of two runs at the first boundary that differs.
+#[derive(Clone, Copy, Debug, PartialEq, Eq)]
+pub(crate) struct Divergence {
+    pub(crate) left: Entry,
+    pub(crate) right: Entry,
+}
+
+/// Runs both machines while their boundaries are the same: past the first boundaries that differ, or to the stop.
+/// Keeps the last common entries in `last`.
+pub(crate) fn run_together<P: Progress>(
+    left: &mut Machine,
+    right: &mut Machine,
+    last: &mut HeapCircularBuffer<Entry>,
+    progress: &mut P,
+) -> Result<(Common, Option<Divergence>), AllocError>
+    requires { last.old ≡ buffer [] kept }
+    ensures { IfOk result (λ (common, fork).
+        ComesApart left.old right.old common last.new fork left.new right.new) }
+{
+    let mut common = Common::none();
+    let mut mark = 0;
+    loop {
+        let left_entry = next_entry(left);
+        let right_entry = next_entry(right);
+        if !is_same_entry(&left_entry, &right_entry) {
+            let fork = Divergence {
+                left: left_entry,
+                right: right_entry,
+            };
+            return Ok((common, Some(fork)));
+        }
+        common.take(left_entry.write)?;
+        push_last(last, left_entry);
+        if left_entry.is_stop() {
+            return Ok((common, None));
+        }
+        mark = report_at(mark, left_entry.cycle, progress);
+    }
+}
+
+impl Common {
+    ghost use Rattle.std.specs.Prelude.{◌≡◌, ◌+◌, [], ◌++◌, List, length, OnOk};
+    ghost use Rattle.agc_word.specs.declared.channel_write.ChannelWrite.{ChannelWrite};
+    ghost use Rattle.agc_panel.specs.Face.{panel_of};
+    ghost use Rattle.agc_diff.specs.CommonPrefix.{one_write};
+
+    /// Returns an empty common start.
+    fn none() -> Common
+        ensures boundaries { result.boundaries ≡ 0 }
+        ensures writes { result.writes ≡ 0 }
+        ensures panel { result.panel ≡ panel_of [] }
+    {
+        Common {
+            boundaries: 0,
+            writes: 0,
+            panel: Panel::new(),
+        }
+    }
+
+    /// Adds one more common boundary, with its write, if there is one.
+    #[tactic(auto, using(crate::proofs::Nothing::append_nothing))]
+    fn take(&mut self, write: Option<ChannelWrite>) -> Result<(), AllocError>
+        ensures boundaries { OnOk result (self.new.boundaries ≡ self.old.boundaries + 1) }
+        ensures writes { OnOk result
+            (self.new.writes ≡ self.old.writes + length (one_write write)) }
+        ensures panel { OnOk result ((taken : List ChannelWrite) → self.old.panel ≡ panel_of taken
+            → self.new.panel ≡ panel_of (taken ++ one_write write)) }
+    {
+        self.boundaries = one_more(self.boundaries)?;
+        if let Some(write) = write {
+            self.writes = one_more(self.writes)?;
+            self.panel.take(&write);
+        }
+        Ok(())
+    }
+}

@@ -1,0 +1,21 @@
+//! Two runs side by side: where they diverge, boundary by boundary or by what an observer sees.
+#![tactic(auto)]
+
+mod cells;
+mod common_prefix;
+mod comparison;
+mod cursor;
+mod observed;
+mod report;
+mod runs;
+mod same;
+
+pub use cells::CellPair;
+pub use comparison::{Comparison, DivergencePoint};
+pub use cursor::{End, WriteDivergence};
+pub use observed::{
+    DiffBy, Observation, Observed, ObservedComparison, ObservedDivergence, Pair, compare_shown,
+    next_write, none_kept, one_more, push_brief, push_last, push_shown,
+};
+pub use report::{SideNames, push_comparison};
+pub use runs::compare;

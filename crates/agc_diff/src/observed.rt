@@ -1,0 +1,21 @@
+//! Compares two runs by what can be observed: all channel writes, the words of one channel, or the panels, without
+//! the cycles. Also steps a run from write to write.
+mod common_prefix;
+mod comparison;
+mod count;
+mod cursor;
+mod diff_by;
+mod next;
+mod observation;
+mod pairing;
+mod report;
+mod runs;
+
+pub use common_prefix::{none_kept, push_last};
+pub use comparison::{ObservedComparison, ObservedDivergence, Pair};
+pub use count::one_more;
+pub use diff_by::DiffBy;
+pub use next::next_write;
+pub use observation::{Observation, Observed};
+pub use report::{push_brief, push_shown};
+pub use runs::compare_shown;

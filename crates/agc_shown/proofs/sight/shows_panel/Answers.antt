@@ -1,5 +1,0 @@
-use Rattle.agc_shown.proofs.Alike.{alike_in_print}
-use Rattle.agc_shown.proofs.sight.shows_panel.Goals as goal
-
-pub returns-in-Panel : goal.returns-in-Panel
-returns-in-Panel c = alike_in_print c.show_alike.result _ _ _ c.in-Panel.is c.show_alike.ensures

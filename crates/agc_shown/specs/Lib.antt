@@ -1,5 +1,0 @@
-pub mod Shown
-pub mod Follower
-pub mod Common
-pub mod Compared
-pub mod Report
