@@ -1,5 +1,0 @@
-pub mod States
-pub mod Changes
-pub mod Lines
-pub mod ChangeLaws
-pub mod Film

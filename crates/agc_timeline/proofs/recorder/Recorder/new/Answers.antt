@@ -1,0 +1,19 @@
+use Rattle.std.proofs.Common.{List, [], ◌∷◌, ◌++◌, Global, Vec, ap, sym, ◌∙◌}
+use Rattle.agc_timeline.specs.declared.frame.Frame.{Frame}
+use Rattle.agc_timeline.proofs.Recorded.{opens_blank, opens_with}
+use Rattle.agc_timeline.proofs.recorder.Recorder.new.Goals as goal
+use Rattle.agc_timeline.proofs.recorder.Recorder.new.Goals.{then-not-branch+in_ok-push, else-not-branch}
+
+pub returns : goal.returns
+returns c =
+    let opening : List Frame = record { cycle = c.args.cycle; panel = c.args.panel } ∷ [] in
+    λ before is. elim c.if-not-branch.branch [
+      | then-not-branch+in_ok-push w ↦
+          opens_with c.args.cycle before _ c.new.result c.new.ensures is
+          (ap (λ (v : Vec Frame Global). v.items) w.frames-is ∙ w.in_ok-push.ensures.items ∙ ap (λ (fs : List Frame). fs ++ opening) c.new-frames.ensures.items)
+          (sym w.if-not-branch.true ∙ c.in_ok-show_alike.ensures)
+      | else-not-branch w ↦
+          opens_blank c.args.cycle before _ c.new.result c.new.ensures is
+          (ap (λ (v : Vec Frame Global). v.items) w.frames-is ∙ c.new-frames.ensures.items)
+          (sym w.if-not-branch.false ∙ c.in_ok-show_alike.ensures)
+    ]

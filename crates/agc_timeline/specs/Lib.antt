@@ -1,0 +1,16 @@
+pub mod States
+pub mod Changes
+pub mod Lines
+pub mod ChangeLaws
+pub mod Film
+pub mod Tables
+pub mod Frames
+pub mod Run
+pub mod KeyEvents
+pub mod Recording
+pub mod Watched
+pub mod Packed
+pub mod Divergence
+pub mod Title
+pub mod Page
+pub mod Laws

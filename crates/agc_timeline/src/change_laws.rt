@@ -1,0 +1,43 @@
+//! Laws of the changes of a run, each the contract of a function that does nothing. The code is proved equal to the
+//! definitions that these laws are about.
+ghost use Rattle.std.specs.Prelude.{◌≡◌, ◌≤◌, ℕ, []};
+ghost use Rattle.agc_panel.specs.declared.watch_spec.WatchSpec.{WatchSpec};
+ghost use Rattle.agc_machine.specs.Laws.{after};
+ghost use Rattle.agc_machine.specs.State.{State};
+ghost use Rattle.agc_timeline.specs.ChangeLaws.{AreChanges, shown_at, tables_at};
+ghost use Rattle.agc_timeline.specs.Changes.{changes_in};
+ghost use Rattle.agc_timeline.specs.Film.{film_of};
+ghost use Rattle.agc_trace.specs.declared.span.Span.{Span};
+
+/// At each cycle of a span, from the first state in it on, the changes show the tables of the run's last state up to
+/// that cycle.
+#[tactic(auto, using(crate::proofs::AtCycle::changes_are_the_tables))]
+pub fn what_is_shown_is_the_tables()
+    ensures { (span : Span) (spec : WatchSpec) (s : State) (n cycle : ℕ) → span.from ≤ (after n s).cycle
+        → (after n s).cycle ≤ cycle → cycle ≤ span.to
+        → shown_at (changes_in span spec s) cycle ≡ tables_at spec s cycle }
+{}
+
+/// No change is redundant: each shows something else than the one before it (the first shows something at all), and
+/// none comes before its predecessor.
+#[tactic(auto, using(crate::proofs::AtCycle::each_is_a_change))]
+pub fn each_entry_is_a_change()
+    ensures { (span : Span) (spec : WatchSpec) (s : State)
+        → AreChanges span.from span.to [] (changes_in span spec s) }
+{}
+
+/// At each cycle of a part, its film shows the tables of the run's last state up to that cycle.
+#[tactic(auto, using(crate::proofs::PartAtCycle::film_is_the_tables))]
+pub fn a_film_shows_the_tables()
+    ensures { (span : Span) (spec : WatchSpec) (s : State) (cycle : ℕ)
+        → span.from ≤ cycle → cycle ≤ span.to
+        → shown_at (film_of span spec s) cycle ≡ tables_at spec s cycle }
+{}
+
+/// No change of a film is redundant: each shows something else than the one before it, and none comes before its
+/// predecessor.
+#[tactic(auto, using(crate::proofs::PartAtCycle::film_is_cut))]
+pub fn each_tables_frame_is_a_change()
+    ensures { (span : Span) (spec : WatchSpec) (s : State) → span.from ≤ span.to
+        → AreChanges span.from span.to [] (film_of span spec s) }
+{}

@@ -1,0 +1,49 @@
+//! Laws of films, each the contract of a function that does nothing. The code is proved equal to the definitions that
+//! these laws are about.
+ghost use Rattle.std.specs.Prelude.{◌≡◌, ◌≤◌, ℕ, ◌*◌, List, [], drop};
+ghost use Rattle.agc_machine.specs.State.{State};
+ghost use Rattle.agc_timeline.specs.Frames.{shown_after, shown_at};
+ghost use Rattle.agc_timeline.specs.Laws.{AreCuts, frames_of_run, writes_up_to};
+ghost use Rattle.agc_timeline.specs.Packed.{packed, told, text_at, unpacked};
+ghost use Rattle.agc_timeline.specs.Divergence.{PartAt, first_difference};
+ghost use Rattle.agc_timeline.specs.declared.frame.Frame.{Frame};
+ghost use Rattle.agc_timeline.specs.declared.part.Part.{Part};
+
+/// At each cycle of a part, its film shows what the panel shows after the writes of the whole run up to that cycle.
+#[tactic(auto, using(crate::proofs::Shown::film_is_the_panel))]
+pub fn a_film_shows_the_panel()
+    ensures { (s : State) (part : Part) (cycle : ℕ) → part.from ≤ cycle → cycle ≤ part.to
+        → shown_at (frames_of_run part s) cycle ≡ shown_after (writes_up_to cycle s) }
+{}
+
+/// No frame is redundant: each is later than the one before it and shows something else; the first shows something
+/// else than the blank panel.
+#[tactic(auto, using(crate::proofs::Cuts::film_is_cut))]
+pub fn each_frame_is_a_change()
+    ensures { (s : State) (part : Part)
+        → AreCuts part.from (shown_after []) (frames_of_run part s) }
+{}
+
+/// The first difference of two films is the least cycle at which they show different panels.
+#[tactic(auto, using(crate::proofs::Apart::films_part))]
+pub fn films_part_at_the_first_difference()
+    ensures { (s t : State) (part : Part) → PartAt (frames_of_run part s) (frames_of_run part t)
+        (first_difference (frames_of_run part s) (frames_of_run part t)) }
+{}
+
+/// Unpacking the written frames gives the frames again, from the first keyframe or from any other one, whatever the
+/// panel was before it.
+#[tactic(auto, using(crate::proofs::Unpacked::unpacking_gives))]
+pub fn unpacking_gives_the_frames()
+    ensures { (frames : List Frame) (k : ℕ)
+        → unpacked (drop (1024 * k) (packed frames)) ≡ told (drop (1024 * k) frames) }
+{}
+
+/// The written film of a part, unpacked, shows at each cycle of the part what the panel shows after the writes of the
+/// whole run up to that cycle.
+#[tactic(auto, using(crate::proofs::Unpacked::page_is_the_panel))]
+pub fn a_page_shows_the_panel()
+    ensures { (s : State) (part : Part) (cycle : ℕ) → part.from ≤ cycle → cycle ≤ part.to
+        → text_at (unpacked (packed (frames_of_run part s))) cycle
+        ≡ shown_after (writes_up_to cycle s) }
+{}

@@ -1,0 +1,32 @@
+//! A run over time: the panel as a film for a browser, and the Executive's tables as they change.
+#![tactic(auto)]
+
+pub mod change_laws;
+mod changed_lines;
+mod divergence;
+mod frame;
+mod key_event;
+pub mod laws;
+mod packing;
+mod page;
+mod page_text;
+mod part;
+mod recorder;
+mod recording;
+mod shown;
+mod table_film;
+mod title;
+mod watched;
+mod watching;
+
+pub use divergence::first_difference;
+pub use frame::Frame;
+pub use key_event::{Button, KeyEvent};
+pub use page::{HEAD, TABLES, TAIL, push_tail};
+pub use page_text::{push_film, push_film_pair};
+pub use part::Part;
+pub use recording::{Recording, film};
+pub use table_film::{InitialTables, TablesFilm};
+pub use title::RunFiles;
+pub use watched::film_watched;
+pub use watching::write_changes;

@@ -1,0 +1,136 @@
+//! The Executive's tables on the page, beside each run's DSKY, and the text after the runs.
+ghost use Rattle.std.specs.Prelude.{◌≡◌, ◌++◌, OnOk, string_bytes};
+ghost use Rattle.agc_timeline.specs.Tables.{script_with, tables_block, tables_with, tail_text};
+
+use std::alloc::AllocError;
+
+/// The script that shows the tables. It follows the cycle that the script of the DSKY sets on the page.
+pub const TABLES: &str = "<script>
+'use strict';
+(() => {
+  const LINE = String.fromCharCode(10);
+  const KEYFRAME_EVERY = 1024; // of so many changes one has all lines
+
+  // what a line is of: LST1, or a core set or a task by its number
+  const nameOf = (words) => (words[0] === 'LST1' ? words[0] : words.slice(0, 2).join(' '));
+
+  // the changes of a run's tables: the cycle of each and its lines, of which each is laid over the one of its name
+  function readTables(text) {
+    const tables = { cycles: [], changes: [], keyframes: [] };
+    const shown = new Map();
+    for (const told of text.split(LINE).filter(Boolean)) {
+      const [cycle, ...words] = told.split(' ');
+      if (tables.cycles.at(-1) !== Number(cycle)) {
+        if (tables.cycles.length % KEYFRAME_EVERY === 0) tables.keyframes.push([...shown]);
+        tables.cycles.push(Number(cycle));
+        tables.changes.push([]);
+      }
+      const line = [nameOf(words), words.join(' ')];
+      tables.changes.at(-1).push(line);
+      shown.set(line[0], line[1]);
+    }
+    return tables;
+  }
+
+  // the place of the last change up to a cycle, or -1
+  function placeOf(tables, cycle) {
+    let low = 0;
+    let high = tables.cycles.length;
+    while (low < high) {
+      const middle = (low + high) >> 1;
+      if (tables.cycles[middle] <= cycle) low = middle + 1; else high = middle;
+    }
+    return low - 1;
+  }
+
+  // what the tables show at a cycle
+  function textAt(tables, cycle) {
+    const place = placeOf(tables, cycle);
+    if (place < 0) return '';
+    const first = place - (place % KEYFRAME_EVERY);
+    const shown = new Map(tables.keyframes[first / KEYFRAME_EVERY]);
+    for (let i = first; i <= place; i += 1) tables.changes[i].forEach(([name, line]) => shown.set(name, line));
+    return [...shown.values(), ''].join(LINE);
+  }
+
+  document.addEventListener('DOMContentLoaded', () => {
+    const shows = [];
+    for (const name of ['left', 'right']) {
+      const block = document.getElementById(name + '-tables');
+      const panel = document.getElementById(name + '-panel');
+      if (block && panel) {
+        const tables = readTables(block.textContent);
+        const shown = document.createElement('pre');
+        shown.id = name + '-watch';
+        shown.setAttribute('aria-label', 'The tables of the Executive');
+        shown.style.cssText = 'margin: 10px 0 0; padding: 8px 12px; border-radius: 6px; background: #212425; font: 12px/1.4 ui-monospace, monospace; white-space: pre-wrap;';
+        panel.closest('.run').append(shown);
+        shows.push((cycle) => { shown.textContent = textAt(tables, cycle); });
+      }
+    }
+    const follow = () => shows.forEach((show) => show(Number(document.body.dataset.cycle)));
+    new MutationObserver(follow).observe(document.body, { attributes: true, attributeFilter: ['data-cycle'] });
+    follow();
+  });
+})();
+</script>
+";
+
+/// Adds what follows the runs: the lines of the tables of each run that has some, the script that shows them if any
+/// run has, and the end of the page. Fails if memory runs out.
+#[tactic(auto, unfolding(crate::specs::Tables::tail_text))]
+pub fn push_tail(
+    text: &mut String,
+    script: &str,
+    tail: &str,
+    left: &Option<String>,
+    right: &Option<String>,
+) -> Result<(), AllocError>
+    ensures { OnOk result (string_bytes text.new
+        ≡ string_bytes text.old ++ tail_text script.now tail.now left.now right.now) }
+{
+    push_tables(text, "left", left)?;
+    push_tables(text, "right", right)?;
+    push_script(text, script, left, right)?;
+    text.push_str(tail)
+}
+
+/// Adds the lines of a run's tables, if it has some.
+fn push_tables(text: &mut String, name: &str, tables: &Option<String>) -> Result<(), AllocError>
+    ensures { OnOk result (string_bytes text.new
+        ≡ string_bytes text.old ++ tables_with name.now tables.now) }
+{
+    match tables {
+        Some(lines) => push_block(text, name, lines.as_str()),
+        None => Ok(()),
+    }
+}
+
+/// Adds lines as the block of a run's tables.
+#[tactic(auto, unfolding(crate::specs::Tables::tables_block))]
+fn push_block(text: &mut String, name: &str, lines: &str) -> Result<(), AllocError>
+    ensures { OnOk result (string_bytes text.new
+        ≡ string_bytes text.old ++ tables_block name.now lines.now) }
+{
+    text.push_str("<script type=\"text/plain\" id=\"")?;
+    text.push_str(name)?;
+    text.push_str("-tables\">\n")?;
+    text.push_str(lines)?;
+    text.push_str("</script>\n")
+}
+
+/// Adds a script, if a run has tables.
+fn push_script(
+    text: &mut String,
+    script: &str,
+    left: &Option<String>,
+    right: &Option<String>,
+) -> Result<(), AllocError>
+    ensures { OnOk result (string_bytes text.new
+        ≡ string_bytes text.old ++ script_with script.now left.now right.now) }
+{
+    match (left, right) {
+        (None, None) => Ok(()),
+        (Some(_), None) | (None, Some(_)) | (Some(_), Some(_)) => text.push_str(script),
+    }
+}
