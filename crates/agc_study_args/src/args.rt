@@ -1,31 +1,31 @@
-//! What the program is asked for.
-use agc_count_text::Layout;
-use agc_film::{Part, RunFiles};
-use agc_shown::By;
+//! The parsed arguments of `agc-study`, one struct for each subcommand.
+use agc_diff::DiffBy;
+use agc_profile::Layout;
 use agc_store::RopeForm;
+use agc_timeline::{Part, RunFiles};
 use agc_trace::{Selection, Span};
 
-/// The name by which the program speaks of itself.
+/// The program name used in messages.
 pub const NAME: &str = "agc-study";
 
-/// What is asked for.
+/// The parsed command line: a subcommand with its arguments.
 #[derive(Debug, Drop)]
-pub enum Asked {
-    List(Listing),
-    Weave(Weaving),
-    Check(Checking),
-    Trace(Tracing),
-    Count(Counting),
-    Jobs(Watching),
-    Compare(Comparing),
-    Film(Filming),
+pub enum Args {
+    List(ListArgs),
+    Weave(WeaveArgs),
+    Check(CheckArgs),
+    Trace(TraceArgs),
+    Count(ProfileArgs),
+    Jobs(JobsArgs),
+    Compare(CompareArgs),
+    Film(FilmArgs),
 }
 
-impl Asked {
-    /// The files to be read, in the order in which they are.
+impl Args {
+    /// Returns the paths of the input files in the order in which they are read.
     pub fn paths(&self) -> [Option<&str>; 6] {
         match self {
-            Asked::List(asked) => [
+            Args::List(asked) => [
                 asked.names.as_deref(),
                 Some(asked.rope.as_str()),
                 None,
@@ -33,9 +33,9 @@ impl Asked {
                 None,
                 None,
             ],
-            Asked::Weave(asked) => [Some(asked.text.as_str()), None, None, None, None, None],
-            Asked::Check(asked) => asked.paths(),
-            Asked::Trace(asked) => [
+            Args::Weave(asked) => [Some(asked.text.as_str()), None, None, None, None, None],
+            Args::Check(asked) => asked.paths(),
+            Args::Trace(asked) => [
                 asked.names.as_deref(),
                 Some(asked.rope.as_str()),
                 Some(asked.script.as_str()),
@@ -43,7 +43,7 @@ impl Asked {
                 None,
                 None,
             ],
-            Asked::Count(asked) => [
+            Args::Count(asked) => [
                 Some(asked.rope.as_str()),
                 Some(asked.script.as_str()),
                 None,
@@ -51,7 +51,7 @@ impl Asked {
                 None,
                 None,
             ],
-            Asked::Jobs(asked) => [
+            Args::Jobs(asked) => [
                 Some(asked.rope.as_str()),
                 Some(asked.script.as_str()),
                 None,
@@ -59,46 +59,46 @@ impl Asked {
                 None,
                 None,
             ],
-            Asked::Compare(asked) => asked.paths(),
-            Asked::Film(asked) => asked.paths(),
+            Args::Compare(asked) => asked.paths(),
+            Args::Film(asked) => asked.paths(),
         }
     }
 }
 
-/// A rope file to list, or one bank of it.
+/// Arguments of `list`: a rope file, or one bank of it.
 #[derive(Debug, Drop)]
-pub struct Listing {
+pub struct ListArgs {
     pub rope: String,
     pub form: RopeForm,
-    /// The text of `--bank`.
+    /// The value of `--bank`.
     pub bank: Option<String>,
-    /// The text file of names.
+    /// The symbol file (`--names`).
     pub names: Option<String>,
-    /// It is listed as a source.
+    /// Whether to list it as a source (`--source`).
     pub source: bool,
 }
 
-/// A text file to weave.
+/// Arguments of `weave`: a text file to assemble.
 #[derive(Debug, Drop)]
-pub struct Weaving {
+pub struct WeaveArgs {
     pub text: String,
     pub form: RopeForm,
-    /// The file to which the text's names are written.
+    /// The file that the symbols of the text are written to (`--names`).
     pub names: Option<String>,
 }
 
-/// The files to check, of which there is one at least.
+/// Arguments of `check`: at least one file to check.
 #[derive(Debug, Drop)]
-pub struct Checking {
-    pub run: Option<CheckedRun>,
-    /// The text file of live keys.
+pub struct CheckArgs {
+    pub run: Option<CheckedRunArgs>,
+    /// A text file of live keys.
     pub keys: Option<String>,
-    /// The text file of a rope, as `weave` takes it.
+    /// The text file of a rope, in the form that `weave` reads.
     pub listing: Option<String>,
     pub form: RopeForm,
 }
 
-impl Checking {
+impl CheckArgs {
     fn paths(&self) -> [Option<&str>; 6] {
         let keys = self.keys.as_deref();
         let listing = self.listing.as_deref();
@@ -118,88 +118,87 @@ impl Checking {
 
 /// A rope file and a script file to check.
 #[derive(Debug, Drop)]
-pub struct CheckedRun {
+pub struct CheckedRunArgs {
     pub rope: String,
     pub script: String,
 }
 
-/// A run to trace, and which of its lines are printed.
+/// Arguments of `trace`: a run, and which of its lines to print.
 #[derive(Debug, Drop)]
-pub struct Tracing {
+pub struct TraceArgs {
     pub rope: String,
     pub script: String,
     pub form: RopeForm,
     pub limit: u64,
-    /// The text of `--until`.
+    /// The value of `--until`.
     pub until: Option<String>,
     pub selection: Selection,
-    /// The texts of `--at` and of `--cell` that are not in the selection yet, since they may say places by the names of the
-    /// file.
+    /// The values of `--at` and `--cell` that are not in the selection yet, because they may use symbols.
     pub at: Vec<String>,
     pub cell: Vec<String>,
-    /// The text file of names.
+    /// The symbol file (`--names`).
     pub names: Option<String>,
 }
 
-/// A run to count, and what of that is printed.
+/// Arguments of `profile`: a run, and what to print about it.
 #[derive(Debug, Drop)]
-pub struct Counting {
+pub struct ProfileArgs {
     pub rope: String,
     pub script: String,
     pub form: RopeForm,
     pub limit: u64,
-    /// The text of `--until`.
+    /// The value of `--until`.
     pub until: Option<String>,
-    /// The cycles at which the boundaries begin that are counted.
+    /// The range of cycles: boundaries that begin in it are counted.
     pub span: Span,
     pub layout: Layout,
-    /// The words of the whole rope are printed, with those that never ran.
+    /// Whether to print every word of the rope, including the words that never ran.
     pub is_whole: bool,
 }
 
-/// A run whose tables are told.
+/// Arguments of `jobs`: a run whose Executive tables are printed.
 #[derive(Debug, Drop)]
-pub struct Watching {
+pub struct JobsArgs {
     pub rope: String,
     pub script: String,
     pub form: RopeForm,
     pub limit: u64,
-    /// The text of `--until`.
+    /// The value of `--until`.
     pub until: Option<String>,
-    /// The text of `--watch`.
+    /// The value of `--watch`.
     pub watch: String,
-    /// The cycles in which they are told.
+    /// The range of cycles in which changes are printed.
     pub span: Span,
 }
 
-/// Two runs to compare.
+/// Arguments of `compare`: two runs.
 #[derive(Debug, Drop)]
-pub struct Comparing {
+pub struct CompareArgs {
     pub rope: String,
     pub script: String,
     pub other_rope: String,
     pub other_script: String,
     pub form: RopeForm,
     pub limit: u64,
-    /// The text of `--until`.
+    /// The value of `--until`.
     pub until: Option<String>,
-    /// How they are compared by what shows; with `None` they are compared boundary by boundary.
-    pub shown: Option<ByShown>,
-    /// The text file of names, of both runs or of the one on the left.
+    /// How to compare what the runs show; `None` compares them boundary by boundary.
+    pub shown: Option<ObservedArgs>,
+    /// The symbol file of both runs, or only of the left one if the right one has its own.
     pub names: Option<String>,
-    /// The text file of names of the run on the right, where it has its own.
+    /// The symbol file of the right run, if it has its own.
     pub other_names: Option<String>,
 }
 
-/// How two runs are compared by what shows.
+/// How to compare what two runs show.
 #[derive(Clone, Copy, Debug, PartialEq, Eq)]
-pub struct ByShown {
-    pub what: By,
-    /// One line tells it.
+pub struct ObservedArgs {
+    pub what: DiffBy,
+    /// Whether to print the result in one line (`--brief`).
     pub is_brief: bool,
 }
 
-impl Comparing {
+impl CompareArgs {
     fn paths(&self) -> [Option<&str>; 6] {
         [
             self.names.as_deref(),
@@ -212,25 +211,25 @@ impl Comparing {
     }
 }
 
-/// A run to film, or two side by side.
+/// Arguments of `film`: one run, or two side by side.
 #[derive(Debug, Drop)]
-pub struct Filming {
+pub struct FilmArgs {
     pub files: RunFiles,
-    /// The files of the run on the right.
+    /// The files of the right run.
     pub other: Option<RunFiles>,
-    /// The part that is filmed.
+    /// The part of the run to film.
     pub part: Part,
     pub form: RopeForm,
     pub limit: u64,
-    /// The text of `--until`.
+    /// The value of `--until`.
     pub until: Option<String>,
-    /// The text of `--watch`.
+    /// The value of `--watch`.
     pub watch: Option<String>,
-    /// The text file of names.
+    /// The symbol file (`--names`).
     pub names: Option<String>,
 }
 
-impl Filming {
+impl FilmArgs {
     fn paths(&self) -> [Option<&str>; 6] {
         let names = self.names.as_deref();
         let (rope, script) = (self.files.rope.as_str(), self.files.script.as_str());
