@@ -1,25 +1,25 @@
-//! How two runs are compared by what shows: `--by`, of which a channel takes two words, and `--brief`.
+//! Parses the options `--by` and `--brief` of `compare`; `--by channel NUMBER` takes two words.
 use crate::questions::{push, refused};
-use agc_asked::ByShown;
-use agc_options::ArgsFault;
-use agc_shown::By;
+use agc_cli::ArgsFault;
+use agc_diff::DiffBy;
+use agc_study_args::ObservedArgs;
 use agc_word::read_octal;
 use clap::ArgMatches;
 use std::alloc::{AllocError, Global};
 
-/// What may come next among the words of a command line.
+/// What the next word of a command line may be.
 #[derive(Clone, Copy)]
 enum Reading {
     /// A word of its own.
     Word,
-    /// What `--by` names.
+    /// The value of `--by`.
     Kind,
-    /// The number of a channel, to be put behind the word before it.
+    /// A channel number, to be joined to the word before it.
     Number,
 }
 
 impl Reading {
-    /// What may come after this word.
+    /// Returns what may come after this word.
     fn after(self, word: &str) -> Reading {
         match (self, word) {
             (Reading::Number, _) => Reading::Word,
@@ -30,7 +30,7 @@ impl Reading {
     }
 }
 
-/// The words of a command line, in which `channel` and the number after it are one word where `--by` stands before.
+/// Returns the words with `channel` and the number after it joined into one word, if `--by` comes before them.
 pub(crate) fn with_channels_joined(
     alloc: Global,
     words: &[&str],
@@ -47,7 +47,7 @@ pub(crate) fn with_channels_joined(
     Ok(joined)
 }
 
-/// Puts a word behind the last of several, and a space between them.
+/// Appends a space and a word to the last string of a list.
 fn put_behind_last(several: &mut Vec<String>, word: &str) -> Result<(), AllocError> {
     if let Some(last) = several.last_mut() {
         last.push(' ')?;
@@ -56,16 +56,16 @@ fn put_behind_last(several: &mut Vec<String>, word: &str) -> Result<(), AllocErr
     Ok(())
 }
 
-/// What `--by` and `--brief` ask for.
+/// Parses `--by` and `--brief`.
 pub(crate) fn shown_of(
     alloc: Global,
     given: &ArgMatches<'_>,
-) -> Result<Option<ByShown>, ArgsFault> {
+) -> Result<Option<ObservedArgs>, ArgsFault> {
     let Some(text) = given.get_str("by") else {
         return Ok(None);
     };
     match what_of(text) {
-        Ok(what) => Ok(Some(ByShown {
+        Ok(what) => Ok(Some(ObservedArgs {
             what,
             is_brief: given.get_flag("brief"),
         })),
@@ -73,11 +73,11 @@ pub(crate) fn shown_of(
     }
 }
 
-/// What the value of `--by` names, or why it names nothing.
-fn what_of(text: &str) -> Result<By, &'static str> {
+/// Parses the value of `--by`, or returns why it is rejected.
+fn what_of(text: &str) -> Result<DiffBy, &'static str> {
     match text {
-        "writes" => Ok(By::Writes),
-        "panels" => Ok(By::Panels),
+        "writes" => Ok(DiffBy::Writes),
+        "panels" => Ok(DiffBy::Panels),
         "channel" => Err("BadChannel"),
         _ => match text.strip_prefix("channel ") {
             Some(number) => channel_of(number),
@@ -86,10 +86,10 @@ fn what_of(text: &str) -> Result<By, &'static str> {
     }
 }
 
-/// The channel of a number of one to three octal digits.
-fn channel_of(number: &str) -> Result<By, &'static str> {
+/// Parses a channel number of one to three octal digits.
+fn channel_of(number: &str) -> Result<DiffBy, &'static str> {
     match read_octal(3, number.as_bytes()) {
-        Some(channel) => Ok(By::Channel(channel as u16)),
+        Some(channel) => Ok(DiffBy::Channel(channel as u16)),
         None => Err("BadChannel"),
     }
 }

@@ -1,35 +1,41 @@
-//! The words of a command line to what they ask for.
-use crate::counted::counting_of;
+//! Parses the words of a command line into the arguments of a subcommand.
+use crate::command_line::command;
+use crate::profile::profile_args;
 use crate::questions::{cells_of, channels_of, orders_of, places_of, texts_of};
 use crate::runs::{files_of, other_files_of, run_of};
 use crate::shown::{shown_of, with_channels_joined};
 use crate::watched::watching_of;
-use agc_asked::{Asked, CheckedRun, Checking, Comparing, Filming, Listing, NAME, Tracing, Weaving};
-use agc_command_line::{WordsFault, fault_of, form_of, number_of, path_of, text_of, words_of};
-use agc_commands::command;
-use agc_film::{Part, RunFiles};
-use agc_options::ArgsFault;
+use agc_cli::{
+    ArgsFault, WordsFault, answer_version, fault_of, form_of, number_of, path_of, text_of, words_of,
+};
+use agc_study_args::{
+    Args, CheckArgs, CheckedRunArgs, CompareArgs, FilmArgs, ListArgs, NAME, TraceArgs, WeaveArgs,
+};
+use agc_timeline::{Part, RunFiles};
 use agc_trace::{Only, Selection, Span};
 use clap::ArgMatches;
 use std::alloc::{AllocError, Global};
 use std::rt::Env;
 
-/// What the words of the command line ask for.
-pub fn asked_of<R: Env + AllocGlobal>(rt: &R) -> Result<Asked, ArgsFault> {
+/// Parses the command line of the process.
+pub fn parse_env<R: Env + AllocGlobal>(rt: &R) -> Result<Args, ArgsFault> {
     let alloc = rt.alloc();
     match words_of(rt) {
-        Ok(words) => asked_by(alloc, texts_of_words(alloc, words.as_slice())?.as_slice()),
+        Ok(words) => {
+            answer_version(alloc, NAME, words.as_slice())?;
+            parse(alloc, texts_of_words(alloc, words.as_slice())?.as_slice())
+        }
         Err(WordsFault::NotText(number)) => Err(not_text(alloc, number)),
         Err(WordsFault::Memory) => Err(ArgsFault::Memory),
     }
 }
 
-/// The texts of words.
+/// Returns the words as text.
 fn texts_of_words<'a>(alloc: Global, words: &'a [String]) -> Result<Vec<&'a str>, AllocError> {
     words.iter().map(|word| word.as_str()).collect(alloc)
 }
 
-/// The mistake of a command line whose word of this number is not text, counted from 1 after the program's own name.
+/// Returns the error for a word that is not text. The number of the word counts from 1 after the program name.
 fn not_text(alloc: Global, number: usize) -> ArgsFault {
     match format!(in alloc;
         "error: word {number} is not text\n\nUsage: {NAME} <COMMAND>\n\nFor more information, try '--help'.\n"
@@ -39,15 +45,15 @@ fn not_text(alloc: Global, number: usize) -> ArgsFault {
     }
 }
 
-/// What the words of a command line ask for, the program's own name first.
-pub fn asked_by<'a>(alloc: Global, words: &'a [&'a str]) -> Result<Asked, ArgsFault> {
+/// Parses the words of a command line; the first word is the program name.
+pub fn parse<'a>(alloc: Global, words: &'a [&'a str]) -> Result<Args, ArgsFault> {
     let joined = with_channels_joined(alloc, words)?;
     let words = texts_of_words(alloc, joined.as_slice())?;
     asked_by_joined(alloc, words.as_slice())
 }
 
-/// What words ask for in which each channel stands with its number.
-fn asked_by_joined(alloc: Global, words: &[&str]) -> Result<Asked, ArgsFault> {
+/// Parses words in which each `channel` is already joined to its number.
+fn asked_by_joined(alloc: Global, words: &[&str]) -> Result<Args, ArgsFault> {
     let command = command(alloc)?;
     match command.try_get_matches_from(words) {
         Ok(matches) => asked_in(alloc, &matches),
@@ -55,21 +61,21 @@ fn asked_by_joined(alloc: Global, words: &[&str]) -> Result<Asked, ArgsFault> {
     }
 }
 
-fn asked_in(alloc: Global, matches: &ArgMatches<'_>) -> Result<Asked, ArgsFault> {
+fn asked_in(alloc: Global, matches: &ArgMatches<'_>) -> Result<Args, ArgsFault> {
     match matches.subcommand() {
         Some((name, given)) => asked_as(alloc, name, given),
         None => Err(mistake(alloc, "error: a subcommand is required\n")),
     }
 }
 
-/// What the subcommand of a name asks for.
-fn asked_as(alloc: Global, name: &str, given: &ArgMatches<'_>) -> Result<Asked, ArgsFault> {
+/// Parses the arguments of the subcommand with this name.
+fn asked_as(alloc: Global, name: &str, given: &ArgMatches<'_>) -> Result<Args, ArgsFault> {
     match name {
         "list" => listing_of(alloc, given),
         "weave" => weaving_of(alloc, given),
         "check" => checking_of(alloc, given),
         "trace" => tracing_of(alloc, given),
-        "count" => counting_of(alloc, given),
+        "profile" => profile_args(alloc, given),
         "jobs" => watching_of(alloc, given),
         "compare" => comparing_of(alloc, given),
         "film" => filming_of(alloc, given),
@@ -77,7 +83,7 @@ fn asked_as(alloc: Global, name: &str, given: &ArgMatches<'_>) -> Result<Asked, 
     }
 }
 
-/// A mistake in the words, told by this text.
+/// Returns a command-line error with this text.
 fn mistake(alloc: Global, text: &str) -> ArgsFault {
     match String::from_str(alloc, text) {
         Ok(text) => ArgsFault::Command(text),
@@ -85,8 +91,8 @@ fn mistake(alloc: Global, text: &str) -> ArgsFault {
     }
 }
 
-fn listing_of(alloc: Global, given: &ArgMatches<'_>) -> Result<Asked, ArgsFault> {
-    Ok(Asked::List(Listing {
+fn listing_of(alloc: Global, given: &ArgMatches<'_>) -> Result<Args, ArgsFault> {
+    Ok(Args::List(ListArgs {
         rope: path_of(alloc, given, "rope")?,
         form: form_of(given),
         bank: text_of(alloc, given, "bank")?,
@@ -95,15 +101,15 @@ fn listing_of(alloc: Global, given: &ArgMatches<'_>) -> Result<Asked, ArgsFault>
     }))
 }
 
-fn weaving_of(alloc: Global, given: &ArgMatches<'_>) -> Result<Asked, ArgsFault> {
-    Ok(Asked::Weave(Weaving {
+fn weaving_of(alloc: Global, given: &ArgMatches<'_>) -> Result<Args, ArgsFault> {
+    Ok(Args::Weave(WeaveArgs {
         text: path_of(alloc, given, "text")?,
         form: form_of(given),
         names: text_of(alloc, given, "names")?,
     }))
 }
 
-fn checking_of(alloc: Global, given: &ArgMatches<'_>) -> Result<Asked, ArgsFault> {
+fn checking_of(alloc: Global, given: &ArgMatches<'_>) -> Result<Args, ArgsFault> {
     let run = checked_run_of(alloc, given)?;
     let keys = text_of(alloc, given, "keys")?;
     let listing = text_of(alloc, given, "listing")?;
@@ -113,7 +119,7 @@ fn checking_of(alloc: Global, given: &ArgMatches<'_>) -> Result<Asked, ArgsFault
             "error: check needs a ROPE and a SCRIPT, or --keys or --listing\n",
         ));
     }
-    Ok(Asked::Check(Checking {
+    Ok(Args::Check(CheckArgs {
         run,
         keys,
         listing,
@@ -121,12 +127,15 @@ fn checking_of(alloc: Global, given: &ArgMatches<'_>) -> Result<Asked, ArgsFault
     }))
 }
 
-/// The rope and the script to check, of which there are both or none.
-fn checked_run_of(alloc: Global, given: &ArgMatches<'_>) -> Result<Option<CheckedRun>, ArgsFault> {
+/// Parses the rope and the script to check; both are present or neither is.
+fn checked_run_of(
+    alloc: Global,
+    given: &ArgMatches<'_>,
+) -> Result<Option<CheckedRunArgs>, ArgsFault> {
     match (given.get_str("rope"), given.get_str("script")) {
         (Some(_), Some(_)) => {
             let RunFiles { rope, script } = files_of(alloc, given)?;
-            Ok(Some(CheckedRun { rope, script }))
+            Ok(Some(CheckedRunArgs { rope, script }))
         }
         (None, None) => Ok(None),
         (Some(_), None) | (None, Some(_)) => Err(mistake(
@@ -136,9 +145,9 @@ fn checked_run_of(alloc: Global, given: &ArgMatches<'_>) -> Result<Option<Checke
     }
 }
 
-fn tracing_of(alloc: Global, given: &ArgMatches<'_>) -> Result<Asked, ArgsFault> {
+fn tracing_of(alloc: Global, given: &ArgMatches<'_>) -> Result<Args, ArgsFault> {
     let run = run_of(alloc, given)?;
-    Ok(Asked::Trace(Tracing {
+    Ok(Args::Trace(TraceArgs {
         rope: run.files.rope,
         script: run.files.script,
         form: form_of(given),
@@ -151,7 +160,7 @@ fn tracing_of(alloc: Global, given: &ArgMatches<'_>) -> Result<Asked, ArgsFault>
     }))
 }
 
-/// Which lines of a trace are printed.
+/// Parses which lines of a trace are printed.
 fn selection_of(alloc: Global, given: &ArgMatches<'_>) -> Result<Selection, ArgsFault> {
     Ok(Selection {
         from: number_of(given, "from", 0),
@@ -165,13 +174,13 @@ fn selection_of(alloc: Global, given: &ArgMatches<'_>) -> Result<Selection, Args
     })
 }
 
-fn comparing_of(alloc: Global, given: &ArgMatches<'_>) -> Result<Asked, ArgsFault> {
+fn comparing_of(alloc: Global, given: &ArgMatches<'_>) -> Result<Args, ArgsFault> {
     let other_names = other_names_of(alloc, given)?;
     let names = text_of(alloc, given, "names")?;
     let other_files = other_files_of(alloc, given)?;
     let run = run_of(alloc, given)?;
     let shown = shown_of(alloc, given)?;
-    Ok(Asked::Compare(Comparing {
+    Ok(Args::Compare(CompareArgs {
         rope: run.files.rope,
         script: run.files.script,
         other_rope: other_files.rope,
@@ -185,7 +194,7 @@ fn comparing_of(alloc: Global, given: &ArgMatches<'_>) -> Result<Asked, ArgsFaul
     }))
 }
 
-/// The file of names of the run on the right, where it has its own.
+/// Parses the symbol file of the right run, if it has its own.
 fn other_names_of(alloc: Global, given: &ArgMatches<'_>) -> Result<Option<String>, ArgsFault> {
     match given.get_strs("names") {
         None | Some([_]) => Ok(None),
@@ -194,8 +203,8 @@ fn other_names_of(alloc: Global, given: &ArgMatches<'_>) -> Result<Option<String
     }
 }
 
-fn filming_of(alloc: Global, given: &ArgMatches<'_>) -> Result<Asked, ArgsFault> {
-    Ok(Asked::Film(Filming {
+fn filming_of(alloc: Global, given: &ArgMatches<'_>) -> Result<Args, ArgsFault> {
+    Ok(Args::Film(FilmArgs {
         files: files_of(alloc, given)?,
         other: other_run_of(alloc, given)?,
         part: part_of(alloc, given)?,
@@ -207,7 +216,7 @@ fn filming_of(alloc: Global, given: &ArgMatches<'_>) -> Result<Asked, ArgsFault>
     }))
 }
 
-/// The files of the other run, of which there are both or none.
+/// Parses the files of the other run; both are present or neither is.
 fn other_run_of(alloc: Global, given: &ArgMatches<'_>) -> Result<Option<RunFiles>, ArgsFault> {
     match (given.get_str("other-rope"), given.get_str("other-script")) {
         (Some(_), Some(_)) => Ok(Some(other_files_of(alloc, given)?)),
@@ -219,13 +228,13 @@ fn other_run_of(alloc: Global, given: &ArgMatches<'_>) -> Result<Option<RunFiles
     }
 }
 
-/// The part of a run that is filmed.
+/// Parses the part of a run to film.
 fn part_of(alloc: Global, given: &ArgMatches<'_>) -> Result<Part, ArgsFault> {
     let Span { from, to } = span_of(alloc, given)?;
     Ok(Part { from, to })
 }
 
-/// The cycles of `--from` and `--to`, between which there is one.
+/// Parses `--from` and `--to`; the range must contain a cycle.
 pub(crate) fn span_of(alloc: Global, given: &ArgMatches<'_>) -> Result<Span, ArgsFault> {
     let from = number_of(given, "from", 0);
     let to = number_of(given, "to", u64::MAX);

@@ -1,19 +1,19 @@
-//! The runs that the subcommands take: their files, and where they end.
-use agc_command_line::{number_of, path_of, text_of};
-use agc_film::RunFiles;
+//! Parses the arguments that the subcommands share: the files of a run, and where it ends.
+use agc_cli::{number_of, path_of, text_of};
+use agc_timeline::RunFiles;
 use clap::ArgMatches;
 use std::alloc::{AllocError, Global};
 
-/// A run, and where it ends at the latest.
+/// The files of a run, and where it ends at the latest.
 #[derive(Drop)]
 pub(crate) struct Run {
     pub(crate) files: RunFiles,
     pub(crate) limit: u64,
-    /// The text of `--until`.
+    /// The value of `--until`.
     pub(crate) until: Option<String>,
 }
 
-/// The run of a subcommand, the one on the left where there are two.
+/// Parses the run of a subcommand; if there are two, the left one.
 pub(crate) fn run_of(alloc: Global, given: &ArgMatches<'_>) -> Result<Run, AllocError> {
     Ok(Run {
         files: files_of(alloc, given)?,
@@ -22,7 +22,7 @@ pub(crate) fn run_of(alloc: Global, given: &ArgMatches<'_>) -> Result<Run, Alloc
     })
 }
 
-/// The files of that run.
+/// Parses the files of that run.
 pub(crate) fn files_of(alloc: Global, given: &ArgMatches<'_>) -> Result<RunFiles, AllocError> {
     Ok(RunFiles {
         rope: path_of(alloc, given, "rope")?,
@@ -30,7 +30,7 @@ pub(crate) fn files_of(alloc: Global, given: &ArgMatches<'_>) -> Result<RunFiles
     })
 }
 
-/// The files of the run on the right.
+/// Parses the files of the right run.
 pub(crate) fn other_files_of(
     alloc: Global,
     given: &ArgMatches<'_>,

@@ -1,12 +1,12 @@
-//! The command line that `clap` reads: the subcommands with their files and options.
-use crate::words::{Subcommands, Words, flag, number, option, repeated};
-use agc_command_line::FORMS;
+//! The `clap` definition of the command line: the subcommands with their files and options.
+use crate::arg_list::{ArgList, Subcommands, flag, number, option, repeated};
+use agc_cli::FORMS;
 use clap::{ArgAction, Command};
 use std::alloc::{AllocError, Global};
 
 static KINDS: [&str; 3] = ["writes", "interrupts", "jumps"];
 
-/// The program's command, of which one of the subcommands must be named.
+/// Returns the `clap` command of the program. A subcommand is required.
 pub fn command<'a>(alloc: Global) -> Result<Command<'a>, AllocError> {
     let commands = subcommands(alloc).all()?;
     Command::new(alloc, "agc-study")
@@ -21,7 +21,7 @@ fn subcommands<'a>(alloc: Global) -> Subcommands<'a> {
         .weave_command()
         .check_command()
         .trace_command()
-        .count_command()
+        .profile_command()
         .jobs_command()
         .compare_command()
         .film_command()
@@ -29,7 +29,7 @@ fn subcommands<'a>(alloc: Global) -> Subcommands<'a> {
 
 impl<'a> Subcommands<'a> {
     fn list_command(self) -> Subcommands<'a> {
-        let words = Words::none(self.alloc)
+        let words = ArgList::none(self.alloc)
             .rope_file(true)
             .form_option()
             .bank_option()
@@ -43,7 +43,7 @@ impl<'a> Subcommands<'a> {
     }
 
     fn weave_command(self) -> Subcommands<'a> {
-        let words = Words::none(self.alloc)
+        let words = ArgList::none(self.alloc)
             .text_file()
             .form_option()
             .names_file();
@@ -55,7 +55,7 @@ impl<'a> Subcommands<'a> {
     }
 
     fn check_command(self) -> Subcommands<'a> {
-        let words = Words::none(self.alloc)
+        let words = ArgList::none(self.alloc)
             .rope_file(false)
             .script_file(false)
             .keys_option()
@@ -69,7 +69,7 @@ impl<'a> Subcommands<'a> {
     }
 
     fn trace_command(self) -> Subcommands<'a> {
-        let words = Words::none(self.alloc)
+        let words = ArgList::none(self.alloc)
             .rope_file(true)
             .script_file(true)
             .limit_option()
@@ -91,8 +91,8 @@ impl<'a> Subcommands<'a> {
         )
     }
 
-    fn count_command(self) -> Subcommands<'a> {
-        let words = Words::none(self.alloc)
+    fn profile_command(self) -> Subcommands<'a> {
+        let words = ArgList::none(self.alloc)
             .rope_file(true)
             .script_file(true)
             .limit_option()
@@ -103,14 +103,14 @@ impl<'a> Subcommands<'a> {
             .whole_option()
             .csv_option();
         self.with(
-            "count",
+            "profile",
             "Runs a rope and a script, and prints how often each word ran, and how many cycles went where.",
             words,
         )
     }
 
     fn jobs_command(self) -> Subcommands<'a> {
-        let words = Words::none(self.alloc)
+        let words = ArgList::none(self.alloc)
             .rope_file(true)
             .script_file(true)
             .limit_option()
@@ -127,7 +127,7 @@ impl<'a> Subcommands<'a> {
     }
 
     fn compare_command(self) -> Subcommands<'a> {
-        let words = Words::none(self.alloc)
+        let words = ArgList::none(self.alloc)
             .rope_file(true)
             .script_file(true)
             .other_rope(true)
@@ -146,7 +146,7 @@ impl<'a> Subcommands<'a> {
     }
 
     fn film_command(self) -> Subcommands<'a> {
-        let words = Words::none(self.alloc)
+        let words = ArgList::none(self.alloc)
             .rope_file(true)
             .script_file(true)
             .other_rope(false)
@@ -166,8 +166,8 @@ impl<'a> Subcommands<'a> {
     }
 }
 
-impl<'a> Words<'a> {
-    fn watch_option(self, is_required: bool) -> Words<'a> {
+impl<'a> ArgList<'a> {
+    fn watch_option(self, is_required: bool) -> ArgList<'a> {
         let arg = option(
             self.alloc,
             "watch",
@@ -178,7 +178,7 @@ impl<'a> Words<'a> {
         self.with(arg)
     }
 
-    fn whole_option(self) -> Words<'a> {
+    fn whole_option(self) -> ArgList<'a> {
         let arg = flag(
             self.alloc,
             "whole",
@@ -188,11 +188,11 @@ impl<'a> Words<'a> {
         self.with(arg)
     }
 
-    fn csv_option(self) -> Words<'a> {
+    fn csv_option(self) -> ArgList<'a> {
         self.flag("csv", "Print comma-separated values in place of columns")
     }
 
-    fn by_option(self) -> Words<'a> {
+    fn by_option(self) -> ArgList<'a> {
         self.option(
             "by",
             "WHAT",
@@ -200,7 +200,7 @@ impl<'a> Words<'a> {
         )
     }
 
-    fn brief_option(self) -> Words<'a> {
+    fn brief_option(self) -> ArgList<'a> {
         let arg = flag(
             self.alloc,
             "brief",
@@ -210,7 +210,7 @@ impl<'a> Words<'a> {
         self.with_tied(arg)
     }
 
-    fn other_rope(self, is_required: bool) -> Words<'a> {
+    fn other_rope(self, is_required: bool) -> ArgList<'a> {
         self.file(
             "other-rope",
             "ROPE",
@@ -219,7 +219,7 @@ impl<'a> Words<'a> {
         )
     }
 
-    fn other_script(self, is_required: bool) -> Words<'a> {
+    fn other_script(self, is_required: bool) -> ArgList<'a> {
         self.file(
             "other-script",
             "SCRIPT",
@@ -228,7 +228,7 @@ impl<'a> Words<'a> {
         )
     }
 
-    fn script_file(self, is_required: bool) -> Words<'a> {
+    fn script_file(self, is_required: bool) -> ArgList<'a> {
         self.file(
             "script",
             "SCRIPT",
@@ -237,7 +237,7 @@ impl<'a> Words<'a> {
         )
     }
 
-    fn limit_option(self) -> Words<'a> {
+    fn limit_option(self) -> ArgList<'a> {
         let arg = number(
             self.alloc,
             "limit",
@@ -248,7 +248,7 @@ impl<'a> Words<'a> {
         self.with(arg)
     }
 
-    fn until_option(self) -> Words<'a> {
+    fn until_option(self) -> ArgList<'a> {
         self.option(
             "until",
             "BANK,ADDR",
@@ -256,8 +256,8 @@ impl<'a> Words<'a> {
         )
     }
 
-    /// `--until` of a subcommand that takes `--names`.
-    fn until_named(self) -> Words<'a> {
+    /// Adds `--until` for a subcommand that also takes `--names`.
+    fn until_named(self) -> ArgList<'a> {
         self.option(
             "until",
             "BANK,ADDR",
@@ -265,11 +265,11 @@ impl<'a> Words<'a> {
         )
     }
 
-    fn cycle_option(self, name: &'a str, help: &'a str) -> Words<'a> {
+    fn cycle_option(self, name: &'a str, help: &'a str) -> ArgList<'a> {
         self.number(name, "CYCLE", help)
     }
 
-    fn only_option(self) -> Words<'a> {
+    fn only_option(self) -> ArgList<'a> {
         let arg = option(
             self.alloc,
             "only",
@@ -280,7 +280,7 @@ impl<'a> Words<'a> {
         self.with(arg)
     }
 
-    fn at_option(self) -> Words<'a> {
+    fn at_option(self) -> ArgList<'a> {
         self.repeated(
             "at",
             "PLACES",
@@ -288,7 +288,7 @@ impl<'a> Words<'a> {
         )
     }
 
-    fn order_option(self) -> Words<'a> {
+    fn order_option(self) -> ArgList<'a> {
         self.repeated(
             "order",
             "NAME",
@@ -296,7 +296,7 @@ impl<'a> Words<'a> {
         )
     }
 
-    fn channel_option(self) -> Words<'a> {
+    fn channel_option(self) -> ArgList<'a> {
         self.repeated(
             "channel",
             "CCC",
@@ -304,7 +304,7 @@ impl<'a> Words<'a> {
         )
     }
 
-    fn cell_option(self) -> Words<'a> {
+    fn cell_option(self) -> ArgList<'a> {
         self.repeated(
             "cell",
             "PLACES",
@@ -312,7 +312,7 @@ impl<'a> Words<'a> {
         )
     }
 
-    fn last_option(self) -> Words<'a> {
+    fn last_option(self) -> ArgList<'a> {
         self.number(
             "last",
             "N",
@@ -320,7 +320,7 @@ impl<'a> Words<'a> {
         )
     }
 
-    fn names_option(self) -> Words<'a> {
+    fn names_option(self) -> ArgList<'a> {
         self.option(
             "names",
             "FILE",
@@ -328,7 +328,7 @@ impl<'a> Words<'a> {
         )
     }
 
-    fn names_of_runs(self) -> Words<'a> {
+    fn names_of_runs(self) -> ArgList<'a> {
         let arg = repeated(
             self.alloc,
             "names",
@@ -339,7 +339,7 @@ impl<'a> Words<'a> {
         self.with_tied(arg)
     }
 
-    fn names_of_stop(self) -> Words<'a> {
+    fn names_of_stop(self) -> ArgList<'a> {
         self.option(
             "names",
             "FILE",
@@ -347,7 +347,7 @@ impl<'a> Words<'a> {
         )
     }
 
-    fn names_file(self) -> Words<'a> {
+    fn names_file(self) -> ArgList<'a> {
         self.option(
             "names",
             "OUT",
@@ -355,7 +355,7 @@ impl<'a> Words<'a> {
         )
     }
 
-    fn rope_file(self, is_required: bool) -> Words<'a> {
+    fn rope_file(self, is_required: bool) -> ArgList<'a> {
         self.file(
             "rope",
             "ROPE",
@@ -364,7 +364,7 @@ impl<'a> Words<'a> {
         )
     }
 
-    fn text_file(self) -> Words<'a> {
+    fn text_file(self) -> ArgList<'a> {
         self.file(
             "text",
             "FILE",
@@ -373,7 +373,7 @@ impl<'a> Words<'a> {
         )
     }
 
-    fn form_option(self) -> Words<'a> {
+    fn form_option(self) -> ArgList<'a> {
         let arg = option(
             self.alloc,
             "form",
@@ -385,7 +385,7 @@ impl<'a> Words<'a> {
         self.with(arg)
     }
 
-    fn keys_option(self) -> Words<'a> {
+    fn keys_option(self) -> ArgList<'a> {
         self.option(
             "keys",
             "FILE",
@@ -393,7 +393,7 @@ impl<'a> Words<'a> {
         )
     }
 
-    fn listing_option(self) -> Words<'a> {
+    fn listing_option(self) -> ArgList<'a> {
         self.option(
             "listing",
             "FILE",
@@ -401,11 +401,11 @@ impl<'a> Words<'a> {
         )
     }
 
-    fn bank_option(self) -> Words<'a> {
+    fn bank_option(self) -> ArgList<'a> {
         self.option("bank", "BB", "List this bank alone: octal, 00 to 43")
     }
 
-    fn source_option(self) -> Words<'a> {
+    fn source_option(self) -> ArgList<'a> {
         let arg = flag(
             self.alloc,
             "source",

@@ -1,12 +1,12 @@
-//! The subcommands of a command line, and the words and the options of each, one after another.
+//! Builders for the subcommands of a command line and for the positional arguments and options of each.
 use clap::{Arg, ArgAction, Command, value_parser};
 use std::alloc::{AllocError, Global};
 
-/// The subcommands.
+/// Builds the list of subcommands.
 pub struct Subcommands<'a> {
     pub alloc: Global,
     commands: Vec<Command<'a>>,
-    // There was memory for each.
+    // `Err` as soon as an addition ran out of memory.
     added: Result<(), AllocError>,
 }
 
@@ -19,8 +19,8 @@ impl<'a> Subcommands<'a> {
         }
     }
 
-    /// These subcommands and the one of this name after them.
-    pub fn with(self, name: &'a str, about: &'a str, words: Words<'a>) -> Subcommands<'a> {
+    /// Adds the subcommand of this name.
+    pub fn with(self, name: &'a str, about: &'a str, words: ArgList<'a>) -> Subcommands<'a> {
         self.with_command(words.command(name, about))
     }
 
@@ -52,7 +52,7 @@ impl<'a> Subcommands<'a> {
         subcommands
     }
 
-    /// The subcommands, if there was memory for each.
+    /// Returns the subcommands, or fails if an addition ran out of memory.
     pub fn all(self) -> Result<Vec<Command<'a>>, AllocError> {
         let Subcommands {
             alloc: _,
@@ -64,31 +64,31 @@ impl<'a> Subcommands<'a> {
     }
 }
 
-/// The words and the options of a subcommand.
-pub struct Words<'a> {
+/// Builds the positional arguments and options of a subcommand.
+pub struct ArgList<'a> {
     pub alloc: Global,
     args: Vec<Arg<'a>>,
-    // There was memory for each.
+    // `Err` as soon as an addition ran out of memory.
     added: Result<(), AllocError>,
 }
 
-impl<'a> Words<'a> {
-    pub fn none(alloc: Global) -> Words<'a> {
-        Words {
+impl<'a> ArgList<'a> {
+    pub fn none(alloc: Global) -> ArgList<'a> {
+        ArgList {
             alloc,
             args: Vec::new(alloc),
             added: Ok(()),
         }
     }
 
-    // The subcommand of this name.
+    // Returns the subcommand of this name with these arguments.
     fn command(self, name: &'a str, about: &'a str) -> Result<Command<'a>, AllocError> {
-        let Words { alloc, args, added } = self;
+        let ArgList { alloc, args, added } = self;
         added?;
         Command::new(alloc, name).about(about).args(args)
     }
 
-    pub fn with(self, arg: Arg<'a>) -> Words<'a> {
+    pub fn with(self, arg: Arg<'a>) -> ArgList<'a> {
         let mut words = self;
         if let Err(error) = words.args.push(arg) {
             words.added = Err(error.into());
@@ -96,47 +96,53 @@ impl<'a> Words<'a> {
         words
     }
 
-    pub fn with_tied(self, arg: Result<Arg<'a>, AllocError>) -> Words<'a> {
+    pub fn with_tied(self, arg: Result<Arg<'a>, AllocError>) -> ArgList<'a> {
         match arg {
             Ok(arg) => self.with(arg),
             Err(error) => self.failed(error),
         }
     }
 
-    fn failed(self, error: AllocError) -> Words<'a> {
-        let Words {
+    fn failed(self, error: AllocError) -> ArgList<'a> {
+        let ArgList {
             alloc,
             args,
             added: _,
         } = self;
-        Words {
+        ArgList {
             alloc,
             args,
             added: Err(error),
         }
     }
 
-    pub fn file(self, id: &'a str, shown: &'a str, help: &'a str, is_required: bool) -> Words<'a> {
+    pub fn file(
+        self,
+        id: &'a str,
+        shown: &'a str,
+        help: &'a str,
+        is_required: bool,
+    ) -> ArgList<'a> {
         let arg = named(self.alloc, id, shown, help).required(is_required);
         self.with(arg)
     }
 
-    pub fn option(self, name: &'a str, shown: &'a str, help: &'a str) -> Words<'a> {
+    pub fn option(self, name: &'a str, shown: &'a str, help: &'a str) -> ArgList<'a> {
         let arg = option(self.alloc, name, shown, help);
         self.with(arg)
     }
 
-    pub fn number(self, name: &'a str, shown: &'a str, help: &'a str) -> Words<'a> {
+    pub fn number(self, name: &'a str, shown: &'a str, help: &'a str) -> ArgList<'a> {
         let arg = number(self.alloc, name, shown, help);
         self.with(arg)
     }
 
-    pub fn repeated(self, name: &'a str, shown: &'a str, help: &'a str) -> Words<'a> {
+    pub fn repeated(self, name: &'a str, shown: &'a str, help: &'a str) -> ArgList<'a> {
         let arg = repeated(self.alloc, name, shown, help);
         self.with(arg)
     }
 
-    pub fn flag(self, name: &'a str, help: &'a str) -> Words<'a> {
+    pub fn flag(self, name: &'a str, help: &'a str) -> ArgList<'a> {
         let arg = flag(self.alloc, name, help);
         self.with(arg)
     }
@@ -146,22 +152,22 @@ fn named<'a>(alloc: Global, id: &'a str, shown: &'a str, help: &'a str) -> Arg<'
     Arg::new(alloc, id).value_name(shown).help(help)
 }
 
-/// An option with a value.
+/// Returns an option with a value.
 pub fn option<'a>(alloc: Global, name: &'a str, shown: &'a str, help: &'a str) -> Arg<'a> {
     named(alloc, name, shown, help).long(name)
 }
 
-/// An option whose value is a number.
+/// Returns an option whose value is a number.
 pub fn number<'a>(alloc: Global, name: &'a str, shown: &'a str, help: &'a str) -> Arg<'a> {
     option(alloc, name, shown, help).value_parser(value_parser!(u64))
 }
 
-/// An option with a value, which may be said again.
+/// Returns an option with a value that may be repeated.
 pub fn repeated<'a>(alloc: Global, name: &'a str, shown: &'a str, help: &'a str) -> Arg<'a> {
     option(alloc, name, shown, help).action(ArgAction::Append)
 }
 
-/// An option with no value.
+/// Returns an option without a value.
 pub fn flag<'a>(alloc: Global, name: &'a str, help: &'a str) -> Arg<'a> {
     Arg::new(alloc, name)
         .long(name)

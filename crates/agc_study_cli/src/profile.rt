@@ -1,17 +1,16 @@
-//! The words of `count` to what they ask for.
+//! Parses the arguments of `profile`.
 use crate::runs::run_of;
 use crate::words::span_of;
-use agc_asked::{Asked, Counting};
-use agc_command_line::form_of;
-use agc_count_text::Layout;
-use agc_options::ArgsFault;
+use agc_cli::{ArgsFault, form_of};
+use agc_profile::Layout;
+use agc_study_args::{Args, ProfileArgs};
 use clap::ArgMatches;
 use std::alloc::Global;
 
-/// The run that is counted.
-pub(crate) fn counting_of(alloc: Global, given: &ArgMatches<'_>) -> Result<Asked, ArgsFault> {
+/// Parses the arguments of `profile`.
+pub(crate) fn profile_args(alloc: Global, given: &ArgMatches<'_>) -> Result<Args, ArgsFault> {
     let run = run_of(alloc, given)?;
-    Ok(Asked::Count(Counting {
+    Ok(Args::Count(ProfileArgs {
         rope: run.files.rope,
         script: run.files.script,
         form: form_of(given),

@@ -1,23 +1,26 @@
-//! The questions to a trace: places, mnemonics, channels and cells, of each as many as are said.
-use agc_options::ArgsFault;
-use agc_places::Places;
-use agc_source_words::is_order;
+//! Parses the repeatable filters of a trace: locations, mnemonics, channels and cells.
+use agc_asm::is_order;
+use agc_cli::ArgsFault;
+use agc_listing::LocationRange;
 use agc_word::read_octal;
 use clap::ArgMatches;
 use std::alloc::{AllocError, Global};
 
-/// The places of `--at`, where no names are given with which its texts are read later.
-pub(crate) fn places_of(alloc: Global, given: &ArgMatches<'_>) -> Result<Vec<Places>, ArgsFault> {
+/// Parses the values of `--at`. With a symbol file they are parsed later.
+pub(crate) fn places_of(
+    alloc: Global,
+    given: &ArgMatches<'_>,
+) -> Result<Vec<LocationRange>, ArgsFault> {
     match (given.get_strs("at"), given.get_str("names")) {
         (Some(texts), None) => places_in(alloc, texts),
         _ => Ok(Vec::new(alloc)),
     }
 }
 
-fn places_in(alloc: Global, texts: &[&str]) -> Result<Vec<Places>, ArgsFault> {
+fn places_in(alloc: Global, texts: &[&str]) -> Result<Vec<LocationRange>, ArgsFault> {
     let mut several = Vec::new(alloc);
     for text in texts {
-        match Places::named(text.as_bytes()) {
+        match LocationRange::named(text.as_bytes()) {
             Ok(places) => push(&mut several, places)?,
             Err(fault) => return Err(refused(alloc, text, "--at <PLACES>", fault.name())),
         }
@@ -25,18 +28,21 @@ fn places_in(alloc: Global, texts: &[&str]) -> Result<Vec<Places>, ArgsFault> {
     Ok(several)
 }
 
-/// The cells of `--cell`, where no names are given with which its texts are read later.
-pub(crate) fn cells_of(alloc: Global, given: &ArgMatches<'_>) -> Result<Vec<Places>, ArgsFault> {
+/// Parses the values of `--cell`. With a symbol file they are parsed later.
+pub(crate) fn cells_of(
+    alloc: Global,
+    given: &ArgMatches<'_>,
+) -> Result<Vec<LocationRange>, ArgsFault> {
     match (given.get_strs("cell"), given.get_str("names")) {
         (Some(texts), None) => cells_in(alloc, texts),
         _ => Ok(Vec::new(alloc)),
     }
 }
 
-fn cells_in(alloc: Global, texts: &[&str]) -> Result<Vec<Places>, ArgsFault> {
+fn cells_in(alloc: Global, texts: &[&str]) -> Result<Vec<LocationRange>, ArgsFault> {
     let mut several = Vec::new(alloc);
     for text in texts {
-        match Places::of_cells(text.as_bytes()) {
+        match LocationRange::of_cells(text.as_bytes()) {
             Ok(places) => push(&mut several, places)?,
             Err(fault) => return Err(refused(alloc, text, "--cell <PLACES>", fault.name())),
         }
@@ -44,7 +50,7 @@ fn cells_in(alloc: Global, texts: &[&str]) -> Result<Vec<Places>, ArgsFault> {
     Ok(several)
 }
 
-/// The texts of an option that are read later, with the names that are given.
+/// Returns the values of an option that are parsed later with the symbol file.
 pub(crate) fn texts_of(
     alloc: Global,
     given: &ArgMatches<'_>,
@@ -64,7 +70,7 @@ fn texts_in(alloc: Global, texts: &[&str]) -> Result<Vec<String>, AllocError> {
     Ok(several)
 }
 
-/// The mnemonics of `--order`.
+/// Parses the values of `--order`.
 pub(crate) fn orders_of(alloc: Global, given: &ArgMatches<'_>) -> Result<Vec<String>, ArgsFault> {
     match given.get_strs("order") {
         Some(texts) => orders_in(alloc, texts),
@@ -83,7 +89,7 @@ fn orders_in(alloc: Global, texts: &[&str]) -> Result<Vec<String>, ArgsFault> {
     Ok(several)
 }
 
-/// The channels of `--channel`.
+/// Parses the values of `--channel`.
 pub(crate) fn channels_of(alloc: Global, given: &ArgMatches<'_>) -> Result<Vec<u16>, ArgsFault> {
     match given.get_strs("channel") {
         Some(texts) => channels_in(alloc, texts),
@@ -102,13 +108,13 @@ fn channels_in(alloc: Global, texts: &[&str]) -> Result<Vec<u16>, ArgsFault> {
     Ok(several)
 }
 
-/// Adds a value to several.
+/// Appends a value to a list.
 pub(crate) fn push<T: Drop>(several: &mut Vec<T>, value: T) -> Result<(), AllocError> {
     several.push(value)?;
     Ok(())
 }
 
-/// The value of an option that is refused for this.
+/// Returns the error for a rejected value of an option.
 pub(crate) fn refused(alloc: Global, text: &str, option: &str, why: &str) -> ArgsFault {
     match told(alloc, text, option, why) {
         Ok(text) => ArgsFault::Command(text),

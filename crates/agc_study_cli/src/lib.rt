@@ -1,0 +1,14 @@
+//! The command line of `agc-study`: parses words into arguments.
+#![tactic(auto)]
+
+mod arg_list;
+mod command_line;
+mod profile;
+mod questions;
+mod runs;
+mod shown;
+mod watched;
+mod words;
+
+pub use command_line::command;
+pub use words::{parse, parse_env};
