@@ -1,0 +1,24 @@
+use Rattle.std.proofs.Common.{inl, inr}
+use Rattle.agc_load.specs.declared.fault.LoadFault.TheVariants as refusal
+use Rattle.agc_analysis.proofs.FilmedRuns.{filmed_accepted}
+use Rattle.agc_analysis.proofs.Starts.{memory_refused}
+use Rattle.agc_analysis.proofs.films.film_file_pairs.Goals as goal
+
+pub returns-in-Ok-push_film_pair-clause-film : goal.returns-in-Ok-push_film_pair-clause-film
+returns-in-Ok-push_film_pair-clause-film g c = record {
+  left = c.in_ok-left.left;
+  right = c.in-Ok.recording;
+  left_filmed = c.in_ok-left.ensures.filmed;
+  right_filmed = c.in-Ok.ensures.filmed;
+  text = rw c.new-text.ensures.bytes at c.in-Ok-push_film_pair.ensures;
+}
+
+pub returns-clause-refused : goal.returns-clause-refused
+returns-clause-refused g c =
+    let asked = c.args.asked.now in
+    inl (refusal.Memory, cc, memory_refused asked.form asked.until asked.watch asked.limit _ _)
+
+pub returns-in-Err-clause-refused : goal.returns-in-Err-clause-refused
+returns-in-Err-clause-refused g c =
+    let accepted = filmed_accepted c.args.asked.now _ _ c.in_ok-left.left c.in_ok-left.ensures.filmed in
+    inr (accepted, c.in-Err.refusal, c.of_other_run.ensures, c.in-Err.ensures.refused)

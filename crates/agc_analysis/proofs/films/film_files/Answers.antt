@@ -1,0 +1,16 @@
+use Rattle.std.proofs.lemmas.Result.{err_from_is_err_and}
+use Rattle.agc_analysis.proofs.Starts.{memory_refused}
+use Rattle.agc_analysis.proofs.films.film_files.Goals as goal
+
+pub returns-clause-film : goal.returns-clause-film
+returns-clause-film g c = record {
+  recording = c.in_ok-recording.recording;
+  filmed = c.in_ok-recording.ensures.filmed;
+  text = rw c.new-text.ensures.bytes at c.in_ok-push_film.ensures;
+}
+
+pub returns-in_err-push_film-clause-refused : goal.returns-in_err-push_film-clause-refused
+returns-in_err-push_film-clause-refused g c =
+    let asked = c.args.asked.now in
+    let p = err_from_is_err_and c.from_residual-in_err-push_film.result c.from_residual-in_err-push_film.ensures.1 in
+    rw (p.1, p.2) (memory_refused asked.form asked.until asked.watch asked.limit _ _)

@@ -1,0 +1,7 @@
+use Rattle.std.proofs.Common.{append_assoc}
+use Rattle.agc_analysis.specs.Placed.{unsaid_text}
+use Rattle.agc_analysis.proofs.placed.unsaid_text.Goals as goal
+
+pub returns : goal.returns
+unfolding unsaid_text
+returns c = simp append_assoc (rw (c.option-option.ensures, c.name-why.ensures) at c.format.ensures.ok)

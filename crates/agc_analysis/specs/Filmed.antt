@@ -1,0 +1,86 @@
+-- The page that shows the run of a rope and a script, or of two of each.
+use Rattle.std.specs.Prelude.{◌≡◌, ℕ, List, Option, Some, None, string_bytes}
+use Rattle.std.specs.Io.KnownBytes.{Appends}
+use Rattle.std.specs.declared.alloc.Global.{Global}
+use Rattle.std.specs.declared.string.String.{String}
+use Rattle.agc_store.specs.declared.rope_file.RopeForm.{RopeForm}
+use Rattle.agc_machine.specs.State.{State}
+use Rattle.agc_panel.specs.declared.watch_spec.WatchSpec.{WatchSpec}
+use Rattle.agc_timeline.specs.Film.{film_text as tables_film_text}
+use Rattle.agc_timeline.specs.Page.{film_text, film_pair_text}
+use Rattle.agc_timeline.specs.Recording.{IsRecordingOf}
+use Rattle.agc_timeline.specs.Watched.{HasLines, span_of}
+use Rattle.agc_timeline.specs.declared.part.Part.{Part}
+use Rattle.agc_timeline.specs.declared.recording.Recording.{Recording}
+use Rattle.agc_timeline.specs.declared.title.RunFiles.{RunFiles}
+use Rattle.agc_load.specs.declared.fault.LoadFault.{LoadFault}
+use Rattle.agc_analysis.specs.Started.{IsPairRefused, IsRefused, IsStartedOf}
+use Rattle.agc_analysis.specs.Watched.{IsWatchable}
+use Rattle.agc_analysis.specs.declared.fault.AnalysisFault.{AnalysisFault}
+use Rattle.agc_study_args.specs.declared.args.FilmArgs.{FilmArgs}
+
+-- the tables over a part of a run: none if --watch is not given, else those at the addresses that its text names
+abbrev pub ShowsTables : Option (String Global) → Part → State → Option (String Global) → Type 0
+ShowsTables None part machine tables = tables ≡ None
+ShowsTables (Some watch) part machine tables =
+    (spec : WatchSpec) × IsWatchable (string_bytes watch) spec
+    × HasLines tables (tables_film_text (span_of part) spec machine)
+
+-- nothing is rejected, and the recording shows this part of the run of the files, with the watched tables
+pub record IsFilmedOf (form : RopeForm) (until watch : Option (String Global)) (limit : ℕ)
+    (part : Part) (rope script : List ℕ) (recording : Recording) : Type 0 where
+  pub machine : State
+  pub start : IsStartedOf form until watch limit rope script machine
+  pub shows : IsRecordingOf part machine recording
+  pub tables : ShowsTables watch part machine recording.tables
+
+-- the same for the bytes that the readers of the files report
+abbrev pub IsFilmed : FilmArgs → Option (List ℕ) → Option (List ℕ) → Recording → Type 0
+IsFilmed asked None script recording = Unit {0}
+IsFilmed asked (Some rope) None recording = Unit {0}
+IsFilmed asked (Some rope) (Some script) recording =
+    IsFilmedOf asked.form asked.until asked.watch asked.limit asked.part rope script recording
+
+-- what may be rejected: the files, or the tables
+abbrev pub IsFilmRefused : FilmArgs → Option (List ℕ) → Option (List ℕ) → LoadFault → Type 0
+IsFilmRefused asked rope script r =
+    IsRefused asked.form asked.until asked.watch asked.limit rope script r
+
+-- the same for two runs
+abbrev pub IsFilmPairRefused : FilmArgs → Option (List ℕ) → Option (List ℕ)
+    → Option (List ℕ) → Option (List ℕ) → AnalysisFault → Type 0
+IsFilmPairRefused asked left_rope left_script right_rope right_script t =
+    IsPairRefused asked.form asked.until asked.watch asked.limit
+    left_rope left_script right_rope right_script t
+
+-- the page of one run: its constant head, script of the tables and tail, and the run
+pub record IsFilm (head script_of_tables tail : List ℕ) (asked : FilmArgs) (rope script : Option (List ℕ))
+    (page : String Global) : Type 0 where
+  pub recording : Recording
+  pub filmed : IsFilmed asked rope script recording
+  pub text : string_bytes page ≡ film_text head script_of_tables tail asked.limit asked.files recording
+
+-- the page of two runs side by side, the right one under the names of these files
+pub record IsFilmPair (head script_of_tables tail : List ℕ) (asked : FilmArgs) (other : RunFiles)
+    (left_rope left_script right_rope right_script : Option (List ℕ)) (page : String Global)
+    : Type 0 where
+  pub left : Recording
+  pub right : Recording
+  pub left_filmed : IsFilmed asked left_rope left_script left
+  pub right_filmed : IsFilmed asked right_rope right_script right
+  pub text : string_bytes page ≡ film_pair_text head script_of_tables tail asked.limit asked.files left other right
+
+-- the page of one run was written
+pub record IsFilmWritten (head script_of_tables tail : List ℕ) (asked : FilmArgs)
+    (rope script before after : Option (List ℕ)) : Type 0 where
+  pub page : String Global
+  pub film : IsFilm head script_of_tables tail asked rope script page
+  pub written : Appends before after (string_bytes page)
+
+-- the page of two runs was written
+pub record IsFilmPairWritten (head script_of_tables tail : List ℕ) (asked : FilmArgs) (other : RunFiles)
+    (left_rope left_script right_rope right_script before after : Option (List ℕ))
+    : Type 0 where
+  pub page : String Global
+  pub film : IsFilmPair head script_of_tables tail asked other left_rope left_script right_rope right_script page
+  pub written : Appends before after (string_bytes page)

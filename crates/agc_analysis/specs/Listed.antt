@@ -1,0 +1,95 @@
+-- What `list` and `weave` print for their files, and how they reject them.
+use Rattle.std.specs.Prelude.{◌≡◌, ◌≤◌, ℕ, false, true, nat_le, length, List, ◌++◌, codes, Option, Some, None, Err}
+use Rattle.std.specs.Prelude.{if◌then◌else◌, IfSome}
+use Rattle.std.specs.Fmt.{decimal}
+use Rattle.std.specs.Io.KnownBytes.{Appends}
+use Rattle.std.specs.declared.alloc.Global.{Global}
+use Rattle.std.specs.declared.string.String.{String}
+use Rattle.agc_word.specs.Numeral.{octal_number}
+use Rattle.agc_word.specs.Octal.{word_digits}
+use Rattle.agc_store.specs.RopeFile.{rope_fault_of, rope_words}
+use Rattle.agc_store.specs.declared.rope_file.RopeForm.{RopeForm}
+use Rattle.agc_listing.specs.List.{rope_text}
+use Rattle.agc_listing.specs.Order.{order_text}
+use Rattle.agc_asm.specs.MnemonicCheck.{is_extracode, misnamed_in, mnemonic_of}
+use Rattle.agc_asm.specs.Source.{IsSourceWoven, source_in}
+use Rattle.agc_asm.specs.declared.mnemonic_check.Misnamed.{Misnamed}
+use Rattle.agc_asm.specs.declared.fault.AssemblyFault.{AssemblyFault}
+use Rattle.agc_asm.specs.declared.fault.AssemblyFault.TheVariants as source
+use Rattle.agc_symbols.specs.Listing.{text_with_names}
+use Rattle.agc_symbols.specs.Symbols.{Symbol}
+use Rattle.agc_load.specs.Files.{rope_steps}
+use Rattle.agc_load.specs.Options.{said_by, says_nothing}
+use Rattle.agc_load.specs.Steps.{IsTold}
+use Rattle.agc_analysis.specs.declared.ropes.Woven.{Woven}
+use Rattle.agc_analysis.specs.declared.fault.AnalysisFault.{AnalysisFault}
+use Rattle.agc_analysis.specs.declared.fault.AnalysisFault.TheVariants as trouble
+
+-- a bank that the rope has
+abbrev pub bank_within : Option ℕ → Option ℕ
+bank_within (Some bank) = if nat_le bank 0o43 then Some bank else None
+bank_within None = None
+
+-- the bank that one or two octal digits name
+unfoldable pub bank_named : List ℕ → Option ℕ
+bank_named text = bank_within (octal_number 2 text)
+
+-- a file is a rope file, and a text lists the rope's words, or those of the bank that `--bank` names
+pub record IsListing (form : RopeForm) (bank : Option (String Global)) (file text : List ℕ)
+    : Type 0 where
+  pub rope : rope_fault_of form file ≡ None
+  pub listed : text ≡ rope_text (said_by bank_named bank) (rope_words form file)
+
+-- the text of a rope with symbols, if there are any
+abbrev pub shown_with : Option (List Symbol) → List ℕ → List ℕ
+shown_with (Some names) text = text_with_names names text
+shown_with None text = text
+
+-- the text of a rope was written, for the bytes that the rope's reader reports
+pub record IsListWritten (form : RopeForm) (bank : Option (String Global))
+    (names : Option (List Symbol)) (rope before after : Option (List ℕ)) : Type 0 where
+  pub text : List ℕ
+  pub listed : IfSome rope (λ file. IsListing form bank file text)
+  pub written : Appends before after (shown_with names text)
+
+-- How `list` rejects a file, if its reader reports its bytes: first an invalid `--bank`, then the faults that `agc`
+-- reports for the rope, which include out of memory.
+abbrev pub IsListRefused : RopeForm → Option (String Global) → Option (List ℕ) → AnalysisFault → Type 0
+IsListRefused form bank known trouble.BadBankSpec = says_nothing bank_named bank ≡ true
+IsListRefused form bank known (trouble.Refused r) =
+    (says_nothing bank_named bank ≡ false) × IfSome known (λ file. IsTold (rope_steps form file) r)
+IsListRefused form bank known t = ⊥
+
+-- a text has at most 16,777,216 bytes and assembles to a file, and this is its first line with a mismatched mnemonic
+pub record IsWoven (form : RopeForm) (text : List ℕ) (woven : Woven) : Type 0 where
+  pub short : length text ≤ 16777216
+  pub file : IsSourceWoven form text woven.bytes.items
+  pub first : woven.misnamed ≡ misnamed_in text
+  pub kept : woven.text.items ≡ text
+
+-- the file of a text was written, for the bytes that the text's reader reports
+pub record IsWeaveWritten (form : RopeForm) (known before after : Option (List ℕ)) : Type 0 where
+  pub woven : Woven
+  pub weaves : IfSome known (λ text. IsWoven form text woven)
+  pub written : Appends before after woven.bytes.items
+
+-- the remark on such a line: the order that its word encodes, and the mnemonic after it
+abbrev pub misnamed_line : Misnamed → List ℕ
+misnamed_line told =
+    codes "agc-study: text line " ++ decimal told.line
+    ++ codes ": the word " ++ word_digits told.word
+    ++ codes " is " ++ order_text (is_extracode told.written) told.word
+    ++ codes ", not " ++ mnemonic_of told.written ++ codes "\n"
+
+-- a text has at most 16,777,216 bytes, and this is its first fault
+pub record IsFaulty (text : List ℕ) (why : AssemblyFault) : Type 0 where
+  pub short : length text ≤ 16777216
+  pub fault : source_in text ≡ Err why
+
+-- how `weave` rejects a text: a read failed, memory ran out, there are too many bytes, or a line is faulty
+abbrev pub IsWeaveRefused : Option (List ℕ) → AnalysisFault → Type 0
+IsWeaveRefused known trouble.CannotReadText = Unit {0}
+IsWeaveRefused known (trouble.Text source.Memory) = Unit {0}
+IsWeaveRefused known (trouble.Text (source.Line n why)) =
+    IfSome known (λ text. IsFaulty text (source.Line n why))
+IsWeaveRefused known t = ⊥

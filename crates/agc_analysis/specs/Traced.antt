@@ -1,0 +1,63 @@
+-- What `trace` writes for the run of a rope and a script, and how it fails.
+use Rattle.std.specs.Prelude.{◌≡◌, ◌⊎◌, ℕ, List, ◌++◌, Option, None, codes}
+use Rattle.std.specs.Fmt.{decimal}
+use Rattle.std.specs.Io.KnownBytes.{Appends, Keeps}
+use Rattle.agc_processor.specs.Interrupt.{rupt_name}
+use Rattle.agc_machine.specs.State.{State}
+use Rattle.agc_study_args.specs.declared.args.TraceArgs.{TraceArgs}
+use Rattle.agc_symbols.specs.Symbols.{Symbol}
+use Rattle.agc_trace.specs.Cut.{IsCut}
+use Rattle.agc_trace.specs.Selection.{selected_lines, watch_for}
+use Rattle.agc_trace.specs.Service.{service_left}
+use Rattle.agc_trace.specs.Trace.{trace_of}
+use Rattle.agc_trace.specs.declared.service.Service.{Service}
+use Rattle.agc_trace.specs.declared.tracing.TraceFault.{TraceFault}
+use Rattle.agc_trace.specs.declared.tracing.TraceFault.TheVariants as fault
+use Rattle.agc_analysis.specs.Started.{IsRefused, IsStarted}
+use Rattle.agc_analysis.specs.Fault.{trouble_line}
+use Rattle.agc_analysis.specs.declared.traces.TraceError.{TraceError}
+use Rattle.agc_analysis.specs.declared.traces.TraceError.TheVariants as error
+use Rattle.agc_analysis.specs.declared.fault.AnalysisFault.TheVariants as trouble
+
+-- the lines of the run of two files were written with these symbols, and this service is in progress at its stop
+pub record IsTraced (asked : TraceArgs) (names : Option (List Symbol))
+    (rope script before after : Option (List ℕ)) (service : Option Service) : Type 0 where
+  pub machine : State
+  pub start : IsStarted asked.form asked.until None asked.limit rope script machine
+  pub lines : Appends before after (selected_lines names asked.selection (watch_for asked.selection machine))
+  pub left : service ≡ service_left asked.selection (trace_of machine)
+
+-- the same, without a claim about the service
+pub record IsTraceWritten (asked : TraceArgs) (names : Option (List Symbol))
+    (rope script before after : Option (List ℕ)) : Type 0 where
+  pub service : Option Service
+  pub traced : IsTraced asked names rope script before after service
+
+-- the lines of the run of two files were cut off
+pub record IsCutOff (asked : TraceArgs) (names : Option (List Symbol))
+    (rope script before after : Option (List ℕ)) (why : TraceFault) : Type 0 where
+  pub machine : State
+  pub start : IsStarted asked.form asked.until None asked.limit rope script machine
+  pub cut : IsCut why before after (selected_lines names asked.selection (watch_for asked.selection machine))
+
+-- why the trace is incomplete: a fault before anything was written, or the lines were cut off
+abbrev pub IsUntraced : TraceArgs → Option (List Symbol) → Option (List ℕ) → Option (List ℕ)
+    → Option (List ℕ) → Option (List ℕ) → TraceError → Type 0
+IsUntraced asked names rope script before after (error.Refused r) =
+    IsRefused asked.form asked.until None asked.limit rope script r × Keeps before after
+IsUntraced asked names rope script before after (error.Cut why) =
+    IsCutOff asked names rope script before after why
+
+-- How the program ends then: with 2 and the line of a fault, or with 3 if that line or the trace could not be
+-- written, or memory ran out.
+abbrev pub EndsUntraced : TraceError → ℕ → Option (List ℕ) → Option (List ℕ) → Type 0
+EndsUntraced (error.Refused r) ended before after =
+    ((ended ≡ 2) × Appends before after (trouble_line (trouble.Refused r))) ⊎ (ended ≡ 3)
+EndsUntraced (error.Cut fault.Write) ended before after = (ended ≡ 3) × Keeps before after
+EndsUntraced (error.Cut fault.Memory) ended before after = ended ≡ 3
+
+-- the line about a service in progress at the stop
+abbrev pub service_line : Service → List ℕ
+service_line service =
+    codes "agc-study: the service of " ++ rupt_name service.rupt ++ codes ", begun at cycle "
+    ++ decimal service.cycle ++ codes ", has not ended\n"

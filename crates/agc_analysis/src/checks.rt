@@ -1,0 +1,124 @@
+//! Checks files and returns reports: a rope and a script, a text of live keys, the text of a rope.
+ghost use Rattle.std.specs.Prelude.{◌≡◌, IfOk, IfErr, IfSome};
+ghost use Rattle.agc_load.specs.declared.fault.LoadFault.TheVariants as refusal;
+ghost use Rattle.agc_analysis.specs.Checked.{AreKeysChecked, AreKeysUnchecked, IsChecked, IsCheckedWith};
+ghost use Rattle.agc_analysis.specs.Checked.{IsJoined, IsListingChecked, IsListingUnchecked, IsUnchecked};
+ghost use Rattle.agc_analysis.specs.Checked.{IsWithMore};
+ghost use Rattle.agc_analysis.specs.declared.fault.AnalysisFault.TheVariants as told;
+
+use crate::fault::AnalysisFault;
+use agc_check::{Report, check, check_keys, check_listing};
+use agc_io::{KEY_BYTES, ROPE_BYTES, ReadError, TEXT_BYTES, read_limited};
+use agc_load::LoadFault;
+use agc_store::RopeForm;
+use std::alloc::Global;
+use std::io::Read;
+
+/// Checks a rope file and a script file and returns the report.
+pub fn check_files<R: Read, S: Read>(
+    alloc: Global,
+    form: RopeForm,
+    rope: &mut R,
+    script: &mut S,
+) -> Result<Report, AnalysisFault>
+    ensures checked { IfOk result
+        (λ report. IsChecked form (R.remaining rope.old) (S.remaining script.old) report) }
+    ensures refused { IfErr result (IsUnchecked (R.remaining rope.old) (S.remaining script.old)) }
+{
+    let rope = match read_limited(alloc, rope, ROPE_BYTES) {
+        Ok(bytes) => bytes,
+        Err(ReadError::CannotRead(fault)) => {
+            return Err(AnalysisFault::Refused(LoadFault::CannotReadRope(fault)));
+        }
+        Err(ReadError::Memory) => return Err(AnalysisFault::Refused(LoadFault::Memory)),
+    };
+    let script = match read_limited(alloc, script, TEXT_BYTES) {
+        Ok(bytes) => bytes,
+        Err(ReadError::CannotRead(fault)) => {
+            return Err(AnalysisFault::Refused(LoadFault::CannotReadScript(fault)));
+        }
+        Err(ReadError::Memory) => return Err(AnalysisFault::Refused(LoadFault::Memory)),
+    };
+    match check(alloc, form, rope.as_slice(), script.as_slice()) {
+        Ok(report) => Ok(report),
+        Err(_) => Err(AnalysisFault::Refused(LoadFault::Memory)),
+    }
+}
+
+/// Checks a rope file and a script file and appends the report on other files.
+pub fn check_with<R: Read, S: Read>(
+    alloc: Global,
+    form: RopeForm,
+    rope: &mut R,
+    script: &mut S,
+    more: &Option<Report>,
+) -> Result<Report, AnalysisFault>
+    ensures checked { IfOk result (λ report. IsCheckedWith form
+        (R.remaining rope.old) (S.remaining script.old) more.now report) }
+    ensures refused { IfErr result (IsUnchecked (R.remaining rope.old) (S.remaining script.old)) }
+{
+    let first = check_files(alloc, form, rope, script)?;
+    with_more(first, more)
+}
+
+/// Appends a second report, if there is one.
+fn with_more(first: Report, more: &Option<Report>) -> Result<Report, AnalysisFault>
+    ensures whole { IfOk result (IsWithMore first more.now) }
+    ensures refused { IfErr result (λ t. t ≡ told.Refused refusal.Memory) }
+{
+    match more {
+        Some(more) => joined(first, more),
+        None => Ok(first),
+    }
+}
+
+/// Joins two reports; the result is sound if both are.
+pub fn joined(first: Report, second: &Report) -> Result<Report, AnalysisFault>
+    ensures joined { IfOk result (IsJoined first second.now) }
+    ensures refused { IfErr result (λ t. t ≡ told.Refused refusal.Memory) }
+{
+    let Report { mut text, is_sound } = first;
+    match text.push_str(second.text.as_str()) {
+        Ok(()) => Ok(Report {
+            text,
+            is_sound: is_sound && second.is_sound,
+        }),
+        Err(_) => Err(AnalysisFault::Refused(LoadFault::Memory)),
+    }
+}
+
+/// Checks a text of live keys and returns the report.
+pub fn check_key_file<K: Read>(alloc: Global, keys: &mut K) -> Result<Report, AnalysisFault>
+    ensures checked { IfOk result (λ report. IfSome (K.remaining keys.old)
+        (λ text. AreKeysChecked text report)) }
+    ensures refused { IfErr result (AreKeysUnchecked (K.remaining keys.old)) }
+{
+    let bytes = match read_limited(alloc, keys, KEY_BYTES) {
+        Ok(bytes) => bytes,
+        Err(ReadError::CannotRead(fault)) => {
+            return Err(AnalysisFault::Refused(LoadFault::CannotReadKeys(fault)));
+        }
+        Err(ReadError::Memory) => return Err(AnalysisFault::Refused(LoadFault::Memory)),
+    };
+    match check_keys(alloc, bytes.as_slice()) {
+        Ok(report) => Ok(report),
+        Err(_) => Err(AnalysisFault::Refused(LoadFault::Memory)),
+    }
+}
+
+/// Checks the text of a rope and returns the report.
+pub fn check_listing_file<L: Read>(alloc: Global, listing: &mut L) -> Result<Report, AnalysisFault>
+    ensures checked { IfOk result (λ report. IfSome (L.remaining listing.old)
+        (λ text. IsListingChecked text report)) }
+    ensures refused { IfErr result IsListingUnchecked }
+{
+    let bytes = match read_limited(alloc, listing, TEXT_BYTES) {
+        Ok(bytes) => bytes,
+        Err(ReadError::CannotRead(_)) => return Err(AnalysisFault::CannotReadText),
+        Err(ReadError::Memory) => return Err(AnalysisFault::Refused(LoadFault::Memory)),
+    };
+    match check_listing(alloc, bytes.as_slice()) {
+        Ok(report) => Ok(report),
+        Err(_) => Err(AnalysisFault::Refused(LoadFault::Memory)),
+    }
+}

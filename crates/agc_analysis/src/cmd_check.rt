@@ -1,0 +1,125 @@
+//! Runs `check`: writes the report on a rope and a script, on live keys and on the text of a rope.
+ghost use Rattle.std.specs.Prelude.{◌≡◌, ◌⊎◌, true, false};
+ghost use Rattle.agc_analysis.specs.Checked.{IsCheckWritten, IsUnchecked, IsWritten};
+ghost use Rattle.agc_analysis.specs.Ended.{IsEnded};
+ghost use Rattle.agc_analysis.specs.Fault.{IsTold};
+
+use crate::checks::{check_key_file, check_listing_file, check_with, joined};
+use crate::fault::AnalysisFault;
+use crate::inputs::opened;
+use agc_check::Report;
+use agc_io::{OK, status_of};
+use agc_store::RopeForm;
+use agc_study_args::CheckArgs;
+use std::alloc::Global;
+use std::io::{Read, Write};
+use std::rt::Files;
+
+/// The exit status if the report contains a fault.
+const FAULTY: u8 = 1;
+
+/// Checks the files of the command line.
+pub fn check_to<R, W: Write, E: Write>(rt: &R, checking: &CheckArgs, out: &mut W, err: &mut E) -> u8
+where
+    R: Files + AllocGlobal,
+    ensures ended { IsEnded result (W.contents out.old) (W.contents out.new)
+        (E.contents err.old) (E.contents err.new) }
+{
+    let more = match more_checked(rt, checking) {
+        Ok(more) => more,
+        Err(trouble) => return trouble.report_to(err),
+    };
+    let Some(run) = &checking.run else {
+        return match more {
+            Some(report) => write_report(&report, out),
+            None => OK,
+        };
+    };
+    let mut rope = opened(rt, &run.rope);
+    let mut script = opened(rt, &run.script);
+    write_check(
+        rt.alloc(),
+        checking.form,
+        &mut rope,
+        &mut script,
+        &more,
+        out,
+        err,
+    )
+}
+
+/// Checks the text of live keys and the text of a rope, whichever are given.
+fn more_checked<R>(rt: &R, checking: &CheckArgs) -> Result<Option<Report>, AnalysisFault>
+where
+    R: Files + AllocGlobal,
+{
+    let keys = keys_checked(rt, &checking.keys)?;
+    let listing = listing_checked(rt, &checking.listing)?;
+    match (keys, listing) {
+        (Some(keys), Some(listing)) => joined(keys, &listing).map(Some),
+        (keys, None) => Ok(keys),
+        (None, listing) => Ok(listing),
+    }
+}
+
+/// Checks the text of live keys, if one is given.
+fn keys_checked<R>(rt: &R, path: &Option<String>) -> Result<Option<Report>, AnalysisFault>
+where
+    R: Files + AllocGlobal,
+{
+    let Some(path) = path else {
+        return Ok(None);
+    };
+    let mut file = opened(rt, path);
+    check_key_file(rt.alloc(), &mut file).map(Some)
+}
+
+/// Checks the text of a rope, if one is given.
+fn listing_checked<R>(rt: &R, path: &Option<String>) -> Result<Option<Report>, AnalysisFault>
+where
+    R: Files + AllocGlobal,
+{
+    let Some(path) = path else {
+        return Ok(None);
+    };
+    let mut file = opened(rt, path);
+    check_listing_file(rt.alloc(), &mut file).map(Some)
+}
+
+/// Checks a rope and a script and writes their report, followed by the report on other files.
+fn write_check<R: Read, S: Read, W: Write, E: Write>(
+    alloc: Global,
+    form: RopeForm,
+    rope: &mut R,
+    script: &mut S,
+    more: &Option<Report>,
+    out: &mut W,
+    err: &mut E,
+) -> u8
+    ensures ended { IsEnded result (W.contents out.old) (W.contents out.new)
+        (E.contents err.old) (E.contents err.new) }
+    ensures sound { result ≡ 0 → IsCheckWritten form
+        (R.remaining rope.old) (S.remaining script.old) more.now true
+        (W.contents out.old) (W.contents out.new) }
+    ensures faulty { result ≡ 1 → IsCheckWritten form
+        (R.remaining rope.old) (S.remaining script.old) more.now false
+        (W.contents out.old) (W.contents out.new) }
+    ensures refused { result ≡ 2
+        → IsTold (IsUnchecked (R.remaining rope.old) (S.remaining script.old))
+        (E.contents err.old) (E.contents err.new) }
+{
+    match check_with(alloc, form, rope, script, more) {
+        Ok(report) => write_report(&report, out),
+        Err(trouble) => trouble.report_to(err),
+    }
+}
+
+/// Writes a report. Returns status 0 if nothing is wrong, or 1 if a file is at fault.
+pub fn write_report<W: Write>(report: &Report, out: &mut W) -> u8
+    ensures sound { result ≡ 0 → IsWritten report.now true (W.contents out.old) (W.contents out.new) }
+    ensures faulty { result ≡ 1 → IsWritten report.now false (W.contents out.old) (W.contents out.new) }
+    ensures status { (result ≡ 0) ⊎ ((result ≡ 1) ⊎ (result ≡ 3)) }
+{
+    let status = if report.is_sound { OK } else { FAULTY };
+    status_of(status, out.write_all(report.text.as_bytes()))
+}

@@ -1,0 +1,66 @@
+//! Reads a rope and a script, and makes the profile of their run.
+ghost use Rattle.std.specs.Prelude.{◌≡◌, IfErr, IfOk, None, string_bytes};
+ghost use Rattle.agc_profile.specs.Report.{count_text};
+ghost use Rattle.agc_analysis.specs.Counted.{IsCounted, counted_text};
+ghost use Rattle.agc_analysis.specs.Started.{IsRefused};
+ghost use Rattle.agc_load.specs.declared.fault.LoadFault.TheVariants as refusal;
+
+use crate::runs::read_machine;
+use agc_io::Progress;
+use agc_load::LoadFault;
+use agc_machine::Machine;
+use agc_profile::{Profile, count, push_profile};
+use agc_store::Store;
+use agc_study_args::ProfileArgs;
+use std::alloc::Global;
+use std::io::Read;
+
+/// Reads a rope and a script, and makes the text of the profile of their run. Fails with the first fault, checked in
+/// this order: rope, script, limit, `--until`; or if memory runs out.
+pub fn profile_files<R: Read, S: Read, P: Progress>(
+    alloc: Global,
+    asked: &ProfileArgs,
+    rope: &mut R,
+    script: &mut S,
+    progress: &mut P,
+) -> Result<String, LoadFault>
+    ensures counted { IfOk result
+        (IsCounted asked.now (R.remaining rope.old) (S.remaining script.old)) }
+    ensures refused { IfErr result (IsRefused asked.now.form asked.now.until None asked.now.limit
+        (R.remaining rope.old) (S.remaining script.old)) }
+{
+    let mut machine = read_machine(alloc, asked.form, asked.limit, &asked.until, rope, script)?;
+    count_run(alloc, asked, &mut machine, progress)
+}
+
+/// Returns the profile of a machine's run as text. Fails if memory runs out.
+fn count_run<P: Progress>(
+    alloc: Global,
+    asked: &ProfileArgs,
+    machine: &mut Machine,
+    progress: &mut P,
+) -> Result<String, LoadFault>
+    ensures text { IfOk result (λ text. string_bytes text ≡ counted_text asked.now machine.old) }
+    ensures refused { IfErr result (λ r. r ≡ refusal.Memory) }
+{
+    let counts = count(alloc, machine, asked.span, progress)?;
+    let text = text_of(alloc, asked, &counts, machine.store());
+    drop(counts);
+    text
+}
+
+/// Returns the text of a profile with the words of a store. Fails if memory runs out.
+fn text_of(
+    alloc: Global,
+    asked: &ProfileArgs,
+    counts: &Profile,
+    store: &Store,
+) -> Result<String, LoadFault>
+    ensures text { IfOk result (λ text. string_bytes text
+        ≡ count_text asked.now.layout asked.now.is_whole counts.now store.now.fixed) }
+    ensures refused { IfErr result (λ r. r ≡ refusal.Memory) }
+{
+    let mut text = String::new(alloc);
+    push_profile(&mut text, asked.layout, asked.is_whole, counts, store)?;
+    Ok(text)
+}

@@ -1,0 +1,93 @@
+//! The error that ends `agc-study` with one line.
+ghost use Rattle.std.specs.Prelude.{◌≡◌, ◌⊎◌, OnOk};
+ghost use Rattle.std.specs.Io.KnownBytes.{Appends};
+ghost use Rattle.agc_analysis.specs.Fault.{other_trouble, trouble_line};
+ghost use Rattle.agc_analysis.specs.declared.fault.AnalysisFault.TheVariants as told;
+
+use agc_asm::AssemblyFault;
+use agc_io::status_of;
+use agc_load::LoadFault;
+use agc_symbols::SymbolFileFault;
+use std::fmt;
+use std::io::{self, Write};
+
+/// The exit status if nothing is printed: a command-line error, or a file at fault.
+pub const FAULTY: u8 = 2;
+
+/// Why nothing is printed.
+#[derive(Clone, Copy, Debug, PartialEq, Eq)]
+pub enum AnalysisFault {
+    /// A fault that `agc` reports too: a faulty rope or script, or out of memory.
+    Refused(LoadFault),
+    /// The rope or the script of the right run of two is rejected.
+    OtherRefused(LoadFault),
+    /// The text file cannot be opened or read, or has more than 16,777,216 bytes.
+    CannotReadText,
+    /// The text does not assemble.
+    Text(AssemblyFault),
+    /// The value of `--bank` is not a bank.
+    BadBankSpec,
+    /// The symbol file is at fault.
+    Unnamed(SymbolFileFault),
+}
+
+impl AnalysisFault {
+    /// Returns the error for a fault of the right run: the other run's, if it concerns a rope or a script.
+    pub fn of_other_run(refusal: LoadFault) -> AnalysisFault
+        ensures { result ≡ other_trouble refusal }
+    {
+        match refusal {
+            LoadFault::CannotReadRope(_)
+            | LoadFault::Rope(_)
+            | LoadFault::CannotReadScript(_)
+            | LoadFault::Script(_) => AnalysisFault::OtherRefused(refusal),
+            _ => AnalysisFault::Refused(refusal),
+        }
+    }
+
+    /// Writes the line of this error.
+    pub fn write_to<W: Write>(self, err: &mut W) -> io::Result<()>
+        ensures { OnOk result
+            (Appends (W.contents err.old) (W.contents err.new) (trouble_line self)) }
+    {
+        writeln!(err, "agc-study: {self}")
+    }
+
+    /// Reports this error and returns the exit status: `FAULTY`, or 3 if the line cannot be written.
+    pub fn report_to<W: Write>(self, err: &mut W) -> u8
+        ensures status { (result ≡ 2) ⊎ (result ≡ 3) }
+        ensures line { result ≡ 2
+            → Appends (W.contents err.old) (W.contents err.new) (trouble_line self) }
+    {
+        status_of(FAULTY, self.write_to(err))
+    }
+}
+
+impl From<LoadFault> for AnalysisFault {
+    ghost from_gives = { λ refusal t. t ≡ told.Refused refusal };
+
+    fn from(refusal: LoadFault) -> AnalysisFault {
+        AnalysisFault::Refused(refusal)
+    }
+}
+
+impl fmt::Display for AnalysisFault {
+    ghost use Rattle.std.specs.Prelude.{Some};
+    ghost use Rattle.agc_analysis.specs.Fault.{trouble_text};
+
+    ghost output = { λ t. Some (trouble_text t) };
+
+    fn fmt<W: fmt::Write>(&self, f: &mut fmt::Formatter<W>) -> fmt::Result {
+        match *self {
+            AnalysisFault::Refused(refusal) => write!(f, "{refusal}"),
+            AnalysisFault::OtherRefused(refusal) => write!(f, "other run: {refusal}"),
+            AnalysisFault::CannotReadText => f.write_str("cannot read text"),
+            AnalysisFault::Text(AssemblyFault::Line(line, fault)) => {
+                write!(f, "text line {line}: {fault}")
+            }
+            AnalysisFault::Text(AssemblyFault::Memory) => f.write_str("memory"),
+            AnalysisFault::BadBankSpec => f.write_str("bank: BadSpec"),
+            AnalysisFault::Unnamed(refusal) => write!(f, "{refusal}"),
+        }
+    }
+}

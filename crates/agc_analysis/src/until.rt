@@ -1,0 +1,87 @@
+//! Resolves a symbolic `--until`.
+ghost use Rattle.std.specs.Prelude.{◌≡◌, IfErr, IfOk, IfSome, string_bytes};
+ghost use Rattle.agc_listing.specs.Place.{IsInPrint, place_text};
+ghost use Rattle.agc_listing.specs.Location.{IsWithin};
+ghost use Rattle.agc_analysis.specs.Until.{IsUntilWith, stop_place, stop_with, until_with};
+
+use agc_listing::{Location, Place, cell_address, listed_address, push_place};
+use agc_machine::StopAddress;
+use agc_store::place::{ERASABLE_BANK_SIZE, bank_of};
+use agc_symbols::{SymbolTable, resolve};
+use std::alloc::{AllocError, Global};
+
+/// Replaces a symbolic `--until` by `BANK,ADDR`. Leaves anything else unchanged, also if memory runs out.
+pub fn name_until(
+    alloc: Global,
+    names: &Option<SymbolTable>,
+    until: &mut Option<String>,
+) -> Result<(), AllocError>
+    ensures said { IfOk result (λ _. IsUntilWith names.now until.old until.new) }
+    ensures kept { IfErr result (λ _. until.new ≡ until.old) }
+{
+    *until = until_said(alloc, names, until)?;
+    Ok(())
+}
+
+/// Returns the text of `--until`, if any, with a symbol replaced.
+fn until_said(
+    alloc: Global,
+    names: &Option<SymbolTable>,
+    until: &Option<String>,
+) -> Result<Option<String>, AllocError>
+    ensures { IfOk result (IsUntilWith names.now until.now) }
+{
+    match until {
+        Some(text) => Ok(Some(text_said(alloc, names, text.as_str())?)),
+        None => Ok(None),
+    }
+}
+
+#[tactic(auto, unfolding(crate::specs::Until::until_with))]
+fn text_said(alloc: Global, names: &Option<SymbolTable>, text: &str) -> Result<String, AllocError>
+    ensures { IfOk result (λ said. string_bytes said ≡ until_with names.now text.now) }
+{
+    match place_of_stop(names, text) {
+        Some(at) => stop_text(alloc, at),
+        None => String::from_str(alloc, text),
+    }
+}
+
+/// Returns the location that a text names by a symbol, unless it reads as a stop address.
+fn place_of_stop(names: &Option<SymbolTable>, text: &str) -> Option<Location>
+    ensures place { result ≡ stop_with names.now text.now }
+    ensures range { IfSome result IsWithin }
+{
+    if names.is_none() || StopAddress::read(text).is_some() {
+        return None;
+    }
+    resolve(names, text.as_bytes())
+}
+
+/// Returns a location in the form that `--until` takes.
+fn stop_text(alloc: Global, at: Location) -> Result<String, AllocError>
+    requires { IsWithin at }
+    ensures { IfOk result (λ text. string_bytes text ≡ place_text (stop_place at)) }
+{
+    let mut text = String::new(alloc);
+    push_place(&mut text, stop_place(at))?;
+    Ok(text)
+}
+
+/// Returns the bank and the address by which an order at a location runs.
+fn stop_place(at: Location) -> Place
+    requires { IsWithin at }
+    ensures place { result ≡ stop_place at }
+    ensures range { IsInPrint result }
+{
+    match at {
+        Location::Fixed(place) => Place::Fixed {
+            bank: bank_of(place),
+            address: listed_address(place as usize),
+        },
+        Location::Erasable(cell) => Place::Fixed {
+            bank: (cell / u32::from(ERASABLE_BANK_SIZE)) as u8,
+            address: cell_address(cell),
+        },
+    }
+}

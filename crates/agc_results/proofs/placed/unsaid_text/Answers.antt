@@ -1,7 +1,0 @@
-use Rattle.std.proofs.Common.{append_assoc}
-use Rattle.agc_results.specs.Placed.{unsaid_text}
-use Rattle.agc_results.proofs.placed.unsaid_text.Goals as goal
-
-pub returns : goal.returns
-unfolding unsaid_text
-returns c = simp append_assoc (rw (c.option-option.ensures, c.name-why.ensures) at c.format.ensures.ok)
