@@ -1,4 +1,0 @@
-use Rattle.agc_study.proofs.counts_told.write_count.Goals as goal
-
-pub returns-in-Ok-clause-count : goal.returns-in-Ok-clause-count
-returns-in-Ok-clause-count g c done = record { text = c.in-Ok.text; counted = c.in-Ok.ensures.counted; written = rw c.as_str.ensures.value at c.write_counts.ensures.text done }

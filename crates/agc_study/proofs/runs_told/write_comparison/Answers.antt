@@ -1,7 +1,0 @@
-use Rattle.agc_study.proofs.runs_told.write_comparison.Goals as goal
-
-pub returns-in-Ok-clause-same : goal.returns-in-Ok-clause-same
-returns-in-Ok-clause-same g c done = record { told = c.in-Ok.told; compared = c.in-Ok.ensures.compared; written = c.write_told.ensures.same done }
-
-pub returns-in-Ok-clause-apart : goal.returns-in-Ok-clause-apart
-returns-in-Ok-clause-apart g c apart = record { told = c.in-Ok.told; compared = c.in-Ok.ensures.compared; written = c.write_told.ensures.apart apart }
