@@ -1,38 +1,38 @@
-//! Gates at which the two threads wait for each other. A wait that ends in time shows that both
-//! run, and how far the one gets while the other stands still shows how much the ring holds.
+//! Gates at which the two threads wait for each other. A wait that ends in time shows that both threads run; how far
+//! one of them gets while the other waits shows how much the ring holds.
 ghost use Rattle.std.specs.Prelude.{◌≡◌};
 
 use crate::flag::Flag;
-use agc_gate::Gate;
+use agc_ring::Gate;
 
-/// Holds the machine up before write 2 until the display took write 1, and the display after write
-/// 1 until the machine comes to a later write. So a run on a single thread, a gate that is left out
-/// and a ring of another size are found out: none of these lets both waits end as they should.
+/// Delays the machine before write 2 until the display has taken write 1, and the display after write 1 until the
+/// machine reaches a later write. This detects a run on a single thread, a gate that is not called, and a ring of
+/// another size: in none of these cases do both waits end as they should.
 #[derive(Drop)]
-pub struct Meeting {
+pub struct Rendezvous {
     /// The write before which the machine raises its flag.
     later: u64,
     machine_looks: u32,
     display_looks: u32,
-    /// The machine came to the later write.
+    /// Raised when the machine reaches the later write.
     pub sent: Flag,
-    /// The display took write 1.
+    /// Raised when the display has taken write 1.
     pub received: Flag,
-    /// The machine's wait ended in time.
+    /// Raised if the machine's wait ended in time.
     pub machine_met: Flag,
-    /// The display's wait ended in time.
+    /// Raised if the display's wait ended in time.
     pub display_met: Flag,
 }
 
-impl Meeting {
-    /// The machine and the display look so many times for each other; with no looks a thread does
-    /// not wait.
-    pub fn new(later: u64, machine_looks: u32, display_looks: u32) -> Meeting
+impl Rendezvous {
+    /// Creates a gate at which the machine and the display look this many times for each other; with 0 looks a thread
+    /// does not wait.
+    pub fn new(later: u64, machine_looks: u32, display_looks: u32) -> Rendezvous
         ensures later { result.later ≡ later }
         ensures machine { result.machine_looks ≡ machine_looks }
         ensures display { result.display_looks ≡ display_looks }
     {
-        Meeting {
+        Rendezvous {
             later,
             machine_looks,
             display_looks,
@@ -44,7 +44,7 @@ impl Meeting {
     }
 }
 
-impl Gate for Meeting {
+impl Gate for Rendezvous {
     fn before_send(&self, n: u64) {
         if n == self.later {
             self.sent.raise();
@@ -64,28 +64,27 @@ impl Gate for Meeting {
     }
 }
 
-/// Holds the machine up before write 1 until the third key is in the key ring, and the display
-/// after key 1 until the machine comes to write 1. So a run that takes its keys before it starts,
-/// or that takes none, is found out.
+/// Delays the machine before write 1 until the third key is in the key ring, and the display after key 1 until the
+/// machine reaches write 1. This detects a run that takes its keys before it starts, or that takes none.
 #[derive(Drop)]
-pub struct KeysMeet {
+pub struct KeyRendezvous {
     looks: u32,
-    /// The machine came to write 1.
+    /// Raised when the machine reaches write 1.
     sent: Flag,
-    /// Key 3 is in the key ring.
+    /// Raised when key 3 is in the key ring.
     fed: Flag,
-    /// The machine's wait ended in time.
+    /// Raised if the machine's wait ended in time.
     pub machine_met: Flag,
-    /// The display's wait ended in time.
+    /// Raised if the display's wait ended in time.
     pub display_met: Flag,
 }
 
-impl KeysMeet {
-    /// Each thread looks so many times for the other.
-    pub fn new(looks: u32) -> KeysMeet
+impl KeyRendezvous {
+    /// Creates a gate at which each thread looks this many times for the other.
+    pub fn new(looks: u32) -> KeyRendezvous
         ensures { result.looks ≡ looks }
     {
-        KeysMeet {
+        KeyRendezvous {
             looks,
             sent: Flag::new(),
             fed: Flag::new(),
@@ -95,7 +94,7 @@ impl KeysMeet {
     }
 }
 
-impl Gate for KeysMeet {
+impl Gate for KeyRendezvous {
     fn before_send(&self, n: u64) {
         if n == 1 {
             self.sent.raise();

@@ -1,5 +1,5 @@
 use Rattle.std.proofs.Common.{◌≡◌, ◌%◌, ◌≤◌, length}
-use Rattle.agc_test_kit.proofs.file.rope_file.Given as goal
+use Rattle.agc_test_support.proofs.file.rope_file.Given as goal
 
 -- whole words, and no more than a rope has
 abbrev pub invariant-loop-number : goal.invariant-loop-number

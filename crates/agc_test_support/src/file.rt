@@ -1,15 +1,15 @@
-//! The file of a listing's rope, in the classic form.
+//! Makes the classic rope file of a listing.
 ghost use Rattle.std.specs.Prelude.{◌≡◌, ◌*◌, ◌+◌, ◌%◌, ◌<◌, ◌≤◌, ◌^◌, length, max, IfOk, OnOk};
-ghost use Rattle.agc_test_kit.specs.File.{index_in_file, with_word};
+ghost use Rattle.agc_test_support.specs.File.{index_in_file, with_word};
 
 use crate::fault::ListingFault;
 use crate::line::{is_comment, read_line};
 use std::alloc::{AllocError, Global};
 
-/// The classic rope file of a listing, as long as its last word needs: the banks stand in the order
-/// 02, 03, 00, 01, 04 to 43 octal. Where two lines name a place, the later one holds.
+/// Returns the classic rope file of a listing, as long as its last word needs. The banks come in the order 02, 03,
+/// 00, 01, 04 to 43 octal. If two lines name the same place, the later one wins.
 pub fn rope_file(alloc: Global, listing: &str) -> Result<Vec<u8>, ListingFault>
-    ensures some { IfOk result (λ bytes. 0 < length bytes.items) }
+    ensures nonempty { IfOk result (λ bytes. 0 < length bytes.items) }
     ensures even { IfOk result (λ bytes. length bytes.items % 2 ≡ 0) }
     ensures banks { IfOk result (λ bytes. length bytes.items ≤ 73728) }
 {
@@ -29,7 +29,7 @@ pub fn rope_file(alloc: Global, listing: &str) -> Result<Vec<u8>, ListingFault>
     Ok(bytes)
 }
 
-/// Where the word of a place stands among the file's words.
+/// Returns the index of a place's word in the file.
 #[tactic(auto, unfolding(crate::specs::File::index_in_file))]
 fn file_index(place: usize) -> usize
     requires { place < 36864 }
@@ -43,7 +43,7 @@ fn file_index(place: usize) -> usize
     }
 }
 
-/// Puts a word into a file, which grows with zeros as far as the word needs.
+/// Writes a word into a file and extends the file with zeros as far as the word needs.
 #[tactic(auto, unfolding(crate::specs::File::with_word, crate::specs::File::lengthened))]
 fn put_word(bytes: &mut Vec<u8>, index: usize, word: u16) -> Result<(), AllocError>
     requires index { index < 36864 }

@@ -1,11 +1,11 @@
-//! The gate that slows one of the threads down.
+//! A gate that slows one of the threads down.
 ghost use Rattle.std.specs.Prelude.{◌≡◌};
 
-use agc_gate::Gate;
+use agc_ring::Gate;
 use std::hint;
 
-/// Lets a thread spin so many turns at each of its calls. A slow machine leaves the ring empty, and
-/// a slow display leaves it full; neither may change what is shown.
+/// Makes a thread spin for this many turns at each of its calls. A slow machine leaves the ring empty and a slow
+/// display leaves it full; neither may change what is shown.
 #[derive(Drop)]
 pub struct Slow {
     machine_turns: u32,
@@ -14,7 +14,7 @@ pub struct Slow {
 }
 
 impl Slow {
-    /// The machine spins before it sends a write.
+    /// Makes the machine spin before it sends a write.
     pub fn machine(turns: u32) -> Slow
         ensures { result ≡ record { machine_turns = turns; display_turns = 0; key_turns = 0 } }
     {
@@ -25,7 +25,7 @@ impl Slow {
         }
     }
 
-    /// The display spins after each write that it took.
+    /// Makes the display spin after each write that it takes.
     pub fn display(turns: u32) -> Slow
         ensures { result ≡ record { machine_turns = 0; display_turns = turns; key_turns = 0 } }
     {
@@ -36,7 +36,7 @@ impl Slow {
         }
     }
 
-    /// The display spins after each key that it put into the key ring.
+    /// Makes the display spin after each key that it puts into the key ring.
     pub fn keys(turns: u32) -> Slow
         ensures { result ≡ record { machine_turns = 0; display_turns = 0; key_turns = turns } }
     {

@@ -1,10 +1,10 @@
-//! A flag between the two threads.
+//! A flag shared by two threads.
 ghost use Rattle.std.specs.Prelude.{◌≡◌, false};
 
 use std::sync::atomic::{AtomicBool, Ordering};
 use std::thread;
 
-/// What one thread raises and the other waits for. It stays up.
+/// A flag that one thread raises and the other waits for. It stays up.
 #[derive(Drop)]
 pub struct Flag {
     up: AtomicBool,
@@ -21,13 +21,13 @@ impl Flag {
         self.up.store(true, Ordering::SeqCst);
     }
 
-    /// Whether it was raised.
+    /// Returns whether the flag was raised.
     pub fn is_up(&self) -> bool {
         self.up.load(Ordering::SeqCst)
     }
 
-    /// Looks at the flag so many times at most, until it is up, and returns whether it was. The
-    /// other thread goes first after each look.
+    /// Looks at the flag up to `looks` times until it is up, and returns whether it was. Yields to the other thread
+    /// after each look.
     pub(crate) fn is_up_within(&self, looks: u32) -> bool
         ensures { looks ≡ 0 → result ≡ false }
     {

@@ -1,21 +1,21 @@
-//! The lines of a listing: which word each puts where.
+//! Parses the lines of a listing: which word goes where.
 ghost use Rattle.std.specs.Prelude.{◌<◌, ◌^◌, IfSome};
 
 use agc_word::read_octal;
 
-/// A word and its place among the rope's: 2000 octal times its bank, and its offset.
+/// A word and its place among the words of the rope: 2000 octal times its bank, plus its offset.
 #[derive(Clone, Copy)]
 pub(crate) struct Entry {
     pub place: usize,
     pub word: u16,
 }
 
-/// Whether a line is for readers alone.
+/// Returns whether a line is empty or a comment.
 pub(crate) fn is_comment(line: &str) -> bool {
     line.is_empty() || line.starts_with(';')
 }
 
-/// The entry that a line makes; `None` where it makes none.
+/// Parses the entry of a line; `None` if the line is malformed.
 pub(crate) fn read_line(line: &str) -> Option<Entry>
     ensures place { IfSome result (λ entry. entry.place < 36864) }
     ensures word { IfSome result (λ entry. entry.word < 2 ^ 15) }
@@ -31,7 +31,7 @@ pub(crate) fn read_line(line: &str) -> Option<Entry>
     })
 }
 
-/// The place of an address, or of a bank and an address.
+/// Parses the place of an address, or of a bank and an address.
 fn read_place(text: &str) -> Option<usize>
     ensures { IfSome result (λ place. place < 36864) }
 {
@@ -46,7 +46,7 @@ fn read_place(text: &str) -> Option<usize>
     Some((0o2000 * bank + (address - 0o2000)) as usize)
 }
 
-/// The place of an address in the banks 02 and 03, which are always at hand.
+/// Parses the place of an address in banks 02 and 03, which are always addressable.
 fn fixed_fixed(text: &str) -> Option<usize>
     ensures { IfSome result (λ place. place < 36864) }
 {
@@ -57,7 +57,7 @@ fn fixed_fixed(text: &str) -> Option<usize>
     Some(address as usize)
 }
 
-/// The word of five octal digits.
+/// Parses a word of five octal digits.
 fn read_word(text: &str) -> Option<u16>
     ensures { IfSome result (λ word. word < 2 ^ 15) }
 {

@@ -1,11 +1,10 @@
-//! The gate that counts.
+//! A gate that counts writes.
 use crate::flag::Flag;
-use agc_gate::Gate;
+use agc_ring::Gate;
 use std::sync::atomic::{AtomicU64, Ordering};
 
-/// Counts the writes that were sent and those that were received, and notes a call whose number is
-/// not the next. It holds nothing up. So a write that is told twice, late or not at all is found
-/// out, and the end of a run that is told as a write.
+/// Counts the writes sent and the writes received, and notes a call whose number is not the next. It delays nothing.
+/// This detects a write that is reported twice, late or not at all, and an end of a run that is reported as a write.
 #[derive(Drop)]
 pub struct Counting {
     sent: AtomicU64,
@@ -14,7 +13,7 @@ pub struct Counting {
 }
 
 impl Counting {
-    /// Nothing is counted yet.
+    /// Creates a gate that has counted nothing.
     pub fn new() -> Counting {
         Counting {
             sent: AtomicU64::new(0),
@@ -23,12 +22,12 @@ impl Counting {
         }
     }
 
-    /// How many writes were received.
+    /// Returns how many writes were received.
     pub fn received(&self) -> u64 {
         self.received.load(Ordering::SeqCst)
     }
 
-    /// Whether all writes that were sent were received, each told once and in its order.
+    /// Returns whether every write that was sent was received, and each was reported once and in order.
     pub fn is_whole(&self) -> bool {
         !self.out_of_order.is_up() && self.sent.load(Ordering::SeqCst) == self.received()
     }
