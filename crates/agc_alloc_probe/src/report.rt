@@ -1,15 +1,15 @@
-//! The lines that tell of a call. They are written as they stand: telling takes no memory.
+//! Writes the lines that report a call. They are written as they are, because reporting must not allocate.
 use crate::call::Call;
 use std::io::{self, Write};
 
-/// What came of making a call.
+/// The outcome of a call.
 #[derive(Clone, Copy, Debug, PartialEq, Eq)]
 pub enum Attempt {
-    /// It returned what is known.
+    /// The call returned the known result.
     Answered,
-    /// It returned something else.
+    /// The call returned something else.
     Mistaken,
-    /// It was out of memory, or no thread was to be had, for the call or for its input.
+    /// The call or its input ran out of memory, or no thread could be started.
     Refused,
 }
 
@@ -19,19 +19,19 @@ pub fn tell<W: Write>(out: &mut W, line: &str) -> io::Result<()> {
     out.write_all(b"\n")
 }
 
-/// Tells that there was no memory for a call's input.
+/// Reports that there was no memory for a call's input.
 pub fn no_input<W: Write>(out: &mut W) -> io::Result<Attempt> {
     tell(out, "no input")?;
     Ok(Attempt::Refused)
 }
 
-/// Tells that a call begins.
+/// Reports that a call begins.
 pub fn begin<W: Write>(out: &mut W, call: Call) -> io::Result<()> {
     out.write_all(b"call ")?;
     tell(out, call.name())
 }
 
-/// Tells whether a call returned what is known.
+/// Reports whether a call returned the known result.
 pub fn answered<W: Write>(out: &mut W, known: bool) -> io::Result<Attempt> {
     tell(out, if known { "answer" } else { "another answer" })?;
     Ok(if known {
@@ -41,13 +41,13 @@ pub fn answered<W: Write>(out: &mut W, known: bool) -> io::Result<Attempt> {
     })
 }
 
-/// Tells the fault of a refused call, and whether all that it was lent is as before.
+/// Reports the fault of a failed call, and whether everything lent to the call is unchanged.
 pub fn refused<W: Write>(out: &mut W, fault: &str, kept: bool) -> io::Result<Attempt> {
     tell(out, fault)?;
     keeps(out, kept)
 }
 
-/// Tells whether all that a refused call was lent is as before.
+/// Reports whether everything lent to a failed call is unchanged.
 pub fn keeps<W: Write>(out: &mut W, kept: bool) -> io::Result<Attempt> {
     tell(out, if kept { "kept" } else { "changed" })?;
     Ok(if kept {
@@ -57,7 +57,7 @@ pub fn keeps<W: Write>(out: &mut W, kept: bool) -> io::Result<Attempt> {
     })
 }
 
-/// Tells a fault that cannot be.
+/// Reports a fault that must not occur.
 pub fn wrong<W: Write>(out: &mut W) -> io::Result<Attempt> {
     tell(out, "another fault")?;
     Ok(Attempt::Mistaken)

@@ -1,10 +1,9 @@
-//! The calls that make a text: the panel's and the watcher's.
+//! Probes the calls that make a text: the panel's and the watcher's.
 use crate::call::Call;
 use crate::report::{Attempt, answered, begin, no_input, refused, wrong};
-use agc_executive::{WatchFault, WatchSpec, watch};
-use agc_panel::Panel;
+use agc_panel::{Panel, WatchFault, WatchSpec, watch};
 use agc_store::{Rope, Store};
-use agc_test_kit::{IDLE, rope_file};
+use agc_test_support::{IDLE, rope_file};
 use agc_word::{ChannelWrite, Narrow};
 use std::alloc::Global;
 use std::io::{self, Write};
@@ -44,7 +43,7 @@ LST2 7 00000 00000
 LST2 8 00000 00000
 ";
 
-/// `Panel::text` of a panel that shows some digits.
+/// Probes `Panel::text` on a panel that shows some digits.
 pub fn panel_text<W: Write>(alloc: Global, out: &mut W) -> io::Result<Attempt> {
     let panel = written_panel();
     begin(out, Call::PanelText)?;
@@ -66,7 +65,7 @@ fn written_panel() -> Panel {
     panel
 }
 
-/// `watch` of two core sets.
+/// Probes `watch` on two core sets.
 pub fn watch_tables<W: Write>(alloc: Global, out: &mut W) -> io::Result<Attempt> {
     let Ok(file) = rope_file(alloc, IDLE) else {
         return no_input(out);
@@ -89,17 +88,17 @@ pub fn watch_tables<W: Write>(alloc: Global, out: &mut W) -> io::Result<Attempt>
     }
 }
 
-/// The word with these bits, +0 for more than fifteen.
+/// Returns the word with these bits, or +0 for more than fifteen bits.
 fn narrow(bits: u16) -> Narrow {
     Narrow::from_bits(bits).unwrap_or(Narrow::PLUS_ZERO)
 }
 
-/// Whether the erasable memory has the words of `CELLS` and +0 elsewhere.
+/// Returns whether the erasable memory has the words of `CELLS` and +0 elsewhere.
 fn holds_cells(store: &Store) -> bool {
     (0..8).all(|bank| (0..256).all(|offset| store.cell(bank, offset).bits() == cell(bank, offset)))
 }
 
-/// The word of a cell by `CELLS`.
+/// Returns the word of a cell according to `CELLS`.
 fn cell(bank: u8, offset: u16) -> u16 {
     CELLS
         .iter()

@@ -1,12 +1,12 @@
-//! The calls that take memory.
+//! The calls that allocate memory.
 
-/// A call of the libraries.
+/// A library call.
 #[derive(Clone, Copy, Debug, PartialEq, Eq)]
 pub enum Call {
     RopeRead,
     RopeReadAs,
     ScriptParse,
-    /// The same with lines that stand for several events, which have to be put in order.
+    /// The same with lines that stand for several events, which have to be sorted.
     ScriptParseEvery,
     ScriptMerge,
     TapePush,
@@ -19,7 +19,7 @@ pub enum Call {
     Session,
 }
 
-/// All of them, in the order in which they are made.
+/// All calls, in the order in which they are made.
 pub const CALLS: [Call; 13] = [
     Call::RopeRead,
     Call::RopeReadAs,
@@ -37,7 +37,7 @@ pub const CALLS: [Call; 13] = [
 ];
 
 impl Call {
-    /// The name under which a test asks for it, and under which it is told.
+    /// Returns the name by which a test selects the call and the report shows it.
     pub fn name(self) -> &'static str {
         match self {
             Call::RopeRead => "Rope::read",
@@ -56,7 +56,7 @@ impl Call {
         }
     }
 
-    /// The call with this name.
+    /// Returns the call with this name.
     pub fn named(name: &str) -> Option<Call> {
         CALLS.into_iter().find(|call| call.name() == name)
     }

@@ -1,4 +1,4 @@
-//! The calls that make a ring, and run a machine beside its display.
+//! Probes the calls that make a ring, and that run a machine beside its display.
 ghost use Rattle.std.specs.Prelude.{◌≡◌, false, IfSome};
 
 use crate::call::Call;
@@ -9,19 +9,19 @@ use agc_pipe::{Live, ShowFault, Shown, run_live, run_shown};
 use agc_ring::{LinkFault, link};
 use agc_script::{Key, Script};
 use agc_store::Rope;
-use agc_test_kit::{Counting, KEYED_WRITES, WRITES, rope_file};
+use agc_test_support::{Counting, KEYED_WRITES, WRITES, rope_file};
 use std::alloc::Global;
 use std::io::{self, Write};
 use std::sync::Wait;
 use std::thread::Threads;
 
-/// The writes of the short run.
+/// The number of writes of the short run.
 const SHORT_WRITES: u64 = 1000;
 
 /// The thousandth write begins at cycle 4014, and the run ends at 4018.
 const LIMIT: u64 = 4018;
 
-/// A run that is long enough for its keys, and the fewest writes that it may have.
+/// The limit of a run that is long enough for its keys, and the fewest writes that it may have.
 const LIVE_LIMIT: u64 = 100_000;
 
 const LIVE_WRITES: u64 = 24_000;
@@ -31,7 +31,7 @@ const KEYS: [Key; 3] = [Key::Verb, Key::Three, Key::Five];
 
 const SPACING: u64 = 8533;
 
-/// `link` of a ring with one slot.
+/// Probes `link` for a ring with one slot.
 pub fn link_ends<W: Write>(alloc: Global, out: &mut W) -> io::Result<Attempt> {
     begin(out, Call::Link)?;
     match link(alloc, 1) {
@@ -41,7 +41,7 @@ pub fn link_ends<W: Write>(alloc: Global, out: &mut W) -> io::Result<Attempt> {
     }
 }
 
-/// `run_shown` of a thousand writes through one slot.
+/// Probes `run_shown` with a thousand writes through one slot.
 pub fn show_writes<R, W: Write>(rt: &R, out: &mut W) -> io::Result<Attempt>
 where
     R: AllocGlobal + Threads + Wait + Sync,
@@ -57,7 +57,7 @@ where
     }
 }
 
-/// `run_live` of many writes, which keys interrupt.
+/// Probes `run_live` with many writes that keys interrupt.
 pub fn run_with_keys<R, W: Write>(rt: &R, out: &mut W) -> io::Result<Attempt>
 where
     R: AllocGlobal + Threads + Wait + Sync,
@@ -77,7 +77,7 @@ where
     }
 }
 
-/// Tells the fault of a run of so many writes at least, and how many of them were received.
+/// Reports the fault of a run of at least `least` writes, and how many writes were received.
 fn tell_fault<W: Write>(
     out: &mut W,
     fault: ShowFault,
@@ -99,12 +99,12 @@ fn tell_fault<W: Write>(
     }
 }
 
-/// Whether all writes of a run that has so many at least were received.
+/// Returns whether all writes of a run, at least `least`, were received.
 fn came_whole(gate: &Counting, least: u64) -> bool {
     gate.is_whole() && gate.received() >= least
 }
 
-/// The machine of a listing, without a script.
+/// Returns the machine of a listing without a script.
 #[tactic(auto, unfolding(agc_machine::specs::State::start_state))]
 fn machine_of(alloc: Global, listing: &str, limit: u64) -> Option<Machine>
     ensures { IfSome result (λ machine. machine.begun ≡ false) }
@@ -122,7 +122,7 @@ fn pressed_keys(alloc: Global) -> Option<Vec<Key>> {
     Some(keys)
 }
 
-/// Whether the keys of the tape and then the rest are those that were pressed.
+/// Returns whether the keys of the tape followed by the rest are the keys that were pressed.
 fn has_keys(live: &Live) -> bool {
     let (tape, rest) = (&live.tape, live.rest.as_slice());
     let taken = tape.len();
@@ -131,7 +131,7 @@ fn has_keys(live: &Live) -> bool {
         && KEYS.get(taken..) == Some(rest)
 }
 
-/// Whether these are the thousand writes, on a panel that stays blank.
+/// Returns whether these are the thousand writes, on a panel that stays blank.
 fn is_thousand(shown: &Shown) -> bool {
     let log = shown.log.as_slice();
     let cycle = |place: usize| log.get(place).map_or(0, |write| write.cycle);

@@ -1,6 +1,5 @@
-//! `agc_calls`: makes each call that takes memory, or the one that is named, with an input whose
-//! result is known, and prints what came of it. Where it was out of memory it makes the call again.
-//! A test runs it with each allocation failing in turn.
+//! `agc_alloc_probe`: makes each call that allocates, or only the named one, with an input whose result is known, and
+//! prints the outcome. After out of memory it repeats the call. A test runs it with each allocation failing in turn.
 #![tactic(auto)]
 
 mod call;
@@ -19,7 +18,7 @@ use std::rt::Env;
 use std::sync::Wait;
 use std::thread::Threads;
 
-/// How often a call is made at most.
+/// The maximum number of attempts at a call.
 const TRIES: u32 = 3;
 
 fn main(rt: HostRuntime) -> ExitCode {
@@ -29,7 +28,7 @@ fn main(rt: HostRuntime) -> ExitCode {
     }
 }
 
-/// Makes the calls, and returns whether each of them came to its result.
+/// Makes the calls and returns whether each reached its result.
 fn run<R, W: Write>(rt: &R, out: &mut W) -> io::Result<bool>
 where
     R: Env + AllocGlobal + Threads + Wait + Sync,
@@ -65,7 +64,7 @@ where
     Ok(all)
 }
 
-/// Makes one call until it comes to its result.
+/// Makes one call until it reaches its result.
 fn make<R, W: Write>(rt: &R, out: &mut W, call: Call) -> io::Result<bool>
 where
     R: AllocGlobal + Threads + Wait + Sync,

@@ -1,4 +1,4 @@
-//! The calls that read a rope or a script, and those on tapes.
+//! Probes the calls that read a rope or a script, and the calls on tapes.
 use crate::call::Call;
 use crate::report::{Attempt, answered, begin, no_input, refused, wrong};
 use agc_script::{Event, FaultKind, Key, Script, ScriptFault, Tape, What};
@@ -17,10 +17,10 @@ const TCF: u16 = 0o14000;
 /// Two keys.
 const TWO_KEYS: [u8; 15] = *b"5 key 1\n6 key 2";
 
-/// Requests in turn, and a line that is no event.
+/// Requests that alternate, and a line that is not an event.
 const REQUESTS: [u8; 47] = *b"every 2 0 98 raise 8\nevery 2 1 99 raise 1\n# end";
 
-/// `Rope::read` of one word.
+/// Probes `Rope::read` on one word.
 pub fn read_rope<W: Write>(alloc: Global, out: &mut W) -> io::Result<Attempt> {
     let bytes = IDLE;
     begin(out, Call::RopeRead)?;
@@ -31,7 +31,7 @@ pub fn read_rope<W: Write>(alloc: Global, out: &mut W) -> io::Result<Attempt> {
     }
 }
 
-/// `Rope::read_as` of one word in the parity form.
+/// Probes `Rope::read_as` on one word in the parity form.
 pub fn read_rope_as<W: Write>(alloc: Global, out: &mut W) -> io::Result<Attempt> {
     let bytes = ODD_IDLE;
     begin(out, Call::RopeReadAs)?;
@@ -42,14 +42,14 @@ pub fn read_rope_as<W: Write>(alloc: Global, out: &mut W) -> io::Result<Attempt>
     }
 }
 
-/// `Script::parse` of two keys.
+/// Probes `Script::parse` on two keys.
 pub fn parse_keys<W: Write>(alloc: Global, out: &mut W) -> io::Result<Attempt> {
     let bytes = TWO_KEYS;
     let events = [key(5, Key::One), key(6, Key::Two)];
     parse(alloc, out, Call::ScriptParse, &bytes, &TWO_KEYS, &events)
 }
 
-/// `Script::parse` of two lines whose events are put in order after a third.
+/// Probes `Script::parse` on two lines whose events are sorted after a third.
 pub fn parse_every<W: Write>(alloc: Global, out: &mut W) -> io::Result<Attempt> {
     let bytes = REQUESTS;
     let events = raised_in_turn();
@@ -63,7 +63,7 @@ pub fn parse_every<W: Write>(alloc: Global, out: &mut W) -> io::Result<Attempt> 
     )
 }
 
-/// A hundred requests a cycle apart, of 8 and of 1 in turn.
+/// Returns a hundred requests a cycle apart, alternately of 8 and of 1.
 fn raised_in_turn() -> [Event; 100] {
     let mut events = [raise(0, 8); 100];
     for i in 0..100usize {
@@ -72,7 +72,7 @@ fn raised_in_turn() -> [Event; 100] {
     events
 }
 
-/// Parses a file whose bytes were `before`, and whose events are these.
+/// Parses a file whose bytes were `before`, and checks for these events.
 fn parse<W: Write>(
     alloc: Global,
     out: &mut W,
@@ -94,7 +94,7 @@ fn parse<W: Write>(
     }
 }
 
-/// `Script::merge` of two events with a tape of one key.
+/// Probes `Script::merge` of two events with a tape of one key.
 pub fn merge_tape<W: Write>(alloc: Global, out: &mut W) -> io::Result<Attempt> {
     let Ok(script) = Script::parse(alloc, b"5 raise 1\n6 raise 2") else {
         return no_input(out);
@@ -123,7 +123,7 @@ pub fn merge_tape<W: Write>(alloc: Global, out: &mut W) -> io::Result<Attempt> {
     }
 }
 
-/// `Tape::push` on an empty tape.
+/// Probes `Tape::push` on an empty tape.
 pub fn push_key<W: Write>(alloc: Global, out: &mut W) -> io::Result<Attempt> {
     let mut tape = Tape::new(alloc);
     begin(out, Call::TapePush)?;
@@ -150,17 +150,17 @@ fn raise(cycle: u64, number: u8) -> Event {
     }
 }
 
-/// Whether a script has these events.
+/// Returns whether a script has these events.
 fn is_script(script: &Script, events: &[Event]) -> bool {
     script.len() == events.len() && (0..script.len()).all(|i| Some(&script.at(i)) == events.get(i))
 }
 
-/// Whether a tape has VERB at cycle 5 alone.
+/// Returns whether a tape has only VERB at cycle 5.
 fn is_verb(tape: &Tape) -> bool {
     tape.len() == 1 && tape.at(0) == (5, Key::Verb)
 }
 
-/// The fault of a script, with its line.
+/// Returns the name of the out-of-memory fault of a script, with its line.
 fn memory_of_line(line: usize) -> &'static str {
     match line {
         0 => "line 0: Memory",

@@ -1,12 +1,12 @@
-//! The calls that read a command line and run a session.
+//! Probes the calls that parse a command line and run a session.
 use crate::call::Call;
 use crate::report::{Attempt, answered, begin, keeps, no_input, refused, wrong};
-use agc_args::parse_args;
-use agc_options::{ArgsFault, DONE, Options, REFUSED};
-use agc_pipe::Open;
-use agc_session::session;
+use agc_cli::{ArgsFault, Options, parse_args};
+use agc_io::{OK, REFUSED};
+use agc_ring::Open;
+use agc_run::session;
 use agc_store::RopeForm;
-use agc_test_kit::{DIVISION, rope_file};
+use agc_test_support::{DIVISION, rope_file};
 use std::alloc::Global;
 use std::io::{self, ErrorKind, Write};
 use std::sync::Wait;
@@ -15,7 +15,7 @@ use std::thread::Threads;
 /// The command line of a short run.
 const SHORT: [&str; 5] = ["agc", "rope", "script", "--limit", "10"];
 
-/// The command line of the division that is watched and logged.
+/// The command line of the division, with `--watch` and `--log`.
 const WATCHED: [&str; 10] = [
     "agc",
     "rope",
@@ -29,7 +29,7 @@ const WATCHED: [&str; 10] = [
     "0,0,1,1,0,1,100",
 ];
 
-/// What the division needs: the cell that divides holds 1.
+/// The script of the division: it sets the divisor's cell to 1.
 const POKE: &[u8] = b"0 poke 0 100 1";
 
 const TEXT: &str = "PROG __
@@ -55,7 +55,7 @@ LST2 7 00000 00000
 LST2 8 00000 00000
 ";
 
-/// `parse_args` of a short command line.
+/// Probes `parse_args` on a short command line.
 pub fn parse_words<W: Write>(alloc: Global, out: &mut W) -> io::Result<Attempt> {
     let words = SHORT;
     begin(out, Call::ParseArgs)?;
@@ -66,7 +66,7 @@ pub fn parse_words<W: Write>(alloc: Global, out: &mut W) -> io::Result<Attempt> 
     }
 }
 
-/// Whether these are the options of the short command line.
+/// Returns whether these are the options of the short command line.
 fn is_short(options: &Options) -> bool {
     (options.rope.as_str(), options.script.as_str()) == ("rope", "script")
         && (options.limit, options.slots, options.log) == (10, 256, false)
@@ -76,7 +76,7 @@ fn is_short(options: &Options) -> bool {
         && (options.live, options.spacing) == (false, 8533)
 }
 
-/// Whether these are the options of the division.
+/// Returns whether these are the options of the division.
 fn is_watched(options: &Options) -> bool {
     (options.rope.as_str(), options.script.as_str()) == ("rope", "script")
         && (options.limit, options.slots, options.log) == (100, 1, true)
@@ -88,7 +88,7 @@ fn is_watched(options: &Options) -> bool {
         && options.form == RopeForm::Classic
 }
 
-/// A stream that keeps what is written in a page of its own.
+/// A stream that stores what is written in a page of its own.
 #[derive(Drop)]
 struct Page {
     bytes: [u8; 1024],
@@ -125,7 +125,7 @@ impl Write for Page {
     }
 }
 
-/// `session` of the division. Where it refuses, its line is told, and nothing else was written.
+/// Probes `session` on the division. If it fails, it reports its line, and nothing else was written.
 pub fn run_session<R, W: Write>(rt: &R, out: &mut W) -> io::Result<Attempt>
 where
     R: AllocGlobal + Threads + Wait + Sync,
@@ -157,7 +157,7 @@ where
     }
     answered(
         out,
-        status == DONE
+        status == OK
             && as_before
             && printed.written() == TEXT.as_bytes()
             && told.written().is_empty(),
