@@ -1,5 +1,4 @@
-//! Worked values and runs of the libraries from the memory to the machine, by their public calls. They stand in
-//! a crate of their own, so that no library is proved a second time for them.
+//! Tests of words, memory, scripts, processor and machine through their public calls.
 #![tactic(auto)]
 
 #[cfg(test)]

@@ -1,4 +1,4 @@
-//! Words, memory, orders, scripts and the machine, by values and runs worked out by hand.
+//! Tests of words, memory, orders, scripts and the machine, with values and runs worked out by hand.
 mod listing;
 mod machine;
 mod order;
@@ -9,16 +9,16 @@ mod word;
 
 use agc_script::Script;
 use agc_store::Rope;
-use agc_test_kit::rope_file;
+use agc_test_support::rope_file;
 use std::fmt::Debug;
 use std::process::Abort;
 
-/// Fails where two values differ, and tells both. It is proved once, where an `assert_eq!` would be at each place.
+/// Fails if two values differ, and prints both. It is proved once; an `assert_eq!` would be proved at each place.
 fn equal<T: Drop + PartialEq + Debug>(rt: &impl Abort, found: T, wanted: T) {
     assert_eq!(rt; found, wanted);
 }
 
-/// The same at a row of a table, which is told too.
+/// The same for a row of a table, which is printed too.
 fn equal_at<R: Drop + Debug, T: Drop + PartialEq + Debug>(
     rt: &impl Abort,
     row: R,
@@ -28,8 +28,8 @@ fn equal_at<R: Drop + Debug, T: Drop + PartialEq + Debug>(
     assert_eq!(rt; found, wanted, "{row:?}");
 }
 
-/// The rope of a listing, with +0 between its words. It is had or the test ends, and so are the values of the helpers
-/// below: a test that hands failures on takes the prover many times as long.
+/// Returns the rope of a listing, with +0 between its words, or ends the test; so do the helpers below. A test that
+/// returned failures would take the prover many times as long.
 fn rope(rt: &(impl AllocGlobal + Abort), listing: &str) -> Rope {
     let bytes = rope_file(rt.alloc(), listing)
         .ok()

@@ -1,23 +1,23 @@
-//! Listings and the files that they make.
+//! Tests the rope files that listings make.
 use super::{equal, equal_at};
-use agc_test_kit::{
+use agc_test_support::{
     DIVISION, EDRUPT, IDLE, KEYED_WRITES, ListingFault, RELAY_WORD, WRITES, rope_file,
 };
 use std::process::Abort;
 
-/// The file of a listing.
+/// Returns the file of a listing.
 fn file(rt: &(impl AllocGlobal + Abort), listing: &str) -> Vec<u8> {
     rope_file(rt.alloc(), listing)
         .ok()
         .expect(rt, "a rope file")
 }
 
-/// Looks that these are the bytes of a listing's file.
+/// Checks that these are the bytes of a listing's file.
 fn makes(rt: &(impl AllocGlobal + Abort), listing: &str, bytes: &[u8]) {
     equal_at(rt, listing, file(rt, listing).as_slice(), bytes);
 }
 
-/// Looks that the file of a listing has so many bytes, of which the last is 2.
+/// Checks that the file of a listing has `len` bytes and that the last is 2.
 fn makes_as_many(rt: &(impl AllocGlobal + Abort), listing: &str, len: usize) {
     let bytes = file(rt, listing);
     equal_at(rt, listing, bytes.len(), len);
@@ -52,7 +52,7 @@ fn programs(rt: HostRuntime) {
     );
 }
 
-/// The writes, and RESUME as the word after twenty.
+/// The writes, with RESUME as word 21.
 #[test]
 fn keyed_writes(rt: HostRuntime) {
     let mut bytes = file(&rt, WRITES);
@@ -62,7 +62,7 @@ fn keyed_writes(rt: HostRuntime) {
     makes(&rt, KEYED_WRITES, &bytes);
 }
 
-/// The banks stand in the classic order, and an address of the banks 02 and 03 needs no bank.
+/// The banks come in the classic order, and an address of banks 02 and 03 needs no bank.
 #[test]
 fn banks(rt: HostRuntime) {
     makes_as_many(&rt, "4000 00001", 2);

@@ -1,4 +1,4 @@
-//! Runs of small programs, worked out by hand. The numbers are octal, but for cycles.
+//! Tests runs of small programs, worked out by hand. The numbers are octal, except for cycles.
 mod events;
 mod runs;
 mod timing;
@@ -10,12 +10,12 @@ use agc_script::Script;
 use agc_store::Addr;
 use std::process::Abort;
 
-/// The machine at the start of a run of this listing.
+/// Returns the machine of a listing at the start of a run.
 fn machine(rt: &(impl AllocGlobal + Abort), listing: &str, script: &str, limit: u64) -> Machine {
     machine_of(rt, listing, parse(rt, script.as_bytes()), limit)
 }
 
-/// The same with a script that was read or made.
+/// The same with a script that was already read or made.
 fn machine_of(
     rt: &(impl AllocGlobal + Abort),
     listing: &str,
@@ -27,19 +27,19 @@ fn machine_of(
         .expect(rt, "the limit is in range")
 }
 
-/// The machine where such a run has stopped at its very limit, without a channel write.
+/// Returns the machine of such a run, stopped exactly at its limit without a channel write.
 fn run(rt: &(impl AllocGlobal + Abort), listing: &str, script: &str, limit: u64) -> Machine {
     let mut machine = machine(rt, listing, script, limit);
     stopped(rt, &mut machine, Stop::Limit, limit);
     machine
 }
 
-/// The pattern of a cell of erasable bank 0.
+/// Returns the pattern of a cell of erasable bank 0.
 fn cell(machine: &Machine, offset: u8) -> u16 {
     machine.store().cell(0, u16::from(offset)).bits()
 }
 
-/// A, L, Q and Z; A and Q are wide.
+/// Returns A, L, Q and Z; A and Q are wide.
 fn registers(machine: &Machine) -> [u16; 4] {
     let store = machine.store();
     [
@@ -50,12 +50,12 @@ fn registers(machine: &Machine) -> [u16; 4] {
     ]
 }
 
-/// A channel's pattern at the present cycle.
+/// Returns a channel's pattern at the present cycle.
 fn channel(machine: &Machine, number: u8) -> u16 {
     machine.channel(u16::from(number)).bits()
 }
 
-/// The next write is of this value to this channel; returns its cycle.
+/// Checks that the next write is of this value to this channel; returns its cycle.
 fn next_cycle(rt: &impl Abort, machine: &mut Machine, channel: u16, value: u16) -> u64 {
     let Next::Wrote(write) = machine.next_write() else {
         panic!(rt; "stopped before the write");
@@ -65,23 +65,23 @@ fn next_cycle(rt: &impl Abort, machine: &mut Machine, channel: u16, value: u16) 
     write.cycle
 }
 
-/// The next write is this one.
+/// Checks that this is the next write.
 fn wrote(rt: &impl Abort, machine: &mut Machine, cycle: u64, channel: u16, value: u16) {
     equal(rt, next_cycle(rt, machine, channel, value), cycle);
 }
 
-/// No write comes any more, and the machine stops at this cycle.
+/// Checks that no write comes, and that the machine stops at this cycle.
 fn stopped(rt: &impl Abort, machine: &mut Machine, why: Stop, cycle: u64) {
     equal(rt, machine.next_write(), Next::Stopped(why));
     equal(rt, machine.cycle(), cycle);
 }
 
-/// One boundary that shows nothing outside.
+/// Checks that one boundary shows nothing outside.
 fn quiet(rt: &impl Abort, machine: &mut Machine) {
     equal(rt, machine.step(None), Stepped::Quiet);
 }
 
-/// The run of a fresh machine up to an address.
+/// Returns the run of a fresh machine up to an address.
 fn until(rt: &impl Abort, machine: Machine, bank: u8, address: u16) -> Machine {
     assert!(rt; machine.fresh());
     machine.until(

@@ -1,4 +1,4 @@
-//! Words of the instruction memos, each with the order that it names.
+//! Tests words of the instruction memos, each with the order that it encodes.
 use super::equal;
 use agc_order::{Basic, Extracode};
 use agc_word::Narrow;
@@ -49,7 +49,8 @@ fn extracodes_by_their_words(rt: HostRuntime) {
     }
 }
 
-/// The cycles that the instruction memos give: TC and TCF one, most orders two, double words and products three, DV six.
+/// The cycles that the instruction memos give: TC and TCF one, most orders two, double words and products three, DV
+/// six.
 #[test]
 fn orders_have_their_cycles(rt: HostRuntime) {
     for (order, cycles) in [

@@ -1,18 +1,18 @@
-//! Each public call once, by values worked out by hand. The numbers are octal, but for cycles.
+//! Tests each public call once, with values worked out by hand. The numbers are octal, except for cycles.
 mod orders;
 
 use super::{equal, equal_at, rope};
 use agc_processor::{Halt, Processor, Ran, Rupt, Timer, WRITE_MCT};
-use agc_test_kit::IDLE;
+use agc_test_support::IDLE;
 use agc_word::{Carry, Narrow, Pulse};
 use std::process::Abort;
 
-/// The processor at the start of a run of this listing.
+/// Returns the processor at the start of a run of this listing.
 fn processor_with(rt: &(impl AllocGlobal + Abort), listing: &str) -> Processor {
     Processor::new(rope(rt, listing))
 }
 
-/// Orders run one after another, as long as fewer cycles than these have gone by.
+/// Runs orders one after another while fewer cycles than `limit` have gone by.
 fn run(processor: &mut Processor, limit: u8) {
     let mut cycle = 0;
     for _ in 0..limit {
@@ -27,12 +27,12 @@ fn run(processor: &mut Processor, limit: u8) {
     }
 }
 
-/// The pattern of a cell of erasable bank 0.
+/// Returns the pattern of a cell of erasable bank 0.
 fn cell(processor: &Processor, offset: u8) -> u16 {
     processor.store.cell(0, u16::from(offset)).bits()
 }
 
-/// A, L, Q and Z; A and Q are wide.
+/// Returns A, L, Q and Z; A and Q are wide.
 fn registers(processor: &Processor) -> [u16; 4] {
     let store = &processor.store;
     [
@@ -70,7 +70,7 @@ fn orders_halt(rt: HostRuntime) {
     halts(&rt, "4000 00006 EXTEND\n4001 07000 EDRUPT", Halt::Edrupt);
 }
 
-/// The second order halts.
+/// Checks that the second order halts.
 fn halts(rt: &(impl AllocGlobal + Abort), listing: &str, halt: Halt) {
     let mut processor = processor_with(rt, listing);
     equal_at(rt, listing, processor.run(0), Ran::Quiet(1));
@@ -81,7 +81,7 @@ fn halts(rt: &(impl AllocGlobal + Abort), listing: &str, halt: Halt) {
 #[test]
 fn timers_step(rt: HostRuntime) {
     let mut processor = processor_with(&rt, IDLE);
-    equal(&rt, processor.timers_calm_until(), 427);
+    equal(&rt, processor.timers_quiet_until(), 427);
     equal(&rt, processor.due_timer(426), None);
     let due = processor.due_timer(427).expect(&rt, "a timer is due");
     equal(&rt, due, Timer::Time5);
@@ -103,7 +103,7 @@ fn interrupt_is_taken(rt: HostRuntime) {
     equal(&rt, processor.pending(), None);
 }
 
-/// Channel 7 keeps bits 7 to 5, of which bit 7 is the superbank; a PINC of 37777 carries.
+/// Channel 7 keeps bits 7 to 5, and bit 7 is the superbank; a PINC of 37777 carries.
 #[test]
 fn comes_from_outside(rt: HostRuntime) {
     let mut processor = processor_with(&rt, IDLE);

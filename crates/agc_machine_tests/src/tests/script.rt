@@ -1,4 +1,4 @@
-//! Worked scripts: what they mean, and where and why they are refused.
+//! Tests worked scripts: what they mean, and where and why they are rejected.
 mod commands;
 mod every;
 mod faults;
@@ -13,7 +13,7 @@ use agc_script::{Event, FaultKind, Key, LAST_CYCLE, MOST_EVENTS, Script, ScriptF
 use agc_word::{Narrow, Pulse};
 use std::process::Abort;
 
-/// The events of a script, one after another.
+/// Returns the events of a script in order.
 fn listed(rt: &(impl Abort + AllocGlobal), script: &Script) -> Vec<Event> {
     let mut events = Vec::new(rt.alloc());
     for i in 0..script.len() {
@@ -22,17 +22,17 @@ fn listed(rt: &(impl Abort + AllocGlobal), script: &Script) -> Vec<Event> {
     events
 }
 
-/// The fault of a refused file.
+/// Returns the fault of a rejected file.
 fn fault(rt: &(impl Abort + AllocGlobal), file: &[u8]) -> Option<ScriptFault> {
     Script::parse(rt.alloc(), file).err()
 }
 
-/// Looks that a script has these events.
+/// Checks that a script has these events.
 fn has(rt: &(impl Abort + AllocGlobal), script: &Script, events: &[Event]) {
     equal(rt, listed(rt, script).as_slice(), events);
 }
 
-/// Looks that a file is a script of these events.
+/// Checks that a file is a script of these events.
 fn lists(rt: &(impl Abort + AllocGlobal), file: &[u8], events: &[Event]) {
     equal_at(rt, file, listed(rt, &parse(rt, file)).as_slice(), events);
 }
@@ -49,7 +49,7 @@ fn key(cycle: u64, key: Key) -> Event {
     event(cycle, What::Key(key))
 }
 
-/// Looks that each of these files is refused at this line with this kind.
+/// Checks that each of these files is rejected at this line with this kind of fault.
 fn refuses(rt: &(impl Abort + AllocGlobal), faults: &[(&[u8], usize, FaultKind)]) {
     for (file, line, kind) in faults {
         let (line, kind) = (*line, *kind);
@@ -58,8 +58,8 @@ fn refuses(rt: &(impl Abort + AllocGlobal), faults: &[(&[u8], usize, FaultKind)]
     }
 }
 
-/// Looks that each of these lines, with semicolons between, is refused for this where it stands
-/// alone.
+/// Checks that each of these lines, separated by semicolons, is rejected with this kind of fault if it is the only
+/// line.
 fn refuses_each(rt: &(impl Abort + AllocGlobal), kind: FaultKind, lines: &[u8]) {
     for line in lines.split(|b| *b == b';') {
         let wanted = Some(ScriptFault { line: 1, kind });
@@ -67,14 +67,14 @@ fn refuses_each(rt: &(impl Abort + AllocGlobal), kind: FaultKind, lines: &[u8]) 
     }
 }
 
-/// Looks that each of these files is accepted.
+/// Checks that each of these files is accepted.
 fn accepts(rt: &(impl Abort + AllocGlobal), files: &[&[u8]]) {
     for file in files {
         equal_at(rt, *file, fault(rt, file), None);
     }
 }
 
-/// Parts of a file in one.
+/// Joins the parts of a file.
 fn joined(rt: &(impl Abort + AllocGlobal), parts: &[&[u8]]) -> Vec<u8> {
     let mut file = Vec::new(rt.alloc());
     for part in parts {
@@ -83,7 +83,7 @@ fn joined(rt: &(impl Abort + AllocGlobal), parts: &[&[u8]]) -> Vec<u8> {
     file
 }
 
-/// A file with one line so often.
+/// Returns a file that repeats one line.
 fn repeated(rt: &(impl Abort + AllocGlobal), line: &[u8], times: usize) -> Vec<u8> {
     let mut file = Vec::new(rt.alloc());
     for _ in 0..times {

@@ -1,4 +1,4 @@
-//! Worked examples of ropes, banks and registers, with the values that the machine's rules give.
+//! Tests ropes, banks and registers on worked examples, with the values that the machine's rules give.
 ghost use Rattle.std.specs.Prelude.{◌≡◌, ◌<◌};
 
 use super::{equal, equal_at};
@@ -7,11 +7,11 @@ use agc_store::{Addr, Rope, RopeFault, RopeForm, Store};
 use agc_word::{Narrow, Wide};
 use std::process::Abort;
 
-/// The banks in the order in which a classic file holds them.
+/// The banks in the order of a classic file.
 const FIRST_BANKS: [usize; 4] = [2, 3, 0, 1];
 
-/// A file of so many bytes, in which each word differs from the next: word j is j plus 1, by the
-/// fifteen bits on its left.
+/// Returns a file of `len` bytes in which each word differs from the next: word j is j plus 1, in the left fifteen
+/// bits.
 fn counting_file(rt: &(impl AllocGlobal + Abort), len: usize) -> Vec<u8> {
     let mut bytes = Vec::new(rt.alloc());
     for place in 0..len {
@@ -26,7 +26,7 @@ fn counting_file(rt: &(impl AllocGlobal + Abort), len: usize) -> Vec<u8> {
     bytes
 }
 
-/// A memory with all 36 banks, in which the first word of each bank is the bank's number.
+/// Returns a memory with all 36 banks, in which the first word of each bank is the bank's number.
 fn store_of_banks(rt: &(impl AllocGlobal + Abort)) -> Store {
     let mut bytes = Vec::new(rt.alloc());
     for index in 0..36 {
@@ -37,7 +37,7 @@ fn store_of_banks(rt: &(impl AllocGlobal + Abort)) -> Store {
     store_of(rt, &bytes)
 }
 
-/// A file of so many equal words.
+/// Returns a file of `words` equal words.
 fn repeated(rt: &(impl AllocGlobal + Abort), word: [u8; 2], words: usize) -> Vec<u8> {
     let mut bytes = Vec::new(rt.alloc());
     for _ in 0..words {
@@ -50,7 +50,7 @@ fn append(rt: &impl Abort, file: &mut Vec<u8>, bytes: &[u8]) {
     assert!(rt; file.extend_from_slice(bytes).is_ok());
 }
 
-/// The memory with the rope of a classic file.
+/// Returns the memory with the rope of a classic file.
 fn store_of(rt: &(impl AllocGlobal + Abort), bytes: &[u8]) -> Store {
     Store::new(Rope::read(rt.alloc(), bytes).ok().expect(rt, "a rope"))
 }
@@ -59,17 +59,17 @@ fn empty_store(rt: &(impl AllocGlobal + Abort)) -> Store {
     store_of(rt, &[0, 0])
 }
 
-/// The fault of a classic file.
+/// Returns the fault of a classic file.
 fn fault(rt: &impl AllocGlobal, bytes: &[u8]) -> Option<RopeFault> {
     Rope::read(rt.alloc(), bytes).err()
 }
 
-/// The fault of a file in the form with parity.
+/// Returns the fault of a file in the parity form.
 fn parity_fault(rt: &impl AllocGlobal, bytes: &[u8]) -> Option<RopeFault> {
     Rope::read_as(rt.alloc(), RopeForm::Parity, bytes).err()
 }
 
-/// Looks that the file of one word in the form with parity has this word.
+/// Checks that the one-word file in the parity form has this word.
 fn reads_with_parity(rt: &(impl AllocGlobal + Abort), bytes: [u8; 2], word: u16) {
     let rope = Rope::read_as(rt.alloc(), RopeForm::Parity, &bytes)
         .ok()
@@ -107,7 +107,7 @@ fn rope_sizes(rt: HostRuntime) {
     check_banks(&rt, &store_of(&rt, &counting_file(&rt, 73728)));
 }
 
-/// The first words of the banks 02, 00 and 04.
+/// Checks the first words of banks 02, 00 and 04.
 fn check_banks(rt: &impl Abort, store: &Store) {
     equal(rt, store.fixed(0o02, 0), word(1));
     equal(rt, store.fixed(0o00, 0), word(4096 / 2 + 1));
@@ -129,8 +129,8 @@ fn rope_prefixes(rt: HostRuntime) {
     }
 }
 
-/// The prefix of so many bytes is refused where it is empty or odd; else its words stand in the
-/// classic order, and +0 past its end.
+/// Checks the prefix of `len` bytes: it is rejected if it is empty or odd; otherwise its words come in the classic
+/// order, with +0 past its end.
 fn check_prefix(rt: &(impl AllocGlobal + Abort), file: &[u8], len: usize) {
     assert!(rt; len <= file.len());
     match Rope::read(rt.alloc(), &file[..len]) {
@@ -152,7 +152,7 @@ fn fault_of_length(len: usize) -> Option<RopeFault> {
     None
 }
 
-/// The last of so many words has its number, and +0 follows.
+/// Checks that the last of `words` words has its number, and that +0 follows.
 fn check_last_word(rt: &impl Abort, store: &Store, words: usize) {
     assert!(rt; words > 0);
     let last = words - 1;
@@ -167,7 +167,7 @@ fn check_last_word(rt: &impl Abort, store: &Store, words: usize) {
     }
 }
 
-/// The pattern of the fixed word that stands at a word of a classic file.
+/// Returns the pattern of the fixed word at a word index of a classic file.
 fn file_word(rt: &impl Abort, store: &Store, index: usize) -> u16 {
     assert!(rt; index < 36864);
     let bank = index / 1024;
@@ -221,7 +221,7 @@ fn editing_registers(rt: HostRuntime) {
     equal(&rt, store.read(at(CYR)).bits(), 0o020000);
     equal(&rt, store.read(at(CYL)).bits(), 0o000002);
 
-    // A read that edits again, by the window at 1400 octal with EB 0; and a poke, which does not.
+    // A read that edits again, through the window at 1400 octal with EB 0; and a poke, which does not edit.
     equal(&rt, store.read_and_edit(at(0o1422)).bits(), 0o000002);
     equal(&rt, store.read(at(CYL)).bits(), 0o000004);
     store.poke(0, EDOP, word(0o77777));
@@ -243,7 +243,7 @@ fn fixed_banks_and_superbank(rt: HostRuntime) {
     equal(&rt, store.fetch(at(0o6000)).bits(), 0o03);
 }
 
-/// FB brings one bank into the window while the superbank is off, and one while it is on.
+/// Checks that FB selects one bank while the superbank is off, and another while it is on.
 fn selects(rt: &impl Abort, store: &mut Store, fb: u16, off: u16, on: u16) {
     store.write(at(FB), Wide::from_bits(fb));
     store.set_superbank(false);
@@ -263,7 +263,7 @@ fn a_jump_fetches_and_counts_on(rt: HostRuntime) {
     jumps(&rt, &mut store, 5, 0o00005);
 }
 
-/// A jump to an address fetches this word, and Z is one beyond.
+/// Checks that a jump to an address fetches this word, and that Z is one past it.
 fn jumps(rt: &impl Abort, store: &mut Store, address: u16, fetched: u16)
     requires { address < 4095 }
 {
@@ -310,7 +310,7 @@ fn registers_keep_their_bits(rt: HostRuntime) {
     equal(&rt, store.read(at(BB)).bits(), 0o176007);
 }
 
-/// Of a word with every bit a register keeps these.
+/// Checks which bits a register keeps of a word with every bit set.
 fn keeps(rt: &impl Abort, store: &mut Store, register: u16, kept: u16)
     requires { register < 8 }
 {

@@ -1,4 +1,4 @@
-//! Worked values, in octal: what the definitions are to mean.
+//! Tests worked values, in octal, that show what the definitions mean.
 use super::{equal, equal_at};
 use agc_word::{
     Carry, Edit, Narrow, Over, Pulse, Wide, and, complement, dabs, modular_difference, or, product,
@@ -142,7 +142,7 @@ fn editing_registers(rt: HostRuntime) {
     }
 }
 
-/// A pulse makes this of a word, and carries or not.
+/// Checks what a pulse makes of a word, and whether it carries.
 fn pulses(rt: &impl Abort, kind: Pulse, bits: u16, stepped: u16, carry: Carry) {
     let (word, out) = narrow(rt, bits).pulse(kind);
     equal_at(rt, (kind, bits), (word.bits(), out), (stepped, carry));

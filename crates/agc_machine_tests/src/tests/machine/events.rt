@@ -1,7 +1,7 @@
-//! What comes from outside: keys, inputs, pulses, and the channels that show them.
+//! Tests events from outside: keys, inputs, pulses, and the channels that show them.
 use super::*;
 use agc_script::{Key, Tape, What};
-use agc_test_kit::IDLE;
+use agc_test_support::IDLE;
 use agc_word::Pulse;
 
 /// KEYRUPT1 is taken at cycle 0 before INHINT runs; RESUME at 3, INHINT at 5, TCF 4001 from 6 on.
@@ -17,8 +17,8 @@ fn key_interrupt(rt: HostRuntime) {
     equal(&rt, channel(&machine, 0o15), 0o00021);
 }
 
-/// A live key is taken at once, at cycle 0, and its interrupt (3 cycles) follows. No key is wanted
-/// while an event is due, nor at the limit.
+/// A live key is taken at once, at cycle 0, and its interrupt (3 cycles) follows. No key is wanted while an event is
+/// due, nor at the limit.
 #[test]
 fn live_key(rt: HostRuntime) {
     let mut machine = machine(&rt, IDLE, "0 pro down", 3);
@@ -37,25 +37,25 @@ fn live_key(rt: HostRuntime) {
     equal(&rt, machine.step(None), Stepped::Stopped(Stop::Limit));
 }
 
-/// What is given happens at once, as an event of the present cycle: PRO clears bit 14 of channel 32, and
-/// takes no cycle, nor does a request; a pulse counts its cell up and takes one.
+/// An injected event happens at once, as an event of the present cycle: PRO clears bit 14 of channel 32 and takes no
+/// cycle, nor does a request; a pulse counts its cell up and takes one.
 #[test]
 #[tactic(auto, unfolding(agc_script::specs::Event::IsWhatInRange))]
 fn given_events_happen_at_once(rt: HostRuntime) {
     let mut machine = machine(&rt, IDLE, "", 10);
     assert!(rt; machine.wants_key());
-    machine.give(What::Pro(true));
+    machine.inject(What::Pro(true));
     equal(
         &rt,
         (machine.cycle(), channel(&machine, 0o32)),
         (0, 0o57777),
     );
     assert!(rt; machine.wants_key());
-    machine.give(What::Raise(9));
+    machine.inject(What::Raise(9));
     equal(&rt, machine.cycle(), 0);
     assert!(rt; machine.wants_key());
     let (counter, kind) = (0o40, Pulse::Pinc);
-    machine.give(What::Pulse { counter, kind });
+    machine.inject(What::Pulse { counter, kind });
     equal(&rt, (machine.cycle(), cell(&machine, 0o40)), (1, 0o00001));
     assert!(rt; machine.wants_key());
 }
@@ -65,14 +65,14 @@ fn given_events_happen_at_once(rt: HostRuntime) {
 fn a_machine_begins_anew(rt: HostRuntime) {
     let mut machine = machine(&rt, IDLE, "0 pro down", 5);
     stopped(&rt, &mut machine, Stop::Limit, 5);
-    let anew = machine.anew(parse(&rt, b"2 raise 1"));
-    equal(&rt, (anew.cycle(), anew.fresh()), (0, true));
-    equal(&rt, channel(&anew, 0o32), 0o77777);
-    equal(&rt, anew.events_left().len(), 1);
+    let restart_with = machine.restart_with(parse(&rt, b"2 raise 1"));
+    equal(&rt, (restart_with.cycle(), restart_with.fresh()), (0, true));
+    equal(&rt, channel(&restart_with, 0o32), 0o77777);
+    equal(&rt, restart_with.events_left().len(), 1);
 }
 
-/// The event of cycle 0 is met first. At cycle 4, after four orders of a cycle each, the other one is still
-/// left, and the next boundary meets it.
+/// The event of cycle 0 comes first. At cycle 4, after four one-cycle orders, the other event is still pending, and
+/// comes at the next boundary.
 #[test]
 fn events_are_left_until_they_are_met(rt: HostRuntime) {
     let mut machine = machine(&rt, IDLE, "0 pro down\n4 pro up\n", 10);
@@ -89,7 +89,7 @@ fn events_are_left_until_they_are_met(rt: HostRuntime) {
     assert!(rt; machine.events_left().is_empty());
 }
 
-/// PRO is bit 14 of channel 32, 0 while it is down, and no other bit.
+/// PRO is bit 14 of channel 32, which is 0 while PRO is down, and no other bit.
 #[test]
 fn pro_key(rt: HostRuntime) {
     let script = "0 pro down\n0 pro up\n0 input 32 0\n0 pro up\n";
@@ -101,8 +101,8 @@ fn pro_key(rt: HostRuntime) {
     equal(&rt, machine.cycle(), 0);
 }
 
-/// The shift that carries requests UPRUPT on INLINK (45) alone: RNRAD (46) carries at 0, INLINK at
-/// 10. Pulses take a cycle, so that the service at 4034 begins at 11, and comes into hand at 14.
+/// Only the shift that carries requests UPRUPT on INLINK (45): RNRAD (46) carries at 0, INLINK at 10. Pulses take a
+/// cycle, so the interrupt begins at 11, and the service at 4034 is in hand at 14.
 #[test]
 fn uprupt_by_a_shift(rt: HostRuntime) {
     let script = "0 poke 0 46 40000\n0 pulse 46 shinc\n10 poke 0 45 40001\n10 pulse 45 shanc\n";
@@ -131,8 +131,8 @@ fn channel_seven_keeps_three_bits(rt: HostRuntime) {
     assert!(rt; machine.store().superbank());
 }
 
-/// WOR 7 of 00777 leaves all of it in A (TS 100) and its bits 7 to 5 in the channel; WAND 7 of
-/// 00127 leaves 00120 in both. Bit 7 is the superbank.
+/// WOR 7 of 00777 leaves all of it in A (TS 100) and its bits 7 to 5 in the channel; WAND 7 of 00127 leaves 00120 in
+/// both. Bit 7 is the superbank.
 #[test]
 fn or_and_and_to_channel_seven(rt: HostRuntime) {
     let listing = "
@@ -155,7 +155,7 @@ fn or_and_and_to_channel_seven(rt: HostRuntime) {
     assert!(rt; machine.store().superbank());
 }
 
-/// A script's input switches the superbank too, and is no channel write.
+/// A script's input switches the superbank too, and is not a channel write.
 #[test]
 fn input_switches_the_superbank(rt: HostRuntime) {
     let mut machine = machine(&rt, IDLE, "0 input 7 77777\n5 input 7 37\n", 10);
@@ -167,8 +167,8 @@ fn input_switches_the_superbank(rt: HostRuntime) {
     assert!(rt; !machine.store().superbank());
 }
 
-/// A service of KEYRUPT1 that shows the key's code in channel 10: it begins 3 cycles after the key,
-/// and its WRITE, after TCF, EXTEND, READ and EXTEND, 5 cycles after that.
+/// A service of KEYRUPT1 that shows the key's code in channel 10: it begins 3 cycles after the key, and its WRITE,
+/// after TCF, EXTEND, READ and EXTEND, 5 cycles later.
 const ECHO: &str = "
 4000 14000 TCF 4000
 4024 14100 TCF 4100
@@ -178,8 +178,8 @@ const ECHO: &str = "
 4103 01010 WRITE 10
 4104 50017 RESUME";
 
-/// Two live keys, at 5 and at 30, where the script's own key comes first and is overtaken; then the
-/// same run from the script with their tape in it.
+/// Two live keys, at 5 and at 30; the script's own key comes first and is overtaken. Then the same run, from the
+/// script with their tape in it.
 #[test]
 fn live_keys_replay(rt: HostRuntime) {
     let mut live = machine(&rt, ECHO, "30 key 1", 100);
@@ -195,7 +195,7 @@ fn live_keys_replay(rt: HostRuntime) {
     stopped(&rt, &mut again, Stop::Limit, 100);
 }
 
-/// The machine at the start of that run from the script with the tape.
+/// Returns the machine at the start of that run, from the script with the tape.
 fn from_a_tape(rt: &(impl AllocGlobal + Abort)) -> Machine {
     let mut tape = Tape::new(rt.alloc());
     assert!(rt; tape.push(5, Key::Verb).is_ok());
@@ -204,7 +204,7 @@ fn from_a_tape(rt: &(impl AllocGlobal + Abort)) -> Machine {
     machine_of(rt, ECHO, script.ok().expect(rt, "room"), 100)
 }
 
-/// Goes on to the first boundary from a cycle on at which a key is wanted, and gives the key there.
+/// Runs to the first boundary at or after a cycle at which a key is wanted, and presses the key there.
 fn press_at(rt: &impl Abort, machine: &mut Machine, cycle: u64, key: Key) {
     for _ in 0..=cycle {
         if machine.cycle() >= cycle && machine.wants_key() {

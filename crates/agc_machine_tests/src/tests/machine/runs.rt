@@ -1,12 +1,12 @@
-//! Whole runs: their channel writes, their limits and their stops.
+//! Tests whole runs: their channel writes, their limits and their stops.
 use super::*;
 use agc_machine::{LimitFault, Refused, StopAddress};
 use agc_store::Store;
-use agc_test_kit::{DIVISION, IDLE, RELAY_WORD, WRITES};
+use agc_test_support::{DIVISION, IDLE, RELAY_WORD, WRITES};
 use agc_word::{ChannelWrite, Narrow};
 
-/// EXTEND, WRITE 10, TCF 4000, again and again: a write of +0 each four cycles, the first at cycle 1
-/// and the last, after 17 timer steps of one cycle, at 4 * 999 + 1 + 17.
+/// EXTEND, WRITE 10, TCF 4000 in a loop: a write of +0 every four cycles, the first at cycle 1 and the last, after 17
+/// one-cycle timer steps, at 4 * 999 + 1 + 17.
 #[test]
 fn thousand_writes(rt: HostRuntime) {
     let mut machine = machine(&rt, WRITES, "", 4018);
@@ -19,7 +19,7 @@ fn thousand_writes(rt: HostRuntime) {
     stopped(&rt, &mut machine, Stop::Limit, 4018);
 }
 
-/// DV of 2 by 1: a stop that leaves A, L and the cycle, after the write of A.
+/// DV of 2 by 1: a stop after the write of A that leaves A, L and the cycle.
 #[test]
 fn undefined_division_stops(rt: HostRuntime) {
     let mut machine = machine(&rt, DIVISION, "0 poke 0 100 1", 100);
@@ -33,7 +33,7 @@ fn largest_limit(rt: HostRuntime) {
     division_stops(&rt, &mut machine);
 }
 
-/// One write, then the stop at cycle 6, which stays.
+/// Checks for one write, then a permanent stop at cycle 6.
 fn division_stops(rt: &impl Abort, machine: &mut Machine) {
     wrote(rt, machine, 3, 0o10, 0o00002);
     stopped(rt, machine, Stop::DivisionUndefined, 6);
@@ -42,7 +42,7 @@ fn division_stops(rt: &impl Abort, machine: &mut Machine) {
     equal(rt, machine.wants_key(), false);
 }
 
-/// A write of +0 to channel 10 at this cycle.
+/// Returns a write of +0 to channel 10 at this cycle.
 fn write_at(cycle: u64) -> ChannelWrite {
     ChannelWrite {
         cycle,
@@ -51,8 +51,8 @@ fn write_at(cycle: u64) -> ChannelWrite {
     }
 }
 
-/// EXTEND, WRITE 10, TCF 4000 write at the cycles 1 and 5. EXTEND ends at 1, the first write at 3,
-/// TCF at 4 and EXTEND again at 5, which are as far as a way to the cycle 1, 5, 4 and 5 goes.
+/// EXTEND, WRITE 10, TCF 4000 write at cycles 1 and 5. EXTEND ends at 1, the first write at 3, TCF at 4 and EXTEND
+/// again at 5: that is how far runs up to the cycles 1, 5, 4 and 5 get.
 #[test]
 fn the_way_to_a_cycle(rt: HostRuntime) {
     let mut machine = machine(&rt, WRITES, "", 7);
@@ -85,7 +85,7 @@ fn the_way_to_a_cycle(rt: HostRuntime) {
     );
 }
 
-/// EXTEND, EDRUPT: the stop is at cycle 1, as EDRUPT takes none.
+/// EXTEND, EDRUPT: the stop is at cycle 1, because EDRUPT takes no cycle.
 #[test]
 fn edrupt_stops(rt: HostRuntime) {
     let listing = "
@@ -120,7 +120,7 @@ fn until_the_start(rt: HostRuntime) {
     stopped(&rt, &mut machine, Stop::Reached, 0);
 }
 
-/// TCF 2000 with FB 0: bank 0 agrees with the window, bank 1 does not.
+/// TCF 2000 with FB 0: bank 0 matches the window, bank 1 does not.
 #[test]
 fn until_a_bank(rt: HostRuntime) {
     for (bank, stop, cycle) in [(0, Stop::Reached, 1), (1, Stop::Limit, 10)] {
@@ -130,14 +130,14 @@ fn until_a_bank(rt: HostRuntime) {
     }
 }
 
-/// Limit 0 and one above 1,000,000,000,000 are refused; rope and script come back.
+/// Limit 0 and limits above 1,000,000,000,000 are rejected; rope and script come back.
 #[test]
 fn limits(rt: HostRuntime) {
     refuses(&rt, 0, LimitFault::Zero);
     refuses(&rt, 1_000_000_000_001, LimitFault::TooLarge);
 }
 
-/// A limit is refused for this. The rope comes back with its first word, and the script with its event.
+/// Checks why a limit is rejected. The rope comes back with its first word, and the script with its event.
 fn refuses(rt: &(impl AllocGlobal + Abort), limit: u64, wanted: LimitFault) {
     let made = Machine::new(rope(rt, IDLE), parse(rt, b"0 raise 1"), limit);
     equal_at(rt, limit, made.is_err(), true);
@@ -161,7 +161,7 @@ fn machine_gives_its_store(rt: HostRuntime) {
     equal(&rt, store.z().bits(), 0o4001);
 }
 
-/// Bank and address are octal numbers, up to 47 and 7777, and nothing else may stand beside them.
+/// Bank and address are octal numbers, up to 47 and 7777, and nothing else may be beside them.
 #[test]
 fn stop_addresses_are_read(rt: HostRuntime) {
     reads_the_last(&rt, "47,7777");
@@ -180,7 +180,7 @@ fn stop_addresses_are_read(rt: HostRuntime) {
     }
 }
 
-/// The text names the last address of the last bank.
+/// Checks that a text names the last address of the last bank.
 fn reads_the_last(rt: &impl Abort, text: &str) {
     let at = StopAddress::read(text).expect(rt, "a stop address");
     equal(rt, at.bank, 0o47);

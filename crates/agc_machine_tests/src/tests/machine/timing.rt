@@ -1,8 +1,8 @@
-//! Timers, the scaler and interrupts: when they come, and what they leave.
+//! Tests timers, the scaler and interrupts: when they come, and what they leave.
 use super::*;
-use agc_test_kit::IDLE;
+use agc_test_support::IDLE;
 
-/// The scaler counts each 320 pulses, 12 a cycle: 12 * 54 / 320 is 2, and 12 * 53 / 320 is 1.
+/// The scaler counts every 320 pulses, 12 a cycle: 12 * 54 / 320 is 2, and 12 * 53 / 320 is 1.
 #[test]
 fn scaler_channels(rt: HostRuntime) {
     for (limit, low) in [(54, 0o00002), (53, 0o00001)] {
@@ -25,7 +25,7 @@ fn timers_before_the_step(rt: HostRuntime) {
     equal(&rt, timers(&machine), [0, 0o37777, 0, 1, 1]);
 }
 
-/// TIME2, TIME1, TIME3, TIME4 and TIME5.
+/// Returns TIME2, TIME1, TIME3, TIME4 and TIME5.
 fn timers(machine: &Machine) -> [u16; 5] {
     [
         cell(machine, 0o24),
@@ -50,9 +50,9 @@ fn time6_interrupt(rt: HostRuntime) {
     equal(&rt, channel(&machine, 0o13), 0o00000);
 }
 
-/// TIME6 counts periods of 640 pulses from its switch. From 5, on at 0: a step at 54 (period 1).
-/// Off from 60 to 200, where periods 1 to 3 have gone by: the next step is at 214 (period 4), and
-/// the word at 214 that leaves the switch on takes nothing from it. So 3 is left.
+/// TIME6 counts periods of 640 pulses from its switch. From 5, on at 0: a step at 54 (period 1). Off from 60 to 200,
+/// while periods 1 to 3 go by: the next step is at 214 (period 4), and the word at 214 that leaves the switch on does
+/// not change that. So 3 is left.
 #[test]
 fn time6_mark_at_a_second_switching(rt: HostRuntime) {
     let script = "0 poke 0 31 5\n0 input 13 40000\n60 input 13 0\n\
@@ -62,8 +62,8 @@ fn time6_mark_at_a_second_switching(rt: HostRuntime) {
     equal(&rt, channel(&machine, 0o13), 0o50000);
 }
 
-/// At 427, where TIME5's first step (5120 pulses) is due and a key and an interrupt come: the event
-/// first, which takes no cycle, then the step with one, then the interrupt with three.
+/// At 427, TIME5's first step (5120 pulses), a key and an interrupt are all due: first the event, which takes no
+/// cycle, then the step, which takes one, then the interrupt, which takes three.
 #[test]
 fn event_before_timer_before_interrupt(rt: HostRuntime) {
     let mut machine = machine(&rt, IDLE, "427 key 5", 900);
@@ -79,7 +79,7 @@ fn event_before_timer_before_interrupt(rt: HostRuntime) {
     equal(&rt, seen(&machine), (431, [0o00005, 1, 0o04001]));
 }
 
-/// The cycle, the key's code, TIME5 and ZRUPT.
+/// Returns the cycle, the key's code, TIME5 and ZRUPT.
 fn seen(machine: &Machine) -> (u64, [u16; 3]) {
     let words = [
         channel(machine, 0o15),
@@ -89,8 +89,8 @@ fn seen(machine: &Machine) -> (u64, [u16; 3]) {
     (machine.cycle(), words)
 }
 
-/// INHINT at 0 to 1; the request of cycle 1 waits for CA (1 to 3) and RELINT (3 to 4). The service
-/// begins before the order at 4003.
+/// INHINT runs from 0 to 1; the request of cycle 1 waits for CA (1 to 3) and RELINT (3 to 4). The service begins
+/// before the order at 4003.
 #[test]
 fn inhint_holds_a_request(rt: HostRuntime) {
     let listing = "
@@ -106,8 +106,8 @@ fn inhint_holds_a_request(rt: HostRuntime) {
     equal(&rt, registers(&machine), [0o012345, 0, 0, 0o4004]);
 }
 
-/// Both are requested at 0, RUPT10 first and T3RUPT twice: T3RUPT has the lower vector, and is
-/// served once. Each service writes a channel: interrupt 3, EXTEND 1, WRITE 2, RESUME 2 cycles.
+/// Both are requested at 0, RUPT10 first and T3RUPT twice: T3RUPT has the lower vector, and is served once. Each
+/// service writes a channel: interrupt 3, EXTEND 1, WRITE 2, RESUME 2 cycles.
 #[test]
 fn interrupts_in_order_of_vectors(rt: HostRuntime) {
     let listing = "
@@ -125,7 +125,7 @@ fn interrupts_in_order_of_vectors(rt: HostRuntime) {
     stopped(&rt, &mut machine, Stop::Limit, 30);
 }
 
-/// DOWNRUPT each 20 cycles, whose service writes channel 10 four cycles later.
+/// DOWNRUPT every 20 cycles; its service writes channel 10 four cycles later.
 #[test]
 fn every_downrupt(rt: HostRuntime) {
     let listing = "

@@ -1,21 +1,21 @@
-//! What is told of the next boundary.
+//! Tests what `upcoming` returns for the next boundary.
 use super::*;
 use agc_machine::{InHand, Upcoming};
 use agc_processor::{Rupt, Timer};
 use agc_script::{Key, What};
-use agc_test_kit::{IDLE, RELAY_WORD};
+use agc_test_support::{IDLE, RELAY_WORD};
 use agc_word::Narrow;
 
 fn tells(rt: &impl Abort, machine: &Machine, next: Upcoming) {
     equal(rt, machine.upcoming(), next);
 }
 
-/// The order in hand at an address of the fixed banks 02 and 03 is told.
+/// Checks that `upcoming` returns the order in hand at an address of the fixed banks 02 and 03.
 fn order_told(rt: &impl Abort, machine: &Machine, address: u16, word: u16, extracode: bool) {
     bank_order_told(rt, machine, 0, address, word, extracode);
 }
 
-/// The order in hand in a bank is told.
+/// Checks that `upcoming` returns the order in hand in a bank.
 fn bank_order_told(
     rt: &impl Abort,
     machine: &Machine,
@@ -79,13 +79,13 @@ fn timers_told(rt: HostRuntime) {
     timer_told(&rt, &mut machine, 855, Timer::Time3);
 }
 
-/// The step of a timer is told, where no write comes before this cycle.
+/// Checks that `upcoming` returns the step of a timer at this cycle, if no write comes before.
 fn timer_told(rt: &impl Abort, machine: &mut Machine, cycle: u64, timer: Timer) {
     equal_at(rt, cycle, machine.next_write_before(cycle), Stepped::Quiet);
     tells(rt, machine, Upcoming::Timer(timer));
 }
 
-/// CA 4003 and TS FB bring bank 04 into the window, and TCF 2000 goes there, where no word is.
+/// CA 4003 and TS FB bring bank 04 into the window, and TCF 2000 goes there, where there is no word.
 #[test]
 fn switched_bank_told(rt: HostRuntime) {
     let listing = "
@@ -100,7 +100,7 @@ fn switched_bank_told(rt: HostRuntime) {
     bank_order_told(&rt, &machine, 0o04, 0o2000, 0o00000, false);
 }
 
-/// The stop address is reached after the order at 4000, and is told again after the stop.
+/// The stop address is reached after the order at 4000, and is returned again after the stop.
 #[test]
 fn stop_address_told(rt: HostRuntime) {
     let listing = "

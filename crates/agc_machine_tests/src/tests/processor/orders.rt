@@ -1,8 +1,7 @@
-//! Programs of a few orders: what they leave in registers and cells.
+//! Tests programs of a few orders: what they leave in registers and cells.
 use super::*;
 
-/// TS with overflow: the cell takes +0 (the overflow is corrected), A takes +1, one order is left
-/// out.
+/// TS with overflow: the cell gets +0 (the overflow is corrected), A gets +1, one order is skipped.
 #[test]
 fn ts_skips_on_overflow(rt: HostRuntime) {
     let listing = "
@@ -50,7 +49,7 @@ fn tc_through_q(rt: HostRuntime) {
     equal(&rt, registers(&processor), [0, 0, 0o000003, 0o4002]);
 }
 
-/// DCA and DAS: (0, 1) and (37777, 37777) make an overflow, which A keeps as +1.
+/// DCA and DAS: (0, 1) and (37777, 37777) overflow, which A keeps as +1.
 #[test]
 fn double_add(rt: HostRuntime) {
     let listing = "
@@ -71,8 +70,8 @@ fn double_add(rt: HostRuntime) {
     equal(&rt, registers(&processor), [0o000001, 0, 0, 0o4004]);
 }
 
-/// MSU of +0 and the cell 00001 gives 177776, and of 40000 and +0 the difference -16384: 137777.
-/// Between them DIM of that +1 gives -0.
+/// MSU of +0 and the cell 00001 gives 177776, and of 40000 and +0 the difference -16384: 137777. Between them DIM of
+/// that +1 gives -0.
 #[test]
 fn dim_and_modular_difference(rt: HostRuntime) {
     let listing = "
@@ -94,8 +93,8 @@ fn dim_and_modular_difference(rt: HostRuntime) {
     equal(&rt, processor.store.a().bits(), 0o137777);
 }
 
-/// With EB 0 the window names the registers: 1402 is Q and takes all of 040000, 1400 is A, so that
-/// ADS 1400 doubles the +1 that the overflow left.
+/// With EB 0 the window names the registers: 1402 is Q and takes all of 040000, 1400 is A, so ADS 1400 doubles the +1
+/// that the overflow left.
 #[test]
 fn window_with_bank_zero(rt: HostRuntime) {
     let listing = "
@@ -113,8 +112,8 @@ fn window_with_bank_zero(rt: HostRuntime) {
     equal(&rt, processor.channel_cell(2).bits(), 0o00000);
 }
 
-/// 37777 + 37777 is 077776. MASK A leaves it, WRITE 2 and READ 2 move it whole through Q, but MASK
-/// with -0 in a narrow cell corrects it to 37776.
+/// 37777 + 37777 is 077776. MASK A leaves it, WRITE 2 and READ 2 move it whole through Q, but MASK with -0 in a
+/// narrow cell corrects it to 37776.
 #[test]
 fn wide_logic(rt: HostRuntime) {
     let listing = "
@@ -136,8 +135,8 @@ fn wide_logic(rt: HostRuntime) {
     equal(&rt, registers(&processor), [0o077776, 0, 0o077776, 0o4012]);
 }
 
-/// TS A with overflow skips and leaves A. TS Z with the overflowed 044006 sets Z to 4006 after the
-/// skip, so that no order is left out there, and A keeps +1.
+/// TS A with overflow skips and leaves A. TS Z with the overflowed 044006 sets Z to 4006 after the skip, so no order
+/// is skipped there, and A keeps +1.
 #[test]
 fn ts_to_a_and_z_with_overflow(rt: HostRuntime) {
     let listing = "
@@ -172,8 +171,7 @@ fn index_changes_the_next_order(rt: HostRuntime) {
     equal(&rt, registers(&processor), [0o000003, 0, 0, 0o4006]);
 }
 
-/// The INDEX of the extracodes has twelve address bits (4007), and leaves the extracode state on:
-/// WRITE 0 becomes WRITE 10.
+/// The extracode INDEX has twelve address bits (4007), and leaves the extracode state on: WRITE 0 becomes WRITE 10.
 #[test]
 fn index_keeps_the_extracode_state(rt: HostRuntime) {
     let listing = "
@@ -194,7 +192,7 @@ fn index_keeps_the_extracode_state(rt: HostRuntime) {
     equal(&rt, registers(&processor), [0o012345, 0, 0, 0o4005]);
 }
 
-/// CA CYR takes the word that was poked, and turns it once more in its cell.
+/// CA CYR reads the poked word, and rotates it once more in its cell.
 #[test]
 fn reading_edits_again(rt: HostRuntime) {
     let listing = "

@@ -1,4 +1,4 @@
-//! The commands: what they say, and the numbers that they take.
+//! Tests the commands: what they mean, and the numbers that they accept.
 use super::*;
 
 #[test]
@@ -46,7 +46,7 @@ fn poke(cycle: u64, bank: u8, offset: u16, value: Narrow) -> Event {
     event(cycle, what)
 }
 
-/// All events from the first place on, the last one from its own, and none after it.
+/// The events from a place on: from the first, from the last, and past it.
 #[test]
 fn events_from_a_place(rt: HostRuntime) {
     let script = parse(&rt, b"1 raise 1\n2 raise 2");
@@ -67,7 +67,7 @@ fn pulse_kinds(rt: HostRuntime) {
     lists(&rt, b"0 pulse 45 shanc", &[pulse(0, 0o45, Pulse::Shanc)]);
 }
 
-/// The first and the last number of each range, and the ones beside them.
+/// The first and the last number of each range, and their neighbours.
 #[test]
 fn ranges(rt: HostRuntime) {
     accepts(

@@ -1,4 +1,4 @@
-//! Lines that stand for several events.
+//! Tests lines that stand for several events.
 use super::*;
 
 #[test]

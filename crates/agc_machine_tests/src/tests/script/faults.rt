@@ -1,4 +1,4 @@
-//! Refused scripts: which line, and which of its faults.
+//! Tests rejected scripts: which line is reported, and which of its faults.
 use super::*;
 
 #[test]
@@ -61,14 +61,14 @@ fn script_edges(rt: HostRuntime) {
     ends_with(&rt, " \r", None);
 }
 
-/// Looks that a line of 119 bytes and this end is refused for this, or accepted.
+/// Checks that a line of 119 bytes plus this end is rejected with this kind of fault, or accepted.
 fn ends_with(rt: &(impl AllocGlobal + Abort), end: &str, kind: Option<FaultKind>) {
     let blanks = repeated(rt, b" ", 111);
     let file = joined(rt, &[b"0 raise", &blanks, b"1", end.as_bytes()]);
     equal_at(rt, end, fault(rt, &file).map(|fault| fault.kind), kind);
 }
 
-/// Of two faults of a line the one that is told: the first in the list of kinds.
+/// If a line has two faults, the first in the list of kinds is reported.
 #[test]
 fn first_kind(rt: HostRuntime) {
     let long = joined(&rt, &[&[b'x'; 120], b"\xFF"]);
@@ -97,7 +97,7 @@ fn first_kind(rt: HostRuntime) {
     );
 }
 
-/// Of several faulty lines the first is told, whatever its kind.
+/// If several lines are faulty, the first is reported, whatever its kind.
 #[test]
 fn first_line(rt: HostRuntime) {
     refuses(
@@ -114,7 +114,7 @@ fn first_line(rt: HostRuntime) {
     );
 }
 
-/// Commands with too few words or too many, and words that are none of the grammar's.
+/// Commands with too few words or too many, and words that are not in the grammar.
 #[test]
 fn unknown_words(rt: HostRuntime) {
     for lines in [

@@ -1,8 +1,8 @@
-//! The tables of names and ranges, by the words of the grammar.
+//! Tests the tables of names and ranges against the words of the grammar.
 use super::*;
 use agc_script::{COUNTERS, Command, INTERRUPTS, direction_name, offsets};
 
-/// Each command by its name, with so many words; no other word names one.
+/// Each command by its name, with its number of words; no other word names a command.
 #[test]
 fn names_of_commands(rt: HostRuntime) {
     for (name, command, count) in [
@@ -22,7 +22,7 @@ fn names_of_commands(rt: HostRuntime) {
     equal(&rt, Pulse::Shanc.name(), "shanc");
 }
 
-/// The counters are 24 to 60 octal, interrupts are written in decimal, and bank 0 is poked from 10 on.
+/// Counters are 24 to 60 octal, interrupts are written in decimal, and bank 0 can be poked from 10 on.
 #[test]
 fn ranges_of_numbers(rt: HostRuntime) {
     equal(

@@ -1,4 +1,4 @@
-//! The keyboard: names and codes of its keys.
+//! Tests the keyboard: names and codes of its keys.
 use super::*;
 
 #[test]
@@ -30,7 +30,7 @@ fn keys_have_names_and_codes(rt: HostRuntime) {
     }
 }
 
-/// The key of a name has this code.
+/// Checks that the key with this name has this code.
 fn has_code(rt: &impl Abort, name: &str, code: u16) {
     let key = Key::from_name(name.as_bytes()).expect(rt, "a key");
     equal_at(rt, name, key.name(), name);

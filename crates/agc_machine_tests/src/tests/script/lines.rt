@@ -1,6 +1,6 @@
-//! How a file is cut into lines and words.
+//! Tests how a file is split into lines and words.
 use super::*;
-use agc_script::{next_line, next_word};
+use agc_word::{next_line, next_word};
 
 #[test]
 fn lines_and_words(rt: HostRuntime) {
@@ -26,7 +26,7 @@ fn lines_and_words(rt: HostRuntime) {
     );
 }
 
-/// Comments and blank lines are measured as all lines are, and looked at for bytes beyond ASCII.
+/// The length limit and the ASCII check also apply to comments and blank lines.
 #[test]
 fn comments_and_blanks(rt: HostRuntime) {
     let comment = repeated(&rt, b"#", 120);
@@ -45,7 +45,7 @@ fn comments_and_blanks(rt: HostRuntime) {
     );
 }
 
-/// The first line of a file without its end, and what stands after that.
+/// The first line of a file without its end, and the rest.
 #[test]
 fn first_lines(rt: HostRuntime) {
     has_first_line(&rt, b"one\ntwo\n", b"one", b"two\n");
@@ -66,7 +66,7 @@ fn has_first_line(rt: &impl Abort, file: &[u8], line: &[u8], rest: &[u8]) {
     equal_at(rt, file, next_line(file), Some((line, rest)));
 }
 
-/// The first word of a line, and what stands after it: only spaces and tabs divide words.
+/// The first word of a line, and the rest: only spaces and tabs separate words.
 #[test]
 fn first_words(rt: HostRuntime) {
     has_first_word(&rt, b"one two", b"one", b" two");

@@ -1,12 +1,12 @@
-//! The tape of live keys, and its merge with a script.
+//! Tests the tape of live keys, and its merge with a script.
 use super::*;
 
-/// The script with the keys of a tape.
+/// Returns the script with the keys of a tape.
 fn merge(rt: &(impl AllocGlobal + Abort), script: &Script, tape: &Tape) -> Script {
     script.merge(rt.alloc(), tape).ok().expect(rt, "room")
 }
 
-/// Looks that a script with the keys of a tape has these events.
+/// Checks that a script with the keys of a tape has these events.
 fn merges(rt: &(impl AllocGlobal + Abort), script: &Script, tape: &Tape, events: &[Event]) {
     has(rt, &merge(rt, script, tape), events);
 }
@@ -44,7 +44,7 @@ fn live_keys_replay_merge(rt: HostRuntime) {
     merges(&rt, &script, &tape, &both);
 }
 
-/// Keys before, between and after the events of a script, and without any.
+/// Keys before, between and after the events of a script, and a tape without keys.
 #[test]
 fn keys_between_events(rt: HostRuntime) {
     let mut tape = Tape::new(rt.alloc());

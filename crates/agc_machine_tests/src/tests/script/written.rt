@@ -1,9 +1,9 @@
-//! Scripts that grow, are joined, and are written down.
+//! Tests scripts that grow, are joined, and are printed.
 use super::*;
 use agc_script::push_what;
 
-/// A line for each event; numbers in octal without zeros in front, words in five digits, cycles and
-/// interrupts in decimal. An `every` is told event by event.
+/// A line for each event; numbers in octal without leading zeros, words in five digits, cycles and interrupts in
+/// decimal. An `every` is printed event by event.
 #[test]
 fn each_event_is_a_line(rt: HostRuntime) {
     let script = parse(
@@ -39,7 +39,7 @@ fn events_are_added_after_the_last(rt: HostRuntime) {
     has(&rt, &script, &want);
 }
 
-/// Each given event stands after the script's events of its cycle, and those of one cycle keep their
+/// Each injected event comes after the script's events of its cycle, and injected events of one cycle keep their
 /// order.
 #[test]
 fn given_events_come_after_those_of_their_cycle(rt: HostRuntime) {
