@@ -1,5 +1,4 @@
-//! The ring at work, and whole sessions, by the public calls of their libraries. They stand in a crate of their own,
-//! so that no library is proved a second time for them.
+//! Tests of sessions, the console's language and the DSKY in a terminal, through public calls.
 #![tactic(auto)]
 
 #[cfg(test)]

@@ -1,58 +1,54 @@
-//! The panel, the ring, command lines and sessions, by values and runs worked out by hand.
-ghost use Rattle.std.specs.Prelude.{◌≡◌, false};
-
-mod args;
-mod gate;
-mod panel;
-mod pipe;
+//! Tests of what is typed to and injected into a running machine, worked out by hand.
+mod answer;
+mod conversation;
+mod operator;
+mod picture;
+mod request;
 mod session;
-mod sessions;
-mod watch_spec;
-mod watcher;
-mod words;
 
-use agc_machine::Machine;
 use agc_script::Script;
+use agc_session::Session;
 use agc_store::Rope;
-use agc_test_kit::rope_file;
+use agc_test_support::rope_file;
+use std::fmt::Debug;
 use std::process::Abort;
-use std::sync::Wait;
-use std::thread::Threads;
 
-/// What runs the sessions of the tests.
-trait Host: AllocGlobal + Abort + Threads + Wait + Sync {}
-
-impl<H: AllocGlobal + Abort + Threads + Wait + Sync> Host for H {}
-
-/// The rope file of a listing. It is had or the test ends, and so are the values of the helpers beside it: a test that
-/// hands failures on takes the prover many times as long.
-fn file_of(rt: &(impl AllocGlobal + Abort), listing: &str) -> Vec<u8> {
-    rope_file(rt.alloc(), listing).expect(rt, "a good listing")
+/// Fails if two values differ, and prints both. It is proved once; an `assert_eq!` would be proved at each place.
+fn equal<T: Drop + PartialEq + Debug>(rt: &impl Abort, found: T, wanted: T) {
+    assert_eq!(rt; found, wanted);
 }
 
-/// The rope of a listing.
-fn rope_of(rt: &(impl AllocGlobal + Abort), listing: &str) -> Rope {
-    let file = file_of(rt, listing);
-    Rope::read(rt.alloc(), file.as_slice()).expect(rt, "a rope")
+/// The same for an input or an action, which is printed too.
+fn equal_at<R: Drop + Debug, T: Drop + PartialEq + Debug>(
+    rt: &impl Abort,
+    done: R,
+    found: T,
+    wanted: T,
+) {
+    assert_eq!(rt; found, wanted, "{done:?}");
 }
 
-/// The script of a text.
-fn script_of(rt: &(impl AllocGlobal + Abort), text: &[u8]) -> Script {
-    Script::parse(rt.alloc(), text).expect(rt, "a script")
-}
-
-/// The machine of a listing and a script at the start of a run up to a limit of cycles.
-fn machine_of(rt: &(impl AllocGlobal + Abort), listing: &str, script: Script, limit: u64) -> Machine
-    ensures { result.begun ≡ false }
-{
-    let machine = new_machine(rt, rope_of(rt, listing), script, limit);
-    assert!(rt; machine.fresh());
-    machine
-}
-
-/// The same of a rope. Nothing is promised of it, so that the promise above rests on `fresh` alone.
-fn new_machine(rt: &impl Abort, rope: Rope, script: Script, limit: u64) -> Machine {
-    Machine::new(rope, script, limit)
+/// Returns a session at cycle 0 with the rope of this listing and a script, or ends the test; so do the helpers
+/// below. A test that returned failures would take the prover many times as long.
+fn session_of(rt: &(impl AllocGlobal + Abort), listing: &str, script: &str, limit: u64) -> Session {
+    let bytes = rope_file(rt.alloc(), listing)
+        .ok()
+        .expect(rt, "a rope file");
+    let rope = Rope::read(rt.alloc(), bytes.as_slice())
+        .ok()
+        .expect(rt, "a rope");
+    let script = Script::parse(rt.alloc(), script.as_bytes())
+        .ok()
+        .expect(rt, "a script");
+    Session::new(rt.alloc(), rope, script, limit)
         .ok()
         .expect(rt, "the limit is in range")
+}
+
+/// Checks that a script was exported, and that this is its text.
+fn has_text(rt: &(impl AllocGlobal + Abort), told: Option<Script>, wanted: &str) {
+    let mut text = String::new(rt.alloc());
+    let script = told.expect(rt, "memory");
+    assert!(rt; script.push_text(&mut text).is_ok());
+    equal(rt, text.as_str(), wanted);
 }

@@ -1,101 +1,106 @@
-//! A session of each kind over memory: a run that stops, and a refusal; and the files of one.
-use super::{Host, file_of};
-use agc_options::{DONE, Options, REFUSED};
-use agc_pipe::Open;
-use agc_script::{FaultKind, ScriptFault, What};
-use agc_session::session;
-use agc_setup::{Refusal, read_rope, read_script};
-use agc_store::{RopeFault, RopeForm, Store};
-use agc_test_kit::RELAY_WORD;
+//! Tests sessions with small programs, worked out by hand. The numbers are octal, except for cycles.
+use super::{equal, equal_at, has_text, session_of};
+use agc_machine::{Stepped, Stop};
+use agc_script::{Key, What};
+use agc_session::{InjectFault, Session};
+use agc_test_support::IDLE;
+use agc_word::{ChannelWrite, Narrow};
 use std::process::Abort;
 
-/// The options of a run of ten cycles with its log.
-fn options(rt: &(impl AllocGlobal + Abort), slots: usize) -> Options {
-    let alloc = rt.alloc();
-    Options {
-        rope: String::from_str(alloc, "rope").expect(rt, "memory"),
-        script: String::from_str(alloc, "script").expect(rt, "memory"),
-        limit: 10,
-        slots,
-        watch: None,
-        log: true,
-        form: RopeForm::Classic,
-        until: None,
-        live: false,
-        spacing: 8533,
-    }
+/// Checks that the session accepts a key, or rejects it.
+#[tactic(auto, unfolding(agc_script::specs::Event::IsWhatInRange))]
+fn press(rt: &impl Abort, session: &mut Session, key: Key, wanted: Result<(), InjectFault>) {
+    equal_at(rt, key, session.inject(What::Key(key)), wanted);
 }
 
-/// The relay word is shown, and a ring of no slots refused.
-#[test]
-fn relay_word_shows_prog(rt: HostRuntime) {
-    let text = "PROG 12
-VERB __
-NOUN __
-R1 ______
-R2 ______
-R3 ______
-FLASH off
-LAMPS none
-STOP Limit CYCLE 10 WRITES 1
-3 010 54171
-";
-    let file = file_of(&rt, RELAY_WORD);
-    ends(&rt, 1, file.as_slice(), (DONE, text, ""));
-    ends(&rt, 0, file.as_slice(), (REFUSED, "", "agc: slots\n"));
+/// Runs the session to a cycle and presses a key there.
+fn press_at(rt: &impl Abort, session: &mut Session, cycle: u64, key: Key) {
+    session.go_to(cycle);
+    press(rt, session, key, Ok(()));
 }
 
-/// A session on a rope with a ring of so many slots ends with this status, and writes this to its two streams.
-fn ends(rt: &impl Host, slots: usize, mut rope: &[u8], (status, told, refused): (u8, &str, &str)) {
-    let (mut script, mut keys): (&[u8], &[u8]) = (b"", b"");
-    let mut out = Vec::new(rt.alloc());
-    let mut err = Vec::new(rt.alloc());
-    let options = options(rt, slots);
-    let ended = session(
-        rt,
-        rt.alloc(),
-        &options,
-        &mut rope,
-        &mut script,
-        &mut keys,
-        &Open,
-        &mut out,
-        &mut err,
-    );
-    let is_so = ended == status
-        && out.as_slice() == told.as_bytes()
-        && err.as_slice() == refused.as_bytes();
-    assert!(rt; is_so, "{slots} slots");
+/// Checks the text of the session's script.
+fn tells(rt: &(impl AllocGlobal + Abort), session: &Session, wanted: &str) {
+    has_text(rt, session.script(rt.alloc()), wanted);
 }
 
-/// A rope of one word, which stands at the start of bank 2 in a classic file, and one that ends within
-/// a word.
-#[test]
-fn a_rope_is_read(rt: HostRuntime) {
-    let mut file: &[u8] = &[0x30, 0x02];
-    let rope = read_rope(rt.alloc(), RopeForm::Classic, &mut file)
+/// Checks that the session is at this cycle.
+fn is_at(rt: &impl Abort, session: &Session, cycle: u64) {
+    equal(rt, session.machine().cycle(), cycle);
+}
+
+/// Rewinds the session to a cycle.
+fn back(rt: &(impl AllocGlobal + Abort), session: Session, cycle: u64) -> Session {
+    session
+        .rewind_to(rt.alloc(), cycle)
         .ok()
-        .expect(&rt, "a rope");
-    assert!(rt; Store::new(rope).fixed(2, 0).bits() == 0o14001);
-    let mut odd: &[u8] = &[0x30];
-    let refusal = read_rope(rt.alloc(), RopeForm::Classic, &mut odd).err();
-    assert!(rt; refusal == Some(Refusal::Rope(RopeFault::OddLength)));
+        .expect(rt, "memory")
 }
 
-/// A script of one event, and one whose second line is no event.
+/// The program jumps to itself, one cycle a turn. A key at 4 comes after the script's own event of 4.
 #[test]
-fn a_script_is_read(rt: HostRuntime) {
-    let mut file: &[u8] = b"7 raise 5\n";
-    let script = read_script(rt.alloc(), &mut file)
-        .ok()
-        .expect(&rt, "a script");
-    assert!(rt; script.len() == 1);
-    assert!(rt; script.at(0).cycle == 7 && script.at(0).what == What::Raise(5));
-    let mut faulty: &[u8] = b"7 raise 5\n8 lower 5\n";
-    let refusal = read_script(rt.alloc(), &mut faulty).err();
-    let fault = ScriptFault {
-        line: 2,
-        kind: FaultKind::UnknownWord,
+#[tactic(auto, unfolding(agc_script::specs::Event::IsWhatInRange))]
+fn what_is_given_is_told(rt: HostRuntime) {
+    let mut session = session_of(&rt, IDLE, "4 pro down\n9 pro up\n", 20);
+    session.go_to(4);
+    is_at(&rt, &session, 4);
+    press(&rt, &mut session, Key::Verb, Err(InjectFault::Unwanted));
+    equal(&rt, session.step(), Stepped::Quiet);
+    press(&rt, &mut session, Key::Verb, Ok(()));
+    equal(&rt, session.inject(What::Raise(9)), Ok(()));
+    let want = "4 pro down\n4 key VERB\n4 raise 9\n9 pro up\n";
+    tells(&rt, &session, want);
+    session.go_to(100);
+    equal(&rt, session.step(), Stepped::Stopped(Stop::Limit));
+    is_at(&rt, &session, 20);
+    press(&rt, &mut session, Key::Noun, Err(InjectFault::Unwanted));
+    tells(&rt, &session, want);
+}
+
+/// Rewinding to 6 retains the key of 2 and discards the one of 6; what is injected again is in the script again.
+/// Rewinding further discards what the first rewind retained.
+#[test]
+fn what_was_given_later_is_gone(rt: HostRuntime) {
+    let mut session = session_of(&rt, IDLE, "", 100);
+    let whole = "2 key 1\n6 key 2\n9 key 3\n";
+    press_at(&rt, &mut session, 2, Key::One);
+    press_at(&rt, &mut session, 6, Key::Two);
+    press_at(&rt, &mut session, 9, Key::Three);
+    tells(&rt, &session, whole);
+    let mut session = back(&rt, session, 6);
+    tells(&rt, &session, "2 key 1\n");
+    is_at(&rt, &session, 6);
+    press(&rt, &mut session, Key::Two, Ok(()));
+    press_at(&rt, &mut session, 9, Key::Three);
+    tells(&rt, &session, whole);
+    let session = back(&rt, session, 8);
+    tells(&rt, &session, "2 key 1\n6 key 2\n");
+    let session = back(&rt, session, 2);
+    tells(&rt, &session, "");
+}
+
+/// CA 4004, EXTEND, WRITE 10 of 54005, which shows digits in PROG; then a jump to itself. The write comes at cycle 3;
+/// rewinding to the start shows the blank panel again.
+#[test]
+fn the_panel_goes_back_too(rt: HostRuntime) {
+    let listing = "
+4000 34004 CA 4004
+4001 00006 EXTEND
+4002 01010 WRITE 10
+4003 14003 TCF 4003
+4004 54003";
+    let mut session = session_of(&rt, listing, "", 100);
+    let blank = session.panel().face();
+    let write = ChannelWrite {
+        cycle: 3,
+        channel: 0o10,
+        value: Narrow::with_bits(0o54003),
     };
-    assert!(rt; refusal == Some(Refusal::Script(fault)));
+    equal(&rt, session.go_on(50), Stepped::Wrote(write));
+    assert!(rt; session.panel().face() != blank);
+    equal(&rt, session.go_on(50), Stepped::Quiet);
+    is_at(&rt, &session, 50);
+    let session = back(&rt, session, 0);
+    is_at(&rt, &session, 0);
+    equal(&rt, session.panel().face(), blank);
 }

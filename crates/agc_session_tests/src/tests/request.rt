@@ -1,25 +1,25 @@
-//! Lines as they are said. What each asks for was worked by hand from the tables of commands and places.
+//! Tests how lines are parsed. The commands were worked out by hand from the tables of commands and places.
 use super::equal_at;
-use agc_executive::{Table, WatchFault, WatchSpec};
-use agc_names::NameTable;
-use agc_request::{Command, CommandFault, CommandName, Target, read_request};
+use agc_listing::Location;
+use agc_panel::{Table, WatchFault, WatchSpec};
+use agc_repl::{Breakpoint, Command, CommandFault, CommandName, parse_command};
 use agc_script::{FaultKind, Key, What};
-use agc_source_words::Location;
+use agc_symbols::SymbolTable;
 use agc_word::Narrow;
 use std::process::Abort;
 use std::str;
 
-/// Looks that a line asks for this, or has this fault, where these names are given.
+/// Checks that a line parses as this, or has this fault, with these symbols.
 fn reads(
     rt: &impl Abort,
-    names: &Option<NameTable>,
+    names: &Option<SymbolTable>,
     line: &[u8],
     wanted: Result<Option<Command>, CommandFault>,
 ) {
     equal_at(
         rt,
         str::from_utf8(line).ok(),
-        read_request(names, line),
+        parse_command(names, line),
         wanted,
     );
 }
@@ -36,8 +36,8 @@ fn refuses(rt: &impl Abort, line: &[u8], fault: CommandFault) {
     reads(rt, &None, line, Err(fault));
 }
 
-/// The run goes until a target, within so many cycles.
-fn asks_until(rt: &impl Abort, line: &[u8], what: Target, within: u64) {
+/// Checks that a line runs until a breakpoint, for at most this many cycles.
+fn asks_until(rt: &impl Abort, line: &[u8], what: Breakpoint, within: u64) {
     asks(rt, line, Command::Until { what, within });
 }
 
@@ -61,24 +61,34 @@ fn a_run_goes_until_a_place_a_write_or_a_cell(rt: HostRuntime) {
     asks_until(
         &rt,
         b"until 4071",
-        Target::Order(Location::Fixed(0o4071)),
+        Breakpoint::Order(Location::Fixed(0o4071)),
         1_000_000,
     );
     asks_until(
         &rt,
         b"until 02,4071 within 9",
-        Target::Order(Location::Fixed(0o4071)),
+        Breakpoint::Order(Location::Fixed(0o4071)),
         9,
     );
     asks_until(
         &rt,
         b"until E3,1400",
-        Target::Order(Location::Erasable(0o1400)),
+        Breakpoint::Order(Location::Erasable(0o1400)),
         1_000_000,
     );
-    asks_until(&rt, b"until write 10 within 0", Target::Write(0o10), 0);
-    asks_until(&rt, b"until cell E0,0100", Target::Cell(0o100), 1_000_000);
-    asks_until(&rt, b"until cell E0,1500", Target::Cell(0o100), 1_000_000);
+    asks_until(&rt, b"until write 10 within 0", Breakpoint::Write(0o10), 0);
+    asks_until(
+        &rt,
+        b"until cell E0,0100",
+        Breakpoint::Cell(0o100),
+        1_000_000,
+    );
+    asks_until(
+        &rt,
+        b"until cell E0,1500",
+        Breakpoint::Cell(0o100),
+        1_000_000,
+    );
     refuses(&rt, b"until cell 4071", CommandFault::NotErasable);
     refuses(&rt, b"until 1400", CommandFault::BadPlace);
     refuses(&rt, b"until write 1000", CommandFault::BadChannel);
@@ -98,14 +108,14 @@ fn a_run_goes_until_a_place_a_write_or_a_cell(rt: HostRuntime) {
 
 #[test]
 fn events_are_those_of_a_script(rt: HostRuntime) {
-    asks(&rt, b"key VERB", Command::Give(What::Key(Key::Verb)));
-    asks(&rt, b"pro down", Command::Give(What::Pro(true)));
-    asks(&rt, b"raise 10", Command::Give(What::Raise(10)));
+    asks(&rt, b"key VERB", Command::Inject(What::Key(Key::Verb)));
+    asks(&rt, b"pro down", Command::Inject(What::Pro(true)));
+    asks(&rt, b"raise 10", Command::Inject(What::Raise(10)));
     let value = Narrow::with_bits(0o77777);
     asks(
         &rt,
         b"input 32 77777",
-        Command::Give(What::Input {
+        Command::Inject(What::Input {
             channel: 0o32,
             value,
         }),
@@ -183,11 +193,12 @@ fn lines_have_120_bytes_of_ascii(rt: HostRuntime) {
     refuses(&rt, b"Quit", CommandFault::UnknownCommand);
 }
 
-/// COUNT stands in cell 1500 of bank 3, and 02,4071 is 56 words before 02,4161. Cells end at 3777, and the word `A+1` is a name.
+/// COUNT is cell 1500 of bank 3, and 02,4071 is 56 words before 02,4161. Cells end at 3777, and the word `A+1` is a
+/// name.
 #[test]
 fn a_name_stands_for_its_place(rt: HostRuntime) {
     let text = b"4071 LOOP\nE3,1500 COUNT\nE7,1777 END\n4100 A\n4200 A+1\n";
-    let names = NameTable::read(rt.alloc(), text).ok();
+    let names = SymbolTable::read(rt.alloc(), text).ok();
     goes_until(&rt, &names, b"until LOOP", 0o4071);
     goes_until(&rt, &names, b"until LOOP+56", 0o4161);
     goes_until(&rt, &names, b"until LOOP-1", 0o4070);
@@ -201,16 +212,16 @@ fn a_name_stands_for_its_place(rt: HostRuntime) {
     refuses(&rt, b"until LOOP", CommandFault::BadPlace);
 }
 
-/// A line with names asks for a run until the order at a place.
-fn goes_until(rt: &impl Abort, names: &Option<NameTable>, line: &[u8], place: u32) {
+/// Checks that a line with symbols runs until the order at a location.
+fn goes_until(rt: &impl Abort, names: &Option<SymbolTable>, line: &[u8], place: u32) {
     let command = Command::Until {
-        what: Target::Order(Location::Fixed(place)),
+        what: Breakpoint::Order(Location::Fixed(place)),
         within: 1_000_000,
     };
     reads(rt, names, line, Ok(Some(command)));
 }
 
-/// A line with names asks for so many cells.
-fn shows_cells(rt: &impl Abort, names: &Option<NameTable>, line: &[u8], first: u16, count: u16) {
+/// Checks that a line with symbols prints this many cells.
+fn shows_cells(rt: &impl Abort, names: &Option<SymbolTable>, line: &[u8], first: u16, count: u16) {
     reads(rt, names, line, Ok(Some(Command::Cells { first, count })));
 }

@@ -1,11 +1,11 @@
-//! Whole conversations: the texts were worked by hand from the programs and the cycles of their orders.
-use super::{equal, sitting_of};
-use agc_dialogue::converse;
-use agc_names::NameTable;
-use agc_test_kit::{DIVISION, EDRUPT, IDLE, RELAY_WORD};
+//! Tests whole conversations: the texts were worked out by hand from the programs and the cycles of their orders.
+use super::{equal, session_of};
+use agc_repl::run_repl;
+use agc_symbols::SymbolTable;
+use agc_test_support::{DIVISION, EDRUPT, IDLE, RELAY_WORD};
 use std::process::Abort;
 
-/// Looks that this is answered to a text.
+/// Checks the answers to a text.
 fn answers(
     rt: &(impl AllocGlobal + Abort),
     listing: &str,
@@ -16,25 +16,25 @@ fn answers(
     answers_with(rt, &None, listing, script, said, wanted);
 }
 
-/// Looks that this is answered to a text, with names.
+/// Checks the answers to a text, with symbols.
 fn answers_with(
     rt: &(impl AllocGlobal + Abort),
-    names: &Option<NameTable>,
+    names: &Option<SymbolTable>,
     listing: &str,
     script: &str,
     said: &[u8],
     wanted: &str,
 ) {
-    let sitting = sitting_of(rt, listing, script, 1000);
+    let session = session_of(rt, listing, script, 1000);
     let mut input = said;
     let mut output = Vec::new(rt.alloc());
-    let ended = converse(rt.alloc(), sitting, names, &mut input, &mut output);
+    let ended = run_repl(rt.alloc(), session, names, &mut input, &mut output);
     equal(rt, ended, Ok(()));
     let text = String::from_utf8(output).ok().expect(rt, "ASCII");
     equal(rt, text.as_str(), wanted);
 }
 
-/// Parts of a text in one.
+/// Joins the parts of a text.
 fn joined(rt: &(impl AllocGlobal + Abort), parts: &[&[u8]]) -> Vec<u8> {
     let mut whole = Vec::new(rt.alloc());
     for part in parts {
@@ -127,10 +127,10 @@ fn a_last_line_needs_no_line_feed(rt: HostRuntime) {
     answers(&rt, IDLE, "", b"# nothing\r\ngo 5", "at 0\nat 5\n");
 }
 
-/// The write's order goes by OUT, one word beyond it.
+/// The order that writes is one word past OUT.
 #[test]
 fn orders_show_the_names_of_their_places(rt: HostRuntime) {
-    let names = NameTable::read(rt.alloc(), b"4001 OUT\n4003 END\n").ok();
+    let names = SymbolTable::read(rt.alloc(), b"4001 OUT\n4003 END\n").ok();
     let said = b"until OUT+1\nnext\nstep\nuntil NONE\nuntil END within 0\n";
     let wanted = "came yes
 at 3

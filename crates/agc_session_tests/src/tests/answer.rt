@@ -1,17 +1,17 @@
-//! Lines that answer, as a person or a program reads them.
+//! Tests the lines that the console answers with, as a person or a program reads them.
 use super::equal;
-use agc_dialogue::{
-    push_came_line, push_cell_lines, push_channel_line, push_end_line, push_error_line,
-    push_fault_line, push_next_line, push_registers_line, push_write_line, push_writes_line,
-};
 use agc_machine::{Stop, Upcoming};
-use agc_request::{CommandFault, CommandName, push_help};
+use agc_repl::{
+    CommandFault, CommandName, push_cell_lines, push_channel_line, push_end_line, push_error_line,
+    push_fault_line, push_help, push_hit_line, push_write_line, push_writes_line,
+};
 use agc_store::{Addr, Rope, Store};
+use agc_trace::{push_next_line, push_registers_line};
 use agc_word::{ChannelWrite, Narrow, widen};
 use std::alloc::AllocError;
 use std::process::Abort;
 
-/// A memory with A -1, a first word of bank 3 and a last cell.
+/// Returns a memory with A -1, a first word of bank 3 and a last cell.
 fn some_memory(rt: &(impl AllocGlobal + Abort)) -> Store {
     let rope = Rope::read(rt.alloc(), &[0, 0]).ok().expect(rt, "a rope");
     let mut store = Store::new(rope);
@@ -22,7 +22,7 @@ fn some_memory(rt: &(impl AllocGlobal + Abort)) -> Store {
     store
 }
 
-/// There was memory for a line.
+/// Checks that there was memory for a line.
 fn has_room(rt: &impl Abort, pushed: Result<(), AllocError>) {
     assert!(rt; pushed.is_ok());
 }
@@ -64,8 +64,8 @@ fn writes_and_words_have_their_digits(rt: HostRuntime) {
         push_channel_line(&mut text, 0o777, Narrow::with_bits(0)),
     );
     has_room(&rt, push_writes_line(&mut text, 1));
-    has_room(&rt, push_came_line(&mut text, true));
-    has_room(&rt, push_came_line(&mut text, false));
+    has_room(&rt, push_hit_line(&mut text, true));
+    has_room(&rt, push_hit_line(&mut text, false));
     has_room(&rt, push_next_line(&mut text, Upcoming::Stop(Stop::Limit)));
     let wanted = "write 12 011 04000
 channel 777 00000

@@ -1,7 +1,7 @@
-//! Pictures of a panel that was worked out by hand. The words of the writes are octal.
-use super::{equal, sitting_of};
-use agc_picture::{Cap, Ink, Size, View, push_picture};
+//! Tests pictures of a panel that was worked out by hand. The words of the writes are octal.
+use super::{equal, session_of};
 use agc_script::Key;
+use agc_tui::{Button, ColorMode, Size, View, render};
 use std::process::Abort;
 
 /// Writes relay words for PROG 12, for +1 and then 9 in R1, and then lights COMP ACTY, TEMP and the flash.
@@ -25,24 +25,22 @@ static SHOWS: &str = "
 4023 00052
 ";
 
-/// The picture after these writes, which take five cycles each, in the light half of the flash.
+/// Returns the picture after these writes, which take five cycles each, in the lit half of the flash.
 fn picture(rt: &(impl AllocGlobal + Abort), size: Size) -> String {
-    let mut sitting = sitting_of(rt, SHOWS, "", 100);
-    sitting.go_to(20);
+    let mut session = session_of(rt, SHOWS, "", 100);
+    session.go_to(20);
     let view = View {
         size,
-        ink: Ink::Plain,
-        is_dark: false,
+        color: ColorMode::Plain,
+        blink_off: false,
         pressed: None,
     };
     let mut text = String::new(rt.alloc());
-    push_picture(&mut text, view, &sitting)
-        .ok()
-        .expect(rt, "memory");
+    render(&mut text, view, &session).ok().expect(rt, "memory");
     text
 }
 
-/// The text has these lines, from a first one on.
+/// Checks that a text has these lines from line `first` on.
 fn has_lines(rt: &(impl AllocGlobal + Abort), text: &str, first: usize, lines: &[&str]) {
     for (line, want) in text.lines().skip(first).zip(lines.iter()) {
         assert_eq!(rt; line, *want);
@@ -50,8 +48,8 @@ fn has_lines(rt: &(impl AllocGlobal + Abort), text: &str, first: usize, lines: &
     assert!(rt; first.saturating_add(lines.len()) <= text.lines().count());
 }
 
-/// A line high, digits are as the panel prints them; a lamp that is on has a mark. The keyboard stands below an empty
-/// line.
+/// At a height of one line, digits look as the panel prints them, and a lamp that is on has a mark. The keyboard
+/// comes below an empty line.
 #[test]
 fn small_face(rt: HostRuntime) {
     let text = picture(&rt, Size::Small);
@@ -69,7 +67,7 @@ fn small_face(rt: HostRuntime) {
     equal(&rt, text.as_str().lines().count(), 12);
 }
 
-/// Three lines high, digits and signs are made of bars.
+/// At a height of three lines, digits and signs are made of bars.
 #[test]
 fn large_face(rt: HostRuntime) {
     let text = picture(&rt, Size::Large);
@@ -93,8 +91,8 @@ fn large_face(rt: HostRuntime) {
 /// Keys are typed by the bytes that the page names, and by no other.
 #[test]
 fn bytes_type_keys(rt: HostRuntime) {
-    assert_eq!(rt; Cap::typed_by(b'v'), Some(Cap::Coded(Key::Verb)));
-    assert_eq!(rt; Cap::typed_by(b'\r'), Some(Cap::Coded(Key::Enter)));
-    assert_eq!(rt; Cap::typed_by(b'p'), Some(Cap::Pro));
-    assert_eq!(rt; Cap::typed_by(b'V'), None);
+    assert_eq!(rt; Button::from_byte(b'v'), Some(Button::Coded(Key::Verb)));
+    assert_eq!(rt; Button::from_byte(b'\r'), Some(Button::Coded(Key::Enter)));
+    assert_eq!(rt; Button::from_byte(b'p'), Some(Button::Pro));
+    assert_eq!(rt; Button::from_byte(b'V'), None);
 }

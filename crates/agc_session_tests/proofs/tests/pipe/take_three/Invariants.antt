@@ -1,5 +1,0 @@
-use Rattle.std.proofs.Common.{◌≡◌}
-use Rattle.agc_session_tests.proofs.tests.pipe.take_three.Given as goal
-
-abbrev pub invariant-loop-cycle : goal.invariant-loop-cycle
-invariant-loop-cycle g l = l.receiver.ring ≡ l.initial.receiver.ring
