@@ -1,5 +1,4 @@
-//! Worked listings, traces, comparisons and explanations, by the public calls of the libraries of `agc-study`. They
-//! stand in a crate of their own, so that no library is proved a second time for them.
+//! Tests of what `agc-study` does, through public calls.
 #![tactic(auto)]
 
 #[cfg(test)]

@@ -1,4 +1,4 @@
-//! Listings, traces, counts, comparisons, films and explanations, worked out by hand.
+//! Tests of listings, traces, profiles, comparisons, films and reports, worked out by hand.
 mod check;
 mod compare;
 mod count;
@@ -15,15 +15,15 @@ mod trace;
 use agc_machine::Machine;
 use agc_script::Script;
 use agc_store::Rope;
-use agc_test_kit::rope_file;
+use agc_test_support::rope_file;
 use agc_trace::{Only, Selection};
 use std::fmt::Debug;
 use std::process::Abort;
 
-// What the tests want is had or the test ends, and a row of a test is one call: a test that hands failures on, or
-// asserts much by itself beside values that are dropped, takes the prover many times as long.
+// The helpers end the test if a value is missing, and each row of a test is one call: a test that returned failures,
+// or that asserted much by itself beside values that are dropped, would take the prover many times as long.
 
-/// The rope of a listing.
+/// Returns the rope of a listing.
 fn rope_of(rt: &(impl AllocGlobal + Abort), listing: &str) -> Rope {
     let bytes = rope_file(rt.alloc(), listing)
         .ok()
@@ -33,7 +33,7 @@ fn rope_of(rt: &(impl AllocGlobal + Abort), listing: &str) -> Rope {
         .expect(rt, "a rope")
 }
 
-/// The machine of a listing and a script at the start of a run up to a limit of cycles.
+/// Returns the machine of a listing and a script at the start of a run up to a limit of cycles.
 fn machine_of(rt: &(impl AllocGlobal + Abort), listing: &str, script: &str, limit: u64) -> Machine {
     let script = Script::parse(rt.alloc(), script.as_bytes())
         .ok()
@@ -43,7 +43,7 @@ fn machine_of(rt: &(impl AllocGlobal + Abort), listing: &str, script: &str, limi
         .expect(rt, "the limit is in range")
 }
 
-/// What is selected of a trace: some or all of its lines in a range of cycles.
+/// Returns a selection of trace lines: some or all lines in a range of cycles.
 fn between(rt: &impl AllocGlobal, from: u64, to: u64, only: Option<Only>) -> Selection {
     Selection {
         from,
@@ -57,32 +57,32 @@ fn between(rt: &impl AllocGlobal, from: u64, to: u64, only: Option<Only>) -> Sel
     }
 }
 
-/// A text of its own.
+/// Returns an owned copy of a text.
 fn owned(rt: &(impl AllocGlobal + Abort), text: &str) -> String {
     String::from_str(rt.alloc(), text).ok().expect(rt, "memory")
 }
 
-/// So many times this byte.
+/// Returns `times` copies of this byte.
 fn repeated(rt: &(impl AllocGlobal + Abort), byte: u8, times: usize) -> Vec<u8> {
     vec![in rt.alloc(); byte; times].ok().expect(rt, "memory")
 }
 
-/// These texts, one after another.
+/// Joins these texts.
 fn joined(rt: &(impl AllocGlobal + Abort), texts: &[&str]) -> String {
     texts.concat(rt.alloc()).ok().expect(rt, "memory")
 }
 
-/// Looks that both are the same, in the row that this names.
+/// Checks that two values are equal, in the named row.
 fn same<T: PartialEq + Debug + Drop>(rt: &impl Abort, told: T, wanted: T, row: &str) {
     assert_eq!(rt; told, wanted, "{row}");
 }
 
-/// Looks that this holds, in the row that this names.
+/// Checks a condition, in the named row.
 fn holds(rt: &impl Abort, it: bool, row: &str) {
     assert!(rt; it, "{row}");
 }
 
-/// Looks that these are the lines of a text.
+/// Checks the lines of a text.
 fn has_lines(rt: &impl Abort, text: &str, lines: &[&str]) {
     let mut told = text.lines();
     for line in lines {

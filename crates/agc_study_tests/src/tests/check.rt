@@ -1,4 +1,4 @@
-//! What is told of files, worked by hand.
+//! Tests the reports of `check`, worked out by hand.
 mod grammar;
 
 use super::{joined, repeated, same};
@@ -6,7 +6,7 @@ use agc_check::{
     Report, RopeHoldings, ScriptHoldings, Span, check, check_keys, check_listing, holdings_of_rope,
     holdings_of_script, nearest,
 };
-use agc_rope_listing::weave;
+use agc_listing::weave;
 use agc_script::Script;
 use agc_store::{Rope, RopeForm};
 use std::process::Abort;
@@ -14,7 +14,7 @@ use std::process::Abort;
 /// CA 4004 and EXTEND at 4000 and 4001.
 static ROPE: [u8; 4] = [0x70, 0x08, 0x00, 0x0C];
 
-/// What is told of that rope.
+/// The report on that rope.
 const HOLDS: &str = "rope: words 2, banks 1
     at these interrupt vectors stands +0, and a run goes astray there: 4004 4010 4014 4020 4024 4030 4034 4040 4044 4050
 ";
@@ -25,20 +25,20 @@ fn report(rt: &(impl AllocGlobal + Abort), form: RopeForm, rope: &[u8], script: 
         .expect(rt, "memory")
 }
 
-/// Looks that a report has this text, and whether it finds no fault.
+/// Checks the text of a report, and whether it finds no fault.
 fn reads(rt: &impl Abort, report: &Report, text: &str, is_sound: bool) {
     same(rt, report.text.as_str(), text, "text");
     same(rt, report.is_sound, is_sound, text);
 }
 
-/// Looks that this is told of a script beside a sound rope, after what the rope holds.
+/// Checks the report on a script beside a sound rope, after the report on the rope.
 fn told(rt: &(impl AllocGlobal + Abort), script: &[u8], text: &str, is_sound: bool) {
     let report = report(rt, RopeForm::Classic, ROPE.as_slice(), script);
     let wanted = joined(rt, &[HOLDS, text]);
     reads(rt, &report, wanted.as_str(), is_sound);
 }
 
-/// Looks that this is told of each of these scripts.
+/// Checks the report on each of these scripts.
 fn tells(rt: &(impl AllocGlobal + Abort), scripts: &[(&[u8], &str)]) {
     for (script, text) in scripts {
         told(rt, script, text, text.starts_with("script: "));
@@ -208,7 +208,7 @@ fn numbers(rt: HostRuntime) {
     );
 }
 
-/// The numbers of a command after `every`: the cycles before it are none of them.
+/// The numbers of a command after `every`: the cycles before it are not among them.
 #[test]
 fn numbers_after_every(rt: HostRuntime) {
     tells(
@@ -253,12 +253,12 @@ fn a_long_line_is_cut(rt: HostRuntime) {
     told(&rt, script.as_slice(), text.as_str(), false);
 }
 
-/// Looks that a rope is refused with this text, beside a script without events.
+/// Checks that a rope is rejected with this text, beside a script without events.
 fn refuses(rt: &(impl AllocGlobal + Abort), form: RopeForm, rope: &[u8], text: &str) {
     reads(rt, &report(rt, form, rope, b""), text, false);
 }
 
-/// A rope at fault does not hide what is told of the script.
+/// A faulty rope does not hide the report on the script.
 #[test]
 fn ropes_at_fault(rt: HostRuntime) {
     let long = repeated(&rt, 0, 73730);
@@ -293,7 +293,7 @@ fn ropes_at_fault(rt: HostRuntime) {
 static SERVED: &str =
     "4004 50017\n4010 50017\n4014 50017\n4020 50017\n4024 50017\n4030 50017\n4034 50017\n4040 50017\n4044 50017\n4050 50017\n";
 
-/// Looks that the rope of a text holds this in both forms, beside a script without events.
+/// Checks the report on the rope of a text in both forms, beside a script without events.
 fn rope_holds(rt: &(impl AllocGlobal + Abort), text: &str, told: &str) {
     let wanted = joined(rt, &[told, "script: events 0\n"]);
     for form in [RopeForm::Classic, RopeForm::Parity] {
@@ -305,8 +305,8 @@ fn rope_holds(rt: &(impl AllocGlobal + Abort), text: &str, told: &str) {
     }
 }
 
-/// A rope with a word at each vector is told without a remark. Words beside the vectors are at none of them, nor are
-/// those of other banks; a word of +0 is as no word. Whatever the vectors hold, the file is sound.
+/// A rope with a word at each vector gets no remark. Words beside the vectors do not count, nor do words of other
+/// banks; a word of +0 counts as no word. Whatever the vectors hold, the file is sound.
 #[test]
 fn vectors_without_an_order(rt: HostRuntime) {
     for (text, told) in [
@@ -356,7 +356,7 @@ fn nearest_names(rt: HostRuntime) {
         (b"verb".as_slice(), names[0]),
         (b"NUN".as_slice(), names[1]),
         (b"CLEAR".as_slice(), names[2]),
-        // two edits from each of the first two: the first one is told
+        // two edits from each of the first two: the first one is suggested
         (b"VOUB".as_slice(), names[0]),
     ] {
         let found = nearest(rt.alloc(), word, names.as_slice());
@@ -364,13 +364,13 @@ fn nearest_names(rt: HostRuntime) {
     }
 }
 
-/// Looks that this is told of live keys.
+/// Checks the report on live keys.
 fn keys_tell(rt: &(impl AllocGlobal + Abort), keys: &[u8], text: &str) {
     let report = check_keys(rt.alloc(), keys).ok().expect(rt, "memory");
     reads(rt, &report, text, !text.contains("BadKey"));
 }
 
-/// Texts of live keys: how many they name, or the first word that is no key's.
+/// Texts of live keys: how many keys they name, or the first word that is not a key.
 #[test]
 fn key_texts(rt: HostRuntime) {
     let texts: [(&[u8], &str); 6] = [
@@ -398,7 +398,7 @@ fn key_texts(rt: HostRuntime) {
     }
 }
 
-/// Of a word of any length the first 120 bytes are told.
+/// Only the first 120 bytes of a word are printed.
 #[test]
 fn a_long_key_is_cut(rt: HostRuntime) {
     let keys = repeated(&rt, b'R', 1000);
@@ -414,13 +414,13 @@ fn a_long_key_is_cut(rt: HostRuntime) {
     keys_tell(&rt, keys.as_slice(), text.as_str());
 }
 
-/// Looks that this is told of the text of a rope.
+/// Checks the report on the text of a rope.
 fn listing_tells(rt: &(impl AllocGlobal + Abort), listing: &[u8], text: &str) {
     let report = check_listing(rt.alloc(), listing).ok().expect(rt, "memory");
     reads(rt, &report, text, text == "text: no fault\n");
 }
 
-/// Texts for `weave`: no fault, or the line and the word at fault.
+/// Texts for `weave`: no fault, or the faulty line and word.
 #[test]
 fn listings(rt: HostRuntime) {
     let texts: [(&[u8], &str); 12] = [
@@ -469,7 +469,7 @@ fn listings(rt: HostRuntime) {
     }
 }
 
-/// What is told of the last line of a source: a sentence, and the word at fault.
+/// Returns the report on the last line of a source: a sentence, and the faulty word.
 fn pointing(rt: &(impl AllocGlobal + Abort), source: &str, sentence: &str, word: &str) -> String {
     let line = source.lines().last().unwrap_or("");
     let number = source.lines().count();
@@ -478,7 +478,7 @@ fn pointing(rt: &(impl AllocGlobal + Abort), source: &str, sentence: &str, word:
         .expect(rt, "memory")
 }
 
-/// Looks that this is told of the last line of each of these sources.
+/// Checks the report on the last line of each of these sources.
 fn points(rt: &(impl AllocGlobal + Abort), sources: &[(&str, &str, &str)]) {
     for (source, sentence, word) in sources {
         let wanted = pointing(rt, source, sentence, word);

@@ -1,14 +1,14 @@
-//! Runs of small programs side by side, worked out by hand. The numbers are octal, but for cycles.
+//! Tests comparisons of small programs, worked out by hand. The numbers are octal, except for cycles.
 use super::{has_lines, machine_of};
-use agc_compare::{SideNames, compare, push_comparison};
+use agc_diff::{SideNames, compare, push_comparison};
+use agc_io::NoProgress;
 use agc_machine::Machine;
-use agc_progress::Untold;
 use std::alloc::{AllocError, Global};
 use std::process::Abort;
 
-/// The report of two runs.
+/// Returns the report on two runs.
 fn report_of(alloc: Global, left: &mut Machine, right: &mut Machine) -> Result<String, AllocError> {
-    let comparison = compare(alloc, left, right, &mut Untold)?;
+    let comparison = compare(alloc, left, right, &mut NoProgress)?;
     let names = SideNames {
         left: &None,
         right: &None,
@@ -18,7 +18,7 @@ fn report_of(alloc: Global, left: &mut Machine, right: &mut Machine) -> Result<S
     Ok(text)
 }
 
-/// The report of the runs of two listings up to cycle 8, each with its script.
+/// Returns the report on the runs of two listings up to cycle 8, each with its script.
 fn report(rt: &(impl AllocGlobal + Abort), left: (&str, &str), right: (&str, &str)) -> String {
     let mut left = machine_of(rt, left.0, left.1, 8);
     let mut right = machine_of(rt, right.0, right.1, 8);
@@ -27,7 +27,7 @@ fn report(rt: &(impl AllocGlobal + Abort), left: (&str, &str), right: (&str, &st
         .expect(rt, "memory")
 }
 
-/// Looks that these are the lines of the report of two such runs.
+/// Checks the lines of the report on two such runs.
 fn tells(rt: &(impl AllocGlobal + Abort), left: (&str, &str), right: (&str, &str), lines: &[&str]) {
     has_lines(rt, report(rt, left, right).as_str(), lines);
 }
@@ -100,8 +100,8 @@ static INHIBITED: &str = "
 4004 00001
 ";
 
-/// INHINT takes the place of RELINT after the first order: both take one cycle, and only the lines
-/// tell them apart. The orders begin at 0, 2, 3, 4, 5, 6 and 7.
+/// INHINT replaces RELINT after the first order: both take one cycle, and only the lines differ. The orders begin at
+/// 0, 2, 3, 4, 5, 6 and 7.
 #[test]
 fn another_order(rt: HostRuntime) {
     tells(
@@ -144,9 +144,9 @@ static CALLS_LATER: &str = "
 4010 14010 TCF 4010
 ";
 
-/// Six orders of one cycle are the same, of which the last five are told. Both runs then stand at 4010, each with
-/// another address to return to in Q. The script's cells are the last one below the window, and the first and the
-/// last one of a bank in it.
+/// Six one-cycle orders are the same, and the last five are printed. Then both runs are at 4010, each with another
+/// return address in Q. The script's cells are the last one below the window, and the first and the last one of a
+/// bank in it.
 #[test]
 fn registers_and_cells(rt: HostRuntime) {
     let left = (

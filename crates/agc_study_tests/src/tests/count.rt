@@ -1,8 +1,7 @@
-//! Counts of a small program, worked out by hand.
+//! Tests the profile of a small program, worked out by hand.
 use super::{machine_of, same};
-use agc_count::{Counts, Tally, count};
-use agc_count_text::{Layout, push_count};
-use agc_progress::Untold;
+use agc_io::NoProgress;
+use agc_profile::{Layout, Profile, Tally, count, push_profile};
 use agc_trace::Span;
 use std::process::Abort;
 
@@ -15,7 +14,7 @@ static WRITES: &str = "
 4004 54171 a relay word: PROG
 ";
 
-/// Reads two words by DCA, counts a cell on, stores A in another, and waits.
+/// Reads two words by DCA, increments a cell, stores A in another, and waits.
 static READS: &str = "
 4000 00006 EXTEND
 4001 34010 DCA 4010, lower word
@@ -26,15 +25,15 @@ static READS: &str = "
 4010 00002
 ";
 
-/// What is counted of a run of a listing up to 10, in a span of cycles.
-fn counted(rt: &(impl AllocGlobal + Abort), listing: &str, from: u64, to: u64) -> Counts {
+/// Returns the profile of a run of a listing up to 10, in a range of cycles.
+fn counted(rt: &(impl AllocGlobal + Abort), listing: &str, from: u64, to: u64) -> Profile {
     let mut machine = machine_of(rt, listing, "", 10);
-    count(rt.alloc(), &mut machine, Span { from, to }, &mut Untold)
+    count(rt.alloc(), &mut machine, Span { from, to }, &mut NoProgress)
         .ok()
         .expect(rt, "memory")
 }
 
-/// The same in print.
+/// Returns the same in print.
 fn printed(
     rt: &(impl AllocGlobal + Abort),
     layout: Layout,
@@ -45,7 +44,7 @@ fn printed(
     let counts = counted(rt, listing, from, to);
     let machine = machine_of(rt, listing, "", 10);
     let mut text = String::new(rt.alloc());
-    push_count(&mut text, layout, false, &counts, machine.store())
+    push_profile(&mut text, layout, false, &counts, machine.store())
         .ok()
         .expect(rt, "memory");
     text

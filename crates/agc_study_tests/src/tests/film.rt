@@ -1,34 +1,34 @@
-//! Films of small programs, worked out by hand. The numbers are octal, but for cycles.
+//! Tests films of small programs, worked out by hand. The numbers are octal, except for cycles.
 use super::progress::was_told;
 use super::{has_lines, machine_of, owned, same};
-use agc_film::{
-    Button, Part, Press, Reel, RunFiles, film, first_difference, push_film, push_film_pair,
-};
+use agc_io::NoProgress;
 use agc_machine::Stop;
-use agc_progress::Untold;
 use agc_script::Key;
-use agc_test_kit::Told;
+use agc_test_support::RecordingProgress;
+use agc_timeline::{
+    Button, KeyEvent, Part, Recording, RunFiles, film, first_difference, push_film, push_film_pair,
+};
 use std::process::Abort;
 
-/// The reel of the run of a listing with a script, up to a limit of cycles.
-fn reel_of(rt: &(impl AllocGlobal + Abort), listing: &str, script: &str, limit: u64) -> Reel {
+/// Records the run of a listing with a script, up to a limit of cycles.
+fn reel_of(rt: &(impl AllocGlobal + Abort), listing: &str, script: &str, limit: u64) -> Recording {
     let mut machine = machine_of(rt, listing, script, limit);
-    film(rt.alloc(), &mut machine, Part::whole(), &mut Untold)
+    film(rt.alloc(), &mut machine, Part::whole(), &mut NoProgress)
         .ok()
         .expect(rt, "memory")
 }
 
-/// The reel of a part of PROG's run, whose limit is 20.
-fn part_of(rt: &(impl AllocGlobal + Abort), from: u64, to: u64) -> Reel {
+/// Records a part of PROG's run, whose limit is 20.
+fn part_of(rt: &(impl AllocGlobal + Abort), from: u64, to: u64) -> Recording {
     let mut machine = machine_of(rt, PROG, "1 pro down\n7 pro up\n15 pro down\n", 20);
-    film(rt.alloc(), &mut machine, Part { from, to }, &mut Untold)
+    film(rt.alloc(), &mut machine, Part { from, to }, &mut NoProgress)
         .ok()
         .expect(rt, "memory")
 }
 
-/// Looks that a reel has these two frames, which may be one, at its ends.
-fn begins_and_ends(rt: &impl Abort, reel: &Reel, first: u64, last: u64) {
-    let frames = reel.frames.as_slice();
+/// Checks the first and the last frame of a recording, which may be the same.
+fn begins_and_ends(rt: &impl Abort, recording: &Recording, first: u64, last: u64) {
+    let frames = recording.frames.as_slice();
     let cycles = (
         frames.first().map(|frame| frame.cycle),
         frames.last().map(|frame| frame.cycle),
@@ -36,13 +36,13 @@ fn begins_and_ends(rt: &impl Abort, reel: &Reel, first: u64, last: u64) {
     same(rt, cycles, (Some(first), Some(last)), "ends");
 }
 
-/// Looks that a reel has so many frames, and tells of this stop and this cycle at its end.
-fn stops(rt: &impl Abort, reel: &Reel, frames: usize, stop: Option<Stop>, cycle: u64) {
-    let told = (reel.frames.len(), reel.stop, reel.cycle);
+/// Checks the number of frames of a recording, and its stop and cycle at the end.
+fn stops(rt: &impl Abort, recording: &Recording, frames: usize, stop: Option<Stop>, cycle: u64) {
+    let told = (recording.frames.len(), recording.stop, recording.cycle);
     same(rt, told, (frames, stop, cycle), "stop");
 }
 
-/// Two files of these names.
+/// Returns two files with these names.
 fn files(rt: &(impl AllocGlobal + Abort), rope: &str, script: &str) -> RunFiles {
     RunFiles {
         rope: owned(rt, rope),
@@ -50,27 +50,32 @@ fn files(rt: &(impl AllocGlobal + Abort), rope: &str, script: &str) -> RunFiles 
     }
 }
 
-/// The page of a reel.
-fn page_of(rt: &(impl AllocGlobal + Abort), limit: u64, files: &RunFiles, reel: &Reel) -> String {
+/// Returns the page of a recording.
+fn page_of(
+    rt: &(impl AllocGlobal + Abort),
+    limit: u64,
+    files: &RunFiles,
+    recording: &Recording,
+) -> String {
     let mut page = String::new(rt.alloc());
-    push_film(&mut page, limit, files, reel)
+    push_film(&mut page, limit, files, recording)
         .ok()
         .expect(rt, "memory");
     page
 }
 
-/// Looks that these are the lines of a page's runs.
+/// Checks the lines of a page's runs.
 fn shows(rt: &impl Abort, page: &str, wanted: &[&str]) {
     has_lines(rt, blocks(rt, page), wanted);
 }
 
-/// Looks that a page has its first and its last lines.
+/// Checks that a page has its first and its last lines.
 fn is_whole(rt: &impl Abort, page: &str) {
     assert!(rt; page.starts_with("<!doctype html>\n"));
     assert!(rt; page.ends_with("</body>\n</html>\n"));
 }
 
-/// The page without what stands before and after its runs: from the first block to the last one.
+/// Returns the runs of a page, from the first block to the last, without what comes before and after.
 fn blocks<'a>(rt: &impl Abort, page: &'a str) -> &'a str {
     let (_, after) = page
         .split_once("<script type=\"text/plain\" id=\"")
@@ -92,12 +97,12 @@ static PROG: &str = "
 4010 54171 a relay word: PROG 12; on channel 11: COMP ACTY, ...
 ";
 
-/// The orders begin at 0, 2, 3, 5, 6, 8, 9 and 11: the writes are those of 3, 6 and 9, and the one of
-/// 6 changes nothing. 54171 is 101 100 001 111 001: of channel 11 the bits 1, 4, 5, 6 and 7 are on.
+/// The orders begin at 0, 2, 3, 5, 6, 8, 9 and 11: the writes are those of 3, 6 and 9, and the write of 6 changes
+/// nothing. 54171 is 101 100 001 111 001: bits 1, 4, 5, 6 and 7 of channel 11 are on.
 #[test]
 fn a_frame_for_each_change(rt: HostRuntime) {
-    let reel = reel_of(&rt, PROG, "", 20);
-    let page = page_of(&rt, 20, &files(&rt, "prog", "none"), &reel);
+    let recording = reel_of(&rt, PROG, "", 20);
+    let page = page_of(&rt, 20, &files(&rt, "prog", "none"), &recording);
     is_whole(&rt, page.as_str());
     shows(
         &rt,
@@ -126,12 +131,12 @@ fn a_frame_for_each_change(rt: HostRuntime) {
     );
 }
 
-/// PROG 12 is shown from 3 on, and the lamps from 9 on. PRO is held from 1 on and comes up in the part; it goes
-/// down again after it.
+/// PROG 12 is shown from 3 on, and the lamps from 9 on. PRO is held from 1 on and comes up in the part; it goes down
+/// again after it.
 #[test]
 fn a_part_of_a_run(rt: HostRuntime) {
-    let reel = part_of(&rt, 5, 12);
-    let page = page_of(&rt, 20, &files(&rt, "prog", "keys"), &reel);
+    let recording = part_of(&rt, 5, 12);
+    let page = page_of(&rt, 20, &files(&rt, "prog", "keys"), &recording);
     shows(
         &rt,
         page.as_str(),
@@ -161,7 +166,7 @@ fn a_part_of_a_run(rt: HostRuntime) {
     );
 }
 
-/// Of the changes at 3 and 9 a part begins with the last one up to its first cycle.
+/// The changes are at 3 and 9: a part begins with the last change up to its first cycle.
 #[test]
 fn parts_with_other_ends(rt: HostRuntime) {
     stops(&rt, &part_of(&rt, 0, 2), 0, None, 2);
@@ -193,24 +198,24 @@ fn no_frame(rt: HostRuntime) {
     stops(&rt, &reel_of(&rt, IDLE, "", 8), 0, Some(Stop::Limit), 8);
 }
 
-/// The input is no key, and at cycle 30 the limit of 30 comes before the key.
+/// The input is not a key, and at cycle 30 the limit of 30 comes before the key.
 static KEYS: &str = "10 key VERB\n20 pro down\n25 input 16 00001\n30 pro up\n31 key 4\n";
 
-/// Looks that a reel has so many presses, of which this is the last one.
-fn presses_end(rt: &impl Abort, reel: &Reel, presses: usize, cycle: u64, button: Button) {
-    same(rt, reel.presses.len(), presses, "presses");
-    let last = reel.presses.as_slice().last().copied();
-    same(rt, last, Some(Press { cycle, button }), "last press");
+/// Checks the number of key events of a recording, and the last of these events.
+fn presses_end(rt: &impl Abort, recording: &Recording, presses: usize, cycle: u64, button: Button) {
+    same(rt, recording.presses.len(), presses, "presses");
+    let last = recording.presses.as_slice().last().copied();
+    same(rt, last, Some(KeyEvent { cycle, button }), "last press");
 }
 
-/// Of the names of the files `<`, the backslash and what does not print in ASCII stand in octal: é has the two bytes
-/// 303 and 251.
+/// In the names of the files, `<`, the backslash and bytes that do not print in ASCII are shown in octal: é has the
+/// two bytes 303 and 251.
 #[test]
 fn keys_before_the_limit(rt: HostRuntime) {
     let all = reel_of(&rt, IDLE, KEYS, 40);
     presses_end(&rt, &all, 4, 31, Button::Key(Key::Four));
-    let reel = reel_of(&rt, IDLE, KEYS, 30);
-    let page = page_of(&rt, 30, &files(&rt, "a b~<", "\\/é\n\u{7f}"), &reel);
+    let recording = reel_of(&rt, IDLE, KEYS, 30);
+    let page = page_of(&rt, 30, &files(&rt, "a b~<", "\\/é\n\u{7f}"), &recording);
     shows(
         &rt,
         page.as_str(),
@@ -228,24 +233,24 @@ fn keys_before_the_limit(rt: HostRuntime) {
     );
 }
 
-/// Three cycles again and again: CA takes two, and TCF one.
+/// Loops in three cycles: CA takes two, and TCF one.
 static LOOP: &str = "
 4000 34002 CA 4002
 4001 14000 TCF 4000
 4002 00000
 ";
 
-/// CA begins at 0, 3, 6 and 9, and TCF at 2, 5 and 8. The order of 9 ends at 11, where the limit comes before
-/// the keys of 10 and 11; that of 9 comes before the order.
+/// CA begins at 0, 3, 6 and 9, and TCF at 2, 5 and 8. The order of 9 ends at 11, where the limit comes before the
+/// keys of 10 and 11; the key of 9 comes before the order.
 #[test]
 fn no_key_that_was_not_met(rt: HostRuntime) {
     let script = "9 pro down\n10 pro up\n11 pro down\n";
-    let reel = reel_of(&rt, LOOP, script, 10);
-    presses_end(&rt, &reel, 1, 9, Button::ProDown);
-    stops(&rt, &reel, 0, Some(Stop::Limit), 11);
+    let recording = reel_of(&rt, LOOP, script, 10);
+    presses_end(&rt, &recording, 1, 9, Button::ProDown);
+    stops(&rt, &recording, 0, Some(Stop::Limit), 11);
 }
 
-/// As PROG, but the second write of channel 10 is left out.
+/// As PROG, but without the second write of channel 10.
 static SOONER: &str = "
 4000 34010 CA 4010
 4001 00006 EXTEND
@@ -256,17 +261,22 @@ static SOONER: &str = "
 4010 54171
 ";
 
-/// Looks that the page of two runs tells that they part there.
-fn parts_at(rt: &(impl AllocGlobal + Abort), left: &Reel, right: &Reel, parting: &str) {
+/// Checks where the page of two runs says that they diverge.
+fn parts_at(
+    rt: &(impl AllocGlobal + Abort),
+    left: &Recording,
+    right: &Recording,
+    divergence: &str,
+) {
     let (one, other) = (files(rt, "one", "s"), files(rt, "other", "t"));
     let mut page = String::new(rt.alloc());
     push_film_pair(&mut page, 20, &one, left, &other, right)
         .ok()
         .expect(rt, "memory");
-    assert_eq!(rt; told_parting(rt, page.as_str()), parting);
+    assert_eq!(rt; told_parting(rt, page.as_str()), divergence);
 }
 
-/// What a page tells of where two runs part.
+/// Returns what a page says about where two runs diverge.
 fn told_parting<'a>(rt: &impl Abort, page: &'a str) -> &'a str {
     let (_, after) = page.split_once("id=\"parting\">").expect(rt, "a block");
     let (cycle, _) = after.split_once("</script>").expect(rt, "its end");
@@ -287,15 +297,15 @@ fn two_runs(rt: HostRuntime) {
 }
 
 /// The first order ends at cycle 2, past the film's first cycle, and the second one at 3. From cycle 11 on each order
-/// takes one cycle, so that it is told at 2, 3, 1000003 and 2000003, in decimal.
+/// takes one cycle, so progress is reported at 2, 3, 1000003 and 2000003, in decimal.
 #[test]
 fn tells_how_far_it_has_come(rt: HostRuntime) {
     let mut machine = machine_of(&rt, PROG, "", 2_500_000);
-    let mut told = Told::new(rt.alloc());
-    let reel = film(rt.alloc(), &mut machine, Part::whole(), &mut told)
+    let mut told = RecordingProgress::new(rt.alloc());
+    let recording = film(rt.alloc(), &mut machine, Part::whole(), &mut told)
         .ok()
         .expect(&rt, "memory");
-    same(&rt, reel.stop, Some(Stop::Limit), "stop");
-    same(&rt, reel.frames.len(), 2, "frames");
+    same(&rt, recording.stop, Some(Stop::Limit), "stop");
+    same(&rt, recording.frames.len(), 2, "frames");
     was_told(&rt, &told, &[2, 3, 1_000_003, 2_000_003]);
 }

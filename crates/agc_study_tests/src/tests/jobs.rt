@@ -1,8 +1,8 @@
-//! The changes of the tables in a small program's run, worked out by hand.
+//! Tests the changes of the tables in a small program's run, worked out by hand.
 use super::machine_of;
-use agc_executive::WatchSpec;
-use agc_jobs::write_changes;
-use agc_progress::Untold;
+use agc_io::NoProgress;
+use agc_panel::WatchSpec;
+use agc_timeline::write_changes;
 use agc_trace::Span;
 use std::process::Abort;
 
@@ -14,20 +14,27 @@ static WRITES: &str = "
 4003 00144
 ";
 
-/// What is told of the run up to 10, with no core set, LST1 at the cell and LST2 where nothing is written.
+/// Returns the output for the run up to 10, with no core set, LST1 at the cell and LST2 where nothing is written.
 fn told(rt: &(impl AllocGlobal + Abort), from: u64, to: u64) -> Vec<u8> {
     let mut machine = machine_of(rt, WRITES, "7 poke 7 2 00001", 10);
     let spec = WatchSpec::read("7,0,0,0,100,7,0").expect(rt, "a spec");
     let spec = spec.checked().ok().expect(rt, "tables");
     let mut out = Vec::new(rt.alloc());
     let span = Span { from, to };
-    write_changes(rt.alloc(), &mut machine, span, &spec, &mut out, &mut Untold)
-        .ok()
-        .expect(rt, "lines");
+    write_changes(
+        rt.alloc(),
+        &mut machine,
+        span,
+        &spec,
+        &mut out,
+        &mut NoProgress,
+    )
+    .ok()
+    .expect(rt, "lines");
     out
 }
 
-/// All lines first, then that of the cell at the cycle after TS, and that of the word that the script pokes.
+/// First all lines, then that of the cell at the cycle after TS, and that of the word that the script pokes.
 #[test]
 fn changes_of_a_run(rt: HostRuntime) {
     let told = told(&rt, 0, u64::MAX);

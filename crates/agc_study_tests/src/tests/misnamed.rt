@@ -1,12 +1,12 @@
-//! Orders that stand behind the words of listings, each word's own worked by hand from the tables of orders. The
-//! numbers are octal.
+//! Tests listing lines whose mnemonic does not match their word. Each word's own order was worked out by hand from
+//! the tables of orders. The numbers are octal.
 use super::same;
+use agc_analysis::misnamed_line;
+use agc_asm::{Written, first_misnamed};
 use agc_order::Basic;
-use agc_results::misnamed_line;
-use agc_source::{Written, first_misnamed};
 use std::process::Abort;
 
-/// Looks that of a text this is told.
+/// Checks the first mismatch in a text.
 fn tells(rt: &(impl AllocGlobal + Abort), text: &str, told: &str) {
     let misnamed = first_misnamed(text.as_bytes()).expect(rt, "a remark");
     let line = misnamed_line(rt.alloc(), misnamed)
@@ -15,7 +15,7 @@ fn tells(rt: &(impl AllocGlobal + Abort), text: &str, told: &str) {
     same(rt, line.as_str(), told, "line");
 }
 
-/// Another order than the word's, as a basic order or as an extracode, whichever stands there.
+/// A mnemonic that is not the word's, as a basic order or as an extracode.
 #[test]
 fn other_orders_are_told(rt: HostRuntime) {
     for (text, told) in [
@@ -73,7 +73,7 @@ fn own_orders_say_nothing(rt: HostRuntime) {
     }
 }
 
-/// What is no mnemonic says nothing, nor does a line that is none of a listing's.
+/// Text that is not a mnemonic gets no remark, nor does a line that is not a listing line.
 #[test]
 fn other_words_say_nothing(rt: HostRuntime) {
     for text in [
@@ -95,7 +95,7 @@ fn other_words_say_nothing(rt: HostRuntime) {
     }
 }
 
-/// What is told of a line, and that INDEX alone is read as the basic order.
+/// The remark on a line, and that INDEX alone is read as the basic order.
 #[test]
 fn a_line_is_found(rt: HostRuntime) {
     let misnamed = first_misnamed(b"4000 34004 CA\n4001 14000 INDEX\n4002 00000 CS").expect(

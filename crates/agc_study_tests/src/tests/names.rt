@@ -1,31 +1,29 @@
-//! Names of places, worked by hand.
+//! Tests symbols of locations, worked out by hand.
 use super::same;
-use agc_names::{
-    NameFault, NameTable, NameTrouble, place_said, push_column, push_name_line, push_named,
-    text_with_names,
+use agc_listing::{Location, LocationRange, RangeFault};
+use agc_symbols::{
+    NameFault, SymbolFileFault, SymbolTable, SymbolTableFault, push_column, push_name_line,
+    push_named, read_names, resolve, resolve_cells, resolve_range, text_with_names,
 };
-use agc_names_file::{NamesRefusal, read_names};
-use agc_places::{Places, PlacesFault};
-use agc_source_words::Location;
 use std::process::Abort;
 
 static NAMES: &str = "4060 KEYIN # the first\n02,4060 SERVICE\n\nE0,0100\tBEFORE\n5777 LAST\n";
 
-fn names(rt: &(impl AllocGlobal + Abort)) -> NameTable {
-    NameTable::read(rt.alloc(), NAMES.as_bytes())
+fn names(rt: &(impl AllocGlobal + Abort)) -> SymbolTable {
+    SymbolTable::read(rt.alloc(), NAMES.as_bytes())
         .ok()
         .expect(rt, "names")
 }
 
-/// Looks that a place goes by this name.
-fn goes_by(rt: &(impl AllocGlobal + Abort), names: &NameTable, at: Location, name: &str) {
+/// Checks the name of a location.
+fn goes_by(rt: &(impl AllocGlobal + Abort), names: &SymbolTable, at: Location, name: &str) {
     let mut text = String::new(rt.alloc());
     push_named(&mut text, names, at).ok().expect(rt, "memory");
     same(rt, text.as_str(), name, "name");
 }
 
-/// Looks that a place has this column.
-fn has_column(rt: &(impl AllocGlobal + Abort), names: &NameTable, at: Location, column: &str) {
+/// Checks the column of a location.
+fn has_column(rt: &(impl AllocGlobal + Abort), names: &SymbolTable, at: Location, column: &str) {
     let mut text = String::new(rt.alloc());
     push_column(&mut text, names, at).ok().expect(rt, "memory");
     same(rt, text.as_str(), column, "column");
@@ -60,12 +58,12 @@ fn each_fault_is_told(rt: HostRuntime) {
     ] {
         let mut bytes = text.as_bytes();
         let refused = read_names(rt.alloc(), &mut bytes).err();
-        let trouble = NameTrouble::Line(line, fault);
-        same(&rt, refused, Some(NamesRefusal::Names(trouble)), text);
+        let trouble = SymbolTableFault::Line(line, fault);
+        same(&rt, refused, Some(SymbolFileFault::Names(trouble)), text);
     }
 }
 
-/// The lines of a file that gives these places these names.
+/// Returns the lines of a symbol file with these locations and names.
 fn name_lines(rt: &(impl AllocGlobal + Abort), names: &[(Location, &str)]) -> Vec<u8> {
     let mut lines = Vec::new(rt.alloc());
     for (at, name) in names {
@@ -91,7 +89,7 @@ fn names_stand_beside_places(rt: HostRuntime) {
     assert!(rt; lines.as_slice() == b"E3,1407 COUNT\n02,4071 LOOP\n".as_slice());
 }
 
-/// 10 words are 12 octal. A word that writes a place is that place, and cells end at 3777.
+/// 10 words are 12 octal. A word that is written as a location is that location, and cells end at 3777.
 #[test]
 fn a_word_stands_for_a_place(rt: HostRuntime) {
     let names = Some(names(&rt));
@@ -108,19 +106,19 @@ fn a_word_stands_for_a_place(rt: HostRuntime) {
         ("NOWHERE", None, None),
         ("KEYIN+", None, None),
     ] {
-        same(&rt, place_said(&names, word.as_bytes()), place, word);
-        same(&rt, place_said(&None, word.as_bytes()), alone, word);
+        same(&rt, resolve(&names, word.as_bytes()), place, word);
+        same(&rt, resolve(&None, word.as_bytes()), alone, word);
     }
 }
 
 static DASHES: &str = "4060 KEYIN\n4070 OUT-IN\n5777 LAST\n0100 BEFORE\n6000 NEXT\n";
 
-fn dashes(rt: &impl AllocGlobal) -> Option<NameTable> {
-    NameTable::read(rt.alloc(), DASHES.as_bytes()).ok()
+fn dashes(rt: &impl AllocGlobal) -> Option<SymbolTable> {
+    SymbolTable::read(rt.alloc(), DASHES.as_bytes()).ok()
 }
 
-/// What the texts of `--at` say: names may hold dashes, an offset is counted in decimal, and a text that names places
-/// without names names them with names too.
+/// Values of `--at`: symbols may contain dashes, an offset is decimal, and a text that names locations without
+/// symbols names the same ones with symbols.
 #[test]
 fn a_question_says_places(rt: HostRuntime) {
     let names = dashes(&rt);
@@ -137,24 +135,29 @@ fn a_question_says_places(rt: HostRuntime) {
         ("4100-4177", 0o4100, 0o4177),
     ] {
         let (first, last) = (Location::Fixed(first), Location::Fixed(last));
-        let said = Places::said(&names, text.as_bytes());
-        same(&rt, said, Ok(Places { first, last }), text);
+        let said = resolve_range(&names, text.as_bytes());
+        same(&rt, said, Ok(LocationRange { first, last }), text);
     }
     for (text, fault) in [
-        ("NOWHERE", PlacesFault::BadPlace),
-        ("KEYIN-", PlacesFault::BadPlace),
-        ("KEYIN-NOWHERE", PlacesFault::BadPlace),
-        ("", PlacesFault::BadPlace),
-        ("LAST-KEYIN", PlacesFault::BadRange),
-        ("LAST-NEXT", PlacesFault::BadRange),
-        ("BEFORE-KEYIN", PlacesFault::BadRange),
-        ("4101-4100", PlacesFault::BadRange),
+        ("NOWHERE", RangeFault::BadPlace),
+        ("KEYIN-", RangeFault::BadPlace),
+        ("KEYIN-NOWHERE", RangeFault::BadPlace),
+        ("", RangeFault::BadPlace),
+        ("LAST-KEYIN", RangeFault::BadRange),
+        ("LAST-NEXT", RangeFault::BadRange),
+        ("BEFORE-KEYIN", RangeFault::BadRange),
+        ("4101-4100", RangeFault::BadRange),
     ] {
-        same(&rt, Places::said(&names, text.as_bytes()), Err(fault), text);
+        same(
+            &rt,
+            resolve_range(&names, text.as_bytes()),
+            Err(fault),
+            text,
+        );
     }
 }
 
-/// What the texts of `--cell` say; without names a name is no place.
+/// Values of `--cell`; without symbols a name is not a location.
 #[test]
 fn a_question_says_cells(rt: HostRuntime) {
     let names = dashes(&rt);
@@ -164,11 +167,11 @@ fn a_question_says_cells(rt: HostRuntime) {
         ("BEFORE-BEFORE+1", 0o100, 0o101),
     ] {
         let (first, last) = (Location::Erasable(first), Location::Erasable(last));
-        let said = Places::cells_said(&names, text.as_bytes());
-        same(&rt, said, Ok(Places { first, last }), text);
-        let alone = Places::cells_said(&None, text.as_bytes());
-        same(&rt, alone, Err(PlacesFault::BadPlace), text);
+        let said = resolve_cells(&names, text.as_bytes());
+        same(&rt, said, Ok(LocationRange { first, last }), text);
+        let alone = resolve_cells(&None, text.as_bytes());
+        same(&rt, alone, Err(RangeFault::BadPlace), text);
     }
-    let fixed = Places::cells_said(&names, b"KEYIN-LAST");
-    assert_eq!(rt; fixed, Err(PlacesFault::NotErasable));
+    let fixed = resolve_cells(&names, b"KEYIN-LAST");
+    assert_eq!(rt; fixed, Err(RangeFault::NotErasable));
 }

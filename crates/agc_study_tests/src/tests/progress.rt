@@ -1,28 +1,29 @@
-//! When it is told: no clause says that it is told at all.
+//! Tests when progress is reported: no clause guarantees that it is reported at all.
 use super::{between, machine_of, same};
-use agc_compare::compare;
+use agc_diff::compare;
+use agc_io::{NoProgress, next_mark, report_at};
 use agc_machine::Machine;
-use agc_progress::{Untold, mark_past, tell_at};
-use agc_test_kit::{IDLE, Told};
+use agc_test_support::{IDLE, RecordingProgress};
 use agc_trace::trace;
 use std::process::Abort;
 
-/// Looks that it was told these cycles.
-pub(super) fn was_told(rt: &impl Abort, told: &Told, cycles: &[u64]) {
+/// Checks the reported cycles.
+pub(super) fn was_told(rt: &impl Abort, told: &RecordingProgress, cycles: &[u64]) {
     assert!(rt; told.cycles() == cycles);
 }
 
-/// A run in which each boundary takes one cycle, since TIME1 does not overflow in it.
+/// Returns a run in which each boundary takes one cycle, because TIME1 does not overflow in it.
 fn idle(rt: &(impl AllocGlobal + Abort)) -> Machine {
     machine_of(rt, IDLE, "", 1_200_000)
 }
 
-/// On its way to the range it is told at the start and after a million cycles; and again at the range's first line.
+/// On the way to the range, progress is reported at the start and after a million cycles; and again at the range's
+/// first line.
 #[test]
 fn a_trace_tells_how_far_it_has_come(rt: HostRuntime) {
     let mut machine = idle(&rt);
     let selection = between(&rt, 1_100_000, 1_100_010, None);
-    let mut told = Told::new(rt.alloc());
+    let mut told = RecordingProgress::new(rt.alloc());
     let mut out = Vec::new(rt.alloc());
     let traced = trace(
         rt.alloc(),
@@ -36,11 +37,11 @@ fn a_trace_tells_how_far_it_has_come(rt: HostRuntime) {
     was_told(&rt, &told, &[0, 1_000_000, 1_100_000]);
 }
 
-/// Two runs that are the same: it is told at the start, and after a million cycles.
+/// Two runs that are the same: progress is reported at the start, and after a million cycles.
 #[test]
 fn a_comparison_tells_how_far_it_has_come(rt: HostRuntime) {
     let (mut left, mut right) = (idle(&rt), idle(&rt));
-    let mut told = Told::new(rt.alloc());
+    let mut told = RecordingProgress::new(rt.alloc());
     let comparison = compare(rt.alloc(), &mut left, &mut right, &mut told)
         .ok()
         .expect(&rt, "memory");
@@ -48,11 +49,11 @@ fn a_comparison_tells_how_far_it_has_come(rt: HostRuntime) {
     was_told(&rt, &told, &[0, 1_000_000]);
 }
 
-/// It is told at the first cycle, and then at the first one that is a million cycles or more after the
-/// last one told.
+/// Progress is reported at the first cycle, and then at the first cycle that is at least a million after the last
+/// report.
 #[test]
 fn told_from_mark_to_mark(rt: HostRuntime) {
-    let mut told = Told::new(rt.alloc());
+    let mut told = RecordingProgress::new(rt.alloc());
     let mut mark = 0;
     for (cycle, times, last) in [
         (7, 1, 7),
@@ -63,7 +64,7 @@ fn told_from_mark_to_mark(rt: HostRuntime) {
         (5_000_000, 3, 5_000_000),
         (5_999_999, 3, 5_000_000),
     ] {
-        mark = tell_at(mark, cycle, &mut told);
+        mark = report_at(mark, cycle, &mut told);
         let cycles = told.cycles();
         same(
             &rt,
@@ -73,7 +74,7 @@ fn told_from_mark_to_mark(rt: HostRuntime) {
         );
     }
     same(&rt, mark, 6_000_000, "mark");
-    same(&rt, mark_past(u64::MAX), u64::MAX, "last mark");
-    let mark = tell_at(mark, 6_000_000, &mut Untold);
+    same(&rt, next_mark(u64::MAX), u64::MAX, "last mark");
+    let mark = report_at(mark, 6_000_000, &mut NoProgress);
     same(&rt, mark, 7_000_000, "untold");
 }

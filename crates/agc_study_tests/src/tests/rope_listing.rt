@@ -1,20 +1,20 @@
-//! Words and places of the instruction memos, as their listings print them.
+//! Tests words and locations of the instruction memos, as their listings print them.
 ghost use Rattle.std.specs.Prelude.{◌≡◌, IfOk};
 ghost use Rattle.agc_store.specs.RopeFile.{rope_words};
 
 use super::same;
-use agc_order::{Basic, Extracode};
-use agc_rope_listing::{
+use agc_listing::{
     LineFault, Place, WeaveFault, files_say_rope_words, list, listings_say_their_words, push_order,
     push_place, weave, words_listed_make_the_rope,
 };
+use agc_order::{Basic, Extracode};
 use agc_store::{Rope, RopeForm, Store};
 use agc_word::Narrow;
 use std::alloc::{AllocError, Global};
 use std::process::Abort;
 use std::test::Fail;
 
-/// Looks that a word is printed so, as a basic order or as an extracode.
+/// Checks how a word is printed, as a basic order or as an extracode.
 fn prints(rt: &(impl AllocGlobal + Abort), word: u16, extracode: bool, printed: &str) {
     let mut text = String::new(rt.alloc());
     push_order(&mut text, extracode, Narrow::with_bits(word % 0o100000))
@@ -89,7 +89,7 @@ static EXTRACODES: [(Extracode, u16, &str); 20] = [
     (Extracode::Mp, 0o74321, "74321 MP 4321"),
 ];
 
-/// Each word of the tables names its order.
+/// Each word of the tables encodes its order.
 #[test]
 fn each_word_names_its_order(rt: HostRuntime) {
     for (order, word, line) in &BASIC_ORDERS {
@@ -102,8 +102,8 @@ fn each_word_names_its_order(rt: HostRuntime) {
     }
 }
 
-/// Adds the lines of the basic orders in bank 04, and of the extracodes in bank 05, each after EXTEND. Words of +0 stand
-/// between them, so that none follows the EXTEND or the INDEX of another row.
+/// Appends the lines of the basic orders in bank 04, and of the extracodes in bank 05, each after EXTEND. Words of +0
+/// come between them, so that no row follows the EXTEND or the INDEX of another row.
 fn push_orders(text: &mut String) -> Result<(), AllocError> {
     for (row, (_, _, line)) in BASIC_ORDERS.iter().enumerate() {
         let address = row.saturating_mul(4).saturating_add(0o2000);
@@ -125,7 +125,7 @@ fn each_order_is_listed(rt: HostRuntime) {
     lists(&rt, RopeForm::Classic, text.as_str(), text.as_str());
 }
 
-/// DAS and DXCH have ten bits of address, DCA and DCS twelve, and all show the upper word's.
+/// DAS and DXCH have ten bits of address, DCA and DCS twelve, and all show the address of the upper word.
 #[test]
 fn double_orders_show_the_upper_word(rt: HostRuntime) {
     for (word, extracode, printed) in [
@@ -140,7 +140,7 @@ fn double_orders_show_the_upper_word(rt: HostRuntime) {
     }
 }
 
-/// Adds a place of each kind.
+/// Appends a location of each kind.
 fn push_places(text: &mut String) -> Result<(), AllocError> {
     push_place(text, Place::Plain(0o61))?;
     text.push_str(" ")?;
@@ -168,14 +168,14 @@ fn places(rt: HostRuntime) {
     assert_eq!(rt; text.as_str(), "0061 E3,1400 43,3777");
 }
 
-/// The file that a text weaves to.
+/// Assembles a text into a rope file.
 fn woven(rt: &(impl AllocGlobal + Abort), form: RopeForm, text: &str) -> Vec<u8> {
     weave(rt.alloc(), form, text.as_bytes())
         .ok()
         .expect(rt, "a file")
 }
 
-/// The memory of a rope file.
+/// Returns the memory of a rope file.
 fn store_of(rt: &(impl AllocGlobal + Abort), form: RopeForm, file: &[u8]) -> Store {
     Store::new(
         Rope::read_as(rt.alloc(), form, file)
@@ -184,20 +184,20 @@ fn store_of(rt: &(impl AllocGlobal + Abort), form: RopeForm, file: &[u8]) -> Sto
     )
 }
 
-/// Looks that a memory is listed so: all banks of it, or one alone.
+/// Checks the listing of a memory: of all its banks, or of one.
 fn is_listed(rt: &(impl AllocGlobal + Abort), store: &Store, bank: Option<u8>, listed: &str) {
     let text = list(rt.alloc(), store, bank).ok().expect(rt, "memory");
     same(rt, text.as_str(), listed, "listing");
 }
 
-/// Looks that the rope that a text weaves to is listed so.
+/// Checks the listing of the rope that a text assembles to.
 fn lists(rt: &(impl AllocGlobal + Abort), form: RopeForm, text: &str, listed: &str) {
     let file = woven(rt, form, text);
     is_listed(rt, &store_of(rt, form, file.as_slice()), None, listed);
 }
 
-/// What `list` prints weaves to the same words, in both forms: the edges of the banks, orders after
-/// EXTEND and INDEX, -0, and a bank that begins anew.
+/// What `list` prints assembles to the same words, in both forms: the edges of the banks, orders after EXTEND and
+/// INDEX, -0, and a bank that starts a new run of words.
 #[test]
 fn a_listing_weaves_to_its_words(rt: HostRuntime) {
     let text = "00,2000 00006 EXTEND
@@ -216,7 +216,7 @@ fn a_listing_weaves_to_its_words(rt: HostRuntime) {
     }
 }
 
-/// The rope of a file, listed, woven in another form and read again: it has the words of the file.
+/// Lists the rope of a file, assembles it in another form and reads it again: it has the words of the file.
 fn rope_by_its_listing(
     alloc: Global,
     source: RopeForm,
@@ -233,7 +233,8 @@ fn rope_by_its_listing(
     Ok(rope)
 }
 
-/// Looks that the rope of a text comes back from its listing, from one form to another: its first words are -0 and +0.
+/// Checks that the rope of a text comes back from its listing, from one form to another: its first words are -0 and
+/// +0.
 fn comes_back(
     rt: &(impl AllocGlobal + Abort),
     source: RopeForm,
@@ -249,8 +250,8 @@ fn comes_back(
     Ok(())
 }
 
-/// A rope comes back from its listing, from each form to each: +0 and -0, both ends of a bank, and
-/// banks that the forms hold in another order.
+/// A rope comes back from its listing, from each form to each: +0 and -0, both ends of a bank, and banks that the
+/// forms hold in another order.
 #[test]
 fn ropes_come_back_from_their_listings(rt: HostRuntime) -> Result<(), Fail> {
     let text = "00,2000 77777 MASK 7777
@@ -282,13 +283,13 @@ fn lines_for_readers(rt: HostRuntime) {
     lists(&rt, RopeForm::Classic, text, listed);
 }
 
-/// Looks that a text weaves to these bytes.
+/// Checks that a text assembles to these bytes.
 fn weaves_to(rt: &(impl AllocGlobal + Abort), form: RopeForm, text: &str, bytes: &[u8]) {
     let file = woven(rt, form, text);
     same(rt, file.as_slice(), bytes, text);
 }
 
-/// Files by hand: as long as their words need, and one word at least.
+/// Files worked out by hand: as long as their words need, and at least one word.
 #[test]
 fn files(rt: HostRuntime) {
     weaves_to(

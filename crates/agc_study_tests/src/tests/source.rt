@@ -1,18 +1,18 @@
-//! Sources of ropes, each line's word worked by hand from the tables of orders. The numbers are octal.
+//! Tests sources of ropes; each line's word was worked out by hand from the tables of orders. The numbers are octal.
 use super::same;
-use agc_rope_listing::{LineFault, list};
-use agc_source::{SourceFault, SourceTrouble, rope_source, weave_source};
+use agc_asm::{AssemblyFault, SourceFault, assemble, rope_source};
+use agc_listing::{LineFault, list};
 use agc_store::{Rope, RopeForm, Store};
 use std::process::Abort;
 
-/// The file that a source weaves to.
+/// Assembles a source into a rope file.
 fn woven(rt: &(impl AllocGlobal + Abort), form: RopeForm, source: &str) -> Vec<u8> {
-    weave_source(rt.alloc(), form, source.as_bytes())
+    assemble(rt.alloc(), form, source.as_bytes())
         .ok()
         .expect(rt, "a file")
 }
 
-/// Looks that a source weaves to the rope that a listing of its words makes.
+/// Checks that a source assembles to the rope that a listing of its words makes.
 fn weaves(rt: &(impl AllocGlobal + Abort), source: &str, words: &str) {
     for form in [RopeForm::Classic, RopeForm::Parity] {
         let file = woven(rt, form, source);
@@ -21,7 +21,7 @@ fn weaves(rt: &(impl AllocGlobal + Abort), source: &str, words: &str) {
     }
 }
 
-/// The memory of the rope that a source weaves to.
+/// Returns the memory of the rope that a source assembles to.
 fn store_of(rt: &(impl AllocGlobal + Abort), source: &str) -> Store {
     let file = woven(rt, RopeForm::Classic, source);
     Store::new(
@@ -31,20 +31,20 @@ fn store_of(rt: &(impl AllocGlobal + Abort), source: &str) -> Store {
     )
 }
 
-/// The source of a memory's rope: of all banks, or of one alone.
+/// Returns the source of a memory's rope: of all banks, or of one alone.
 fn source_of(rt: &(impl AllocGlobal + Abort), store: &Store, bank: Option<u8>) -> String {
     rope_source(rt.alloc(), store, bank)
         .ok()
         .expect(rt, "memory")
 }
 
-/// Looks that the line with this number has this fault, and is told.
+/// Checks that the line with this number has this fault, and that it is reported.
 fn refuses(rt: &(impl AllocGlobal + Abort), line: usize, fault: SourceFault, source: &str) {
-    let told = weave_source(rt.alloc(), RopeForm::Classic, source.as_bytes()).err();
-    assert_eq!(rt; told, Some(SourceTrouble::Line(line, fault)));
+    let told = assemble(rt.alloc(), RopeForm::Classic, source.as_bytes()).err();
+    assert_eq!(rt; told, Some(AssemblyFault::Line(line, fault)));
 }
 
-/// A name stands for the place of its line, in either direction, and a text begins at 4000.
+/// A name stands for the location of its line, in either direction, and a text begins at 4000.
 #[test]
 fn names_stand_for_their_lines(rt: HostRuntime) {
     weaves(
@@ -63,7 +63,7 @@ PROG OCT 54171
     );
 }
 
-/// Double orders hold the address of the lower word.
+/// Double orders contain the address of the lower word.
 #[test]
 fn double_orders_name_the_upper_word(rt: HostRuntime) {
     weaves(
@@ -174,7 +174,7 @@ fn listed_back(rt: HostRuntime) {
     );
 }
 
-/// Places with words stand among lines of orders, and change nothing of where these stand.
+/// Locations with words between lines of orders do not change where the orders go.
 #[test]
 fn places_among_orders(rt: HostRuntime) {
     weaves(
@@ -245,7 +245,7 @@ fn faults_of_places(rt: HostRuntime) {
     );
 }
 
-/// Of two faults on one way through the text the first is told, and names go before words.
+/// If one pass finds two faults, the first is reported, and names come before words.
 #[test]
 fn the_first_fault_is_told(rt: HostRuntime) {
     refuses(&rt, 1, SourceFault::UnknownName, " CA ONE\n CA TWO\n");
@@ -257,8 +257,8 @@ fn the_first_fault_is_told(rt: HostRuntime) {
     );
 }
 
-/// Each word stands as the order that `list` shows, and a place is gone to where no word stands before it. Bank 03 begins
-/// anew, so the digits stand for the extracode that follows bank 02's EXTEND.
+/// Each word is listed as the order that `list` shows, and `SETLOC` comes before each word that no word precedes.
+/// Bank 03 starts a new run of words, so the extracode that follows bank 02's EXTEND is printed in digits.
 #[test]
 fn a_rope_stands_as_a_source(rt: HostRuntime) {
     let words =

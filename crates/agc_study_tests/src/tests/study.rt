@@ -1,28 +1,28 @@
-//! The program on its command lines, over files that are not there; `examples/study` runs it on files.
+//! Tests the program on its command lines, with files that do not exist; `examples/study` runs it on files.
 mod ends;
 
 use super::{holds, owned, same};
-use agc_asked::{Asked, Comparing, Filming, Watching};
-use agc_check::Report;
-use agc_compare::SideNames;
-use agc_film::{Part, RunFiles};
-use agc_options::ArgsFault;
-use agc_progress::Untold;
-use agc_results::{
-    FilmPage, Told, Trouble, Untraced, Woven, check_files, check_key_file, check_listing_file,
-    check_with, compare_files, film_files, list_rope, status_of_untraced, watch_files, weave_text,
+use agc_analysis::{
+    AnalysisFault, DiffOutcome, FilmPage, TraceError, Woven, answer, check_files, check_key_file,
+    check_listing_file, check_with, compare_files, film_files, last_cycle, list_rope,
+    status_of_trace_error, watch_files, weave_text, write_outcome, write_report,
 };
-use agc_rope_listing::LineFault;
-use agc_setup::Refusal;
-use agc_source::{SourceFault, SourceTrouble};
+use agc_asm::{AssemblyFault, SourceFault};
+use agc_check::Report;
+use agc_cli::ArgsFault;
+use agc_diff::SideNames;
+use agc_io::NoProgress;
+use agc_listing::LineFault;
+use agc_load::LoadFault;
 use agc_store::{RopeFault, RopeForm};
-use agc_study::{answer, last_cycle, write_report, write_told};
-use agc_study_words::asked_by;
+use agc_study_args::{Args, CompareArgs, FilmArgs, JobsArgs};
+use agc_study_cli::parse;
+use agc_timeline::{Part, RunFiles};
 use agc_trace::Span;
 use std::process::Abort;
 use std::rt::Files;
 
-/// How the program ends on this command line.
+/// How the program ends on a command line.
 #[derive(Drop)]
 struct Ended {
     status: u8,
@@ -31,16 +31,16 @@ struct Ended {
     remarks: String,
 }
 
-/// What this command line asks for.
-fn asked(rt: &(impl AllocGlobal + Abort), line: &str) -> Result<Asked, ArgsFault> {
+/// Parses a command line.
+fn asked(rt: &(impl AllocGlobal + Abort), line: &str) -> Result<Args, ArgsFault> {
     let mut words = Vec::new(rt.alloc());
     for word in line.split(' ') {
         words.push(word).expect(rt, "memory");
     }
-    asked_by(rt.alloc(), words.as_slice())
+    parse(rt.alloc(), words.as_slice())
 }
 
-/// What was written, as a text.
+/// Returns what was written, as a text.
 fn text(rt: &impl Abort, written: Vec<u8>) -> String {
     String::from_utf8(written).ok().expect(rt, "text")
 }
@@ -50,7 +50,7 @@ fn program(rt: &(impl AllocGlobal + Files + Abort), line: &str) -> Ended {
     let mut out = Vec::new(rt.alloc());
     let mut err = Vec::new(rt.alloc());
     let mut remarks = Vec::new(rt.alloc());
-    let status = answer(rt, asked, &mut out, &mut err, &mut remarks, &mut Untold);
+    let status = answer(rt, asked, &mut out, &mut err, &mut remarks, &mut NoProgress);
     Ended {
         status,
         out: text(rt, out),
@@ -59,7 +59,7 @@ fn program(rt: &(impl AllocGlobal + Files + Abort), line: &str) -> Ended {
     }
 }
 
-/// Looks that this command line asks for help, in which this word stands.
+/// Checks that a command line prints help that contains this word.
 fn helps(rt: &(impl AllocGlobal + Files + Abort), line: &str, word: &str) {
     let ended = program(rt, line);
     same(rt, ended.status, 0, line);
@@ -67,7 +67,7 @@ fn helps(rt: &(impl AllocGlobal + Files + Abort), line: &str, word: &str) {
     holds(rt, ended.err.is_empty(), line);
 }
 
-/// Help names the subcommands, and each of them its files and options.
+/// Help names the subcommands, and each subcommand's help names its files and options.
 #[test]
 fn help(rt: HostRuntime) {
     for (line, word) in [
@@ -95,7 +95,7 @@ fn help(rt: HostRuntime) {
     }
 }
 
-/// Looks that this command line is mistaken.
+/// Checks that a command line is wrong.
 fn is_mistaken(rt: &(impl AllocGlobal + Files + Abort), line: &str) {
     let ended = program(rt, line);
     same(rt, ended.status, 2, line);
@@ -104,7 +104,7 @@ fn is_mistaken(rt: &(impl AllocGlobal + Files + Abort), line: &str) {
     holds(rt, ended.remarks.is_empty(), line);
 }
 
-/// Mistakes in the command line have status 2, and nothing stands on standard output.
+/// Errors in the command line have status 2, and nothing is written to standard output.
 #[test]
 fn mistakes(rt: HostRuntime) {
     for line in [
@@ -140,7 +140,7 @@ fn mistakes(rt: HostRuntime) {
     }
 }
 
-/// Looks that this is told of a command line, and beside it of the file `nothing`.
+/// Checks the error line of a command line, and the remark on the file `nothing` beside it.
 fn lacks_nothing(rt: &(impl AllocGlobal + Files + Abort), line: &str, told: &str) {
     let ended = program(rt, line);
     let remark = ended.remarks.as_str();
@@ -150,7 +150,7 @@ fn lacks_nothing(rt: &(impl AllocGlobal + Files + Abort), line: &str, told: &str
     holds(rt, remark.starts_with("agc-study: nothing: "), line);
 }
 
-/// Files that are not there, which is said beside it, and a bank that no rope has, which is looked at first.
+/// Files that do not exist, with a remark beside the error, and a bank that no rope has, which is checked first.
 #[test]
 fn troubles(rt: HostRuntime) {
     for (line, told) in [
@@ -197,7 +197,7 @@ fn troubles(rt: HostRuntime) {
     }
 }
 
-fn listed(rt: &impl AllocGlobal, rope: &[u8]) -> Result<String, Trouble> {
+fn listed(rt: &impl AllocGlobal, rope: &[u8]) -> Result<String, AnalysisFault> {
     let mut rope = rope;
     list_rope(rt.alloc(), RopeForm::Classic, &None, &mut rope)
 }
@@ -210,16 +210,16 @@ fn a_rope_is_listed(rt: HostRuntime) {
         .expect(&rt, "a text");
     let lines = "02,4000 34004 CA 4004\n02,4001 00006 EXTEND\n";
     same(&rt, text.as_str(), lines, "two words");
-    let odd = Trouble::Refused(Refusal::Rope(RopeFault::OddLength));
+    let odd = AnalysisFault::Refused(LoadFault::Rope(RopeFault::OddLength));
     same(&rt, listed(&rt, &[0x70]).err(), Some(odd), "one byte");
 }
 
-fn woven(rt: &impl AllocGlobal, text: &[u8]) -> Result<Woven, Trouble> {
+fn woven(rt: &impl AllocGlobal, text: &[u8]) -> Result<Woven, AnalysisFault> {
     let mut text = text;
     weave_text(rt.alloc(), RopeForm::Classic, &mut text)
 }
 
-/// A text of one word, and one at fault.
+/// A text of one word, and a faulty text.
 #[test]
 fn a_text_is_woven(rt: HostRuntime) {
     let file = woven(&rt, b"4000 34004 CA 4004").ok().expect(&rt, "a file");
@@ -227,24 +227,24 @@ fn a_text_is_woven(rt: HostRuntime) {
     same(&rt, file.bytes.as_slice(), word.as_slice(), "one word");
     let refused = woven(&rt, b"4000 34004\n4001").err();
     let fault = SourceFault::Listed(LineFault::BadWord);
-    let wanted = Trouble::Text(SourceTrouble::Line(2, fault));
+    let wanted = AnalysisFault::Text(AssemblyFault::Line(2, fault));
     same(&rt, refused, Some(wanted), "no word");
 }
 
-/// What is told of a rope and a script.
-fn checked(rt: &impl AllocGlobal, rope: &[u8], script: &[u8]) -> Result<Report, Trouble> {
+/// Checks a rope and a script.
+fn checked(rt: &impl AllocGlobal, rope: &[u8], script: &[u8]) -> Result<Report, AnalysisFault> {
     let (mut rope, mut script) = (rope, script);
     check_files(rt.alloc(), RopeForm::Classic, &mut rope, &mut script)
 }
 
-/// Looks that a report is written so, with this status.
+/// Checks how a report is written, with this status.
 fn is_written(rt: &(impl AllocGlobal + Abort), report: &Report, status: u8, told: &str) {
     let mut out = Vec::new(rt.alloc());
     same(rt, write_report(report, &mut out), status, told);
     same(rt, out.as_slice(), told.as_bytes(), told);
 }
 
-/// The status tells whether a file is at fault, and the report stands on standard output.
+/// The status shows whether a file is at fault, and the report is on standard output.
 #[test]
 fn files_are_checked(rt: HostRuntime) {
     let scripts: [(&[u8], u8, &str); 2] = [
@@ -281,7 +281,7 @@ fn listing_report(rt: &(impl AllocGlobal + Abort), listing: &[u8]) -> Report {
         .expect(rt, "a report")
 }
 
-/// Keys and the text of a rope, each sound and at fault.
+/// Keys and the text of a rope, each sound and faulty.
 #[test]
 fn keys_and_listings_are_checked(rt: HostRuntime) {
     let texts: [(&[u8], &[u8], &str, &str); 2] = [
@@ -301,7 +301,7 @@ fn keys_and_listings_are_checked(rt: HostRuntime) {
     }
 }
 
-/// What is told of a rope of one word, a script without events and these keys.
+/// Returns the report on a rope of one word, a script without events and these keys.
 fn report_with(rt: &(impl AllocGlobal + Abort), keys: &[u8]) -> Report {
     let more = Some(key_report(rt, keys));
     let (mut rope, mut script): (&[u8], &[u8]) = (&[0x70, 0x08], b"");
@@ -310,7 +310,7 @@ fn report_with(rt: &(impl AllocGlobal + Abort), keys: &[u8]) -> Report {
         .expect(rt, "a report")
 }
 
-/// Looks that a report tells of the rope first, and of this last, with this status.
+/// Checks that a report begins with the rope and ends with this, with this status.
 fn ends_with(rt: &(impl AllocGlobal + Abort), report: &Report, status: u8, last: &str) {
     let text = report.text.as_str();
     holds(rt, text.starts_with("rope: words 1, banks 1\n"), last);
@@ -319,7 +319,7 @@ fn ends_with(rt: &(impl AllocGlobal + Abort), report: &Report, status: u8, last:
     same(rt, write_report(report, &mut out), status, last);
 }
 
-/// What is told of other files stands last, and a fault of theirs is one of all.
+/// The report on other files comes last, and their fault makes the whole report faulty.
 #[test]
 fn other_files_are_told_last(rt: HostRuntime) {
     for (keys, status, told) in [
@@ -334,9 +334,9 @@ fn other_files_are_told_last(rt: HostRuntime) {
     }
 }
 
-/// What is asked of two runs up to a limit.
-fn comparing(rt: &impl AllocGlobal, limit: u64) -> Comparing {
-    Comparing {
+/// Returns the arguments to compare two runs up to a limit.
+fn comparing(rt: &impl AllocGlobal, limit: u64) -> CompareArgs {
+    CompareArgs {
         rope: String::new(rt.alloc()),
         script: String::new(rt.alloc()),
         other_rope: String::new(rt.alloc()),
@@ -350,8 +350,13 @@ fn comparing(rt: &impl AllocGlobal, limit: u64) -> Comparing {
     }
 }
 
-/// The comparison of the runs of two ropes without events.
-fn compared(rt: &impl AllocGlobal, left: &[u8], right: &[u8], limit: u64) -> Result<Told, Trouble> {
+/// Compares the runs of two ropes without events.
+fn compared(
+    rt: &impl AllocGlobal,
+    left: &[u8],
+    right: &[u8],
+    limit: u64,
+) -> Result<DiffOutcome, AnalysisFault> {
     let (mut rope, mut script): (&[u8], &[u8]) = (left, b"");
     let (mut other_rope, mut other_script): (&[u8], &[u8]) = (right, b"");
     let names = SideNames {
@@ -366,18 +371,18 @@ fn compared(rt: &impl AllocGlobal, left: &[u8], right: &[u8], limit: u64) -> Res
         &mut script,
         &mut other_rope,
         &mut other_script,
-        &mut Untold,
+        &mut NoProgress,
     )
 }
 
-/// Looks that a comparison begins so, with this status.
-fn begins(rt: &(impl AllocGlobal + Abort), found: &Told, status: u8, told: &str) {
+/// Checks how a comparison begins, with this status.
+fn begins(rt: &(impl AllocGlobal + Abort), found: &DiffOutcome, status: u8, told: &str) {
     let mut out = Vec::new(rt.alloc());
-    same(rt, write_told(found, &mut out), status, told);
+    same(rt, write_outcome(found, &mut out), status, told);
     holds(rt, found.text.as_str().starts_with(told), told);
 }
 
-/// TCF 4000 alone, beside itself and beside a rope that jumps to 4001, where a word of +0 stands.
+/// TCF 4000 alone, beside itself and beside a rope that jumps to 4001, where there is a word of +0.
 #[test]
 fn runs_are_compared(rt: HostRuntime) {
     let others: [(&[u8], u8, &str); 2] = [
@@ -400,15 +405,15 @@ fn runs_are_compared(rt: HostRuntime) {
     }
 }
 
-/// Looks that this is told of why two runs are not compared.
-fn is_in_line(rt: &(impl AllocGlobal + Abort), trouble: Trouble, told: &str) {
+/// Checks the line that explains why two runs are not compared.
+fn is_in_line(rt: &(impl AllocGlobal + Abort), trouble: AnalysisFault, told: &str) {
     let mut err = Vec::new(rt.alloc());
     holds(rt, trouble.write_to(&mut err).is_ok(), told);
     same(rt, err.as_slice(), told.as_bytes(), told);
 }
 
-/// An empty rope is told of the run on the left as it is, and of the one on the right as the other run's; a
-/// limit of 0 is of both.
+/// An empty rope is reported as usual for the left run, and as the other run's for the right run; a limit of 0
+/// concerns both.
 #[test]
 fn the_run_at_fault_is_named(rt: HostRuntime) {
     let ropes: [(&[u8], &[u8], u64, &str); 3] = [
@@ -422,9 +427,9 @@ fn the_run_at_fault_is_named(rt: HostRuntime) {
     }
 }
 
-/// What is asked of a film of a run up to cycle 10.
-fn filming(files: RunFiles, part: Part, watch: Option<String>) -> Filming {
-    Filming {
+/// Returns the arguments to film a run up to cycle 10.
+fn filming(files: RunFiles, part: Part, watch: Option<String>) -> FilmArgs {
+    FilmArgs {
         files,
         other: None,
         part,
@@ -438,12 +443,12 @@ fn filming(files: RunFiles, part: Part, watch: Option<String>) -> Filming {
 
 fn filmed(
     rt: &impl AllocGlobal,
-    asked: &Filming,
+    asked: &FilmArgs,
     rope: &[u8],
     script: &[u8],
-) -> Result<FilmPage, Refusal> {
+) -> Result<FilmPage, LoadFault> {
     let (mut rope, mut script) = (rope, script);
-    film_files(rt.alloc(), asked, &mut rope, &mut script, &mut Untold)
+    film_files(rt.alloc(), asked, &mut rope, &mut script, &mut NoProgress)
 }
 
 /// The order WRITE 10 after EXTEND, with PROG 12 in A: its film has one frame, at the cycle of the write.
@@ -469,9 +474,9 @@ fn runs_are_filmed(rt: HostRuntime) {
     holds(&rt, !page.text.as_str().contains("frame 7"), "frame 7");
 }
 
-/// What is asked for of the tables of a run at its tenth cycle.
-fn watching(rt: &(impl AllocGlobal + Abort), watch: &str) -> Watching {
-    Watching {
+/// Returns the arguments to print the tables of a run at its tenth cycle.
+fn watching(rt: &(impl AllocGlobal + Abort), watch: &str) -> JobsArgs {
+    JobsArgs {
         rope: String::new(rt.alloc()),
         script: String::new(rt.alloc()),
         form: RopeForm::Classic,
@@ -482,34 +487,41 @@ fn watching(rt: &(impl AllocGlobal + Abort), watch: &str) -> Watching {
     }
 }
 
-/// The cycle at which a run stops whose tables are written.
+/// Returns the cycle at which a run stops whose tables are written.
 fn watched(
     rt: &impl AllocGlobal,
-    asked: &Watching,
+    asked: &JobsArgs,
     rope: &[u8],
     out: &mut Vec<u8>,
-) -> Result<u64, Untraced> {
+) -> Result<u64, TraceError> {
     let (mut rope, mut script): (&[u8], &[u8]) = (rope, b"");
-    let machine = watch_files(rt.alloc(), asked, &mut rope, &mut script, out, &mut Untold)?;
+    let machine = watch_files(
+        rt.alloc(),
+        asked,
+        &mut rope,
+        &mut script,
+        out,
+        &mut NoProgress,
+    )?;
     Ok(machine.cycle())
 }
 
-/// Looks that this is told of why there is no whole answer, with this status.
-fn is_told(rt: &(impl AllocGlobal + Abort), untraced: Untraced, status: u8, told: &str) {
+/// Checks the error line of an incomplete result, with this status.
+fn is_told(rt: &(impl AllocGlobal + Abort), error: TraceError, status: u8, told: &str) {
     let mut err = Vec::new(rt.alloc());
-    same(rt, status_of_untraced(untraced, &mut err), status, told);
+    same(rt, status_of_trace_error(error, &mut err), status, told);
     same(rt, err.as_slice(), told.as_bytes(), told);
 }
 
-/// Looks that of a run no tables are written, and what is told of it.
-fn is_not_watched(rt: &(impl AllocGlobal + Abort), asked: &Watching, rope: &[u8], told: &str) {
+/// Checks that no tables of a run are written, and the error line.
+fn is_not_watched(rt: &(impl AllocGlobal + Abort), asked: &JobsArgs, rope: &[u8], told: &str) {
     let mut out = Vec::new(rt.alloc());
-    let untraced = watched(rt, asked, rope, &mut out).err();
-    is_told(rt, untraced.expect(rt, told), 2, told);
+    let error = watched(rt, asked, rope, &mut out).err();
+    is_told(rt, error.expect(rt, told), 2, told);
     holds(rt, out.is_empty(), told);
 }
 
-/// Where a run's tables are asked for, the text of `--watch` is looked at after the files.
+/// If a run's tables are requested, the text of `--watch` is checked after the files.
 #[test]
 fn tables_are_watched(rt: HostRuntime) {
     for (rope, watch, told) in [
@@ -534,7 +546,8 @@ fn tables_are_watched(rt: HostRuntime) {
     holds(&rt, out.as_slice().starts_with(b"10 LST1 00000 "), "tables");
 }
 
-/// As in `agc` the text of `--watch` is looked at before that of `--until`, and after both where its tables stand.
+/// As in `agc`, the text of `--watch` is checked before that of `--until`, and the addresses of the tables after
+/// both.
 #[test]
 fn the_text_of_watch_is_told_before_that_of_until(rt: HostRuntime) {
     for (watch, told) in [
@@ -547,8 +560,8 @@ fn the_text_of_watch_is_told_before_that_of_until(rt: HostRuntime) {
     }
 }
 
-/// What is asked of a film of the last two cycles of a run, with its tables.
-fn filming_tables(rt: &(impl AllocGlobal + Abort), watch: &str) -> Filming {
+/// Returns the arguments to film the last two cycles of a run, with its tables.
+fn filming_tables(rt: &(impl AllocGlobal + Abort), watch: &str) -> FilmArgs {
     let files = RunFiles {
         rope: String::new(rt.alloc()),
         script: String::new(rt.alloc()),
@@ -556,16 +569,16 @@ fn filming_tables(rt: &(impl AllocGlobal + Abort), watch: &str) -> Filming {
     filming(files, Part { from: 9, to: 10 }, Some(owned(rt, watch)))
 }
 
-/// Looks that a run is not filmed with these tables, and what is told of it.
+/// Checks that a run is not filmed with these tables, and the error line.
 fn is_not_filmed(rt: &(impl AllocGlobal + Abort), rope: &[u8], watch: &str, told: &str) {
     let refusal = filmed(rt, &filming_tables(rt, watch), rope, b"").err();
-    let trouble = Trouble::Refused(refusal.expect(rt, told));
+    let trouble = AnalysisFault::Refused(refusal.expect(rt, told));
     let mut err = Vec::new(rt.alloc());
-    same(rt, trouble.tell_to(&mut err), 2, told);
+    same(rt, trouble.report_to(&mut err), 2, told);
     same(rt, err.as_slice(), told.as_bytes(), told);
 }
 
-/// Where a film shows a run's tables, the text of `--watch` is looked at after the files; the tables begin at the first
+/// If a film shows a run's tables, the text of `--watch` is checked after the files; the tables begin at the first
 /// cycle of the film.
 #[test]
 fn tables_are_filmed(rt: HostRuntime) {
@@ -591,13 +604,13 @@ fn tables_are_filmed(rt: HostRuntime) {
     assert!(rt; page.text.as_str().contains("-tables\">\n9 LST1 00000 "));
 }
 
-/// The last cycle of which this command line wants something.
+/// Returns the last cycle that a command line needs.
 fn last_of(rt: &(impl AllocGlobal + Abort), line: &str) -> u64 {
     let asked = asked(rt, line);
     last_cycle(&asked)
 }
 
-/// What is told is how far it is to the cycle after which nothing is printed.
+/// Progress is relative to the cycle after which nothing is printed.
 #[test]
 fn last_cycles(rt: HostRuntime) {
     for (line, last) in [

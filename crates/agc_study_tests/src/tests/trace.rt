@@ -1,15 +1,14 @@
-//! Traces of small programs, worked out by hand.
+//! Tests traces of small programs, worked out by hand.
 use super::{between, has_lines, machine_of, same};
-use agc_places::{Places, PlacesFault};
+use agc_io::NoProgress;
+use agc_listing::{Location, LocationRange, RangeFault, location_at};
 use agc_processor::Rupt;
-use agc_progress::Untold;
-use agc_source_words::{Location, location_at};
 use agc_store::Addr;
 use agc_trace::{Only, Selection, Service, trace};
 use std::process::Abort;
 use std::test::Fail;
 
-/// What is selected of the trace of a run of a listing.
+/// Returns the selected trace lines of a run of a listing.
 fn traced(
     rt: &(impl AllocGlobal + Abort),
     listing: &str,
@@ -25,13 +24,13 @@ fn traced(
         selection,
         &None,
         &mut out,
-        &mut Untold,
+        &mut NoProgress,
     );
     assert!(rt; told.is_ok());
     String::from_utf8(out).ok().expect(rt, "a text")
 }
 
-/// Looks that these are the lines of what is selected of the trace of a run of a listing.
+/// Checks the selected trace lines of a run of a listing.
 fn shows(
     rt: &(impl AllocGlobal + Abort),
     listing: &str,
@@ -44,26 +43,30 @@ fn shows(
     has_lines(rt, text.as_str(), lines);
 }
 
-/// Asks for the orders at places too.
+/// Also selects the orders at locations.
 fn ask_for_places(rt: &impl Abort, selection: &mut Selection, text: &str) {
-    let places = Places::named(text.as_bytes()).ok().expect(rt, "places");
+    let places = LocationRange::named(text.as_bytes())
+        .ok()
+        .expect(rt, "places");
     selection.places.push(places).ok().expect(rt, "memory");
 }
 
-/// Asks for the orders of a mnemonic too.
+/// Also selects the orders with a mnemonic.
 fn ask_for_order(rt: &(impl AllocGlobal + Abort), selection: &mut Selection, name: &str) {
     let name = name.to_string(rt.alloc()).ok().expect(rt, "memory");
     selection.orders.push(name).ok().expect(rt, "memory");
 }
 
-/// Asks for the orders at a channel too.
+/// Also selects the orders on a channel.
 fn ask_for_channel(rt: &impl Abort, selection: &mut Selection, channel: u16) {
     selection.channels.push(channel).ok().expect(rt, "memory");
 }
 
-/// Asks for cells too.
+/// Also selects cells.
 fn ask_for_cells(rt: &impl Abort, selection: &mut Selection, text: &str) {
-    let cells = Places::of_cells(text.as_bytes()).ok().expect(rt, "cells");
+    let cells = LocationRange::of_cells(text.as_bytes())
+        .ok()
+        .expect(rt, "cells");
     selection.cells.push(cells).ok().expect(rt, "memory");
 }
 
@@ -99,7 +102,7 @@ fn ten_bytes(rt: HostRuntime) {
     );
 }
 
-/// Of the same run the order that writes, and the orders that jump; the stop stands with both.
+/// From the same run the order that writes, and the orders that jump; the stop is in both selections.
 #[test]
 fn writes_and_jumps(rt: HostRuntime) {
     shows(
@@ -126,8 +129,8 @@ fn writes_and_jumps(rt: HostRuntime) {
     );
 }
 
-/// Of the same run the orders at two places, and then those of them that are called EXTEND. The places are named by
-/// their bank, where the lines have four digits.
+/// From the same run the orders at two locations, and then those at these locations that are called EXTEND. The
+/// locations are written with their bank, where the lines have four digits.
 #[test]
 fn orders_at_places(rt: HostRuntime) {
     let extend = "2 4001 00006 EXTEND | A 154171 L 00000 Q 000000 Z 4003 EB 0 FB 00";
@@ -142,8 +145,8 @@ fn orders_at_places(rt: HostRuntime) {
     shows(&rt, TEN_BYTES, "", 10, &selection, &[extend, stop]);
 }
 
-/// Of the same run the order that writes to channel 10. Nothing reads or writes channel 11, or channel 4, as CA 4004 and
-/// TCF 4003 would if their last digits were a channel's.
+/// From the same run the order that writes to channel 10. Nothing reads or writes channel 11, or channel 4, as CA
+/// 4004 and TCF 4003 would if their last digits were a channel's.
 #[test]
 fn orders_at_a_channel(rt: HostRuntime) {
     let write = "3 4002 01010 WRITE 010 > 010 54171 | A 154171 L 00000 Q 000000 Z 4004 EB 0 FB 00";
@@ -156,7 +159,7 @@ fn orders_at_a_channel(rt: HostRuntime) {
     shows(&rt, TEN_BYTES, "", 10, &selection, &[write, stop]);
 }
 
-/// Of the same run the last lines: of all, of the orders that write, and of a range that ends before the stop.
+/// From the same run the last lines: of all, of the orders that write, and of a range that ends before the stop.
 #[test]
 fn last_lines(rt: HostRuntime) {
     let before = "9 4003 14003 TCF 4003 | A 154171 L 00000 Q 000000 Z 4004 EB 0 FB 00";
@@ -176,7 +179,7 @@ fn last_lines(rt: HostRuntime) {
     last(3, None, 1, &[write]);
 }
 
-/// The places that texts name: 2000 octal times its bank and the offset, or of a cell 400 times.
+/// The locations that texts name: 2000 octal times the bank, plus the offset; for a cell 400 times.
 #[test]
 fn places_by_name(rt: HostRuntime) {
     for (text, first, last) in [
@@ -203,27 +206,27 @@ fn places_by_name(rt: HostRuntime) {
             Location::Erasable(0o777),
         ),
     ] {
-        let named = Places::named(text.as_bytes());
-        same(&rt, named, Ok(Places { first, last }), text);
+        let named = LocationRange::named(text.as_bytes());
+        same(&rt, named, Ok(LocationRange { first, last }), text);
     }
     for (text, fault) in [
-        ("", PlacesFault::BadPlace),
-        ("410x", PlacesFault::BadPlace),
-        ("44,2000", PlacesFault::BadPlace),
-        ("02,2100", PlacesFault::BadPlace),
-        ("4100-", PlacesFault::BadPlace),
-        ("-4100", PlacesFault::BadPlace),
-        ("4100-4101-4102", PlacesFault::BadPlace),
-        ("5777-6000", PlacesFault::BadRange),
-        ("4101-4100", PlacesFault::BadRange),
-        ("0377-0400", PlacesFault::BadRange),
-        ("0400-4000", PlacesFault::BadRange),
+        ("", RangeFault::BadPlace),
+        ("410x", RangeFault::BadPlace),
+        ("44,2000", RangeFault::BadPlace),
+        ("02,2100", RangeFault::BadPlace),
+        ("4100-", RangeFault::BadPlace),
+        ("-4100", RangeFault::BadPlace),
+        ("4100-4101-4102", RangeFault::BadPlace),
+        ("5777-6000", RangeFault::BadRange),
+        ("4101-4100", RangeFault::BadRange),
+        ("0377-0400", RangeFault::BadRange),
+        ("0400-4000", RangeFault::BadRange),
     ] {
-        same(&rt, Places::named(text.as_bytes()), Err(fault), text);
+        same(&rt, LocationRange::named(text.as_bytes()), Err(fault), text);
     }
 }
 
-/// The cells that texts name, and why others name none.
+/// The cells that texts name, and why other texts name none.
 #[test]
 fn cells_by_name(rt: HostRuntime) {
     for (text, first, last) in [
@@ -232,19 +235,24 @@ fn cells_by_name(rt: HostRuntime) {
         ("E2,1777", 0o1377, 0o1377),
     ] {
         let (first, last) = (Location::Erasable(first), Location::Erasable(last));
-        let named = Places::of_cells(text.as_bytes());
-        same(&rt, named, Ok(Places { first, last }), text);
+        let named = LocationRange::of_cells(text.as_bytes());
+        same(&rt, named, Ok(LocationRange { first, last }), text);
     }
     for (text, fault) in [
-        ("4100", PlacesFault::NotErasable),
-        ("02,2100-02,2101", PlacesFault::BadPlace),
-        ("05,2071-2100", PlacesFault::BadPlace),
-        ("1400", PlacesFault::BadPlace),
-        ("0377-0400", PlacesFault::BadRange),
-        ("0100-4000", PlacesFault::BadRange),
-        ("4000-4001", PlacesFault::NotErasable),
+        ("4100", RangeFault::NotErasable),
+        ("02,2100-02,2101", RangeFault::BadPlace),
+        ("05,2071-2100", RangeFault::BadPlace),
+        ("1400", RangeFault::BadPlace),
+        ("0377-0400", RangeFault::BadRange),
+        ("0100-4000", RangeFault::BadRange),
+        ("4000-4001", RangeFault::NotErasable),
     ] {
-        same(&rt, Places::of_cells(text.as_bytes()), Err(fault), text);
+        same(
+            &rt,
+            LocationRange::of_cells(text.as_bytes()),
+            Err(fault),
+            text,
+        );
     }
 }
 
@@ -257,8 +265,8 @@ static CHANGES: &str = "
 4004 00007 seven
 ";
 
-/// CA 4004, TS 0100 and INCR 0100 from 0, 2 and 4 on, two cycles each; the script writes E3,1400 twice at 7, the second
-/// time the same word. A has sixteen bits.
+/// CA 4004, TS 0100 and INCR 0100 from 0, 2 and 4 on, two cycles each; the script writes E3,1400 twice at 7, the
+/// second time the same word. A has sixteen bits.
 #[test]
 fn who_wrote_a_cell(rt: HostRuntime) {
     let load =
@@ -303,7 +311,7 @@ fn an_order_in_the_window_stands_in_its_bank(rt: HostRuntime) {
     }
 }
 
-/// Waits, and serves a key by going back at once.
+/// Waits, and serves a key by returning at once.
 static KEY: &str = "
 4000 14000 TCF 4000
 4024 50017 RESUME
@@ -326,14 +334,14 @@ fn interrupts(rt: HostRuntime) {
     );
 }
 
-/// Waits, goes back from a key at once, and never from one of the second keyboard.
+/// Waits, returns from a key at once, and never from a key of the second keyboard.
 static TWO_KEYS: &str = "
 4000 14000 TCF 4000
 4024 50017 RESUME
 4030 14030 TCF 4030
 ";
 
-/// The service that the trace of a run of both keys tells of at its end.
+/// Returns the service that the trace of a run of both keys reports at its end.
 fn service_left(
     rt: &(impl AllocGlobal + Abort),
     limit: u64,
@@ -347,15 +355,15 @@ fn service_left(
         selection,
         &None,
         &mut out,
-        &mut Untold,
+        &mut NoProgress,
     )
     .ok()
     .expect(rt, "memory")
 }
 
-/// Interrupts that were taken, and not ended. KEYRUPT1 is taken at 2 and ended by the RESUME that begins at 5; KEYRUPT2,
-/// asked for meanwhile, is taken at 7, and serves from 10 on. A range that ends before the stop, or begins after the
-/// interrupt, tells of no service.
+/// Interrupts that were taken and not ended. KEYRUPT1 is taken at 2 and ended by the RESUME that begins at 5;
+/// KEYRUPT2, requested meanwhile, is taken at 7, and serves from 10 on. A range that ends before the stop, or begins
+/// after the interrupt, reports no service.
 #[test]
 fn services_at_the_stop(rt: HostRuntime) {
     let first = Service {
@@ -406,7 +414,7 @@ fn far_ranges(rt: HostRuntime) {
     shows(&rt, WAITS, "", 10, &past_the_stop, &[]);
 }
 
-/// Waits, and serves each of the ten interrupts by going back at once.
+/// Waits, and serves each of the ten interrupts by returning at once.
 static SERVES_ALL: &str = "
 4000 14000 TCF 4000
 4004 50017 RESUME
@@ -421,7 +429,7 @@ static SERVES_ALL: &str = "
 4050 50017 RESUME
 ";
 
-/// Each kind of event; bit 15 of channel 13 puts TIME6 on.
+/// Each kind of event; bit 15 of channel 13 switches TIME6 on.
 static EVERYTHING: &str = "
 0 raise 1
 0 raise 2
@@ -491,10 +499,10 @@ static HAPPENINGS: [(&str, &str); 40] = [
     ("860 - stop Limit", "4001"),
 ];
 
-/// Each event, timer and interrupt by its name. An interrupt takes three cycles and RESUME two, so the ten come
-/// five cycles apart; a pulse takes one cycle. TIME6 is on from 56 on, after 672 pulses, and steps where 1280 have
-/// gone by, at 107: it finds a zero, and asks for T6RUPT. The first steps of the others are due at 5120 pulses
-/// (TIME5), 7680 (TIME4) and 10240 (TIME1, and TIME3 after it), twelve of which are a cycle.
+/// Each event, timer and interrupt by its name. An interrupt takes three cycles and RESUME two, so the ten come five
+/// cycles apart; a pulse takes one cycle. TIME6 is on from 56 on, after 672 pulses, and steps when 1280 pulses have
+/// gone by, at 107: it finds a zero, and requests T6RUPT. The first steps of the other timers are due at 5120 pulses
+/// (TIME5), 7680 (TIME4) and 10240 (TIME1, and TIME3 after it), with twelve pulses a cycle.
 #[test]
 fn all_that_happens(rt: HostRuntime) -> Result<(), Fail> {
     let text = traced(

@@ -1,5 +1,5 @@
-//! The grammar of scripts at its edges: what `Script::parse` takes, `check` calls sound, and what it
-//! refuses, `check` explains by the same range or names.
+//! Tests the grammar of scripts at its edges: `check` finds no fault in what `Script::parse` accepts, and explains
+//! what it rejects with the same range or names.
 use super::super::holds;
 use super::*;
 use agc_script::{
@@ -7,7 +7,7 @@ use agc_script::{
     direction_name,
 };
 
-/// Why `Script::parse` refuses a script.
+/// Returns why `Script::parse` rejects a script.
 fn fault_of(rt: &(impl AllocGlobal + Abort), script: &str) -> Option<FaultKind> {
     match Script::parse(rt.alloc(), script.as_bytes()) {
         Ok(_) => None,
@@ -15,18 +15,18 @@ fn fault_of(rt: &(impl AllocGlobal + Abort), script: &str) -> Option<FaultKind> 
     }
 }
 
-/// Whether `check` finds no fault in a script.
+/// Returns whether `check` finds no fault in a script.
 fn is_sound(rt: &(impl AllocGlobal + Abort), script: &[u8]) -> bool {
     report(rt, RopeForm::Classic, ROPE.as_slice(), script).is_sound
 }
 
-/// Looks that a script is taken.
+/// Checks that a script is accepted.
 fn taken(rt: &(impl AllocGlobal + Abort), script: &str) {
     same(rt, fault_of(rt, script), None, script);
     holds(rt, is_sound(rt, script.as_bytes()), script);
 }
 
-/// What is told of a script of one line.
+/// Returns the report on a script of one line.
 fn told_of_line(
     rt: &(impl AllocGlobal + Abort),
     script: &str,
@@ -38,14 +38,14 @@ fn told_of_line(
         .expect(rt, "memory")
 }
 
-/// Looks that a script of one line is refused for this kind, and that this is told of it.
+/// Checks that a script of one line is rejected for this kind of fault, and how it is reported.
 fn refused(rt: &(impl AllocGlobal + Abort), script: &str, kind: FaultKind, why: &str) {
     same(rt, fault_of(rt, script), Some(kind), script);
     let text = told_of_line(rt, script, kind, why);
     told(rt, script.as_bytes(), text.as_str(), false);
 }
 
-/// A range of the grammar: the line is a cycle, the words before a number, the number, and those after it.
+/// A range of the grammar: the line is a cycle, the words before a number, the number, and the words after it.
 struct Edge {
     before: &'static str,
     after: &'static str,
@@ -113,7 +113,7 @@ static EDGES: [Edge; 8] = [
     },
 ];
 
-/// The line of this number and the words before and after it.
+/// Returns the line with this number and the words before and after it.
 fn line_of<'a>(
     rt: &(impl AllocGlobal + Abort),
     before: &'a str,
@@ -144,7 +144,7 @@ fn refuses_long(rt: &(impl AllocGlobal + Abort), edge: &Edge) {
     refused(rt, line.as_str(), FaultKind::BadNumber, why.as_str());
 }
 
-/// Both ends of each range are taken, and the numbers beside them are refused by that range, as is one of seven
+/// Both ends of each range are accepted, and their neighbours are rejected by that range, as is a number of seven
 /// digits.
 #[test]
 fn ranges(rt: HostRuntime) {
@@ -155,13 +155,13 @@ fn ranges(rt: HostRuntime) {
     }
 }
 
-/// Looks that a line of this command and this name is taken.
+/// Checks that a line of this command and this name is accepted.
 fn takes_name<'a>(rt: &(impl AllocGlobal + Abort), command: &'a str, name: &'a str) {
     let line = joined(rt, &["0 ", command, " ", name]);
     taken(rt, line.as_str());
 }
 
-/// Each name of the tables is taken, and these are all that there are.
+/// Each name of the tables is accepted, and there are no other names.
 #[test]
 fn tables(rt: HostRuntime) {
     for key in Key::ALL {
@@ -181,7 +181,7 @@ fn tables(rt: HostRuntime) {
     );
 }
 
-/// What is told of a line with a word more than its command has.
+/// Returns the report on a line with one word too many for its command.
 fn form_told(rt: &(impl AllocGlobal + Abort), usage: &str, command: Command) -> String {
     let given = command.argument_count().saturating_add(1);
     format!(in rt.alloc(); "`{usage}` is right: here are {given} words after the command")
@@ -189,7 +189,7 @@ fn form_told(rt: &(impl AllocGlobal + Abort), usage: &str, command: Command) -> 
         .expect(rt, "memory")
 }
 
-/// Looks that a line is taken, and with a word more refused.
+/// Checks that a line is accepted, and rejected with one more word.
 fn has_form(rt: &(impl AllocGlobal + Abort), right: &str, usage: &str, command: Command) {
     taken(rt, joined(rt, &["0 ", right]).as_str());
     let line = joined(rt, &["0 ", right, " 0"]);
@@ -197,7 +197,7 @@ fn has_form(rt: &(impl AllocGlobal + Abort), right: &str, usage: &str, command: 
     refused(rt, line.as_str(), FaultKind::UnknownWord, why.as_str());
 }
 
-/// A command with a word more than it has is refused, and its form told.
+/// A command with one word too many is rejected, and its form is printed.
 #[test]
 fn forms(rt: HostRuntime) {
     for (right, usage, command) in [
@@ -212,13 +212,13 @@ fn forms(rt: HostRuntime) {
     }
 }
 
-/// Looks whether a comment of so many bytes is taken.
+/// Checks whether a comment of this many bytes is accepted.
 fn comment_of(rt: &(impl AllocGlobal + Abort), bytes: usize, is_taken: bool) {
     let line = repeated(rt, b'#', bytes);
     same(rt, is_sound(rt, line.as_slice()), is_taken, "a comment");
 }
 
-/// The last cycle, the most events and the longest line are taken, and one more of each is not.
+/// The last cycle, the largest number of events and the longest line are accepted, and one more of each is rejected.
 #[test]
 fn bounds(rt: HostRuntime) {
     same(&rt, LAST_CYCLE, 1_000_000_000_000, "cycle");

@@ -1,34 +1,42 @@
-//! How traces end, and files of more bytes than a rope may have.
+//! Tests how traces end, and files with more bytes than a rope may have.
 use super::super::{between, repeated};
 use super::*;
-use agc_asked::Tracing;
+use agc_analysis::{remark_service, trace_files};
+use agc_io::{ROPE_BYTES, ReadFault};
 use agc_machine::LimitFault;
 use agc_processor::Rupt;
-use agc_results::{remark_service, trace_files};
-use agc_setup::{ROPE_BYTES, ReadFault};
-use agc_test_kit::rope_file;
+use agc_study_args::TraceArgs;
+use agc_test_support::rope_file;
 use agc_trace::{Service, TraceFault};
 use std::io::{self, ErrorKind, Write};
 
-/// Where no whole trace was written, what is told of it, and the status.
+/// The error line and the status of an incomplete trace.
 #[test]
 fn traces_end(rt: HostRuntime) {
-    for (untraced, status, told) in [
+    for (error, status, told) in [
         (
-            Untraced::Refused(Refusal::BadUntilSpec),
+            TraceError::Refused(LoadFault::BadUntilSpec),
             2,
             "agc-study: until: BadSpec\n",
         ),
-        (Untraced::Refused(Refusal::Memory), 2, "agc-study: memory\n"),
-        (Untraced::Cut(TraceFault::Write), 3, ""),
-        (Untraced::Cut(TraceFault::Memory), 3, "agc-study: memory\n"),
+        (
+            TraceError::Refused(LoadFault::Memory),
+            2,
+            "agc-study: memory\n",
+        ),
+        (TraceError::Cut(TraceFault::Write), 3, ""),
+        (
+            TraceError::Cut(TraceFault::Memory),
+            3,
+            "agc-study: memory\n",
+        ),
     ] {
-        is_told(&rt, untraced, status, told);
-        same(&rt, status_of_untraced(untraced, &mut Full), 3, told);
+        is_told(&rt, error, status, told);
+        same(&rt, status_of_trace_error(error, &mut Full), 3, told);
     }
 }
 
-/// A stream that takes nothing.
+/// A stream that accepts nothing.
 #[derive(Drop)]
 struct Full;
 
@@ -42,15 +50,15 @@ impl Write for Full {
     }
 }
 
-/// Waits, and serves a key without an end.
+/// Waits, and serves a key without ending the service.
 static SERVES: &str = "
 4000 14000 TCF 4000
 4024 14024 TCF 4024
 ";
 
-/// Every line of a run, up to a limit.
-fn tracing(rt: &impl AllocGlobal, limit: u64) -> Tracing {
-    Tracing {
+/// Returns the arguments to trace every line of a run, up to a limit.
+fn tracing(rt: &impl AllocGlobal, limit: u64) -> TraceArgs {
+    TraceArgs {
         rope: String::new(rt.alloc()),
         script: String::new(rt.alloc()),
         form: RopeForm::Classic,
@@ -63,19 +71,19 @@ fn tracing(rt: &impl AllocGlobal, limit: u64) -> Tracing {
     }
 }
 
-/// The rope file of SERVES.
+/// Returns the rope file of SERVES.
 fn serves(rt: &(impl AllocGlobal + Abort)) -> Vec<u8> {
     rope_file(rt.alloc(), SERVES).ok().expect(rt, "a rope file")
 }
 
-/// The service that has not ended where a trace does.
+/// Returns the service that is still in progress at the end of a trace.
 fn service_of(
     rt: &impl AllocGlobal,
     rope: &[u8],
     script: &[u8],
     limit: u64,
     out: &mut impl Write,
-) -> Result<Option<Service>, Untraced> {
+) -> Result<Option<Service>, TraceError> {
     let (mut rope, mut script) = (rope, script);
     let traced = trace_files(
         rt.alloc(),
@@ -84,7 +92,7 @@ fn service_of(
         &mut rope,
         &mut script,
         out,
-        &mut Untold,
+        &mut NoProgress,
     )?;
     Ok(traced.service)
 }
@@ -106,45 +114,49 @@ fn a_service_is_told(rt: HostRuntime) {
     same(&rt, remarks.as_slice(), line.as_slice(), "remark");
 }
 
-/// A run that is refused, of which nothing is written, and a trace that cannot be written.
+/// A run that is rejected, for which nothing is written, and a trace that cannot be written.
 #[test]
 fn traces_fail(rt: HostRuntime) {
     let rope = serves(&rt);
-    let files: [(&[u8], u64, Untraced); 3] = [
-        (b"", 6, Untraced::Refused(Refusal::Rope(RopeFault::Empty))),
+    let files: [(&[u8], u64, TraceError); 3] = [
+        (
+            b"",
+            6,
+            TraceError::Refused(LoadFault::Rope(RopeFault::Empty)),
+        ),
         (
             rope.as_slice(),
             0,
-            Untraced::Refused(Refusal::Limit(LimitFault::Zero)),
+            TraceError::Refused(LoadFault::Limit(LimitFault::Zero)),
         ),
-        (rope.as_slice(), 6, Untraced::Cut(TraceFault::Write)),
+        (rope.as_slice(), 6, TraceError::Cut(TraceFault::Write)),
     ];
-    for (rope, limit, untraced) in files {
+    for (rope, limit, error) in files {
         let service = service_of(&rt, rope, b"", limit, &mut Full);
-        assert_eq!(rt; service, Err(untraced));
+        assert_eq!(rt; service, Err(error));
     }
 }
 
-/// Whether a report finds no fault.
-fn is_sound(rt: &impl Abort, report: Result<Report, Trouble>) -> bool {
+/// Returns whether a report finds no fault.
+fn is_sound(rt: &impl Abort, report: Result<Report, AnalysisFault>) -> bool {
     report.ok().expect(rt, "a report").is_sound
 }
 
-/// A script and a text may have more bytes than a rope, which is not read then.
+/// A script and a text may have more bytes than a rope; such a rope is not read.
 #[test]
 fn long_files_are_read(rt: HostRuntime) {
     let long = repeated(&rt, b'\n', ROPE_BYTES.saturating_add(1));
     let of_script = checked(&rt, &[0x70, 0x08], long.as_slice());
     holds(&rt, is_sound(&rt, of_script), "script");
     let refused = checked(&rt, long.as_slice(), b"").err();
-    let too_many = Refusal::CannotReadRope(ReadFault::TooMany);
-    same(&rt, refused, Some(Trouble::Refused(too_many)), "rope");
+    let too_many = LoadFault::CannotReadRope(ReadFault::TooMany);
+    same(&rt, refused, Some(AnalysisFault::Refused(too_many)), "rope");
     let of_listing = listing_report(&rt, long.as_slice());
     holds(&rt, of_listing.is_sound, "listing");
     weaves_after(&rt, long);
 }
 
-/// Looks that a word after these lines is woven.
+/// Checks that a word after these lines is assembled.
 fn weaves_after(rt: &(impl AllocGlobal + Abort), lines: Vec<u8>) {
     let mut text = lines;
     text.extend_from_slice(b"4000 34004")

@@ -2,7 +2,7 @@ use Rattle.std.proofs.Common.{◌≡◌, ◌∙◌, ap}
 use Rattle.agc_store.specs.Cells.{start_memory}
 use Rattle.agc_store.specs.Memory.{Memory}
 use Rattle.agc_store.specs.RopeFile.{rope_words}
-use Rattle.agc_rope_listing.specs.List.{rope_text}
+use Rattle.agc_listing.specs.List.{rope_text}
 use Rattle.agc_study_tests.proofs.tests.rope_listing.rope_by_its_listing.Goals as goal
 
 pub returns : goal.returns
