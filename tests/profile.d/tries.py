@@ -1,4 +1,4 @@
-"""Compares what `agc-study count` tells with a slow count over the lines of the plain trace."""
+"""Compares what `agc-study profile` tells with a slow count over the lines of the plain trace."""
 
 import csv
 import random
@@ -107,7 +107,7 @@ def told_by(rope, script, limit, first, last):
 
 def counted(rope, script, limit, first, last):
     """The tallies that a count prints and how often places were read, those that are not all 0."""
-    words = ["count", rope, script, "--limit", str(limit), "--from", str(first), "--to", str(last)]
+    words = ["profile", rope, script, "--limit", str(limit), "--from", str(first), "--to", str(last)]
     rows = list(csv.DictReader(run([*words, "--csv"]).splitlines()))
     columns = [line.split(None, 3) for line in run(words).splitlines()[1:]]
     shown = [(row["times"], row["cycles"], row["data"] or "-", " ".join(filter(None, (row["kind"], row["name"], row["order"]))))
