@@ -1,6 +1,5 @@
 #!/bin/bash
-# agc WORD ..: runs the emulator with these words. launch/start.sh says how its program is found, and built
-# where that is needed.
+# agc WORD ..: runs the emulator. launch/start.sh finds its program, and builds it if that is needed.
 [ ! -h "$0" ] || exec "$(readlink -f "$0")" "$@"
 name=agc
 crate=agc_run
