@@ -36,6 +36,7 @@ can_start() {
     why="prebuilt/x86_64-linux/$name or prebuilt/$name.sources is not the file that prebuilt/MANIFEST names" && is_whole || return
     ! why=$("$prebuilt" --help 2>&1 >/dev/null) || return 0
     local libc && libc=$(getconf GNU_LIBC_VERSION 2>/dev/null)
-    why="the prebuilt program needs x86-64 Linux with glibc 2.34 or later, and does not start here ($HOSTTYPE${libc:+, $libc}): ${why%%$'\n'*}"
+    why=${why%%$'\n'*} && why=${why#*: line *: }
+    why="the prebuilt program needs x86-64 Linux with glibc 2.34 or later, and does not start here ($HOSTTYPE${libc:+, $libc}): $why"
     return 1
 }
