@@ -10,13 +10,13 @@ pub mod Spans
 pub mod Spanned
 pub mod Passing
 pub mod Recorded
-pub mod Recording
+pub mod RecordedFilm
 pub mod Filmed
 pub mod Parted
 pub mod Pressed
 pub mod Cuts
 pub mod PanelAt
-pub mod Shown
+pub mod ShownPanel
 pub mod Laid
 pub mod Told
 pub mod Unpacked
@@ -25,4 +25,4 @@ pub mod Differ
 pub mod Alone
 pub mod Together
 pub mod Apart
-pub mod Watching
+pub mod WatchedFilm

@@ -14,7 +14,7 @@ use Rattle.agc_timeline.specs.Packed.{blank_lines, is_keyframe, lines_written, n
 use Rattle.agc_timeline.specs.declared.frame.Frame.{Frame}
 use Rattle.agc_timeline.specs.declared.part.Part.{Part}
 use Rattle.agc_timeline.proofs.Laid.{all_written, are_apart, laid}
-use Rattle.agc_timeline.proofs.Shown.{film_is_the_panel}
+use Rattle.agc_timeline.proofs.ShownPanel.{film_is_the_panel}
 use Rattle.agc_timeline.proofs.Told.{told_is_shown}
 
 -- the names of a panel's lines

@@ -10,7 +10,7 @@ ghost use Rattle.agc_timeline.specs.declared.frame.Frame.{Frame};
 ghost use Rattle.agc_timeline.specs.declared.part.Part.{Part};
 
 /// At each cycle of a part, its film shows what the panel shows after the writes of the whole run up to that cycle.
-#[tactic(auto, using(crate::proofs::Shown::film_is_the_panel))]
+#[tactic(auto, using(crate::proofs::ShownPanel::film_is_the_panel))]
 pub fn a_film_shows_the_panel()
     ensures { (s : State) (part : Part) (cycle : ℕ) → part.from ≤ cycle → cycle ≤ part.to
         → shown_at (frames_of_run part s) cycle ≡ shown_after (writes_up_to cycle s) }

@@ -2,7 +2,7 @@ use Rattle.std.proofs.Common.{◌≡◌, rules, ◌∙◌, arith}
 use Rattle.agc_timeline.specs.Frames.{last_of}
 use Rattle.agc_timeline.specs.Recording.{end_of}
 use Rattle.agc_timeline.proofs.Filmed.{frames_of_part}
-use Rattle.agc_timeline.proofs.Watching.{if_ok}
+use Rattle.agc_timeline.proofs.WatchedFilm.{if_ok}
 use Rattle.agc_timeline.proofs.recording.film.Goals as goal
 
 pub returns-clause-recording : goal.returns-clause-recording

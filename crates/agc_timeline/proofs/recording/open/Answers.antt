@@ -1,6 +1,6 @@
 use Rattle.std.proofs.Common.{arith}
 use Rattle.agc_machine.proofs.Before.{fewer_after_way}
-use Rattle.agc_timeline.proofs.Recording.{fewer_after_way_write, passed_at_cycle, passed_at_stop, passing_quiet, passing_write, same_at_stop}
+use Rattle.agc_timeline.proofs.RecordedFilm.{fewer_after_way_write, passed_at_cycle, passed_at_stop, passing_quiet, passing_write, same_at_stop}
 use Rattle.agc_timeline.proofs.recording.open.Goals as goal
 
 pub loop-machine-smaller-in-Quiet : goal.loop-machine-smaller-in-Quiet

@@ -2,7 +2,7 @@ use Rattle.std.specs.Prelude.{◌≡◌, List}
 use Rattle.agc_word.specs.declared.channel_write.ChannelWrite.{ChannelWrite}
 use Rattle.agc_machine.specs.Run.{boundaries_left}
 use Rattle.agc_panel.specs.Face.{panel_of}
-use Rattle.agc_timeline.proofs.Recording.{IsPassing}
+use Rattle.agc_timeline.proofs.RecordedFilm.{IsPassing}
 use Rattle.agc_timeline.proofs.recording.open.Given as goal
 
 -- the panel has taken the writes so far

@@ -2,7 +2,7 @@ use Rattle.std.specs.Prelude.{ℕ, List, []}
 use Rattle.agc_word.specs.declared.channel_write.ChannelWrite.{ChannelWrite}
 use Rattle.agc_machine.specs.Run.{boundaries_left}
 use Rattle.agc_timeline.specs.Run.{HasTaken}
-use Rattle.agc_timeline.proofs.Recording.{IsPassing}
+use Rattle.agc_timeline.proofs.RecordedFilm.{IsPassing}
 use Rattle.agc_timeline.proofs.recording.record.Given as goal
 
 -- the recorder has taken the writes so far

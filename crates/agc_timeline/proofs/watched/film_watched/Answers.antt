@@ -8,7 +8,7 @@ use Rattle.agc_timeline.specs.Frames.{last_of}
 use Rattle.agc_timeline.specs.Recording.{end_of}
 use Rattle.agc_timeline.specs.Watched.{span_of}
 use Rattle.agc_timeline.proofs.Filmed.{frames_of_part}
-use Rattle.agc_timeline.proofs.Watching.{has_lines, if_ok}
+use Rattle.agc_timeline.proofs.WatchedFilm.{has_lines, if_ok}
 use Rattle.agc_timeline.proofs.watched.film_watched.Goals as goal
 
 pub returns-clause-recording : goal.returns-clause-recording

@@ -3,7 +3,7 @@ use Rattle.agc_machine.proofs.Before.{fewer_after_way}
 use Rattle.agc_timeline.specs.Film.{until}
 use Rattle.agc_timeline.proofs.OverPart.{one_boundary, shown_last, shown_next, shown_past}
 use Rattle.agc_timeline.proofs.Sights.{none_before}
-use Rattle.agc_timeline.proofs.Recording.{fewer_after_way_write, passed_at_cycle, passed_at_stop, passing_quiet, passing_write, same_at_stop, stopped_at}
+use Rattle.agc_timeline.proofs.RecordedFilm.{fewer_after_way_write, passed_at_cycle, passed_at_stop, passing_quiet, passing_write, same_at_stop, stopped_at}
 use Rattle.agc_timeline.proofs.watched.open.Goals as goal
 
 pub loop-opening-smaller-in-Quiet : goal.loop-opening-smaller-in-Quiet

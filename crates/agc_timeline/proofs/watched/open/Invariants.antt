@@ -5,7 +5,7 @@ use Rattle.agc_panel.specs.Face.{panel_of}
 use Rattle.agc_timeline.specs.Changes.{shown_after, sights_in}
 use Rattle.agc_timeline.specs.Film.{until}
 use Rattle.agc_timeline.specs.States.{states_of}
-use Rattle.agc_timeline.proofs.Recording.{IsPassing}
+use Rattle.agc_timeline.proofs.RecordedFilm.{IsPassing}
 use Rattle.agc_timeline.proofs.watched.open.Given as goal
 
 -- the panel has taken the writes so far, what is left will show the tables that the whole would, and no later state was met

@@ -2,7 +2,7 @@ use Rattle.std.proofs.Common.{sym, ◌∙◌, arith}
 use Rattle.agc_machine.proofs.Before.{fewer_after_way}
 use Rattle.agc_timeline.specs.Film.{after_first}
 use Rattle.agc_timeline.proofs.OverPart.{one_boundary, told_last, told_next, told_past}
-use Rattle.agc_timeline.proofs.Recording.{ends_at_cycle, ends_at_stop, fewer_after_way_write, passed_at_cycle, passed_at_stop, passing_quiet, passing_write, stopped_at}
+use Rattle.agc_timeline.proofs.RecordedFilm.{ends_at_cycle, ends_at_stop, fewer_after_way_write, passed_at_cycle, passed_at_stop, passing_quiet, passing_write, stopped_at}
 use Rattle.agc_timeline.proofs.watched.record.Goals as goal
 
 pub loop-alloc-smaller-in-Quiet : goal.loop-alloc-smaller-in-Quiet

@@ -6,7 +6,7 @@ use Rattle.agc_timeline.specs.Film.{after_first}
 use Rattle.agc_timeline.specs.Lines.{told_of}
 use Rattle.agc_timeline.specs.States.{states_of}
 use Rattle.agc_timeline.specs.Run.{HasTaken}
-use Rattle.agc_timeline.proofs.Recording.{IsPassing}
+use Rattle.agc_timeline.proofs.RecordedFilm.{IsPassing}
 use Rattle.agc_timeline.proofs.watched.record.Given as goal
 
 -- the recorder has taken the writes so far, and the lines so far and those left to be told are those of the whole
