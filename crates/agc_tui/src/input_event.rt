@@ -41,7 +41,14 @@ enum State {
     Last,
     /// ESC and [, and so far these two numbers.
     Numbers(Numbers),
+    /// The start of a reply in text, which has at most this many bytes left.
+    Text { left: u8 },
+    /// The same, and then ESC.
+    TextEscape,
 }
+
+/// The longest reply in text that is ignored, in bytes.
+const LONGEST_TEXT: u8 = 64;
 
 /// Up to two decimal numbers with a semicolon between them.
 #[derive(Clone, Copy, Debug, PartialEq, Eq)]
@@ -90,6 +97,8 @@ impl Decoder {
             State::Escape => after_escape(byte),
             State::Last => (State::Plain, None),
             State::Numbers(numbers) => after_numbers(numbers, byte),
+            State::Text { left } => after_text(left, byte),
+            State::TextEscape => after_text_escape(byte),
         };
         self.state = state;
         input_event
@@ -100,12 +109,12 @@ impl Decoder {
 fn after_plain(byte: u8) -> (State, Option<InputEvent>) {
     match byte {
         0x1b => (State::Escape, None),
-        _ => (State::Plain, asked_by(byte)),
+        _ => (State::Plain, event_of(byte)),
     }
 }
 
 /// Returns the event of a single byte. Control-C and control-D end the session as `q` does.
-fn asked_by(byte: u8) -> Option<InputEvent> {
+fn event_of(byte: u8) -> Option<InputEvent> {
     match byte {
         b' ' => Some(InputEvent::Pause),
         b'.' => Some(InputEvent::Step),
@@ -135,11 +144,38 @@ fn after_escape(byte: u8) -> (State, Option<InputEvent>) {
             None,
         ),
         b'O' => (State::Last, None),
+        b']' | b'P' => (State::Text { left: LONGEST_TEXT }, None),
         _ => after_plain(byte),
     }
 }
 
-/// Decodes a byte among or after the numbers of a sequence. A sequence that ends with R reports a position.
+/// Decodes a byte of a reply in text (OSC or DCS), which BEL or ESC \ ends. Any other control character ends it too and
+/// counts as a byte outside of it, so that control-C is never lost.
+fn after_text(left: u8, byte: u8) -> (State, Option<InputEvent>) {
+    match (byte, left) {
+        (0x07, _) => (State::Plain, None),
+        (0x1b, _) => (State::TextEscape, None),
+        (0x00..=0x1f, _) => after_plain(byte),
+        (_, 0) => (State::Plain, None),
+        (_, left) => (
+            State::Text {
+                left: left.saturating_sub(1),
+            },
+            None,
+        ),
+    }
+}
+
+/// Decodes a byte after ESC in a reply in text: `\` ends the reply, any other byte begins a new sequence.
+fn after_text_escape(byte: u8) -> (State, Option<InputEvent>) {
+    match byte {
+        b'\\' => (State::Plain, None),
+        _ => after_escape(byte),
+    }
+}
+
+/// Decodes a byte among or after the numbers of a sequence. A sequence that ends with R reports a position, except in
+/// line 1: that is Shift-F3.
 fn after_numbers(numbers: Numbers, byte: u8) -> (State, Option<InputEvent>) {
     match byte {
         b'0'..=b'9' => (
@@ -153,7 +189,7 @@ fn after_numbers(numbers: Numbers, byte: u8) -> (State, Option<InputEvent>) {
             }),
             None,
         ),
-        b'R' => (
+        b'R' if numbers.first > 1 => (
             State::Plain,
             Some(InputEvent::Size {
                 lines: numbers.first,

@@ -29,6 +29,11 @@ fn sequences_are_no_keys(rt: HostRuntime) {
     asks(&rt, "\x1b[A", None);
     asks(&rt, "\x1b[15~", None);
     asks(&rt, "\x1bOP", None);
+    asks(&rt, "\x1b[1;2R", None);
+    asks(&rt, "\x1b]11;rgb:0000/0000/0000\x07", None);
+    asks(&rt, "\x1bP1+r4d73\x1b\\", None);
+    asks(&rt, "\x1b]11;rgb:0\x07v", Some(verb));
+    asks(&rt, "\x1b]11;rgb:0\x03", Some(InputEvent::Quit));
     asks(&rt, "\x1b[Av", Some(verb));
     asks(&rt, "\x1bv", Some(verb));
     asks(&rt, "\x03", Some(InputEvent::Quit));
