@@ -23,7 +23,7 @@ import shutil
 import subprocess
 import tempfile
 from types import TracebackType
-from typing import IO, Dict, Iterator, List, NamedTuple, Optional, Sequence, Type, Union
+from typing import IO, Callable, Dict, Iterator, List, NamedTuple, Optional, Sequence, Type, Union
 
 __all__ = ["Answer", "Came", "Console", "Ended", "Error", "Refused", "Registers", "Write"]
 
@@ -104,10 +104,13 @@ class Console:
         form: Optional[str] = None,
         names: Optional[Path] = None,
         program: Union[None, Path, Sequence[str]] = None,
+        detached: bool = False,
     ) -> None:
         """Begins a session. The program is `agc-console` of the folder that this file stands in, two levels up, or the
         one on the path; `program` names another one, or its words. `names` is a file that gives places their names, which
-        then stand for them, and stand beside the places of orders in what `step` and `next` return."""
+        then stand for them, and stand beside the places of orders in what `step` and `next` return. A `detached` console
+        does not see a Control-C in the terminal: its caller ends it."""
+        self.rope, self._options = rope, {"limit": limit, "form": form, "names": names, "program": program}
         words = _program(program)
         if limit is not None:
             words += ["--limit", str(limit)]
@@ -120,10 +123,14 @@ class Console:
         """The cycle that the machine has come to, as the last answer said it."""
         self.stop: Optional[str] = None
         """Why the machine has stopped: Limit, DivisionUndefined or Edrupt; None while it goes on."""
+        self.on_answer: Optional[Callable[[str, Answer], None]] = None
+        """Called with each command and its answer, if set; not for refused commands."""
         # A file takes what is told as the session ends, since a pipe would hold the console up where it is full.
         self._told = tempfile.TemporaryFile()
         try:
-            self._process = subprocess.Popen(words, stdin=subprocess.PIPE, stdout=subprocess.PIPE, stderr=self._told)
+            self._process = subprocess.Popen(
+                words, stdin=subprocess.PIPE, stdout=subprocess.PIPE, stderr=self._told, start_new_session=detached
+            )
         except OSError as error:
             self._told.close()
             raise Ended(f"{words[0]}: {error.strerror}", None) from None
@@ -154,6 +161,15 @@ class Console:
         self._process.wait()
         self._told.close()
 
+    def again(self, script: Path = os.devnull) -> "Console":
+        """Begins another console of the same rope, with the same options, at cycle 0. The script is not taken along."""
+        return Console(self.rope, script, detached=True, **self._options)  # type: ignore[arg-type]
+
+    @property
+    def alive(self) -> bool:
+        """Whether the process still runs."""
+        return self._process.poll() is None
+
     def _break_off(self) -> None:
         """Ends a console whose answer was not read to its end: what comes next would be taken for another's."""
         self._process.kill()
@@ -170,7 +186,7 @@ class Console:
         try:
             self._commands.write(command.encode() + b"\n")
             self._commands.flush()
-            return self._answer()
+            answer = self._answer()
         except BrokenPipeError:
             raise self._ended() from None
         except Error:
@@ -178,6 +194,9 @@ class Console:
         except BaseException:
             self._break_off()
             raise
+        if self.on_answer is not None:
+            self.on_answer(command, answer)
+        return answer
 
     def _answer(self) -> Answer:
         lines = []
