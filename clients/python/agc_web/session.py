@@ -572,8 +572,8 @@ class Session:
             raise ValueError("a breakpoint is a place, `write CCC` or `cell PLACE`")
         if text in self.breakpoints:
             return
-        self._want_machine()
-        self.console.say(f"until {text} within 0")  # refuses what is no place; goes nowhere
+        with self.console.again() as other:
+            other.say(f"until {text} within 0")  # refuses what is no breakpoint
         self.breakpoints.append(text)
         self._restart_scouts()
 
