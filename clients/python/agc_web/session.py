@@ -150,6 +150,10 @@ class Session:
         """Returns the script that repeats the session; from the journal if the console has ended."""
         return self.call(self._script)
 
+    def limit_to_repeat(self) -> int:
+        """Returns the limit at which `agc`, run on the script, stands where the session stands."""
+        return max(1, self.console.cycle + (self.console.stop is not None))
+
     def close(self) -> None:
         """Ends the machine's thread and the console."""
         if self._closing:
@@ -183,9 +187,10 @@ class Session:
         """Goes on by one boundary; time stops."""
         self.call(self._step_once)
 
-    def go_back(self, cycle: int, sure: bool = False) -> None:
-        """Goes back to a cycle; time stops. Raises `Sure` if that drops events and the user was not asked."""
-        self.call(lambda: self._go_back(cycle, sure))
+    def go_there(self, cycle: int, sure: bool = False) -> None:
+        """Goes back to a cycle, or on to one that was reached before; time stops. Raises `Sure` if going back drops events
+        and the user was not asked."""
+        self.call(lambda: self._go_there(cycle, sure))
 
     def undo(self, sure: bool = False) -> None:
         """Takes the last going back back."""
@@ -457,12 +462,33 @@ class Session:
         self.instruments[number].control(name, down)
         self._look()
 
-    # back, and undo
+    # back, on, and undo
 
-    def _go_back(self, cycle: int, sure: bool) -> None:
+    def _go_there(self, cycle: int, sure: bool) -> None:
         if self.ended is not None:
             raise Unable(self.ended)
-        cycle = max(0, min(cycle, self.console.cycle))
+        if cycle < self.console.cycle:
+            self._go_back(max(0, cycle), sure)
+        else:
+            self._go_ahead(min(cycle, self.furthest))
+
+    def _go_ahead(self, cycle: int) -> None:
+        """Goes on to a cycle as fast as it can, with keys and ticks on the way, and keeps the last boundaries."""
+        self._want_machine()
+        self._stand()
+        self.hit = self.trouble = ""
+        self.history.clear()
+        while self.console.cycle < cycle and self.console.stop is None:
+            self._press_due()
+            self._tick_due()
+            stage = min([cycle, *self._next_key(), *self._next_tick()])
+            self.console.go_to(max(self.console.cycle, min(stage, cycle - WARM_UP)))
+            if self.console.cycle >= cycle - WARM_UP:
+                self._step_to(stage)
+        self._look()
+
+    def _go_back(self, cycle: int, sure: bool) -> None:
+        """Goes back to a cycle, and drops what was given since."""
         tick, cycle, states = self._marks.before(cycle) if self.instruments else (0, cycle, [])
         dropped = [event for event in self.journal if event.cycle >= cycle]
         count = sum(event.by_user for event in dropped) + len(self.waiting)
@@ -501,7 +527,6 @@ class Session:
         finally:
             self._replaying = False
         self._dirty = True
-        self.furthest = self.console.cycle
         self._find_keys()
 
     def _find_keys(self) -> None:
@@ -561,7 +586,6 @@ class Session:
         finally:
             self._replaying = False
         self._dirty = True
-        self.furthest = self.console.cycle
         self._find_keys()
 
     # breakpoints

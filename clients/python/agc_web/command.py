@@ -1,0 +1,159 @@
+"""The command agc-web, and `serve` for programs that bring instruments along."""
+
+import argparse
+import os
+import shutil
+import signal
+import sys
+import webbrowser
+from typing import Any, Callable, Dict, List, Optional, Sequence
+
+import agc
+from agc_web.server import Server, film_by
+from agc_web.session import HISTORY, SPEEDS, Session
+
+PORT = 8437
+MOST_NAMES = 5000  # that the page offers
+
+
+def serve(
+    console: agc.Console,
+    instruments: Sequence[Any] = (),
+    *,
+    port: Optional[int] = None,
+    watch: Optional[str] = None,
+    names: Optional[str] = None,
+    form: Optional[str] = None,
+    save: Optional[str] = None,
+    open_page: bool = False,
+    begin: Optional[Callable[[Session], Any]] = None,
+) -> str:
+    """Serves the page of a console until Control-C, and returns the script that repeats the session.
+
+    The console stands at cycle 0, and is `detached`. `instruments` are described in agc_web.session. The port is 8437, or
+    a free one if that is taken and none is named. `begin` is called with the session before time can go on."""
+    session = Session(console, instruments, watch)
+    try:
+        film = film_by([_study()], os.fspath(console.rope), form) if _study() else None
+        server = _bound(session, _about(console, names, watch), port, film)
+        if begin is not None:
+            begin(session)
+        print(f"{server.address}    (Control-C ends it)", flush=True)
+        if open_page:
+            webbrowser.open(server.address)
+        _wait(server)
+        script = session.script()
+        _tell(script, save, os.fspath(console.rope), form, session.limit_to_repeat())
+        return script
+    finally:
+        session.close()
+
+
+def main(words: Optional[List[str]] = None) -> int:
+    """Runs the command. Returns its status: 0 after Control-C, 1 if a file is refused, 3 if the script was not saved."""
+    asked = _arguments().parse_args(words)
+    if asked.save and os.path.exists(asked.save) and os.path.getsize(asked.save):
+        print(f"agc-web: {asked.save} has something in it: name another file", file=sys.stderr)
+        return 1
+    try:
+        with agc.Console(asked.rope, asked.script, form=asked.form, names=asked.names, detached=True) as console:
+            if asked.watch is not None:
+                console.tables(asked.watch)
+            serve(
+                console, port=asked.port, watch=asked.watch, names=asked.names, form=asked.form, save=asked.save,
+                open_page=asked.open, begin=_attached(asked.instruments),
+            )
+    except agc.Error as error:
+        print(str(error).replace("agc-console: ", "agc-web: ", 1) if "agc-console: " in str(error) else f"agc-web: {error}", file=sys.stderr)
+        return 1
+    except OSError as error:
+        print(f"agc-web: {error.filename or 'port'}: {error.strerror}", file=sys.stderr)
+        return 3
+    return 0
+
+
+def _arguments() -> argparse.ArgumentParser:
+    words = argparse.ArgumentParser(prog="agc-web", description="Shows the DSKY and the inside of the machine in a browser.")
+    words.add_argument("rope", metavar="ROPE", help="the core rope")
+    words.add_argument("script", metavar="SCRIPT", nargs="?", default=os.devnull, help="a script of events (none)")
+    words.add_argument("--names", metavar="FILE", help="a file that gives places names")
+    words.add_argument("--watch", metavar="SPEC", help="where the Executive's tables stand, as for agc")
+    words.add_argument("--form", metavar="FORM", choices=("classic", "parity"), help="the rope's form: classic or parity")
+    words.add_argument("--port", metavar="N", type=int, help=f"the port on 127.0.0.1 ({PORT}, or a free one)")
+    words.add_argument("--save", metavar="FILE", help="where the script of the session is saved at the end")
+    words.add_argument("--open", action="store_true", help="open the page in a browser")
+    words.add_argument("--instruments", metavar="PORT", type=int, help="serve instruments of Virtual AGC from this port on")
+    return words
+
+
+def _attached(port: Optional[int]) -> Optional[Callable[[Session], Any]]:
+    """Returns what attaches the sockets of other programs' instruments, if they are asked for."""
+    if port is None:
+        return None
+    try:
+        from agc_web import instruments
+    except ImportError:
+        print("agc-web: --instruments needs agc_web/instruments.py, which is not here", file=sys.stderr)
+        sys.exit(2)
+    return lambda session: instruments.attach(session, port)
+
+
+def _study() -> Optional[str]:
+    """Returns the program agc-study: the one in the folder of the client, two levels up, or the one on the path."""
+    beside = os.path.join(os.path.dirname(os.path.realpath(agc.__file__)), "..", "..", "agc-study")
+    return os.path.normpath(beside) if os.access(beside, os.X_OK) else shutil.which("agc-study")
+
+
+def _about(console: agc.Console, names: Optional[str], watch: Optional[str]) -> Dict[str, Any]:
+    """Returns what the page is told at first."""
+    return {
+        "rope": os.fspath(console.rope), "names": _names_in(names), "watch": watch, "speeds": SPEEDS, "history": HISTORY,
+    }
+
+
+def _names_in(file: Optional[str]) -> List[str]:
+    """Returns the names of a file of names."""
+    if file is None:
+        return []
+    with open(file, encoding="ascii", errors="replace") as lines:
+        words = [line.split() for line in lines]
+    return [each[1] for each in words if len(each) > 1 and not each[0].startswith("#")][:MOST_NAMES]
+
+
+def _bound(
+    session: Session, about: Dict[str, Any], port: Optional[int], film: Optional[Callable[[str, int], bytes]]
+) -> Server:
+    """Returns a server on a port, or on a free one if none is named and ours is taken."""
+    try:
+        return Server(session, about, PORT if port is None else port, film)
+    except OSError:
+        if port is not None:
+            raise
+        return Server(session, about, 0, film)
+
+
+def _wait(server: Server) -> None:
+    """Serves until Control-C, or until the program is asked to end."""
+
+    def end(number: int, frame: Any) -> None:
+        raise KeyboardInterrupt
+
+    before = signal.signal(signal.SIGTERM, end)
+    try:
+        server.serve_forever(poll_interval=0.2)
+    except KeyboardInterrupt:
+        print()
+    finally:
+        signal.signal(signal.SIGTERM, before)
+        server.server_close()
+
+
+def _tell(script: str, save: Optional[str], rope: str, form: Optional[str], limit: int) -> None:
+    """Saves the script, or prints it, and says how to run it again."""
+    if save is None:
+        print(script, end="")
+        return
+    with open(save, "w", encoding="ascii") as file:
+        file.write(script)
+    options = f" --form {form}" if form else ""
+    print(f"./agc {rope} {save} --limit {limit}{options}")

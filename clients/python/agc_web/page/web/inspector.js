@@ -1,0 +1,279 @@
+'use strict';
+// The inside of the machine: boundaries, registers, memory, cells, channels, tables, breakpoints and the script.
+
+const LOOK_EVERY = 200; // milliseconds between two looks while time goes on
+const BITS = { a: 16, q: 16 };
+const BANKED = { z: 4, eb: 1, fb: 2, bb: 5 }; // digits of the registers that are no numbers
+const CHANNELS = [
+  [0o5, 'RCS jets: pitch and yaw'], [0o6, 'RCS jets: roll'], [0o7, 'superbank'], [0o10, 'DSKY relays'], [0o11, 'lamps and engine'],
+  [0o12, 'optics, IMU, gimbals'], [0o13, 'radar, uplink, tests'], [0o14, 'drives of CDUs and gyros'], [0o15, 'key of the main DSKY'],
+  [0o16, 'key of the navigation DSKY, marks'], [0o30, 'inputs: stage, engine, IMU'], [0o31, 'inputs: hand controllers, modes'],
+  [0o32, 'inputs: thrusters, PRO'], [0o33, 'inputs: radar, optics, PIPA'], [0o34, 'downlink, first word'], [0o35, 'downlink, second word'],
+];
+const TABS = { orders: 'Orders', memory: 'Memory', watch: 'Watch', channels: 'Channels', tables: 'Tables', breaks: 'Breaks', script: 'Script' };
+
+const inspector = { tab: 'orders', bank: 0, words: null, watched: [], looking: false, stale: false, lookedAt: 0, cycle: -1, events: -1 };
+
+// tabs
+
+function buildTabs(names) {
+  find('tabs').replaceChildren(...names.map((name) => {
+    const tab = make('button', { type: 'button', role: 'tab', id: `${name}-tab`, 'aria-controls': `${name}-panel` }, TABS[name] || name);
+    tab.addEventListener('click', () => showTab(name));
+    find(`${name}-panel`).setAttribute('aria-labelledby', `${name}-tab`);
+    return tab;
+  }));
+  for (const panel of document.querySelectorAll('.panel')) panel.hidden = true;
+  showTab(names[0]);
+}
+
+function showTab(name) {
+  inspector.tab = name;
+  for (const tab of find('tabs').children) {
+    const chosen = tab.id === `${name}-tab`;
+    tab.setAttribute('aria-selected', chosen);
+    tab.tabIndex = chosen ? 0 : -1;
+    find(tab.getAttribute('aria-controls')).hidden = !chosen;
+  }
+  look();
+  showScript();
+  scrollHistory();
+}
+
+// The arrow keys go from tab to tab.
+function moveTab(event) {
+  const tabs = [...find('tabs').children];
+  const by = { ArrowRight: 1, ArrowLeft: -1 }[event.key];
+  if (!by) return;
+  event.preventDefault();
+  const next = tabs[(tabs.indexOf(document.activeElement) + by + tabs.length) % tabs.length];
+  next.focus();
+  next.click();
+}
+
+// registers and boundaries
+
+function showMachine({ next, registers }) {
+  setText(find('next'), next);
+  for (const [name, word] of Object.entries(registers)) {
+    const bits = BITS[name] || 15;
+    setText(find(`register-${name}`), octal(word, BANKED[name] || Math.ceil(bits / 3)));
+    if (!BANKED[name]) setText(find(`decimal-${name}`), decimal(word, bits));
+  }
+}
+
+function buildRegisters() {
+  for (const name of ['a', 'l', 'q', 'z', 'eb', 'fb', 'bb']) {
+    const values = [make('b', { id: `register-${name}` })];
+    if (!BANKED[name]) values.push(make('i', { id: `decimal-${name}` }));
+    find('registers').append(make('div', {}, make('dt', {}, name.toUpperCase()), make('dd', {}, ...values)));
+  }
+}
+
+// Takes a line of a trace apart: its cycle, what happened, and the registers after it.
+function boundary(line) {
+  const [what, after = ''] = line.split(' | ');
+  const space = what.indexOf(' ');
+  return { cycle: Number(what.slice(0, space)), what: what.slice(space + 1), after };
+}
+
+function showHistory(lines) {
+  find('history').replaceChildren(...lines.map((line) => {
+    const { cycle, what, after } = boundary(line);
+    const button = make('button', { type: 'button', title: `Go back to cycle ${cycle}; after it ${after}` },
+      make('span', { class: 'at' }, grouped(cycle)), make('span', { class: 'what' }, what), make('span', { class: 'after' }, after));
+    button.addEventListener('click', () => ask('go', { cycle }));
+    return make('li', {}, button);
+  }));
+  find('orders-note').hidden = lines.length > 0;
+  find('here').hidden = lines.length === 0;
+  scrollHistory();
+}
+
+function scrollHistory() {
+  const here = find('here');
+  const panel = find('orders-panel');
+  panel.scrollTop = here.offsetTop - panel.clientHeight * 0.6;
+}
+
+function showAhead(lines) {
+  find('ahead').replaceChildren(...lines.map((line) => {
+    const { cycle, what } = boundary(line);
+    return make('li', {}, make('span', { class: 'at' }, grouped(cycle)), make('span', { class: 'what' }, what));
+  }));
+  scrollHistory();
+}
+
+// memory, cells and channels: what the tab that is shown needs is asked for, at most every fifth of a second
+
+function wanted() {
+  if (inspector.tab === 'memory') return { bank: inspector.bank };
+  if (inspector.tab === 'watch' && inspector.watched.length) return { cells: inspector.watched };
+  if (inspector.tab === 'channels') return { channels: CHANNELS.map(([number]) => number) };
+  return null;
+}
+
+async function look() {
+  const body = wanted();
+  if (!body) return;
+  if (inspector.looking) {
+    inspector.stale = true;
+    return;
+  }
+  inspector.looking = true;
+  inspector.stale = false;
+  try {
+    const seen = await post('look', body);
+    if (seen.status === 200 && JSON.stringify(body) === JSON.stringify(wanted())) showWords(seen);
+  } catch { /* the stream says that the server is gone */ }
+  setTimeout(() => {
+    inspector.looking = false;
+    if (inspector.stale) look();
+  }, LOOK_EVERY);
+}
+
+function showWords({ bank, cells, channels }) {
+  if (bank) showBank(bank);
+  for (const [place, word] of Object.entries(cells)) {
+    const row = find('watched').querySelector(`tr[data-place="${CSS.escape(place)}"]`);
+    if (row) showCell(row, word);
+  }
+  for (const [channel, word] of Object.entries(channels)) showChanged(find(`channel-${channel}`), octal(word));
+}
+
+// Shows a text, bright if it has changed.
+function showChanged(element, text) {
+  element.classList.toggle('changed', element.textContent !== '' && element.textContent !== text);
+  setText(element, text);
+}
+
+function showCell(row, word) {
+  const [, inOctal, inDecimal] = row.children;
+  const isWord = typeof word === 'number';
+  showChanged(inOctal, isWord ? octal(word) : '–');
+  setText(inDecimal, isWord ? decimal(word) : word.replace(/^\w+: /, ''));
+}
+
+function buildMemory() {
+  for (let bank = 0; bank < 8; bank += 1) find('bank').append(make('option', { value: bank }, `E${bank}`));
+  const digits = [...Array(8).keys()].map((low) => make('th', { scope: 'col' }, `+${low}`));
+  find('memory').append(make('thead', {}, make('tr', {}, make('td'), ...digits)));
+  const body = make('tbody');
+  for (let row = 0; row < 32; row += 1) {
+    const cells = [...Array(8).keys()].map(() => make('td'));
+    body.append(make('tr', {}, make('th', { scope: 'row' }), ...cells));
+  }
+  find('memory').append(body);
+  find('bank').addEventListener('change', () => {
+    inspector.bank = Number(find('bank').value);
+    nameRows();
+    for (const cell of find('memory').querySelectorAll('tbody td')) cell.textContent = '';
+    look();
+  });
+  nameRows();
+}
+
+// The rows of a bank by their addresses: banks E0 to E2 are 0000 to 1377, the others are seen through 1400 to 1777.
+function nameRows() {
+  const bank = inspector.bank;
+  [...find('memory').querySelectorAll('tbody th')].forEach((head, row) => {
+    head.textContent = bank < 3 ? octal(256 * bank + 8 * row, 4) : `E${bank},${octal(0o1400 + 8 * row, 4)}`;
+  });
+}
+
+function showBank(words) {
+  const cells = find('memory').querySelectorAll('tbody td');
+  words.forEach((word, i) => {
+    showChanged(cells[i], octal(word));
+    cells[i].title = decimal(word);
+  });
+}
+
+function buildChannels() {
+  find('channels').append(...CHANNELS.map(([number, what]) => make('tr', {},
+    make('th', { scope: 'row' }, octal(number, 2)), make('td', { id: `channel-${number}`, class: 'word' }), make('td', {}, what))));
+}
+
+// the watch list
+
+function addWatch(place) {
+  if (!place || inspector.watched.includes(place)) return;
+  inspector.watched.push(place);
+  keepWatched();
+  const remove = make('button', { type: 'button', 'aria-label': `Remove ${place}` }, '✕');
+  const row = make('tr', { 'data-place': place }, make('th', { scope: 'row' }, place), make('td', { class: 'word' }), make('td'), make('td', {}, remove));
+  remove.addEventListener('click', () => {
+    inspector.watched = inspector.watched.filter((each) => each !== place);
+    keepWatched();
+    row.remove();
+  });
+  find('watched').append(row);
+  look();
+}
+
+function keepWatched() {
+  sessionStorage.setItem('watched', JSON.stringify(inspector.watched));
+}
+
+// breakpoints
+
+function showBreaks(texts) {
+  find('breaks').replaceChildren(...texts.map((text) => {
+    const remove = make('button', { type: 'button', 'aria-label': `Remove the breakpoint ${text}` }, '✕');
+    remove.addEventListener('click', () => ask('unbreak', { place: text }));
+    return make('li', {}, make('code', {}, breakText(text)), ' ', remove);
+  }));
+}
+
+function breakText(text) {
+  if (text.startsWith('write ')) return `write to channel ${text.slice(6)}`;
+  if (text.startsWith('cell ')) return `change of ${text.slice(5)}`;
+  return `order at ${text}`;
+}
+
+async function addBreak(event) {
+  event.preventDefault();
+  const place = `${find('break-kind').value} ${find('break-place').value}`.trim();
+  if (await ask('break', { place })) find('break-place').value = '';
+}
+
+// the script
+
+async function showScript() {
+  if (inspector.tab !== 'script') return;
+  const response = await fetch(address('script'));
+  if (response.ok) setText(find('script'), (await response.text()) || '(nothing was pressed yet)');
+}
+
+async function copyScript() {
+  const text = await (await fetch(address('script'))).text();
+  await navigator.clipboard.writeText(text);
+  setText(find('copy'), 'Copied');
+  setTimeout(() => setText(find('copy'), 'Copy'), 1500);
+}
+
+// Follows the machine: called with each news of time.
+function follow(time) {
+  if (time.cycle !== inspector.cycle || time.events !== inspector.events) look();
+  if (time.events !== inspector.events) showScript();
+  inspector.cycle = time.cycle;
+  inspector.events = time.events;
+  setText(find('limit'), String(Math.max(1, time.cycle + (time.stop ? 1 : 0))));
+}
+
+function buildInspector() {
+  buildRegisters();
+  buildMemory();
+  buildChannels();
+  find('tabs').addEventListener('keydown', moveTab);
+  find('watch-form').addEventListener('submit', (event) => {
+    event.preventDefault();
+    addWatch(find('watch-place').value.trim());
+    find('watch-place').value = '';
+  });
+  find('break-form').addEventListener('submit', addBreak);
+  find('copy').addEventListener('click', copyScript);
+  find('download').href = address('script');
+  find('film').href = address('film');
+  JSON.parse(sessionStorage.getItem('watched') || '[]').forEach(addWatch);
+}

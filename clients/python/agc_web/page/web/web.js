@@ -1,0 +1,160 @@
+'use strict';
+// The page as a whole: the news of the server, and time.
+
+const CYCLES_A_SECOND = 1024000 / 12;
+const SPEED_STEPS = [1, 10, 100, 1000];
+const HOLD_KEYS = new Set(['ArrowLeft', 'ArrowRight', 'ArrowUp', 'ArrowDown']);
+
+let now = { cycle: 0, furthest: 0, playing: false, speed: 1, stop: null, ended: null, trouble: '', undo: null };
+let reached = true; // whether the server answers
+let sliding = false;
+
+// what the server has said
+
+function showAbout(about) {
+  const name = about.rope.split('/').slice(-2).join('/');
+  setText(find('rope'), name);
+  document.title = `DSKY: ${name}`;
+  find('names').replaceChildren(...about.names.map((each) => make('option', { value: each })));
+  if (find('tabs').children.length) return;
+  const tabs = Object.keys(TABS).filter((tab) => find(`${tab}-panel`) && (tab !== 'tables' || about.watch));
+  buildTabs([...tabs.filter((tab) => tab.startsWith('instrument')), ...tabs.filter((tab) => !tab.startsWith('instrument'))]);
+}
+
+function showTime(time) {
+  now = time;
+  document.body.classList.toggle('playing', time.playing);
+  find('live-panel').setAttribute('aria-live', time.playing ? 'off' : 'polite');
+  setText(find('play'), time.playing ? '❚❚ Pause' : '▶ Play');
+  find('speed').value = String(time.speed);
+  find('undo').hidden = time.undo === null;
+  setText(find('seconds'), `${(time.cycle / CYCLES_A_SECOND).toFixed(3)} s`);
+  setText(find('cycle'), `cycle ${grouped(time.cycle)}`);
+  setText(find('pace'), isBehind(time) ? `runs at ${time.pace.toPrecision(2)}×` : '');
+  if (!sliding) {
+    find('slider').max = Math.max(time.furthest, time.cycle);
+    find('slider').value = time.cycle;
+  }
+  find('slider').setAttribute('aria-valuetext', `${(time.cycle / CYCLES_A_SECOND).toFixed(1)} seconds`);
+  setText(find('state'), stateOf(time));
+  showPro(time.pro);
+  showTrouble();
+  follow(time);
+}
+
+const isBehind = (time) => time.playing && time.pace > 0 && time.pace < 0.9 * time.speed;
+
+function stateOf(time) {
+  if (time.ended) return 'ended';
+  if (time.stop) return `stopped: ${time.stop}`;
+  const waiting = time.waiting ? `, ${time.waiting} ${time.waiting === 1 ? 'key waits' : 'keys wait'}` : '';
+  if (time.playing) return `time goes on${waiting}`;
+  return (time.hit ? `at breakpoint: ${breakText(time.hit)}` : 'paused') + waiting;
+}
+
+function showTrouble() {
+  const lost = reached ? '' : 'agc-web cannot be reached. If it has ended, its script was saved or printed in the terminal.';
+  setText(find('trouble'), [lost, now.ended, now.trouble, fault].filter(Boolean).join(' '));
+}
+
+const SHOWS = {
+  instruments: showInstruments,
+  about: showAbout,
+  panel: showFace,
+  machine: showMachine,
+  tables: (lines) => setText(find('tables'), lines.join(LINE)),
+  history: showHistory,
+  ahead: showAhead,
+  breakpoints: showBreaks,
+  time: showTime,
+};
+
+function listen() {
+  const source = new EventSource(address('events'));
+  source.onopen = () => { reached = true; showTrouble(); };
+  source.onerror = () => { reached = false; showTrouble(); };
+  source.onmessage = (message) => {
+    const parts = JSON.parse(message.data);
+    for (const [part, show] of Object.entries(SHOWS)) if (part in parts) show(parts[part]);
+  };
+}
+
+// what the user wants of time
+
+const playOrPause = () => ask(now.playing ? 'pause' : 'play');
+const step = () => ask('step');
+const undo = () => { if (now.undo !== null) ask('undo'); };
+const back = (seconds) => ask('go', { cycle: Math.max(0, Math.round(now.cycle - seconds * CYCLES_A_SECOND)) });
+
+function changeSpeed(by) {
+  const times = SPEED_STEPS[SPEED_STEPS.indexOf(now.speed) + by];
+  if (times) ask('speed', { times });
+}
+
+async function slide() {
+  await ask('go', { cycle: Number(find('slider').value) });
+  sliding = false;
+  showTime(now);
+}
+
+const SHORTCUTS = {
+  ' ': playOrPause,
+  '.': step,
+  Backspace: () => back(now.playing ? 1 : 0.1),
+  '<': () => changeSpeed(-1),
+  '>': () => changeSpeed(1),
+  u: undo,
+  '?': () => find('help').showModal(),
+};
+
+// Whether an element wants a key for itself.
+function wantsKey(element, key) {
+  if (document.querySelector('dialog[open]')) return true;
+  if (element.closest('textarea, select, input:not([type=range])')) return true;
+  if (element.closest('input[type=range], [role=tablist]') && /^(Arrow|Home|End|Page)/.test(key)) return true;
+  return Boolean(element.closest('button, a')) && (key === ' ' || key === 'Enter');
+}
+
+function onKeyDown(event) {
+  if (event.ctrlKey || event.altKey || event.metaKey || wantsKey(event.target, event.key)) return;
+  const name = keyTyped(event.key);
+  const shortcut = SHORTCUTS[event.key];
+  const isPro = event.key.toLowerCase() === 'p';
+  const isHold = HOLD_KEYS.has(event.key) && document.querySelector(`[data-hold='${event.key}']`);
+  if (!name && !shortcut && !isPro && !isHold) return;
+  event.preventDefault();
+  if (event.repeat && !['.', 'Backspace'].includes(event.key)) return;
+  if (isPro) setPro('keyboard', true);
+  else if (isHold) holdByKey(event.key, true);
+  else if (name) press(name);
+  else shortcut();
+}
+
+function onKeyUp(event) {
+  if (event.key.toLowerCase() === 'p') setPro('keyboard', false);
+  if (HOLD_KEYS.has(event.key)) holdByKey(event.key, false);
+}
+
+function start() {
+  buildFace();
+  buildInspector();
+  find('play').addEventListener('click', playOrPause);
+  find('step').addEventListener('click', step);
+  find('undo').addEventListener('click', undo);
+  find('help-button').addEventListener('click', () => find('help').showModal());
+  find('speed').addEventListener('change', () => ask('speed', { times: Number(find('speed').value) }));
+  for (const button of document.querySelectorAll('[data-back]')) button.addEventListener('click', () => back(Number(button.dataset.back)));
+  find('slider').addEventListener('input', () => {
+    sliding = true;
+    setText(find('seconds'), `${(find('slider').value / CYCLES_A_SECOND).toFixed(3)} s`);
+  });
+  find('slider').addEventListener('change', slide);
+  document.addEventListener('keydown', onKeyDown);
+  document.addEventListener('keyup', onKeyUp);
+  window.addEventListener('blur', () => setPro(proHeldBy, false));
+  // A button that was clicked does not keep the focus, so that Enter stays the DSKY's.
+  document.addEventListener('mousedown', (event) => { if (event.target.closest('button')) event.preventDefault(); });
+  listen();
+}
+
+start();

@@ -1,0 +1,74 @@
+'use strict';
+// What all parts of the page use: elements, words of the machine as text, and requests to the server.
+
+const LINE = '\n';
+const TOKEN = new URLSearchParams(location.search).get('token') || '';
+const WINDOW = crypto.randomUUID ? crypto.randomUUID() : String(Math.random());
+
+const find = (id) => document.getElementById(id);
+
+// Makes an element with attributes and what stands in it: texts or elements.
+function make(name, attributes = {}, ...inside) {
+  const element = document.createElement(name);
+  for (const [attribute, value] of Object.entries(attributes)) element.setAttribute(attribute, value);
+  element.append(...inside);
+  return element;
+}
+
+// Sets a text only if it is another one, so that nothing is drawn or read aloud twice.
+function setText(element, text) {
+  if (element.textContent !== text) element.textContent = text;
+}
+
+const octal = (word, digits = 5) => word.toString(8).padStart(digits, '0');
+
+// Writes a word of so many bits, in ones' complement, as a signed decimal.
+function decimal(word, bits = 15) {
+  const all = 2 ** bits - 1;
+  return word > all / 2 ? `−${all - word}` : String(word);
+}
+
+const grouped = (number) => String(number).replace(/\B(?=(\d{3})+$)/g, ',');
+
+const address = (path) => `${path}?token=${encodeURIComponent(TOKEN)}&window=${WINDOW}`;
+
+// Posts a body; returns the status and the answer.
+async function post(path, body) {
+  const response = await fetch(path, {
+    method: 'POST',
+    headers: { 'Content-Type': 'application/json', 'X-Token': TOKEN },
+    body: JSON.stringify(body),
+  });
+  return { status: response.status, ...(await response.json()) };
+}
+
+// Asks the server to do something, and shows why if it does not. Returns whether it was done.
+async function ask(command, more = {}) {
+  try {
+    const answer = await post('do', { do: command, ...more });
+    if (answer.sure && await confirmed(answer.error)) return ask(command, { ...more, sure: true });
+    showFault(answer.sure ? '' : answer.error || '');
+    return answer.status === 200;
+  } catch {
+    showFault('agc-web does not answer.');
+    return false;
+  }
+}
+
+// Asks the user, in the page.
+function confirmed(text) {
+  const dialog = find('ask');
+  setText(find('ask-text'), `Going back ${text.replace('this drops', 'drops')}. It can be undone.`);
+  dialog.returnValue = 'no';
+  dialog.showModal();
+  return new Promise((done) => {
+    dialog.addEventListener('close', () => done(dialog.returnValue === 'yes'), { once: true });
+  });
+}
+
+// Shows what went wrong with the last thing that the user did here.
+let fault = '';
+function showFault(text) {
+  fault = text;
+  showTrouble();
+}
