@@ -15,7 +15,7 @@ from agc import Console, Refused  # noqa: E402
 
 ROPE = os.path.join(here, "rope")
 STEP = 853  # cycles: a hundredth of a second, but for a third of a cycle
-CDUX, CHANNEL = 0o32, 5
+CDUX, WANTED, CHANNEL = 0o32, 0o100, 5
 UP, DOWN = 1, 2  # the jets of the channel
 PARTS = 64  # of a pulse; in a step a jet makes the turning one of them a step faster: 1.7 degrees a second, each second
 TURN = 32768  # the pulses of CDUX
@@ -55,6 +55,72 @@ def fly(agc, craft, steps):
         yield writes
 
 
+class Instrument:
+    """The craft as an instrument of agc-web: its pilot turns the angle that the machine is to hold."""
+
+    RATE = 6  # degrees a second, while a button is held
+    EVERY = 10  # ticks between two words that the machine is given: an event each
+
+    def __init__(self, craft):
+        self.craft = craft
+        self.wanted = 0
+        self.ticks = 0
+        self.turn = 0
+
+    def tick(self, agc, cycle):
+        """Turns for a hundredth of a second, as the jets burn, and counts it on CDUX."""
+        if self.ticks == 0:
+            agc.poke(0, CDUX, self.craft.pulses() % TURN)
+        self.craft.jets = agc.channel(CHANNEL)
+        turned = self.craft.step()
+        for _ in range(abs(turned)):
+            agc.pulse(CDUX, "pcdu" if turned > 0 else "mcdu")
+        if self.turn and self.ticks % self.EVERY == 0:
+            self.wanted += round(self.turn * self.RATE * DEGREE * self.EVERY / 100)
+            agc.poke(0, WANTED, self.wanted % TURN)
+        self.ticks += 1
+
+    def control(self, name, down):
+        """Turns what is wanted, as long as a button is held."""
+        self.turn = {"left": -1, "right": 1}[name] if down else 0
+
+    def view(self):
+        """Returns what the page shows."""
+        angle, wanted = self.craft.pulses() / DEGREE, self.wanted / DEGREE
+        jets = [name for jet, name in ((UP, "left"), (DOWN, "right")) if self.craft.jets & jet]
+        return {
+            "title": "Craft",
+            "dial": {"angle": round(angle, 2), "wanted": round(wanted, 2), "jets": jets},
+            "rows": [
+                ["Angle", f"{angle:+.2f}°"],
+                ["Held angle", f"{wanted:+.2f}°"],
+                ["Turning", f"{100 * self.craft.turning / PARTS / DEGREE:+.2f}° a second"],
+                ["Jet", {"left": "up", "right": "down"}.get(jets[0]) if jets else "none"],
+            ],
+            "controls": [
+                {"name": "left", "label": "◀ Turn down", "key": "ArrowLeft"},
+                {"name": "right", "label": "Turn up ▶", "key": "ArrowRight"},
+            ],
+        }
+
+    def save(self):
+        """Returns all that changes, so that the craft goes back in time with the machine."""
+        return self.craft.angle, self.craft.turning, self.craft.jets, self.wanted, self.ticks
+
+    def load(self, state):
+        """Takes up a state that was saved."""
+        self.craft.angle, self.craft.turning, self.craft.jets, self.wanted, self.ticks = state
+
+
+def show_in_browser(words):
+    """Serves the page, with the craft beside the DSKY, until Control-C."""
+    import agc_web
+
+    with Console(ROPE, program=words.program, detached=True) as agc:
+        craft = Instrument(Craft(words.angle, words.turning))
+        agc_web.serve(agc, [craft], port=words.port, save=words.save)
+
+
 def line_of(degrees):
     """A star where the angle is, from -12 to +12 degrees, and the two edges of the dead band."""
     line = [" "] * 49
@@ -84,12 +150,17 @@ def asked():
     words.add_argument("--turning", type=float, default=1.0, help="how it turns then, in degrees a second (1)")
     words.add_argument("--save", metavar="FILE", help="write the script that repeats the flight")
     words.add_argument("--png", metavar="FILE", help="draw the angle over time, by matplotlib")
+    words.add_argument("--web", action="store_true", help="show craft and DSKY in a browser, and fly by its buttons")
+    words.add_argument("--port", type=int, help="the port of --web (8437, or a free one)")
     words.add_argument("--program", help="another agc-console")
     return words.parse_args()
 
 
 def main():
     words = asked()
+    if words.web:
+        show_in_browser(words)
+        return
     craft = Craft(words.angle, words.turning)
     angles, writes = [craft.pulses() / DEGREE], 0
     with Console(ROPE, program=words.program) as agc:

@@ -52,13 +52,19 @@ class Event(NamedTuple):
     by_user: bool
 
 
+Mark = Tuple[int, int, List[Any]]
+"""A tick of the instruments: its number, its cycle, and their states before it."""
+
+
 class Undo(NamedTuple):
-    """What going back dropped: from which cycle on, the cycle before that, the events, the states of instruments."""
+    """What going back dropped: from which cycle on, the cycle before that, the events, and what instruments had."""
 
     start: int
     end: int
     events: List[Event]
     states: List[Any]
+    ticks: int
+    marks: List[Mark]
 
 
 class Sure(Exception):
@@ -334,7 +340,7 @@ class Session:
         hit = self._first_hit(cycle)
         if hit is not None:
             self._stand()
-            self._rewind(self.console.cycle)
+            self._rewind(self.console.cycle, self.journal)
             self.hit = hit
             self._look()
 
@@ -369,8 +375,8 @@ class Session:
         """Shows the way to a stop of the machine: its last boundaries are run once more."""
         self._stand()
         self.waiting.clear()
-        self._rewind(self.console.cycle)
-        self.console.step()
+        self._rewind(self.console.cycle, self.journal)
+        self.history.extend(self.console.step())
         self._look()
 
     def _set_speed(self, times: int) -> None:
@@ -494,15 +500,14 @@ class Session:
         count = sum(event.by_user for event in dropped) + len(self.waiting)
         if count and not sure:
             raise Sure(count)
-        undo = Undo(cycle, self.console.cycle, dropped, self._states())
+        undo = Undo(cycle, self.console.cycle, dropped, self._states(), self._ticks, self._marks.taken_from(tick))
         self._stand()
         self.waiting.clear()
         self.hit = self.trouble = ""
-        self._rewind(cycle)
+        self._rewind(cycle, [event for event in self.journal if event.cycle < cycle])
         self._undo.append(undo)
         self._load_states(states)
         self._ticks = tick
-        self._marks.drop_from(tick)
         if self.pro_down:
             self._release_pro()
         self._look()
@@ -513,11 +518,12 @@ class Session:
         self.pro_down = False
         self._last_key = self.console.cycle
 
-    def _rewind(self, cycle: int) -> None:
-        """Goes to a cycle of the past or the present by running anew, and keeps the boundaries that lead there."""
+    def _rewind(self, cycle: int, events: List[Event]) -> None:
+        """Goes to a cycle of the past or the present by running anew with these events, and keeps the boundaries that
+        lead there."""
         start = max(0, cycle - WARM_UP)
-        again = [event for event in self.journal if start <= event.cycle < cycle]
-        self.journal = [event for event in self.journal if event.cycle < start]
+        again = [event for event in events if event.cycle >= start]
+        self.journal = [event for event in events if event.cycle < start]
         self._replaying = True
         try:
             self.console.back(start)
@@ -573,7 +579,9 @@ class Session:
             self._replaying = False
         self._rewind_to_end(undo.end)
         self._load_states(undo.states)
-        self._ticks = -(-undo.end * 3 // 2560) if self.instruments else 0
+        self._marks.taken_from(-(-undo.start * 3 // 2560))
+        self._marks.put_back(undo.marks)
+        self._ticks = undo.ticks
         self._look()
 
     def _rewind_to_end(self, end: int) -> None:
@@ -596,6 +604,8 @@ class Session:
             raise ValueError("a breakpoint is a place, `write CCC` or `cell PLACE`")
         if text in self.breakpoints:
             return
+        if self.ended is not None:
+            raise Unable(self.ended)
         with self.console.again() as other:
             other.say(f"until {text} within 0")  # refuses what is no breakpoint
         self.breakpoints.append(text)
@@ -717,8 +727,8 @@ class Marks:
     """The states of instruments at past ticks: each of the last ten seconds, and one a second before."""
 
     def __init__(self) -> None:
-        self._coarse: List[Tuple[int, int, List[Any]]] = []
-        self._fine: Deque[Tuple[int, int, List[Any]]] = deque(maxlen=1000)
+        self._coarse: List[Mark] = []
+        self._fine: Deque[Mark] = deque(maxlen=1000)
 
     def add(self, tick: int, cycle: int, states: List[Any]) -> None:
         """Keeps the states before a tick."""
@@ -726,17 +736,24 @@ class Marks:
         if tick % 100 == 0:
             self._coarse.append((tick, cycle, states))
 
-    def before(self, cycle: int) -> Tuple[int, int, List[Any]]:
-        """Returns the last tick at a cycle or earlier: its number, its cycle and the states before it."""
+    def before(self, cycle: int) -> Mark:
+        """Returns the last mark at a cycle or earlier."""
         for mark in [*reversed(self._fine), *reversed(self._coarse)]:
             if mark[1] <= cycle:
                 return mark
         return (0, 0, [])
 
-    def drop_from(self, tick: int) -> None:
-        """Forgets a tick and those after it."""
+    def taken_from(self, tick: int) -> List[Mark]:
+        """Takes the marks from a tick on away, and returns those of the last ten seconds."""
+        taken = [mark for mark in self._fine if mark[0] >= tick]
         self._coarse = [mark for mark in self._coarse if mark[0] < tick]
         self._fine = deque((mark for mark in self._fine if mark[0] < tick), maxlen=self._fine.maxlen)
+        return taken
+
+    def put_back(self, marks: List[Mark]) -> None:
+        """Puts marks back that were taken."""
+        for mark in marks:
+            self.add(*mark)
 
 
 class Foreseer:
