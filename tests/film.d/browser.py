@@ -23,7 +23,7 @@ class Browser:
         self.answers, its_end = os.pipe()
         words = [program, *FLAGS, f'--user-data-dir={home}/profile', 'about:blank']
         self.process = subprocess.Popen(
-            ['sh', '-c', f'exec "$@" 3<&{to_browser} 4>&{its_end}', 'sh', *words],
+            ['bash', '-c', f'exec "$@" 3<&{to_browser} 4>&{its_end}', 'bash', *words],
             pass_fds=(to_browser, its_end), env={**os.environ, 'HOME': home},
             stdin=subprocess.DEVNULL, stdout=subprocess.DEVNULL, stderr=subprocess.DEVNULL)
         os.close(to_browser)

@@ -6,7 +6,7 @@ import sys
 sys.path.append(os.path.join(os.path.dirname(os.path.abspath(__file__)), '..', 'film.d'))
 import browser  # noqa: E402
 
-browser.FLAGS.append('--host-resolver-rules=MAP * ~NOTFOUND, EXCLUDE 127.0.0.1')
+browser.FLAGS.append('--host-resolver-rules=MAP rebound.test 127.0.0.1, MAP * ~NOTFOUND, EXCLUDE 127.0.0.1')
 CODES = {'Enter': ('Enter', 13), 'Backspace': ('Backspace', 8), 'Tab': ('Tab', 9), 'Escape': ('Escape', 27), 'Space': (' ', 32)}
 TEXTS = {'Enter': '\r', 'Space': ' '}
 

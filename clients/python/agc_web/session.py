@@ -65,6 +65,7 @@ class Undo(NamedTuple):
     states: List[Any]
     ticks: int
     marks: List[Mark]
+    controls: List[int]
 
 
 class Sure(Exception):
@@ -115,6 +116,7 @@ class Session:
         self._ticking = False
         self._ticks = 0
         self._marks = Marks()
+        self._controls: List[int] = []  # the cycles at which buttons of instruments went down
         self._scouts: List[Console] = []
         self._anchor = (time.monotonic(), 0)
         self._measured = (time.monotonic(), 0)
@@ -466,6 +468,8 @@ class Session:
         if not 0 <= number < len(self.instruments) or not hasattr(self.instruments[number], "control"):
             raise ValueError(f"no instrument with controls: {number}")
         self.instruments[number].control(name, down)
+        if down:
+            self._controls.append(self.console.cycle)
         self._look()
 
     # back, on, and undo
@@ -497,10 +501,13 @@ class Session:
         """Goes back to a cycle, and drops what was given since."""
         tick, cycle, states = self._marks.before(cycle) if self.instruments else (0, cycle, [])
         dropped = [event for event in self.journal if event.cycle >= cycle]
-        count = sum(event.by_user for event in dropped) + len(self.waiting)
+        controls = [pressed for pressed in self._controls if pressed >= cycle]
+        count = sum(event.by_user for event in dropped) + len(self.waiting) + len(controls)
         if count and not sure:
             raise Sure(count)
-        undo = Undo(cycle, self.console.cycle, dropped, self._states(), self._ticks, self._marks.taken_from(tick))
+        marks = self._marks.taken_from(tick)
+        undo = Undo(cycle, self.console.cycle, dropped, self._states(), self._ticks, marks, controls)
+        self._controls = [pressed for pressed in self._controls if pressed < cycle]
         self._stand()
         self.waiting.clear()
         self.hit = self.trouble = ""
@@ -565,6 +572,7 @@ class Session:
             raise Unable("there is nothing to undo")
         undo = self._undo[-1]
         count = sum(event.by_user for event in self.journal if event.cycle >= undo.start and "pro up" != event.command)
+        count += sum(pressed >= undo.start for pressed in self._controls)
         if count and not sure:
             raise Sure(count)
         self._undo.pop()
@@ -581,6 +589,7 @@ class Session:
         self._load_states(undo.states)
         self._marks.taken_from(-(-undo.start * 3 // 2560))
         self._marks.put_back(undo.marks)
+        self._controls = [pressed for pressed in self._controls if pressed < undo.start] + undo.controls
         self._ticks = undo.ticks
         self._look()
 

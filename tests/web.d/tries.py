@@ -1,0 +1,868 @@
+"""Tries agc-web: in a browser, and by requests that are to be refused.
+
+    tries.py TOP FOLDER BROWSER AGC CONSOLE
+
+What is wanted is worked out by hand from the examples' sources and from docs/WEB.md, or is what agc, agc-console and
+agc-study make of the script that the page lets one download. The last line is 'N passed, M failed'.
+"""
+import http.server
+import importlib.util
+import json
+import os
+import re
+import socket
+import statistics
+import subprocess
+import sys
+import threading
+import time
+
+from agc import Console
+from site_of import Site, wait
+from window import Window
+
+HERE = os.path.dirname(os.path.abspath(__file__))
+TOP, FOLDER, BROWSER, AGC, CONSOLE = sys.argv[1:6]
+PICTURES, FIGURES = os.environ.get('PICTURES'), os.environ.get('FIGURES')
+A_SECOND = 1024000 / 12  # cycles
+TENTH = 8533
+SIZE = (1000, 700)
+PHONE = (390, 844)
+
+spec = importlib.util.spec_from_file_location('film_tries', os.path.join(HERE, '..', 'film.d', 'tries.py'))
+film = importlib.util.module_from_spec(spec)
+spec.loader.exec_module(film)
+
+passed = failed = 0
+
+
+def judge(what, wanted, found):
+    """A case, which is told where it is not as it should be."""
+    global passed, failed
+    if wanted == found:
+        passed += 1
+    else:
+        failed += 1
+        print(f'web: {what}: wanted\n{wanted!r:.2000}\nfound\n{found!r:.2000}', file=sys.stderr)
+
+
+def near(what, wanted, found, by):
+    judge(f'{what}: {found} is within {by} of {wanted}', True, abs(found - wanted) <= by)
+
+
+def figure(what, value):
+    if FIGURES:
+        print(f'web: {what}: {value}')
+
+
+def example(*names):
+    return os.path.join(TOP, 'examples', *names)
+
+
+def started(*words, **more):
+    """Starts agc-web with these words, at a free port."""
+    return Site([os.path.join(TOP, 'agc-web'), *words, '--port', '0'], **more)
+
+
+class Page:
+    """The page of a site in a window of a browser."""
+
+    count = 0
+
+    def __init__(self, site, size=SIZE):
+        Page.count += 1
+        home = os.path.join(FOLDER, f'home{Page.count}')
+        os.mkdir(home)
+        self.site, self.window = site, Window(BROWSER, home, *size)
+        self.load()
+
+    def load(self, url=None):
+        self.window.load(url or self.site.url)
+        with open(os.path.join(HERE, '..', 'film.d', 'look.js'), encoding='utf-8') as look:
+            self.value(look.read() + "; Look.run = () => document.getElementById('face'); undefined")
+
+    def value(self, script):
+        return self.window.value(script)
+
+    def text(self, id):
+        return self.value(f"document.getElementById('{id}')?.innerText ?? null")
+
+    def texts(self, selector):
+        return self.value(f"[...document.querySelectorAll({json.dumps(selector)})].map((each) => each.textContent)")
+
+    def cycle(self):
+        return int(self.text('cycle').split(' ')[1].replace(',', ''))
+
+    def middle(self, selector):
+        """Returns the middle of an element that is seen and not covered, as a pointer finds it."""
+        found = self.value(f"""(() => {{
+            const element = [...document.querySelectorAll({json.dumps(selector)})].find((each) => each.checkVisibility());
+            if (!element) return null;
+            element.scrollIntoView({{ block: 'nearest' }});
+            const box = element.getBoundingClientRect();
+            const [x, y] = [(box.left + box.right) / 2, (box.top + box.bottom) / 2];
+            const top = document.elementFromPoint(x, y);
+            return element.contains(top) ? [x, y] : null;
+        }})()""")
+        if found is None:
+            raise ValueError(f'{selector} is not there to be clicked')
+        return found
+
+    def click(self, selector):
+        self.window.click(*self.middle(selector))
+
+    def key(self, name):
+        """Clicks a key of the DSKY."""
+        self.click(f"[data-key='{name}'] button")
+
+    def type(self, *names):
+        self.window.type(*names)
+
+    def see(self, script, wanted, seconds=5):
+        """Waits until a script gives this; returns what it gave last."""
+        wait(lambda: self.value(script) == wanted, seconds)
+        return self.value(script)
+
+    def state(self, wanted):
+        return self.see("document.getElementById('state').textContent", wanted)
+
+    def panel(self):
+        """Returns the panel that the face shows by its segments and lamps: of all places, and the lamps that are lit."""
+        lamps = self.value("Look.lamps('left')")
+        lit = [name for name, colour in lamps if colour != film.DARK]
+        if self.value("Look.activity('left')") == film.GREEN:
+            lit.append('COMP ACTY')
+        return self.value("Look.places('left')"), sorted(lit)
+
+    def answer(self, sure):
+        """Answers the question whether to go back."""
+        judge('the page asks before it drops keys', True, wait(lambda: self.value("document.getElementById('ask').open")))
+        self.click('#ask-yes' if sure else '#ask button[value=no]')
+
+    def pause(self):
+        if self.text('state').startswith('time goes on'):
+            self.type('Space')
+        judge('time stands', 'paused', self.state('paused'))
+        settle(self)
+
+    def close(self):
+        judge('errors of the page', [], self.window.errors())
+        self.window.close()
+
+
+def settle(page):
+    """Waits until the page shows the cycle of the server."""
+    wait(lambda: page.cycle() == page.site.state()['time']['cycle'])
+
+
+def agc_panel(rope, script, limit):
+    """Returns the panel that agc prints: the segments of all places, the lamps that are lit, and the lines."""
+    path = os.path.join(FOLDER, 'downloaded')
+    with open(path, 'w') as file:
+        file.write(script)
+    words = [AGC, rope, path, '--limit', str(max(limit, 1))]
+    lines = subprocess.run(words, capture_output=True, text=True, check=True).stdout.splitlines()
+    lamps = [lamp for lamp in lines[7][6:].split(', ') if lamp in [*film.LAMPS, 'COMP ACTY']]
+    return film.segments_of('\n'.join(lines[:6])), sorted(lamps), lines[:8]
+
+
+def replayed(rope, script, cycle):
+    """Returns a console that has run a script to a cycle."""
+    path = os.path.join(FOLDER, 'replayed')
+    with open(path, 'w') as file:
+        file.write(script)
+    console = Console(rope, path, program=[CONSOLE])
+    console.go_to(cycle)
+    return console
+
+
+def compare_with_agc(what, page, rope):
+    """Compares the face with what agc prints of the script as it is downloaded, and the panel's text."""
+    script, cycle = page.site.script(), page.cycle()
+    places, lamps, lines = agc_panel(rope, script, cycle)
+    judge(f'{what}: the face', (places, lamps), page.panel())
+    judge(f'{what}: the text for screen readers', lines, page.value("document.getElementById('live-panel').textContent").splitlines())
+    return script
+
+
+def keys_in(script):
+    return [line.split(' ', 1)[1] for line in script.splitlines()]
+
+
+# the session of a user
+
+
+def try_session():
+    """Types and clicks VERB 35 ENTR, RSET and NOUN 09 on the rope that knows them; then goes back and forth."""
+    rope = example('verbs', 'rope')
+    site = started(rope)
+    figure('seconds until the page is served', round(site.seconds, 2))
+    judge('the page is served soon', True, site.seconds < 5)
+    page = Page(site)
+    judge('it begins paused, at cycle 0', ('paused', 0), (page.state('paused'), page.cycle()))
+    compare_with_agc('at first', page, rope)
+    page.click('#play')
+    judge('it plays', 'time goes on', page.state('time goes on'))
+    for name in 'v35':
+        page.type(name)
+    dark = film.segments_of(film.panel(VERB='35'))
+    judge('VERB 35 stands there', dark, page.see("Look.places('left')", dark))
+    page.type('Enter')
+    lit = film.segments_of(film.panel(PROG='88', VERB='88', NOUN='88', R1='+88888', R2='+88888', R3='+88888'))
+    judge('all is lit', lit, page.see("Look.places('left')", lit))
+    judge('verb and noun flash', 'VERB NOUN', page.see("Look.blinking('left')", 'VERB NOUN'))
+    picture(page, 'web')
+    page.pause()
+    script = compare_with_agc('after VERB 35 ENTR', page, rope)
+    judge('the script', ['key VERB', 'key 3', 'key 5', 'key ENTR'], keys_in(script))
+    page.type('Space')
+    for name in ('RSET', 'NOUN', '0', '9'):
+        page.key(name)
+    noun = film.segments_of(film.panel(VERB='35', NOUN='09'))
+    page.see("Look.places('left').slice(4, 6).join()", ','.join(noun[4:6]))
+    time.sleep(0.5)  # a tenth of a second back is after the last key
+    page.pause()
+    script = compare_with_agc('after RSET NOUN 09', page, rope)
+    judge('keys that are clicked', ['key RSET', 'key NOUN', 'key 0', 'key 9'], keys_in(script)[4:])
+    gaps = [int(line.split(' ')[0]) for line in script.splitlines()]
+    judge('keys are a tenth of a second apart', True, all(after - before >= TENTH for before, after in zip(gaps, gaps[1:])))
+    try_inside(page, rope, script)
+    try_back(page, rope, script)
+    try_film(page, rope)
+    page.close()
+    judge('a window that closes ends nothing', 200, site.request('GET', '/')[0])
+    script = site.script()
+    status, out, err = site.end()
+    judge('Control-C: the script is printed', (0, '', True), (status, err, out.endswith('\n' + script)))
+
+
+def try_inside(page, rope, script):
+    """Steps, registers, boundaries, and what comes next."""
+    before = page.cycle()
+    page.click('#step')
+    judge('a boundary of the idle loop takes a cycle', before + 1, page.see(CYCLE, before + 1))
+    page.type('.')
+    judge('and so by the key', before + 2, page.see(CYCLE, before + 2))
+    with replayed(rope, script, before + 2) as console:
+        judge('what comes next', console.next(), page.text('next'))
+        registers = console.registers()._asdict()
+        shown = {name: int(page.text(f'register-{name}'), 8) for name in registers}
+        judge('the registers', registers, shown)
+        negative = registers['a'] - 0o177777 if registers['a'] >= 0o100000 else registers['a']
+        judge('A in decimal', str(negative).replace('-', '−'), page.text('decimal-a'))
+        coming = [line.split(' | ')[0] for line in console.step(12)]
+    wait(lambda: len(page.texts('#ahead li')) == 12)
+    judge('the coming boundaries', coming, [line_of(page, '#ahead li', i) for i in range(12)])
+    with replayed(rope, script, before - 110) as console:
+        past = [line.split(' | ')[0] for line in console.step(200)]
+    past = [line for line in past if int(line.split(' ')[0]) < before + 2][-100:]
+    judge('the last hundred boundaries', past, [line_of(page, '#history li', i) for i in range(100)])
+
+
+def line_of(page, selector, number):
+    """Returns a boundary as the page shows it, without its registers."""
+    at, what = page.value(f"""(() => {{
+        const line = document.querySelectorAll('{selector}')[{number}];
+        return [line?.querySelector('.at').textContent, line?.querySelector('.what').textContent];
+    }})()""")
+    return f'{(at or "").replace(",", "")} {what}'
+
+
+CYCLE = "Number(document.getElementById('cycle').textContent.split(' ')[1].replaceAll(',', ''))"
+
+
+def try_back(page, rope, script):
+    """Back by a tenth, by a boundary that is clicked, by the slider; asks, stays, drops and brings back."""
+    end = page.cycle()
+    page.click('[data-back="0.1"]')
+    judge('back by a tenth', end - TENTH, page.see(CYCLE, end - TENTH))
+    page.click('#undo')
+    judge('undo', end, page.see(CYCLE, end))
+    button = '#history li:nth-child(60) button'
+    wait(lambda: len(page.texts('#history li')) == 100)
+    wanted = int(line_of(page, '#history li', 59).split(' ')[0])
+    page.click(button)
+    judge('back to a boundary', wanted, page.see(CYCLE, wanted))
+    page.click('#undo')
+    judge('undo that', end, page.see(CYCLE, end))
+    last = int(script.splitlines()[-1].split(' ')[0])
+    middle = int(script.splitlines()[4].split(' ')[0]) - 1000  # before RSET
+    drag(page, middle / end)
+    page.answer(False)
+    judge('who stays loses nothing', (end, script), (page.see(CYCLE, end), page.site.script()))
+    drag(page, middle / end)
+    page.answer(True)
+    wait(lambda: page.cycle() < last)
+    settle(page)
+    near('where the slider goes', middle, page.cycle(), end * 0.01)
+    kept = [line for line in script.splitlines() if int(line.split(' ')[0]) < page.cycle()]
+    judge('what was pressed since is dropped', kept, page.site.script().splitlines())
+    compare_with_agc('before RSET', page, rope)
+    page.type('u')
+    judge('undo brings the keys back', (end, script), (page.see(CYCLE, end), page.site.script()))
+    compare_with_agc('after undo', page, rope)
+    judge('a second undo has nothing to do', True, page.value("document.getElementById('undo').hidden"))
+
+
+def drag(page, part):
+    """Drags the slider to a part of the time so far."""
+    box = page.value("(({ left, right, top, bottom }) => [left, right, top, bottom])(document.getElementById('slider').getBoundingClientRect())")
+    left, right, height = box[0] + 8, box[1] - 8, (box[2] + box[3]) / 2
+    page.window.mouse('mousePressed', right, height)
+    page.window.mouse('mouseMoved', (left + right) / 2, height)
+    page.window.mouse('mouseMoved', left + (right - left) * part, height)
+    page.window.mouse('mouseReleased', left + (right - left) * part, height)
+
+
+def try_film(page, rope):
+    """The film of the session is the one that agc-study makes of the script."""
+    page.click('#script-tab')
+    judge('the script in its tab', page.site.script(), page.see("document.getElementById('script').textContent", page.site.script()))
+    url = page.value("document.getElementById('film').href")
+    status, headers, text = page.site.request('GET', url.split(page.site.host)[1])
+    path = os.path.join(FOLDER, 'filmed')
+    with open(path, 'w') as file:
+        file.write(page.site.script())
+    words = [os.path.join(TOP, 'agc-study'), 'film', rope, path, '--limit', page.text('limit')]
+    wanted = subprocess.run(words, capture_output=True, text=True, check=True).stdout
+    judge('the film', (200, film.frames_in(wanted, 'left')), (status, film.frames_in(text, 'left')))
+    judge('the film is kept apart', True, headers['Content-Security-Policy'].startswith('sandbox allow-scripts;'))
+    download = page.value("document.getElementById('download').href")
+    judge('the download', page.site.script(), page.site.request('GET', download.split(page.site.host)[1])[2])
+
+
+def try_pro():
+    """PRO is held as long as it is held, by pointer and by key; a window that goes lets it up."""
+    site = started(example('verbs', 'rope'))
+    page = Page(site)
+    page.type('Space')
+    page.state('time goes on')
+    x, y = page.middle("[data-key='PRO'] button")
+    began = time.monotonic()
+    page.window.mouse('mousePressed', x, y)
+    time.sleep(0.6)
+    judge('PRO looks held', 'PRO', page.see("Look.down('left')", 'PRO'))
+    page.window.mouse('mouseReleased', x, y)
+    held = time.monotonic() - began
+    page.see("Look.down('left')", '')
+    page.window.key('p', 'keyDown')
+    time.sleep(0.3)
+    page.window.key('p', 'keyUp')
+    page.see("Look.down('left')", '')
+    page.window.key('p', 'keyDown')
+    wait(lambda: keys_in(site.script())[-1:] == ['pro down'] and len(keys_in(site.script())) == 5)
+    page.close()
+    wait(lambda: len(keys_in(site.script())) == 6, 10)
+    script = site.script()
+    judge('PRO goes down and up', ['pro down', 'pro up'] * 3, keys_in(script))
+    cycles = [int(line.split(' ')[0]) for line in script.splitlines()]
+    near('how long PRO was held', held, (cycles[1] - cycles[0]) / A_SECOND, 0.25)
+    site.end()
+
+
+def try_keys_rope():
+    """Memory, cells, channels and breakpoints on the rope that shows each key in NOUN; two windows."""
+    rope = example('keys', 'rope')
+    site = started(rope, '--names', example('console', 'names', 'names'))
+    page, other = Page(site), Page(site)
+    page.type('Space')
+    page.state('time goes on')
+    page.type('4', '2')
+    for each, name in ((page, 'one'), (other, 'the other')):
+        wanted = film.segments_of(film.panel(NOUN='42'))
+        judge(f'{name} window shows 42', wanted, each.see("Look.places('left')", wanted))
+    other.pause()
+    judge('the first window stands too', 'paused', page.state('paused'))
+    try_words(page)
+    try_breaks(page, site)
+    other.close()
+    page.close()
+    site.end()
+
+
+def try_words(page):
+    """After the keys 4 and 2: cells 0100 and 0101 have the last key, and so has channel 15; channel 10 has its relay word,
+    NOUN 42 (row 9 in bits 15 to 12, the codes of 4 and 2 in bits 10 to 6 and 5 to 1)."""
+    page.click('#memory-tab')
+    words = "[...document.querySelectorAll('#memory tbody tr')].map((row) => [...row.children].map((cell) => cell.textContent))[8].slice(0, 4)"
+    wanted = ['0100', '00002', '00002', '00000']
+    judge('memory', wanted, page.see(words, wanted))
+    page.click('#channels-tab')
+    for channel, word in ((0o15, '00002'), (0o10, '44771')):
+        judge(f'channel {channel:o}', word, page.see(f"document.getElementById('channel-{channel}').textContent", word))
+    page.click('#watch-tab')
+    for place in ('COUNT', '0101', 'nothing'):
+        page.click('#watch-place')
+        page.type(*place)
+        page.type('Enter')
+    rows = "[...document.querySelectorAll('#watched tr')].map((row) => [...row.children].slice(0, 3).map((cell) => cell.textContent))"
+    wanted = [['COUNT', '00002', '2'], ['0101', '00002', '2']]
+    judge('watched cells', wanted, page.see(rows + '.slice(0, 2)', wanted))
+    judge('a cell that is none', True, wait(lambda: page.value(rows)[2][1:2] == ['–']))
+    picture(page, 'web-watch')
+    page.type('Escape')
+    page.value('document.activeElement.blur()')
+    page.click('#memory-tab')
+    page.click('#play')
+    page.type('7')
+    bright = "[...document.querySelectorAll('#memory td.changed')].map((cell) => cell.textContent)"
+    judge('a cell that changes is bright', True, wait(lambda: '00007' in page.value(bright)))
+    page.pause()
+
+
+def try_breaks(page, site):
+    """KEYIN, the key's vector, is three cycles after the key; its relay word is written 22 after the key, or a cycle
+    or two more for steps of timers that come between. With both breakpoints the first one stops time first."""
+    page.click('#breaks-tab')
+    page.click('#break-place')
+    page.type(*'KEYIN', 'Enter')
+    judge('a breakpoint', ['order at KEYIN'], page.see("[...document.querySelectorAll('#breaks code')].map((each) => each.textContent)", ['order at KEYIN']))
+    page.click('#break-place')
+    page.type(*'nowhere', 'Enter')
+    judge('no breakpoint', True, wait(lambda: 'BadPlace' in page.text('trouble')))
+    page.value("document.getElementById('break-place').value = ''; document.activeElement.blur()")
+    press_and_hit(page, site, '1', 'order at KEYIN', 3)
+    judge('the order comes next', True, page.text('next').startswith('4024 KEYIN'))
+    judge('the boundary before it', True, line_of(page, '#history li', len(page.texts('#history li')) - 1).endswith('interrupt KEYRUPT1'))
+    page.click('#play')
+    page.state('time goes on')
+    page.pause()
+    judge('a second breakpoint', 200, site.do('break', place='write 10'))
+    press_and_hit(page, site, '3', 'order at KEYIN', 3)
+    page.click('#play')
+    page.state('at breakpoint: write to channel 10')
+    settle(page)
+    near('the write', last_key(site) + 23, page.cycle(), 1)
+    judge('the relay word is there', True, page.see("Look.places('left')", film.segments_of(film.panel(NOUN='13'))) == film.segments_of(film.panel(NOUN='13')))
+    shown = "[...document.querySelectorAll('#breaks code')].map((each) => each.textContent)"
+    for text, left in (('KEYIN', ['write to channel 10']), ('write 10', [])):
+        page.click(f'#breaks [aria-label="Remove the breakpoint {text}"]')
+        judge('the breakpoints that are left', left, page.see(shown, left))
+    page.click('#play')
+    page.type('5')
+    time.sleep(0.3)
+    judge('nothing stops time any more', 'time goes on', page.text('state'))
+    page.pause()
+
+
+def press_and_hit(page, site, key, where, after):
+    """Plays, presses a key, and waits for the breakpoint, which is so many cycles after the key."""
+    page.click('#play')
+    page.state('time goes on')
+    page.type(key)
+    judge(f'time stops: {where}', f'at breakpoint: {where}', page.state(f'at breakpoint: {where}'))
+    settle(page)
+    judge('the cycle of the breakpoint', last_key(site) + after, page.cycle())
+
+
+def last_key(site):
+    return int(site.script().splitlines()[-1].split(' ')[0])
+
+
+# the page itself
+
+
+def try_sizes():
+    """At phone width the whole DSKY is seen; at 1000 x 700 DSKY and time without scrolling. All is named and reachable."""
+    site = started(example('verbs', 'rope'))
+    page = Page(site, PHONE)
+    page.type('Space')
+    for key in 'v35':
+        page.type(key)
+    page.type('Enter')
+    lit = film.segments_of(film.panel(PROG='88', VERB='88', NOUN='88', R1='+88888', R2='+88888', R3='+88888'))
+    page.see("Look.places('left')", lit)
+    seen = """(selector) => [...document.querySelectorAll(selector)].filter((each) => {
+        const box = each.getBoundingClientRect();
+        return box.left < 0 || box.right > innerWidth || box.top < 0 || box.bottom > innerHeight || box.width < 4;
+    }).map((each) => each.outerHTML.slice(0, 80))"""
+    parts = '.dsky, .lamps li, .display svg, .display .name, .acty, .keys > span, .keys button'
+    judge('at phone width the whole DSKY is seen', [], page.value(f'({seen})({json.dumps(parts)})'))
+    judge('parts of the DSKY', 1 + 14 + 24 + 3 + 1 + 19 + 19, page.value(f'document.querySelectorAll({json.dumps(parts)}).length'))
+    judge('nothing is wider than the phone', True, page.value('document.documentElement.scrollWidth <= innerWidth'))
+    overlap = """[...document.querySelectorAll('.lamps li')].filter((each) => each.scrollWidth > each.clientWidth + 1).map((each) => each.textContent)"""
+    judge('each lamp has room for its name', [], page.value(overlap))
+    picture(page, 'web-phone', PHONE)
+    page.window.resize(*SIZE)
+    controls = parts + ', #time, #time button:not([hidden]), #slider, #speed, #inspector'
+    judge('at 1000 x 700 all is seen', [], page.value(f'({seen})({json.dumps(controls)})'))
+    judge('and nothing scrolls', True, page.value('document.documentElement.scrollHeight <= innerHeight'))
+    page.pause()
+    try_names(page)
+    try_tabs(page)
+    page.close()
+    site.end()
+
+
+def try_names(page):
+    """Whatever can be operated has a name for screen readers."""
+    page.window.ask('Accessibility.enable')
+    nodes = page.window.ask('Accessibility.getFullAXTree')['nodes']
+    roles = ('button', 'slider', 'combobox', 'tab', 'textbox', 'link', 'tabpanel', 'dialog')
+    found = [(node['role']['value'], node.get('name', {}).get('value', '')) for node in nodes
+             if not node.get('ignored') and node['role']['value'] in roles]
+    judge('all that is operated has a name', [], [each for each in found if not each[1].strip()])
+    names = [name for role, name in found if role == 'button']
+    wanted = {'VERB', 'NOUN', 'plus', 'minus', 'ENTER', 'CLEAR', 'RESET', 'PROCEED', 'KEY REL', *'0123456789'}
+    judge('the keys are named', wanted, wanted & set(names))
+
+
+def try_tabs(page):
+    """The Tab key comes to each control, and Space and Enter work there."""
+    page.value('document.activeElement.blur()')
+    seen = set()
+    for _ in range(160):
+        page.type('Tab')
+        seen.add(page.value("((each) => each.id || each.getAttribute('aria-label') || each.dataset.back || '')(document.activeElement)"))
+    wanted = {'play', 'step', 'speed', 'slider', 'help-button', 'orders-tab', 'Back by a second', 'VERB', '5', 'PROCEED', 'ENTER'}
+    judge('the Tab key comes to each control', wanted, wanted & seen)
+    before = len(keys_in(page.site.script()))
+    page.value("document.querySelector(\"[data-key='7'] button\").focus()")
+    page.type('Enter')
+    wait(lambda: len(keys_in(page.site.script())) > before)
+    judge('Enter presses the key that has the focus', 'key 7', keys_in(page.site.script())[-1])
+    page.value("document.getElementById('step').focus()")
+    cycle = page.cycle()
+    page.type('Space')
+    judge('Space presses the button that has the focus', True, wait(lambda: page.cycle() > cycle))
+    page.value("document.getElementById('orders-tab').focus()")
+    page.type('ArrowRight')
+    judge('arrows go from tab to tab', 'memory-tab', page.value('document.activeElement.id'))
+
+
+def try_policy():
+    """The page loads nothing from elsewhere, and runs no script but its own."""
+    site = started(example('verbs', 'rope'))
+    page = Page(site)
+    policy = site.request('GET', '/')[1]['Content-Security-Policy']
+    judge('the policy', True, "default-src 'none'" in policy and 'unsafe' not in policy and '*' not in policy)
+    loaded = page.value('performance.getEntriesByType("resource").map((each) => each.name)')
+    judge('all is loaded from here', [], [each for each in loaded if not each.startswith(f'http://{site.host}/')])
+    judge('and that is all of the page', True, len(loaded) >= 10)
+    inline = "(() => { const it = document.createElement('script'); it.textContent = 'window.ran = 1'; document.body.append(it); return window.ran ?? 0; })()"
+    judge('a script that is brought in does not run', 0, page.value(inline))
+    elsewhere = Elsewhere()
+    judge('nor is anything fetched', 'refused', page.value(f"fetch('{elsewhere.url}').then(() => 'fetched', () => 'refused')"))
+    judge('nothing came there', 0, elsewhere.count)
+    try_other_pages(page, site, elsewhere)
+    page.window.errors()
+    page.close()
+    elsewhere.close()
+    site.end()
+
+
+class Elsewhere:
+    """Another server, whose page tries to reach ours."""
+
+    def __init__(self):
+        outer = self
+        self.count = 0
+
+        class Handler(http.server.BaseHTTPRequestHandler):
+            def do_GET(self):
+                outer.count += 1
+                self.send_response(200)
+                self.send_header('Content-Type', 'text/html')
+                self.end_headers()
+                self.wfile.write(b'<!doctype html><title>elsewhere</title>')
+
+            def log_message(self, *words):
+                pass
+
+        self.server = http.server.ThreadingHTTPServer(('127.0.0.1', 0), Handler)
+        self.url = f'http://127.0.0.1:{self.server.server_address[1]}/'
+        threading.Thread(target=self.server.serve_forever, daemon=True).start()
+
+    def close(self):
+        self.server.shutdown()
+        self.server.server_close()
+
+
+def try_other_pages(page, site, elsewhere):
+    """A page from elsewhere does nothing here, even with the token; nor does another name for this machine."""
+    page.window.load(elsewhere.url)
+    for token in ('', f'?token={site.token}'):
+        body = '{"do":"key","name":"7"}'
+        sent = f"""fetch('http://{site.host}/do{token}', {{ method: 'POST', mode: 'no-cors', body: '{body}' }}).then((answer) => answer.type, () => 'failed')"""
+        page.value(sent)
+        read = f"fetch('http://{site.host}/script{token}').then((answer) => answer.text(), () => 'unread')"
+        judge('a page from elsewhere reads nothing', 'unread', page.value(read))
+    judge('and does nothing', ('', 0), (site.script(), site.state()['time']['waiting']))
+    page.window.load(f'http://rebound.test:{site.port}/?token={site.token}')
+    judge('another name for this machine', '{"error": "this is not our host"}', page.value('document.body.textContent'))
+
+
+# requests
+
+
+def try_refusals():
+    """Requests that are refused, with their statuses; none changes anything."""
+    site = started(example('verbs', 'rope'))
+    key, origin = {'do': 'key', 'name': '7'}, f'http://{site.host}'
+    post = lambda body=key, **headers: site.request('POST', '/do', body, **headers)[0]
+    cases = [
+        ('no token', 403, lambda: post(X_Token=None)),
+        ('a wrong token', 403, lambda: post(X_Token=site.token[:-1] + '.')),
+        ('a token that is none', 403, lambda: post(X_Token='ü')),
+        ('no token for the page', 403, lambda: site.request('GET', '/', X_Token=None)[0]),
+        ('no token for the news', 403, lambda: site.request('GET', '/events', X_Token=None)[0]),
+        ('no token for the script', 403, lambda: site.request('GET', '/script?token=', X_Token=None)[0]),
+        ('another host', 403, lambda: post(Host='example.com')),
+        ('another port', 403, lambda: post(Host='127.0.0.1:1')),
+        ('no host', 403, lambda: post(Host=None)),
+        ('a host for the page', 403, lambda: site.request('GET', f'/?token={site.token}', Host='example.com')[0]),
+        ('another origin', 403, lambda: post(Origin='http://example.com')),
+        ('another port as origin', 403, lambda: post(Origin='http://127.0.0.1:1')),
+        ('origin null', 403, lambda: post(Origin='null')),
+        ('no origin', 403, lambda: post(Origin=None)),
+        ('another origin for the script', 403, lambda: site.request('GET', '/script', Origin='http://example.com')[0]),
+        ('from another page', 403, lambda: post(Sec_Fetch_Site='cross-site')),
+        ('a body that is too long', 413, lambda: post(json.dumps({**key, 'more': ' ' * 4096}).encode())),
+        ('a length that is too long', 413, lambda: post(b'', Content_Length='99999999999')),
+        ('no length', 411, lambda: post(None)),
+        ('a length that is none', 411, lambda: post(b'{}', Content_Length='-1')),
+        ('chunks', 411, lambda: post(b'0\r\n\r\n', Transfer_Encoding='chunked')),
+        ('another type', 415, lambda: post(Content_Type='text/plain')),
+        ('no JSON', 400, lambda: post(b'{"do":"key"')),
+        ('no object', 400, lambda: post(b'[1]')),
+        ('too deep', 400, lambda: post(b'[' * 4000)),
+        ('no command', 400, lambda: post({'do': 'fly'})),
+        ('no text as command', 400, lambda: post({'do': 7})),
+        ('no key', 400, lambda: post({'do': 'key', 'name': '9 9'})),
+        ('PRO as a key', 400, lambda: post({'do': 'key', 'name': 'PRO'})),
+        ('a number as key', 400, lambda: post({'do': 'key', 'name': 9})),
+        ('no speed', 400, lambda: post({'do': 'speed', 'times': 7})),
+        ('a truth as speed', 400, lambda: post({'do': 'speed', 'times': True})),
+        ('no cycle', 400, lambda: post({'do': 'go', 'cycle': '1'})),
+        ('no breakpoint', 400, lambda: post({'do': 'break', 'place': '4100\nkey 7'})),
+        ('a breakpoint elsewhere', 400, lambda: post({'do': 'break', 'place': '7777777'})),
+        ('no instrument', 400, lambda: post({'do': 'control', 'instrument': 0, 'name': 'x', 'down': True})),
+        ('no bank', 400, lambda: site.request('POST', '/look', {'bank': 8})[0]),
+        ('too many cells', 400, lambda: site.request('POST', '/look', {'cells': ['0100'] * 65})[0]),
+        ('no channels', 400, lambda: site.request('POST', '/look', {'channels': [-1]})[0]),
+        ('nothing to undo', 409, lambda: post({'do': 'undo'})),
+        ('no such page', 404, lambda: site.request('GET', '/web/../server.py')[0]),
+        ('no such place', 404, lambda: site.request('POST', '/key', key)[0]),
+        ('another method', 405, lambda: site.request('PUT', '/do', key)[0]),
+        ('a method that is none', 400, lambda: site.request('FLY', '/do', key)[0]),
+    ]
+    for what, wanted, sent in cases:
+        judge(f'the status of {what}', wanted, sent())
+        time = site.state()['time']
+        judge(f'nothing changes: {what}', ('', 0, 0, False, 1), (site.script(), time['cycle'], time['waiting'], time['playing'], time['speed']))
+    judge('a good request', (200, 'key 7'), (post(), keys_in(site.script())[0]))
+    try_sockets(site)
+    site.end()
+
+
+def try_sockets(site):
+    """It listens on 127.0.0.1 alone. Halves of requests and browsers that read nothing hold nobody up."""
+    with socket.socket() as other:
+        judge('another address of this machine', True, other.connect_ex(('127.0.0.2', site.port)) != 0)
+    halves = []
+    for text in (b'', b'GET / HT', b'POST /do HTTP/1.1\r\nContent-Length: 40\r\n\r\n{', b'\x16\x03\x01\x00'):
+        half = socket.create_connection(('127.0.0.1', site.port))
+        half.sendall(text)
+        halves.append(half)
+    stalled = [site.stream(2048) for _ in range(5)]
+    for _ in range(60):  # each step sends a hundred boundaries: more than the buffers of a connection hold
+        site.do('step')
+    began = time.monotonic()
+    judge('a command while browsers stall', 200, site.do('play'))
+    news = [each['time']['cycle'] for each in site.messages(1) if 'time' in each]
+    site.do('pause')
+    judge('it is done soon', True, time.monotonic() - began < 3)
+    judge('another window sees time go on', True, len(news) > 5 and news[-1] - news[0] > 0.5 * A_SECOND)
+    for connection in [*halves, *(each for each, _ in stalled)]:
+        connection.close()
+
+
+# figures
+
+
+def try_pace():
+    """Real time is within 1 percent of the hardware's pace, 10 and 100 times too, and needs little of a processor."""
+    site = started(example('verbs', 'rope'))
+    page = Page(site)
+    for speed in (1, 10, 100, 1000):
+        site.do('speed', times=speed)
+        site.do('play')
+        time.sleep(0.2)
+        used, began, start = site.seconds_used(), time.monotonic(), look_at(site)
+        time.sleep(3)
+        end = look_at(site)
+        seconds = time.monotonic() - began
+        part = (site.seconds_used() - used) / seconds
+        pace = (end - start) / A_SECOND / seconds
+        messages = site.messages(1)
+        shown = page.text('pace')
+        site.do('pause')
+        figure(f'at speed {speed}', f'pace {pace:.4f}, {100 * part:.1f} percent of a processor')
+        if speed < 1000 or not shown:
+            near(f'the pace at {speed}', 1, pace / speed, 0.01)
+        judge(f'at most fifty messages a second at {speed}', True, 5 <= len(messages) <= 52)
+        if speed == 1:
+            judge('less than 10 percent of a processor', True, part < 0.1)
+    page.close()
+    site.end()
+
+
+def look_at(site):
+    """Returns the cycle that the machine has come to."""
+    return json.loads(site.request('POST', '/look', {})[2])['cycle']
+
+
+def try_latency():
+    """From a key that goes down in the page to the segments that it lights: the page's own clock."""
+    site = started(example('keys', 'rope'))
+    page = Page(site)
+    page.type('Space')
+    page.state('time goes on')
+    time.sleep(0.5)
+    page.value("""window.lit = [];
+        addEventListener('keydown', () => { window.pressed = performance.now(); }, true);
+        new MutationObserver(() => requestAnimationFrame(() => { if (window.pressed) { window.lit.push(performance.now() - window.pressed); window.pressed = 0; } }))
+            .observe(document.querySelector('.display'), { attributes: true, subtree: true }); undefined""")
+    for key in '4271530986' * 2:
+        page.type(key)
+        time.sleep(0.25)
+    lit = page.value('window.lit')
+    figure('milliseconds from key to light', f'median {statistics.median(lit):.1f}, least {min(lit):.1f}, most {max(lit):.1f} of {len(lit)}')
+    judge('each key was lit', 20, len(lit))
+    judge('a key lights within 50 milliseconds', True, sorted(lit)[len(lit) // 4] < 50)
+    page.close()
+    site.end()
+
+
+# the ends
+
+
+def try_killed():
+    """The page says that the console was killed; the script is still there, and is saved."""
+    saved = os.path.join(FOLDER, 'killed')
+    site = started(example('keys', 'rope'), '--save', saved)
+    page = Page(site)
+    page.type('Space')
+    page.state('time goes on')
+    page.type('4')
+    wanted = film.segments_of(film.panel(NOUN='_4'))
+    page.see("Look.places('left')", wanted)
+    script = site.script()
+    for number, words in site.children():
+        if any('agc' in word for word in words):
+            os.kill(number, 9)
+    judge('the page says that the console has ended', True, wait(lambda: 'agc-console has ended' in (page.text('trouble') or '')))
+    judge('and shows it', 'ended', page.state('ended'))
+    page.type('7')
+    judge('the script is still there', ('key 4', script), (keys_in(script)[0], site.script()))
+    page.close()
+    status, out, err = site.end()
+    with open(saved) as file:
+        judge('Control-C saves it', (0, '', script), (status, err, file.read()))
+
+
+def try_end():
+    """Control-C: the script is saved, what repeats it is printed, the page says so, and no process is left."""
+    saved, rope = os.path.join(FOLDER, 'saved'), example('verbs', 'rope')
+    site = started(rope, '--save', saved)
+    page = Page(site)
+    page.type('Space')
+    page.state('time goes on')
+    for key in 'v16':
+        page.type(key)
+    wanted = film.segments_of(film.panel(VERB='16'))
+    judge('VERB 16', wanted, page.see("Look.places('left')", wanted))
+    page.pause()
+    script, cycle = site.script(), page.cycle()
+    children = [number for number, _ in site.children()]
+    status, out, err = site.end()
+    judge('Control-C: the status and the line', (0, f'./agc {rope} {saved} --limit {cycle}', ''), (status, out.strip(), err))
+    with open(saved) as file:
+        judge('the script is saved', (script, ['key VERB', 'key 1', 'key 6']), (file.read(), keys_in(script)))
+    judge('agc shows the same', wanted, agc_panel(rope, script, cycle)[0])
+    judge('no process is left', [], [number for number in children if os.path.exists(f'/proc/{number}')])
+    judge('the page says that it is over', True, wait(lambda: 'cannot be reached' in page.text('trouble')))
+    page.close()
+    again = subprocess.run([os.path.join(TOP, 'agc-web'), rope, '--save', saved], capture_output=True, text=True)
+    judge('a file with something in it is not written over', (1, f'agc-web: {saved} has something in it: name another file\n'), (again.returncode, again.stderr))
+
+
+def try_command():
+    """Mistakes in the command line, and files that are refused."""
+    def run(*words):
+        done = subprocess.run([os.path.join(TOP, 'agc-web'), *words], capture_output=True, text=True)
+        return done.returncode, done.stdout, done.stderr.splitlines()[-1]
+    judge('no such rope', (1, '', 'agc-web: cannot read rope'), run('/no/such/rope'))
+    judge('tables that cannot be', (1, ''), run(example('verbs', 'rope'), '--watch', '1,2')[:2])
+    judge('no rope', 2, run()[0])
+
+
+def try_lander():
+    """The pilot turns the craft, and goes back with it; the script's flight ends at the angle that is shown."""
+    rope = example('lander', 'rope')
+    site = Site([sys.executable, '-B', example('lander', 'craft.py'), '--web', '--port', '0', '--angle', '2', '--turning', '0'])
+    page = Page(site)
+    rows = "Object.fromEntries([...document.querySelectorAll('.rows div')].map((row) => [...row.children].map((each) => each.textContent)))"
+    judge('the craft stands beside the DSKY', True, wait(lambda: page.value(rows).get('Angle') == '+2.00°'))
+    page.type('Space')
+    page.state('time goes on')
+    page.window.key('ArrowRight', 'keyDown')
+    time.sleep(1)
+    picture(page, 'web-lander')
+    page.window.key('ArrowRight', 'keyUp')
+    judge('the held angle turns', True, wait(lambda: float(page.value(rows)['Held angle'][:-1]) > 3))
+    wait(lambda: float(page.value(rows)['Angle'][:-1]) > 3)
+    page.pause()
+    compare_flight(page, site, rope, rows)
+    judge('the pilot is asked', 409, site.do('go', cycle=0))
+    shown, end, script = page.value(rows), page.cycle(), site.script()
+    site.do('go', cycle=60000, sure=True)
+    settle(page)
+    judge('back to a tick of the craft', True, 60000 - 860 < page.cycle() <= 60000)
+    compare_flight(page, site, rope, rows)
+    site.do('undo')
+    settle(page)
+    judge('undo brings the craft back', (shown, end, script), (page.value(rows), page.cycle(), site.script()))
+    site.do('play')
+    time.sleep(0.5)
+    page.pause()
+    compare_flight(page, site, rope, rows)
+    page.close()
+    site.end()
+
+
+def compare_flight(page, site, rope, rows):
+    """Compares the angle that is shown with CDUX in a run of the script: it counts 32768 to a turn."""
+    with replayed(rope, site.script(), page.cycle() + 1) as console:
+        pulses = (console.cell('32') + 16384) % 32768 - 16384
+        held = (console.cell('100') + 16384) % 32768 - 16384
+    found = page.value(rows)
+    judge('the angle is that of CDUX', f'{pulses * 360 / 32768:+.2f}°', found['Angle'])
+    judge('the held angle is that of the machine', f'{held * 360 / 32768:+.2f}°', found['Held angle'])
+
+
+def picture(page, name, size=None):
+    """Writes a picture for the docs, if they are asked for."""
+    if PICTURES:
+        page.window.picture(os.path.join(PICTURES, name + '.png'))
+
+
+TRIES = (try_session, try_pro, try_keys_rope, try_sizes, try_policy, try_refusals, try_pace, try_latency, try_killed, try_end,
+         try_command, try_lander)
+
+
+def main():
+    chosen = os.environ.get('TRY')
+    for each in TRIES:
+        if chosen and each.__name__ not in chosen.split(','):
+            continue
+        try:
+            each()
+        except Exception as error:
+            judge(f'{each.__name__} goes on to its end', None, repr(error))
+    print(f'{passed} passed, {failed} failed')
+    return 1 if failed else 0
+
+
+if __name__ == '__main__':
+    sys.exit(main())
