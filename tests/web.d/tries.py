@@ -140,7 +140,7 @@ class Page:
         self.click('#ask-yes' if sure else '#ask button[value=no]')
 
     def pause(self):
-        if self.text('state').startswith('time goes on'):
+        if self.text('state').startswith('running'):
             self.type('Space')
         judge('time stands', 'paused', self.state('paused'))
         settle(self)
@@ -202,7 +202,7 @@ def try_session():
     judge('it begins paused, at cycle 0', ('paused', 0), (page.state('paused'), page.cycle()))
     compare_with_agc('at first', page, rope)
     page.click('#play')
-    judge('it plays', 'time goes on', page.state('time goes on'))
+    judge('it plays', 'running', page.state('running'))
     for name in 'v35':
         page.type(name)
     dark = film.segments_of(film.panel(VERB='35'))
@@ -336,7 +336,7 @@ def try_pro():
     site = started(example('verbs', 'rope'))
     page = Page(site)
     page.type('Space')
-    page.state('time goes on')
+    page.state('running')
     x, y = page.middle("[data-key='PRO'] button")
     began = time.monotonic()
     page.window.mouse('mousePressed', x, y)
@@ -366,7 +366,7 @@ def try_keys_rope():
     site = started(rope, '--names', example('console', 'names', 'names'))
     page, other = Page(site), Page(site)
     page.type('Space')
-    page.state('time goes on')
+    page.state('running')
     page.type('4', '2')
     for each, name in ((page, 'one'), (other, 'the other')):
         wanted = film.segments_of(film.panel(NOUN='42'))
@@ -375,6 +375,14 @@ def try_keys_rope():
     judge('the first window stands too', 'paused', page.state('paused'))
     try_words(page)
     try_breaks(page, site)
+    typed = '4271530986' * 3
+    before = len(keys_in(site.script()))
+    page.type(*typed)
+    judge('keys wait while time stands', 'paused, 29 keys wait', page.state('paused, 29 keys wait'))
+    page.click('#play')
+    wait(lambda: len(keys_in(site.script())) == before + len(typed))
+    judge('keys that are typed fast keep their order', [f'key {name}' for name in typed], keys_in(site.script())[before:])
+    page.pause()
     other.close()
     page.close()
     site.end()
@@ -425,7 +433,7 @@ def try_breaks(page, site):
     judge('the order comes next', True, page.text('next').startswith('4024 KEYIN'))
     judge('the boundary before it', True, line_of(page, '#history li', len(page.texts('#history li')) - 1).endswith('interrupt KEYRUPT1'))
     page.click('#play')
-    page.state('time goes on')
+    page.state('running')
     page.pause()
     judge('a second breakpoint', 200, site.do('break', place='write 10'))
     press_and_hit(page, site, '3', 'order at KEYIN', 3)
@@ -441,14 +449,14 @@ def try_breaks(page, site):
     page.click('#play')
     page.type('5')
     time.sleep(0.3)
-    judge('nothing stops time any more', 'time goes on', page.text('state'))
+    judge('nothing stops time any more', 'running', page.text('state'))
     page.pause()
 
 
 def press_and_hit(page, site, key, where, after):
     """Plays, presses a key, and waits for the breakpoint, which is so many cycles after the key."""
     page.click('#play')
-    page.state('time goes on')
+    page.state('running')
     page.type(key)
     judge(f'time stops: {where}', f'at breakpoint: {where}', page.state(f'at breakpoint: {where}'))
     settle(page)
@@ -717,7 +725,7 @@ def try_latency():
     site = started(example('keys', 'rope'))
     page = Page(site)
     page.type('Space')
-    page.state('time goes on')
+    page.state('running')
     time.sleep(0.5)
     page.value("""window.lit = [];
         addEventListener('keydown', () => { window.pressed = performance.now(); }, true);
@@ -743,7 +751,7 @@ def try_killed():
     site = started(example('keys', 'rope'), '--save', saved)
     page = Page(site)
     page.type('Space')
-    page.state('time goes on')
+    page.state('running')
     page.type('4')
     wanted = film.segments_of(film.panel(NOUN='_4'))
     page.see("Look.places('left')", wanted)
@@ -767,7 +775,7 @@ def try_end():
     site = started(rope, '--save', saved)
     page = Page(site)
     page.type('Space')
-    page.state('time goes on')
+    page.state('running')
     for key in 'v16':
         page.type(key)
     wanted = film.segments_of(film.panel(VERB='16'))
@@ -805,7 +813,7 @@ def try_lander():
     rows = "Object.fromEntries([...document.querySelectorAll('.rows div')].map((row) => [...row.children].map((each) => each.textContent)))"
     judge('the craft stands beside the DSKY', True, wait(lambda: page.value(rows).get('Angle') == '+2.00°'))
     page.type('Space')
-    page.state('time goes on')
+    page.state('running')
     page.window.key('ArrowRight', 'keyDown')
     time.sleep(1)
     picture(page, 'web-lander')

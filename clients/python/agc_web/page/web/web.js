@@ -15,6 +15,7 @@ function showAbout(about) {
   const name = about.rope.split('/').slice(-2).join('/');
   setText(find('rope'), name);
   document.title = `DSKY: ${name}`;
+  document.body.classList.toggle('named', about.names.length > 0);
   find('names').replaceChildren(...about.names.map((each) => make('option', { value: each })));
   if (find('tabs').children.length) return;
   const tabs = Object.keys(TABS).filter((tab) => find(`${tab}-panel`) && (tab !== 'tables' || about.watch));
@@ -48,7 +49,7 @@ function stateOf(time) {
   if (time.ended) return 'ended';
   if (time.stop) return `stopped: ${time.stop}`;
   const waiting = time.waiting ? `, ${time.waiting} ${time.waiting === 1 ? 'key waits' : 'keys wait'}` : '';
-  if (time.playing) return `time goes on${waiting}`;
+  if (time.playing) return `running${waiting}`;
   return (time.hit ? `at breakpoint: ${breakText(time.hit)}` : 'paused') + waiting;
 }
 

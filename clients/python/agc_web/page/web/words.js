@@ -42,11 +42,19 @@ async function post(path, body) {
   return { status: response.status, ...(await response.json()) };
 }
 
+// Runs tasks one after another: a request is sent once the one before is answered, so that keys stay in their order.
+let turn = Promise.resolve();
+function inTurn(task) {
+  const done = turn.then(task);
+  turn = done.catch(() => {});
+  return done;
+}
+
 // Asks the server to do something, and shows why if it does not. Returns whether it was done.
 async function ask(command, more = {}) {
   try {
-    const answer = await post('do', { do: command, ...more });
-    if (answer.sure && await confirmed(answer.error)) return ask(command, { ...more, sure: true });
+    const answer = await inTurn(() => post('do', { do: command, ...more }));
+    if (answer.sure && await confirmed(command, answer.sure)) return ask(command, { ...more, sure: true });
     showFault(answer.sure ? '' : answer.error || '');
     return answer.status === 200;
   } catch {
@@ -55,10 +63,12 @@ async function ask(command, more = {}) {
   }
 }
 
-// Asks the user, in the page.
-function confirmed(text) {
+// Asks the user, in the page, whether what was given since may be dropped.
+function confirmed(command, count) {
   const dialog = find('ask');
-  setText(find('ask-text'), `Going back ${text.replace('this drops', 'drops')}. It can be undone.`);
+  const what = count === 1 ? '1 key or other event' : `${count} keys and other events`;
+  setText(find('ask-text'), command === 'undo' ? `Undo drops ${what} given since you went back.` : `Going back drops ${what} given since. Undo brings them back.`);
+  setText(find('ask-yes'), command === 'undo' ? 'Undo' : 'Go back');
   dialog.returnValue = 'no';
   dialog.showModal();
   return new Promise((done) => {
