@@ -13,9 +13,9 @@ LONGEST = 20  # seconds that anything may take
 class Site:
     """A running agc-web, or another program that serves its page."""
 
-    def __init__(self, words):
+    def __init__(self, words, environment=None):
         began = time.monotonic()
-        self.process = subprocess.Popen(words, stdout=subprocess.PIPE, stderr=subprocess.PIPE, text=True, start_new_session=True)
+        self.process = subprocess.Popen(words, stdout=subprocess.PIPE, stderr=subprocess.PIPE, text=True, start_new_session=True, env=environment)
         self.line = self.process.stdout.readline()
         self.url = self.line.split(' ')[0]
         self.port = int(self.url.split(':')[2].split('/')[0])

@@ -211,7 +211,6 @@ def try_session():
     lit = film.segments_of(film.panel(PROG='88', VERB='88', NOUN='88', R1='+88888', R2='+88888', R3='+88888'))
     judge('all is lit', lit, page.see("Look.places('left')", lit))
     judge('verb and noun flash', 'VERB NOUN', page.see("Look.blinking('left')", 'VERB NOUN'))
-    picture(page, 'web')
     page.pause()
     script = compare_with_agc('after VERB 35 ENTR', page, rope)
     judge('the script', ['key VERB', 'key 3', 'key 5', 'key ENTR'], keys_in(script))
@@ -407,7 +406,6 @@ def try_words(page):
     wanted = [['COUNT', '00002', '2'], ['0101', '00002', '2']]
     judge('watched cells', wanted, page.see(rows + '.slice(0, 2)', wanted))
     judge('a cell that is none', True, wait(lambda: page.value(rows)[2][1:2] == ['–']))
-    picture(page, 'web-watch')
     page.type('Escape')
     page.value('document.activeElement.blur()')
     page.click('#memory-tab')
@@ -490,11 +488,12 @@ def try_sizes():
     judge('nothing is wider than the phone', True, page.value('document.documentElement.scrollWidth <= innerWidth'))
     overlap = """[...document.querySelectorAll('.lamps li')].filter((each) => each.scrollWidth > each.clientWidth + 1).map((each) => each.textContent)"""
     judge('each lamp has room for its name', [], page.value(overlap))
-    picture(page, 'web-phone', PHONE)
+    picture(page, 'web-phone')
     page.window.resize(*SIZE)
     controls = parts + ', #time, #time button:not([hidden]), #slider, #speed, #inspector'
     judge('at 1000 x 700 all is seen', [], page.value(f'({seen})({json.dumps(controls)})'))
     judge('and nothing scrolls', True, page.value('document.documentElement.scrollHeight <= innerHeight'))
+    time.sleep(0.3)  # so that the next key need not wait
     page.pause()
     try_names(page)
     try_tabs(page)
@@ -849,14 +848,85 @@ def compare_flight(page, site, rope, rows):
     judge('the held angle is that of the machine', f'{held * 360 / 32768:+.2f}°', found['Held angle'])
 
 
-def picture(page, name, size=None):
+def try_names_and_pictures():
+    """A key's service by its names, before RSET puts all lamps out: this is the picture that docs/WEB.md begins with."""
+    words, rope, names = example('verbs', 'words'), os.path.join(FOLDER, 'verbs.rope'), os.path.join(FOLDER, 'verbs.names')
+    with open(rope, 'wb') as file:
+        subprocess.run([os.path.join(TOP, 'agc-study'), 'weave', words, '--names', names], stdout=file, check=True)
+    site = started(example('verbs', 'rope'), '--names', names, '--watch', '0,100,2,0,130,0,140')
+    page = Page(site)
+    page.type('Space')
+    page.state('running')
+    page.type('v', '3', '5', 'Enter')
+    lit = film.segments_of(film.panel(PROG='88', VERB='88', NOUN='88', R1='+88888', R2='+88888', R3='+88888'))
+    judge('all is lit', lit, page.see("Look.places('left')", lit))
+    judge('a breakpoint by its name', 200, site.do('break', place='KEYIN'))
+    page.type('r')
+    judge('time stops at it', 'at breakpoint: order at KEYIN', page.state('at breakpoint: order at KEYIN'))
+    coming = ['4100 KEYIN', '4101 KEYIN +1', '4102 KEYIN +2', '4103 KEYIN +3', '4104 KEYIN +4', '4127 KEYS +18', '4235 RESET']
+    wait(lambda: len(page.texts('#ahead li')) == 12)
+    shown = [re.sub('  .*', '', line_of(page, '#ahead li', i).split(' ', 1)[1]) for i in range(7)]
+    judge('the orders that come, by name', coming, shown)
+    picture(page, 'web')
+    page.click('#tables-tab')
+    with replayed(example('verbs', 'rope'), site.script(), page.cycle()) as console:
+        tables = console.tables('0,100,2,0,130,0,140')
+    judge("the Executive's tables", tables, page.value("document.getElementById('tables').textContent").splitlines())
+    offered = page.value("[...document.querySelectorAll('#names option')].map((each) => each.value)")
+    judge('names are offered', True, {'KEYIN', 'IDLE', 'DIGITS'} <= set(offered))
+    page.close()
+    site.end()
+
+
+def try_stop():
+    """A machine that stops says why, shows the way to its stop, takes no key, and goes back from there."""
+    rope = example('division', 'rope')
+    site = started(rope)
+    page = Page(site)
+    page.type('Space')
+    judge('it stops', 'stopped: DivisionUndefined', page.state('stopped: DivisionUndefined'))
+    with replayed(rope, '', 100) as console:
+        judge('where it stops', (console.cycle, console.stop), (page.cycle(), 'DivisionUndefined'))
+    with Console(rope, program=[CONSOLE]) as console:
+        way = [line.split(' | ')[0] for line in console.step(100)]
+    judge('the way there', way, [line_of(page, '#history li', i) for i in range(len(page.texts('#history li')))])
+    page.type('7')
+    judge('it takes no key', True, wait(lambda: 'has stopped' in page.text('trouble')))
+    judge('and no step', 409, site.do('step'))
+    page.click('#history li:nth-child(2) button')
+    judge('back from the stop', 'paused', page.state('paused'))
+    judge('to the boundary', int(way[1].split(' ')[0]), page.cycle())
+    page.close()
+    site.end()
+
+
+def try_install():
+    """`pip install` of the client's folder needs no network, and gives the command and the page."""
+    if not importlib.util.find_spec('ensurepip'):
+        return
+    home = os.path.join(FOLDER, 'installed')
+    subprocess.run([sys.executable, '-m', 'venv', home], check=True)
+    words = [os.path.join(home, 'bin', 'pip'), 'install', '--quiet', '--no-index', os.path.join(TOP, 'clients', 'python')]
+    done = subprocess.run(words, capture_output=True, text=True, env={**os.environ, 'PYTHONPATH': ''})
+    judge('pip install', (0, ''), (done.returncode, done.stderr if done.returncode else ''))
+    path = os.pathsep.join([TOP, os.environ['PATH']])
+    site = Site([os.path.join(home, 'bin', 'agc-web'), example('verbs', 'rope'), '--port', '0'], {**os.environ, 'PATH': path, 'PYTHONPATH': ''})
+    judge('the page', 200, site.request('GET', '/')[0])
+    judge('its script', 200, site.request('GET', '/web/web.js')[0])
+    judge('the film', 200, site.request('GET', '/film')[0])
+    judge('its end', 0, site.end()[0])
+
+
+def picture(page, name):
     """Writes a picture for the docs, if they are asked for."""
     if PICTURES:
         page.window.picture(os.path.join(PICTURES, name + '.png'))
 
 
-TRIES = (try_session, try_pro, try_keys_rope, try_sizes, try_policy, try_refusals, try_pace, try_latency, try_killed, try_end,
-         try_command, try_lander)
+TRIES = (
+    try_session, try_pro, try_keys_rope, try_sizes, try_policy, try_refusals, try_pace, try_latency, try_killed, try_end,
+    try_command, try_lander, try_names_and_pictures, try_stop, try_install,
+)
 
 
 def main():

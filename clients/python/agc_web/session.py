@@ -378,7 +378,8 @@ class Session:
         self._stand()
         self.waiting.clear()
         self._rewind(self.console.cycle, self.journal)
-        self.history.extend(self.console.step())
+        while not self.history or " - stop " not in self.history[-1]:
+            self.history.extend(self.console.step())
         self._look()
 
     def _set_speed(self, times: int) -> None:
