@@ -432,6 +432,7 @@ def try_breaks(page, site):
     judge('the boundary before it', True, line_of(page, '#history li', len(page.texts('#history li')) - 1).endswith('interrupt KEYRUPT1'))
     page.click('#play')
     page.state('running')
+    time.sleep(0.3)  # the service of the key ends
     page.pause()
     judge('a second breakpoint', 200, site.do('break', place='write 10'))
     press_and_hit(page, site, '3', 'order at KEYIN', 3)
@@ -900,6 +901,13 @@ def try_stop():
     site.end()
 
 
+def try_face():
+    """The film's page in its crate is what the files of the face and of the film give."""
+    script = os.path.join(TOP, 'clients', 'python', 'agc_web', 'page', 'generate')
+    done = subprocess.run([sys.executable, '-B', script, '--check'], capture_output=True, text=True)
+    judge('the constants of the film', (0, '3 passed, 0 failed\n', ''), (done.returncode, done.stdout, done.stderr))
+
+
 def try_install():
     """`pip install` of the client's folder needs no network, and gives the command and the page."""
     if not importlib.util.find_spec('ensurepip'):
@@ -925,7 +933,7 @@ def picture(page, name):
 
 TRIES = (
     try_session, try_pro, try_keys_rope, try_sizes, try_policy, try_refusals, try_pace, try_latency, try_killed, try_end,
-    try_command, try_lander, try_names_and_pictures, try_stop, try_install,
+    try_command, try_lander, try_names_and_pictures, try_stop, try_face, try_install,
 )
 
 

@@ -52,10 +52,10 @@ def serve(
 def main(words: Optional[List[str]] = None) -> int:
     """Runs the command. Returns its status: 0 after Control-C, 1 if a file is refused, 3 if the script was not saved."""
     asked = _arguments().parse_args(words)
-    if asked.save and os.path.exists(asked.save) and os.path.getsize(asked.save):
-        print(f"agc-web: {asked.save} has something in it: name another file", file=sys.stderr)
-        return 1
     try:
+        if asked.save and not _is_free(asked.save):
+            print(f"agc-web: {asked.save} has something in it: name another file", file=sys.stderr)
+            return 1
         with agc.Console(asked.rope, asked.script, form=asked.form, names=asked.names, detached=True) as console:
             if asked.watch is not None:
                 console.tables(asked.watch)
@@ -64,12 +64,19 @@ def main(words: Optional[List[str]] = None) -> int:
                 open_page=asked.open, begin=_attached(asked.instruments),
             )
     except agc.Error as error:
-        print(str(error).replace("agc-console: ", "agc-web: ", 1) if "agc-console: " in str(error) else f"agc-web: {error}", file=sys.stderr)
+        text = str(error)
+        print(text.replace("agc-console: ", "agc-web: ", 1) if "agc-console: " in text else f"agc-web: {text}", file=sys.stderr)
         return 1
     except OSError as error:
         print(f"agc-web: {error.filename or 'port'}: {error.strerror}", file=sys.stderr)
         return 3
     return 0
+
+
+def _is_free(path: str) -> bool:
+    """Makes a file, unless it is there; returns whether there is nothing in it."""
+    with open(path, "a", encoding="ascii"):
+        return os.path.getsize(path) == 0
 
 
 def _arguments() -> argparse.ArgumentParser:
@@ -142,6 +149,7 @@ def _wait(server: Server) -> None:
     try:
         server.serve_forever(poll_interval=0.2)
     except KeyboardInterrupt:
+        signal.signal(signal.SIGINT, signal.SIG_IGN)  # a second one does not keep the script from being saved
         print()
     finally:
         signal.signal(signal.SIGTERM, before)
@@ -153,7 +161,11 @@ def _tell(script: str, save: Optional[str], rope: str, form: Optional[str], limi
     if save is None:
         print(script, end="")
         return
-    with open(save, "w", encoding="ascii") as file:
-        file.write(script)
+    try:
+        with open(save, "w", encoding="ascii") as file:
+            file.write(script)
+    except OSError:
+        print(script, end="")  # so that nothing is lost
+        raise
     options = f" --form {form}" if form else ""
     print(f"./agc {rope} {save} --limit {limit}{options}")

@@ -10,10 +10,10 @@ import os
 import secrets
 import socket
 import subprocess
+import sys
 import tempfile
 import threading
 import time
-from concurrent.futures import TimeoutError as Late
 from http import HTTPStatus
 from http.server import BaseHTTPRequestHandler, ThreadingHTTPServer
 from typing import Any, Callable, Dict, Optional, Sequence, Tuple
@@ -112,7 +112,10 @@ class Server(ThreadingHTTPServer):
             self._room.release()
 
     def handle_error(self, request: Any, client_address: Any) -> None:
-        """Says nothing of a browser that went away."""
+        """Reports a fault of our own; says nothing of a browser that went away."""
+        error = sys.exc_info()[1]
+        if not isinstance(error, (ConnectionError, socket.timeout, ValueError)):
+            print(f"agc-web: {error!r}", file=sys.stderr)
 
 
 class Handler(BaseHTTPRequestHandler):
@@ -148,8 +151,6 @@ class Handler(BaseHTTPRequestHandler):
             self._send_json({"error": str(sure), "sure": sure.count}, HTTPStatus.CONFLICT)
         except (Unable, Ended) as unable:
             self._send_json({"error": str(unable)}, HTTPStatus.CONFLICT)
-        except Late:
-            self._send_json({"error": "the machine is busy"}, HTTPStatus.SERVICE_UNAVAILABLE)
         except (Refused, ValueError) as fault:
             self._send_json({"error": str(fault)}, HTTPStatus.BAD_REQUEST)
         except (ConnectionError, socket.timeout):
@@ -302,10 +303,10 @@ class Handler(BaseHTTPRequestHandler):
 
     def finish(self) -> None:
         """Ends a connection; reads what a refused request still sends, so that its browser gets the answer."""
-        super().finish()
         try:
+            self.connection.settimeout(1)
+            super().finish()
             self.connection.shutdown(socket.SHUT_WR)
-            self.connection.settimeout(0.5)
             for _ in range(64):
                 if not self.connection.recv(65536):
                     break
@@ -389,8 +390,10 @@ def word_at(console: Console, place: str) -> Any:
 def film_by(program: Sequence[str], rope: str, form: Optional[str]) -> Callable[[str, int], bytes]:
     """Returns what films a script: `agc-study film` of the rope."""
 
+    one_at_a_time = threading.Lock()
+
     def film(script: str, limit: int) -> bytes:
-        with tempfile.TemporaryDirectory() as folder:
+        with one_at_a_time, tempfile.TemporaryDirectory() as folder:
             with open(os.path.join(folder, "session.script"), "w", encoding="ascii") as file:
                 file.write(script)
             words = [*program, "film", os.path.abspath(rope), "session.script", "--limit", str(limit)]

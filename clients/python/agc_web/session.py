@@ -24,6 +24,7 @@ import threading
 import time
 from collections import deque
 from concurrent.futures import Future
+from concurrent.futures import TimeoutError as Late
 from typing import Any, Callable, Deque, Dict, List, NamedTuple, Optional, Sequence, Tuple
 
 from agc import Answer, Console, Ended, Error, Refused, Write
@@ -42,6 +43,9 @@ QUIET_NEWS = 0.04  # seconds between two looks if nothing was written
 NEWS = 0.02  # seconds between two looks at least
 LONGEST_PIECE = 0.02  # seconds that a piece may take, so that keys get in
 LOST = 1.0  # seconds behind the clock from which time is dropped
+PATIENCE = 60  # seconds that something may take that another thread asked for
+MOST_WAITING = 100  # keys
+MOST_BREAKPOINTS = 8
 
 
 class Event(NamedTuple):
@@ -144,7 +148,10 @@ class Session:
             raise Ended("the session has ended", None)
         future: "Future[Any]" = Future()
         self._jobs.put((future, task))
-        return future.result(timeout=60)
+        try:
+            return future.result(timeout=PATIENCE)
+        except Late:
+            raise Unable("the machine is busy") from None
 
     def inject(self, task: Callable[[Console], Any]) -> Any:
         """Runs task(console) on the machine's thread, between two boundaries."""
@@ -356,22 +363,24 @@ class Session:
             self._publish_time()
 
     def _pause(self) -> None:
-        if self.playing:
-            self._stand()
-            self._replay_or_step(HISTORY)
-            self._look()
+        """Stops time. The boundaries that are shown are a hundred more, which take some milliseconds of machine time; with
+        breakpoints, which they might run past, they are found by running anew."""
+        if not self.playing:
+            return
+        self._stand()
+        if self.breakpoints:
+            self._rewind(self.console.cycle, self.journal)
+        else:
+            self.history.clear()
+            self.history.extend(self.console.step(HISTORY))
+            self.furthest = max(self.furthest, self.console.cycle)
+        self._look()
 
     def _stand(self) -> None:
         """Stops the clock."""
         self.playing = False
         self.pace = 0.0
         self._drop_scouts()
-
-    def _replay_or_step(self, boundaries: int) -> None:
-        """Goes on by the boundaries that are to be shown."""
-        self.history.clear()
-        self.history.extend(self.console.step(boundaries))
-        self.furthest = max(self.furthest, self.console.cycle)
 
     def _stand_at_stop(self) -> None:
         """Shows the way to a stop of the machine: its last boundaries are run once more."""
@@ -414,6 +423,8 @@ class Session:
         self._want_machine()
         if name == "PRO up" and not self._pro_comes_down():
             return
+        if len(self.waiting) >= MOST_WAITING:
+            raise Unable(f"{MOST_WAITING} keys wait already")
         self.waiting.append(name)
         self._press_due()
         if not self.playing:
@@ -616,6 +627,8 @@ class Session:
             return
         if self.ended is not None:
             raise Unable(self.ended)
+        if len(self.breakpoints) >= MOST_BREAKPOINTS:
+            raise Unable(f"there are {MOST_BREAKPOINTS} breakpoints already")
         with self.console.again() as other:
             other.say(f"until {text} within 0")  # refuses what is no breakpoint
         self.breakpoints.append(text)
@@ -684,7 +697,7 @@ class Session:
 
     def _script_of_journal(self) -> str:
         """Makes the script without the console: the script's own events first, at each cycle."""
-        lines = [(int(line.split(" ", 1)[0]), 0, line) for line in self._base]
+        lines = [(_cycle_of(line), 0, line) for line in self._base]
         lines += [(event.cycle, 1, f"{event.cycle} {event.command}") for event in self.journal]
         lines.sort(key=lambda each: each[:2])
         return "".join(line + "\n" for _, _, line in lines)
@@ -713,10 +726,7 @@ class Session:
     def _publish_time(self) -> None:
         """Publishes where time stands; if it stands still, also the boundaries before and after."""
         self.news.publish("history", [] if self.playing else list(self.history))
-        if self.playing or self.ended is not None or self.console.stop is not None:
-            self._future = []
-        else:
-            self._foreseer.ask(self.console.cycle, len(self.journal))
+        self._foresee()
         self.news.publish("ahead", self._future)
         self.news.publish("breakpoints", list(self.breakpoints))
         self.news.publish("time", {
@@ -726,11 +736,25 @@ class Session:
             "undo": self._undo[-1].end if self._undo else None,
         })
 
+    def _foresee(self) -> None:
+        """Asks for the coming boundaries if the machine stands; until they are found, keeps those that are still to come."""
+        self._future = [line for line in self._future if _cycle_of(line) >= self.console.cycle]
+        if self.playing or self.ended is not None or self.console.stop is not None:
+            self._future = []
+        elif self._foreseer.ask(self.console.cycle, len(self.journal)):
+            if self._future and _cycle_of(self._future[0]) != self.console.cycle:
+                self._future = []
+
     def foreseen(self, cycle: int, events: int, lines: List[str]) -> None:
         """Takes the coming boundaries that were found, if the machine still stands there."""
         if not self.playing and (self.console.cycle, len(self.journal)) == (cycle, events):
             self._future = lines
             self.news.publish("ahead", lines)
+
+
+def _cycle_of(line: str) -> int:
+    """Returns the cycle of a line of a trace or of a script."""
+    return int(line.split(" ", 1)[0])
 
 
 class Marks:
@@ -776,11 +800,13 @@ class Foreseer:
         self._thread = threading.Thread(target=self._run, name="foreseer", daemon=True)
         self._thread.start()
 
-    def ask(self, cycle: int, events: int) -> None:
-        """Asks for the boundaries from a cycle on."""
-        if (cycle, events) != self._last:
-            self._last = (cycle, events)
-            self._asked.put(self._last)
+    def ask(self, cycle: int, events: int) -> bool:
+        """Asks for the boundaries from a cycle on; returns whether they were not asked for before."""
+        if (cycle, events) == self._last:
+            return False
+        self._last = (cycle, events)
+        self._asked.put(self._last)
+        return True
 
     def close(self) -> None:
         """Ends the thread."""
