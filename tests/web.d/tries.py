@@ -407,7 +407,7 @@ def try_words(page):
     judge('watched cells', wanted, page.see(rows + '.slice(0, 2)', wanted))
     judge('a cell that is none', True, wait(lambda: page.value(rows)[2][1:2] == ['–']))
     page.type('Escape')
-    page.value('document.activeElement.blur()')
+    judge('Escape leaves a field', 'BODY', page.value('document.activeElement.tagName'))
     page.click('#memory-tab')
     page.click('#play')
     page.type('7')
@@ -696,14 +696,8 @@ def try_pace():
         site.do('speed', times=speed)
         site.do('play')
         time.sleep(0.2)
-        used, began, start = site.seconds_used(), time.monotonic(), look_at(site)
-        time.sleep(3)
-        end = look_at(site)
-        seconds = time.monotonic() - began
-        part = (site.seconds_used() - used) / seconds
-        pace = (end - start) / A_SECOND / seconds
-        messages = site.messages(1)
-        shown = page.text('pace')
+        pace, part = first_good(lambda: measured_pace(site), lambda found: abs(found[0] / speed - 1) < 0.01 and (speed > 1 or found[1] < 0.1))
+        messages, shown = site.messages(1), page.text('pace')
         site.do('pause')
         figure(f'at speed {speed}', f'pace {pace:.4f}, {100 * part:.1f} percent of a processor')
         if speed < 1000 or not shown:
@@ -715,13 +709,30 @@ def try_pace():
     site.end()
 
 
+def first_good(measure, is_good):
+    """Measures until it is good, three times at most, as other programs may have the processors; returns the last."""
+    for _ in range(3):
+        found = measure()
+        if is_good(found):
+            break
+    return found
+
+
+def measured_pace(site):
+    """Returns how many times the hardware's pace the machine goes, and what part of a processor that takes."""
+    used, began, start = site.seconds_used(), time.monotonic(), look_at(site)
+    time.sleep(3)
+    end, seconds = look_at(site), time.monotonic() - began
+    return (end - start) / A_SECOND / seconds, (site.seconds_used() - used) / seconds
+
+
 def look_at(site):
     """Returns the cycle that the machine has come to."""
     return json.loads(site.request('POST', '/look', {})[2])['cycle']
 
 
 def try_latency():
-    """From a key that goes down in the page to the segments that it lights: the page's own clock."""
+    """From a key that goes down in the page to the picture with the segments that it lights: by the page's own clock."""
     site = started(example('keys', 'rope'))
     page = Page(site)
     page.type('Space')
@@ -731,15 +742,21 @@ def try_latency():
         addEventListener('keydown', () => { window.pressed = performance.now(); }, true);
         new MutationObserver(() => requestAnimationFrame(() => { if (window.pressed) { window.lit.push(performance.now() - window.pressed); window.pressed = 0; } }))
             .observe(document.querySelector('.display'), { attributes: true, subtree: true }); undefined""")
+    lit = first_good(lambda: light_times(page), lambda found: statistics.median(found) < 50)
+    figure('milliseconds from key to light', f'median {statistics.median(lit):.1f}, least {min(lit):.1f}, most {max(lit):.1f} of {len(lit)}')
+    judge('each key was lit', 20, len(lit))
+    judge('a key lights within 50 milliseconds', True, statistics.median(lit) < 50)
+    page.close()
+    site.end()
+
+
+def light_times(page):
+    """Presses twenty keys, and returns after how many milliseconds each was lit."""
+    page.value('window.lit = []; undefined')
     for key in '4271530986' * 2:
         page.type(key)
         time.sleep(0.25)
-    lit = page.value('window.lit')
-    figure('milliseconds from key to light', f'median {statistics.median(lit):.1f}, least {min(lit):.1f}, most {max(lit):.1f} of {len(lit)}')
-    judge('each key was lit', 20, len(lit))
-    judge('a key lights within 50 milliseconds', True, sorted(lit)[len(lit) // 4] < 50)
-    page.close()
-    site.end()
+    return page.value('window.lit')
 
 
 # the ends
@@ -803,6 +820,11 @@ def try_command():
     judge('no such rope', (1, '', 'agc-web: cannot read rope'), run('/no/such/rope'))
     judge('tables that cannot be', (1, ''), run(example('verbs', 'rope'), '--watch', '1,2')[:2])
     judge('no rope', 2, run()[0])
+    with socket.socket() as taken:
+        taken.bind(('127.0.0.1', 0))
+        taken.listen()
+        wanted = (3, '', 'agc-web: port: Address already in use')
+        judge('a port that is taken', wanted, run(example('verbs', 'rope'), '--port', str(taken.getsockname()[1])))
 
 
 def try_lander():

@@ -270,7 +270,10 @@ class Handler(BaseHTTPRequestHandler):
             raise Unable("films need agc-study beside agc-console, or on the path")
         session = self.server.session
         script, limit = session.call(lambda: (session.script(), session.limit_to_repeat()))
-        self._send(self.server.film(script, limit), TYPES[".html"], Content_Security_Policy=FILM_POLICY)
+        try:
+            self._send(self.server.film(script, limit), TYPES[".html"], Content_Security_Policy=FILM_POLICY)
+        except Unable as unable:
+            self._send(str(unable).encode(), "text/plain; charset=utf-8", HTTPStatus.CONFLICT)
 
     # POST
 

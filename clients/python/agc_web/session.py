@@ -261,9 +261,10 @@ class Session:
             task()
         except Ended as ended:
             self._note_end(ended)
-        except Exception as error:
-            self.playing = False
-            self._note(str(error) or repr(error))
+        except Exception as error:  # of an instrument, or of a full script
+            self._stand()
+            self.trouble = str(error) or repr(error)
+            self._look()
 
     def _note_end(self, ended: Ended) -> None:
         if self.ended is None:
@@ -712,16 +713,27 @@ class Session:
         """Looks at the machine, and publishes what it shows."""
         self._looked = time.monotonic()
         if self.ended is None:
-            if self._dirty:
-                self._panel = self.console.panel()
-                self._dirty = False
-            self.news.publish("panel", self._panel)
-            self.news.publish("machine", {"next": self.console.next(), "registers": self.console.registers()._asdict()})
-            if self.watch is not None:
-                self.news.publish("tables", self.console.tables(self.watch))
-            if self.instruments:
-                self.news.publish("instruments", [each.view() for each in self.instruments])
+            self._look_inside()
         self._publish_time()
+
+    def _look_inside(self) -> None:
+        """Publishes what the machine and the instruments show."""
+        if self._dirty:
+            self._panel = self.console.panel()
+            self._dirty = False
+        self.news.publish("panel", self._panel)
+        self.news.publish("machine", {"next": self.console.next(), "registers": self.console.registers()._asdict()})
+        if self.watch is not None:
+            self.news.publish("tables", self.console.tables(self.watch))
+        if self.instruments:
+            self.news.publish("instruments", [self._view(each) for each in self.instruments])
+
+    def _view(self, instrument: Any) -> Any:
+        """Returns what an instrument shows; if it fails, what went wrong."""
+        try:
+            return instrument.view()
+        except Exception as error:
+            return {"title": type(instrument).__name__, "rows": [["failed", repr(error)]]}
 
     def _publish_time(self) -> None:
         """Publishes where time stands; if it stands still, also the boundaries before and after."""
@@ -730,7 +742,7 @@ class Session:
         self.news.publish("ahead", self._future)
         self.news.publish("breakpoints", list(self.breakpoints))
         self.news.publish("time", {
-            "cycle": self.console.cycle, "furthest": self.furthest, "playing": self.playing, "speed": self.speed,
+            "cycle": self.console.cycle, "furthest": max(self.furthest, self.console.cycle), "playing": self.playing, "speed": self.speed,
             "pace": round(self.pace, 2), "stop": self.console.stop, "ended": self.ended, "trouble": self.trouble,
             "hit": self.hit, "waiting": len(self.waiting), "pro": self._pro_comes_down(), "events": len(self.journal),
             "undo": self._undo[-1].end if self._undo else None,

@@ -31,10 +31,15 @@ function addKey(name, column, row) {
   live.section.querySelector('.keys').append(cap);
 }
 
-// A key goes down with the pointer; a click without one comes from a keyboard or a screen reader.
+// A key goes down with the mouse. A finger may only be scrolling, so its click counts; and a click without a pointer comes
+// from a keyboard or a screen reader.
 function pressKey(button, name) {
-  button.addEventListener('pointerdown', (event) => { if (event.button === 0) press(name); });
-  button.addEventListener('click', (event) => { if (event.detail === 0) press(name); });
+  let touched = false;
+  button.addEventListener('pointerdown', (event) => {
+    touched = event.pointerType === 'touch';
+    if (!touched && event.button === 0) press(name);
+  });
+  button.addEventListener('click', (event) => { if (touched || event.detail === 0) press(name); });
 }
 
 function holdPro(button) {

@@ -231,10 +231,14 @@ function breakText(text) {
   return `order at ${text}`;
 }
 
+// Adds the breakpoint of the form; a place that is refused stands there again, unless another is being typed.
 async function addBreak(event) {
   event.preventDefault();
-  const place = `${find('break-kind').value} ${find('break-place').value}`.trim();
-  if (await ask('break', { place })) find('break-place').value = '';
+  const field = find('break-place');
+  const typed = field.value.trim();
+  field.value = '';
+  const done = await ask('break', { place: `${find('break-kind').value} ${typed}`.trim() });
+  if (!done && field.value === '') field.value = typed;
 }
 
 // the script

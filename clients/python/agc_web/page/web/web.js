@@ -8,6 +8,7 @@ const HOLD_KEYS = new Set(['ArrowLeft', 'ArrowRight', 'ArrowUp', 'ArrowDown']);
 let now = { cycle: 0, furthest: 0, playing: false, speed: 1, stop: null, ended: null, trouble: '', undo: null };
 let reached = true; // whether the server answers
 let sliding = false;
+let byPointer = false; // whether a pointer was used last
 
 // what the server has said
 
@@ -117,6 +118,8 @@ function wantsKey(element, key) {
 }
 
 function onKeyDown(event) {
+  byPointer = false;
+  if (event.key === 'Escape' && event.target.closest('input')) event.target.blur();
   if (event.ctrlKey || event.altKey || event.metaKey || wantsKey(event.target, event.key)) return;
   const name = keyTyped(event.key);
   const shortcut = SHORTCUTS[event.key];
@@ -124,7 +127,7 @@ function onKeyDown(event) {
   const isHold = HOLD_KEYS.has(event.key) && document.querySelector(`[data-hold='${event.key}']`);
   if (!name && !shortcut && !isPro && !isHold) return;
   event.preventDefault();
-  if (event.repeat && !['.', 'Backspace'].includes(event.key)) return;
+  if (event.repeat && (pending || !['.', 'Backspace'].includes(event.key))) return;
   if (isPro) setPro('keyboard', true);
   else if (isHold) holdByKey(event.key, true);
   else if (name) press(name);
@@ -153,8 +156,10 @@ function start() {
   document.addEventListener('keydown', onKeyDown);
   document.addEventListener('keyup', onKeyUp);
   window.addEventListener('blur', () => setPro(proHeldBy, false));
-  // A button that was clicked does not keep the focus, so that Enter stays the DSKY's.
+  // What was clicked or chosen by a pointer does not keep the focus, so that the keys stay the DSKY's.
+  document.addEventListener('pointerdown', () => { byPointer = true; }, true);
   document.addEventListener('mousedown', (event) => { if (event.target.closest('button')) event.preventDefault(); });
+  document.addEventListener('change', (event) => { if (byPointer && event.target.closest('select')) event.target.blur(); });
   listen();
 }
 

@@ -44,9 +44,11 @@ async function post(path, body) {
 
 // Runs tasks one after another: a request is sent once the one before is answered, so that keys stay in their order.
 let turn = Promise.resolve();
+let pending = 0;
 function inTurn(task) {
+  pending += 1;
   const done = turn.then(task);
-  turn = done.catch(() => {});
+  turn = done.catch(() => {}).then(() => { pending -= 1; });
   return done;
 }
 
