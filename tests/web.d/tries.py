@@ -17,7 +17,7 @@ import sys
 import threading
 import time
 
-from agc import Console
+from agc import Console, Error
 from site_of import Site, wait
 from window import Window
 
@@ -289,6 +289,7 @@ def try_back(page, rope, script):
     drag(page, middle / end)
     page.answer(False)
     judge('who stays loses nothing', (end, script), (page.see(CYCLE, end), page.site.script()))
+    judge('the slider is where it was', end, page.see("Number(document.getElementById('slider').value)", end))
     drag(page, middle / end)
     page.answer(True)
     wait(lambda: page.cycle() < last)
@@ -326,6 +327,9 @@ def try_film(page, rope):
     wanted = subprocess.run(words, capture_output=True, text=True, check=True).stdout
     judge('the film', (200, film.frames_in(wanted, 'left')), (status, film.frames_in(text, 'left')))
     judge('the film is kept apart', True, headers['Content-Security-Policy'].startswith('sandbox allow-scripts;'))
+    page.window.ask('Browser.grantPermissions', permissions=['clipboardReadWrite', 'clipboardSanitizedWrite'], origin=f'http://{page.site.host}')
+    page.click('#copy')
+    judge('the script is copied', page.site.script(), page.see('navigator.clipboard.readText()', page.site.script()))
     download = page.value("document.getElementById('download').href")
     judge('the download', page.site.script(), page.site.request('GET', download.split(page.site.host)[1])[2])
 
@@ -930,6 +934,26 @@ def try_face():
     judge('the constants of the film', (0, '3 passed, 0 failed\n', ''), (done.returncode, done.stdout, done.stderr))
 
 
+def try_client():
+    """What the page needs of the client: answers are passed on, a second console, and whether the process runs."""
+    heard = []
+    with Console(example('keys', 'rope'), program=[CONSOLE], limit=500, detached=True) as console:
+        console.on_answer = lambda command, answer: heard.append((command, answer.cycle))
+        console.go(10)
+        console.key('4')
+        try:
+            console.say('fly')
+        except Error as error:
+            heard.append(str(error).split(':')[0])
+        judge('what was answered', [('go 10', 10), ('key 4', 10), 'UnknownCommand'], heard)
+        with console.again() as other:
+            other.go(1000)
+            judge('another console has the same limit', (500, 10), (other.cycle, console.cycle))
+            judge('and gives its own answers', 3, len(heard))
+        judge('it is over', (True, False), (console.alive, other.alive))
+    judge('so is this one', False, console.alive)
+
+
 def try_install():
     """`pip install` of the client's folder needs no network, and gives the command and the page."""
     if not importlib.util.find_spec('ensurepip'):
@@ -955,7 +979,7 @@ def picture(page, name):
 
 TRIES = (
     try_session, try_pro, try_keys_rope, try_sizes, try_policy, try_refusals, try_pace, try_latency, try_killed, try_end,
-    try_command, try_lander, try_names_and_pictures, try_stop, try_face, try_install,
+    try_command, try_lander, try_names_and_pictures, try_stop, try_face, try_client, try_install,
 )
 
 

@@ -251,8 +251,13 @@ async function showScript() {
 
 async function copyScript() {
   const text = await (await fetch(address('script'))).text();
-  await navigator.clipboard.writeText(text);
-  setText(find('copy'), 'Copied');
+  try {
+    await navigator.clipboard.writeText(text);
+    setText(find('copy'), 'Copied');
+  } catch {
+    getSelection().selectAllChildren(find('script'));
+    setText(find('copy'), 'Selected');
+  }
   setTimeout(() => setText(find('copy'), 'Copy'), 1500);
 }
 
