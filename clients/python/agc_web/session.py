@@ -262,9 +262,16 @@ class Session:
         except Ended as ended:
             self._note_end(ended)
         except Exception as error:  # of an instrument, or of a full script
-            self._stand()
             self.trouble = str(error) or repr(error)
+            self._guarded_stand()
+
+    def _guarded_stand(self) -> None:
+        """Stops the clock after a fault, and shows where the machine stands."""
+        try:
+            self._stand()
             self._look()
+        except Ended as ended:
+            self._note_end(ended)
 
     def _note_end(self, ended: Ended) -> None:
         if self.ended is None:
@@ -659,7 +666,11 @@ class Session:
             file.write(script)
             file.flush()
             other = self.console.again(file.name)
-        other.go_to(cycle)
+        try:
+            other.go_to(cycle)
+        except Error:
+            other.close()
+            raise
         return other
 
     def _drop_scouts(self) -> None:
@@ -833,7 +844,7 @@ class Foreseer:
                 return
             try:
                 self._find(*asked)
-            except (Error, OSError):
+            except (Error, OSError, Unable):
                 pass  # the session itself says what is wrong with its console
 
     def _find(self, cycle: int, events: int) -> None:
