@@ -267,6 +267,11 @@ def line_of(page, selector, number):
     return f'{(at or "").replace(",", "")} {what}'
 
 
+def see_history(page):
+    """Waits until the page lists the hundred boundaries up to the present one."""
+    wait(lambda: len(page.texts('#history li')) == 100 and 0 < page.cycle() - int(line_of(page, '#history li', 99).split(' ')[0]) < 9)
+
+
 CYCLE = "Number(document.getElementById('cycle').textContent.split(' ')[1].replaceAll(',', ''))"
 
 
@@ -278,7 +283,7 @@ def try_back(page, rope, script):
     page.click('#undo')
     judge('undo', end, page.see(CYCLE, end))
     button = '#history li:nth-child(60) button'
-    wait(lambda: len(page.texts('#history li')) == 100)
+    see_history(page)
     wanted = int(line_of(page, '#history li', 59).split(' ')[0])
     page.click(button)
     judge('back to a boundary', wanted, page.see(CYCLE, wanted))
@@ -491,6 +496,11 @@ def try_sizes():
     judge('at phone width the whole DSKY is seen', [], page.value(f'({seen})({json.dumps(parts)})'))
     judge('parts of the DSKY', 1 + 14 + 24 + 3 + 1 + 19 + 19, page.value(f'document.querySelectorAll({json.dumps(parts)}).length'))
     judge('nothing is wider than the phone', True, page.value('document.documentElement.scrollWidth <= innerWidth'))
+    outside = """[...document.querySelectorAll('.display > *, .display svg, .lamps li, .keys > span')].filter((each) => {
+        const [box, frame] = [each, each.closest('.display, .lamps, .keys')].map((one) => one.getBoundingClientRect());
+        return box.left < frame.left - 3 || box.right > frame.right + 3 || box.top < frame.top - 3 || box.bottom > frame.bottom + 3;
+    }).map((each) => each.outerHTML.slice(0, 80))"""
+    judge('each part is within its frame', [], page.value(outside))
     overlap = """[...document.querySelectorAll('.lamps li')].filter((each) => each.scrollWidth > each.clientWidth + 1).map((each) => each.textContent)"""
     judge('each lamp has room for its name', [], page.value(overlap))
     picture(page, 'web-phone')
@@ -502,6 +512,7 @@ def try_sizes():
     page.pause()
     try_names(page)
     try_tabs(page)
+    try_letters(page, site)
     page.close()
     site.end()
 
@@ -517,6 +528,19 @@ def try_names(page):
     names = [name for role, name in found if role == 'button']
     wanted = {'VERB', 'NOUN', 'plus', 'minus', 'ENTER', 'CLEAR', 'RESET', 'PROCEED', 'KEY REL', *'0123456789'}
     judge('the keys are named', wanted, wanted & set(names))
+
+
+def try_letters(page, site):
+    """Each letter of the keyboard presses its key of the DSKY, small or large; others press none."""
+    before = len(keys_in(site.script()))
+    page.value('document.activeElement.blur()')
+    page.type('Space')
+    page.state('running')
+    page.type('v', 'n', 'c', 'k', 'r', '+', '-', '0', '9', 'V', 'N', 'x', 'e', 'Enter')
+    names = ['VERB', 'NOUN', 'CLR', 'KEYREL', 'RSET', '+', '-', '0', '9', 'VERB', 'NOUN', 'ENTR']
+    wait(lambda: len(keys_in(site.script())) == before + len(names))
+    judge('the letters', [f'key {name}' for name in names], keys_in(site.script())[before:])
+    page.pause()
 
 
 def try_tabs(page):
@@ -540,6 +564,19 @@ def try_tabs(page):
     page.value("document.getElementById('orders-tab').focus()")
     page.type('ArrowRight')
     judge('arrows go from tab to tab', 'memory-tab', page.value('document.activeElement.id'))
+    page.type('ArrowLeft')
+    page.value('document.activeElement.blur()')
+    page.type('Space')
+    page.state('running')
+    time.sleep(0.3)  # so that the last hundred boundaries have no key
+    page.pause()
+    see_history(page)
+    page.value("document.querySelector('#history li:last-child button').focus()")
+    page.type('ArrowUp', 'ArrowUp')
+    judge('the arrow keys go from boundary to boundary', True, page.value("document.activeElement === document.querySelector('#history li:nth-child(98) button')"))
+    wanted = int(line_of(page, '#history li', 97).split(' ')[0])
+    page.type('Enter')
+    judge('by keys alone back to a boundary', wanted, page.see(CYCLE, wanted))
 
 
 def try_policy():

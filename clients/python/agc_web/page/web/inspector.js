@@ -77,17 +77,29 @@ function boundary(line) {
   return { cycle: Number(what.slice(0, space)), what: what.slice(space + 1), after };
 }
 
+// Shows the last boundaries. The Tab key comes to the last one alone; the arrow keys go on from there.
 function showHistory(lines) {
-  find('history').replaceChildren(...lines.map((line) => {
+  const hadFocus = find('history').contains(document.activeElement);
+  find('history').replaceChildren(...lines.map((line, i) => {
     const { cycle, what, after } = boundary(line);
-    const button = make('button', { type: 'button', title: `Go back to cycle ${cycle}; after it ${after}` },
+    const button = make('button', { type: 'button', tabindex: i === lines.length - 1 ? '0' : '-1', title: `Go back to cycle ${cycle}; after it ${after}` },
       make('span', { class: 'at' }, grouped(cycle)), make('span', { class: 'what' }, what), make('span', { class: 'after' }, after));
     button.addEventListener('click', () => ask('go', { cycle }));
     return make('li', {}, button);
   }));
   find('orders-note').hidden = lines.length > 0;
   find('here').hidden = lines.length === 0;
+  if (hadFocus && lines.length) find('history').lastChild.firstChild.focus();
   scrollHistory();
+}
+
+function moveBoundary(event) {
+  const item = event.target.closest('li');
+  const next = { ArrowUp: item?.previousSibling, ArrowDown: item?.nextSibling }[event.key];
+  if (!next) return;
+  event.preventDefault();
+  event.stopPropagation();
+  next.firstChild.focus();
 }
 
 function scrollHistory() {
@@ -275,6 +287,7 @@ function buildInspector() {
   buildMemory();
   buildChannels();
   find('tabs').addEventListener('keydown', moveTab);
+  find('history').addEventListener('keydown', moveBoundary);
   find('watch-form').addEventListener('submit', (event) => {
     event.preventDefault();
     addWatch(find('watch-place').value.trim());
