@@ -358,6 +358,19 @@ def try_pro():
     page.window.key('p', 'keyUp')
     page.see("Look.down('left')", '')
     page.window.key('p', 'keyDown')
+    wait(lambda: len(keys_in(site.script())) == 5)
+    time.sleep(0.2)
+    page.window.key(' ', 'keyDown')
+    page.window.key(' ', 'keyUp')
+    page.state('paused')
+    down = int(site.script().splitlines()[-1].split(' ')[0])
+    site.do('go', cycle=down + 1000)
+    wanted = [f'{down} pro down', f'{down + 1000} pro up']
+    judge('PRO that was held comes up where time goes back to', wanted, site.script().splitlines()[4:])
+    page.window.key('p', 'keyUp')
+    site.do('go', cycle=down - 1, sure=True)
+    site.do('play')
+    page.window.key('p', 'keyDown')
     wait(lambda: keys_in(site.script())[-1:] == ['pro down'] and len(keys_in(site.script())) == 5)
     page.close()
     wait(lambda: len(keys_in(site.script())) == 6, 10)
@@ -490,17 +503,19 @@ def try_sizes():
     page.see("Look.places('left')", lit)
     seen = """(selector) => [...document.querySelectorAll(selector)].filter((each) => {
         const box = each.getBoundingClientRect();
-        return box.left < 0 || box.right > innerWidth || box.top < 0 || box.bottom > innerHeight || box.width < 4;
+        return box.left < 0 || box.right > document.documentElement.clientWidth || box.top < 0 || box.bottom > innerHeight || box.width < 4;
     }).map((each) => each.outerHTML.slice(0, 80))"""
     parts = '.dsky, .lamps li, .display svg, .display .name, .acty, .keys > span, .keys button'
     judge('at phone width the whole DSKY is seen', [], page.value(f'({seen})({json.dumps(parts)})'))
     judge('parts of the DSKY', 1 + 14 + 24 + 3 + 1 + 19 + 19, page.value(f'document.querySelectorAll({json.dumps(parts)}).length'))
-    judge('nothing is wider than the phone', True, page.value('document.documentElement.scrollWidth <= innerWidth'))
-    outside = """[...document.querySelectorAll('.display > *, .display svg, .lamps li, .keys > span')].filter((each) => {
-        const [box, frame] = [each, each.closest('.display, .lamps, .keys')].map((one) => one.getBoundingClientRect());
+    judge('nothing is wider than the phone', True, page.value('document.documentElement.scrollWidth <= document.documentElement.clientWidth'))
+    outside = """[...document.querySelectorAll('.display, .lamps, .keys, .display > *, .display svg, .lamps li, .keys > span')].filter((each) => {
+        const [box, frame] = [each, each.parentElement.closest('.dsky, .display, .lamps, .keys')].map((one) => one.getBoundingClientRect());
         return box.left < frame.left - 3 || box.right > frame.right + 3 || box.top < frame.top - 3 || box.bottom > frame.bottom + 3;
     }).map((each) => each.outerHTML.slice(0, 80))"""
     judge('each part is within its frame', [], page.value(outside))
+    narrow = "[...document.querySelectorAll('.display svg')].filter((each) => each.getBoundingClientRect().width < 20).length"
+    judge('the digits are wide enough to be read', 0, page.value(narrow))
     overlap = """[...document.querySelectorAll('.lamps li')].filter((each) => each.scrollWidth > each.clientWidth + 1).map((each) => each.textContent)"""
     judge('each lamp has room for its name', [], page.value(overlap))
     picture(page, 'web-phone')
