@@ -306,14 +306,24 @@ def try_back(page, rope, script):
     page.type('u')
     judge('undo brings the keys back', (end, script), (page.see(CYCLE, end), page.site.script()))
     compare_with_agc('after undo', page, rope)
+    drag(page, 0.98)
+    wait(lambda: page.cycle() < end)
+    settle(page)
+    see_history(page)
+    drag(page, 1, page.cycle() / end)
+    judge('on again by the slider', end, page.see(CYCLE, end))
+    see_history(page)
+    judge('the boundaries are listed there', True, 0 < end - int(line_of(page, '#history li', 99).split(' ')[0]) < 9)
+    page.type('u')
+    judge('undo that', (end, script), (page.see(CYCLE, end), page.site.script()))
     judge('a second undo has nothing to do', True, page.value("document.getElementById('undo').hidden"))
 
 
-def drag(page, part):
-    """Drags the slider to a part of the time so far."""
+def drag(page, part, start=1):
+    """Drags the slider to a part of the time so far, from where it stands."""
     box = page.value("(({ left, right, top, bottom }) => [left, right, top, bottom])(document.getElementById('slider').getBoundingClientRect())")
     left, right, height = box[0] + 8, box[1] - 8, (box[2] + box[3]) / 2
-    page.window.mouse('mousePressed', right, height)
+    page.window.mouse('mousePressed', left + (right - left) * start, height)
     page.window.mouse('mouseMoved', (left + right) / 2, height)
     page.window.mouse('mouseMoved', left + (right - left) * part, height)
     page.window.mouse('mouseReleased', left + (right - left) * part, height)
@@ -901,6 +911,7 @@ def try_lander():
     page = Page(site)
     rows = "Object.fromEntries([...document.querySelectorAll('.rows div')].map((row) => [...row.children].map((each) => each.textContent)))"
     judge('the craft stands beside the DSKY', True, wait(lambda: page.value(rows).get('Angle') == '+2.00°'))
+    judge('no such control', 400, site.do('control', instrument=0, name='forward', down=True))
     page.type('Space')
     page.state('running')
     page.window.key('ArrowRight', 'keyDown')

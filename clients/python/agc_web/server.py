@@ -155,6 +155,9 @@ class Handler(BaseHTTPRequestHandler):
             self._send_json({"error": str(fault)}, HTTPStatus.BAD_REQUEST)
         except (ConnectionError, socket.timeout):
             self.close_connection = True
+        except Exception as fault:  # our own
+            print(f"agc-web: {fault!r}", file=sys.stderr)
+            self._send_json({"error": f"agc-web failed: {fault!r}"}, HTTPStatus.INTERNAL_SERVER_ERROR)
 
     def _checked_path(self) -> str:
         """Returns the path of a request that comes from our own page; refuses any other."""

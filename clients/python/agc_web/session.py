@@ -114,7 +114,6 @@ class Session:
         self._base = console.script().splitlines()
         self._undo: List[Undo] = []
         self._callbacks: List[Callable[[Write], None]] = []
-        self._writes = 0
         self._last_key = -KEY_GAP
         self._replaying = False
         self._ticking = False
@@ -158,7 +157,7 @@ class Session:
         return self.call(lambda: task(self.console))
 
     def on_write(self, callback: Callable[[Write], None]) -> None:
-        """Has a callback called for each channel write from now on."""
+        """Calls a callback for each channel write from now on."""
         self._callbacks.append(callback)
 
     def script(self) -> str:
@@ -208,7 +207,7 @@ class Session:
         self.call(lambda: self._go_there(cycle, sure))
 
     def undo(self, sure: bool = False) -> None:
-        """Takes the last going back back."""
+        """Restores what the last going back dropped."""
         self.call(lambda: self._take_back(sure))
 
     def add_breakpoint(self, text: str) -> None:
@@ -274,9 +273,13 @@ class Session:
             self._note_end(ended)
 
     def _note_end(self, ended: Ended) -> None:
-        if self.ended is None:
-            self.ended = f"agc-console has ended: {ended}"
+        """Notes that the console has ended, or another one that looks for breakpoints; time stops."""
         self.playing = False
+        if self.console.alive:
+            self.trouble = f"another agc-console has ended: {ended}"
+            self._drop_scouts()
+        elif self.ended is None:
+            self.ended = f"agc-console has ended: {ended}"
         self._publish_time()
 
     def _note(self, text: str) -> None:
@@ -487,7 +490,10 @@ class Session:
     def _control(self, number: int, name: str, down: bool) -> None:
         if not 0 <= number < len(self.instruments) or not hasattr(self.instruments[number], "control"):
             raise ValueError(f"no instrument with controls: {number}")
-        self.instruments[number].control(name, down)
+        try:
+            self.instruments[number].control(name, down)
+        except LookupError:
+            raise ValueError(f"no control: {name!r:.20}") from None
         if down:
             self._controls.append(self.console.cycle)
         self._look()
@@ -499,15 +505,18 @@ class Session:
             raise Unable(self.ended)
         if cycle < self.console.cycle:
             self._go_back(max(0, cycle), sure)
-        else:
+        elif self.console.cycle < self.furthest:
             self._go_ahead(min(cycle, self.furthest))
+        else:
+            self._pause()
 
     def _go_ahead(self, cycle: int) -> None:
         """Goes on to a cycle as fast as it can, with keys and ticks on the way, and keeps the last boundaries."""
         self._want_machine()
         self._stand()
         self.hit = self.trouble = ""
-        self.history.clear()
+        if cycle - self.console.cycle > WARM_UP:
+            self.history.clear()
         while self.console.cycle < cycle and self.console.stop is None:
             self._press_due()
             self._tick_due()
