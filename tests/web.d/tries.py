@@ -9,6 +9,7 @@ import http.server
 import importlib.util
 import json
 import os
+import random
 import re
 import socket
 import statistics
@@ -18,6 +19,7 @@ import threading
 import time
 
 from agc import Console, Error
+from agc_web.session import KEYS, Session, Unable
 from site_of import Site, wait
 from window import Window
 
@@ -1008,6 +1010,66 @@ def try_face():
     judge('the constants of the film', (0, '3 passed, 0 failed\n', ''), (done.returncode, done.stdout, done.stderr))
 
 
+def try_random():
+    """Random sessions: whatever is pressed, stepped, gone back and undone, the script repeats it."""
+    rope = example('verbs', 'rope')
+    for seed in range(4):
+        chance = random.Random(seed)
+        session = Session(Console(rope, program=[CONSOLE], detached=True))
+        done = []
+        try:
+            for _ in range(60):
+                done.append(random_act(session, chance))
+                compare_session(f'random session {seed} after {done[-3:]}', session, rope)
+        finally:
+            session.close()
+
+
+def random_act(session, chance):
+    """Does something at random; returns what."""
+    name = chance.choice(['press', 'press', 'press', 'play', 'play', 'step', 'back', 'on', 'undo', 'break', 'speed'])
+    cycle = session.console.cycle
+    try:
+        if name == 'press':
+            session.press(chance.choice([*KEYS, 'PRO', 'PRO up']))
+        elif name == 'play':
+            session.play()
+            time.sleep(chance.choice([0.01, 0.05, 0.15]))
+            session.press(chance.choice(KEYS))
+            session.pause()
+        elif name == 'back':
+            session.go_there(max(0, cycle - chance.choice([1, 3, 100, 5000, 20000, 10 ** 6])), True)
+        elif name == 'on':
+            session.go_there(cycle + chance.choice([1, 399, 401, 5000]))
+        elif name == 'undo':
+            session.undo(True)
+        elif name == 'break':
+            place = chance.choice(['4100', 'write 10', 'cell 100'])
+            (session.remove_breakpoint if place in session.breakpoints else session.add_breakpoint)(place)
+        elif name == 'speed':
+            session.set_speed(chance.choice([1, 10]))
+        else:
+            session.step()
+    except Unable as unable:
+        return f'{name}: {unable}'
+    return name
+
+
+def compare_session(what, session, rope):
+    """Compares a session that stands with the plain run of its script: an event of the present cycle is given there, too."""
+    script, cycle = session.script(), session.console.cycle
+    with replayed(rope, script, cycle) as console:
+        for event in [event for event in session.journal if event.cycle == cycle]:
+            console.step()
+        wanted = (console.cycle, console.panel(), console.registers(), console.cells('0100', 8), console.next())
+        found = session.inject(lambda machine: (machine.cycle, machine.panel(), machine.registers(), machine.cells('0100', 8), machine.next()))
+    judge(what, wanted, found)
+    judge(f'{what}: the journal', sorted(script.splitlines()), sorted(f'{event.cycle} {event.command}' for event in session.journal))
+    last = [line for line in session.history if ' - key ' not in line and ' - pro ' not in line]
+    if last:
+        judge(f'{what}: the last boundary', True, cycle - 9 < int(last[-1].split(' ')[0]) < cycle)
+
+
 def try_client():
     """What the page needs of the client: answers are passed on, a second console, and whether the process runs."""
     heard = []
@@ -1053,7 +1115,7 @@ def picture(page, name):
 
 TRIES = (
     try_session, try_pro, try_keys_rope, try_sizes, try_policy, try_refusals, try_pace, try_rate, try_latency, try_killed, try_end,
-    try_command, try_lander, try_names_and_pictures, try_stop, try_face, try_client, try_install,
+    try_command, try_lander, try_names_and_pictures, try_stop, try_random, try_face, try_client, try_install,
 )
 
 

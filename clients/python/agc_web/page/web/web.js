@@ -38,10 +38,14 @@ function showTime(time) {
     find('slider').value = time.cycle;
   }
   find('slider').setAttribute('aria-valuetext', `${(time.cycle / CYCLES_A_SECOND).toFixed(1)} seconds`);
-  setText(find('state'), stateOf(time));
+  showState();
   showPro(time.pro);
   showTrouble();
   follow(time);
+}
+
+function showState() {
+  setText(find('state'), stateOf(now));
 }
 
 const isBehind = (time) => time.playing && time.pace > 0 && time.pace < 0.9 * time.speed;

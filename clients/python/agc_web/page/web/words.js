@@ -3,6 +3,7 @@
 
 const LINE = '\n';
 const TOKEN = new URLSearchParams(location.search).get('token') || '';
+const SLOW = 400; // milliseconds after which the page says that it works on something
 const WINDOW = crypto.randomUUID ? crypto.randomUUID() : String(Math.random());
 
 const find = (id) => document.getElementById(id);
@@ -54,14 +55,19 @@ function inTurn(task) {
 
 // Asks the server to do something, and shows why if it does not. Returns whether it was done.
 async function ask(command, more = {}) {
+  const slow = setTimeout(() => setText(find('state'), 'working …'), SLOW);
   try {
     const answer = await inTurn(() => post('do', { do: command, ...more }));
+    clearTimeout(slow);
     if (answer.sure && await confirmed(command, answer.sure)) return ask(command, { ...more, sure: true });
     showFault(answer.sure ? '' : answer.error || '');
     return answer.status === 200;
   } catch {
     showFault('agc-web does not answer.');
     return false;
+  } finally {
+    clearTimeout(slow);
+    showState();
   }
 }
 
