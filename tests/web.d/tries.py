@@ -1016,11 +1016,14 @@ def try_random():
     for seed in range(4):
         chance = random.Random(seed)
         session = Session(Console(rope, program=[CONSOLE], detached=True))
-        done = []
+        done, dropped = [], []
         try:
             for _ in range(60):
+                before = session.script().splitlines()
                 done.append(random_act(session, chance))
-                compare_session(f'random session {seed} after {done[-3:]}', session, rope)
+                what = f'random session {seed} after {done[-3:]}'
+                compare_session(what, session, rope)
+                compare_scripts(what, done[-1], before, session, dropped)
         finally:
             session.close()
 
@@ -1029,6 +1032,8 @@ def random_act(session, chance):
     """Does something at random; returns what."""
     name = chance.choice(['press', 'press', 'press', 'play', 'play', 'step', 'back', 'on', 'undo', 'break', 'speed'])
     cycle = session.console.cycle
+    if name == 'back' and cycle == 0:
+        name = 'press'
     try:
         if name == 'press':
             session.press(chance.choice([*KEYS, 'PRO', 'PRO up']))
@@ -1053,6 +1058,21 @@ def random_act(session, chance):
     except Unable as unable:
         return f'{name}: {unable}'
     return name
+
+
+def compare_scripts(what, act, before, session, dropped):
+    """Compares the script with the one before: going back keeps what was given before its cycle, and lets PRO come up; undo
+    brings back what was dropped; all else only adds to it."""
+    after, cycle = session.script().splitlines(), session.console.cycle
+    if act == 'back':
+        dropped.append(before)
+        kept = [line for line in before if int(line.split(' ')[0]) < cycle]
+        judge(f'{what}: what is kept', kept, after[:len(kept)])
+        judge(f'{what}: what is added', True, after[len(kept):] in ([], [f'{cycle} pro up']))
+    elif act == 'undo':
+        judge(f'{what}: what comes back', dropped.pop(), after)
+    else:
+        judge(f'{what}: what was there', before, after[:len(before)])
 
 
 def compare_session(what, session, rope):
