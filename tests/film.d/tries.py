@@ -2,7 +2,7 @@
 
     tries.py FOLDER BROWSER
 
-The folder has the films that tests/film has made. What is wanted is worked out by hand from docs/STUDY.md and from the
+The folder has the films that tests/film has made. What is wanted is worked out by hand from docs/study/film.md and from the
 DSKY's own drawings. The last line is 'N passed, M failed'.
 """
 import hashlib
