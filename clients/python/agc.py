@@ -14,10 +14,11 @@ This file stands over the standard library alone. A console is one process, `agc
 call says one command and whose answer it reads to its last line. Cycles are machine cycles, 85,333 a second. Words,
 channels and addresses are Python's integers here (0o54171); a place may be the console's own text, too ("E3,1400").
 What the console refuses is a `Refused`, and what the process itself says as it ends an `Ended`; a call that is broken
-off, as by a time-out, ends the console. A console is to be used by one thread at a time. Start `agc-console --help`
-once before, so that it is built.
+off, as by a time-out, ends the console. `script` still returns the session's script after that. A console is to be used
+by one thread at a time. Start `agc-console --help` once before, so that it is built.
 """
 
+import heapq
 import os
 import shutil
 import subprocess
@@ -28,6 +29,9 @@ from typing import IO, Callable, Dict, Iterator, List, NamedTuple, Optional, Seq
 __all__ = ["Answer", "Came", "Console", "Ended", "Error", "Refused", "Registers", "Write"]
 
 Path = Union[str, "os.PathLike[str]"]
+
+EVENTS = frozenset(("key", "pro", "input", "pulse", "raise", "poke"))
+"""The commands that give the machine an event, which the script then has."""
 
 Place = Union[int, str]
 """An address alone, as 0o4100 or 0o100, or a place as docs/CONSOLE.md names it: "4100", "12,2000" or "E3,1400"; with names
@@ -85,6 +89,13 @@ class Answer(NamedTuple):
     stop: Optional[str]
 
 
+class Event(NamedTuple):
+    """An event of the script: its cycle, and its line."""
+
+    cycle: int
+    line: str
+
+
 class Came(NamedTuple):
     """How a run to something ended: whether it came, and the channel writes on the way."""
 
@@ -113,11 +124,11 @@ class Console:
         self.rope, self._options = rope, {"limit": limit, "form": form, "names": names, "program": program}
         words = _program(program)
         if limit is not None:
-            words += ["--limit", str(limit)]
+            words.append(f"--limit={limit}")
         if form is not None:
-            words += ["--form", form]
+            words.append(f"--form={form}")
         if names is not None:
-            words += ["--names", os.fspath(names)]
+            words.append(f"--names={os.fspath(names)}")
         words += ["--", os.fspath(rope), os.fspath(script)]
         self.cycle = 0
         """The cycle that the machine has come to, as the last answer said it."""
@@ -125,6 +136,9 @@ class Console:
         """Why the machine has stopped: Limit, DivisionUndefined or Edrupt; None while it goes on."""
         self.on_answer: Optional[Callable[[str, Answer], None]] = None
         """Called with each command and its answer, if set; not for refused commands."""
+        self._owner = os.getpid()
+        self._base: List[Event] = []
+        self._injected: List[Event] = []
         # A file takes what is told as the session ends, since a pipe would hold the console up where it is full.
         self._told = tempfile.TemporaryFile()
         try:
@@ -138,7 +152,7 @@ class Console:
         self._commands: IO[bytes] = self._process.stdin
         self._answers: IO[bytes] = self._process.stdout
         try:
-            self.say("writes")
+            self._base = [_event_of(line) for line in self.say("script").lines]
         except BaseException:
             self.close()
             raise
@@ -152,8 +166,12 @@ class Console:
         self.close()
 
     def close(self) -> None:
-        """Ends the session: the console ends where its commands end. A second call does nothing."""
+        """Ends the session. A second call does nothing. `script` still returns the script afterwards."""
         try:
+            # A child that was forked keeps the pipe open, so that the console would wait for more commands. The child
+            # itself ends nothing: the session belongs to the process that began it.
+            if not self._commands.closed and os.getpid() == self._owner:
+                self._commands.write(b"quit\n")
             self._commands.close()
         except BrokenPipeError:
             pass
@@ -179,14 +197,14 @@ class Console:
 
     def say(self, command: str) -> Answer:
         """Says a command, as docs/CONSOLE.md has them, and returns its answer; `Refused` where that is an error."""
-        if "\n" in command or not command.strip() or command.lstrip().startswith("#"):
-            raise ValueError(f"no command: {command!r}")
+        line = _line(command)
         if self._commands.closed:
             raise Ended("the console is closed", self._process.returncode)
         try:
-            self._commands.write(command.encode() + b"\n")
+            self._commands.write(line)
             self._commands.flush()
             answer = self._answer()
+            self._keep(command.split(), answer)
         except BrokenPipeError:
             raise self._ended() from None
         except Error:
@@ -197,6 +215,15 @@ class Console:
         if self.on_answer is not None:
             self.on_answer(command, answer)
         return answer
+
+    def _keep(self, words: List[str], answer: Answer) -> None:
+        """Keeps what the script of the session is made of, which is asked for after the console has ended, too."""
+        if words[0] in EVENTS:
+            cost = 1 if words[0] == "pulse" else 0
+            cycle = answer.cycle - cost
+            self._injected.append(Event(cycle, f"{cycle} {' '.join(words)}"))
+        elif words[0] == "back":
+            self._injected = [event for event in self._injected if event.cycle < int(words[1])]
 
     def _answer(self) -> Answer:
         lines = []
@@ -287,7 +314,7 @@ class Console:
 
     def input(self, channel: int, word: int) -> None:
         """A channel takes a word from outside."""
-        self.say(f"input {channel:o} {word:o}")
+        self.say(f"input {channel:o} {word:05o}")
 
     def pulse(self, counter: int, kind: str) -> None:
         """A counter is pulsed: pinc, minc, pcdu, mcdu, shinc or shanc. It costs a cycle."""
@@ -299,7 +326,7 @@ class Console:
 
     def poke(self, bank: int, offset: int, word: int) -> None:
         """A cell of an erasable bank takes a word."""
-        self.say(f"poke {bank:o} {offset:o} {word:o}")
+        self.say(f"poke {bank:o} {offset:o} {word:05o}")
 
     # what can be seen
 
@@ -337,8 +364,28 @@ class Console:
 
     def script(self) -> str:
         """The script that repeats this session: `agc ROPE SCRIPT --limit CYCLE` makes the same run of it. An order that
-        stops the machine wants a limit above its cycle, and so does what was given at the present one."""
-        return "".join(line + "\n" for line in self.say("script").lines)
+        stops the machine wants a limit above its cycle, and so does what was given at the present one. Of a console that
+        has ended it is the script of all calls that returned."""
+        try:
+            lines = self.say("script").lines
+        except Ended:
+            lines = [event.line for event in heapq.merge(self._base, self._injected, key=lambda event: event.cycle)]
+        return "".join(line + "\n" for line in lines)
+
+
+def _line(command: str) -> bytes:
+    """A command as the console reads it; ValueError where it is none, or would be more than one line."""
+    if "\n" in command or not command.strip() or command.lstrip().startswith("#"):
+        raise ValueError(f"no command: {command!r}")
+    try:
+        return command.encode() + b"\n"
+    except UnicodeEncodeError:
+        raise ValueError(f"no command: {command!r}") from None
+
+
+def _event_of(line: str) -> Event:
+    """An event of the script as the console tells it."""
+    return Event(int(line.split(" ", 1)[0]), line)
 
 
 def _place(place: Place) -> str:

@@ -40,14 +40,14 @@ def example_of(program):
     return Console(os.path.join(top, "examples", "keys", "rope"), program=program)
 
 
-def timed(call, *words):
-    """Calls, for a twentieth of a second at most."""
+def timed(call, *words, seconds=0.05):
+    """Calls, for a twentieth of a second at most, or as many seconds as are named."""
 
     def late(number, frame):
         raise TimeoutError("time")
 
     signal.signal(signal.SIGALRM, late)
-    signal.setitimer(signal.ITIMER_REAL, 0.05)
+    signal.setitimer(signal.ITIMER_REAL, seconds)
     try:
         return call(*words)
     finally:
@@ -175,7 +175,108 @@ def try_names():
         judge("a name for a cell", 0, agc.cell("COUNT+1"))
 
 
-for each in (try_keys, try_events, try_until, try_writes, try_names, try_faults):
+def try_odd_words():
+    """what cannot be sent, and files whose names look like options"""
+    with example("keys") as agc:
+        agc.go(10)
+        judge("a key that has no bytes", "no command: 'key \\ud800'", raised(ValueError, agc.key, "\ud800"))
+        judge("a key beyond ASCII", "NotAscii: a line is ASCII alone", raised(Refused, agc.key, "é"))
+        agc.key("4")
+        judge("the session goes on", "10 key 4\n", agc.script())
+    rope = os.path.join(top, "examples", "study", "trace-key", "rope")
+    listens = os.path.abspath(console) if os.sep in console else console
+    before = os.getcwd()
+    with tempfile.TemporaryDirectory() as folder:
+        os.chdir(folder)
+        try:
+            with open("-n", "w") as names:
+                names.write("4000 HERE\n")
+            with Console(rope, names="-n", program=listens) as agc:
+                judge("a file of names called -n", "4000 HERE         14000 TCF 4000", agc.next())
+        finally:
+            os.chdir(before)
+
+
+def forked(act):
+    """A child of this process that does this, and then waits to be killed."""
+    child = os.fork()
+    if child == 0:
+        try:
+            act()
+            signal.pause()
+        finally:
+            os._exit(0)
+    return child
+
+
+def try_children():
+    """children that were forked while a console was open, and have its pipes too"""
+    agc = example("keys")
+    child = forked(lambda: None)
+    try:
+        judge("a close while a child lives", None, raised(TimeoutError, lambda: timed(agc.close, seconds=10)))
+    finally:
+        os.kill(child, signal.SIGKILL)
+        os.waitpid(child, 0)
+    with example("keys") as agc:
+        read_end, write_end = os.pipe()
+
+        def closes():
+            agc.close()
+            os.write(write_end, b"closed")
+
+        child = forked(closes)
+        judge("a child closes its console", b"closed", os.read(read_end, 6))
+        judge("the session goes on without the child", ([], 1), (agc.go(1), agc.cycle))
+        os.kill(child, signal.SIGKILL)
+        os.waitpid(child, 0)
+        os.close(read_end)
+        os.close(write_end)
+
+
+class Broken(Exception):
+    """What goes wrong within a session."""
+
+
+def try_left_scripts():
+    """the script of a console that has ended"""
+    try:
+        with example("keys") as agc:
+            agc.go(10)
+            agc.key("4")
+            raise Broken()
+    except Broken:
+        judge("the script after an exception", "10 key 4\n", agc.script())
+    with example("keys") as agc:
+        agc.go(10)
+        agc.key("4")
+        judge("a call that takes too long", "time", raised(TimeoutError, timed, agc.go, 10**9))
+    judge("the script after a call that was broken off", "10 key 4\n", agc.script())
+    with tempfile.NamedTemporaryFile("w") as first:
+        first.write("0 pulse 37 pinc\n0 poke 0 100 1\nevery 20 20 60 input 30 5\n")
+        first.flush()
+        with example("keys", script=first.name) as agc:
+            agc.key("1")  # after the script's pulse, so at cycle 1
+            agc.pulse(0o37, "minc")
+            agc.go_to(40)
+            agc.pro(True)
+            agc.go_to(50)
+            agc.raise_interrupt(8)
+            agc.back(45)
+            agc.input(0o31, 7)
+            raised(Refused, agc.key, "ENTER")
+            told = agc.script()
+        # the idle order takes one cycle, and so the machine stands at each of these cycles
+        wanted = (
+            "0 pulse 37 pinc\n0 poke 0 100 00001\n1 key 1\n1 pulse 37 minc\n20 input 30 00005\n40 input 30 00005\n"
+            "40 pro down\n45 input 31 00007\n60 input 30 00005\n"
+        )
+        judge("the script of events before, between and after the script's own", (wanted, wanted), (told, agc.script()))
+
+
+for each in (
+    try_keys, try_events, try_until, try_writes, try_names, try_odd_words, try_children, try_left_scripts, try_faults,
+):
     try:
         each()
     except Exception as error:
