@@ -6,12 +6,13 @@ has turned to the counter CDUX. Machine and craft go in lockstep: neither looks 
 """
 
 import argparse
+import math
 import os
 import sys
 
 here = os.path.dirname(os.path.realpath(__file__))
 sys.path.append(os.path.join(here, "..", "..", "clients", "python"))
-from agc import Console, Refused  # noqa: E402
+from agc import Console, Ended, Refused  # noqa: E402
 
 ROPE = os.path.join(here, "rope")
 STEP = 853  # cycles: a hundredth of a second, but for a third of a cycle
@@ -129,6 +130,34 @@ def line_of(degrees):
     return "".join(line).rstrip()
 
 
+def finite(text):
+    """Returns the number that a word of the command line names; infinity and nan are refused."""
+    number = float(text)
+    if not math.isfinite(number):
+        raise argparse.ArgumentTypeError(f"{text} is not finite")
+    return number
+
+
+def opened(path):
+    """Opens a new file for the script, or an empty one, before the flight: a flight that cannot be saved is not made."""
+    try:
+        file = open(path, "a")
+    except OSError as error:
+        sys.exit(f"craft: cannot write {path}: {error.strerror}")
+    if os.fstat(file.fileno()).st_size:
+        sys.exit(f"craft: {path} exists and is not empty: name a new file")
+    return file
+
+
+def save(script, file):
+    """Writes the script and closes its file."""
+    try:
+        with file:
+            file.write(script)
+    except OSError as error:
+        sys.exit(f"craft: cannot write {file.name}: {error.strerror}")
+
+
 def draw(angles, file):
     """The angle over time, where matplotlib is there."""
     try:
@@ -140,14 +169,17 @@ def draw(angles, file):
     axes.axhspan(-91 / DEGREE, 91 / DEGREE, alpha=0.2)
     axes.plot([step / 100 for step in range(len(angles))], angles)
     axes.set(xlabel="seconds", ylabel="degrees")
-    figure.savefig(file)
+    try:
+        figure.savefig(file)
+    except (OSError, ValueError) as error:
+        sys.exit(f"craft: cannot draw {file}: {error}")
 
 
 def asked():
     words = argparse.ArgumentParser(description="Flies a craft whose angle the rope beside this file holds.")
     words.add_argument("--seconds", type=int, default=120, help="how long, in machine time (120)")
-    words.add_argument("--angle", type=float, default=10.0, help="where it begins, in degrees (10)")
-    words.add_argument("--turning", type=float, default=1.0, help="how it turns then, in degrees a second (1)")
+    words.add_argument("--angle", type=finite, default=10.0, help="where it begins, in degrees (10)")
+    words.add_argument("--turning", type=finite, default=1.0, help="how it turns then, in degrees a second (1)")
     words.add_argument("--save", metavar="FILE", help="write the script that repeats the flight")
     words.add_argument("--png", metavar="FILE", help="draw the angle over time, by matplotlib")
     words.add_argument("--web", action="store_true", help="show craft and DSKY in a browser, and fly by its buttons")
@@ -161,6 +193,7 @@ def main():
     if words.web:
         show_in_browser(words)
         return
+    saved = opened(words.save) if words.save is not None else None
     craft = Craft(words.angle, words.turning)
     angles, writes = [craft.pulses() / DEGREE], 0
     with Console(ROPE, program=words.program) as agc:
@@ -173,12 +206,14 @@ def main():
         except Refused as refused:
             print(f"craft: the flight ends after {(len(angles) - 1) / 100} s: {refused}", file=sys.stderr)
         print(f"{writes} writes by cycle {agc.cycle}, CDUX is {agc.cell('32'):05o}")
-        if words.save:
-            with open(words.save, "w") as file:
-                file.write(agc.script())
+        if saved:
+            save(agc.script(), saved)
     if words.png:
         draw(angles, words.png)
 
 
 if __name__ == "__main__":
-    main()
+    try:
+        main()
+    except Ended as ended:
+        sys.exit(f"craft: {ended}")

@@ -153,12 +153,50 @@ def try_program():
         judge("no picture", (1, told), (second.returncode, second.stderr))
 
 
+def refused(name, words, told):
+    """A flight that is not made: its status, and the last line that it says."""
+    program = [sys.executable, "-B", example.__file__, "--seconds", "1", "--program", console]
+    flight = subprocess.run([*program, *words], capture_output=True, text=True)
+    lines = flight.stderr.splitlines() or [""]
+    judge(name, (told[0], "", told[1]), (flight.returncode, flight.stdout, lines[-1]))
+
+
+def try_refusals():
+    """What cannot be flown or saved is told in a sentence, before the flight."""
+    folder, kept = os.path.join(scratch, "folder"), os.path.join(scratch, "kept")
+    os.mkdir(folder)
+    with open(kept, "w") as file:
+        file.write("0 key 1\n")
+    nowhere = os.path.join(folder, "no", "file")
+    refused("--save in no folder", ["--save", nowhere], (1, f"craft: cannot write {nowhere}: No such file or directory"))
+    refused("--save of a folder", ["--save", folder], (1, f"craft: cannot write {folder}: Is a directory"))
+    refused("--save without a name", ["--save", ""], (1, "craft: cannot write : No such file or directory"))
+    refused("--save of a script", ["--save", kept], (1, f"craft: {kept} exists and is not empty: name a new file"))
+    judge("it stays as it was", b"0 key 1\n", read(kept))
+    for option in ("--angle", "--turning"):
+        for word in ("nan", "inf", "-inf"):
+            told = f"craft.py: error: argument {option}: {word} is not finite"
+            refused(f"{option} {word}", [f"{option}={word}"], (2, told))
+    program = os.path.join(folder, "program")
+    refused("no such console", ["--program", program], (1, f"craft: {program}: No such file or directory"))
+
+
+def try_full():
+    """A script that finds no room is told in a sentence, after the flight."""
+    if not os.path.exists("/dev/full"):
+        return
+    words = [sys.executable, "-B", example.__file__, "--seconds", "1", "--program", console, "--save", "/dev/full"]
+    flight = subprocess.run(words, capture_output=True, text=True)
+    told = "craft: cannot write /dev/full: No space left on device\n"
+    judge("--save where there is no room", (1, told), (flight.returncode, flight.stderr))
+
+
 def read(name):
     with open(name, "rb") as file:
         return file.read()
 
 
-for each in (try_ten_degrees, try_others, try_program):
+for each in (try_ten_degrees, try_others, try_program, try_refusals, try_full):
     try:
         each()
     except Exception as error:
