@@ -1,0 +1,189 @@
+"""The packets of Virtual AGC's socket protocol, and what they mean to this machine.
+
+Nothing here touches a socket, a clock or a machine: bytes become packets, packets become commands of `agc-console`, and
+channel writes become packets. Channels, words and counters are written in octal.
+"""
+
+from typing import Dict, Iterator, List, Mapping, NamedTuple
+
+FIRST_CHANNEL = 0o5  # below it stand L, Q and the scaler, which no script sets
+RELAYS = 0o10
+LAMPS = 0o11
+KEYBOARD = 0o15
+SECOND_KEYBOARD = 0o16
+PRO_CHANNEL = 0o32
+PRO = 0o20000  # bit 14: 0 while the key is down
+SHOWN_LAMPS = 0o163  # invented by the protocol: lamps as the DSKY shows them
+UPLINK = 0o173  # invented by the protocol: a word for INLINK
+LAST_CHANNEL = 0o377  # what a packet can name
+FIRST_COUNTER_CHANNEL = 0o200  # a counter's channel is its address and this
+INLINK = 0o45
+COUNTERS = range(0o24, 0o61)  # the counters that a script can pulse
+ALL_BITS = 0o77777
+
+OUTPUTS = (0o5, 0o6, 0o7, 0o11, 0o12, 0o13, 0o14, 0o34, 0o35)
+"""The output channels whose words a new client receives, beside the relay rows of channel 10."""
+
+RELAY_ROWS = range(1, 13)
+"""The relay rows that a new client receives in any case: one without a word is blank."""
+
+INTERRUPTS = {KEYBOARD: 5, SECOND_KEYBOARD: 6, UPLINK: 7}
+KEY_NAMES = {
+    0o20: "0", 0o1: "1", 0o2: "2", 0o3: "3", 0o4: "4", 0o5: "5", 0o6: "6", 0o7: "7", 0o10: "8", 0o11: "9",
+    0o21: "VERB", 0o22: "RSET", 0o31: "KEYREL", 0o32: "+", 0o33: "-", 0o34: "ENTR", 0o36: "CLR", 0o37: "NOUN",
+}
+PULSES = {0: "pinc", 1: "pcdu", 2: "minc", 3: "mcdu", 5: "shinc", 6: "shanc", 0o21: "pcdu", 0o23: "mcdu"}
+DINC = 4
+
+# the lamps of channel 11 that channel 163 repeats at the same bits
+TEMP = 0o10
+KEY_REL = 0o20
+FLASH = 0o40  # in channel 11 verb and noun flash; in channel 163 they are blank at the moment
+OPR_ERR = 0o100
+
+PULSES_A_CYCLE = 12
+BLINK_PULSES = 1_310_720  # 1.28 seconds of 1,024,000 pulses each
+LIT_PULSES = 983_040  # three quarters of that
+
+
+class Packet(NamedTuple):
+    """Four bytes: a channel, a word for it, and the u bit, which makes the word a mask."""
+
+    channel: int
+    word: int
+    is_mask: bool = False
+
+    def encode(self) -> bytes:
+        """Returns the four bytes, each with its place in its two upper bits."""
+        u_bit = 0x20 if self.is_mask else 0
+        return bytes((
+            u_bit | self.channel >> 3 & 0x1F,
+            0x40 | (self.channel & 7) << 3 | self.word >> 12 & 7,
+            0x80 | self.word >> 6 & 0x3F,
+            0xC0 | self.word & 0x3F,
+        ))
+
+    @staticmethod
+    def decode(data: bytes) -> "Packet":
+        """Returns the packet of four bytes whose upper bits are right."""
+        first, second, third, fourth = data
+        channel = (first & 0x1F) << 3 | second >> 3 & 7
+        word = (second & 7) << 12 | (third & 0x3F) << 6 | fourth & 0x3F
+        return Packet(channel, word, bool(first & 0x20))
+
+
+class PacketReader:
+    """Cuts a stream of bytes into packets, however it is divided, and skips bytes that are out of step."""
+
+    def __init__(self) -> None:
+        self._begun = bytearray()
+        self.skipped = 0
+        """How many bytes were out of step; each packet in step after them takes one off."""
+
+    @property
+    def is_halfway(self) -> bool:
+        """Whether a packet has begun and is not whole."""
+        return bool(self._begun)
+
+    def feed(self, data: bytes) -> Iterator[Packet]:
+        """Takes the next bytes, and yields the packets that are whole."""
+        for byte in data:
+            if byte >> 6 != len(self._begun):
+                self.skipped += len(self._begun)
+                self._begun.clear()
+            if byte >> 6 == len(self._begun):
+                self._begun.append(byte)
+            else:
+                self.skipped += 1
+            if len(self._begun) == 4:
+                yield Packet.decode(bytes(self._begun))
+                self._begun.clear()
+                self.skipped = max(0, self.skipped - 1)
+
+
+class Inexpressible(Exception):
+    """An input that no line of a script says."""
+
+
+def merged(word: int, mask: int, before: int) -> int:
+    """Returns the word before with the masked bits replaced."""
+    return word & mask | before & ~mask & ALL_BITS
+
+
+def commands_for(channel: int, word: int, before: int) -> List[str]:
+    """Returns the console's commands for a word that comes into a channel with another word before; none if nothing
+    changes. Raises `Inexpressible` if a script cannot say it."""
+    if channel >= FIRST_COUNTER_CHANNEL:
+        return [_pulse(channel - FIRST_COUNTER_CHANNEL, word)]
+    if channel < FIRST_CHANNEL:
+        raise Inexpressible(f"channel {channel:o} takes no input: a script's begin at {FIRST_CHANNEL:o}")
+    if channel == UPLINK:
+        return [f"poke 0 {INLINK:o} {word:05o}", f"raise {INTERRUPTS[UPLINK]}"]
+    if is_key(channel, word):
+        return _key(channel, word)
+    if word == before:
+        return []
+    if channel == PRO_CHANNEL and word ^ before == PRO:
+        return ["pro up" if word & PRO else "pro down"]
+    return [f"input {channel:o} {word:05o}"]
+
+
+def is_key(channel: int, word: int) -> bool:
+    """Whether a word is a key that goes down; 0 is a release."""
+    return channel in (KEYBOARD, SECOND_KEYBOARD) and word != 0
+
+
+def _key(channel: int, code: int) -> List[str]:
+    if channel == KEYBOARD and code in KEY_NAMES:
+        return [f"key {KEY_NAMES[code]}"]
+    return [f"input {channel:o} {code:05o}", f"raise {INTERRUPTS[channel]}"]
+
+
+def _pulse(counter: int, kind: int) -> str:
+    if counter not in COUNTERS:
+        raise Inexpressible(f"counter {counter:o} takes no pulse: those of a script are 24 to 60")
+    if kind == DINC:
+        raise Inexpressible("DINC is no pulse of a script")
+    if kind not in PULSES:
+        raise Inexpressible(f"a pulse of kind {kind:o} is unknown")
+    return f"pulse {counter:o} {PULSES[kind]}"
+
+
+def is_dark(cycle: int) -> bool:
+    """Whether what blinks is dark: it is lit for three quarters of each 1.28 seconds, and then dark."""
+    return cycle * PULSES_A_CYCLE % BLINK_PULSES >= LIT_PULSES
+
+
+def shown_lamps(lamps: int, cycle: int) -> int:
+    """Returns the word of channel 163 at a cycle, by the word that the program wrote to channel 11."""
+    blinking = lamps & FLASH if is_dark(cycle) else lamps & (KEY_REL | OPR_ERR)
+    return lamps & TEMP | blinking
+
+
+class Board:
+    """What the machine has written for a DSKY: the last word of each relay row, and the lamps."""
+
+    def __init__(self) -> None:
+        self.rows: Dict[int, int] = {}
+        self.lamps = 0
+
+    def note(self, channel: int, word: int) -> None:
+        """Takes a channel write."""
+        if channel == RELAYS:
+            self.rows[word >> 11] = word
+        elif channel == LAMPS:
+            self.lamps = word
+
+    def packets(self, outputs: Mapping[int, int], cycle: int) -> Iterator[Packet]:
+        """Yields what a client is sent that knows nothing: the relay rows, the words of the outputs, and the lamps."""
+        for row in sorted({*RELAY_ROWS, *self.rows}):
+            yield Packet(RELAYS, self.rows.get(row, row << 11))
+        for channel in sorted(outputs):
+            yield Packet(channel, outputs[channel])
+        yield Packet(SHOWN_LAMPS, shown_lamps(self.lamps, cycle))
+
+
+def can_send(channel: int) -> bool:
+    """Whether a write to a channel has a packet: a channel above 377 has none, and that of 163 would be taken for the
+    lamps."""
+    return channel <= LAST_CHANNEL and channel != SHOWN_LAMPS
