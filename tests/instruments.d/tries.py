@@ -2,6 +2,7 @@
 files. All sockets are on 127.0.0.1. What is to come is waited for, for LONGEST seconds at most.
 """
 
+import atexit
 import contextlib
 import io
 import os
@@ -134,6 +135,7 @@ class Program:
         line += ["--save", self.file] if save else []
         with open(self.told, "w") as told:
             self.process = subprocess.Popen(line, stdout=subprocess.PIPE, stderr=told, text=True)
+        atexit.register(self.process.kill)  # one that a failed case has left
         self.wait_for("instruments: ports")
 
     def lines(self):
