@@ -119,7 +119,7 @@ function readRun(id) {
 const runs = ['left', 'right'].filter(find).map(readRun);
 const begin = Math.max(...runs.map((run) => run.from));
 const end = Math.max(begin, ...runs.map((run) => run.stop));
-const divergence = find('divergence') ? Number(find('divergence').textContent) : NaN;
+const parting = find('parting') ? Number(find('parting').textContent) : NaN;
 let now = begin;
 let playing = false;
 
@@ -216,7 +216,7 @@ function showKeys(run) {
 function showDifference() {
   const [left, right] = runs.map((run) => run.text.split(LINE));
   const names = left.map((line, i) => (line === right[i] ? '' : line.split(' ')[0])).filter(Boolean);
-  const first = divergence === Math.floor(now) ? ' This is the first difference.' : '';
+  const first = parting === Math.floor(now) ? ' This is the first difference.' : '';
   find('apart').textContent = names.length ? `\u{2260} The panels differ: ${names.join(', ')}.${first}` : '= The panels show the same.';
 }
 
@@ -259,11 +259,11 @@ function drawStrip() {
     pen.fillStyle = '#f4f4ee';
     strokes(run.keyCycles, line - lane / 2 + 3);
   });
-  if (divergence >= 0) {
+  if (parting >= 0) {
     pen.fillStyle = '#ffb938';
-    stroke(divergence, 0, 40, 3);
+    stroke(parting, 0, 40, 3);
     pen.font = 'bold 15px sans-serif';
-    pen.fillText('\u{2260}', Math.min(place(divergence) + 4, width - 14), 13);
+    pen.fillText('\u{2260}', Math.min(place(parting) + 4, width - 14), 13);
   }
 }
 
@@ -293,7 +293,7 @@ const ACTIONS = {
   play: () => setPlaying(!playing),
   next: () => go(changeAfter(now)),
   end: () => go(end),
-  difference: () => { if (divergence >= 0) go(divergence); },
+  difference: () => { if (parting >= 0) go(parting); },
 };
 const SHORTCUTS = { ' ': 'play', ArrowLeft: 'previous', ArrowRight: 'next', Home: 'start', End: 'end', d: 'difference', D: 'difference' };
 
@@ -327,7 +327,7 @@ function start() {
   find('time').max = end;
   find('time').addEventListener('input', () => go(Number(find('time').value)));
   for (const [name, action] of Object.entries(ACTIONS)) find(name).addEventListener('click', action);
-  find('difference').hidden = !(divergence >= 0);
+  find('difference').hidden = !(parting >= 0);
   find('speed').addEventListener('change', () => show(now));
   document.addEventListener('keydown', onKey);
   window.addEventListener('resize', drawStrip);
