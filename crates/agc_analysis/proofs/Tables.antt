@@ -10,7 +10,7 @@ use Rattle.agc_panel.specs.declared.watch_spec.WatchSpec.{WatchSpec}
 use Rattle.agc_load.proofs.Told.{none_in_both, told_first, told_found, told_later}
 use Rattle.agc_load.specs.Options.{said_by, says_nothing}
 use Rattle.agc_load.specs.Prepare.{limit_refusal, start_steps, tables_refusal, until_refusal, watch_spec_refusal}
-use Rattle.agc_load.specs.Steps.{IsTold, looks, refusal_in, refused_if}
+use Rattle.agc_load.specs.Steps.{IsTold, checks, refusal_in, refused_if}
 use Rattle.agc_load.specs.declared.fault.LoadFault.{LoadFault}
 use Rattle.agc_load.specs.declared.fault.LoadFault.TheVariants as refusal
 use Rattle.agc_analysis.specs.Started.{watched_steps}
@@ -21,7 +21,7 @@ no_fault None h = refl
 no_fault (Some fault) h = cc
 
 -- if none of three checks rejects, the second does not
-second_sound : (limit watch until : Option LoadFault) → refusal_in (looks limit ∷ looks watch ∷ looks until ∷ []) ≡ None → watch ≡ None
+second_sound : (limit watch until : Option LoadFault) → refusal_in (checks limit ∷ checks watch ∷ checks until ∷ []) ≡ None → watch ≡ None
 second_sound (Some r) watch until none = cc
 second_sound None (Some r) until none = cc
 second_sound None None until none = refl

@@ -11,7 +11,7 @@ use Rattle.agc_panel.specs.WatchSpec.{spec_of}
 use Rattle.agc_load.specs.Files.{events_in, rope_steps, script_steps}
 use Rattle.agc_load.specs.Options.{said_by}
 use Rattle.agc_load.specs.Prepare.{start_steps, tables_refusal}
-use Rattle.agc_load.specs.Steps.{Step, IsTold, looks, refusal_in}
+use Rattle.agc_load.specs.Steps.{Step, IsTold, checks, refusal_in}
 use Rattle.agc_load.specs.declared.fault.LoadFault.{LoadFault}
 use Rattle.agc_analysis.specs.Fault.{other_trouble}
 use Rattle.agc_analysis.specs.declared.fault.AnalysisFault.{AnalysisFault}
@@ -20,7 +20,7 @@ use Rattle.agc_analysis.specs.declared.fault.AnalysisFault.TheVariants as troubl
 -- the steps to a machine, and to the watched tables if a text names some that can be watched
 unfoldable pub watched_steps : Option (String Global) → Option (String Global) → ℕ → List Step
 watched_steps until watch limit =
-    start_steps until watch limit ++ looks (tables_refusal (said_by spec_of watch)) ∷ []
+    start_steps until watch limit ++ checks (tables_refusal (said_by spec_of watch)) ∷ []
 
 -- the steps that these two files go through, each of which may reject them
 unfoldable pub starting_steps : RopeForm → Option (String Global) → Option (String Global) → ℕ

@@ -56,7 +56,7 @@ lamp_cell color lamps which =
 
 -- the place of a lamp, which may be empty
 abbrev pub lamp_or_none : ColorMode → Lamps → Option Lamp → List ℕ
-lamp_or_none color lamps None = spaces lamp_width
+lamp_or_none _ lamps None = spaces lamp_width
 lamp_or_none color lamps (Some which) = lamp_cell color lamps which
 
 -- the lamps of a line, left and right
