@@ -13,9 +13,12 @@ LONGEST = 20  # seconds that anything may take
 class Site:
     """A running agc-web, or another program that serves its page."""
 
+    started = []
+
     def __init__(self, words, environment=None):
         began = time.monotonic()
         self.process = subprocess.Popen(words, stdout=subprocess.PIPE, stderr=subprocess.PIPE, text=True, start_new_session=True, env=environment)
+        Site.started.append(self)
         self.line = self.process.stdout.readline()
         self.url = self.line.split(' ')[0]
         self.port = int(self.url.split(':')[2].split('/')[0])
@@ -112,6 +115,15 @@ class Site:
             with open(f'/proc/{number}/stat') as file:
                 ticks += sum(map(int, file.read().rpartition(')')[2].split()[11:13]))
         return ticks / os.sysconf('SC_CLK_TCK')
+
+    @classmethod
+    def kill_all(cls):
+        """Kills what a test that failed has left behind."""
+        for site in cls.started:
+            if site.process.poll() is None:
+                site.process.kill()
+                site.process.communicate()
+        cls.started.clear()
 
     def end(self):
         """Presses Control-C, as a terminal does: all processes of the group get it. Returns status and outputs."""

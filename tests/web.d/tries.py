@@ -70,12 +70,14 @@ class Page:
     """The page of a site in a window of a browser."""
 
     count = 0
+    opened = []
 
     def __init__(self, site, size=SIZE):
         Page.count += 1
         home = os.path.join(FOLDER, f'home{Page.count}')
         os.mkdir(home)
         self.site, self.window = site, Window(BROWSER, home, *size)
+        Page.opened.append(self)
         self.load()
 
     def load(self, url=None):
@@ -148,8 +150,16 @@ class Page:
         settle(self)
 
     def close(self):
+        Page.opened.remove(self)
         judge('errors of the page', [], self.window.errors())
         self.window.close()
+
+    @classmethod
+    def close_all(cls):
+        """Closes the windows that a test that failed has left open."""
+        for page in cls.opened:
+            page.window.close()
+        cls.opened.clear()
 
 
 def settle(page):
@@ -1148,6 +1158,8 @@ def main():
             each()
         except Exception as error:
             judge(f'{each.__name__} goes on to its end', None, repr(error))
+        Page.close_all()
+        Site.kill_all()
     print(f'{passed} passed, {failed} failed')
     return 1 if failed else 0
 
