@@ -3563,7 +3563,7 @@ KRFLASH OCT     60
 
         SETLOC  40,2000
 
-# PREDICT flies the rest of P64 by the same law, in steps of a 64th of the time to go, and finds the greatest thrust and
+# PREDICT flies the rest of P64 by the same law, in steps of an 80th of the time to go, and finds the greatest thrust and
 # the fuel that is left at low gate. Its state stands in the job's VAC area; it gives way after each step.
 
 PRR     EQUALS  E0,0001     # the way to go
@@ -3603,7 +3603,7 @@ PREDICT DXCH    PREDQ
         INDEX   PUSHLOC
         TS      PRT
         EXTEND
-        MP      BIT9        # a 64th
+        MP      EIGHTIET    # an 80th
         INDEX   PUSHLOC
         TS      PRDT
         CA      ZERO
@@ -3730,7 +3730,8 @@ GONE    EXTEND
         DAS     A
         DXCH    MPAC
         TC      Q
-STEPS   DEC     57          # up to a tenth of the time to go, where the law wants too much
+STEPS   DEC     71          # up to a tenth of the time to go, where the law wants too much
+EIGHTIET DEC    205
 PVTX    DEC     128
 PZTARGET DEC    30
 BURNT   DEC     5501        # 0.33574
