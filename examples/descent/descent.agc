@@ -3414,7 +3414,8 @@ GROUPS  TS      RSTIDX      # 4, 2, 0: the groups 5, 4 and 2
         CA      0
         TS      RSTPTR      # the list of this phase
 LISTNEXT INDEX  RSTPTR
-        CCS     0
+        CA      0
+        CCS     A
         TCF     LISTJOB
         TCF     GROUPEND
         AD      ONE         # a task
