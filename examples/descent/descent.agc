@@ -102,6 +102,7 @@ RSTIDX  ERASE
 DIVISOR ERASE
 DIVQ    ERASE
 AGREEQ  ERASE
+SATTEM  ERASE
 FACTOR  ERASE   +1
 DMPX    ERASE
 DMPY    ERASE
@@ -1133,6 +1134,37 @@ DIVMAX  CA      POSMAX
         TC      DIVQ
 DIVMIN  CS      POSMAX
         TC      DIVQ
+
+# SAT: A, or where it has overflow the greatest word of its sign. TS skips an order then, so no sum that may outgrow a
+# word is stored without it.
+
+SAT     TS      SATTEM
+        TC      Q
+        EXTEND
+        MP      POSMAX
+        CA      L
+        TC      Q
+
+# QUARTERS: A = MPAC in quarters, of 4095 at most.
+
+QUARTERS CA     MPAC
+        AD      LESS4095
+        EXTEND
+        BZMF    +3
+        CA      POSMAX
+        TC      Q
+        CS      MPAC
+        AD      LESS4095
+        EXTEND
+        BZMF    +3
+        CS      POSMAX
+        TC      Q
+        EXTEND
+        DCA     MPAC
+        DAS     A
+        DAS     A
+        TC      Q
+LESS4095 DEC    -4094
 
 # DMP: MPAC = MPAC times FACTOR, two words each.
 
@@ -2202,7 +2234,7 @@ NOUNLAST DEC    72          # where the last one begins
 FIND    CA      NOUNLAST
 FIND1   TS      NNPTR
         EXTEND
-        BZF     FOUND       # there is none
+        BZF     NONESUCH
         INDEX   NNPTR
         CA      NOUNTAB
         EXTEND
@@ -2212,8 +2244,10 @@ FIND1   TS      NNPTR
         CA      NNPTR
         AD      MINUS8
         TCF     FIND1
-FOUND   CA      ZERO
-        AD      NNPTR
+FOUND   CA      NNPTR
+        TC      Q
+NONESUCH CA     ZERO
+        TS      NNPTR
         TC      Q
 
 # The calls from bank 04: NVANS has the answer.
@@ -2679,8 +2713,8 @@ WAY     TS      NDT
 
         EXTEND
         DCA     Z1
-        DAS     A
-        DAS     A           # the upper word is in quarter metres
+        DXCH    MPAC
+        TC      QUARTERS
         TS      ZQ
         EXTEND
         READ    RADAR
@@ -2688,6 +2722,7 @@ WAY     TS      NDT
         BZF     STATE       # it has no altitude
         EXTEND
         SU      ZQ
+        TC      SAT
         TS      DELTAH
         EXTEND
         MP      BIT13
@@ -2746,11 +2781,12 @@ STATE   CA      FCMD
 
 GUIDE   EXTEND
         DCA     ZN
-        DAS     A
-        DAS     A
+        DXCH    MPAC
+        TC      QUARTERS
         TS      ZQ
         CS      DRYMASS
         AD      MASS
+        TC      SAT
         TS      FUEL
         CA      MODREG
         AD      LESS66
@@ -2765,6 +2801,7 @@ GUIDE   EXTEND
 
 P64     CA      VX
         AD      TWOVTX
+        TC      SAT
         TS      DIVISOR
         AD      LESS1MS
         EXTEND
@@ -2856,6 +2893,7 @@ RODCREW CA      RODCMD      # 6.4 of our units in a tenth of a m/s; 10 m/s at mo
 RODSET  CA      RODNOW
         EXTEND
         SU      VZ
+        TC      SAT
         TC      LIMIT
         DEC     256
         EXTEND
@@ -2879,9 +2917,7 @@ RODSET  CA      RODNOW
 
 STEER   CA      AZ
         AD      GRAVITY
-        TS      GZ
-        TCF     +3
-        CA      POSMAX
+        TC      SAT
         TS      GZ
         CA      CDUY
         EXTEND
@@ -2940,6 +2976,7 @@ STEER   CA      AZ
         TC      LIMIT
         DEC     1820        # 20 degrees
         AD      TILT
+        TC      SAT
         TC      LIMIT
         DEC     5461        # 60 degrees
         TS      THETAD
@@ -3206,6 +3243,7 @@ P64JOB  CA      EBANK3
         TC      SETPH4
         CS      DRYMASS
         AD      MASS
+        TC      SAT
         TS      FUEL
         EXTEND
         DCA     MODEADR
@@ -3322,8 +3360,8 @@ ALTOUT  CA      EBANK3
         TS      ALTDT
         EXTEND
         DCA     ZN
-        DAS     A
-        DAS     A
+        DXCH    MPAC
+        TC      QUARTERS
         AD      ALTDT
         EXTEND
         WRITE   ALTMETER
@@ -3447,7 +3485,19 @@ GROUPEND CA     RSTIDX
         BZF     GROUPOUT
         AD      MINUS2
         TCF     GROUPS
-GROUPOUT TCF    EJSCAN
+GROUPOUT CS     TESTLAMP    # the lamps of a lamp test go out, and PROG alone is lit
+        EXTEND
+        WAND    LAMPS
+        CA      PROGROW
+        TS      DSPTAB9 +3
+        CA      ONE
+        TS      NOUT
+        EXTEND
+        DCA     SHOWADRS
+        DXCH    Z
+        TCF     EJSCAN
+TESTLAMP OCT    15          # ISS, UPLINK ACTY, TEMP
+PROGROW OCT     4400
 NOPHASE CA      ALM1107
         TC      SETALARM
         TCF     FRESH
@@ -3669,6 +3719,7 @@ PRSTEP  INDEX   PUSHLOC
         TS      HYPA
         CA      PGZ
         AD      GRAVITY
+        TC      SAT
         TS      HYPB
         TC      HYPOT
         EXTEND
@@ -3676,9 +3727,7 @@ PRSTEP  INDEX   PUSHLOC
         MP      PRM
         DAS     A
         DAS     A           # in 4 N
-        TS      PACC
-        TCF     +3
-        CA      POSMAX
+        TC      SAT
         TS      PACC
         INDEX   PUSHLOC
         CS      PRF
@@ -3712,6 +3761,7 @@ PRSTEP  INDEX   PUSHLOC
         INDEX   PUSHLOC
         CA      PRM
         AD      PDRY
+        TC      SAT
         TS      PFUEL
         DXCH    PREDQ
         DXCH    Z
