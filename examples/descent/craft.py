@@ -212,6 +212,7 @@ def asked():
     words.add_argument("--down", type=float, default=45.0, help="speed down, m/s (45)")
     words.add_argument("--seed", type=int, default=1, help="for the radar's noise, mass, tilt and the known height (1)")
     words.add_argument("--key", action="append", default=[], metavar="SECOND:KEY", help="one more key, as 60:VERB")
+    words.add_argument("--script", default=os.devnull, help="a script whose events happen as well")
     words.add_argument("--every", type=float, default=10.0, help="seconds from line to line of the table (10)")
     words.add_argument("--save", metavar="FILE", help="write the script that repeats the flight")
     words.add_argument("--png", metavar="FILE", help="draw the flight, by matplotlib")
@@ -229,7 +230,7 @@ def main():
     craft = Craft(words.height, words.way, words.forward, words.down, words.seed)
     rows = []
     every = max(1, round(words.every / STEP))
-    with Console(words.rope, program=words.program) as agc:
+    with Console(words.rope, words.script, program=words.program) as agc:
         print(HEAD)
         for now, _ in fly(agc, craft, keys):
             if round(now / STEP) % every == 0:

@@ -3328,6 +3328,8 @@ P68JOB  CA      SIXTY8
         CA      ZERO
         TC      SETPH5
         RELINT
+        CA      PRIO10      # the rest has time
+        TC      PRIOCHNG
         EXTEND
         DCA     MODEADR
         DXCH    Z
