@@ -231,6 +231,20 @@ def try_guidance():
             near(f"the cosine of {degrees}", cosine, machine.word("COSH") / 8192, 0.0005)
 
 
+def ahead(way, height, forward, up, mass):
+    """Nine tenths of P64 by its law, in 72 steps of an 80th: the fuel that is left, and the greatest thrust."""
+    to_go = 3 * way / (forward + 4)
+    step, most = to_go / 80, 0
+    for _ in range(72):
+        along = 6 / to_go * (2 * way / to_go - (2 + forward))
+        lift = 6 / to_go * (2 * (30 - height) / to_go - (-2 + up))
+        forward, up = forward + along * step, up + lift * step
+        way, height = way - forward * step, height + up * step
+        thrust = mass * math.hypot(along, lift + 1.62)
+        mass, most, to_go = mass - thrust * step / 3050, max(most, thrust), to_go - step
+    return mass - 6500, most
+
+
 def try_scaling():
     """One second of SERVICER: pulses, gravity, way, radar and mass."""
     with guided(5000, 1500, 100, -30, -38, 8400) as machine:
@@ -267,12 +281,17 @@ def try_scaling():
         machine.input(example.RADAR, 5000)
         machine.until(PLACES["GUIDE"])
         near("a radar that is far off", 1500 - 30.81, machine.both("ZN"), 0.01)
-    # 7500 and 2300 m: a slant range of 7844.7
+    # 7500 and 2300 m: a slant range of 7844.7; the way ahead, as `ahead` flies it; the meters, after so many seconds
     with guided(7500, 2300, 150, -45, -40, 8500) as machine:
-        machine.seconds(0.9)
+        begun = machine.cycle
+        machine.until_write(0o44)
+        since = (machine.cycle - begun) / SECOND
         near("slant range", 7844.7, machine.word("SLANT"), 1)
-        machine.press("VERB 0 6 NOUN 6 0 ENTR", 0.02)
-        machine.seconds(0.3)
+        near("the meter of altitude", 4 * (2300 - 45 * since), machine.channel(0o43), 7)
+        judge("the meter of its rate", 64 * -45, signed(machine.channel(0o44)))
+        fuel, thrust = ahead(7500, 2300, 150, -45, 8500)
+        near("the fuel at low gate", fuel, machine.word("PFUEL"), 20)
+        near("the greatest thrust", thrust, 4 * machine.word("PTHRUST"), 60)
 
 
 DISPLAYS = [
