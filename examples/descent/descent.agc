@@ -2864,7 +2864,7 @@ TO66    CA      SIXTY6
         DCA     MODEADR
         DXCH    Z
 
-# P66: the altitude rate is to be that of the crew, or -(0.8 m/s + altitude/16 s), and comes to it with 1.5 s; the forward
+# P66: the altitude rate is to be that of the crew, or -(0.8 m/s + altitude/32 s), and comes to it with 1.5 s; the forward
 # speed goes to zero with 6 s, by 0.35 m/s/s at most.
 
 P66     CCS     RODFLAG
@@ -2876,6 +2876,8 @@ P66     CCS     RODFLAG
         CA      M120
         TCF     +2
         CA      ZQ
+        EXTEND
+        MP      BIT14
         AD      ROD0
         TS      RODNOW
         CS      RODNOW

@@ -218,12 +218,13 @@ def try_guidance():
             near(f"{name}: tilt", tilt, machine.word("THETAD") / example.DEGREE, math.degrees(across / along) + 0.05)
             near(f"{name}: thrust", thrust, 4 * machine.word("FCMD"), state[5] * across + 32)
             judge(f"{name}: the throttle's channel", machine.word("FCMD"), machine.channel(example.THROTTLE))
-    # P66 at 20 m: the rate is to be -(0.8 + 20/16) = -2.05; (-2.05 + 3)/1.5 = 0.6333 up, -1/6 = -0.1667 forward
+    # P66 at 20 m: the rate is to be -(0.8 + 20/32) = -1.425; (-1.425 + 3)/1.5 = 1.05 up, -1/6 = -0.1667 forward; with
+    # gravity 2.67, along the engine 2.67 * 0.99939 - 0.1667 * 0.0349 = 2.6626
     with guided(40, 20, 1, -3, 2, 7600, 66) as machine:
-        near("P66: the rate", -2.05, machine.word("RODNOW") / 64, 0.02)
-        near("P66: up", 0.6333, machine.word("AZ") / 1024, 0.015)
+        near("P66: the rate", -1.425, machine.word("RODNOW") / 64, 0.02)
+        near("P66: up", 1.05, machine.word("AZ") / 1024, 0.015)
         near("P66: forward", -0.1667, machine.word("AX") / 1024, 0.005)
-        near("P66: thrust", 17071, 4 * machine.word("FCMD"), 150)
+        near("P66: thrust", 20236, 4 * machine.word("FCMD"), 150)
     # half sines and cosines, to 14 digits less the polynomial's error of 0.0001
     for degrees, sine, cosine in ((-40, -0.6428, 0.7660), (-30, -0.5, 0.8660), (-8, -0.1392, 0.9903), (2, 0.0349, 0.9994)):
         with guided(2000, 600, 55, -16, degrees, 8100) as machine:
@@ -529,6 +530,29 @@ def idle_of(found):
     return sum(found.get(("word", f"02,{place + n:04o}"), (0, 0))[1] for n in range(3))
 
 
+def alarmed(seed):
+    """A flight with more pulses than the program has cycles to spare, from some second on."""
+    chance = random.Random(2000 + seed)
+    every, begin = chance.choice((4, 5, 6)), chance.uniform(10, 120)
+    pulses = os.path.join(scratch, f"pulses-{seed}")
+    with open(pulses, "w") as file:
+        file.write(f"every {every} {round(begin * SECOND)} {round(begin * SECOND) + 40000 * every} pulse 36 pcdu\n")
+    keys = dict(example.APPROACH)
+    for place, key in enumerate("VERB 1 6 NOUN 6 8 ENTR".split()):
+        keys[begin - 4 + 0.25 * place] = key
+    craft = example.Craft(*start_of(seed), seed)
+    with Machine(pulses) as machine:
+        for _ in example.fly(machine, craft, keys):
+            pass
+        return seed, machine.panel()["PROG"], machine.word("FAILREG"), craft.touched
+
+
+def try_alarms(flights):
+    for seed, program, code, touched in flights.get():
+        judge(f"alarm {seed}", ("68", 0o1202), (program, code))
+        judge(f"alarm {seed}: it lands", True, touched and touched[0] > -1.5 and abs(touched[1]) < 0.6 and abs(touched[2]) < 3)
+
+
 def try_1202(flights):
     (seen, lit, restarts, codes, touched, end, script, cycle), calm = flights.get()
     judge("before: noun 68 by verb 16", "64 16 68", seen[59.0][:8])
@@ -692,6 +716,7 @@ def main():
         counted = wanted("try_flown") and pool.map_async(flown, [0], 1)
         alarms = wanted("try_1202") and pool.map_async(alarm_flight, ["radar", "none"], 1)
         flights = wanted("try_flights") and pool.map_async(flight, range(FLIGHTS), 1)
+        others = wanted("try_alarms") and pool.map_async(alarmed, range(6), 1)
         typing = wanted("try_wrong_keys") and pool.map_async(typed, range(8), 1)
         tries = [
             (try_rope,),
@@ -703,6 +728,7 @@ def main():
             (try_1201,),
             (try_flights, flights),
             (try_1202, alarms),
+            (try_alarms, others),
             (try_wrong_keys, typing),
             (try_flown, counted),
             (try_hour, running),
