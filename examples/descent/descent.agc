@@ -76,7 +76,7 @@ LST2K4  ERASE   +7
 LST2K8  ERASE   +1
 
         SETLOC  0400
-VAC1USE ERASE               # five VAC areas of 20 words; the first word is +0 while the area is in use, else its address
+VAC1USE ERASE               # five VAC areas of 20 words; the first word is the area's address, or +0 while it is in use
         SETLOC  0424
 VAC2USE ERASE
         SETLOC  0450
@@ -2864,8 +2864,8 @@ TO66    CA      SIXTY6
         DCA     MODEADR
         DXCH    Z
 
-# P66: the altitude rate is to be that of the crew, or -(0.8 m/s + altitude/32 s), and comes to it with 1.5 s; the forward
-# speed goes to zero with 6 s, by 0.35 m/s/s at most.
+# P66: the altitude rate comes with 1.5 s to the crew's, or to -(0.8 m/s + altitude/32 s); the forward speed goes to zero
+# with 6 s, by 0.35 m/s/s at most.
 
 P66     CCS     RODFLAG
         TCF     RODCREW
@@ -2914,8 +2914,8 @@ RODSET  CA      RODNOW
         DAS     A
         TS      AX
 
-# Steering: half the sine and cosine of the tilt; what is wanted along the engine's axis is the throttle's, what is wanted
-# across it turns the craft: by the angle whose tangent is across/along.
+# Steering. What is wanted along the engine's axis is the throttle's. What is wanted across it turns the craft, by the
+# angle whose tangent is across/along. SINH and COSH are half the sine and cosine of the tilt.
 
 STEER   CA      AZ
         AD      GRAVITY
@@ -3509,8 +3509,8 @@ ALM1107 OCT     1107
 FOURPH  DEC     4
 THREEPH DEC     3
 
-# The phase table: for each group the lists of its phases, and in a list three words a job (its priority first) or a task
-# (its delay first, minus), until +0.
+# The phase table: for each group the lists of its phases. A list has three words for a job (its priority first) or a
+# task (its delay first, minus), and ends with +0.
 
 GROUPTAB ADRES  GROUP2
         DEC     0
@@ -3618,8 +3618,8 @@ KRFLASH OCT     60
 
         SETLOC  40,2000
 
-# PREDICT flies the rest of P64 by the same law, in steps of an 80th of the time to go, and finds the greatest thrust and
-# the fuel that is left at low gate. Its state stands in the job's VAC area; it gives way after each step.
+# PREDICT flies the rest of P64 by the same law, in steps of an 80th of the time to go. It finds the greatest thrust, and
+# the fuel left at low gate. Its state stands in the job's VAC area; it gives way after each step.
 
 PRR     EQUALS  E0,0001     # the way to go
 PRZ     EQUALS  E0,0003     # altitude

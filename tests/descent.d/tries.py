@@ -153,8 +153,8 @@ def flight(seed):
     ):
         wrong.append((f"flight {seed}: {what}", right))
     line = (
-        f"{seed:4d} {height:7.0f} {way:6.0f} {forward:8.1f} {down:5.1f} {now:8.1f} {up:7.2f} {forward_then:8.2f} {tilt:6.2f}"
-        f" {miss:6.1f} {craft.mass - example.DRY:6.0f} {events:7d}  {panel['PROG']}"
+        f"{seed:4d} {height:7.0f} {way:6.0f} {forward:8.1f} {down:5.1f} {now:8.1f} {up:7.2f} {forward_then:8.2f}"
+        f" {tilt:6.2f} {miss:6.1f} {craft.mass - example.DRY:6.0f} {events:7d}  {panel['PROG']}"
     )
     return line, wrong
 
@@ -194,8 +194,8 @@ def guided(way, height, forward, up, degrees, mass, program=64):
 
 # The state; then by hand: time to go 3 way/(speed + 4), the accelerations 6/T (2 way/T - (2 + speed)) and
 # 6/T (2 (30 - height)/T - (-2 + rate)), the tilt wanted, and the thrust.
-#   154 m/s: 22500/154 = 146.10;  6/146.10 = 0.041067;  15000/146.10 = 102.667, less 152: -49.333; -4540/146.10 = -31.074,
-#   and 47: 15.926. Upward with gravity 2.2740; the tangent is -0.0902/3.0443.
+#   154 m/s: 22500/154 = 146.10;  6/146.10 = 0.041067;  15000/146.10 = 102.667, less 152: -49.333;
+#   -4540/146.10 = -31.074, and 47: 15.926. Upward with gravity 2.2740; the tangent is -0.0902/3.0443.
 #   59 m/s: 6000/59 = 101.69;  0.059000;  39.333 less 57: -17.667;  -11.210 and 18: 6.790; 2.0206; 0.1076/2.2711.
 #   9 m/s: 180/9 = 20;  0.3;  6 less 7: -1;  -4 and 4.5: 0.5;  1.7700; -0.0507/1.7945.
 ROWS = [
@@ -226,7 +226,8 @@ def try_guidance():
         near("P66: forward", -0.1667, machine.word("AX") / 1024, 0.005)
         near("P66: thrust", 20236, 4 * machine.word("FCMD"), 150)
     # half sines and cosines, to 14 digits less the polynomial's error of 0.0001
-    for degrees, sine, cosine in ((-40, -0.6428, 0.7660), (-30, -0.5, 0.8660), (-8, -0.1392, 0.9903), (2, 0.0349, 0.9994)):
+    angles = ((-40, -0.6428, 0.7660), (-30, -0.5, 0.8660), (-8, -0.1392, 0.9903), (2, 0.0349, 0.9994))
+    for degrees, sine, cosine in angles:
         with guided(2000, 600, 55, -16, degrees, 8100) as machine:
             near(f"the sine of {degrees}", sine, machine.word("SINH") / 8192, 0.0005)
             near(f"the cosine of {degrees}", cosine, machine.word("COSH") / 8192, 0.0005)
@@ -420,7 +421,8 @@ def try_flight_keys():
                     seen[when] = machine.shown().split(), craft.up, craft.forward
         end = machine.shown()
     judge("the program's display", ["64", "06", "64"], seen[19.5][0][:3])
-    judge("the crew's monitor lights KEY REL", ["64", "16", "68", "off", "KEY", "REL"], seen[25.0][0][:3] + seen[25.0][0][6:])
+    held = seen[25.0][0]
+    judge("the crew's monitor lights KEY REL", ["64", "16", "68", "off", "KEY", "REL"], held[:3] + held[6:])
     judge("KEY REL gives the display back", ["64", "06", "64", "off"], seen[32.5][0][:3] + seen[32.5][0][6:])
     judge("P66 by keys", "66", seen[142.0][0][0])
     near("the rate that noun 66 commands", -2.0, seen[150.0][1], 0.15)
@@ -469,6 +471,11 @@ def try_wrong_keys(typing):
 
 
 # alarms
+
+
+def landed(touched):
+    """Whether a craft touched the ground slowly and upright."""
+    return touched is not None and -1.5 < touched[0] <= 0 and abs(touched[1]) < 0.6 and abs(touched[2]) < 3
 
 
 def alarm_flight(which):
@@ -550,7 +557,7 @@ def alarmed(seed):
 def try_alarms(flights):
     for seed, program, code, touched in flights.get():
         judge(f"alarm {seed}", ("68", 0o1202), (program, code))
-        judge(f"alarm {seed}: it lands", True, touched and touched[0] > -1.5 and abs(touched[1]) < 0.6 and abs(touched[2]) < 3)
+        judge(f"alarm {seed}: it lands", True, landed(touched))
 
 
 def try_1202(flights):
@@ -558,11 +565,11 @@ def try_1202(flights):
     judge("before: noun 68 by verb 16", "64 16 68", seen[59.0][:8])
     judge("PROG lights within 3 seconds", True, lit is not None and 60 < lit < 63)
     judge("one restart", 1, restarts)
-    judge("V05N09", "64 05 09 _01202 _00000 _01202 off PROG", seen[69.0].replace(" KEY REL", "").replace("PROG KEY", "PROG"))
+    judge("V05N09", "64 05 09 _01202 _00000 _01202 off PROG", seen[69.0].replace(" KEY REL", ""))
     judge("RSET", False, "PROG" in seen[71.5].split())
     judge("KEY REL: guidance goes on", "64 06 64", seen[74.0][:8])
     judge("the codes after RSET", [0, 0, 0o1202], codes)
-    judge("it lands", True, touched is not None and touched[0] > -1.5 and abs(touched[1]) < 0.6 and abs(touched[2]) < 3)
+    judge("it lands", True, landed(touched))
     judge("in P68", "68", end[:2])
     log = ran(agc, example.ROPE, script, "--limit", str(cycle)).stdout.splitlines()
     judge("agc comes to the same end", "PROG 68", log[0])
@@ -592,7 +599,8 @@ def try_1201():
         judge("1201", [0o1201, 0, 0o1201], [machine.word("FAILREG", n) for n in range(3)])
         judge("1201: one restart", 1, machine.word("REDOCTR"))
         machine.seconds(2)
-        judge("1201: PROG lights, and guidance goes on", "64 06 64 off PROG", " ".join(machine.shown().split()[i] for i in (0, 1, 2, 6, 7)))
+        shown = machine.shown().split()
+        judge("1201: PROG lights, and guidance goes on", "64 06 64 off PROG", " ".join(shown[:3] + shown[6:]))
         judge("1201: a VAC area is free again", True, machine.word("VAC5USE") > 0)
         words = machine.count_of_writes()
         machine.seconds(2)
@@ -604,7 +612,8 @@ def try_1201():
         for area in range(1, 6):
             machine.put(f"VAC{area}USE", 0)
         machine.seconds(0.6)
-        judge("a phase at fault leads to a fresh start", ("00", 0o1107), (machine.panel()["PROG"], machine.word("FAILREG", 2)))
+        came = machine.panel()["PROG"], machine.word("FAILREG", 2)
+        judge("a phase at fault leads to a fresh start", ("00", 0o1107), came)
 
 
 # the rope
@@ -667,7 +676,8 @@ def try_hour(running):
     near("T4RUPT", 50 * seconds, found["interrupt", "T4RUPT"][0], 3)
     near("T5RUPT", 10 * seconds, found["interrupt", "T5RUPT"][0], 3)
     lines = traced.stdout.splitlines()
-    judge("services begin and end", True, abs(sum("interrupt" in x for x in lines) - sum("RESUME" in x for x in lines)) <= 1)
+    begun, ended = (sum(word in line for line in lines) for word in ("interrupt", "RESUME"))
+    judge("services begin and end", True, abs(begun - ended) <= 1)
     judge("interrupts still come", True, len(lines) > 100)
     judge("no service fails to end", "", traced.stderr if "has not ended" in traced.stderr and len(lines) < 100 else "")
 
@@ -744,4 +754,5 @@ def main():
     sys.exit(failed > 0)
 
 
-main()
+if __name__ == "__main__":
+    main()
