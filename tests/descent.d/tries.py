@@ -679,7 +679,8 @@ def try_hour(running):
     begun, ended = (sum(word in line for line in lines) for word in ("interrupt", "RESUME"))
     judge("services begin and end", True, abs(begun - ended) <= 1)
     judge("interrupts still come", True, len(lines) > 100)
-    judge("no service fails to end", "", traced.stderr if "has not ended" in traced.stderr and len(lines) < 100 else "")
+    # the last steps of TIME4 and TIME5 are due 213 and 427 cycles before the end of the hour, and their services are short
+    judge("no service fails to end", False, "has not ended" in traced.stderr)
 
 
 def flown(_):
