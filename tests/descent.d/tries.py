@@ -507,14 +507,11 @@ def read(name):
 
 def profile(*words):
     """The lines of agc-study profile, by kind and name: times and cycles."""
-    for name in ("profile", "count"):
-        done = ran(study, name, *words, "--csv")
-        if done.returncode == 0:
-            found = {}
-            for kind, name, order, times, cycles, _ in list(csv.reader(io.StringIO(done.stdout)))[1:]:
-                found[kind, name] = int(times), int(cycles), order
-            return found
-    return {}
+    done = ran(study, "profile", *words, "--csv")
+    if done.returncode != 0:
+        return {}
+    rows = list(csv.reader(io.StringIO(done.stdout)))[1:]
+    return {(kind, name): (int(times), int(cycles), order) for kind, name, order, times, cycles, _ in rows}
 
 
 def sets_in_use(script, begin, end):
