@@ -20,8 +20,8 @@ use Rattle.agc_repl.specs.Answer.{error_line}
 use Rattle.agc_repl.specs.Answered.{Answer, GoesNotBack, Grows, IsLeft, Request, RunsOut, Tells, answer_to, answered, cycles_on, done, ended, given_answer, last_line, refusal_text, refused_by, shown_until, shown_stretch}
 use Rattle.agc_repl.specs.Queries.{shown_text}
 use Rattle.agc_repl.specs.Repl.{GoesOn, after_boundaries, after_due, gone_back, takes_event}
-use Rattle.agc_repl.specs.Stretch.{sought_in, stretch_to}
-use Rattle.agc_repl.specs.declared.stop_at.Stop_.TheVariants as stop_
+use Rattle.agc_repl.specs.Stretch.{armed_in, stretch_to}
+use Rattle.agc_repl.specs.declared.armed_breakpoint.ArmedBreakpoint.TheVariants as armed
 use Rattle.agc_repl.specs.declared.conversation.ReplFault.{ReplFault}
 use Rattle.agc_repl.specs.declared.repl.Repl.{Repl}
 use Rattle.agc_repl.proofs.Going.{stays_put}
@@ -99,11 +99,11 @@ ran_out names request s t a b c left h k =
 
 -- what each command does
 pub done_go : (names : Option (List Symbol)) (c : Command) (cycles end : ℕ) (s : Repl) → c ≡ command.Go cycles → end ≡ cycles_on cycles s
-    → done names c s ≡ shown_stretch (stretch_to stop_.Nothing end s.session.now) s
+    → done names c s ≡ shown_stretch (stretch_to armed.Nothing end s.session.now) s
 unfolding done
 done_go names c cycles end s e f = rw f (ap (λ (x : Command). done names x s) e)
 
-pub done_to : (names : Option (List Symbol)) (c : Command) (cycle : ℕ) (s : Repl) → c ≡ command.GoTo cycle → done names c s ≡ shown_stretch (stretch_to stop_.Nothing cycle s.session.now) s
+pub done_to : (names : Option (List Symbol)) (c : Command) (cycle : ℕ) (s : Repl) → c ≡ command.GoTo cycle → done names c s ≡ shown_stretch (stretch_to armed.Nothing cycle s.session.now) s
 unfolding done
 done_to names c cycle s e = ap (λ (x : Command). done names x s) e
 
@@ -113,7 +113,7 @@ unfolding done
 done_step names c boundaries s e = ap (λ (x : Command). done names x s) e
 
 pub done_until : (names : Option (List Symbol)) (c : Command) (what : Breakpoint) (within : ℕ) (s : Repl) → c ≡ command.Until what within
-    → done names c s ≡ shown_until (stretch_to (sought_in s.session.now what) (cycles_on within s) s.session.now) s
+    → done names c s ≡ shown_until (stretch_to (armed_in s.session.now what) (cycles_on within s) s.session.now) s
 unfolding done
 done_until names c what within s e = ap (λ (x : Command). done names x s) e
 

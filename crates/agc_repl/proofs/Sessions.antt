@@ -2,7 +2,7 @@
 use Rattle.std.specs.Prelude.{◌≡◌, ◌⊎◌, ℕ, List, [], ◌∷◌, ◌++◌, Option, None, Some, Result, Ok, IfOk, IfSome, codes}
 use Rattle.std.specs.Io.KnownBytes.{Appends, Keeps}
 use Rattle.std.proofs.Common.{refl, ap, sym, subst, ◌∙◌, append-nil, append_assoc, inl, inr}
-use Rattle.std.proofs.KnownBytes.{Appends-retained, Appends-trans, Keeps-refl}
+use Rattle.std.proofs.KnownBytes.{Appends-kept, Appends-trans, Keeps-refl}
 use Rattle.agc_repl.specs.Answered.{Grows, IsAnswered, Request, RunsOut, Tells, answer_to}
 use Rattle.agc_repl.specs.Input.{ReadsRequest}
 use Rattle.agc_repl.specs.Transcript.{AreAnswered, RanOut, requests_in, session_text}
@@ -21,9 +21,9 @@ nothing_answered names None left s old e = tt
 nothing_answered names (Some input) left s old e = (input, e, λ end h. h)
 
 pub still_answered : (names : Option (List Symbol)) (request : Request) (s t : Repl) (old mid new : Option (List ℕ)) → IsAnswered names request s t old mid → Keeps mid new → IsAnswered names request s t old new
-still_answered names request s t old mid new (inl h) k = inl (h.0, Appends-retained old mid new (answer_to names request s).1 h.1 k)
+still_answered names request s t old mid new (inl h) k = inl (h.0, Appends-kept old mid new (answer_to names request s).1 h.1 k)
 still_answered names request s t old mid new (inr h) k =
-    inr (record { left = h.left; said = h.said; ends = Appends-retained old mid new _ h.ends k })
+    inr (record { left = h.left; said = h.said; ends = Appends-kept old mid new _ h.ends k })
 
 first_answered : (names : Option (List Symbol)) (request : Request) (requests : List Request) (s t : Repl) (old mid new : Option (List ℕ)) → IsAnswered names request s t old mid
     → AreAnswered names requests t mid new → AreAnswered names (request ∷ requests) s old new

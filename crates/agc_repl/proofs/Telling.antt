@@ -2,7 +2,7 @@
 use Rattle.std.specs.Prelude.{◌≡◌, ℕ, List, [], ◌∷◌, ◌++◌, Option, None, Some, Result, Ok, Err, OnOk, OnErr, IsErrOf}
 use Rattle.std.specs.Io.KnownBytes.{Appends, Keeps, append_known}
 use Rattle.std.proofs.Common.{refl, ap, sym, subst, append-nil}
-use Rattle.std.proofs.KnownBytes.{Appends-retained, Appends-nil, Appends-trans, Keeps-refl, append_known-grown}
+use Rattle.std.proofs.KnownBytes.{Appends-kept, Appends-nil, Appends-trans, Keeps-refl, append_known-grown}
 use Rattle.agc_word.specs.declared.channel_write.ChannelWrite.{ChannelWrite}
 use Rattle.agc_machine.specs.Replay.{writes_in}
 use Rattle.agc_machine.specs.declared.answer.Stepped.{Stepped}
@@ -17,7 +17,7 @@ use Rattle.agc_repl.specs.declared.conversation.ReplFault.TheVariants as fault
 pub pushed : (o p : Option (List ℕ)) (old mid new line : List ℕ) → mid ≡ old ++ line → Keeps (append_known o mid) (append_known p new)
     → Appends (append_known o old) (append_known p new) line
 pushed o p old mid new line e retained =
-    Appends-retained (append_known o old) (append_known o mid) (append_known p new) line
+    Appends-kept (append_known o old) (append_known o mid) (append_known p new) line
     (append_known-grown (append_known o old) o old mid line (Keeps-refl (append_known o old)) e) retained
 
 -- a line is added to the text that waits
@@ -51,7 +51,7 @@ pub all_written : (a b c : Option (List ℕ)) (none text shown said : List ℕ) 
 all_written a b c none text shown said e f h w =
     let same : append_known a none ≡ a = rw e (unchanged a) in
     let whole : Keeps (append_known b text) c = written_now b c text (rw f at w) in
-    subst (λ (old : Option (List ℕ)). Appends old c said) same (Appends-retained (append_known a none) (append_known b text) c said h whole)
+    subst (λ (old : Option (List ℕ)). Appends old c said) same (Appends-kept (append_known a none) (append_known b text) c said h whole)
 
 -- the writes of a boundary, as lines
 pub one_written : (answer : Stepped) (write : ChannelWrite) → answer ≡ stepped.Wrote write → writes_text (writes_in (answer ∷ [])) ≡ write_line write

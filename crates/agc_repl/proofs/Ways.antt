@@ -20,8 +20,8 @@ use Rattle.agc_trace.proofs.Lines.{IsWritten, nothing_written, written_more, wri
 use Rattle.agc_repl.specs.Answer.{write_line}
 use Rattle.agc_repl.specs.Repl.{after_stretch, at_start, rewound, gone_back, gone_on, turns_left}
 use Rattle.agc_repl.specs.Stretch.{Stretch, and_on, has_come, is_short_of, no_way, stretch_to, way_within, writes_text}
-use Rattle.agc_repl.specs.declared.stop_at.Stop_.{Stop_}
-use Rattle.agc_repl.specs.declared.stop_at.Stop_.TheVariants as stop_
+use Rattle.agc_repl.specs.declared.armed_breakpoint.ArmedBreakpoint.{ArmedBreakpoint}
+use Rattle.agc_repl.specs.declared.armed_breakpoint.ArmedBreakpoint.TheVariants as armed
 use Rattle.agc_repl.specs.declared.repl.Repl.{Repl}
 use Rattle.agc_repl.proofs.Going.{advances_by_boundary, gone_nowhere, gone_then, no_more, on_the_way, same_repl, under_way, unstopped}
 
@@ -51,7 +51,7 @@ fewer_turns : (cycle : ℕ) (s : State) → is_short_of cycle s ≡ true → tur
 fewer_turns cycle s b = advances_by_boundary s (boundary None s).0 (boundary None s).1 refl (under_way cycle s b).1
 
 -- with enough boundaries, more make no difference
-same_way : (n m : ℕ) (k : Stop_) (cycle : ℕ) (s : State) → turns_left s ≤ n → turns_left s ≤ m → way_within n k cycle s ≡ way_within m k cycle s
+same_way : (n m : ℕ) (k : ArmedBreakpoint) (cycle : ℕ) (s : State) → turns_left s ≤ n → turns_left s ≤ m → way_within n k cycle s ≡ way_within m k cycle s
 unfolding way_within
 same_way zero zero k cycle s h i = refl
 same_way zero (suc m) k cycle s h i = sym (if_never (is_short_of cycle s) _ (no_way s) (no_turn_left cycle s (omega (arith, h))))
@@ -61,7 +61,7 @@ same_way (suc n) (suc m) k cycle s h i =
     (λ b. ap (and_on k (boundary None s))
     (same_way n m k cycle (boundary None s).0 (omega (arith, h, fewer_turns cycle s b)) (omega (arith, i, fewer_turns cycle s b))))
 
-by_boundary : (k : Stop_) (cycle : ℕ) (s : State)
+by_boundary : (k : ArmedBreakpoint) (cycle : ℕ) (s : State)
     → stretch_to k cycle s ≡ (if is_short_of cycle s then and_on k (boundary None s) (stretch_to k cycle (boundary None s).0) else no_way s)
 unfolding stretch_to way_within
 by_boundary k cycle s =
@@ -72,51 +72,51 @@ by_boundary k cycle s =
     (λ b. ap (and_on k (boundary None s))
     (same_way (boundaries_left s) (boundaries_left next) k cycle next (omega (arith, some, fewer_turns cycle s b)) (no_more next.stopped (boundaries_left next))))
 
-pub way_on : (k : Stop_) (cycle : ℕ) (s t : State) (answer : Stepped) → is_short_of cycle s ≡ true → (t, answer) ≡ boundary None s
+pub way_on : (k : ArmedBreakpoint) (cycle : ℕ) (s t : State) (answer : Stepped) → is_short_of cycle s ≡ true → (t, answer) ≡ boundary None s
     → stretch_to k cycle s ≡ and_on k (t, answer) (stretch_to k cycle t)
 way_on k cycle s t answer b e =
     by_boundary k cycle s ∙ if_true (is_short_of cycle s) _ _ b ∙ ap (λ (r : State × Stepped). and_on k r (stretch_to k cycle r.0)) (sym e)
 
-pub way_ends : (k : Stop_) (cycle : ℕ) (s : State) → is_short_of cycle s ≡ false → stretch_to k cycle s ≡ no_way s
+pub way_ends : (k : ArmedBreakpoint) (cycle : ℕ) (s : State) → is_short_of cycle s ≡ false → stretch_to k cycle s ≡ no_way s
 way_ends k cycle s b = by_boundary k cycle s ∙ if_false (is_short_of cycle s) _ _ b
 
 -- a target that only a write can hit
-abbrev ComesByWrites : Stop_ → Type 0
+abbrev ComesByWrites : ArmedBreakpoint → Type 0
 ComesByWrites k = (s : State) → (has_come k s stepped.Quiet ≡ false) × ((why : Stop) → has_come k s (stepped.Stopped why) ≡ false)
 
-nothing_comes : ComesByWrites stop_.Nothing
+nothing_comes : ComesByWrites armed.Nothing
 unfolding has_come
 nothing_comes s = (refl, λ why. refl)
 
-pub never_comes : (s : State) (answer : Stepped) → has_come stop_.Nothing s answer ≡ false
+pub never_comes : (s : State) (answer : Stepped) → has_come armed.Nothing s answer ≡ false
 unfolding has_come
 never_comes s answer = refl
 
-writes_come : (channel : ℕ) → ComesByWrites (stop_.Write channel)
+writes_come : (channel : ℕ) → ComesByWrites (armed.Write channel)
 unfolding has_come
 writes_come channel s = (refl, λ why. refl)
 
-quiet_on : (k : Stop_) (s : State) (stretch : Stretch) → has_come k s stepped.Quiet ≡ false → and_on k (s, stepped.Quiet) stretch ≡ stretch
+quiet_on : (k : ArmedBreakpoint) (s : State) (stretch : Stretch) → has_come k s stepped.Quiet ≡ false → and_on k (s, stepped.Quiet) stretch ≡ stretch
 unfolding writes_in
 quiet_on k s stretch e = if_false (has_come k s stepped.Quiet) _ stretch e
 
-stop_on : (k : Stop_) (s : State) (why : Stop) (stretch : Stretch) → has_come k s (stepped.Stopped why) ≡ false → and_on k (s, stepped.Stopped why) stretch ≡ stretch
+stop_on : (k : ArmedBreakpoint) (s : State) (why : Stop) (stretch : Stretch) → has_come k s (stepped.Stopped why) ≡ false → and_on k (s, stepped.Stopped why) stretch ≡ stretch
 unfolding writes_in
 stop_on k s why stretch e = if_false (has_come k s (stepped.Stopped why)) _ stretch e
 
-one_by : (k : Stop_) (cycle : ℕ) (s : State) (stopped : Option Stop) → ComesByWrites k → s.cycle < cycle → s.stopped ≡ stopped
+one_by : (k : ArmedBreakpoint) (cycle : ℕ) (s : State) (stopped : Option Stop) → ComesByWrites k → s.cycle < cycle → s.stopped ≡ stopped
     → stretch_to k cycle s ≡ and_on k (boundary None s) (stretch_to k cycle (boundary None s).0)
 one_by k cycle s None c h e = way_on k cycle s (boundary None s).0 (boundary None s).1 (on_the_way cycle s h e) refl
 one_by k cycle s (Some why) c h e =
     sym (ap (λ (r : State × Stepped). and_on k r (stretch_to k cycle r.0)) (stopped_stays s why e) ∙ stop_on k s why (stretch_to k cycle s) ((c s).1 why))
 
 -- before the cycle a boundary is a part of the stretch, even if the machine has stopped
-one_on : (k : Stop_) (cycle : ℕ) (s : State) (r : State × Stepped) → ComesByWrites k → s.cycle < cycle → boundary None s ≡ r
+one_on : (k : ArmedBreakpoint) (cycle : ℕ) (s : State) (r : State × Stepped) → ComesByWrites k → s.cycle < cycle → boundary None s ≡ r
     → stretch_to k cycle s ≡ and_on k r (stretch_to k cycle r.0)
 one_on k cycle s r c h e =
     one_by k cycle s s.stopped c h refl ∙ ap (λ (x : State × Stepped). and_on k x (stretch_to k cycle x.0)) e
 
-stretch_by : (k : Stop_) (cycle : ℕ) (go : State → State × Stepped) (s : State) (r : State × Stepped) → ComesByWrites k → s.cycle < cycle → boundary None s ≡ r
+stretch_by : (k : ArmedBreakpoint) (cycle : ℕ) (go : State → State × Stepped) (s : State) (r : State × Stepped) → ComesByWrites k → s.cycle < cycle → boundary None s ≡ r
     → ((t : State) → t.cycle < cycle → stretch_to k cycle t ≡ and_on k (go t) (stretch_to k cycle (go t).0))
     → stretch_to k cycle s ≡ and_on k (while_quiet_before cycle go r) (stretch_to k cycle (while_quiet_before cycle go r).0)
 stretch_by k cycle go s (t, stepped.Quiet) c h e f =
@@ -127,58 +127,58 @@ stretch_by k cycle go s (t, stepped.Quiet) c h e f =
 stretch_by k cycle go s (t, stepped.Wrote write) c h e f = one_on k cycle s (t, stepped.Wrote write) c h e
 stretch_by k cycle go s (t, stepped.Stopped why) c h e f = one_on k cycle s (t, stepped.Stopped why) c h e
 
-stretch_within : (n : ℕ) (k : Stop_) (cycle : ℕ) (s : State) → ComesByWrites k → s.cycle < cycle
+stretch_within : (n : ℕ) (k : ArmedBreakpoint) (cycle : ℕ) (s : State) → ComesByWrites k → s.cycle < cycle
     → stretch_to k cycle s ≡ and_on k (next_before_within n cycle s) (stretch_to k cycle (next_before_within n cycle s).0)
 unfolding next_before_within
 stretch_within zero k cycle s c h = sym (quiet_on k s (stretch_to k cycle s) (c s).0)
 stretch_within (suc n) k cycle s c h = stretch_by k cycle (next_before_within n cycle) s (boundary None s) c h refl (λ t l. stretch_within n k cycle t c l)
 
-stretch : (k : Stop_) (cycle : ℕ) (s t : State) (answer : Stepped) → ComesByWrites k → is_short_of cycle s ≡ true → (t, answer) ≡ next_before cycle s
+stretch : (k : ArmedBreakpoint) (cycle : ℕ) (s t : State) (answer : Stepped) → ComesByWrites k → is_short_of cycle s ≡ true → (t, answer) ≡ next_before cycle s
     → stretch_to k cycle s ≡ and_on k (t, answer) (stretch_to k cycle t)
 unfolding next_before
 stretch k cycle s t answer c b e =
     stretch_within (boundaries_left s) k cycle s c (under_way cycle s b).0 ∙ ap (λ (r : State × Stepped). and_on k r (stretch_to k cycle r.0)) (sym e)
 
 pub stretch_to_cycle : (cycle : ℕ) (s t : State) (answer : Stepped) → is_short_of cycle s ≡ true → (t, answer) ≡ next_before cycle s
-    → stretch_to stop_.Nothing cycle s ≡ and_on stop_.Nothing (t, answer) (stretch_to stop_.Nothing cycle t)
-stretch_to_cycle cycle s t answer b e = stretch stop_.Nothing cycle s t answer nothing_comes b e
+    → stretch_to armed.Nothing cycle s ≡ and_on armed.Nothing (t, answer) (stretch_to armed.Nothing cycle t)
+stretch_to_cycle cycle s t answer b e = stretch armed.Nothing cycle s t answer nothing_comes b e
 
 pub stretch_to_write : (channel cycle : ℕ) (s t : State) (answer : Stepped) → is_short_of cycle s ≡ true → (t, answer) ≡ next_before cycle s
-    → stretch_to (stop_.Write channel) cycle s ≡ and_on (stop_.Write channel) (t, answer) (stretch_to (stop_.Write channel) cycle t)
-stretch_to_write channel cycle s t answer b e = stretch (stop_.Write channel) cycle s t answer (writes_come channel) b e
+    → stretch_to (armed.Write channel) cycle s ≡ and_on (armed.Write channel) (t, answer) (stretch_to (armed.Write channel) cycle t)
+stretch_to_write channel cycle s t answer b e = stretch (armed.Write channel) cycle s t answer (writes_come channel) b e
 
 -- At any point of a stretch, its rest leads to the same state as all of it.
-pub record Follows (k : Stop_) (cycle : ℕ) (s t : Repl) : Type 0 where
+pub record Follows (k : ArmedBreakpoint) (cycle : ℕ) (s t : Repl) : Type 0 where
   pub left : after_stretch (stretch_to k cycle t.session.now) t ≡ after_stretch (stretch_to k cycle s.session.now) s
   pub hit : (stretch_to k cycle t.session.now).hit ≡ (stretch_to k cycle s.session.now).hit
 
 -- and what remains to print of it
-abbrev pub Says : Stop_ → ℕ → Repl → Repl → Option (List ℕ) → Option (List ℕ) → Type 0
+abbrev pub Says : ArmedBreakpoint → ℕ → Repl → Repl → Option (List ℕ) → Option (List ℕ) → Type 0
 Says k cycle s t old new =
     IsWritten old new (writes_text (stretch_to k cycle t.session.now).writes) (writes_text (stretch_to k cycle s.session.now).writes)
 
-pub follows : (k : Stop_) (cycle : ℕ) (s : Repl) → Follows k cycle s s
+pub follows : (k : ArmedBreakpoint) (cycle : ℕ) (s : Repl) → Follows k cycle s s
 follows k cycle s = record { left = refl; hit = refl }
 
-pub nothing_said : (k : Stop_) (cycle : ℕ) (s : Repl) (known : Option (List ℕ)) → Says k cycle s s known known
+pub nothing_said : (k : ArmedBreakpoint) (cycle : ℕ) (s : Repl) (known : Option (List ℕ)) → Says k cycle s s known known
 nothing_said k cycle s known = nothing_written known (writes_text (stretch_to k cycle s.session.now).writes)
 
 -- the stretch with its first answer
-abbrev pub Onward : Stop_ → ℕ → Repl → Repl → Stepped → Type 0
+abbrev pub Onward : ArmedBreakpoint → ℕ → Repl → Repl → Stepped → Type 0
 Onward k cycle t u answer =
     (stretch_to k cycle t.session.now ≡ and_on k (u.session.now, answer) (stretch_to k cycle u.session.now))
     × (u ≡ gone_on u.session.now (writes_in (answer ∷ [])) t)
 
-way_then : (k : Stop_) (cycle : ℕ) (t u : Repl) (answer : Stepped) → Onward k cycle t u answer → has_come k u.session.now answer ≡ false
+way_then : (k : ArmedBreakpoint) (cycle : ℕ) (t u : Repl) (answer : Stepped) → Onward k cycle t u answer → has_come k u.session.now answer ≡ false
     → stretch_to k cycle t.session.now
     ≡ record { last = (stretch_to k cycle u.session.now).last; writes = written answer ++ (stretch_to k cycle u.session.now).writes; hit = (stretch_to k cycle u.session.now).hit }
 way_then k cycle t u answer h e = h.0 ∙ if_false (has_come k u.session.now answer) _ _ e
 
-way_there : (k : Stop_) (cycle : ℕ) (t u : Repl) (answer : Stepped) → Onward k cycle t u answer → has_come k u.session.now answer ≡ true
+way_there : (k : ArmedBreakpoint) (cycle : ℕ) (t u : Repl) (answer : Stepped) → Onward k cycle t u answer → has_come k u.session.now answer ≡ true
     → stretch_to k cycle t.session.now ≡ record { last = u.session.now; writes = written answer; hit = true }
 way_there k cycle t u answer h e = h.0 ∙ if_true (has_come k u.session.now answer) _ _ e
 
-pub follows_on : (k : Stop_) (cycle : ℕ) (s t u : Repl) (answer : Stepped) → Follows k cycle s t → Onward k cycle t u answer
+pub follows_on : (k : ArmedBreakpoint) (cycle : ℕ) (s t u : Repl) (answer : Stepped) → Follows k cycle s t → Onward k cycle t u answer
     → has_come k u.session.now answer ≡ false → Follows k cycle s u
 follows_on k cycle s t u answer f h e =
     let rest = stretch_to k cycle u.session.now in
@@ -191,7 +191,7 @@ follows_on k cycle s t u answer f h e =
       hit = ap (λ (w : Stretch). w.hit) (sym stretch) ∙ f.hit;
     }
 
-pub says_on : (k : Stop_) (cycle : ℕ) (s t u : Repl) (answer : Stepped) (old mid new : Option (List ℕ)) → Says k cycle s t old mid → Onward k cycle t u answer
+pub says_on : (k : ArmedBreakpoint) (cycle : ℕ) (s t u : Repl) (answer : Stepped) (old mid new : Option (List ℕ)) → Says k cycle s t old mid → Onward k cycle t u answer
     → has_come k u.session.now answer ≡ false → Appends mid new (writes_text (written answer)) → Says k cycle s u old new
 says_on k cycle s t u answer old mid new f h e said =
     let rest = (stretch_to k cycle u.session.now).writes in
@@ -202,16 +202,16 @@ says_on k cycle s t u answer old mid new f h e said =
     (subst (λ (left : List ℕ). IsWritten old mid left (writes_text (stretch_to k cycle s.session.now).writes)) text f) said
 
 -- the target was hit
-pub followed_there : (k : Stop_) (cycle : ℕ) (s t u : Repl) (answer : Stepped) → Follows k cycle s t → Onward k cycle t u answer
+pub followed_there : (k : ArmedBreakpoint) (cycle : ℕ) (s t u : Repl) (answer : Stepped) → Follows k cycle s t → Onward k cycle t u answer
     → has_come k u.session.now answer ≡ true → u ≡ after_stretch (stretch_to k cycle s.session.now) s
 followed_there k cycle s t u answer f h e =
     h.1 ∙ ap (λ (w : Stretch). after_stretch w t) (sym (way_there k cycle t u answer h e)) ∙ f.left
 
-pub came_there : (k : Stop_) (cycle : ℕ) (s t u : Repl) (answer : Stepped) → Follows k cycle s t → Onward k cycle t u answer
+pub came_there : (k : ArmedBreakpoint) (cycle : ℕ) (s t u : Repl) (answer : Stepped) → Follows k cycle s t → Onward k cycle t u answer
     → has_come k u.session.now answer ≡ true → true ≡ (stretch_to k cycle s.session.now).hit
 came_there k cycle s t u answer f h e = ap (λ (w : Stretch). w.hit) (sym (way_there k cycle t u answer h e)) ∙ f.hit
 
-pub said_there : (k : Stop_) (cycle : ℕ) (s t u : Repl) (answer : Stepped) (old mid new : Option (List ℕ)) → Says k cycle s t old mid → Onward k cycle t u answer
+pub said_there : (k : ArmedBreakpoint) (cycle : ℕ) (s t u : Repl) (answer : Stepped) (old mid new : Option (List ℕ)) → Says k cycle s t old mid → Onward k cycle t u answer
     → has_come k u.session.now answer ≡ true → Appends mid new (writes_text (written answer)) → Appends old new (writes_text (stretch_to k cycle s.session.now).writes)
 said_there k cycle s t u answer old mid new f h e said =
     let last : writes_text (written answer) ≡ writes_text (stretch_to k cycle t.session.now).writes =
@@ -219,16 +219,16 @@ said_there k cycle s t u answer old mid new f h e said =
     subst (Appends old new) (ap (λ (more : List ℕ). f.0 ++ more) last ∙ f.2) (Appends-trans old mid new f.0 (writes_text (written answer)) f.1 said)
 
 -- the cycle is reached, or the machine has stopped
-pub followed_up : (k : Stop_) (cycle : ℕ) (s t : Repl) → Follows k cycle s t → is_short_of cycle t.session.now ≡ false
+pub followed_up : (k : ArmedBreakpoint) (cycle : ℕ) (s t : Repl) → Follows k cycle s t → is_short_of cycle t.session.now ≡ false
     → t ≡ after_stretch (stretch_to k cycle s.session.now) s
 followed_up k cycle s t f e =
     sym (gone_nowhere t) ∙ ap (λ (w : Stretch). after_stretch w t) (sym (way_ends k cycle t.session.now e)) ∙ f.left
 
-pub came_not : (k : Stop_) (cycle : ℕ) (s t : Repl) → Follows k cycle s t → is_short_of cycle t.session.now ≡ false
+pub came_not : (k : ArmedBreakpoint) (cycle : ℕ) (s t : Repl) → Follows k cycle s t → is_short_of cycle t.session.now ≡ false
     → false ≡ (stretch_to k cycle s.session.now).hit
 came_not k cycle s t f e = ap (λ (w : Stretch). w.hit) (sym (way_ends k cycle t.session.now e)) ∙ f.hit
 
-pub said_all : (k : Stop_) (cycle : ℕ) (s t : Repl) (old new : Option (List ℕ)) → Says k cycle s t old new → is_short_of cycle t.session.now ≡ false
+pub said_all : (k : ArmedBreakpoint) (cycle : ℕ) (s t : Repl) (old new : Option (List ℕ)) → Says k cycle s t old new → is_short_of cycle t.session.now ≡ false
     → Appends old new (writes_text (stretch_to k cycle s.session.now).writes)
 said_all k cycle s t old new f e =
     written_whole old new _ _ (ap (λ (w : Stretch). writes_text w.writes) (way_ends k cycle t.session.now e)) f
@@ -242,6 +242,6 @@ pub restart_is : (cycle : ℕ) (s t : SessionState) → t.base ≡ s.base → t.
 restart_is cycle s t a b c d e f = same_session t (rewound cycle s) a b c d e f
 
 pub back_is : (cycle : ℕ) (s start u : Repl) (t : SessionState) → t ≡ rewound cycle s.session → start ≡ at_start t
-    → u ≡ after_stretch (stretch_to stop_.Nothing cycle start.session.now) start → u ≡ gone_back cycle s
+    → u ≡ after_stretch (stretch_to armed.Nothing cycle start.session.now) start → u ≡ gone_back cycle s
 back_is cycle s start u t e f h =
-    h ∙ ap (λ (x : Repl). after_stretch (stretch_to stop_.Nothing cycle x.session.now) x) (f ∙ ap at_start e)
+    h ∙ ap (λ (x : Repl). after_stretch (stretch_to armed.Nothing cycle x.session.now) x) (f ∙ ap at_start e)

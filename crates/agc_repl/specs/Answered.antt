@@ -15,8 +15,8 @@ use Rattle.agc_trace.specs.Trace.{trace_within}
 use Rattle.agc_repl.specs.Answer.{hit_line, end_line, error_line}
 use Rattle.agc_repl.specs.Queries.{shown_text}
 use Rattle.agc_repl.specs.Repl.{GoesOn, after_boundaries, after_due, after_stretch, gone_back, takes_event}
-use Rattle.agc_repl.specs.Stretch.{Stretch, sought_in, stretch_to, writes_text}
-use Rattle.agc_repl.specs.declared.stop_at.Stop_.TheVariants as stop_
+use Rattle.agc_repl.specs.Stretch.{Stretch, armed_in, stretch_to, writes_text}
+use Rattle.agc_repl.specs.declared.armed_breakpoint.ArmedBreakpoint.TheVariants as armed
 use Rattle.agc_repl.specs.declared.repl.Repl.{Repl}
 use Rattle.agc_symbols.specs.Symbols.{Symbol}
 
@@ -46,12 +46,12 @@ shown_until stretch t = (after_stretch stretch t, writes_text stretch.writes ++ 
 -- What a command does, and what it prints before the last line of its answer: one case each. Commands without a case
 -- show something and change nothing.
 unfoldable pub done : Option (List Symbol) → Command → Repl → Answer
-done names (command.Go cycles) t = shown_stretch (stretch_to stop_.Nothing (cycles_on cycles t) t.session.now) t
-done names (command.GoTo cycle) t = shown_stretch (stretch_to stop_.Nothing cycle t.session.now) t
+done names (command.Go cycles) t = shown_stretch (stretch_to armed.Nothing (cycles_on cycles t) t.session.now) t
+done names (command.GoTo cycle) t = shown_stretch (stretch_to armed.Nothing cycle t.session.now) t
 done names (command.Step boundaries) t =
     (after_boundaries boundaries t, flat_map (line_with names) (trace_within boundaries t.session.now))
 done names (command.Until what within) t =
-    shown_until (stretch_to (sought_in t.session.now what) (cycles_on within t) t.session.now) t
+    shown_until (stretch_to (armed_in t.session.now what) (cycles_on within t) t.session.now) t
 done names (command.Back cycle) t = (gone_back cycle t, [])
 done names shown t = (t, shown_text names shown t.session t.writes)
 

@@ -14,7 +14,7 @@ use Rattle.agc_panel.specs.Face.{face_after, panel_of}
 use Rattle.agc_script.specs.Event.{most_events}
 use Rattle.agc_session.specs.Session.{SessionState, retained_before, start_with, script_before}
 use Rattle.agc_repl.specs.Stretch.{Stretch, stretch_to}
-use Rattle.agc_repl.specs.declared.stop_at.Stop_.TheVariants as stop_
+use Rattle.agc_repl.specs.declared.armed_breakpoint.ArmedBreakpoint.TheVariants as armed
 use Rattle.agc_repl.specs.declared.repl.Repl.{Repl}
 
 -- a session to which no command was given yet
@@ -88,7 +88,7 @@ rewound cycle s =
 -- and then run to the cycle
 abbrev pub gone_back : ℕ → Repl → Repl
 gone_back cycle t =
-    let s = rewound cycle t.session in after_stretch (stretch_to stop_.Nothing cycle s.now) (at_start s)
+    let s = rewound cycle t.session in after_stretch (stretch_to armed.Nothing cycle s.now) (at_start s)
 
 -- Some boundaries were taken with nothing injected.
 pub record GoesOn (s t : SessionState) : Type 0 where

@@ -20,8 +20,8 @@ use Rattle.agc_store.specs.Places.{erasable_bank_size, erasable_cells}
 use Rattle.agc_word.specs.Number.{Number, pattern_of}
 use Rattle.std.specs.Prelude.{◌/◌, ◌%◌}
 use Rattle.agc_repl.specs.Answer.{write_line}
-use Rattle.agc_repl.specs.declared.stop_at.Stop_.{Stop_}
-use Rattle.agc_repl.specs.declared.stop_at.Stop_.TheVariants as stop_
+use Rattle.agc_repl.specs.declared.armed_breakpoint.ArmedBreakpoint.{ArmedBreakpoint}
+use Rattle.agc_repl.specs.declared.armed_breakpoint.ArmedBreakpoint.TheVariants as armed
 
 abbrev pub same_location : Location → Location → Bool
 same_location (location.Fixed here) (location.Fixed there) = nat_eq here there
@@ -52,24 +52,24 @@ abbrev pub is_other_word : ℕ → Number → State → Bool
 is_other_word cell before s = not (nat_eq (pattern_of 15 (word_at cell s.processor.store)) (pattern_of 15 before))
 
 -- A boundary has hit the target, by the state that it led to and what it returned.
-unfoldable pub has_come : Stop_ → State → Stepped → Bool
-has_come stop_.Nothing s answer = false
-has_come (stop_.Write channel) s answer = is_write_to channel answer
-has_come (stop_.Order place) s answer = is_order_at place (upcoming_of s)
-has_come (stop_.Cell cell before) s answer = is_other_word cell before s
+unfoldable pub has_come : ArmedBreakpoint → State → Stepped → Bool
+has_come armed.Nothing s answer = false
+has_come (armed.Write channel) s answer = is_write_to channel answer
+has_come (armed.Order place) s answer = is_order_at place (upcoming_of s)
+has_come (armed.Cell cell before) s answer = is_other_word cell before s
 
 -- a targeted cell exists
-abbrev pub IsSoughtInRange : Stop_ → Type 0
-IsSoughtInRange (stop_.Cell cell before) = cell < erasable_cells
-IsSoughtInRange stop_.Nothing = Unit {0}
-IsSoughtInRange (stop_.Write channel) = Unit {0}
-IsSoughtInRange (stop_.Order place) = Unit {0}
+abbrev pub IsArmedInRange : ArmedBreakpoint → Type 0
+IsArmedInRange (armed.Cell cell before) = cell < erasable_cells
+IsArmedInRange armed.Nothing = Unit {0}
+IsArmedInRange (armed.Write channel) = Unit {0}
+IsArmedInRange (armed.Order place) = Unit {0}
 
 -- the target of a breakpoint that is set in this state
-abbrev pub sought_in : State → Breakpoint → Stop_
-sought_in s (target.Order place) = stop_.Order place
-sought_in s (target.Write channel) = stop_.Write channel
-sought_in s (target.Cell cell) = stop_.Cell cell (word_at cell s.processor.store)
+abbrev pub armed_in : State → Breakpoint → ArmedBreakpoint
+armed_in s (target.Order place) = armed.Order place
+armed_in s (target.Write channel) = armed.Write channel
+armed_in s (target.Cell cell) = armed.Cell cell (word_at cell s.processor.store)
 
 -- The state that a stretch ends in, its channel writes in order, and whether the target was hit.
 pub record Stretch : Type 0 where
@@ -85,23 +85,23 @@ abbrev pub is_short_of : ℕ → State → Bool
 is_short_of cycle s = nat_lt s.cycle cycle && is_none s.stopped
 
 -- a boundary, then the rest unless the boundary hit the target
-abbrev pub and_on : Stop_ → State × Stepped → Stretch → Stretch
-and_on stop_ (s, answer) rest =
-    if has_come stop_ s answer
+abbrev pub and_on : ArmedBreakpoint → State × Stepped → Stretch → Stretch
+and_on armed (s, answer) rest =
+    if has_come armed s answer
     then record { last = s; writes = writes_in (answer ∷ []); hit = true }
     else record { last = rest.last; writes = writes_in (answer ∷ []) ++ rest.writes; hit = rest.hit }
 
 -- the stretch within this many boundaries, which are enough
-unfoldable pub way_within : ℕ → Stop_ → ℕ → State → Stretch
-way_within zero stop_ cycle s = no_way s
-way_within (suc more) stop_ cycle s =
+unfoldable pub way_within : ℕ → ArmedBreakpoint → ℕ → State → Stretch
+way_within zero armed cycle s = no_way s
+way_within (suc more) armed cycle s =
     let next = boundary None s in
-    if is_short_of cycle s then and_on stop_ next (way_within more stop_ cycle next.0) else no_way s
+    if is_short_of cycle s then and_on armed next (way_within more armed cycle next.0) else no_way s
 
 -- The stretch to a cycle: boundaries with nothing injected, as long as the cycle is not reached and the machine has
 -- not stopped, up to the first that hits the target.
-unfoldable pub stretch_to : Stop_ → ℕ → State → Stretch
-stretch_to stop_ cycle s = way_within (boundaries_left s) stop_ cycle s
+unfoldable pub stretch_to : ArmedBreakpoint → ℕ → State → Stretch
+stretch_to armed cycle s = way_within (boundaries_left s) armed cycle s
 
 -- a line for each channel write
 abbrev pub writes_text : List ChannelWrite → List ℕ

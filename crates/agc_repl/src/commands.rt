@@ -11,16 +11,16 @@ ghost use Rattle.agc_trace.specs.Trace.{trace_within};
 ghost use Rattle.agc_repl.specs.Command.{IsBreakpointInRange};
 ghost use Rattle.agc_repl.specs.Answered.{Grows, Tells, refusal_text, shown_until, shown_stretch};
 ghost use Rattle.agc_repl.specs.Repl.{GoesOn, after_boundaries, after_due, after_stretch, gone_on, takes_event};
-ghost use Rattle.agc_repl.specs.Stretch.{IsSoughtInRange, sought_in, stretch_to, writes_text};
-ghost use Rattle.agc_repl.specs.declared.stop_at.Stop_.TheVariants.{Nothing};
+ghost use Rattle.agc_repl.specs.Stretch.{IsArmedInRange, armed_in, stretch_to, writes_text};
+ghost use Rattle.agc_repl.specs.declared.armed_breakpoint.ArmedBreakpoint.TheVariants.{Nothing};
 ghost use Rattle.agc_script.specs.Event.{IsWhatInRange, most_events};
 
 use crate::answer::{push_hit_line, push_write_line};
+use crate::armed_breakpoint::ArmedBreakpoint;
 use crate::command::Breakpoint;
 use crate::conversation::ReplFault;
 use crate::output::write_part;
 use crate::repl::Repl;
-use crate::stop_at::Stop_;
 use agc_machine::{Stepped, Upcoming};
 use agc_script::{MOST_EVENTS, What};
 use agc_session::InjectFault;
@@ -59,31 +59,31 @@ pub(crate) fn go_on_to<W: Write>(
     ensures on { GoesOn repl.old.session repl.new.session }
     ensures grows { (IsErrOf result ReplFault.Write → ⊥) → Grows (W.contents output.old) (W.contents output.new) }
 {
-    go_to(repl, &Stop_::Nothing, cycle, text, output)?;
+    go_to(repl, &ArmedBreakpoint::Nothing, cycle, text, output)?;
     Ok(())
 }
 
-/// Runs to `cycle`, to the stop or until `stop_` is hit, and prints each channel write. Returns whether it was hit.
+/// Runs to `cycle`, to the stop or until `armed` is hit, and prints each channel write. Returns whether it was hit.
 fn go_to<W: Write>(
     repl: &mut Repl,
-    stop_: &Stop_,
+    armed: &ArmedBreakpoint,
     cycle: u64,
     text: &mut String,
     output: &mut W,
 ) -> Result<bool, ReplFault>
-    requires { IsSoughtInRange stop_.now }
-    ensures gone { OnOk result (repl.new ≡ after_stretch (stretch_to stop_.now cycle repl.old.session.now) repl.old) }
-    ensures hit { IfOk result (λ hit. hit ≡ (stretch_to stop_.now cycle repl.old.session.now).hit) }
+    requires { IsArmedInRange armed.now }
+    ensures gone { OnOk result (repl.new ≡ after_stretch (stretch_to armed.now cycle repl.old.session.now) repl.old) }
+    ensures hit { IfOk result (λ hit. hit ≡ (stretch_to armed.now cycle repl.old.session.now).hit) }
     ensures told { OnOk result (Appends (append_known (W.contents output.old) (string_bytes text.old))
         (append_known (W.contents output.new) (string_bytes text.new))
-        (writes_text (stretch_to stop_.now cycle repl.old.session.now).writes)) }
+        (writes_text (stretch_to armed.now cycle repl.old.session.now).writes)) }
     ensures on { GoesOn repl.old.session repl.new.session }
     ensures grows { (IsErrOf result ReplFault.Write → ⊥) → Grows (W.contents output.old) (W.contents output.new) }
 {
     while repl.is_before(cycle) {
-        let stepped = stop_.advance(repl, cycle);
+        let stepped = armed.advance(repl, cycle);
         tell(&stepped, text, output)?;
-        if stop_.has_come(repl.machine(), &stepped) {
+        if armed.has_come(repl.machine(), &stepped) {
             return Ok(true);
         }
     }
@@ -165,16 +165,16 @@ pub(crate) fn until<W: Write>(
     output: &mut W,
 ) -> Result<(), ReplFault>
     requires { IsBreakpointInRange what }
-    ensures told { OnOk result (Tells (shown_until (stretch_to (sought_in repl.old.session.now what)
+    ensures told { OnOk result (Tells (shown_until (stretch_to (armed_in repl.old.session.now what)
         (min (repl.old.session.now.cycle + within) (2 ^ 64 - 1)) repl.old.session.now) repl.old) repl.new
         (append_known (W.contents output.old) (string_bytes text.old))
         (append_known (W.contents output.new) (string_bytes text.new))) }
     ensures on { GoesOn repl.old.session repl.new.session }
     ensures grows { (IsErrOf result ReplFault.Write → ⊥) → Grows (W.contents output.old) (W.contents output.new) }
 {
-    let stop_ = Stop_::new(repl.machine(), what);
+    let armed = ArmedBreakpoint::new(repl.machine(), what);
     let end = repl.cycle().saturating_add(within);
-    let hit = go_to(repl, &stop_, end, text, output)?;
+    let hit = go_to(repl, &armed, end, text, output)?;
     push_hit_line(text, hit)?;
     Ok(())
 }

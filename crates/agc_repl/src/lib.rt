@@ -2,6 +2,7 @@
 #![tactic(auto)]
 
 mod answer;
+mod armed_breakpoint;
 mod command;
 mod commands;
 mod conversation;
@@ -15,7 +16,6 @@ mod place;
 mod queries;
 mod repl;
 mod request;
-mod stop_at;
 mod words;
 
 pub use answer::{

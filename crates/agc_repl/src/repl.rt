@@ -14,7 +14,7 @@ ghost use Rattle.agc_repl.specs.Repl.{
   gone_on,
 };
 ghost use Rattle.agc_repl.specs.Stretch.{is_short_of, stretch_to};
-ghost use Rattle.agc_repl.specs.declared.stop_at.Stop_.TheVariants.{Nothing};
+ghost use Rattle.agc_repl.specs.declared.armed_breakpoint.ArmedBreakpoint.TheVariants.{Nothing};
 
 use agc_machine::{Machine, Stepped, Stop};
 use agc_session::Session;

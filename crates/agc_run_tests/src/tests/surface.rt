@@ -1,4 +1,6 @@
 //! The public surface: each promised call, imported from the crate that promises it and called once.
+ghost use Rattle.std.specs.Prelude.{◌≡◌};
+
 use super::{Host, machine_of, rope_of, script_of};
 use agc_machine::{ChannelWrite, LimitFault, Machine, Next, Refused, Stepped, Stop};
 use agc_panel::{Panel, Table, WatchFault, WatchSpec, watch};
@@ -75,8 +77,10 @@ fn scripts(rt: HostRuntime) {
 
 #[test]
 fn machines(rt: HostRuntime) {
-    let refused: Option<Refused> = Machine::new(rope_of(&rt, IDLE), script_of(&rt, b""), 0).err();
-    assert!(rt; matches!(refused, Some(refused) if refused.fault == LimitFault::Zero));
+    let fault = Machine::new(rope_of(&rt, IDLE), script_of(&rt, b""), 0)
+        .err()
+        .map(|refused: Refused| refused.fault);
+    assert!(rt; fault == Some(LimitFault::Zero));
     let mut machine = machine_of(&rt, IDLE, script_of(&rt, b""), 10).until(2, address(&rt, 0o7777));
     assert!(rt; machine.fresh() && machine.wants_key() && machine.cycle() == 0);
     assert!(rt; machine.step(None) == Stepped::Quiet);

@@ -13,10 +13,10 @@ loop-repl-init g c = (follows _ _ _, nothing_said _ _ c.args.repl.now _, stays_p
 pub loop-repl-preserved : goal.loop-repl-preserved
 loop-repl-preserved g c =
     let so_far = c.loop-repl.invariant in
-    let onward : Onward c.args.stop_.now c.args.cycle c.loop-repl.repl c.advance-stepped.new.repl c.advance-stepped.result =
+    let onward : Onward c.args.armed.now c.args.cycle c.loop-repl.repl c.advance-stepped.new.repl c.advance-stepped.result =
     (c.advance-stepped.ensures.stretch, c.advance-stepped.ensures.shown) in
-    let not_yet : has_come c.args.stop_.now c.advance-stepped.new.repl.session.now c.advance-stepped.result ≡ false =
-    ap (λ (s : State). has_come c.args.stop_.now s c.advance-stepped.result) (sym c.machine.ensures) ∙ sym c.has_come.ensures ∙ c.if-has_come.false in (
+    let not_yet : has_come c.args.armed.now c.advance-stepped.new.repl.session.now c.advance-stepped.result ≡ false =
+    ap (λ (s : State). has_come c.args.armed.now s c.advance-stepped.result) (sym c.machine.ensures) ∙ sym c.has_come.ensures ∙ c.if-has_come.false in (
       follows_on _ _ _ _ _ _ so_far.0 onward not_yet,
       says_on _ _ c.args.repl.now c.loop-repl.repl c.advance-stepped.new.repl _ _ _ _ so_far.1 onward not_yet c.in_ok-tell.ensures.told,
       goes_then _ _ _ so_far.2 c.advance-stepped.ensures.on,
@@ -28,20 +28,20 @@ loop-repl-smaller g c = c.advance-stepped.ensures.advances (under_way c.args.cyc
 
 pub returns-then-has_come-clause-gone : goal.returns-then-has_come-clause-gone
 returns-then-has_come-clause-gone g c =
-    let there : has_come c.args.stop_.now c.advance-stepped.new.repl.session.now c.advance-stepped.result ≡ true =
-    ap (λ (s : State). has_come c.args.stop_.now s c.advance-stepped.result) (sym c.machine.ensures) ∙ sym c.has_come.ensures ∙ c.if-has_come.true in
+    let there : has_come c.args.armed.now c.advance-stepped.new.repl.session.now c.advance-stepped.result ≡ true =
+    ap (λ (s : State). has_come c.args.armed.now s c.advance-stepped.result) (sym c.machine.ensures) ∙ sym c.has_come.ensures ∙ c.if-has_come.true in
     followed_there _ _ _ _ _ _ c.loop-repl.invariant.0 (c.advance-stepped.ensures.stretch, c.advance-stepped.ensures.shown) there
 
 pub returns-then-has_come-clause-hit : goal.returns-then-has_come-clause-hit
 returns-then-has_come-clause-hit g c =
-    let there : has_come c.args.stop_.now c.advance-stepped.new.repl.session.now c.advance-stepped.result ≡ true =
-    ap (λ (s : State). has_come c.args.stop_.now s c.advance-stepped.result) (sym c.machine.ensures) ∙ sym c.has_come.ensures ∙ c.if-has_come.true in
+    let there : has_come c.args.armed.now c.advance-stepped.new.repl.session.now c.advance-stepped.result ≡ true =
+    ap (λ (s : State). has_come c.args.armed.now s c.advance-stepped.result) (sym c.machine.ensures) ∙ sym c.has_come.ensures ∙ c.if-has_come.true in
     came_there _ _ _ _ _ _ c.loop-repl.invariant.0 (c.advance-stepped.ensures.stretch, c.advance-stepped.ensures.shown) there
 
 pub returns-then-has_come-clause-told : goal.returns-then-has_come-clause-told
 returns-then-has_come-clause-told g c =
-    let there : has_come c.args.stop_.now c.advance-stepped.new.repl.session.now c.advance-stepped.result ≡ true =
-    ap (λ (s : State). has_come c.args.stop_.now s c.advance-stepped.result) (sym c.machine.ensures) ∙ sym c.has_come.ensures ∙ c.if-has_come.true in
+    let there : has_come c.args.armed.now c.advance-stepped.new.repl.session.now c.advance-stepped.result ≡ true =
+    ap (λ (s : State). has_come c.args.armed.now s c.advance-stepped.result) (sym c.machine.ensures) ∙ sym c.has_come.ensures ∙ c.if-has_come.true in
     said_there _ _ c.args.repl.now c.loop-repl.repl c.advance-stepped.new.repl _ _ _ _ c.loop-repl.invariant.1 (c.advance-stepped.ensures.stretch, c.advance-stepped.ensures.shown) there c.in_ok-tell.ensures.told
 
 pub returns-then-has_come-clause-on : goal.returns-then-has_come-clause-on

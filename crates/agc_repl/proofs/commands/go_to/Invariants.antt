@@ -7,8 +7,8 @@ use Rattle.agc_repl.proofs.commands.go_to.Given as goal
 
 abbrev pub invariant-loop-repl : goal.invariant-loop-repl
 invariant-loop-repl g l =
-    Follows l.fn.stop_ l.cycle l.initial.repl l.repl
-    × Says l.fn.stop_ l.cycle l.initial.repl l.repl (append_known (g.W.Write.contents l.initial.output) (string_bytes l.initial.text))
+    Follows l.fn.armed l.cycle l.initial.repl l.repl
+    × Says l.fn.armed l.cycle l.initial.repl l.repl (append_known (g.W.Write.contents l.initial.output) (string_bytes l.initial.text))
     (append_known (g.W.Write.contents l.output) (string_bytes l.text))
     × GoesOn l.initial.repl.session l.repl.session
     × Grows (g.W.Write.contents l.initial.output) (g.W.Write.contents l.output)

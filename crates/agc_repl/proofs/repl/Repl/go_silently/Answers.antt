@@ -1,5 +1,5 @@
 use Rattle.std.proofs.Common.{sym, ◌∙◌}
-use Rattle.agc_repl.specs.declared.stop_at.Stop_.TheVariants.{Nothing}
+use Rattle.agc_repl.specs.declared.armed_breakpoint.ArmedBreakpoint.TheVariants.{Nothing}
 use Rattle.agc_repl.proofs.Going.{under_way}
 use Rattle.agc_repl.proofs.Ways.{followed_up, follows, follows_on, never_comes, stretch_to_cycle}
 use Rattle.agc_repl.proofs.repl.Repl.go_silently.Goals as goal

@@ -1,5 +1,5 @@
 use Rattle.agc_repl.specs.Repl.{turns_left}
-use Rattle.agc_repl.specs.declared.stop_at.Stop_.TheVariants.{Nothing}
+use Rattle.agc_repl.specs.declared.armed_breakpoint.ArmedBreakpoint.TheVariants.{Nothing}
 use Rattle.agc_repl.proofs.Ways.{Follows}
 use Rattle.agc_repl.proofs.repl.Repl.go_silently.Given as goal
 

@@ -8,13 +8,13 @@ ghost use Rattle.agc_store.specs.Places.{erasable_cells};
 ghost use Rattle.agc_repl.specs.Repl.{Advances, GoesOn, gone_on};
 ghost use Rattle.agc_repl.specs.Stretch.{
   and_on,
-  IsSoughtInRange,
+  IsArmedInRange,
   has_come,
   is_order_at,
   is_short_of,
   is_write_to,
   same_location,
-  sought_in,
+  armed_in,
   stretch_to,
   word_at,
 };
@@ -29,7 +29,7 @@ use agc_word::Narrow;
 
 /// What the machine runs to, before it reaches a cycle.
 #[derive(Clone, Copy)]
-pub(crate) enum Stop_ {
+pub(crate) enum ArmedBreakpoint {
     /// Nothing: run to the cycle.
     Nothing,
     /// The next write to a channel.
@@ -40,18 +40,18 @@ pub(crate) enum Stop_ {
     Cell { cell: u16, before: Narrow },
 }
 
-impl Stop_ {
+impl ArmedBreakpoint {
     /// Returns the target of a breakpoint that is set now.
     #[tactic(auto, unfolding(crate::specs::Command::IsBreakpointInRange))]
-    pub(crate) fn new(machine: &Machine, what: Breakpoint) -> Stop_
+    pub(crate) fn new(machine: &Machine, what: Breakpoint) -> ArmedBreakpoint
         requires { IsBreakpointInRange what }
-        ensures stop_ { result ≡ sought_in machine.now what }
-        ensures range { IsSoughtInRange result }
+        ensures armed { result ≡ armed_in machine.now what }
+        ensures range { IsArmedInRange result }
     {
         match what {
-            Breakpoint::Order(place) => Stop_::Order(place),
-            Breakpoint::Write(channel) => Stop_::Write(channel),
-            Breakpoint::Cell(cell) => Stop_::Cell {
+            Breakpoint::Order(place) => ArmedBreakpoint::Order(place),
+            Breakpoint::Write(channel) => ArmedBreakpoint::Write(channel),
+            Breakpoint::Cell(cell) => ArmedBreakpoint::Cell {
                 cell,
                 before: word_of(machine.store(), cell),
             },
@@ -69,24 +69,24 @@ impl Stop_ {
         ensures channel { HasChannel result }
     {
         match self {
-            Stop_::Nothing => repl.go_on(cycle),
-            Stop_::Write(_) => repl.go_on(cycle),
-            Stop_::Order(_) => repl.step(),
-            Stop_::Cell { .. } => repl.step(),
+            ArmedBreakpoint::Nothing => repl.go_on(cycle),
+            ArmedBreakpoint::Write(_) => repl.go_on(cycle),
+            ArmedBreakpoint::Order(_) => repl.step(),
+            ArmedBreakpoint::Cell { .. } => repl.step(),
         }
     }
 
     /// Returns whether the target was hit, by the machine's present state and the last boundary.
     #[tactic(auto, unfolding(crate::specs::Stretch::has_come))]
     pub(crate) fn has_come(&self, machine: &Machine, stepped: &Stepped) -> bool
-        requires { IsSoughtInRange self.now }
+        requires { IsArmedInRange self.now }
         ensures { result ≡ has_come self.now machine.now stepped.now }
     {
         match self {
-            Stop_::Nothing => false,
-            Stop_::Write(channel) => is_write_to(stepped, *channel),
-            Stop_::Order(place) => is_in_hand(machine, *place),
-            Stop_::Cell { cell, before } => word_of(machine.store(), *cell) != *before,
+            ArmedBreakpoint::Nothing => false,
+            ArmedBreakpoint::Write(channel) => is_write_to(stepped, *channel),
+            ArmedBreakpoint::Order(place) => is_in_hand(machine, *place),
+            ArmedBreakpoint::Cell { cell, before } => word_of(machine.store(), *cell) != *before,
         }
     }
 }

@@ -1,5 +1,5 @@
 use Rattle.agc_repl.proofs.Ways.{stretch_to_cycle, stretch_to_write, way_on}
-use Rattle.agc_repl.proofs.stop_at.Stop_.advance.Goals as goal
+use Rattle.agc_repl.proofs.armed_breakpoint.ArmedBreakpoint.advance.Goals as goal
 
 pub returns-in-Nothing-clause-stretch : goal.returns-in-Nothing-clause-stretch
 returns-in-Nothing-clause-stretch c = rw c.in-Nothing.is (stretch_to_cycle _ _ _ _ c.requires c.go_on.ensures.before)
