@@ -229,7 +229,7 @@ SHOWQ3  ERASE
 CARRY   ERASE
 DIGIT   ERASE
 OCTWORD ERASE
-LTSAVE  ERASE               # row 12 before the lamp test
+LTSAVE  ERASE               # relay row 12 before the lamp test
 LOADQ   ERASE
 
 # ---- bank 02: vectors, Executive, Waitlist, interrupts

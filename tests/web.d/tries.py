@@ -433,7 +433,7 @@ def try_keys_rope():
 
 def try_words(page):
     """After the keys 4 and 2: cells 0100 and 0101 have the last key, and so has channel 15; channel 10 has its relay word,
-    NOUN 42 (row 9 in bits 15 to 12, the codes of 4 and 2 in bits 10 to 6 and 5 to 1)."""
+    NOUN 42 (relay row 9 in bits 15 to 12, the codes of 4 and 2 in bits 10 to 6 and 5 to 1)."""
     page.click('#memory-tab')
     words = "[...document.querySelectorAll('#memory tbody tr')].map((row) => [...row.children].map((cell) => cell.textContent))[8].slice(0, 4)"
     wanted = ['0100', '00002', '00002', '00000']
