@@ -122,7 +122,7 @@ class Page:
     def type(self, *names):
         self.window.type(*names)
 
-    def see(self, script, wanted, seconds=5):
+    def see(self, script, wanted, seconds=30):
         """Waits until a script gives this; returns what it gave last."""
         wait(lambda: self.value(script) == wanted, seconds)
         return self.value(script)
@@ -144,6 +144,7 @@ class Page:
         self.click('#ask-yes' if sure else '#ask button[value=no]')
 
     def pause(self):
+        wait(lambda: self.text('state') != 'working …')
         if self.text('state').startswith('running'):
             self.type('Space')
         judge('time stands', 'paused', self.state('paused'))
