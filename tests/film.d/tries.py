@@ -5,9 +5,9 @@
 The folder has the films that tests/film has made. What is wanted is worked out by hand from docs/study/film.md and from the
 DSKY's own drawings. The last line is 'N passed, M failed'.
 """
-import hashlib
 import os
 import re
+import runpy
 import sys
 import time
 
@@ -153,10 +153,11 @@ def segments_of(text):
 
 
 def try_constants(tries):
-    text = BLOCKS.sub('', tries.file('one.html'))
-    # Where the page is changed on purpose: look at what the tries below say of it, and then put the new digest here.
-    with open(os.path.join(HERE, 'digest'), encoding='utf-8') as digest:
-        tries.check('the digest of the page without its runs', digest.read().strip(), hashlib.sha256(text.encode()).hexdigest())
+    # The page is the files of clients/python/agc_web/page: their script says what they make of it.
+    script = os.path.join(HERE, '..', '..', 'clients', 'python', 'agc_web', 'page', 'generate')
+    files = runpy.run_path(script)['constants']()
+    tries.check('the page without its runs', files['HEAD'][1] + files['TAIL'][1], BLOCKS.sub('', tries.file('one.html')))
+    tries.check('the script of the tables', True, files['TABLES'][1] in tries.file('tables.html'))
     tries.check('nothing from outside', [], re.findall(r'https?:|//[a-z]+\.|src=|href=|url\(|@import', tries.file('one.html')))
 
 
