@@ -28,6 +28,8 @@ from typing import IO, Callable, Dict, Iterator, List, NamedTuple, Optional, Seq
 
 __all__ = ["Answer", "Came", "Console", "Ended", "Error", "Refused", "Registers", "Write"]
 
+__version__ = "1.0.0"
+
 Path = Union[str, "os.PathLike[str]"]
 
 EVENTS = frozenset(("key", "pro", "input", "pulse", "raise", "poke"))
@@ -403,6 +405,18 @@ def _writes(answer: Answer) -> List[Write]:
     return found
 
 
+def _check_version(program: str) -> None:
+    """Checks that a console found beside this client or on the path has the client's version."""
+    try:
+        done = subprocess.run([program, "--version"], stdin=subprocess.DEVNULL, stdout=subprocess.PIPE, stderr=subprocess.PIPE)
+    except OSError as error:
+        raise Ended(f"{program}: {error.strerror}", None) from None
+    answer = done.stdout.decode(errors="replace").strip()
+    if answer != f"agc-console {__version__}":
+        found = answer or done.stderr.decode(errors="replace").strip() or f"status {done.returncode}"
+        raise Ended(f"{program} is not the console of this client, version {__version__}: {found}", done.returncode)
+
+
 def _program(named: Union[None, Path, Sequence[str]]) -> List[str]:
     """The words that start the program."""
     if named is None:
@@ -411,6 +425,7 @@ def _program(named: Union[None, Path, Sequence[str]]) -> List[str]:
         found = beside if os.access(beside, os.X_OK) else shutil.which("agc-console")
         if found is None:
             raise Ended("agc-console is neither in the folder of this client nor on the path", None)
+        _check_version(found)
         return [found]
     if isinstance(named, (str, os.PathLike)):
         return [os.fspath(named)]

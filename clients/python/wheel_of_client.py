@@ -5,7 +5,7 @@ import hashlib
 import os
 import zipfile
 
-NAME, VERSION = "agc_client", "0.0"
+NAME, VERSION = "agc_client", "1.0.0"
 INFO = f"{NAME}-{VERSION}.dist-info"
 KINDS = (".py", ".html", ".css", ".js", ".svg")
 TEXTS = {

@@ -2,6 +2,7 @@
 repository."""
 
 import os
+import shutil
 import signal
 import subprocess
 import sys
@@ -274,8 +275,26 @@ def try_left_scripts():
         judge("the script of events before, between and after the script's own", (wanted, wanted), (told, agc.script()))
 
 
+def try_versions():
+    """a client that starts the console beside it looks at its version"""
+    client = sys.modules[Console.__module__].__file__
+    with tempfile.TemporaryDirectory() as folder:
+        beside = os.path.join(folder, "clients", "python")
+        os.makedirs(beside)
+        shutil.copy(client, beside)
+        for version, wanted in (("0.9.0", "is not the console of this client"), ("1.0.0", "ended")):
+            with open(os.path.join(folder, "agc-console"), "w") as stand_in:
+                stand_in.write(f"#!/bin/sh\n[ \"$1\" != --version ] || {{ echo agc-console {version} && exit; }}\necho ended >&2\nexit 1\n")
+            os.chmod(stand_in.name, 0o755)
+            done = subprocess.run(
+                [sys.executable, "-B", "-c", "from agc import Console\nConsole('rope')"],
+                cwd=beside, stdout=subprocess.PIPE, stderr=subprocess.PIPE, env={**os.environ, "PYTHONPATH": beside},
+            )
+            judge(f"a console of version {version}", True, wanted in done.stderr.decode().splitlines()[-1])
+
+
 for each in (
-    try_keys, try_events, try_until, try_writes, try_names, try_odd_words, try_children, try_left_scripts, try_faults,
+    try_versions, try_keys, try_events, try_until, try_writes, try_names, try_odd_words, try_children, try_left_scripts, try_faults,
 ):
     try:
         each()
