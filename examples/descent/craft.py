@@ -9,6 +9,7 @@ interrupts come from here too.
 """
 
 import argparse
+import copy
 import math
 import os
 import random
@@ -16,7 +17,7 @@ import sys
 
 here = os.path.dirname(os.path.realpath(__file__))
 sys.path.append(os.path.join(here, "..", "..", "clients", "python"))
-from agc import Console  # noqa: E402
+from agc import Console, Write  # noqa: E402
 
 ROPE = os.path.join(here, "rope")
 SECOND = 256000 / 3  # cycles
@@ -54,6 +55,7 @@ class Craft:
         self.engine = False
         self.flying = False
         self.touched = None
+        self.contact = False
         self.counted = {PIPAX: 0.0, PIPAZ: 0.0}
         self.sent = {PIPAX: 0, PIPAZ: 0, CDUY: self.angle()}
 
@@ -127,6 +129,20 @@ def load(craft):
 APPROACH = {0.5 + 0.25 * n: key for n, key in enumerate("VERB 3 7 ENTR 6 4 ENTR PRO".split())}
 
 
+def report(agc, craft, step):
+    """Sends the computer what the instruments counted in a step, and the downlink's interrupt."""
+    for counter, kind, count in craft.pulses():
+        for _ in range(count):
+            agc.pulse(counter, kind)
+    if craft.flying and step % 20 == 0 and not craft.touched:
+        agc.input(RADAR, craft.radar())
+    if not craft.contact and craft.height <= LEG:
+        craft.contact = True
+        agc.input(CONTACT, 0o37577)
+    if step % 10 == 0:
+        agc.raise_interrupt(DOWNRUPT)
+
+
 def fly(agc, craft, keys=APPROACH, seconds=400, disturb=None):
     """Flies, and yields the seconds and the writes of each step, up to three seconds after the ground.
 
@@ -136,23 +152,13 @@ def fly(agc, craft, keys=APPROACH, seconds=400, disturb=None):
     due = sorted(keys.items())
     released = None
     ended = None
-    contact = False
     for step in range(1, round(seconds / STEP) + 1):
         now = step * STEP
         writes = agc.go_to(step * 2560 // 3)
         for write in writes:
             craft.take(write)
         craft.step()
-        for counter, kind, count in craft.pulses():
-            for _ in range(count):
-                agc.pulse(counter, kind)
-        if craft.flying and step % 20 == 0 and not craft.touched:
-            agc.input(RADAR, craft.radar())
-        if not contact and craft.height <= LEG:
-            contact = True
-            agc.input(CONTACT, 0o37577)
-        if step % 10 == 0:
-            agc.raise_interrupt(DOWNRUPT)
+        report(agc, craft, step)
         if released is not None and step >= released:
             agc.pro(False)
             released = None
@@ -170,6 +176,61 @@ def fly(agc, craft, keys=APPROACH, seconds=400, disturb=None):
             ended = ended or now
             if now - ended >= 3:
                 return
+
+
+class Instrument:
+    """The craft as an instrument of agc-web. The user presses the keys: V37E, 64E, then PRO."""
+
+    def __init__(self, craft):
+        self.craft = craft
+        self.ticks = 0
+
+    def tick(self, agc, cycle):
+        """Moves for a hundredth of a second by what the computer commands."""
+        if self.ticks == 0:
+            for bank, offset, word in load(self.craft):
+                agc.poke(bank, offset, word)
+        self.ticks += 1
+        for channel in (JETS, THROTTLE, LAMPS):
+            self.craft.take(Write(cycle, channel, agc.channel(channel)))
+        self.craft.step()
+        report(agc, self.craft, self.ticks)
+
+    def view(self):
+        """Returns what the page shows."""
+        craft = self.craft
+        tilt = math.degrees(craft.tilt)
+        jets = [name for jet, name in ((1, "left"), (2, "right")) if craft.jets & jet]
+        return {
+            "title": "Lander",
+            "dial": {"angle": round(tilt, 1), "wanted": 0, "jets": jets},
+            "rows": [
+                ["Altitude", f"{craft.height:.1f} m"],
+                ["Speed up", f"{craft.up:+.2f} m/s"],
+                ["Speed forward", f"{craft.forward:+.2f} m/s"],
+                ["To the site", f"{craft.way:.0f} m"],
+                ["Tilt", f"{tilt:+.1f}°"],
+                ["Thrust", f"{100 * craft.thrust / FULL:.0f} %" if craft.engine else "engine off"],
+                ["Fuel", f"{craft.mass - DRY:.0f} kg"],
+            ],
+        }
+
+    def save(self):
+        """Returns all that changes, so that the craft goes back in time with the machine."""
+        return copy.deepcopy(vars(self.craft)), self.ticks
+
+    def load(self, state):
+        """Restores a saved state."""
+        changing, self.ticks = copy.deepcopy(state)
+        vars(self.craft).update(changing)
+
+
+def show_in_browser(words, craft):
+    """Shows craft and DSKY in a browser until Control-C."""
+    import agc_web
+
+    with Console(words.rope, words.script, program=words.program, detached=True) as agc:
+        agc_web.serve(agc, [Instrument(craft)], port=words.port, names=os.path.join(here, "names"), save=words.save)
 
 
 HEAD = "   time  height      up  forward    tilt  thrust   fuel  shown"
@@ -216,6 +277,8 @@ def asked():
     words.add_argument("--every", type=float, default=10.0, help="seconds from line to line of the table (10)")
     words.add_argument("--save", metavar="FILE", help="write the script that repeats the flight")
     words.add_argument("--png", metavar="FILE", help="draw the flight, by matplotlib")
+    words.add_argument("--web", action="store_true", help="show craft and DSKY in a browser; you press the keys")
+    words.add_argument("--port", type=int, help="the port of --web (8437, or a free one)")
     words.add_argument("--rope", default=ROPE, help="another rope")
     words.add_argument("--program", help="another agc-console")
     return words.parse_args()
@@ -228,6 +291,9 @@ def main():
         second, _, name = key.partition(":")
         keys[float(second)] = name
     craft = Craft(words.height, words.way, words.forward, words.down, words.seed)
+    if words.web:
+        show_in_browser(words, craft)
+        return
     rows = []
     every = max(1, round(words.every / STEP))
     with Console(words.rope, words.script, program=words.program) as agc:

@@ -169,6 +169,42 @@ def try_flights(flights):
     judge("flights", FLIGHTS, len(lines))
 
 
+def ticked(craft):
+    """Flies the craft by its instrument's ticks, as agc-web does; halfway it is saved, spoilt and restored."""
+    instrument = example.Instrument(craft)
+    keys = {round(100 * second): key for second, key in example.APPROACH.items()}
+    with Console(example.ROPE, program=console) as agc:
+        for step in range(1, 40001):
+            agc.go_to(step * 2560 // 3)
+            instrument.tick(agc, agc.cycle)
+            if step == 9000:
+                state = instrument.save()
+                craft.height, craft.touched = 1.0, "spoilt"
+                instrument.load(state)
+            if step - 20 in keys and keys[step - 20] == "PRO":
+                agc.pro(False)
+            if step in keys:
+                agc.pro(True) if keys[step] == "PRO" else agc.key(keys[step])
+            if craft.touched:
+                return agc.panel()["PROG"]
+
+
+def try_instrument():
+    """The craft as an instrument lands as it does by itself, and shows it."""
+    craft = example.Craft(seed=1)
+    with Console(example.ROPE, program=console) as agc:
+        for _ in example.fly(agc, craft):
+            pass
+    up, forward, tilt, _ = craft.touched
+    judge("the flight by itself lands", True, up > -1.5 and abs(forward) < 0.6 and abs(tilt) < 3)
+    other = example.Craft(seed=1)
+    judge("the program after a flight by ticks", "68", ticked(other))
+    up, forward, tilt, _ = other.touched
+    judge("the flight by ticks lands", True, up > -1.5 and abs(forward) < 0.6 and abs(tilt) < 3)
+    view = example.Instrument(other).view()
+    judge("the page shows the altitude", ["Altitude", f"{other.height:.1f} m"], view["rows"][0])
+
+
 # guidance and scaling, beside rows worked by hand
 
 
@@ -734,6 +770,7 @@ def main():
             (try_keys,),
             (try_flight_keys,),
             (try_1201,),
+            (try_instrument,),
             (try_flights, flights),
             (try_1202, alarms),
             (try_alarms, others),
