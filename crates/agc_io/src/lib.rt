@@ -3,6 +3,7 @@
 
 mod input;
 mod mark;
+mod output;
 mod progress;
 mod status;
 mod streams;
@@ -12,6 +13,7 @@ mod ticker;
 
 pub use input::{InputFile, KEY_BYTES, ROPE_BYTES, ReadError, ReadFault, TEXT_BYTES, read_limited};
 pub use mark::{next_mark, report_at};
+pub use output::write_in_full;
 pub use progress::{NoProgress, Progress};
 pub use status::{OK, REFUSED, USAGE, WRITE_FAILED, status_of};
 pub use streams::hold_closed_streams;

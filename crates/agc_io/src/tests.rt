@@ -1,4 +1,5 @@
-//! Tests of when progress is shown.
+//! Tests of when progress is shown, and of what a failed write leaves.
+use crate::output::write_in_full;
 use crate::progress::Progress;
 use crate::ticker::{ProgressLine, Ticker};
 use std::io::{self, ErrorKind, IsTerminal, Write};
@@ -100,4 +101,53 @@ fn progress_is_shown_and_wiped(rt: HostRuntime) -> Result<(), Fail> {
     ticker.wipe();
     assert!(rt; ticker.err.as_slice() == b"\ragc: cycle 7 of 100\r\x1b[K".as_slice());
     Ok(())
+}
+
+/// A stream that is interrupted at first, and then takes two bytes at a time as long as it has room.
+#[derive(Drop)]
+struct Pipe {
+    bytes: Vec<u8>,
+    room: usize,
+    is_interrupted: bool,
+}
+
+impl Write for Pipe {
+    fn write(&mut self, buf: &[u8]) -> io::Result<usize> {
+        if self.is_interrupted {
+            self.is_interrupted = false;
+            return Err(io::Error::from(ErrorKind::Interrupted));
+        }
+        if self.room < 2 || buf.len() < 2 {
+            return Err(io::Error::from(ErrorKind::Other));
+        }
+        self.room -= 2;
+        self.bytes.extend_from_slice(&buf[..2])?;
+        Ok(2)
+    }
+
+    fn flush(&mut self) -> io::Result<()> {
+        Ok(())
+    }
+}
+
+/// Returns whether six bytes were written to a stream with this room, and what it then holds.
+fn written(rt: &impl AllocGlobal, room: usize) -> (bool, Vec<u8>) {
+    let mut out = Pipe {
+        bytes: Vec::new(rt.alloc()),
+        room,
+        is_interrupted: true,
+    };
+    let is_written = write_in_full(&mut out, b"abcdef").is_ok();
+    (is_written, out.bytes)
+}
+
+/// An interrupted write is repeated, short writes are continued, and after a failed one a beginning was written.
+#[test]
+fn a_failed_write_leaves_a_beginning(rt: HostRuntime) {
+    let (whole, bytes) = written(&rt, 6);
+    assert!(rt; whole && bytes.as_slice() == b"abcdef".as_slice());
+    let (cut, bytes) = written(&rt, 5);
+    assert!(rt; !cut && bytes.as_slice() == b"abcd".as_slice());
+    let (none, bytes) = written(&rt, 1);
+    assert!(rt; !none && bytes.is_empty());
 }
