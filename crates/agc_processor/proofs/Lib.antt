@@ -10,3 +10,4 @@ mod Frame
 mod Still
 pub mod Rows
 mod First
+pub mod Contexts

@@ -17,3 +17,4 @@ pub mod Service
 pub mod Row
 pub mod Table
 pub mod Requests
+pub mod Idle

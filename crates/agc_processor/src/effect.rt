@@ -14,7 +14,7 @@ impl Processor {
 
     /// Returns the order's address of twelve bits.
     #[inline(always)]
-    fn long_address(&self) -> Addr
+    pub(crate) fn long_address(&self) -> Addr
         ensures { result ≡ long_address self.now }
     {
         Addr::of_word(self.hand)
@@ -22,7 +22,7 @@ impl Processor {
 
     /// Returns the order's address of ten bits.
     #[inline(always)]
-    fn short_address(&self) -> Addr
+    pub(crate) fn short_address(&self) -> Addr
         ensures address { result ≡ short_address self.now }
         ensures erasable { result < 0o2000 }
     {
@@ -31,7 +31,7 @@ impl Processor {
 
     /// Returns the order's channel.
     #[inline(always)]
-    fn channel_number(&self) -> u16
+    pub(crate) fn channel_number(&self) -> u16
         ensures channel { result ≡ channel_number self.now }
         ensures range { result < 0o1000 }
     {

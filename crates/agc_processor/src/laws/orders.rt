@@ -1,9 +1,10 @@
 //! Laws of every order.
-ghost use Rattle.std.specs.Prelude.{◌≡◌, ℕ};
+ghost use Rattle.std.specs.Prelude.{◌≡◌, ℕ, true};
 ghost use Rattle.agc_order.specs.declared.order.Basic.{Basic};
 ghost use Rattle.agc_order.specs.declared.order.Extracode.{Extracode};
 ghost use Rattle.agc_processor.specs.declared.processor.Processor.{Processor};
 ghost use Rattle.agc_processor.specs.Effect.{basic_effect, extracode_effect, order_effect};
+ghost use Rattle.agc_processor.specs.Idle.{KeepsStill, context_of, is_still, rest_of};
 ghost use Rattle.agc_processor.specs.Leaves.{Leaves, extends, holds_off};
 ghost use Rattle.agc_processor.specs.Row.{ChangesItsRow};
 ghost use Rattle.agc_processor.specs.Table.{basic_row, extracode_row, inhibited_after, serving_after, KeepsFlags};
@@ -31,4 +32,11 @@ pub fn extend_lasts_one_order()
 /// No order changes the fixed words.
 pub fn orders_keep_the_fixed_words()
     ensures { (cycle : ℕ) (p : Processor) → (order_effect cycle p).0.store.fixed ≡ p.store.fixed }
+{}
+
+/// A still order shows nothing outside, leaves all but the context, and does the same at every cycle. A processor is its
+/// context and the rest: two that agree in both are the same.
+pub fn still_orders_leave_the_rest()
+    ensures keeps { (p : Processor) → is_still p ≡ true → KeepsStill p }
+    ensures whole { (p q : Processor) → context_of p ≡ context_of q → rest_of p ≡ rest_of q → p ≡ q }
 {}
