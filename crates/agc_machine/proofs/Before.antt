@@ -156,6 +156,14 @@ pub before_at_way_stop : (end cycle : ℕ) (s t : State) (why : Stop) → end �
     (t, stepped.Stopped why) ≡ next_before cycle s
 before_at_way_stop end cycle s t why l e = ap (while_quiet_before cycle (next_before cycle)) e ∙ sym (before_of_way end cycle s l)
 
+-- two states with the same way have the same next write, and the same way up to a later cycle
+pub next_of_same_way : (end : ℕ) (s t : State) → next_before end t ≡ next_before end s → next_of t ≡ next_of s
+next_of_same_way end s t e = next_of_way end t ∙ ap (while_quiet next_of) e ∙ sym (next_of_way end s)
+
+pub before_same_way : (end cycle : ℕ) (s t : State) → end ≤ cycle → next_before end t ≡ next_before end s → next_before cycle t ≡ next_before cycle s
+before_same_way end cycle s t l e =
+    before_of_way end cycle t l ∙ ap (while_quiet_before cycle (next_before cycle)) e ∙ sym (before_of_way end cycle s l)
+
 -- a way leaves fewer boundaries
 abbrev IsFewer : State → State × Stepped → Type 0
 IsFewer s (t, stepped.Quiet) = boundaries_left t < boundaries_left s

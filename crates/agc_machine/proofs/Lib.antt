@@ -14,3 +14,4 @@ pub mod Live
 pub mod Place
 pub mod InTime
 pub mod LiveTime
+pub mod Turns

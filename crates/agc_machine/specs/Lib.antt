@@ -10,3 +10,4 @@ pub mod Laws
 pub mod Replay
 pub mod Taken
 pub mod Live
+pub mod Idle

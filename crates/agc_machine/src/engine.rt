@@ -6,6 +6,7 @@ ghost use Rattle.agc_machine.specs.Engine.{state_of, IsInTime, IsSound};
 
 use crate::answer::{Next, Stepped, Stop};
 use crate::event::apply_event;
+use crate::idle::Search;
 use crate::quiet::Pace;
 use crate::stop_address::StopAddress;
 use crate::upcoming::Upcoming;
@@ -32,6 +33,8 @@ pub(crate) struct Engine {
     pub(crate) quiet_until: u64,
     /// What may come before the order in hand below that cycle.
     pub(crate) pace: Pace,
+    /// When to look for an idle loop again.
+    pub(crate) search: Search,
 }
 
 /// The result of an order that ran at a cycle outside the engine, so that a loop over orders keeps
@@ -73,6 +76,7 @@ impl Engine {
             until: None,
             quiet_until: 0,
             pace: Pace::Held,
+            search: Search::new(),
         }
     }
 
@@ -91,7 +95,7 @@ impl Engine {
                 }
             } else {
                 match self.step_slowly(None) {
-                    Stepped::Quiet => {}
+                    Stepped::Quiet => self.skip_idle_turns(self.quiet_until),
                     Stepped::Wrote(write) => return Next::Wrote(write),
                     Stepped::Stopped(why) => return Next::Stopped(why),
                 }
@@ -102,6 +106,16 @@ impl Engine {
     /// Runs boundaries without live events, up to the next write, the stop, or the first quiet boundary that ends at
     /// `cycle` or later.
     pub(crate) fn next_write_before(&mut self, cycle: u64) -> Stepped
+        requires sound { IsSound self.old }
+        ensures next { (state_of self.new, result) ≡ next_before cycle (state_of self.old) }
+        ensures sound { IsSound self.new }
+    {
+        self.skip_idle_turns(self.quiet_until.min(cycle));
+        self.go_before(cycle)
+    }
+
+    /// Does the same, without looking for an idle loop first.
+    fn go_before(&mut self, cycle: u64) -> Stepped
         requires sound { IsSound self.old }
         ensures next { (state_of self.new, result) ≡ next_before cycle (state_of self.old) }
         ensures sound { IsSound self.new }
@@ -123,6 +137,7 @@ impl Engine {
                         if cycle <= self.cycle {
                             return Stepped::Quiet;
                         }
+                        self.skip_idle_turns(self.quiet_until.min(cycle));
                     }
                     Stepped::Wrote(write) => return Stepped::Wrote(write),
                     Stepped::Stopped(why) => return Stepped::Stopped(why),

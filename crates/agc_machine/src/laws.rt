@@ -1,6 +1,6 @@
 //! Laws of every run, each the contract of a function that does nothing. The machine's own calls
 //! are proved equal to the definitions that these laws are about.
-ghost use Rattle.std.specs.Prelude.{◌≡◌, ℕ, ◌<◌, ◌≤◌, ◌^◌, ◌++◌, List, length, replicate, Option, Some, None, IsSome};
+ghost use Rattle.std.specs.Prelude.{◌≡◌, ℕ, ◌+◌, ◌*◌, ◌<◌, ◌≤◌, ◌^◌, ◌++◌, List, length, replicate, Option, Some, None, IsSome};
 ghost use Rattle.agc_script.specs.declared.event.What.{What};
 ghost use Rattle.agc_store.specs.Registers.{HoldsRegisters};
 ghost use Rattle.agc_processor.specs.Basic.{resume_of};
@@ -10,7 +10,8 @@ ghost use Rattle.agc_processor.specs.declared.interrupt.Rupt.{Rupt};
 ghost use Rattle.agc_processor.specs.declared.processor.Processor.{Processor};
 ghost use Rattle.agc_machine.specs.State.{IsAtStart, State, fed};
 ghost use Rattle.agc_machine.specs.Boundary.{boundary};
-ghost use Rattle.agc_machine.specs.Run.{boundaries_left, next_of, run_of, while_writing};
+ghost use Rattle.agc_machine.specs.Idle.{IsTurn, later};
+ghost use Rattle.agc_machine.specs.Run.{boundaries_left, next_before, next_of, run_of, while_writing};
 ghost use Rattle.agc_machine.specs.Laws.{Falls, Comes, AreRising, ComesBack, IsSameRun, after};
 ghost use Rattle.agc_machine.specs.Replay.{chain, tape_of, AreWanted, with_tape, run_in};
 ghost use Rattle.agc_machine.specs.Taken.{TakesLive, met_between};
@@ -113,4 +114,13 @@ pub fn a_run_is_its_chain()
 pub fn tapes_are_taken()
     ensures { (lives : List (Option What)) (s : State) → AreWanted lives s → IsSome (chain lives s).last.stopped
         → TakesLive s (tape_of lives s) (with_tape (tape_of lives s) s) }
+{}
+
+/// Idle loops can be skipped: if a turn of still orders comes back to the same context, any number of turns that begin and
+/// end before `end` lead to the same state, as many periods later, and the run from there is the same up to `end`.
+pub fn idle_turns_repeat()
+    ensures turns { (orders period end n : ℕ) (s : State) → IsTurn orders period end s → s.cycle + n * period < end
+        → after (n * orders) s ≡ later (n * period) s }
+    ensures next { (orders period end n : ℕ) (s : State) → IsTurn orders period end s → s.cycle + n * period < end
+        → next_before end s ≡ next_before end (later (n * period) s) }
 {}

@@ -4,6 +4,7 @@
 mod answer;
 mod engine;
 mod event;
+mod idle;
 pub mod laws;
 mod machine;
 mod quiet;

@@ -231,7 +231,7 @@ impl Engine {
 
     /// Runs one boundary at which only the order in hand can come.
     #[inline(always)]
-    fn step_bare(&mut self) -> Stepped
+    pub(crate) fn step_bare(&mut self) -> Stepped
         requires sound { IsSound self.old }
         requires quiet { self.old.cycle < self.old.quiet_until }
         requires pace { self.old.pace ≡ Pace.Bare }

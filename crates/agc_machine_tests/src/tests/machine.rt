@@ -1,5 +1,6 @@
 //! Tests runs of small programs, worked out by hand. The numbers are octal, except for cycles.
 mod events;
+mod idle;
 mod runs;
 mod timing;
 mod upcoming;

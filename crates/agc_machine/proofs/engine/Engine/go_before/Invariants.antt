@@ -1,7 +1,7 @@
 use Rattle.std.proofs.Common.{◌≡◌}
 use Rattle.agc_machine.specs.Engine.{state_of, IsSound}
 use Rattle.agc_machine.specs.Run.{boundaries_left, next_before}
-use Rattle.agc_machine.proofs.engine.Engine.next_write_before.Given as goal
+use Rattle.agc_machine.proofs.engine.Engine.go_before.Given as goal
 
 -- the machine is sound, and where its way ends is where the one that is sought ends
 abbrev pub invariant-loop-self : goal.invariant-loop-self
