@@ -8,3 +8,4 @@ mod Room
 mod Running
 mod Interrupts
 mod Lines
+mod Flags

@@ -1,14 +1,18 @@
 -- How the profile of a run relates to its boundaries.
-use Rattle.std.specs.Prelude.{◌≡◌, ◌==◌, ◌&&◌, Option, Some, None, ℕ, ◌+◌, Bool, false, List, filter, length}
+use Rattle.std.specs.Prelude.{◌≡◌, ◌==◌, ◌&&◌, Option, Some, None, is_some, ℕ, ◌+◌, Bool, false, List, [], ◌∷◌, filter, length}
 use Rattle.std.specs.List.{sum_by}
 use Rattle.agc_processor.specs.Interrupt.{rupt_number}
 use Rattle.agc_processor.specs.declared.interrupt.Rupt.{Rupt}
+use Rattle.agc_processor.specs.declared.processor.Processor.{Processor}
+use Rattle.agc_machine.specs.Boundary.{boundary}
+use Rattle.agc_machine.specs.State.{State}
 use Rattle.agc_listing.specs.declared.location.Location.{Location}
 use Rattle.agc_listing.specs.Ranges.{is_from_to}
 use Rattle.agc_trace.specs.Selection.{runs_at}
 use Rattle.agc_profile.specs.Profile.{is_entry}
 use Rattle.agc_profile.specs.Step.{service_of}
 use Rattle.agc_profile.specs.Tally.{cycles_in, plus, times_in}
+use Rattle.agc_profile.specs.declared.context.Context.{Context}
 use Rattle.agc_profile.specs.declared.profile.Profile.{Profile}
 use Rattle.agc_profile.specs.declared.step.Step.{Step}
 use Rattle.agc_profile.specs.declared.tally.Tally.{Tally}
@@ -66,3 +70,13 @@ serves r p = is_served r (service_of p)
 -- a boundary takes an interrupt
 abbrev pub takes : Rupt → Step → Bool
 takes r p = serves r p && is_entry p.happening
+
+-- a context says what the flags of a processor do: whether INHINT is in force, and whether an interrupt is being served
+pub record TellsFlags (mode : Context) (p : Processor) : Type 0 where
+  pub inhibited : mode.inhibited ≡ p.inhibited
+  pub serving : is_some mode.service ≡ p.serving
+
+-- each boundary, from that of a state on, begins in a context that says what the flags of its state do
+abbrev pub TellFlags : State → List Step → Type 0
+TellFlags s [] = Unit {0}
+TellFlags s (p ∷ ps) = TellsFlags p.mode s.processor × TellFlags (boundary None s).0 ps

@@ -23,14 +23,15 @@ use agc_order::{Basic, Extracode, Takes};
 use agc_trace::Span;
 use std::alloc::{AllocError, Global};
 
-/// Runs a machine to its stop, or past a span of cycles, and counts the boundaries that begin in the span. Fails if out
-/// of memory.
+/// Runs a machine from the start of its run to its stop, or past a span of cycles, and counts the boundaries that begin
+/// in the span. Fails if out of memory.
 pub fn count<P: Progress>(
     alloc: Global,
     machine: &mut Machine,
     span: Span,
     progress: &mut P,
 ) -> Result<Profile, AllocError>
+    requires fresh { machine.old.begun ≡ false }
     ensures counts { IfOk result (λ counts. counts ≡ count_of (passages_in span machine.old)) }
     ensures rope { OnOk result
         (machine.new.processor.store.fixed ≡ machine.old.processor.store.fixed) }

@@ -1,13 +1,14 @@
-//! Laws of every profile, each the contract of a function with an empty body.
+//! Laws of every profile, each the contract of a function that does nothing.
 ghost use Rattle.std.specs.Prelude.{◌≡◌, ◌+◌, ◌-◌, ◌<◌, ℕ, List, filter, length, map};
 ghost use Rattle.agc_store.specs.Places.{erasable_cells, fixed_places};
 ghost use Rattle.agc_processor.specs.Interrupt.{rupt_number};
 ghost use Rattle.agc_processor.specs.declared.interrupt.Rupt.{Rupt};
 ghost use Rattle.agc_machine.specs.Run.{run_of};
-ghost use Rattle.agc_machine.specs.State.{State};
+ghost use Rattle.agc_machine.specs.State.{IsAtStart, State};
 ghost use Rattle.agc_listing.specs.declared.location.Location.TheVariants as location;
 ghost use Rattle.agc_profile.specs.Profile.{count_of};
 ghost use Rattle.agc_profile.specs.Laws.{
+  TellFlags,
   counted_cycles,
   ran_at,
   read_at,
@@ -23,6 +24,8 @@ ghost use Rattle.agc_profile.specs.Tally.{tally_at};
 ghost use Rattle.agc_profile.specs.Readers.{Told, all_told};
 ghost use Rattle.agc_trace.specs.Trace.{trace_of};
 ghost use Rattle.agc_profile.specs.declared.step.Step.{Step};
+
+use agc_processor::laws::orders::three_orders_change_the_flags;
 
 /// The tally of a place is the number and the cycles of the boundaries that ran the order at this place.
 pub fn a_place_has_its_boundaries()
@@ -57,6 +60,14 @@ pub fn an_interrupt_has_its_services()
 pub fn the_boundaries_are_the_trace()
     ensures { (s : State) → map (λ (told : Told). told.entry) (all_told s) ≡ trace_of s }
 {}
+
+/// Each boundary of a run begins in a context that says what the flags of the processor do: whether INHINT is in force,
+/// and whether an interrupt is being served.
+pub fn a_context_tells_the_flags()
+    ensures { (s : State) → IsAtStart s → TellFlags s (passages at_start (all_told s)) }
+{
+    three_orders_change_the_flags();
+}
 
 /// The cycles of a whole run, by kinds, add up to its length.
 pub fn the_cycles_add_up()
