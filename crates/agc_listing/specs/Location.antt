@@ -1,5 +1,5 @@
 -- Locations in memory: a place in the rope, or a cell of erasable memory.
-use Rattle.std.specs.Prelude.{ℕ, ◌+◌, ◌*◌, ◌/◌, ◌%◌, ◌<◌, ◌==◌, nat_lt, nat_le, Bool, false, ◌&&◌, ◌||◌, List, [], ◌∷◌}
+use Rattle.std.specs.Prelude.{ℕ, ◌+◌, ◌-◌, ◌*◌, ◌/◌, ◌%◌, ◌<◌, ◌==◌, nat_lt, nat_le, Bool, false, ◌&&◌, ◌||◌, List, [], ◌∷◌}
 use Rattle.std.specs.Prelude.{take, drop, position, Option, Some, None, if◌then◌else◌}
 use Rattle.agc_word.specs.Numeral.{octal_number}
 use Rattle.agc_store.specs.Places.{erasable_bank_size, erasable_cells, erasable_window, fixed_bank_size}
@@ -74,11 +74,25 @@ bank_register place =
 abbrev pub complete_address : ℕ → ℕ
 complete_address place = fixed_bank_size * bank_register place + place % fixed_bank_size
 
--- whether an order at a place can address another place: in bank 02 or 03, or in its own bank
+-- Whether an order at a place may name another place: one of them is in bank 02 or 03, or both are in the same bank.
+-- An order in bank 02 or 03 that names a place in another bank runs with that bank in FB.
+abbrev pub is_fixed_fixed : ℕ → Bool
+is_fixed_fixed place = nat_le fixed_fixed place && nat_lt place 0o10000
+
 abbrev pub is_addressable : ℕ → ℕ → Bool
 is_addressable here place =
-    nat_le fixed_fixed place && nat_lt place 0o10000
+    is_fixed_fixed place || is_fixed_fixed here
     || (place / fixed_bank_size == here / fixed_bank_size)
+
+-- The location of a number, as listings count all memory: from 0 to 3777 the cells, from 4000 to 7777 banks 02 and 03,
+-- and from 10000 on the banks in their order.
+abbrev pub pseudo_fixed : ℕ → Option Location
+pseudo_fixed place = if nat_lt place fixed_words then Some (location.Fixed place) else None
+
+abbrev pub location_numbered : ℕ → Option Location
+location_numbered n =
+    if nat_lt n fixed_fixed then Some (location.Erasable n)
+    else if nat_lt n 0o10000 then Some (location.Fixed n) else pseudo_fixed (n - 0o10000)
 
 -- The place of an order by its bank and its address. A cell that the window shows is the same cell
 -- by its own address.

@@ -1,5 +1,5 @@
 -- The numbers of a source: signed decimal numbers, and octal words.
-use Rattle.std.specs.Prelude.{ℕ, ◌%◌, ◌==◌, nat_lt, Bool, false, ◌||◌, List, [], ◌∷◌}
+use Rattle.std.specs.Prelude.{ℕ, ◌-◌, ◌%◌, ◌==◌, nat_lt, Bool, false, ◌||◌, List, [], ◌∷◌, get_or, length, take}
 use Rattle.std.specs.Prelude.{Option, Some, None, if◌then◌else◌}
 use Rattle.agc_word.specs.Number.{Number, number_from_pattern}
 use Rattle.agc_word.specs.Numeral.{decimal_number, octal_number}
@@ -28,6 +28,23 @@ with_sign minus (Some magnitude) = Some (record { minus = minus; magnitude = mag
 unfoldable pub signed_number : ℕ → List ℕ → Option Signed
 signed_number most text =
     with_sign (begins_with_minus text) (decimal_number most (without_sign text))
+
+-- the number that up to five octal digits write, or up to five decimal digits before a letter D
+abbrev pub ends_with_d : List ℕ → Bool
+ends_with_d text = get_or text (length text - 1) 0 == 0x44
+
+unfoldable pub count_named : List ℕ → Option ℕ
+count_named text =
+    if ends_with_d text
+    then decimal_number 5 (take (length text - 1) text)
+    else octal_number 5 text
+
+-- an offset as sources write it: a sign and such a number
+unfoldable pub offset_said : List ℕ → Option Signed
+offset_said text =
+    if begins_with_sign text
+    then with_sign (begins_with_minus text) (count_named (without_sign text))
+    else None
 
 -- a number that must have a sign
 unfoldable pub offset_named : List ℕ → Option Signed

@@ -23,10 +23,12 @@ pub use line::{PlacedWord, first_comma, has_other_byte, is_no_text, read_line, r
 pub use listed::{is_asked_for, leads_on, list, listed_address, starts_run};
 pub use location::{
     Location, bank_word, cell_address, complete_address, is_addressable, location_at,
-    location_named,
+    location_named, location_numbered,
 };
 pub use location_range::{LocationRange, RangeFault, one_place, only_cells, two_places};
-pub use number::{Signed, decimal_word, octal_word, offset_named, signed_number};
+pub use number::{
+    Signed, count_named, decimal_word, octal_word, offset_named, offset_said, signed_number,
+};
 pub use order::{Operand, next_is_extracode, operand_in, push_order};
 pub use place::{Place, push_place};
 pub use rope_builder::RopeBuilder;

@@ -20,14 +20,16 @@ ghost use Rattle.agc_listing.specs.Location.{
   location_at,
   location_named,
   is_addressable,
+  is_fixed_fixed,
+  location_numbered,
 };
 ghost use Rattle.agc_word.specs.Numeral.{octal_number};
 
 use crate::line::{first_comma, read_place};
 use agc_store::Addr;
 use agc_store::place::{
-    ERASABLE_BANK_SIZE, ERASABLE_WINDOW, FIXED_BANK_SIZE, FIXED_FIXED, FIXED_WINDOW, bank_of,
-    offset_of, place_of,
+    ERASABLE_BANK_SIZE, ERASABLE_WINDOW, FIXED_BANK_SIZE, FIXED_FIXED, FIXED_WINDOW, FIXED_WORDS,
+    bank_of, offset_of, place_of,
 };
 use agc_word::read_octal;
 
@@ -166,10 +168,34 @@ pub fn complete_address(place: u32) -> u16
     FIXED_BANK_SIZE * bank_register(place) + offset_of(place)
 }
 
-/// Returns whether an order at `here` can address a place: it is in the same bank or in 4000 to 7777 octal.
+/// Returns whether an order at `here` may name a place: one of them is in 4000 to 7777 octal, or both are in the same
+/// bank.
 pub fn is_addressable(here: u32, place: u32) -> bool
     ensures { result ≡ is_addressable here place }
 {
     let size = u32::from(FIXED_BANK_SIZE);
-    u32::from(FIXED_FIXED) <= place && place < 0o10000 || place / size == here / size
+    is_fixed_fixed(place) || is_fixed_fixed(here) || place / size == here / size
+}
+
+fn is_fixed_fixed(place: u32) -> bool
+    ensures { result ≡ is_fixed_fixed place }
+{
+    u32::from(FIXED_FIXED) <= place && place < 0o10000
+}
+
+/// Returns the location of a number, as listings count all memory: from 0 to 3777 octal the cells, from 4000 to 7777
+/// banks 02 and 03, and from 10000 on the banks in their order.
+pub fn location_numbered(number: u32) -> Option<Location>
+    ensures location { result ≡ location_numbered number }
+    ensures range { IfSome result IsWithin }
+{
+    if number < u32::from(FIXED_FIXED) {
+        Some(Location::Erasable(number))
+    } else if number < 0o10000 {
+        Some(Location::Fixed(number))
+    } else if number - 0o10000 < FIXED_WORDS {
+        Some(Location::Fixed(number - 0o10000))
+    } else {
+        None
+    }
 }

@@ -3,9 +3,11 @@ ghost use Rattle.std.specs.Prelude.{◌≡◌, ◌^◌, ◌<◌, IfSome};
 ghost use Rattle.agc_listing.specs.Number.{
   begins_with_minus,
   begins_with_sign,
+  count_named,
   decimal_word,
   octal_word,
   offset_named,
+  offset_said,
   signed_number,
   without_sign,
 };
@@ -48,6 +50,37 @@ pub fn offset_named(text: &[u8]) -> Option<Signed>
 {
     match text {
         [b'+' | b'-', ..] => signed_number(5, text),
+        _ => None,
+    }
+}
+
+/// Parses up to five octal digits, or up to five decimal digits and a letter D.
+#[tactic(auto, unfolding(crate::specs::Number::count_named))]
+pub fn count_named(text: &[u8]) -> Option<u64>
+    ensures number { result ≡ count_named text.now }
+    ensures range { IfSome result (λ n. n < 100000) }
+{
+    match text {
+        [digits @ .., b'D'] => read_decimal(5, digits),
+        _ => read_octal(5, text),
+    }
+}
+
+/// Parses an offset as sources write it: a sign, and octal digits, or decimal digits and a letter D.
+#[tactic(auto, unfolding(crate::specs::Number::offset_said))]
+pub fn offset_said(text: &[u8]) -> Option<Signed>
+    ensures number { result ≡ offset_said text.now }
+    ensures range { IfSome result (λ n. n.magnitude < 100000) }
+{
+    match text {
+        [b'+', digits @ ..] => Some(Signed {
+            minus: false,
+            magnitude: count_named(digits)?,
+        }),
+        [b'-', digits @ ..] => Some(Signed {
+            minus: true,
+            magnitude: count_named(digits)?,
+        }),
         _ => None,
     }
 }

@@ -2,7 +2,7 @@
 use Rattle.std.specs.Prelude.{◌≡◌, ◌≤◌, ℕ, length, List, ◌++◌, Option, Ok, Err, IfSome, codes}
 use Rattle.std.specs.Fmt.{decimal}
 use Rattle.agc_symbols.specs.Symbols.{Symbol, names_in}
-use Rattle.agc_symbols.specs.FaultText.{fault_name}
+use Rattle.agc_symbols.specs.FaultText.{fault_text}
 use Rattle.agc_symbols.specs.declared.fault.SymbolTableFault.{SymbolTableFault}
 use Rattle.agc_symbols.specs.declared.fault.SymbolTableFault.TheVariants as trouble
 use Rattle.agc_symbols.specs.declared.names_file.SymbolFileFault.{SymbolFileFault}
@@ -28,7 +28,7 @@ IsRefused known (refusal.Names (trouble.Line n why)) =
 -- the messages of these faults
 abbrev pub names_text : SymbolTableFault → List ℕ
 names_text (trouble.Line n why) =
-    codes "names: " ++ fault_name why ++ codes " at line " ++ decimal n
+    codes "names line " ++ decimal n ++ codes ": " ++ fault_text why
 names_text trouble.Memory = codes "memory"
 
 abbrev pub names_refusal_text : SymbolFileFault → List ℕ

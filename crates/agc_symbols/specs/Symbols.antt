@@ -1,7 +1,8 @@
 -- What the lines of a symbol file mean.
-use Rattle.std.specs.Prelude.{ℕ, ◌+◌, Bool, not, ◌&&◌, List, [], ◌∷◌, ◌++◌, Option, Some, None}
+use Rattle.std.specs.Prelude.{ℕ, ◌+◌, ◌==◌, Bool, false, not, drop, ◌&&◌, List, [], ◌∷◌, ◌++◌, Option, Some, None}
 use Rattle.std.specs.Prelude.{Result, Ok, Err, if◌then◌else◌}
 use Rattle.std.specs.List.{list_any}
+use Rattle.agc_word.specs.Numeral.{octal_number}
 use Rattle.agc_word.specs.Text.{lines_of}
 use Rattle.agc_listing.specs.Line.{is_no_text}
 use Rattle.agc_listing.specs.Location.{location_named}
@@ -35,15 +36,35 @@ name_after place (word ∷ words) =
     then named_alone (record { place = place; name = word }) words
     else Err fault.BadName
 
-abbrev pub name_at : Option Location → List (List ℕ) → Result (Option Symbol) NameFault
-name_at (Some place) words = name_after place words
-name_at None words = Err fault.BadPlace
+-- a channel: C and one to three octal digits
+abbrev pub begins_with_c : List ℕ → Bool
+begins_with_c [] = false
+begins_with_c (b ∷ bs) = b == 0x43
+
+unfoldable pub channel_named : List ℕ → Option ℕ
+channel_named word = if begins_with_c word then octal_number 3 (drop 1 word) else None
+
+-- a name of a channel names no place, if no further word follows
+abbrev pub no_place_alone : List (List ℕ) → Result (Option Symbol) NameFault
+no_place_alone [] = Ok None
+no_place_alone (word ∷ words) = Err fault.MoreWords
+
+-- the name after a channel
+abbrev pub name_after_channel : Option ℕ → List (List ℕ) → Result (Option Symbol) NameFault
+name_after_channel None words = Err fault.BadPlace
+name_after_channel (Some channel) [] = Err fault.BadName
+name_after_channel (Some channel) (word ∷ words) =
+    if is_place_name word then no_place_alone words else Err fault.BadName
+
+abbrev pub name_at : Option Location → List ℕ → List (List ℕ) → Result (Option Symbol) NameFault
+name_at (Some place) first words = name_after place words
+name_at None first words = name_after_channel (channel_named first) words
 
 abbrev pub words_named : List (List ℕ) → Result (Option Symbol) NameFault
 words_named [] = Ok None
-words_named (first ∷ words) = name_at (location_named first) words
+words_named (first ∷ words) = name_at (location_named first) first words
 
--- what a line means: a place and its name, or nothing
+-- what a line means for places: a place and its name, or nothing, as for a channel and its name
 unfoldable pub line_named : List ℕ → Result (Option Symbol) NameFault
 line_named line =
     if list_any is_no_text line then Err fault.NotText else words_named (said_by line)

@@ -2,6 +2,7 @@
 use Rattle.std.specs.Prelude.{◌≡◌, ℕ, ◌/◌, nat_lt, true, List, [], ◌∷◌, ◌++◌, codes, Option, Some, None}
 use Rattle.std.specs.Prelude.{if◌then◌else◌}
 use Rattle.std.specs.List.{flat_map}
+use Rattle.agc_word.specs.Octal.{octal_digits}
 use Rattle.agc_store.specs.Places.{erasable_bank_size, erasable_cells, fixed_words}
 use Rattle.agc_listing.specs.List.{listed_place}
 use Rattle.agc_listing.specs.Place.{place_text}
@@ -29,6 +30,13 @@ line_at None name = []
 -- the line of a name: its place, a space and the name; a place outside memory has none
 unfoldable pub name_line : Location → List ℕ → List ℕ
 name_line at name = line_at (place_of at) name
+
+-- the line of a channel's name: C and three octal digits, a space and the name
+abbrev pub channel_text : ℕ → List ℕ
+channel_text channel = codes "C" ++ octal_digits 3 channel
+
+unfoldable pub channel_line : ℕ → List ℕ → List ℕ
+channel_line channel name = channel_text channel ++ codes " " ++ name ++ codes "\n"
 
 -- the lines of some names, in their order
 abbrev pub line_for : Symbol → List ℕ

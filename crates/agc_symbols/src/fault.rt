@@ -1,6 +1,6 @@
 //! The faults of a symbol file's text.
 ghost use Rattle.std.specs.Prelude.{◌≡◌};
-ghost use Rattle.agc_symbols.specs.FaultText.{fault_name};
+ghost use Rattle.agc_symbols.specs.FaultText.{fault_text};
 
 use std::alloc::AllocError;
 use std::error::Error;
@@ -11,7 +11,7 @@ use std::fmt;
 pub enum NameFault {
     /// A byte that is neither a tab nor printable ASCII.
     NotText,
-    /// The first word is not a place: `bb,oooo`, `En,oooo`, or an address that needs no bank.
+    /// The first word is neither a place (`bb,oooo`, `En,oooo`, or an address that needs no bank) nor a channel (`C015`).
     BadPlace,
     /// The second word is missing, or is not a name.
     BadName,
@@ -20,15 +20,19 @@ pub enum NameFault {
 }
 
 impl NameFault {
-    /// Returns its name.
-    pub fn name(self) -> &'static str
-        ensures { result.now ≡ fault_name self }
+    /// Returns what is wrong, and what is right.
+    pub fn text(self) -> &'static str
+        ensures { result.now ≡ fault_text self }
     {
         match self {
-            NameFault::NotText => "NotText",
-            NameFault::BadPlace => "BadPlace",
-            NameFault::BadName => "BadName",
-            NameFault::MoreWords => "MoreWords",
+            NameFault::NotText => "a byte is neither a tab nor printable ASCII",
+            NameFault::BadPlace => {
+                "the first word is no place (octal 4000, 05,2071, 0100 or E3,1400) and no channel (C015)"
+            }
+            NameFault::BadName => {
+                "after the place comes a name: 1 to 8 characters, no comma, not only digits and signs"
+            }
+            NameFault::MoreWords => "a word follows the name; start comments with #",
         }
     }
 }
@@ -55,12 +59,12 @@ impl From<AllocError> for SymbolTableFault {
 
 impl fmt::Display for NameFault {
     ghost use Rattle.std.specs.Prelude.{Some};
-    ghost use Rattle.agc_symbols.specs.FaultText.{fault_name};
+    ghost use Rattle.agc_symbols.specs.FaultText.{fault_text};
 
-    ghost output = { λ fault. Some (fault_name fault) };
+    ghost output = { λ fault. Some (fault_text fault) };
 
     fn fmt<W: fmt::Write>(&self, f: &mut fmt::Formatter<W>) -> fmt::Result {
-        f.write_str(self.name())
+        f.write_str(self.text())
     }
 }
 
@@ -72,7 +76,7 @@ impl fmt::Display for SymbolTableFault {
 
     fn fmt<W: fmt::Write>(&self, f: &mut fmt::Formatter<W>) -> fmt::Result {
         match *self {
-            SymbolTableFault::Line(line, fault) => write!(f, "{fault} at line {line}"),
+            SymbolTableFault::Line(line, fault) => write!(f, "line {line}: {fault}"),
             SymbolTableFault::Memory => f.write_str("memory"),
         }
     }

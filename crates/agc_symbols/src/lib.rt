@@ -24,4 +24,4 @@ pub use names_file::{SymbolFileFault, names_at, read_names};
 pub use place_name::PlaceName;
 pub use ranges::{resolve_cells, resolve_range};
 pub use symbol_table::{Nearest, SymbolTable};
-pub use writing::push_name_line;
+pub use writing::{push_channel_line, push_name_line};

@@ -1,10 +1,12 @@
-//! Parses a line of a symbol file: a place and its name, or nothing.
+//! Parses a line of a symbol file: a place and its name, a channel and its name, or nothing.
 ghost use Rattle.std.specs.Prelude.{◌≡◌, option_map, Some, None, if◌then◌else◌};
-ghost use Rattle.agc_symbols.specs.Symbols.{as_named, is_place_name, line_named, name_after};
+ghost use Rattle.agc_symbols.specs.Symbols.{as_named, channel_named, is_place_name, line_named};
+ghost use Rattle.agc_symbols.specs.Symbols.{name_after, name_after_channel};
 ghost use Rattle.agc_listing.specs.Text.{said_by};
 
 use crate::fault::NameFault;
 use agc_listing::{Location, has_other_byte, is_name, location_named, next_said};
+use agc_word::read_octal;
 
 /// A place and its name, as read from a line.
 #[derive(Clone, Copy)]
@@ -13,7 +15,14 @@ pub(crate) struct Said<'a> {
     pub name: &'a str,
 }
 
-/// Parses a line, or returns its first fault.
+/// A channel and its name, as read from a line.
+#[derive(Clone, Copy)]
+pub(crate) struct SaidChannel<'a> {
+    pub channel: u16,
+    pub name: &'a str,
+}
+
+/// Parses a line for its place, or returns its first fault. The line of a channel has no place.
 #[tactic(auto, unfolding(crate::specs::Symbols::line_named))]
 pub(crate) fn read_line(line: &[u8]) -> Result<Option<Said<'_>>, NameFault>
     ensures { as_named result ≡ line_named line.now }
@@ -26,8 +35,50 @@ pub(crate) fn read_line(line: &[u8]) -> Result<Option<Said<'_>>, NameFault>
     };
     match location_named(first) {
         Some(place) => read_name(place, rest),
-        None => Err(NameFault::BadPlace),
+        None => no_place(first, rest),
     }
+}
+
+/// Checks the line of a channel: its name must follow, and no further word.
+fn no_place<'a>(first: &[u8], rest: &'a [u8]) -> Result<Option<Said<'a>>, NameFault>
+    ensures { as_named result ≡ name_after_channel (channel_named first.now) (said_by rest.now) }
+{
+    if channel_named(first).is_none() {
+        return Err(NameFault::BadPlace);
+    }
+    let Some((word, more)) = next_said(rest) else {
+        return Err(NameFault::BadName);
+    };
+    if !is_place_name(word) {
+        return Err(NameFault::BadName);
+    }
+    match next_said(more) {
+        Some(_) => Err(NameFault::MoreWords),
+        None => Ok(None),
+    }
+}
+
+/// Parses a channel: `C` and one to three octal digits.
+#[tactic(auto, unfolding(crate::specs::Symbols::channel_named))]
+fn channel_named(word: &[u8]) -> Option<u64>
+    ensures { result ≡ channel_named word.now }
+{
+    match word {
+        [b'C', digits @ ..] => read_octal(3, digits),
+        _ => None,
+    }
+}
+
+/// Returns the channel of a line and its name, if it is such a line.
+pub(crate) fn channel_on(line: &[u8]) -> Option<SaidChannel<'_>> {
+    let (first, rest) = next_said(line)?;
+    let channel = channel_named(first)?;
+    let (word, _) = next_said(rest)?;
+    let name = name_in(word)?;
+    Some(SaidChannel {
+        channel: channel.min(0o777) as u16,
+        name,
+    })
 }
 
 /// Parses the name after a place.

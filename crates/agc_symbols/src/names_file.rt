@@ -34,7 +34,7 @@ impl fmt::Display for SymbolFileFault {
         match *self {
             SymbolFileFault::CannotRead => f.write_str("cannot read names"),
             SymbolFileFault::Names(SymbolTableFault::Line(line, fault)) => {
-                write!(f, "names: {fault} at line {line}")
+                write!(f, "names line {line}: {fault}")
             }
             SymbolFileFault::Names(SymbolTableFault::Memory) => f.write_str("memory"),
         }

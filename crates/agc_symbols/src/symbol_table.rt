@@ -1,5 +1,5 @@
 //! The symbol table: reads a symbol file, and finds the nearest name of a place.
-ghost use Rattle.std.specs.Prelude.{◌≡◌, ◌≢◌, find, get_or, option_map, Ok, Err, IfOk, IfErr, None, OnOk};
+ghost use Rattle.std.specs.Prelude.{◌≡◌, ◌≢◌, ◌<◌, find, get_or, option_map, Ok, Err, IfOk, IfErr, IfSome, None, OnOk};
 ghost use Rattle.agc_symbols.specs.Index.{stands_at};
 ghost use Rattle.agc_symbols.specs.Symbols.{names_in, names_with, option_named};
 ghost use Rattle.agc_symbols.specs.Nearest.{as_nearby, nearest};
@@ -7,18 +7,26 @@ ghost use Rattle.agc_symbols.specs.declared.fault.SymbolTableFault.TheVariants.{
 
 use crate::fault::SymbolTableFault;
 use crate::index::first_names;
-use crate::line::{Said, read_line};
+use crate::line::{Said, SaidChannel, channel_on, read_line};
 use crate::location::{number_of, room_below};
 use crate::place_name::PlaceName;
 use agc_listing::Location;
-use agc_word::next_line;
+use agc_word::{next_line, without_return};
 use std::alloc::{AllocError, Global};
 use std::marker::Model;
+
+/// A name of a channel.
+#[derive(Drop)]
+struct ChannelName {
+    channel: u16,
+    name: String,
+}
 
 /// The names of a symbol file, in its order.
 #[derive(Drop)]
 pub struct SymbolTable {
     names: Vec<PlaceName>,
+    channels: Vec<ChannelName>,
     /// For each number of a location, the index of the first name at it.
     first: Vec<Option<usize>>,
 }
@@ -44,18 +52,34 @@ pub struct Nearest<'a> {
 
 impl SymbolTable {
     /// Reads a symbol file. A line has a place and its name, `02,4071 LOOP` or `4071 LOOP` or `E3,1400 COUNT`,
-    /// separated by blanks, or is empty; a word that begins with `#` begins a comment. The fault is that of the first
-    /// faulty line, or `Memory`.
+    /// separated by blanks, or a channel and its name, `C015 KEYS`, or is empty; a word that begins with `#` begins a
+    /// comment. The fault is that of the first faulty line, or `Memory`.
     pub fn read(alloc: Global, text: &[u8]) -> Result<SymbolTable, SymbolTableFault>
         ensures names { IfOk result (λ table. names_in text.now ≡ Ok table) }
         ensures fault { IfErr result (λ why. why ≢ Memory → names_in text.now ≡ Err why) }
     {
         let names = read_names(alloc, text)?;
         let first = first_names(alloc, names.as_slice())?;
-        Ok(SymbolTable { names, first })
+        let channels = read_channels(alloc, text)?;
+        Ok(SymbolTable {
+            names,
+            channels,
+            first,
+        })
     }
 
-    /// Returns the names, in the order of the text.
+    /// Returns the first channel with this name, 0 to 777 octal. A channel is no place, and no place is a channel.
+    pub fn channel(&self, name: &[u8]) -> Option<u16>
+        ensures range { IfSome result (λ channel. channel < 512) }
+    {
+        let named = self
+            .channels
+            .iter()
+            .find(|named| named.name.as_bytes() == name)?;
+        Some(named.channel.min(0o777))
+    }
+
+    /// Returns the names of places, in the order of the text.
     pub fn names(&self) -> &[PlaceName]
         ensures { result.now ≡ self.now }
     {
@@ -116,6 +140,18 @@ fn read_names(alloc: Global, text: &[u8]) -> Result<Vec<PlaceName>, SymbolTableF
         rest = after;
     }
     Ok(names)
+}
+
+/// Returns the names of channels of a text without a faulty line.
+fn read_channels(alloc: Global, text: &[u8]) -> Result<Vec<ChannelName>, AllocError> {
+    let mut channels = Vec::new(alloc);
+    for line in text.split(|b| *b == b'\n') {
+        if let Some(SaidChannel { channel, name }) = channel_on(without_return(line)) {
+            let name = String::from_str(alloc, name)?;
+            channels.push(ChannelName { channel, name })?;
+        }
+    }
+    Ok(channels)
 }
 
 /// Adds the name of a line, if it has one.
