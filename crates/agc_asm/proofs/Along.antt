@@ -9,7 +9,7 @@ use Rattle.agc_store.specs.Memory.{fixed_at}
 use Rattle.agc_listing.specs.List.{starts_run, is_extracode_at}
 use Rattle.agc_listing.specs.Order.{next_is_extracode}
 use Rattle.agc_listing.proofs.RopeLines.{extracode_next}
-use Rattle.agc_asm.specs.LocationCounter.{after_cells, after_words, location_at, moved_to, room_at}
+use Rattle.agc_asm.specs.LocationCounter.{after_cells, after_range, after_words, in_bank, location_at, moved_to, resumed, room_at}
 use Rattle.agc_asm.specs.OrderLines.{place_of}
 use Rattle.agc_asm.specs.declared.location_counter.At.{At}
 use Rattle.agc_asm.specs.declared.location_counter.At.TheVariants as at
@@ -72,28 +72,28 @@ next_read words bank left leads word inside is same =
     ap (is_extracode_at words) sum ∙ plain ∙ leads_same leads here word same
 
 -- what is read at the place of a line
-pub read_here : (words : List Number) (since : ℕ) (left : List ℕ) (here : At) (leads : Bool) (count place : ℕ) → 0 < count → Sound words since (record { left = left; at = here }) leads
-    → room_at (record { left = left; at = here }) here count ≡ Ok place → is_extracode_at words since ≡ false → is_extracode_at words place ≡ leads
-read_here words since left (at.Cell cell) leads count place some h is none = absurd cc
-read_here words since left (at.Bank bank) leads count place some h is none =
+pub read_here : (words : List Number) (since : ℕ) (left used : List ℕ) (here : At) (leads : Bool) (count place : ℕ) → 0 < count → Sound words since (record { left = left; used = used; at = here }) leads
+    → room_at (record { left = left; used = used; at = here }) here count ≡ Ok place → is_extracode_at words since ≡ false → is_extracode_at words place ≡ leads
+read_here words since left used (at.Cell cell) leads count place some h is none = absurd cc
+read_here words since left used (at.Bank bank) leads count place some h is none =
     let r = has_room bank (get_or left bank 0) count place is in
     rw r.here (h.along none (omega (arith, r.fits)))
 
 -- and that place is in the rope
-pub place_inside : (words : List Number) (since : ℕ) (left : List ℕ) (here : At) (leads : Bool) (count place : ℕ) → 0 < count → Sound words since (record { left = left; at = here }) leads
-    → room_at (record { left = left; at = here }) here count ≡ Ok place → place + count ≤ 0o110000
-place_inside words since left (at.Cell cell) leads count place some h is = absurd cc
-place_inside words since left (at.Bank bank) leads count place some h is =
+pub place_inside : (words : List Number) (since : ℕ) (left used : List ℕ) (here : At) (leads : Bool) (count place : ℕ) → 0 < count → Sound words since (record { left = left; used = used; at = here }) leads
+    → room_at (record { left = left; used = used; at = here }) here count ≡ Ok place → place + count ≤ 0o110000
+place_inside words since left used (at.Cell cell) leads count place some h is = absurd cc
+place_inside words since left used (at.Bank bank) leads count place some h is =
     let r = has_room bank (get_or left bank 0) count place is in
     let below : bank < 36 = h.bank in
     omega (arith, r.fits, r.here)
 
 -- after a line of one word
-pub after_one : (words : List Number) (since : ℕ) (left : List ℕ) (here : At) (leads : Bool) (place : ℕ) (word : Number) → Sound words since (record { left = left; at = here }) leads
-    → room_at (record { left = left; at = here }) here 1 ≡ Ok place → pattern_of 15 (fixed_at place words) ≡ pattern_of 15 word
-    → Sound words since (after_words (record { left = left; at = here }) here 1) (next_is_extracode leads word)
-after_one words since left (at.Cell cell) leads place word h is same = absurd cc
-after_one words since left (at.Bank bank) leads place word h is same =
+pub after_one : (words : List Number) (since : ℕ) (left used : List ℕ) (here : At) (leads : Bool) (place : ℕ) (word : Number) → Sound words since (record { left = left; used = used; at = here }) leads
+    → room_at (record { left = left; used = used; at = here }) here 1 ≡ Ok place → pattern_of 15 (fixed_at place words) ≡ pattern_of 15 word
+    → Sound words since (after_words (record { left = left; used = used; at = here }) here 1) (next_is_extracode leads word)
+after_one words since left used (at.Cell cell) leads place word h is same = absurd cc
+after_one words since left used (at.Bank bank) leads place word h is same =
     let l = get_or left bank 0 in
     let r = has_room bank l 1 place is in
     let below : bank < 36 = h.bank in
@@ -106,41 +106,31 @@ after_one words since left (at.Bank bank) leads place word h is same =
           rw set_there (next_read words bank l leads word small (h.along none (omega arith)) (rw r.here at same));
     }
 
--- and of two
-pub after_two : (words : List Number) (since : ℕ) (left : List ℕ) (here : At) (leads : Bool) (place : ℕ) (upper lower : Number) → Sound words since (record { left = left; at = here }) leads
-    → room_at (record { left = left; at = here }) here 2 ≡ Ok place → pattern_of 15 (fixed_at place words) ≡ pattern_of 15 upper → pattern_of 15 (fixed_at (place + 1) words) ≡ pattern_of 15 lower
-    → Sound words since (after_words (record { left = left; at = here }) here 2) (next_is_extracode (next_is_extracode leads upper) lower)
-after_two words since left (at.Cell cell) leads place upper lower h is same same_lower = absurd cc
-after_two words since left (at.Bank bank) leads place upper lower h is same same_lower =
-    let l = get_or left bank 0 in
-    let r = has_room bank l 2 place is in
-    let below : bank < 36 = h.bank in
-    let set_there : get_or (set left bank (l + 2)) bank 0 ≡ l + 2 = get_or-set_same left bank (l + 2) 0 (omega (arith, h.banks)) in
-    let behind : place + 1 ≡ 0o2000 * bank + (l + 1) = omega (arith, r.here) in
-    let sum : l + 2 ≡ l + 1 + 1 = omega arith in
+-- after data
+pub after_data : (words : List Number) (since : ℕ) (left used : List ℕ) (here : At) (leads : Bool) (count place : ℕ) → Sound words since (record { left = left; used = used; at = here }) leads
+    → room_at (record { left = left; used = used; at = here }) here count ≡ Ok place
+    → Sound words (place_of (location_at (after_words (record { left = left; used = used; at = here }) here count) (after_words (record { left = left; used = used; at = here }) here count).at)) (after_words (record { left = left; used = used; at = here }) here count) false
+after_data words since left used (at.Cell cell) leads count place h is = absurd cc
+after_data words since left used (at.Bank bank) leads count place h is =
     record {
-      banks = length-set left bank (l + 2) ∙ h.banks;
+      banks = length-set left bank (get_or left bank 0 + count) ∙ h.banks;
       bank = h.bank;
-      along = λ none inside.
-          let small : l + 2 < 0o2000 = rw set_there at inside in
-          let between = next_read words bank l leads upper (omega arith) (h.along none (omega arith)) (rw r.here at same) in
-          let last = next_read words bank (l + 1) (next_is_extracode leads upper) lower (omega arith) between (rw behind at same_lower) in
-          rw (set_there, sum) last;
+      along = λ none inside. none;
     }
 
 -- after a line without words
-abbrev at_cell : List ℕ → ℕ → LocationCounter
-at_cell left cell = record { left = left; at = at.Cell cell }
+abbrev at_cell : List ℕ → List ℕ → ℕ → LocationCounter
+at_cell left used cell = record { left = left; used = used; at = at.Cell cell }
 
-after_cells_by : (words : List Number) (since : ℕ) (left : List ℕ) (cell : ℕ) (leads room : Bool) → Sound words since (at_cell left cell) leads → (more : ℕ)
-    → IfOk (if room then Ok (at_cell left more) else Err fault.Full) (λ next. Sound words since next (leads && true))
-after_cells_by words since left cell leads true h more = record { banks = h.banks; bank = tt; along = λ none. tt }
-after_cells_by words since left cell leads false h more = tt
+after_cells_by : (words : List Number) (since : ℕ) (left used : List ℕ) (cell : ℕ) (leads room : Bool) → Sound words since (at_cell left used cell) leads → (more : ℕ)
+    → IfOk (if room then Ok (at_cell left used more) else Err fault.Full) (λ next. Sound words since next (leads && true))
+after_cells_by words since left used cell leads true h more = record { banks = h.banks; bank = tt; along = λ none. tt }
+after_cells_by words since left used cell leads false h more = tt
 
-pub after_cell_line : (words : List Number) (since : ℕ) (left : List ℕ) (here : At) (leads : Bool) (count : ℕ) → Sound words since (record { left = left; at = here }) leads
-    → IfOk (after_cells (record { left = left; at = here }) here count) (λ next. Sound words since next (leads && true))
-after_cell_line words since left (at.Bank bank) leads count h = tt
-after_cell_line words since left (at.Cell cell) leads count h = after_cells_by words since left cell leads (nat_le (cell + count) 0o4000) h (cell + count)
+pub after_cell_line : (words : List Number) (since : ℕ) (left used : List ℕ) (here : At) (leads : Bool) (count : ℕ) → Sound words since (record { left = left; used = used; at = here }) leads
+    → IfOk (after_cells (record { left = left; used = used; at = here }) here count) (λ next. Sound words since next (leads && true))
+after_cell_line words since left used (at.Bank bank) leads count h = tt
+after_cell_line words since left used (at.Cell cell) leads count h = after_cells_by words since left used cell leads (nat_le (cell + count) 0o4000) h (cell + count)
 
 pub after_name_line : (words : List Number) (since : ℕ) (counter : LocationCounter) (leads : Bool) → Sound words since counter leads → Sound words since counter (leads && true)
 after_name_line words since counter leads h = rw (and-true leads) h
@@ -157,10 +147,22 @@ after_move words since counter leads (location.Fixed place) h goes =
 after_move words since counter leads (location.Erasable cell) h goes = record { banks = h.banks; bank = tt; along = λ none. tt }
 
 pub after_bank : (words : List Number) (since : ℕ) (counter : LocationCounter) (leads : Bool) (bank : ℕ) → Sound words since counter leads → bank < 36
-    → Sound words (place_of (location_at (record counter { at = at.Bank bank }) (at.Bank bank))) (record counter { at = at.Bank bank }) (leads && false)
+    → Sound words (place_of (location_at (in_bank counter bank) (in_bank counter bank).at)) (in_bank counter bank) (leads && false)
 after_bank words since counter leads bank h goes =
     record {
-      banks = h.banks;
+      banks = length-set counter.left bank (get_or counter.used bank 0) ∙ h.banks;
       bank = goes;
       along = λ none inside. rw (and_right leads false refl) none;
     }
+
+-- after BANK without a number
+pub after_resumed : (words : List Number) (since : ℕ) (left used : List ℕ) (here : At) (leads : Bool) → Sound words since (record { left = left; used = used; at = here }) leads
+    → IfOk (resumed (record { left = left; used = used; at = here }) here) (λ next. Sound words (place_of (location_at next next.at)) next (leads && false))
+after_resumed words since left used (at.Cell cell) leads h = tt
+after_resumed words since left used (at.Bank bank) leads h = after_bank words since (record { left = left; used = used; at = at.Bank bank }) leads bank h h.bank
+
+-- after a range of cells
+pub after_range_line : (words : List Number) (since : ℕ) (left used : List ℕ) (here : At) (leads : Bool) (end : ℕ) → Sound words since (record { left = left; used = used; at = here }) leads
+    → IfOk (after_range (record { left = left; used = used; at = here }) here end) (λ next. Sound words since next (leads && true))
+after_range_line words since left used (at.Bank bank) leads end h = tt
+after_range_line words since left used (at.Cell cell) leads end h = record { banks = h.banks; bank = tt; along = λ none. tt }

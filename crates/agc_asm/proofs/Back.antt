@@ -28,9 +28,9 @@ use Rattle.agc_asm.proofs.Passes.{next_woven}
 use Rattle.agc_asm.specs.declared.pass2.Step.{Step}
 use Rattle.agc_listing.specs.declared.fault.LineFault.{LineFault}
 use Rattle.agc_listing.specs.declared.line.PlacedWord.{PlacedWord}
-use Rattle.agc_asm.specs.Source.{as_source, both_said, first_state, is_listing, line_woven, listed_woven, IsSourceWoven, names_in, source_in, words_from, words_in}
+use Rattle.agc_asm.specs.Source.{as_source, both_said, first_names, first_state, is_listing, line_woven, listed_woven, IsSourceWoven, names_in, source_in, words_from, words_in}
 use Rattle.agc_asm.specs.declared.pass2.State.{State}
-use Rattle.agc_asm.specs.Name.{Naming, own_names}
+use Rattle.agc_asm.specs.Name.{Naming}
 use Rattle.agc_listing.specs.Text.{are_listed, said_by}
 
 -- In the second pass the lines of a listing mean what they mean in a listing.
@@ -97,9 +97,9 @@ agree_on naming state (line ∷ lines) h n said =
     agree_line naming state line lines n said (line_named line) parts.0 refl (agree_on naming state lines parts.1)
 
 -- So a text without faults in both passes names the words of the second pass.
-source_by : (text : List ℕ) (said : List PlacedWord) (listing : Bool) → is_listing text ≡ listing → names_in text ≡ Ok own_names → words_in own_names text ≡ Ok said → source_in text ≡ Ok said
+source_by : (text : List ℕ) (said : List PlacedWord) (listing : Bool) → is_listing text ≡ listing → names_in text ≡ Ok (first_names text) → words_in (first_names text) text ≡ Ok said → source_in text ≡ Ok said
 unfolding source_in is_listing words_in said_in
-source_by text said true listing none says = rw listing (sym (agree_on own_names first_state (lines_of text) listing 1 []) ∙ says)
+source_by text said true listing none says = rw listing (sym (agree_on (first_names text) first_state (lines_of text) listing 1 []) ∙ says)
 source_by text said false listing none says = rw (listing, none) says
 
 -- a rope's words are narrow, also past its end
@@ -124,8 +124,8 @@ unfolding resolve_range names_in words_in words_below
 places_say words narrow count room =
     let text = resolve_range count None words in
     source_by text (words_below count words) (is_listing text) refl
-    (finds_none words narrow count 0 (omega arith) 1 own_names first_cursor (at_first words).counter)
-    (finds_words words narrow count 0 (omega arith) 1 own_names first_state [] (at_first words) (record { none = λ place from. refl }))
+    (finds_none words narrow count 0 (omega arith) 1 (first_names text) first_cursor (at_first words).counter)
+    (finds_words words narrow count 0 (omega arith) 1 (first_names text) first_state [] (at_first words) (record { none = λ place from. refl }))
 
 pub source_says : (words : List Number) → AreRopeWords words → source_in (rope_source None words) ≡ Ok (words_listed words)
 unfolding rope_source words_listed

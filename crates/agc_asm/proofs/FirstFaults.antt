@@ -6,7 +6,7 @@ use Rattle.agc_listing.specs.Weave.{said_in}
 use Rattle.agc_listing.specs.declared.line.PlacedWord.{PlacedWord}
 use Rattle.agc_asm.specs.LocationCounter.{first_cursor}
 use Rattle.agc_asm.specs.FirstFault.{IsFirstFault, IsFirstOn, Pass, names_pass, words_pass}
-use Rattle.agc_asm.specs.Source.{as_source, both_said, first_state, is_listing, line_labelled, line_woven, names_from, names_in, naming_after, source_in, words_after_names, words_from, words_in}
+use Rattle.agc_asm.specs.Source.{as_source, both_said, first_names, first_state, is_listing, line_labelled, line_woven, names_from, names_in, naming_after, source_in, words_after_names, words_from, words_in}
 use Rattle.agc_asm.specs.declared.location_counter.LocationCounter.{LocationCounter}
 use Rattle.agc_asm.specs.declared.pass1.Labelled.{Labelled}
 use Rattle.agc_asm.specs.declared.pass2.State.{State}
@@ -122,9 +122,9 @@ from_one pass lines at why c =
       here = ap (λ (n : ℕ). pass (take n lines)) upto ∙ c.faulty;
     }
 
-names_first : (text : List ℕ) (n : ℕ) (why : SourceFault) → names_in text ≡ Err (trouble.Line n why) → IsFirstOn names_pass (lines_of text) n why
+names_first : (text : List ℕ) (n : ℕ) (why : SourceFault) → names_in text ≡ Err (trouble.Line n why) → IsFirstOn (names_pass text) (lines_of text) n why
 unfolding names_in
-names_first text n why is = from_one names_pass (lines_of text) n why (names_cut (lines_of text) n why 1 own_names first_cursor is)
+names_first text n why is = from_one (names_pass text) (lines_of text) n why (names_cut (lines_of text) n why 1 (first_names text) first_cursor is)
 
 words_first : (naming : Naming) (text : List ℕ) (n : ℕ) (why : SourceFault) → words_in naming text ≡ Err (trouble.Line n why) → IsFirstOn (words_pass naming) (lines_of text) n why
 unfolding words_in
@@ -152,7 +152,7 @@ listing_first text n why listing is =
 pub first_told : (text : List ℕ) (n : ℕ) (why : SourceFault) → is_listing text ≡ false → IsFirstFault text n why → source_in text ≡ Err (trouble.Line n why)
 unfolding source_in names_in words_in
 first_told text n why listing (inl first) =
-    let names : names_in text ≡ Err (trouble.Line n why) = names_stay (lines_of text) n 1 own_names first_cursor (trouble.Line n why) first.here in
+    let names : names_in text ≡ Err (trouble.Line n why) = names_stay (lines_of text) n 1 (first_names text) first_cursor (trouble.Line n why) first.here in
     rw (listing, names) refl
 first_told text n why listing (inr second) =
     let words : words_in second.0 text ≡ Err (trouble.Line n why) = words_stay second.0 (lines_of text) n 1 first_state [] (trouble.Line n why) second.2.here in

@@ -1,30 +1,43 @@
 -- The words of a source have fifteen bits.
-use Rattle.std.specs.Prelude.{◌≡◌, ℕ, ◌*◌, ◌/◌, ◌%◌, ◌^◌, ◌<◌, nat_lt, Bool, true, false, List, [], ◌∷◌, Option, Some, None, Result, Ok, Err, IfOk, IfSome, if◌then◌else◌}
+use Rattle.std.specs.Prelude.{◌≡◌, ℕ, ◌+◌, ◌-◌, ◌/◌, ◌%◌, ◌^◌, ◌<◌, Bool, true, false, List, [], ◌∷◌, codes, Option, Some, None, Result, Ok, Err, IfOk, IfSome}
 use Rattle.std.proofs.Common.{refl, arith}
 use Rattle.std.proofs.lemmas.Bool.Decides.{nat_tests}
 use Rattle.agc_word.specs.Number.{Number, number_from_pattern, pattern_of}
-use Rattle.agc_word.specs.Numeral.{octal_number}
+use Rattle.agc_word.specs.Numeral.{decimal_number, octal_number}
 use Rattle.agc_order.specs.Row.{basic_row, extracode_row}
 use Rattle.agc_order.specs.declared.order.Basic.{Basic}
 use Rattle.agc_order.specs.declared.order.Extracode.{Extracode}
 use Rattle.agc_listing.specs.declared.order.Operand.{Operand}
-use Rattle.agc_listing.specs.Location.{bank_register, complete_address}
+use Rattle.agc_listing.specs.Location.{complete_address}
 use Rattle.agc_asm.specs.Mnemonic.{basic_named, directive_named, extracode_named}
 use Rattle.agc_asm.specs.Name.{Naming}
-use Rattle.agc_listing.specs.Number.{decimal_word, narrow_of, octal_word, signed_number, word_of_pattern, word_within}
+use Rattle.agc_listing.specs.Number.{begins_with_minus, octal_word, without_sign, word_of_pattern}
 use Rattle.agc_asm.specs.Row.{as_word, basic_word, extracode_word}
 use Rattle.agc_listing.specs.Text.{only_of}
 use Rattle.agc_asm.specs.declared.fault.SourceFault.{SourceFault}
 use Rattle.agc_asm.specs.declared.mnemonic.Directive.{Directive}
 use Rattle.agc_asm.specs.declared.mnemonic.Directive.TheVariants as directive
 use Rattle.agc_listing.specs.declared.number.Signed.{Signed}
-use Rattle.agc_asm.specs.Encode.{adres_word, any_address, basic_with, bbcon_word, cadr_word, decimal_in, directive_meaning, extracode_with, if_basic, if_extracode, octal_in, or_bad_number, order_meaning, pair_by, pair_by_word, pair_meaning, pair_of_number, pair_of_octal, place_in, word_by, word_meaning}
-use Rattle.agc_asm.specs.Operand.{operand_for, value_of}
+use Rattle.agc_asm.specs.Encode.{adres_word, any_address, bank_word, basic_with, bbcon_word, cadr_word, cell_in, complemented, complemented_pair, complemented_some, complemented_word, directive_meaning, ecadr_word, extracode_with, if_basic, if_extracode, less_than_zero, lowered, major_mode, major_mode_in, misfit, number_word, octal_in, octal_pair_in, or_bad_number, order_by_offset, order_meaning, pair_by, pair_by_word, pair_meaning, pair_of_number, pair_of_octal, pair_of_place, pair_spelled, place_in, plain_meaning, unless_misfit, verb_noun, verb_noun_in, word_by, word_meaning}
+use Rattle.agc_asm.specs.Body.{alias_in, has_minus, spelled}
+use Rattle.agc_asm.specs.Numeral.{number_in}
+use Rattle.agc_asm.specs.declared.alias.Alias.{Alias}
+use Rattle.agc_asm.specs.declared.encode.Banks.{Banks}
+use Rattle.agc_listing.specs.declared.location.Location.{Location}
+use Rattle.agc_listing.specs.List.{listed_address}
+use Rattle.agc_asm.specs.Operand.{location_in, operand_for, value_of}
 use Rattle.agc_asm.specs.declared.encode.Pair.{Pair}
-use Rattle.agc_asm.specs.declared.operand.Value.{Value}
 
 abbrev pub Fits : Number → Type 0
-Fits word = pattern_of 15 word < 2 ^ 15
+Fits word = word.magnitude < 2 ^ 14
+
+fits_pattern : (minus : Bool) (magnitude : ℕ) → magnitude < 2 ^ 14 → pattern_of 15 (record { minus = minus; magnitude = magnitude }) < 2 ^ 15
+fits_pattern true magnitude h = omega arith
+fits_pattern false magnitude h = omega arith
+
+complemented_fits : (minus : Bool) (word : Number) → Fits word → Fits (complemented minus word)
+complemented_fits true word h = h
+complemented_fits false word h = h
 
 abbrev pub BothFit : Pair → Type 0
 BothFit pair = Fits pair.upper × Fits pair.lower
@@ -33,8 +46,7 @@ pattern_fits : (bits : ℕ) → Fits (number_from_pattern 15 bits)
 pattern_fits bits = grind (arith, nat_tests)
 
 signed_fits : (minus : Bool) (magnitude : ℕ) → magnitude < 2 ^ 14 → Fits (record { minus = minus; magnitude = magnitude })
-signed_fits true magnitude h = omega arith
-signed_fits false magnitude h = omega arith
+signed_fits minus magnitude h = h
 
 -- of orders
 as_word_fits : (bits : Result ℕ SourceFault) → IfOk (as_word bits) Fits
@@ -70,105 +82,184 @@ octal_fits : (bits : Option ℕ) → IfSome (word_of_pattern bits) Fits
 octal_fits (Some bits) = pattern_fits bits
 octal_fits None = tt
 
+some_fits : (minus : Bool) (word : Option Number) → IfSome word Fits → IfSome (complemented_some minus word) Fits
+some_fits minus (Some word) h = complemented_fits minus word h
+some_fits minus None h = tt
+
 octal_in_fits : (word : Option (List ℕ)) → IfSome (octal_in word) Fits
 unfolding octal_word
-octal_in_fits (Some word) = octal_fits (octal_number 5 word)
+octal_in_fits (Some word) = some_fits (begins_with_minus word) (octal_word (without_sign word)) (octal_fits (octal_number 5 (without_sign word)))
 octal_in_fits None = tt
 
-within_fits : (n : Signed) (inside : Bool) → IfSome (if inside then Some (narrow_of n) else None) Fits
-within_fits n true = signed_fits n.minus (n.magnitude % 0o40000) (omega arith)
-within_fits n false = tt
+decimal_fits : (n : Result Signed SourceFault) → IfOk (number_word n) Fits
+decimal_fits (Ok n) = omega arith
+decimal_fits (Err why) = tt
 
-decimal_fits : (number : Option Signed) → IfSome (word_within number) Fits
-decimal_fits (Some n) = within_fits n (nat_lt n.magnitude 0o40000)
-decimal_fits None = tt
-
-decimal_in_fits : (word : Option (List ℕ)) → IfSome (decimal_in word) Fits
-unfolding decimal_word
-decimal_in_fits (Some word) = decimal_fits (signed_number 5 word)
-decimal_in_fits None = tt
-
-adres_fits : (v : Result Value SourceFault) → IfOk (adres_word v) Fits
-adres_fits (Ok v) = as_word_fits (any_address v)
+adres_fits : (place : Result Location SourceFault) → IfOk (adres_word place) Fits
+adres_fits (Ok place) = pattern_fits (any_address place)
 adres_fits (Err why) = tt
 
 cadr_fits : (place : Result ℕ SourceFault) → IfOk (cadr_word place) Fits
 cadr_fits (Ok place) = pattern_fits (complete_address place)
 cadr_fits (Err why) = tt
 
-bbcon_fits : (place : Result ℕ SourceFault) → IfOk (bbcon_word place) Fits
-bbcon_fits (Ok place) = pattern_fits (0o2000 * bank_register place)
-bbcon_fits (Err why) = tt
+ecadr_fits : (cell : Result ℕ SourceFault) → IfOk (ecadr_word cell) Fits
+ecadr_fits (Ok cell) = pattern_fits cell
+ecadr_fits (Err why) = tt
 
-directive_fits : (naming : Naming) (here : ℕ) (d : Directive) (words : List (List ℕ)) → IfOk (directive_meaning naming here d words) Fits
-directive_fits naming here directive.Oct words = number_fits (octal_in (only_of words)) (octal_in_fits (only_of words))
-directive_fits naming here directive.Dec words = number_fits (decimal_in (only_of words)) (decimal_in_fits (only_of words))
-directive_fits naming here directive.Adres words = adres_fits (value_of naming here words)
-directive_fits naming here directive.Cadr words = cadr_fits (place_in (value_of naming here words))
-directive_fits naming here directive.Bbcon words = bbcon_fits (place_in (value_of naming here words))
-directive_fits naming here directive.SetLoc words = tt
-directive_fits naming here directive.Bank words = tt
-directive_fits naming here directive.PairOct words = tt
-directive_fits naming here directive.PairDec words = tt
-directive_fits naming here directive.Is words = tt
-directive_fits naming here directive.Equals words = tt
-directive_fits naming here directive.Erase words = tt
+bbcon_fits : (banks : Banks) (place : Result ℕ SourceFault) → IfOk (bbcon_word banks place) Fits
+bbcon_fits banks (Ok place) = pattern_fits (bank_word banks place)
+bbcon_fits banks (Err why) = tt
 
-by_fits : (naming : Naming) (here : ℕ) (leads : Bool) (d : Option Directive) (word : List ℕ) (words : List (List ℕ)) → IfOk (word_by naming here leads d word words) Fits
-by_fits naming here leads (Some d) word words = directive_fits naming here d words
-by_fits naming here leads None word words = order_fits naming here leads word words
+verb_number : (n : Option ℕ) → IfOk (verb_noun n) Fits
+verb_number (Some n) = omega arith
+verb_number None = tt
 
-meaning_fits : (naming : Naming) (here : ℕ) (leads : Bool) (words : List (List ℕ)) → IfOk (word_meaning naming here leads words) Fits
+verb_fits : (word : Option (List ℕ)) → IfOk (verb_noun_in word) Fits
+verb_fits (Some word) = verb_number (decimal_number 4 word)
+verb_fits None = tt
+
+mode_number : (n : Option ℕ) → IfOk (major_mode n) Fits
+mode_number (Some n) = omega arith
+mode_number None = tt
+
+mode_fits : (word : Option (List ℕ)) → IfOk (major_mode_in word) Fits
+mode_fits (Some word) = mode_number (decimal_number 2 word)
+mode_fits None = tt
+
+directive_fits : (naming : Naming) (banks : Banks) (d : Directive) (words : List (List ℕ)) → IfOk (directive_meaning naming banks d words) Fits
+directive_fits naming banks directive.SetLoc words = tt
+directive_fits naming banks directive.Bank words = tt
+directive_fits naming banks directive.Block words = tt
+directive_fits naming banks directive.Oct words = number_fits (octal_in (only_of words)) (octal_in_fits (only_of words))
+directive_fits naming banks directive.Octal words = number_fits (octal_in (only_of words)) (octal_in_fits (only_of words))
+directive_fits naming banks directive.Dec words = decimal_fits (number_in 14 false words)
+directive_fits naming banks directive.DecStarred words = decimal_fits (number_in 14 true words)
+directive_fits naming banks directive.PairOct words = tt
+directive_fits naming banks directive.PairDec words = tt
+directive_fits naming banks directive.PairDecStarred words = tt
+directive_fits naming banks directive.Adres words = adres_fits (location_in naming words)
+directive_fits naming banks directive.Remadr words = adres_fits (location_in naming words)
+directive_fits naming banks directive.Genadr words = adres_fits (location_in naming words)
+directive_fits naming banks directive.Cadr words = cadr_fits (place_in (location_in naming words))
+directive_fits naming banks directive.Fcadr words = cadr_fits (place_in (location_in naming words))
+directive_fits naming banks directive.Ecadr words = ecadr_fits (cell_in (location_in naming words))
+directive_fits naming banks directive.Bbcon words = bbcon_fits banks (place_in (location_in naming words))
+directive_fits naming banks directive.PairCadr words = tt
+directive_fits naming banks directive.VerbNoun words = verb_fits (only_of words)
+directive_fits naming banks directive.MajorMode words = mode_fits (only_of words)
+directive_fits naming banks directive.Is words = tt
+directive_fits naming banks directive.Equals words = tt
+directive_fits naming banks directive.Erase words = tt
+directive_fits naming banks directive.Ebank words = tt
+directive_fits naming banks directive.Sbank words = tt
+directive_fits naming banks directive.Count words = tt
+directive_fits naming banks directive.CountStarred words = tt
+directive_fits naming banks directive.Memory words = tt
+directive_fits naming banks directive.BankSum words = tt
+
+lowered_fits : (less : ℕ) (word : Result Number SourceFault) → IfOk (lowered less word) Fits
+lowered_fits less (Ok word) = pattern_fits ((pattern_of 15 word + (2 ^ 17 - less)) % 2 ^ 15)
+lowered_fits less (Err why) = tt
+
+offset_fits : (naming : Naming) (here : ℕ) (leads : Bool) (less : Option ℕ) (word : List ℕ) (words : List (List ℕ)) → IfOk (order_by_offset naming here leads less word words) Fits
+offset_fits naming here leads None word words = order_fits naming here leads word words
+offset_fits naming here leads (Some less) word words = lowered_fits less (order_meaning naming here leads word (codes "0" ∷ []))
+
+by_fits : (naming : Naming) (here : ℕ) (leads : Bool) (banks : Banks) (d : Option Directive) (word : List ℕ) (words : List (List ℕ)) → IfOk (word_by naming here leads banks d word words) Fits
+by_fits naming here leads banks (Some d) word words = directive_fits naming banks d words
+by_fits naming here leads banks None word words = offset_fits naming here leads (less_than_zero words) word words
+
+misfit_fits : (why : Option SourceFault) (word : Result Number SourceFault) → IfOk word Fits → IfOk (unless_misfit why word) Fits
+misfit_fits (Some why) word h = tt
+misfit_fits None word h = h
+
+plain_fits : (naming : Naming) (here : ℕ) (leads : Bool) (banks : Banks) (a : Option Alias) (words : List (List ℕ)) → IfOk (plain_meaning naming here leads banks a words) Fits
+plain_fits naming here leads banks a [] = tt
+plain_fits naming here leads banks a (word ∷ words) =
+    misfit_fits (misfit a (value_of naming here words)) (word_by naming here leads banks (directive_named word) word words) (by_fits naming here leads banks (directive_named word) word words)
+
+minus_fits : (minus : Bool) (word : Result Number SourceFault) → IfOk word Fits → IfOk (complemented_word minus word) Fits
+minus_fits minus (Ok word) h = complemented_fits minus word h
+minus_fits minus (Err why) h = tt
+
+meaning_fits : (naming : Naming) (here : ℕ) (leads : Bool) (banks : Banks) (words : List (List ℕ)) → IfOk (word_meaning naming here leads banks words) Fits
 unfolding word_meaning
-meaning_fits naming here leads [] = tt
-meaning_fits naming here leads (word ∷ words) = by_fits naming here leads (directive_named word) word words
+meaning_fits naming here leads banks words =
+    minus_fits (has_minus words) (plain_meaning naming here leads banks (alias_in words) (spelled words)) (plain_fits naming here leads banks (alias_in words) (spelled words))
 
-pub word_fits : (naming : Naming) (here : ℕ) (leads : Bool) (words : List (List ℕ)) (word : Number) → word_meaning naming here leads words ≡ Ok word → Fits word
-word_fits naming here leads words word is =
-    let all = meaning_fits naming here leads words in
-    rw is at all
+pub word_fits : (naming : Naming) (here : ℕ) (leads : Bool) (banks : Banks) (words : List (List ℕ)) (word : Number) → word_meaning naming here leads banks words ≡ Ok word → pattern_of 15 word < 2 ^ 15
+word_fits naming here leads banks words word is =
+    let all = meaning_fits naming here leads banks words in
+    let fits : Fits word = rw is at all in
+    fits_pattern word.minus word.magnitude fits
 
 -- and both words of a pair
-number_pair_fits : (n : Signed) (inside : Bool) → nat_lt n.magnitude (2 ^ 28) ≡ inside → IfOk (pair_of_number (Some n)) BothFit
-number_pair_fits n true is =
-    let below : n.magnitude < 2 ^ 28 = grind (arith, nat_tests) in
-    rw is (signed_fits n.minus (n.magnitude / 2 ^ 14) (omega arith), signed_fits n.minus (n.magnitude % 2 ^ 14) (omega arith))
-number_pair_fits n false is = rw is tt
-
-number_pair : (number : Option Signed) → IfOk (pair_of_number number) BothFit
-number_pair (Some n) = number_pair_fits n (nat_lt n.magnitude (2 ^ 28)) refl
-number_pair None = tt
+number_pair : (n : Result Signed SourceFault) → IfOk (pair_of_number n) BothFit
+number_pair (Ok n) = (omega arith, omega arith)
+number_pair (Err why) = tt
 
 octal_pair : (bits : Option ℕ) → IfOk (pair_of_octal bits) BothFit
 octal_pair (Some bits) = (pattern_fits (bits / 2 ^ 15), pattern_fits (bits % 2 ^ 15))
 octal_pair None = tt
 
-pair_word_fits : (d : Directive) (word : Option (List ℕ)) → IfOk (pair_by_word d word) BothFit
-pair_word_fits directive.PairDec (Some word) = number_pair (signed_number 9 word)
-pair_word_fits directive.PairOct (Some word) = octal_pair (octal_number 10 word)
-pair_word_fits directive.PairDec None = tt
-pair_word_fits directive.PairOct None = tt
-pair_word_fits directive.SetLoc word = tt
-pair_word_fits directive.Bank word = tt
-pair_word_fits directive.Oct word = tt
-pair_word_fits directive.Dec word = tt
-pair_word_fits directive.Adres word = tt
-pair_word_fits directive.Cadr word = tt
-pair_word_fits directive.Bbcon word = tt
-pair_word_fits directive.Is word = tt
-pair_word_fits directive.Equals word = tt
-pair_word_fits directive.Erase word = tt
+octal_pair_word : (word : Option (List ℕ)) → IfOk (octal_pair_in word) BothFit
+octal_pair_word (Some word) = octal_pair (octal_number 10 word)
+octal_pair_word None = tt
 
-pair_by_fits : (d : Option Directive) (words : List (List ℕ)) → IfOk (pair_by d words) BothFit
-pair_by_fits (Some d) words = pair_word_fits d (only_of words)
-pair_by_fits None words = tt
+place_pair : (banks : Banks) (place : Result ℕ SourceFault) → IfOk (pair_of_place banks place) BothFit
+place_pair banks (Ok place) = (pattern_fits (listed_address place), pattern_fits (bank_word banks place))
+place_pair banks (Err why) = tt
 
-pair_all_fit : (words : List (List ℕ)) → IfOk (pair_meaning words) BothFit
+pair_word_fits : (naming : Naming) (banks : Banks) (d : Directive) (words : List (List ℕ)) → IfOk (pair_by_word naming banks d words) BothFit
+pair_word_fits naming banks directive.SetLoc words = tt
+pair_word_fits naming banks directive.Bank words = tt
+pair_word_fits naming banks directive.Block words = tt
+pair_word_fits naming banks directive.Oct words = tt
+pair_word_fits naming banks directive.Octal words = tt
+pair_word_fits naming banks directive.Dec words = tt
+pair_word_fits naming banks directive.DecStarred words = tt
+pair_word_fits naming banks directive.PairOct words = octal_pair_word (only_of words)
+pair_word_fits naming banks directive.PairDec words = number_pair (number_in 28 false words)
+pair_word_fits naming banks directive.PairDecStarred words = number_pair (number_in 28 true words)
+pair_word_fits naming banks directive.Adres words = tt
+pair_word_fits naming banks directive.Remadr words = tt
+pair_word_fits naming banks directive.Genadr words = tt
+pair_word_fits naming banks directive.Cadr words = tt
+pair_word_fits naming banks directive.Fcadr words = tt
+pair_word_fits naming banks directive.Ecadr words = tt
+pair_word_fits naming banks directive.Bbcon words = tt
+pair_word_fits naming banks directive.PairCadr words = place_pair banks (place_in (location_in naming words))
+pair_word_fits naming banks directive.VerbNoun words = tt
+pair_word_fits naming banks directive.MajorMode words = tt
+pair_word_fits naming banks directive.Is words = tt
+pair_word_fits naming banks directive.Equals words = tt
+pair_word_fits naming banks directive.Erase words = tt
+pair_word_fits naming banks directive.Ebank words = tt
+pair_word_fits naming banks directive.Sbank words = tt
+pair_word_fits naming banks directive.Count words = tt
+pair_word_fits naming banks directive.CountStarred words = tt
+pair_word_fits naming banks directive.Memory words = tt
+pair_word_fits naming banks directive.BankSum words = tt
+
+pair_by_fits : (naming : Naming) (banks : Banks) (d : Option Directive) (words : List (List ℕ)) → IfOk (pair_by naming banks d words) BothFit
+pair_by_fits naming banks (Some d) words = pair_word_fits naming banks d words
+pair_by_fits naming banks None words = tt
+
+pair_spelled_fits : (naming : Naming) (banks : Banks) (words : List (List ℕ)) → IfOk (pair_spelled naming banks words) BothFit
+pair_spelled_fits naming banks [] = tt
+pair_spelled_fits naming banks (word ∷ words) = pair_by_fits naming banks (directive_named word) words
+
+pair_minus_fits : (minus : Bool) (pair : Result Pair SourceFault) → IfOk pair BothFit → IfOk (complemented_pair minus pair) BothFit
+pair_minus_fits minus (Ok pair) h = (complemented_fits minus pair.upper h.0, complemented_fits minus pair.lower h.1)
+pair_minus_fits minus (Err why) h = tt
+
+pair_all_fit : (naming : Naming) (banks : Banks) (words : List (List ℕ)) → IfOk (pair_meaning naming banks words) BothFit
 unfolding pair_meaning
-pair_all_fit [] = tt
-pair_all_fit (word ∷ words) = pair_by_fits (directive_named word) words
+pair_all_fit naming banks words = pair_minus_fits (has_minus words) (pair_spelled naming banks (spelled words)) (pair_spelled_fits naming banks (spelled words))
 
-pub pair_fits : (words : List (List ℕ)) (pair : Pair) → pair_meaning words ≡ Ok pair → BothFit pair
-pair_fits words pair is =
-    let all = pair_all_fit words in
-    rw is at all
+pub pair_fits : (naming : Naming) (banks : Banks) (words : List (List ℕ)) (pair : Pair) → pair_meaning naming banks words ≡ Ok pair → (pattern_of 15 pair.upper < 2 ^ 15) × (pattern_of 15 pair.lower < 2 ^ 15)
+pair_fits naming banks words pair is =
+    let all = pair_all_fit naming banks words in
+    let both : BothFit pair = rw is at all in
+    (fits_pattern pair.upper.minus pair.upper.magnitude both.0, fits_pattern pair.lower.minus pair.lower.magnitude both.1)

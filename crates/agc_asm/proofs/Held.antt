@@ -1,13 +1,10 @@
 -- The location counter is always in the rope or in erasable memory.
-use Rattle.std.specs.Prelude.{◌≡◌, ℕ, ◌+◌, ◌*◌, ◌%◌, ◌<◌, ◌==◌, nat_le, nat_lt, Bool, true, false, ◌&&◌, List, [], ◌∷◌, Option, Some, None, Ok, Err, IfOk, IfSome, if◌then◌else◌, position, take, drop}
+use Rattle.std.specs.Prelude.{◌≡◌, ℕ, ◌+◌, ◌<◌, ◌==◌, nat_le, nat_lt, Bool, true, false, ◌&&◌, ◌||◌, List, [], ◌∷◌, Option, Some, None, Result, Ok, Err, IfOk, if◌then◌else◌, position, take, drop}
 use Rattle.std.proofs.Common.{refl, arith}
 use Rattle.std.proofs.lemmas.Bool.Decides.{nat_tests}
-use Rattle.agc_word.specs.Numeral.{number_of, octal_number}
-use Rattle.agc_listing.specs.Line.{is_comma, octal_exactly, place_alone, place_checked, place_cut, place_in_bank, place_named}
-use Rattle.agc_listing.specs.List.{listed_address}
-use Rattle.agc_listing.specs.Location.{begins_with_e, cell_alone, cell_named, cell_or_place, erasable_at, fixed_at_place, location_named}
+use Rattle.agc_word.specs.Numeral.{octal_number}
 use Rattle.agc_asm.specs.Mnemonic.{directive_named, is_order}
-use Rattle.agc_listing.specs.Number.{offset_named}
+use Rattle.agc_listing.specs.Number.{offset_said}
 use Rattle.agc_listing.specs.Text.{only_of}
 use Rattle.agc_asm.specs.declared.fault.SourceFault.TheVariants as fault
 use Rattle.agc_listing.specs.declared.location.Location.{Location}
@@ -15,7 +12,11 @@ use Rattle.agc_listing.specs.declared.location.Location.TheVariants as location
 use Rattle.agc_asm.specs.declared.mnemonic.Directive.{Directive}
 use Rattle.agc_asm.specs.declared.mnemonic.Directive.TheVariants as directive
 use Rattle.agc_listing.specs.declared.number.Signed.{Signed}
-use Rattle.agc_asm.specs.LineKind.{bank_in, bank_within, cells_by, cells_in, location_in, moves_to, shape_by, shape_of, stands_for}
+use Rattle.agc_asm.specs.LineKind.{as_name, bank_in, bank_within, block_in, block_within, cells_by, cells_in, cut_range, is_dash, is_minus, moves_to, range_of, shape_by, shape_of, stands_for}
+use Rattle.agc_asm.specs.Name.{Naming}
+use Rattle.agc_asm.specs.Operand.{located, location_by, location_in, location_of, value_apart}
+use Rattle.agc_asm.specs.declared.fault.SourceFault.{SourceFault}
+use Rattle.agc_asm.specs.declared.operand.Value.{Value}
 use Rattle.agc_asm.specs.declared.line_kind.LineKind.{LineKind}
 use Rattle.agc_asm.specs.declared.line_kind.LineKind.TheVariants as kind
 
@@ -30,73 +31,35 @@ GoesIntoRope (kind.Moves place) = IsInRope place
 GoesIntoRope (kind.Bank bank) = bank < 36
 GoesIntoRope s = Unit {0}
 
-four_digits : (text : List ℕ) (n : ℕ) → octal_exactly 4 text ≡ Some n → n < 0o110000
-unfolding octal_exactly number_of
-four_digits [] n is = grind (arith, nat_tests)
-four_digits (a ∷ []) n is = grind (arith, nat_tests)
-four_digits (a ∷ b ∷ []) n is = grind (arith, nat_tests)
-four_digits (a ∷ b ∷ c ∷ []) n is = grind (arith, nat_tests)
-four_digits (a ∷ b ∷ c ∷ d ∷ []) n is = grind (arith, nat_tests)
-four_digits (a ∷ b ∷ c ∷ d ∷ e ∷ rest) n is = grind (arith, nat_tests)
+fixed_by : (place : ℕ) (inside : Bool) → nat_lt place 0o110000 ≡ inside → IfOk (if inside then Ok (location.Fixed place) else Err fault.NoSuchPlace) IsInRope
+fixed_by place true is = grind (arith, nat_tests)
+fixed_by place false is = tt
 
-alone_below : (address : Option ℕ) → IfSome address (λ n. n < 0o110000) → IfSome (place_alone address) (λ n. n < 0o110000)
-alone_below None h = tt
-alone_below (Some address) h = grind (arith, nat_tests)
+cell_by : (cell : ℕ) (inside : Bool) → IfOk (if inside then Ok (location.Erasable cell) else Err fault.NoSuchPlace) IsInRope
+cell_by cell true = tt
+cell_by cell false = tt
 
-digits_below : (text : List ℕ) (number : Option ℕ) → octal_exactly 4 text ≡ number → IfSome number (λ n. n < 0o110000)
-digits_below text None is = tt
-digits_below text (Some n) is = four_digits text n is
+located_inside : (place : Option Location) → IfOk (located place) IsInRope
+located_inside (Some (location.Fixed place)) = fixed_by place (nat_lt place 0o110000) refl
+located_inside (Some (location.Erasable cell)) = cell_by cell (nat_lt cell 0o4000)
+located_inside None = tt
 
-checked_by : (place : ℕ) (inside same : Bool) → nat_lt place 0o110000 ≡ inside → IfSome (if inside && same then Some place else None) (λ n. n < 0o110000)
-checked_by place true true is = grind (arith, nat_tests)
-checked_by place true false is = tt
-checked_by place false same is = tt
-
-checked_below : (place address : ℕ) → IfSome (place_checked place address) (λ n. n < 0o110000)
-checked_below place address = checked_by place (nat_lt place 0o110000) (listed_address place == address) refl
-
-bank_below : (bank address : Option ℕ) → IfSome (place_in_bank bank address) (λ n. n < 0o110000)
-bank_below (Some bank) (Some address) = checked_below (0o2000 * bank + address % 0o2000) address
-bank_below (Some bank) None = tt
-bank_below None address = tt
-
-cut_below : (comma : Option ℕ) (text : List ℕ) → IfSome (place_cut comma text) (λ n. n < 0o110000)
-cut_below (Some at) text = bank_below (octal_exactly 2 (take at text)) (octal_exactly 4 (drop (at + 1) text))
-cut_below None text = alone_below (octal_exactly 4 text) (digits_below text (octal_exactly 4 text) refl)
-
-place_below : (text : List ℕ) → IfSome (place_named text) (λ n. n < 0o110000)
-unfolding place_named
-place_below text = cut_below (position is_comma text) text
-
-fixed_inside : (place : Option ℕ) → IfSome place (λ n. n < 0o110000) → IfSome (fixed_at_place place) IsInRope
-fixed_inside (Some place) h = h
-fixed_inside None h = tt
-
-cell_inside : (cell : Option ℕ) → IfSome (erasable_at cell) IsInRope
-cell_inside (Some cell) = tt
-cell_inside None = tt
-
-either_inside : (cell : Option ℕ) (text : List ℕ) → IfSome (cell_or_place cell text) IsInRope
-either_inside (Some cell) text = tt
-either_inside None text = fixed_inside (place_named text) (place_below text)
-
-named_by : (text : List ℕ) (erasable : Bool) → begins_with_e text ≡ erasable → IfSome (location_named text) IsInRope
-unfolding location_named
-named_by text true is = rw is (cell_inside (cell_named (drop 1 text)))
-named_by text false is = rw is (either_inside (cell_alone (octal_number 4 text)) text)
-
-location_inside : (word : Option (List ℕ)) → IfSome (location_in word) IsInRope
-location_inside (Some word) = named_by word (begins_with_e word) refl
-location_inside None = tt
+value_inside : (v : Result Value SourceFault) → IfOk (location_by v) IsInRope
+value_inside (Ok v) = located_inside (location_of v)
+value_inside (Err why) = tt
 
 -- the kinds of directives
-moves_inside : (place : Option Location) → IfSome place IsInRope → IfOk (moves_to place) GoesIntoRope
-moves_inside (Some place) h = h
-moves_inside None h = tt
+moves_inside : (place : Result Location SourceFault) → IfOk place IsInRope → IfOk (moves_to place) GoesIntoRope
+moves_inside (Ok place) h = h
+moves_inside (Err why) h = tt
 
-stands_inside : (place : Option Location) → IfOk (stands_for place) GoesIntoRope
-stands_inside (Some place) = tt
-stands_inside None = tt
+name_inside : (place : Result Location SourceFault) → IfOk (as_name place) GoesIntoRope
+name_inside (Ok place) = tt
+name_inside (Err why) = tt
+
+stands_inside : (naming : Naming) (words : List (List ℕ)) → IfOk (stands_for naming words) GoesIntoRope
+stands_inside naming [] = tt
+stands_inside naming (word ∷ words) = name_inside (location_in naming (word ∷ words))
 
 within_by : (bank : ℕ) (inside : Bool) → nat_le bank 0o43 ≡ inside → IfOk (if inside then Ok (kind.Bank bank) else Err fault.BadPlace) GoesIntoRope
 within_by bank true is = grind (arith, nat_tests)
@@ -106,48 +69,98 @@ bank_inside : (bank : Option ℕ) → IfOk (bank_within bank) GoesIntoRope
 bank_inside (Some bank) = within_by bank (nat_le bank 0o43) refl
 bank_inside None = tt
 
-bank_word : (word : Option (List ℕ)) → IfOk (bank_in word) GoesIntoRope
-bank_word (Some word) = bank_inside (octal_number 2 word)
-bank_word None = tt
+bank_words : (words : List (List ℕ)) → IfOk (bank_in words) GoesIntoRope
+bank_words [] = tt
+bank_words (word ∷ []) = bank_inside (octal_number 2 word)
+bank_words (word ∷ more ∷ words) = tt
+
+block_by : (bank : ℕ) (second third : Bool) → (bank == 2) ≡ second → (bank == 3) ≡ third → IfOk (if second || third then Ok (kind.Bank bank) else Err fault.BadPlace) GoesIntoRope
+block_by bank true third is also = grind (arith, nat_tests)
+block_by bank false true is also = grind (arith, nat_tests)
+block_by bank false false is also = tt
+
+block_inside : (bank : Option ℕ) → IfOk (block_within bank) GoesIntoRope
+block_inside (Some bank) = block_by bank (bank == 2) (bank == 3) refl refl
+block_inside None = tt
+
+block_word : (word : Option (List ℕ)) → IfOk (block_in word) GoesIntoRope
+block_word (Some word) = block_inside (octal_number 2 word)
+block_word None = tt
+
+range_by : (first end : ℕ) (inside : Bool) → IfOk (if inside then Ok (kind.Range first end) else Err fault.BadNumber) GoesIntoRope
+range_by first end true = tt
+range_by first end false = tt
+
+range_inside : (first last : Option ℕ) → IfOk (range_of first last) GoesIntoRope
+range_inside (Some first) (Some last) = range_by first (last + 1) (nat_le first last && nat_lt last 0o4000)
+range_inside (Some first) None = tt
+range_inside None last = tt
+
+cut_inside : (at : Option ℕ) (word : List ℕ) → IfOk (cut_range at word) GoesIntoRope
+cut_inside (Some at) word = range_inside (octal_number 6 (take at word)) (octal_number 6 (drop (at + 1) word))
+cut_inside None word = tt
 
 cells_signed : (minus : Bool) (count : ℕ) → IfOk (if minus then Err fault.BadNumber else Ok (kind.Cells count)) GoesIntoRope
 cells_signed true count = tt
 cells_signed false count = tt
 
-cells_number : (number : Option Signed) → IfOk (cells_by number) GoesIntoRope
-cells_number (Some n) = cells_signed n.minus (n.magnitude + 1)
-cells_number None = tt
+cells_number : (number : Option Signed) (word : List ℕ) → IfOk (cells_by number word) GoesIntoRope
+cells_number (Some n) word = cells_signed n.minus (n.magnitude + 1)
+cells_number None word = cut_inside (position is_minus word) word
+
+cells_dash : (dash : Bool) (first last : Option ℕ) → IfOk (if dash then range_of first last else Err fault.BadNumber) GoesIntoRope
+cells_dash true first last = range_inside first last
+cells_dash false first last = tt
 
 cells_words : (words : List (List ℕ)) → IfOk (cells_in words) GoesIntoRope
 cells_words [] = tt
-cells_words (word ∷ []) = cells_number (offset_named word)
-cells_words (word ∷ more ∷ words) = tt
+cells_words (word ∷ []) = cells_number (offset_said word) word
+cells_words (first ∷ dash ∷ []) = tt
+cells_words (first ∷ dash ∷ last ∷ []) = cells_dash (is_dash dash) (octal_number 6 first) (octal_number 6 last)
+cells_words (first ∷ dash ∷ last ∷ more ∷ words) = tt
 
 order_shape : (order : Bool) → IfOk (if order then Ok kind.Word else Err fault.UnknownOrder) GoesIntoRope
 order_shape true = tt
 order_shape false = tt
 
-shape_by_inside : (d : Option Directive) (word : List ℕ) (words : List (List ℕ)) → IfOk (shape_by d word words) GoesIntoRope
-shape_by_inside None word words = order_shape (is_order word)
-shape_by_inside (Some directive.SetLoc) word words = moves_inside (location_in (only_of words)) (location_inside (only_of words))
-shape_by_inside (Some directive.Bank) word words = bank_word (only_of words)
-shape_by_inside (Some directive.Oct) word words = tt
-shape_by_inside (Some directive.Dec) word words = tt
-shape_by_inside (Some directive.PairOct) word words = tt
-shape_by_inside (Some directive.PairDec) word words = tt
-shape_by_inside (Some directive.Adres) word words = tt
-shape_by_inside (Some directive.Cadr) word words = tt
-shape_by_inside (Some directive.Bbcon) word words = tt
-shape_by_inside (Some directive.Is) word words = stands_inside (location_in (only_of words))
-shape_by_inside (Some directive.Equals) word words = stands_inside (location_in (only_of words))
-shape_by_inside (Some directive.Erase) word words = cells_words words
+shape_by_inside : (naming : Naming) (d : Option Directive) (word : List ℕ) (words : List (List ℕ)) → IfOk (shape_by naming d word words) GoesIntoRope
+shape_by_inside naming None word words = order_shape (is_order word)
+shape_by_inside naming (Some directive.SetLoc) word words = moves_inside (location_in naming words) (value_inside (value_apart naming words))
+shape_by_inside naming (Some directive.Bank) word words = bank_words words
+shape_by_inside naming (Some directive.Block) word words = block_word (only_of words)
+shape_by_inside naming (Some directive.Oct) word words = tt
+shape_by_inside naming (Some directive.Octal) word words = tt
+shape_by_inside naming (Some directive.Dec) word words = tt
+shape_by_inside naming (Some directive.DecStarred) word words = tt
+shape_by_inside naming (Some directive.PairOct) word words = tt
+shape_by_inside naming (Some directive.PairDec) word words = tt
+shape_by_inside naming (Some directive.PairDecStarred) word words = tt
+shape_by_inside naming (Some directive.Adres) word words = tt
+shape_by_inside naming (Some directive.Remadr) word words = tt
+shape_by_inside naming (Some directive.Genadr) word words = tt
+shape_by_inside naming (Some directive.Cadr) word words = tt
+shape_by_inside naming (Some directive.Fcadr) word words = tt
+shape_by_inside naming (Some directive.Ecadr) word words = tt
+shape_by_inside naming (Some directive.Bbcon) word words = tt
+shape_by_inside naming (Some directive.PairCadr) word words = tt
+shape_by_inside naming (Some directive.VerbNoun) word words = tt
+shape_by_inside naming (Some directive.MajorMode) word words = tt
+shape_by_inside naming (Some directive.Is) word words = stands_inside naming words
+shape_by_inside naming (Some directive.Equals) word words = stands_inside naming words
+shape_by_inside naming (Some directive.Erase) word words = cells_words words
+shape_by_inside naming (Some directive.Ebank) word words = tt
+shape_by_inside naming (Some directive.Sbank) word words = tt
+shape_by_inside naming (Some directive.Count) word words = tt
+shape_by_inside naming (Some directive.CountStarred) word words = tt
+shape_by_inside naming (Some directive.Memory) word words = tt
+shape_by_inside naming (Some directive.BankSum) word words = tt
 
-shape_inside : (words : List (List ℕ)) → IfOk (shape_of words) GoesIntoRope
-shape_inside [] = tt
-shape_inside (word ∷ words) = shape_by_inside (directive_named word) word words
+shape_inside : (naming : Naming) (words : List (List ℕ)) → IfOk (shape_of naming words) GoesIntoRope
+shape_inside naming [] = tt
+shape_inside naming (word ∷ words) = shape_by_inside naming (directive_named word) word words
 
 -- where a line of a kind goes
-pub goes_into_rope : (words : List (List ℕ)) (s : LineKind) → shape_of words ≡ Ok s → GoesIntoRope s
-goes_into_rope words s is =
-    let all = shape_inside words in
+pub goes_into_rope : (naming : Naming) (words : List (List ℕ)) (s : LineKind) → shape_of naming words ≡ Ok s → GoesIntoRope s
+goes_into_rope naming words s is =
+    let all = shape_inside naming words in
     rw is at all

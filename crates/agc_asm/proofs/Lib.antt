@@ -1,6 +1,9 @@
 pub mod BasicRows
 pub mod ExtracodeRows
 mod Naming
+mod Nearest
+mod AliasWords
+mod Tokens
 mod Passes
 mod FirstMisnamed
 mod Back

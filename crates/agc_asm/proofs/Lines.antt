@@ -1,5 +1,5 @@
 -- Where the lines of a rope's source are read, in both passes.
-use Rattle.std.specs.Prelude.{◌≡◌, ℕ, ◌+◌, ◌-◌, ◌/◌, ◌%◌, ◌<◌, ◌==◌, true, false, not, List, [], ◌∷◌, ◌++◌, codes, length, get_or, None, Ok}
+use Rattle.std.specs.Prelude.{◌≡◌, ℕ, ◌+◌, ◌-◌, ◌/◌, ◌%◌, ◌<◌, ◌==◌, Bool, true, false, not, ◌&&◌, List, [], ◌∷◌, ◌++◌, codes, length, get_or, None, Ok}
 use Rattle.std.specs.List.{list_all, list_any}
 use Rattle.std.proofs.Common.{refl, ap, ◌∙◌, arith}
 use Rattle.std.proofs.lemmas.Bool.{and_parts, and_right, both_ways}
@@ -20,7 +20,9 @@ use Rattle.agc_asm.specs.declared.line_kind.LineKind.TheVariants as kind
 use Rattle.agc_asm.specs.declared.pass2.State.{State}
 use Rattle.agc_asm.specs.Name.{Naming}
 use Rattle.agc_listing.specs.Text.{are_listed, body_of, label_of, said_by}
-use Rattle.agc_asm.proofs.Orders.{Says}
+use Rattle.agc_asm.proofs.Orders.{IsPlain, Says}
+use Rattle.agc_asm.specs.Body.{body_in, spelled}
+use Rattle.agc_asm.specs.Encode.{banks_after, is_banked}
 use Rattle.agc_asm.proofs.Passes.{next_named, next_woven}
 use Rattle.agc_asm.specs.declared.location_counter.At.TheVariants as at
 use Rattle.agc_asm.specs.declared.location_counter.LocationCounter.{LocationCounter}
@@ -89,19 +91,20 @@ pub record IsLine (line : List ℕ) : Type 0 where
   pub text : list_any is_no_text line ≡ false
   pub unlisted : are_listed (said_by line) ≡ false
   pub label : label_of line ≡ None
-  pub body : body_of line ≡ said_by line
+  pub body : body_in line ≡ said_by line
 
-pub is_line : (rest : List ℕ) → list_all prints (codes "        " ++ rest) ≡ true → are_listed (said_by (codes "        " ++ rest)) ≡ false → IsLine (codes "        " ++ rest)
-unfolding label_of body_of
-is_line rest h unlisted = record { text = all_text (codes "        " ++ rest) h; unlisted = unlisted; label = refl; body = refl }
+pub is_line : (rest : List ℕ) → list_all prints (codes "        " ++ rest) ≡ true → are_listed (said_by (codes "        " ++ rest)) ≡ false
+    → IsPlain (said_by (codes "        " ++ rest)) → IsLine (codes "        " ++ rest)
+unfolding label_of body_of body_in
+is_line rest h unlisted plain = record { text = all_text (codes "        " ++ rest) h; unlisted = unlisted; label = refl; body = plain }
 
 -- the first pass
-labelled_word : (naming : Naming) (counter : LocationCounter) (place : ℕ) (line : List ℕ) → IsLine line → shape_of (said_by line) ≡ Ok kind.Word → IsHere place counter
+labelled_word : (naming : Naming) (counter : LocationCounter) (place : ℕ) (line : List ℕ) → IsLine line → shape_of naming (spelled (said_by line)) ≡ Ok kind.Word → IsHere place counter
     → line_labelled naming counter line ≡ Ok (record { counter = after_words counter counter.at 1; place = None })
 unfolding line_labelled
 labelled_word naming counter place line h takes here = rw (h.unlisted, h.text, h.label, h.body, takes, has_room place counter here) refl
 
-labelled_move : (naming : Naming) (counter : LocationCounter) (place : ℕ) (line : List ℕ) → IsLine line → shape_of (said_by line) ≡ Ok (kind.Moves (location.Fixed place))
+labelled_move : (naming : Naming) (counter : LocationCounter) (place : ℕ) (line : List ℕ) → IsLine line → shape_of naming (spelled (said_by line)) ≡ Ok (kind.Moves (location.Fixed place))
     → line_labelled naming counter line ≡ Ok (record { counter = moved_to counter (location.Fixed place); place = None })
 unfolding line_labelled
 labelled_move naming counter place line h moves = rw (h.unlisted, h.text, h.label, h.body, moves) refl
@@ -109,31 +112,36 @@ labelled_move naming counter place line h moves = rw (h.unlisted, h.text, h.labe
 no_name : (naming : Naming) (line : List ℕ) → IsLine line → naming_after naming (label_of line) None ≡ naming
 no_name naming line h = rw h.label refl
 
-pub names_word : (n : ℕ) (naming : Naming) (counter : LocationCounter) (place : ℕ) (line : List ℕ) (lines : List (List ℕ)) → IsLine line → shape_of (said_by line) ≡ Ok kind.Word → IsHere place counter
+pub names_word : (n : ℕ) (naming : Naming) (counter : LocationCounter) (place : ℕ) (line : List ℕ) (lines : List (List ℕ)) → IsLine line → shape_of naming (spelled (said_by line)) ≡ Ok kind.Word → IsHere place counter
     → names_from n naming counter (line ∷ lines) ≡ names_from (n + 1) naming (after_words counter counter.at 1) lines
 names_word n naming counter place line lines h takes here =
     next_named n naming counter line lines (record { counter = after_words counter counter.at 1; place = None }) (labelled_word naming counter place line h takes here)
     ∙ ap (λ (names : Naming). names_from (n + 1) names (after_words counter counter.at 1) lines) (no_name naming line h)
 
-pub names_move : (n : ℕ) (naming : Naming) (counter : LocationCounter) (place : ℕ) (line : List ℕ) (lines : List (List ℕ)) → IsLine line → shape_of (said_by line) ≡ Ok (kind.Moves (location.Fixed place))
+pub names_move : (n : ℕ) (naming : Naming) (counter : LocationCounter) (place : ℕ) (line : List ℕ) (lines : List (List ℕ)) → IsLine line → shape_of naming (spelled (said_by line)) ≡ Ok (kind.Moves (location.Fixed place))
     → names_from n naming counter (line ∷ lines) ≡ names_from (n + 1) naming (moved_to counter (location.Fixed place)) lines
 names_move n naming counter place line lines h moves =
     next_named n naming counter line lines (record { counter = moved_to counter (location.Fixed place); place = None }) (labelled_move naming counter place line h moves)
     ∙ ap (λ (names : Naming). names_from (n + 1) names (moved_to counter (location.Fixed place)) lines) (no_name naming line h)
 
 -- the second pass
-abbrev pub state_after : State → Number → State
-state_after state word = record { counter = after_words state.counter state.counter.at 1; leads = next_is_extracode state.leads word }
+abbrev pub state_after : State → Bool → Number → List (List ℕ) → State
+state_after state order word said = record {
+  counter = after_words state.counter state.counter.at 1;
+  leads = order && next_is_extracode state.leads word;
+  banks = banks_after (is_banked said) state.banks;
+}
 
 abbrev pub state_moved : State → ℕ → State
-state_moved state place = record { counter = moved_to state.counter (location.Fixed place); leads = false }
+state_moved state place = record { counter = moved_to state.counter (location.Fixed place); leads = false; banks = state.banks }
 
-woven_word : (naming : Naming) (state : State) (place : ℕ) (word : Number) (line : List ℕ) → IsLine line → Says state.leads word (said_by line) → IsHere place state.counter
-    → line_woven naming state line ≡ Ok (record { state = state_after state word; first = word_at place word; second = None })
+woven_word : (naming : Naming) (state : State) (place : ℕ) (order : Bool) (word : Number) (line : List ℕ) → IsLine line → Says state.leads order word (said_by line) → IsHere place state.counter
+    → line_woven naming state line ≡ Ok (record { state = state_after state order word (said_by line); first = word_at place word; second = None })
 unfolding line_woven
-woven_word naming state place word line h says here = rw (h.unlisted, h.body, says.takes_up, has_room place state.counter here, says.means naming place) refl
+woven_word naming state place order word line h says here =
+    rw (h.unlisted, h.body, says.takes_up naming, has_room place state.counter here, says.means naming place state.banks, says.writes) refl
 
-woven_move : (naming : Naming) (state : State) (place : ℕ) (line : List ℕ) → IsLine line → shape_of (said_by line) ≡ Ok (kind.Moves (location.Fixed place))
+woven_move : (naming : Naming) (state : State) (place : ℕ) (line : List ℕ) → IsLine line → shape_of naming (spelled (said_by line)) ≡ Ok (kind.Moves (location.Fixed place))
     → line_woven naming state line ≡ Ok (record { state = state_moved state place; first = None; second = None })
 unfolding line_woven
 woven_move naming state place line h moves = rw (h.unlisted, h.body, moves, and_right state.leads false refl) refl
@@ -141,14 +149,14 @@ woven_move naming state place line h moves = rw (h.unlisted, h.body, moves, and_
 both_once : (said : List PlacedWord) (place : ℕ) (word : Number) → is_named place said ≡ false → both_said said (word_at place word) None ≡ Ok (said ++ (record { place = place; word = word }) ∷ [])
 both_once said place word h = rw h refl
 
-pub words_word : (n : ℕ) (naming : Naming) (state : State) (said : List PlacedWord) (place : ℕ) (word : Number) (line : List ℕ) (lines : List (List ℕ)) → IsLine line → Says state.leads word (said_by line)
+pub words_word : (n : ℕ) (naming : Naming) (state : State) (said : List PlacedWord) (place : ℕ) (order : Bool) (word : Number) (line : List ℕ) (lines : List (List ℕ)) → IsLine line → Says state.leads order word (said_by line)
     → IsHere place state.counter → is_named place said ≡ false
-    → words_from n naming state said (line ∷ lines) ≡ words_from (n + 1) naming (state_after state word) (said ++ (record { place = place; word = word }) ∷ []) lines
-words_word n naming state said place word line lines h says here none =
-    next_woven n naming state said (said ++ (record { place = place; word = word }) ∷ []) line lines (record { state = state_after state word; first = word_at place word; second = None })
-    (woven_word naming state place word line h says here) (both_once said place word none)
+    → words_from n naming state said (line ∷ lines) ≡ words_from (n + 1) naming (state_after state order word (said_by line)) (said ++ (record { place = place; word = word }) ∷ []) lines
+words_word n naming state said place order word line lines h says here none =
+    next_woven n naming state said (said ++ (record { place = place; word = word }) ∷ []) line lines (record { state = state_after state order word (said_by line); first = word_at place word; second = None })
+    (woven_word naming state place order word line h says here) (both_once said place word none)
 
-pub words_move : (n : ℕ) (naming : Naming) (state : State) (said : List PlacedWord) (place : ℕ) (line : List ℕ) (lines : List (List ℕ)) → IsLine line → shape_of (said_by line) ≡ Ok (kind.Moves (location.Fixed place))
+pub words_move : (n : ℕ) (naming : Naming) (state : State) (said : List PlacedWord) (place : ℕ) (line : List ℕ) (lines : List (List ℕ)) → IsLine line → shape_of naming (spelled (said_by line)) ≡ Ok (kind.Moves (location.Fixed place))
     → words_from n naming state said (line ∷ lines) ≡ words_from (n + 1) naming (state_moved state place) said lines
 words_move n naming state said place line lines h moves =
     next_woven n naming state said said line lines (record { state = state_moved state place; first = None; second = None }) (woven_move naming state place line h moves) refl

@@ -10,22 +10,26 @@ use Rattle.agc_listing.specs.Line.{line_named}
 use Rattle.agc_listing.specs.declared.fault.LineFault.{LineFault}
 use Rattle.agc_listing.specs.declared.line.PlacedWord.{PlacedWord}
 use Rattle.agc_asm.specs.Name.{Naming}
-use Rattle.agc_listing.specs.Text.{are_listed, body_of, said_by}
+use Rattle.agc_listing.specs.Text.{after_first, are_listed, said_by}
+use Rattle.agc_listing.specs.Order.{next_is_extracode}
+use Rattle.agc_asm.specs.Body.{body_in, spelled}
+use Rattle.agc_asm.specs.Operand.{location_in}
+use Rattle.agc_asm.specs.declared.encode.Banks.{Banks}
 use Rattle.agc_asm.specs.declared.fault.SourceFault.{SourceFault}
-use Rattle.agc_asm.specs.LocationCounter.{room_at}
-use Rattle.agc_asm.specs.Encode.{pair_meaning, word_meaning}
-use Rattle.agc_asm.specs.OrderLines.{OrderLine, mnemonic_in, mnemonic_of, order_of, order_placed, orders_from, since_after}
+use Rattle.agc_asm.specs.LocationCounter.{after_words, room_at}
+use Rattle.agc_asm.specs.Encode.{cell_in, pair_meaning, place_in, word_meaning, writes_order}
+use Rattle.agc_asm.specs.OrderLines.{OrderLine, mnemonic_in, mnemonic_of, order_of, order_placed, order_words, orders_from, since_after}
 use Rattle.agc_asm.specs.LineKind.{cursor_after, shape_of}
-use Rattle.agc_asm.specs.Source.{line_woven, listed_woven, no_word, one_word, pair_placed, shape_woven, stays_put, two_words, word_placed, words_from}
+use Rattle.agc_asm.specs.Source.{ebank_said, line_woven, listed_woven, no_word, one_word, pair_placed, sbank_said, shape_woven, stays_put, two_words, with_banks, word_placed, words_from}
 use Rattle.agc_asm.specs.declared.location_counter.LocationCounter.{LocationCounter}
 use Rattle.agc_asm.specs.declared.encode.Pair.{Pair}
 use Rattle.agc_asm.specs.declared.line_kind.LineKind.{LineKind}
 use Rattle.agc_asm.specs.declared.line_kind.LineKind.TheVariants as kind
 use Rattle.agc_asm.specs.declared.pass2.State.{State}
 use Rattle.agc_asm.specs.declared.pass2.Step.{Step}
-use Rattle.agc_asm.proofs.Along.{Sound, after_bank, after_cell_line, after_move, after_name_line, after_one, after_two, place_inside, read_here}
+use Rattle.agc_asm.proofs.Along.{Sound, after_bank, after_cell_line, after_data, after_move, after_name_line, after_one, after_range_line, after_resumed, place_inside, read_here}
 use Rattle.agc_asm.proofs.FileHolds.{HasWord}
-use Rattle.agc_asm.proofs.Fits.{pair_fits, word_fits}
+use Rattle.agc_asm.proofs.Fits.{word_fits}
 use Rattle.agc_asm.proofs.Held.{GoesIntoRope, goes_into_rope}
 use Rattle.agc_asm.proofs.Stepped.{all_before, both, holds, stepped}
 use Rattle.agc_asm.proofs.OrdersShown.{AreShown, At, IsNoWord, no_order, none_shown, word_shown}
@@ -33,7 +37,7 @@ use Rattle.agc_asm.proofs.OrderShown.{Shown}
 
 -- the state after a line
 pub record Done (words : List Number) (naming : Naming) (since : ℕ) (state : State) (line : List ℕ) (step : Step) : Type 0 where
-  pub sound : Sound words (since_after since line step.state.counter) step.state.counter step.state.leads
+  pub sound : Sound words (since_after naming since line step.state.counter) step.state.counter step.state.leads
   pub orders : AreShown words (order_of naming since state line) (mnemonic_of line)
 
 abbrev LineDone : List Number → Naming → ℕ → State → List ℕ → Step → Type 0
@@ -42,11 +46,11 @@ LineDone words naming since state line step = IfSome step.first (HasWord words) 
 -- a source line, not a listing line
 record Plain (words : List Number) (naming : Naming) (since : ℕ) (state : State) (line : List ℕ) (s : LineKind) : Type 0 where
   unlisted : are_listed (said_by line) ≡ false
-  takes : shape_of (body_of line) ≡ Ok s
+  takes : shape_of naming (spelled (body_in line)) ≡ Ok s
   sound : Sound words since state.counter state.leads
 
 orders_placed : (words : List Number) (naming : Naming) (since : ℕ) (state : State) (line : List ℕ) (room : Result ℕ SourceFault) → are_listed (said_by line) ≡ false → room_at state.counter state.counter.at 1 ≡ room
-    → AreShown words (order_placed naming since state.leads room (body_of line)) (mnemonic_in (body_of line)) → AreShown words (order_of naming since state line) (mnemonic_of line)
+    → AreShown words (order_placed naming since state.leads room (order_words (body_in line))) (mnemonic_in (order_words (body_in line))) → AreShown words (order_of naming since state line) (mnemonic_of line)
 unfolding order_of mnemonic_of
 orders_placed words naming since state line room unlisted e h = rw (unlisted, e) h
 
@@ -54,64 +58,86 @@ no_orders : (words : List Number) (naming : Naming) (since : ℕ) (state : State
     → AreShown words (order_of naming since state line) (mnemonic_of line)
 no_orders words naming since state line s none p =
     orders_placed words naming since state line (room_at state.counter state.counter.at 1) p.unlisted refl
-    (no_order words naming since state.leads (room_at state.counter state.counter.at 1) s (body_of line) none p.takes)
+    (no_order words naming since state.leads (room_at state.counter state.counter.at 1) s (body_in line) none p.takes)
 
 -- of one word
+word_sound : (words : List Number) (naming : Naming) (since : ℕ) (state : State) (line : List ℕ) (place : ℕ) (word : Number) (order : Bool) → Plain words naming since state line kind.Word
+    → room_at state.counter state.counter.at 1 ≡ Ok place → writes_order (body_in line) ≡ order → pattern_of 15 (fixed_at place words) ≡ pattern_of 15 word
+    → Sound words (since_after naming since line (after_words state.counter state.counter.at 1)) (after_words state.counter state.counter.at 1) (order && next_is_extracode state.leads word)
+word_sound words naming since state line place word true p room e same =
+    rw (p.unlisted, p.takes, e) (after_one words since state.counter.left state.counter.used state.counter.at state.leads place word p.sound room same)
+word_sound words naming since state line place word false p room e same =
+    rw (p.unlisted, p.takes, e) (after_data words since state.counter.left state.counter.used state.counter.at state.leads 1 place p.sound room)
+
 meaning_done : (words : List Number) (naming : Naming) (since : ℕ) (state : State) (line : List ℕ) (place : ℕ) (meaning : Result Number SourceFault) → Plain words naming since state line kind.Word
-    → room_at state.counter state.counter.at 1 ≡ Ok place → word_meaning naming place state.leads (body_of line) ≡ meaning → IfOk (one_word state place meaning) (LineDone words naming since state line)
+    → room_at state.counter state.counter.at 1 ≡ Ok place → word_meaning naming place state.leads state.banks (body_in line) ≡ meaning
+    → IfOk (one_word state place (body_in line) meaning) (LineDone words naming since state line)
 meaning_done words naming since state line place (Err why) p room is = tt
 meaning_done words naming since state line place (Ok word) p room is =
     λ first second.
     let left = state.counter.left in
+    let used = state.counter.used in
     let here = state.counter.at in
-    let inside = place_inside words since left here state.leads 1 place (omega arith) p.sound room in
-    let same : pattern_of 15 (fixed_at place words) ≡ pattern_of 15 word = first (omega arith) (word_fits naming place state.leads (body_of line) word is) in
-    let at_place : At words since state.leads place word = record { same = same; along = read_here words since left here state.leads 1 place (omega arith) p.sound room } in
+    let body = body_in line in
+    let inside = place_inside words since left used here state.leads 1 place (omega arith) p.sound room in
+    let same : pattern_of 15 (fixed_at place words) ≡ pattern_of 15 word = first (omega arith) (word_fits naming place state.leads state.banks body word is) in
+    let at_place : At words since state.leads place word = record { same = same; along = read_here words since left used here state.leads 1 place (omega arith) p.sound room } in
     record {
-      sound = rw (p.unlisted, p.takes) (after_one words since left here state.leads place word p.sound room same);
-      orders = orders_placed words naming since state line (Ok place) p.unlisted room (word_shown words naming since place state.leads (body_of line) word at_place is);
+      sound = word_sound words naming since state line place word (writes_order body) p room refl same;
+      orders = orders_placed words naming since state line (Ok place) p.unlisted room (word_shown words naming since place state.leads state.banks body word at_place is);
     }
 
 word_done : (words : List Number) (naming : Naming) (since : ℕ) (state : State) (line : List ℕ) (room : Result ℕ SourceFault) → Plain words naming since state line kind.Word
-    → room_at state.counter state.counter.at 1 ≡ room → IfOk (word_placed naming state (body_of line) room) (LineDone words naming since state line)
+    → room_at state.counter state.counter.at 1 ≡ room → IfOk (word_placed naming state (body_in line) room) (LineDone words naming since state line)
 word_done words naming since state line (Err why) p e = tt
-word_done words naming since state line (Ok place) p e = meaning_done words naming since state line place (word_meaning naming place state.leads (body_of line)) p e refl
+word_done words naming since state line (Ok place) p e =
+    meaning_done words naming since state line place (word_meaning naming place state.leads state.banks (body_in line)) p e refl
 
 -- of two words
 two_done : (words : List Number) (naming : Naming) (since : ℕ) (state : State) (line : List ℕ) (place : ℕ) (pair : Result Pair SourceFault) → Plain words naming since state line kind.Pair
-    → room_at state.counter state.counter.at 2 ≡ Ok place → pair_meaning (body_of line) ≡ pair → IfOk (two_words state place pair) (LineDone words naming since state line)
-two_done words naming since state line place (Err why) p room is = tt
-two_done words naming since state line place (Ok pair) p room is =
+    → room_at state.counter state.counter.at 2 ≡ Ok place → IfOk (two_words state place (body_in line) pair) (LineDone words naming since state line)
+two_done words naming since state line place (Err why) p room = tt
+two_done words naming since state line place (Ok pair) p room =
     λ first second.
-    let left = state.counter.left in
-    let here = state.counter.at in
-    let inside = place_inside words since left here state.leads 2 place (omega arith) p.sound room in
-    let fit = pair_fits (body_of line) pair is in
-    let upper : pattern_of 15 (fixed_at place words) ≡ pattern_of 15 pair.upper = first (omega arith) fit.0 in
-    let lower : pattern_of 15 (fixed_at (place + 1) words) ≡ pattern_of 15 pair.lower = second (omega arith) fit.1 in
     record {
-      sound = rw (p.unlisted, p.takes) (after_two words since left here state.leads place pair.upper pair.lower p.sound room upper lower);
+      sound = rw (p.unlisted, p.takes) (after_data words since state.counter.left state.counter.used state.counter.at state.leads 2 place p.sound room);
       orders = no_orders words naming since state line kind.Pair tt p;
     }
 
 pair_done : (words : List Number) (naming : Naming) (since : ℕ) (state : State) (line : List ℕ) (room : Result ℕ SourceFault) → Plain words naming since state line kind.Pair
-    → room_at state.counter state.counter.at 2 ≡ room → IfOk (pair_placed state (body_of line) room) (LineDone words naming since state line)
+    → room_at state.counter state.counter.at 2 ≡ room → IfOk (pair_placed naming state (body_in line) room) (LineDone words naming since state line)
 pair_done words naming since state line (Err why) p e = tt
-pair_done words naming since state line (Ok place) p e = two_done words naming since state line place (pair_meaning (body_of line)) p e refl
+pair_done words naming since state line (Ok place) p e = two_done words naming since state line place (pair_meaning naming state.banks (body_in line)) p e
+
+-- that names banks
+banks_done : (words : List Number) (naming : Naming) (since : ℕ) (state : State) (line : List ℕ) (s : LineKind) (banks : Banks) → IsNoWord s → Plain words naming since state line s
+    → since_after naming since line state.counter ≡ since → LineDone words naming since state line (with_banks state banks)
+banks_done words naming since state line s banks none p same =
+    λ first second. record { sound = rw same p.sound; orders = no_orders words naming since state line s none p }
+
+ebank_done : (words : List Number) (naming : Naming) (since : ℕ) (state : State) (line : List ℕ) (cell : Result ℕ SourceFault) → Plain words naming since state line kind.Ebank
+    → IfOk (ebank_said state cell) (LineDone words naming since state line)
+ebank_done words naming since state line (Err why) p = tt
+ebank_done words naming since state line (Ok cell) p = banks_done words naming since state line kind.Ebank _ tt p (rw (p.unlisted, p.takes) refl)
+
+sbank_done : (words : List Number) (naming : Naming) (since : ℕ) (state : State) (line : List ℕ) (place : Result ℕ SourceFault) → Plain words naming since state line kind.Sbank
+    → IfOk (sbank_said state place) (LineDone words naming since state line)
+sbank_done words naming since state line (Err why) p = tt
+sbank_done words naming since state line (Ok place) p = banks_done words naming since state line kind.Sbank _ tt p (rw (p.unlisted, p.takes) refl)
 
 -- without words
 next_done : (words : List Number) (naming : Naming) (since : ℕ) (state : State) (line : List ℕ) (s : LineKind) (next : Result LocationCounter SourceFault) → IsNoWord s → Plain words naming since state line s
-    → IfOk next (λ counter. Sound words (since_after since line counter) counter (state.leads && stays_put s)) → IfOk (no_word state s next) (LineDone words naming since state line)
+    → IfOk next (λ counter. Sound words (since_after naming since line counter) counter (state.leads && stays_put s)) → IfOk (no_word state s next) (LineDone words naming since state line)
 next_done words naming since state line s (Err why) none p h = tt
 next_done words naming since state line s (Ok counter) none p h = λ first second. record { sound = h; orders = no_orders words naming since state line s none p }
 
 shape_done : (words : List Number) (naming : Naming) (since : ℕ) (state : State) (line : List ℕ) (s : LineKind) → Plain words naming since state line s → GoesIntoRope s
-    → IfOk (shape_woven naming state (body_of line) (Ok s)) (LineDone words naming since state line)
+    → IfOk (shape_woven naming state (body_in line) (Ok s)) (LineDone words naming since state line)
 shape_done words naming since state line kind.Word p goes = word_done words naming since state line (room_at state.counter state.counter.at 1) p refl
 shape_done words naming since state line kind.Pair p goes = pair_done words naming since state line (room_at state.counter state.counter.at 2) p refl
 shape_done words naming since state line (kind.Cells count) p goes =
     next_done words naming since state line (kind.Cells count) (cursor_after state.counter (kind.Cells count)) tt p
-    (rw (p.unlisted, p.takes) (after_cell_line words since state.counter.left state.counter.at state.leads count p.sound))
+    (rw (p.unlisted, p.takes) (after_cell_line words since state.counter.left state.counter.used state.counter.at state.leads count p.sound))
 shape_done words naming since state line (kind.StandsFor place) p goes =
     next_done words naming since state line (kind.StandsFor place) (Ok state.counter) tt p
     (rw (p.unlisted, p.takes) (after_name_line words since state.counter state.leads p.sound))
@@ -121,12 +147,28 @@ shape_done words naming since state line (kind.Moves place) p goes =
 shape_done words naming since state line (kind.Bank bank) p goes =
     next_done words naming since state line (kind.Bank bank) (cursor_after state.counter (kind.Bank bank)) tt p
     (rw (p.unlisted, p.takes) (after_bank words since state.counter state.leads bank p.sound goes))
+shape_done words naming since state line kind.StandsHere p goes =
+    next_done words naming since state line kind.StandsHere (Ok state.counter) tt p
+    (rw (p.unlisted, p.takes) (after_name_line words since state.counter state.leads p.sound))
+shape_done words naming since state line kind.Nothing p goes =
+    next_done words naming since state line kind.Nothing (Ok state.counter) tt p
+    (rw (p.unlisted, p.takes) (after_name_line words since state.counter state.leads p.sound))
+shape_done words naming since state line (kind.Range from end) p goes =
+    next_done words naming since state line (kind.Range from end) (cursor_after state.counter (kind.Range from end)) tt p
+    (rw (p.unlisted, p.takes) (after_range_line words since state.counter.left state.counter.used state.counter.at state.leads end p.sound))
+shape_done words naming since state line kind.Resumes p goes =
+    next_done words naming since state line kind.Resumes (cursor_after state.counter kind.Resumes) tt p
+    (rw (p.unlisted, p.takes) (after_resumed words since state.counter.left state.counter.used state.counter.at state.leads p.sound))
+shape_done words naming since state line kind.Ebank p goes =
+    ebank_done words naming since state line (cell_in (location_in naming (after_first (spelled (body_in line))))) p
+shape_done words naming since state line kind.Sbank p goes =
+    sbank_done words naming since state line (place_in (location_in naming (after_first (spelled (body_in line))))) p
 
-plain_done : (words : List Number) (naming : Naming) (since : ℕ) (state : State) (line : List ℕ) (s : Result LineKind SourceFault) → are_listed (said_by line) ≡ false → shape_of (body_of line) ≡ s
-    → Sound words since state.counter state.leads → IfOk (shape_woven naming state (body_of line) s) (LineDone words naming since state line)
+plain_done : (words : List Number) (naming : Naming) (since : ℕ) (state : State) (line : List ℕ) (s : Result LineKind SourceFault) → are_listed (said_by line) ≡ false → shape_of naming (spelled (body_in line)) ≡ s
+    → Sound words since state.counter state.leads → IfOk (shape_woven naming state (body_in line) s) (LineDone words naming since state line)
 plain_done words naming since state line (Err why) unlisted e sound = tt
 plain_done words naming since state line (Ok s) unlisted e sound =
-    shape_done words naming since state line s (record { unlisted = unlisted; takes = e; sound = sound }) (goes_into_rope (body_of line) s e)
+    shape_done words naming since state line s (record { unlisted = unlisted; takes = e; sound = sound }) (goes_into_rope naming (spelled (body_in line)) s e)
 
 -- a listing line
 listed_orders : (words : List Number) (naming : Naming) (since : ℕ) (state : State) (line : List ℕ) → are_listed (said_by line) ≡ true → AreShown words (order_of naming since state line) (mnemonic_of line)
@@ -143,7 +185,7 @@ line_by : (words : List Number) (naming : Naming) (since : ℕ) (state : State) 
     → IfOk (line_woven naming state line) (LineDone words naming since state line)
 unfolding line_woven
 line_by words naming since state line true e sound = rw e (listed_done words naming since state line (line_named line) e sound)
-line_by words naming since state line false e sound = rw e (plain_done words naming since state line (shape_of (body_of line)) e refl sound)
+line_by words naming since state line false e sound = rw e (plain_done words naming since state line (shape_of naming (spelled (body_in line))) e refl sound)
 
 line_done : (words : List Number) (naming : Naming) (since : ℕ) (state : State) (line : List ℕ) (step : Step) → line_woven naming state line ≡ Ok step → Sound words since state.counter state.leads
     → LineDone words naming since state line step
@@ -153,7 +195,7 @@ line_done words naming since state line step e sound =
 
 -- one line after the other
 pub orders_more : (naming : Naming) (since : ℕ) (state : State) (line : List ℕ) (lines : List (List ℕ)) (step : Step) → line_woven naming state line ≡ Ok step
-    → orders_from naming since state (line ∷ lines) ≡ order_of naming since state line ++ orders_from naming (since_after since line step.state.counter) step.state lines
+    → orders_from naming since state (line ∷ lines) ≡ order_of naming since state line ++ orders_from naming (since_after naming since line step.state.counter) step.state lines
 unfolding orders_from
 orders_more naming since state line lines step e = rw (e, orders_from) refl
 
@@ -175,7 +217,7 @@ shown_from words (line ∷ lines) n naming since state said final is has sound =
     let second = holds (HasWord words) b.between s.more s.step.second b.other more in
     let first = holds (HasWord words) said b.between s.step.first b.one second.before in
     let done = line_done words naming since state line s.step s.woven sound first.here second.here in
-    let since_next = since_after since line s.step.state.counter in
+    let since_next = since_after naming since line s.step.state.counter in
     let rest = shown_from words lines (n + 1) naming since_next s.step.state s.more final s.rest has done.sound in
     rw (orders_more naming since state line lines s.step s.woven)
     (both_shown words (order_of naming since state line) (orders_from naming since_next s.step.state lines) (mnemonic_of line) (flat_map mnemonic_of lines) done.orders rest)

@@ -1,19 +1,13 @@
--- Adding a name that is not one of the computer's own.
-use Rattle.std.specs.Prelude.{◌≡◌, ℕ, cond, List, Option, Some, None, if◌then◌else◌}
-use Rattle.std.specs.Str.{bytes_eq}
-use Rattle.std.proofs.Common.{arith, refl}
-use Rattle.std.proofs.lemmas.Bool.Decides.{nat_tests}
-use Rattle.std.proofs.lemmas.Slice.Eq.{bytes_eq-Decides}
-use Rattle.agc_asm.specs.Name.{own_or, register_named}
+-- Adding the name of a line.
+use Rattle.std.specs.Prelude.{◌≡◌, ℕ, List, Option}
+use Rattle.std.proofs.Common.{ap}
+use Rattle.std.proofs.Math.Path.{fun_ext}
+use Rattle.agc_asm.specs.Name.{Naming, with_given, with_name}
 use Rattle.agc_listing.specs.declared.location.Location.{Location}
-use Rattle.agc_asm.specs.declared.register.Register.{Register}
 
-not_own : (r : Option Register) (given : Option Location) → own_or r given ≡ None → r ≡ None
-not_own None given is = refl
-not_own (Some r) given is = absurd cc
+abbrev naming_with : (List ℕ → Option Location) → (List ℕ → Option Location) → Naming
+naming_with guess given = record { given = given; guess = guess }
 
-pub one_more : (name other : List ℕ) (place : Location) (before here after : Option Location) → own_or (register_named name) here ≡ None
-    → after ≡ cond (bytes_eq name other) (Some place) before → own_or (register_named other) after ≡ (if bytes_eq name other then Some place else own_or (register_named other) before)
-one_more name other place before here after free is =
-    let none = not_own (register_named name) here free in
-    grind (arith, nat_tests, bytes_eq-Decides, none, is)
+pub one_more : (before after guess : List ℕ → Option Location) (name : List ℕ) (place : Location) → ((other : List ℕ) → after other ≡ with_given before name place other)
+    → record { given = after; guess = guess } ≡ with_name (record { given = before; guess = guess }) name place
+one_more before after guess name place h = ap (naming_with guess) (fun_ext h)

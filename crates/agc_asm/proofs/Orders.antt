@@ -1,5 +1,5 @@
 -- The line of a word means the word, if it is read as it was written.
-use Rattle.std.specs.Prelude.{◌≡◌, ℕ, ◌+◌, ◌/◌, ◌%◌, ◌^◌, ◌<◌, ◌≤◌, ◌==◌, Bool, true, false, List, [], ◌∷◌, ◌++◌, codes, Some, None, Ok}
+use Rattle.std.specs.Prelude.{◌≡◌, ℕ, ◌+◌, ◌/◌, ◌%◌, ◌^◌, ◌<◌, ◌≤◌, ◌==◌, Bool, true, false, List, [], ◌∷◌, ◌++◌, codes, position, Some, None, Ok}
 use Rattle.std.specs.List.{list_all}
 use Rattle.std.proofs.Common.{refl, arith, append-nil}
 use Rattle.std.proofs.lemmas.Bool.Decides.{nat_tests}
@@ -19,10 +19,10 @@ use Rattle.agc_listing.specs.declared.order.Operand.TheVariants as operand
 use Rattle.agc_listing.proofs.LineBack.{narrow_back, pattern_fits}
 use Rattle.agc_listing.proofs.Octals.{octal_back}
 use Rattle.agc_listing.proofs.Prints.{both, digits_are_solid, digits_print, is_solid, place_passes, prints}
-use Rattle.agc_asm.specs.Encode.{word_meaning}
-use Rattle.agc_asm.specs.Operand.{as_address, as_channel, operand_for, value_of}
+use Rattle.agc_asm.specs.Encode.{less_than_zero, word_meaning, writes_order}
+use Rattle.agc_asm.specs.Operand.{as_address, as_channel, located, operand_for, value_of}
 use Rattle.agc_asm.specs.LineKind.{shape_of}
-use Rattle.agc_asm.specs.Disassemble.{word_said}
+use Rattle.agc_asm.specs.Disassemble.{shows_order, word_said}
 use Rattle.agc_listing.specs.Location.{begins_with_e, location_named}
 use Rattle.agc_listing.specs.declared.location.Location.TheVariants as location
 use Rattle.agc_asm.specs.declared.mnemonic.Directive.TheVariants as directive
@@ -33,7 +33,10 @@ use Rattle.agc_listing.proofs.PlaceBack.{place_back, place_is_no_comment, place_
 use Rattle.agc_asm.specs.declared.line_kind.LineKind.TheVariants as kind
 use Rattle.agc_asm.specs.Mnemonic.{all_directives, directive_name, directive_named, is_order}
 use Rattle.agc_asm.specs.Name.{Naming}
-use Rattle.agc_listing.specs.Number.{is_sign, octal_word, offset_named}
+use Rattle.agc_listing.specs.Number.{begins_with_minus, is_sign, octal_word, offset_said, without_sign}
+use Rattle.agc_listing.specs.List.{listed_address}
+use Rattle.agc_asm.specs.Body.{alias_in, alias_name, alias_named, all_aliases, is_hash_byte, spelled, uncommented, without_adornment}
+use Rattle.agc_asm.specs.declared.encode.Banks.{Banks}
 use Rattle.agc_listing.specs.Text.{are_listed, is_place_text, said_by}
 use Rattle.agc_asm.proofs.Cut.{IsWord, says_one, says_two}
 use Rattle.agc_asm.proofs.Rows.{IsMnemonic, basic_by_name, basic_mnemonic, extracode_by_name, extracode_mnemonic, own_basic, own_extracode}
@@ -48,6 +51,9 @@ letter n = grind (arith, nat_tests)
 no_sign : (n : ℕ) → is_sign (48 + n % 8) ≡ false
 no_sign n = grind (arith, nat_tests)
 
+no_dash : (n : ℕ) → (48 + n % 8 == 0x2D) ≡ false
+no_dash n = grind (arith, nat_tests)
+
 three_digits : (n : ℕ) → IsWord (octal_digits 3 n)
 unfolding octal_digits
 three_digits n = record { solid = digits_are_solid 3 n; some = refl; said = no_hash (n / 8 / 8) }
@@ -60,12 +66,28 @@ pub five_digits : (n : ℕ) → IsWord (octal_digits 5 n)
 unfolding octal_digits
 five_digits n = record { solid = digits_are_solid 5 n; some = refl; said = no_hash (n / 8 / 8 / 8 / 8) }
 
-no_distance-three : (n : ℕ) → offset_named (octal_digits 3 n) ≡ None
-unfolding octal_digits offset_named
+no_distance-three : (n : ℕ) → offset_said (octal_digits 3 n) ≡ None
+unfolding octal_digits offset_said
 no_distance-three n = rw (no_sign (n / 8 / 8)) refl
 
-no_distance-four : (n : ℕ) → offset_named (octal_digits 4 n) ≡ None
-unfolding octal_digits offset_named
+no_comment-three : (n : ℕ) → position is_hash_byte (octal_digits 3 n) ≡ None
+unfolding octal_digits
+no_comment-three n = rw (no_hash (n / 8 / 8), no_hash (n / 8), no_hash n) refl
+
+no_comment-four : (n : ℕ) → position is_hash_byte (octal_digits 4 n) ≡ None
+unfolding octal_digits
+no_comment-four n = rw (no_hash (n / 8 / 8 / 8), no_hash (n / 8 / 8), no_hash (n / 8), no_hash n) refl
+
+no_comment-five : (n : ℕ) → position is_hash_byte (octal_digits 5 n) ≡ None
+unfolding octal_digits
+no_comment-five n = rw (no_hash (n / 8 / 8 / 8 / 8), no_hash (n / 8 / 8 / 8), no_hash (n / 8 / 8), no_hash (n / 8), no_hash n) refl
+
+unsigned : (n : ℕ) → (begins_with_minus (octal_digits 5 n) ≡ false) × (without_sign (octal_digits 5 n) ≡ octal_digits 5 n)
+unfolding octal_digits
+unsigned n = (no_dash (n / 8 / 8 / 8 / 8), rw (no_sign (n / 8 / 8 / 8 / 8)) refl)
+
+no_distance-four : (n : ℕ) → offset_said (octal_digits 4 n) ≡ None
+unfolding octal_digits offset_said
 no_distance-four n = rw (no_sign (n / 8 / 8 / 8)) refl
 
 -- and read back as the number
@@ -88,10 +110,10 @@ operand_words (operand.Address k) = octal_digits 4 k ∷ []
 operand_words (operand.Channel h) = octal_digits 3 h ∷ []
 
 address_back : (naming : Naming) (here k : ℕ) → k < 0o10000 → as_address here (value_of naming here (octal_digits 4 k ∷ [])) ≡ Ok (operand.Address k)
-address_back naming here k h = rw (no_distance-four k, digits_back 4 5 k (omega arith) (omega arith) (omega arith)) (grind (arith, nat_tests))
+address_back naming here k h = rw (no_distance-four k, digits_back 4 6 k (omega arith) (omega arith) (omega arith)) (grind (arith, nat_tests))
 
 channel_back : (naming : Naming) (here h : ℕ) → h < 0o1000 → as_channel (value_of naming here (octal_digits 3 h ∷ [])) ≡ Ok (operand.Channel h)
-channel_back naming here h small = rw (no_distance-three h, digits_back 3 5 h (omega arith) (omega arith) (omega arith)) (grind (arith, nat_tests))
+channel_back naming here h small = rw (no_distance-three h, digits_back 3 6 h (omega arith) (omega arith) (omega arith)) (grind (arith, nat_tests))
 
 operand_back : (t : Takes) (bits : ℕ) (naming : Naming) (here : ℕ) → operand_for t naming here (operand_words (operand_in t bits)) ≡ Ok (operand_in t bits)
 operand_back takes.Nothing bits naming here = refl
@@ -108,62 +130,130 @@ order_says name operand.Nothing h = rw (append-nil name) (says_one name h)
 order_says name (operand.Address k) h = says_two name (octal_digits 4 k) h (four_digits k)
 order_says name (operand.Channel c) h = says_two name (octal_digits 3 c) h (three_digits c)
 
+-- the words of a line before its comment
+uncommented_one : (name : List ℕ) → position is_hash_byte name ≡ None → uncommented (name ∷ []) ≡ name ∷ []
+unfolding uncommented
+uncommented_one name h = rw h refl
+
+uncommented_two : (name next : List ℕ) → position is_hash_byte name ≡ None → position is_hash_byte next ≡ None → uncommented (name ∷ next ∷ []) ≡ name ∷ next ∷ []
+unfolding uncommented
+uncommented_two name next h k = rw (h, k) refl
+
+order_uncommented : (name : List ℕ) (o : Operand) → position is_hash_byte name ≡ None → uncommented (name ∷ operand_words o) ≡ name ∷ operand_words o
+order_uncommented name operand.Nothing h = uncommented_one name h
+order_uncommented name (operand.Address k) h = uncommented_two name (octal_digits 4 k) h (no_comment-four k)
+order_uncommented name (operand.Channel c) h = uncommented_two name (octal_digits 3 c) h (no_comment-three c)
+
+-- a line's own words are its operation and operand
+abbrev pub IsPlain : List (List ℕ) → Type 0
+IsPlain words = without_adornment (uncommented words) ≡ words
+
+order_plain : (name : List ℕ) (o : Operand) → IsMnemonic name → IsPlain (name ∷ operand_words o)
+order_plain name o m = rw (order_uncommented name o m.no_comment, m.no_adornment) refl
+
+order_spelled : (name : List ℕ) (words : List (List ℕ)) → IsMnemonic name → spelled (name ∷ words) ≡ name ∷ words
+unfolding spelled
+order_spelled name words m = rw (m.plain, m.no_alias) refl
+
+order_alias : (name : List ℕ) (words : List (List ℕ)) → IsMnemonic name → alias_in (name ∷ words) ≡ None
+order_alias name words m = rw (m.plain, m.no_alias) refl
+
+not_less : (o : Operand) → less_than_zero (operand_words o) ≡ None
+not_less operand.Nothing = refl
+not_less (operand.Address k) = refl
+not_less (operand.Channel c) = refl
+
+order_writes : (name : List ℕ) (o : Operand) → IsMnemonic name → writes_order (name ∷ operand_words o) ≡ true
+unfolding writes_order
+order_writes name o m = rw (m.no_minus, order_spelled name (operand_words o) m, m.no_directive, not_less o) refl
+
 -- what a line means that is read as a word
-pub record Says (wanted : Bool) (word : Number) (said : List (List ℕ)) : Type 0 where
-  pub takes_up : shape_of said ≡ Ok kind.Word
-  pub means : (naming : Naming) (here : ℕ) → word_meaning naming here wanted said ≡ Ok word
+pub record Says (wanted order : Bool) (word : Number) (said : List (List ℕ)) : Type 0 where
+  pub takes_up : (naming : Naming) → shape_of naming (spelled said) ≡ Ok kind.Word
+  pub means : (naming : Naming) (here : ℕ) (banks : Banks) → word_meaning naming here wanted banks said ≡ Ok word
+  pub writes : writes_order said ≡ order
+  pub plain : IsPlain said
 
 basic_line : (b : Basic) (word : Number) → word.magnitude < 2 ^ 14 → basic_of (pattern_of 15 word) ≡ b
-    → Says false word (said_by (codes "        " ++ row_text (basic_row b) (pattern_of 15 word)))
+    → Says false true word (said_by (codes "        " ++ row_text (basic_row b) (pattern_of 15 word)))
 unfolding word_meaning
 basic_line b word narrow is =
     let p = pattern_of 15 word in
     let m = basic_mnemonic b in
     let o = operand_in (basic_row b).takes p in
     let own = own_basic b p (pattern_fits word narrow) is in
-    let order : is_order (basic_row b).mnemonic ≡ true = rw (basic_by_name b) refl in
-    rw (order_says (basic_row b).mnemonic o m.word)
+    let name = (basic_row b).mnemonic in
+    let order : is_order name ≡ true = rw (basic_by_name b) refl in
+    let spelt = order_spelled name (operand_words o) m in
+    rw (order_says name o m.word)
     (record {
-      takes_up = rw (m.no_directive, order) refl;
-      means = λ naming here. rw (m.no_directive, basic_by_name b, operand_back (basic_row b).takes p naming here, own, narrow_back word narrow) refl;
+      takes_up = λ naming. rw (spelt, m.no_directive, order) refl;
+      means = λ naming here banks.
+          rw (m.no_minus, order_alias name (operand_words o) m, spelt, m.no_directive, not_less o, basic_by_name b, operand_back (basic_row b).takes p naming here, own, narrow_back word narrow) refl;
+      writes = order_writes name o m;
+      plain = order_plain name o m;
     })
 
 extracode_line : (e : Extracode) (word : Number) → word.magnitude < 2 ^ 14 → extracode_of (pattern_of 15 word) ≡ e
-    → Says true word (said_by (codes "        " ++ row_text (extracode_row e) (pattern_of 15 word)))
+    → Says true true word (said_by (codes "        " ++ row_text (extracode_row e) (pattern_of 15 word)))
 unfolding word_meaning
 extracode_line e word narrow is =
     let p = pattern_of 15 word in
     let m = extracode_mnemonic e in
     let o = operand_in (extracode_row e).takes p in
     let own = own_extracode e p (pattern_fits word narrow) is in
-    let order : is_order (extracode_row e).mnemonic ≡ true = rw (extracode_by_name e) (grind (arith, nat_tests)) in
-    rw (order_says (extracode_row e).mnemonic o m.word)
+    let name = (extracode_row e).mnemonic in
+    let order : is_order name ≡ true = rw (extracode_by_name e) (grind (arith, nat_tests)) in
+    let spelt = order_spelled name (operand_words o) m in
+    rw (order_says name o m.word)
     (record {
-      takes_up = rw (m.no_directive, order) refl;
-      means = λ naming here. rw (m.no_directive, extracode_by_name e, operand_back (extracode_row e).takes p naming here, own, narrow_back word narrow) refl;
+      takes_up = λ naming. rw (spelt, m.no_directive, order) refl;
+      means = λ naming here banks.
+          rw (m.no_minus, order_alias name (operand_words o) m, spelt, m.no_directive, not_less o, extracode_by_name e, operand_back (extracode_row e).takes p naming here, own, narrow_back word narrow) refl;
+      writes = order_writes name o m;
+      plain = order_plain name o m;
     })
 
 octal_directive : directive_named (codes "OCT") ≡ Some directive.Oct
 unfolding directive_named directive_name all_directives
 octal_directive = refl
 
-octal_line : (wanted : Bool) (word : Number) → word.magnitude < 2 ^ 14 → Says wanted word (said_by (codes "        OCT " ++ octal_digits 5 (pattern_of 15 word)))
-unfolding word_meaning octal_word
+oct_spelled : (words : List (List ℕ)) → spelled (codes "OCT" ∷ words) ≡ codes "OCT" ∷ words
+unfolding spelled alias_named alias_name all_aliases
+oct_spelled words = refl
+
+oct_alias : (words : List (List ℕ)) → alias_in (codes "OCT" ∷ words) ≡ None
+unfolding alias_named alias_name all_aliases
+oct_alias words = refl
+
+oct_no_adornment : {words : List (List ℕ)} → without_adornment (codes "OCT" ∷ words) ≡ codes "OCT" ∷ words
+unfolding offset_said
+oct_no_adornment = refl
+
+oct_plain : (p : ℕ) → IsPlain (codes "OCT" ∷ octal_digits 5 p ∷ [])
+oct_plain p = rw (uncommented_two (codes "OCT") (octal_digits 5 p) refl (no_comment-five p)) oct_no_adornment
+
+octal_line : (wanted : Bool) (word : Number) → word.magnitude < 2 ^ 14 → Says wanted false word (said_by (codes "        OCT " ++ octal_digits 5 (pattern_of 15 word)))
+unfolding word_meaning octal_word writes_order
 octal_line wanted word narrow =
     let p = pattern_of 15 word in
     let oct : IsWord (codes "OCT") = record { solid = refl; some = refl; said = refl } in
-    let cut : said_by (codes "        OCT " ++ octal_digits 5 p) ≡ codes "OCT" ∷ octal_digits 5 p ∷ [] = says_two (codes "OCT") (octal_digits 5 p) oct (five_digits p) in
+    let digits = octal_digits 5 p in
+    let cut : said_by (codes "        OCT " ++ digits) ≡ codes "OCT" ∷ digits ∷ [] = says_two (codes "OCT") digits oct (five_digits p) in
     rw cut
     (record {
-      takes_up = rw octal_directive refl;
-      means = λ naming here. rw (octal_directive, digits_back 5 5 p (omega arith) (omega arith) (pattern_fits word narrow), narrow_back word narrow) refl;
+      takes_up = λ naming. rw (oct_spelled (digits ∷ []), octal_directive) refl;
+      means = λ naming here banks.
+          rw (oct_alias (digits ∷ []), oct_spelled (digits ∷ []), octal_directive, (unsigned p).0, (unsigned p).1, digits_back 5 5 p (omega arith) (omega arith) (pattern_fits word narrow), narrow_back word narrow) refl;
+      writes = rw (oct_spelled (digits ∷ []), octal_directive) refl;
+      plain = oct_plain p;
     })
 
 -- the line of a word, without its line feed
 abbrev pub word_line : Bool → Bool → Number → List ℕ
 word_line wanted extracode word = codes "        " ++ word_said wanted extracode word
 
-pub word_line_says : (wanted extracode : Bool) (word : Number) → word.magnitude < 2 ^ 14 → Says wanted word (said_by (word_line wanted extracode word))
+pub word_line_says : (wanted extracode : Bool) (word : Number) → word.magnitude < 2 ^ 14 → Says wanted (shows_order wanted extracode) word (said_by (word_line wanted extracode word))
 unfolding basic_text extracode_text
 word_line_says true true word narrow = extracode_line (extracode_of (pattern_of 15 word)) word narrow refl
 word_line_says false false word narrow = basic_line (basic_of (pattern_of 15 word)) word narrow refl
@@ -213,6 +303,17 @@ not_alone : (place : ℕ) → octal_number 4 (place_text (listed_place place)) �
 unfolding octal_digits number_of
 not_alone place = refl
 
+no_number : (place : ℕ) → octal_number 6 (place_text (listed_place place)) ≡ None
+unfolding octal_digits number_of
+no_number place = refl
+
+no_comment-place : (place : ℕ) → position is_hash_byte (place_text (listed_place place)) ≡ None
+unfolding octal_digits
+no_comment-place place =
+    let bank = place / 0o2000 in
+    let address = listed_address place in
+    rw (no_hash (bank / 8), no_hash bank, no_hash (address / 8 / 8 / 8), no_hash (address / 8 / 8), no_hash (address / 8), no_hash address) refl
+
 location_back : (place : ℕ) → place < 0o110000 → location_named (place_text (listed_place place)) ≡ Some (location.Fixed place)
 unfolding location_named
 location_back place h = rw (no_e place, not_alone place, place_back place h) refl
@@ -233,8 +334,25 @@ place_line_says place =
     let setloc : IsWord (codes "SETLOC") = record { solid = refl; some = refl; said = refl } in
     says_two (codes "SETLOC") (place_text (listed_place place)) setloc (place_word place)
 
-pub place_line_moves : (place : ℕ) → place < 0o110000 → shape_of (said_by (place_line place)) ≡ Ok (kind.Moves (location.Fixed place))
-place_line_moves place h = rw (place_line_says place, goes_to, location_back place h) refl
+setloc_spelled : (words : List (List ℕ)) → spelled (codes "SETLOC" ∷ words) ≡ codes "SETLOC" ∷ words
+unfolding spelled alias_named alias_name all_aliases
+setloc_spelled words = refl
+
+in_rope : (place : ℕ) → place < 0o110000 → located (Some (location.Fixed place)) ≡ Ok (location.Fixed place)
+in_rope place h = grind (arith, nat_tests)
+
+pub place_line_moves : (place : ℕ) → place < 0o110000 → (naming : Naming) → shape_of naming (spelled (said_by (place_line place))) ≡ Ok (kind.Moves (location.Fixed place))
+place_line_moves place h naming =
+    rw (place_line_says place, setloc_spelled (place_text (listed_place place) ∷ []), goes_to, no_number place, location_back place h, in_rope place h) refl
+
+no_adornment-setloc : (words : List (List ℕ)) → without_adornment (codes "SETLOC" ∷ words) ≡ codes "SETLOC" ∷ words
+unfolding offset_said
+no_adornment-setloc words = refl
+
+pub place_line_plain : (place : ℕ) → IsPlain (said_by (place_line place))
+place_line_plain place =
+    let text = place_text (listed_place place) in
+    rw (place_line_says place, uncommented_two (codes "SETLOC") text refl (no_comment-place place)) (no_adornment-setloc (text ∷ []))
 
 pub place_line_unlisted : (place : ℕ) → are_listed (said_by (place_line place)) ≡ false
 place_line_unlisted place = rw (place_line_says place, no_place-setloc) refl

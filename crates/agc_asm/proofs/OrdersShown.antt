@@ -1,5 +1,5 @@
 -- The order that a line writes, when the word of the line is at its place.
-use Rattle.std.specs.Prelude.{◌≡◌, ℕ, Bool, true, false, All, List, [], ◌∷◌, map, Option, Some, None, option_map, Result, Ok, Err, if◌then◌else◌}
+use Rattle.std.specs.Prelude.{◌≡◌, ℕ, Bool, true, false, not, ◌&&◌, All, List, [], ◌∷◌, map, Option, Some, None, is_none, option_map, Result, Ok, Err, if◌then◌else◌}
 use Rattle.std.proofs.Common.{refl}
 use Rattle.std.proofs.lemmas.List.Elements.{All-cons, All-nil}
 use Rattle.agc_word.specs.Number.{Number, number_from_pattern, pattern_of}
@@ -15,9 +15,12 @@ use Rattle.agc_asm.specs.Row.{as_word, basic_word, extracode_word}
 use Rattle.agc_asm.specs.declared.fault.SourceFault.{SourceFault}
 use Rattle.agc_asm.specs.declared.fault.SourceFault.TheVariants as fault
 use Rattle.agc_asm.specs.declared.mnemonic.Directive.{Directive}
-use Rattle.agc_asm.specs.Encode.{basic_with, extracode_with, if_basic, if_extracode, order_meaning, word_by, word_meaning}
-use Rattle.agc_asm.specs.Operand.{operand_for}
-use Rattle.agc_asm.specs.OrderLines.{OrderLine, mnemonic_by, mnemonic_in, operand_read, order_at, order_by, order_placed, order_with, row_named}
+use Rattle.agc_asm.specs.Body.{alias_in, has_minus, spelled}
+use Rattle.agc_asm.specs.Encode.{basic_with, complemented_word, extracode_with, if_basic, if_extracode, is_order_by, is_order_spelled, less_than_zero, misfit, order_by_offset, order_meaning, plain_meaning, unless_misfit, word_by, word_meaning, writes_order}
+use Rattle.agc_asm.specs.declared.alias.Alias.{Alias}
+use Rattle.agc_asm.specs.declared.encode.Banks.{Banks}
+use Rattle.agc_asm.specs.Operand.{operand_for, value_of}
+use Rattle.agc_asm.specs.OrderLines.{OrderLine, mnemonic_in, operand_read, order_at, order_placed, order_with, order_words, row_named}
 use Rattle.agc_asm.specs.LineKind.{shape_by, shape_of}
 use Rattle.agc_asm.specs.declared.line_kind.LineKind.{LineKind}
 use Rattle.agc_asm.specs.declared.line_kind.LineKind.TheVariants as kind
@@ -82,16 +85,47 @@ order_shown : (words : List Number) (naming : Naming) (since place : ℕ) (leads
 order_shown words naming since place true name rest word h is = extracode_case words naming since place name rest word (extracode_named name) refl h is
 order_shown words naming since place false name rest word h is = basic_case words naming since place name rest word (basic_named name) refl h is
 
-by_shown : (words : List Number) (naming : Naming) (since place : ℕ) (leads : Bool) (d : Option Directive) (name : List ℕ) (rest : List (List ℕ)) (word : Number) → At words since leads place word
-    → word_by naming place leads d name rest ≡ Ok word → AreShown words (order_by naming since leads place d name rest) (mnemonic_by d name)
-by_shown words naming since place leads (Some d) name rest word h is = none_shown words
-by_shown words naming since place leads None name rest word h is = order_shown words naming since place leads name rest word h is
+-- a line of one word that writes an order
+less_shown : (words : List Number) (naming : Naming) (since place : ℕ) (leads : Bool) (less : Option ℕ) (name : List ℕ) (rest : List (List ℕ)) (word : Number) → At words since leads place word
+    → is_none less ≡ true → order_by_offset naming place leads less name rest ≡ Ok word → AreShown words (order_with since place leads name (operand_read (row_named leads name) naming place rest)) (name ∷ [])
+less_shown words naming since place leads None name rest word h none is = order_shown words naming since place leads name rest word h is
+less_shown words naming since place leads (Some less) name rest word h none is = absurd cc
 
-pub word_shown : (words : List Number) (naming : Naming) (since place : ℕ) (leads : Bool) (body : List (List ℕ)) (word : Number) → At words since leads place word
-    → word_meaning naming place leads body ≡ Ok word → AreShown words (order_at naming since leads place body) (mnemonic_in body)
-unfolding word_meaning
-word_shown words naming since place leads [] word h is = none_shown words
-word_shown words naming since place leads (name ∷ rest) word h is = by_shown words naming since place leads (directive_named name) name rest word h is
+by_shown : (words : List Number) (naming : Naming) (since place : ℕ) (leads : Bool) (banks : Banks) (d : Option Directive) (name : List ℕ) (rest : List (List ℕ)) (word : Number) → At words since leads place word
+    → is_order_by d rest ≡ true → word_by naming place leads banks d name rest ≡ Ok word → AreShown words (order_at naming since leads place (name ∷ rest)) (mnemonic_in (name ∷ rest))
+by_shown words naming since place leads banks (Some d) name rest word h order is = absurd cc
+by_shown words naming since place leads banks None name rest word h order is =
+    less_shown words naming since place leads (less_than_zero rest) name rest word h order is
+
+unless_is : (why : Option SourceFault) (meaning : Result Number SourceFault) (word : Number) → unless_misfit why meaning ≡ Ok word → meaning ≡ Ok word
+unless_is (Some why) meaning word is = absurd cc
+unless_is None meaning word is = is
+
+plain_shown : (words : List Number) (naming : Naming) (since place : ℕ) (leads : Bool) (banks : Banks) (a : Option Alias) (spelt : List (List ℕ)) (word : Number) → At words since leads place word
+    → is_order_spelled spelt ≡ true → plain_meaning naming place leads banks a spelt ≡ Ok word → AreShown words (order_at naming since leads place spelt) (mnemonic_in spelt)
+plain_shown words naming since place leads banks a [] word h order is = absurd cc
+plain_shown words naming since place leads banks a (name ∷ rest) word h order is =
+    by_shown words naming since place leads banks (directive_named name) name rest word h order
+    (unless_is (misfit a (value_of naming place rest)) (word_by naming place leads banks (directive_named name) name rest) word is)
+
+same_word : (meaning : Result Number SourceFault) (word : Number) → complemented_word false meaning ≡ Ok word → meaning ≡ Ok word
+same_word (Err why) word is = absurd cc
+same_word (Ok mine) word is = is
+
+minus_shown : (words : List Number) (naming : Naming) (since place : ℕ) (leads : Bool) (banks : Banks) (body : List (List ℕ)) (word : Number) (minus order : Bool) → At words since leads place word
+    → has_minus body ≡ minus → is_order_spelled (spelled body) ≡ order → complemented_word minus (plain_meaning naming place leads banks (alias_in body) (spelled body)) ≡ Ok word
+    → AreShown words (order_at naming since leads place (if order && not minus then spelled body else [])) (mnemonic_in (if order && not minus then spelled body else []))
+minus_shown words naming since place leads banks body word true true h e f is = none_shown words
+minus_shown words naming since place leads banks body word true false h e f is = none_shown words
+minus_shown words naming since place leads banks body word false false h e f is = none_shown words
+minus_shown words naming since place leads banks body word false true h e f is =
+    plain_shown words naming since place leads banks (alias_in body) (spelled body) word h f (same_word (plain_meaning naming place leads banks (alias_in body) (spelled body)) word is)
+
+pub word_shown : (words : List Number) (naming : Naming) (since place : ℕ) (leads : Bool) (banks : Banks) (body : List (List ℕ)) (word : Number) → At words since leads place word
+    → word_meaning naming place leads banks body ≡ Ok word → AreShown words (order_at naming since leads place (order_words body)) (mnemonic_in (order_words body))
+unfolding word_meaning writes_order
+word_shown words naming since place leads banks body word h is =
+    minus_shown words naming since place leads banks body word (has_minus body) (is_order_spelled (spelled body)) h refl refl is
 
 -- a line that is not one word writes no order
 abbrev pub IsNoWord : LineKind → Type 0
@@ -104,17 +138,21 @@ no_order_shape s true h is =
     rw same at h
 no_order_shape s false h is = cc
 
-unplaced : (words : List Number) (naming : Naming) (since : ℕ) (leads : Bool) (room : Result ℕ SourceFault) (d : Directive) (name : List ℕ) (rest : List (List ℕ)) → directive_named name ≡ Some d
-    → AreShown words (order_placed naming since leads room (name ∷ rest)) (mnemonic_in (name ∷ rest))
-unplaced words naming since leads (Err why) d name rest e = rw e (none_shown words)
-unplaced words naming since leads (Ok place) d name rest e = rw e (none_shown words)
+none_placed : (words : List Number) (naming : Naming) (since : ℕ) (leads : Bool) (room : Result ℕ SourceFault) → AreShown words (order_placed naming since leads room []) (mnemonic_in [])
+none_placed words naming since leads (Err why) = none_shown words
+none_placed words naming since leads (Ok place) = none_shown words
 
-no_order_by : (words : List Number) (naming : Naming) (since : ℕ) (leads : Bool) (room : Result ℕ SourceFault) (s : LineKind) (d : Option Directive) (name : List ℕ) (rest : List (List ℕ)) → IsNoWord s
-    → directive_named name ≡ d → shape_by d name rest ≡ Ok s → AreShown words (order_placed naming since leads room (name ∷ rest)) (mnemonic_in (name ∷ rest))
-no_order_by words naming since leads room s (Some d) name rest h e is = unplaced words naming since leads room d name rest e
-no_order_by words naming since leads room s None name rest h e is = absurd (no_order_shape s (is_order name) h is)
+not_order_by : (naming : Naming) (s : LineKind) (d : Option Directive) (name : List ℕ) (rest : List (List ℕ)) → IsNoWord s → shape_by naming d name rest ≡ Ok s → is_order_by d rest ≡ false
+not_order_by naming s (Some d) name rest h is = refl
+not_order_by naming s None name rest h is = absurd (no_order_shape s (is_order name) h is)
 
-pub no_order : (words : List Number) (naming : Naming) (since : ℕ) (leads : Bool) (room : Result ℕ SourceFault) (s : LineKind) (body : List (List ℕ)) → IsNoWord s → shape_of body ≡ Ok s
-    → AreShown words (order_placed naming since leads room body) (mnemonic_in body)
-no_order words naming since leads room s [] h is = absurd cc
-no_order words naming since leads room s (name ∷ rest) h is = no_order_by words naming since leads room s (directive_named name) name rest h refl is
+not_order : (naming : Naming) (s : LineKind) (spelt : List (List ℕ)) → IsNoWord s → shape_of naming spelt ≡ Ok s → is_order_spelled spelt ≡ false
+not_order naming s [] h is = refl
+not_order naming s (name ∷ rest) h is = not_order_by naming s (directive_named name) name rest h is
+
+pub no_order : (words : List Number) (naming : Naming) (since : ℕ) (leads : Bool) (room : Result ℕ SourceFault) (s : LineKind) (body : List (List ℕ)) → IsNoWord s → shape_of naming (spelled body) ≡ Ok s
+    → AreShown words (order_placed naming since leads room (order_words body)) (mnemonic_in (order_words body))
+unfolding writes_order
+no_order words naming since leads room s body h is =
+    let none : is_order_spelled (spelled body) ≡ false = not_order naming s (spelled body) h is in
+    rw none (none_placed words naming since leads room)

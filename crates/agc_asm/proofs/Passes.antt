@@ -4,8 +4,8 @@ use Rattle.std.specs.Prelude.{Result, Ok, Err}
 use Rattle.agc_word.specs.Text.{lines_of}
 use Rattle.agc_listing.specs.declared.line.PlacedWord.{PlacedWord}
 use Rattle.agc_asm.specs.LocationCounter.{first_cursor}
-use Rattle.agc_asm.specs.Name.{Naming, own_names}
-use Rattle.agc_asm.specs.Source.{both_said, first_state, line_labelled, line_woven, names_from, names_in, naming_after, told_at, words_from, words_in}
+use Rattle.agc_asm.specs.Name.{Naming}
+use Rattle.agc_asm.specs.Source.{both_said, first_names, first_state, found_from, line_labelled, line_woven, names_from, names_in, naming_after, told_at, words_from, words_in}
 use Rattle.agc_listing.specs.Text.{label_of}
 use Rattle.agc_asm.specs.declared.location_counter.LocationCounter.{LocationCounter}
 use Rattle.agc_asm.specs.declared.fault.SourceFault.{SourceFault}
@@ -23,12 +23,12 @@ next_named n naming counter line lines next e = rw (e, names_from)
 
 -- a faulty line
 pub faulty_named : (text : List ℕ) (n : ℕ) (naming : Naming) (counter : LocationCounter) (line : List ℕ) (lines : List (List ℕ)) (why : SourceFault)
-    → names_from n naming counter (line ∷ lines) ≡ names_from 1 own_names first_cursor (lines_of text) → line_labelled naming counter line ≡ Err why → names_in text ≡ Err (trouble.Line n why)
+    → names_from n naming counter (line ∷ lines) ≡ names_from 1 (first_names text) first_cursor (lines_of text) → line_labelled naming counter line ≡ Err why → names_in text ≡ Err (trouble.Line n why)
 unfolding names_from names_in
 faulty_named text n naming counter line lines why same e = rw (← same, e, names_from)
 
 -- no line is left
-pub all_named : (text : List ℕ) (n : ℕ) (naming : Naming) (counter : LocationCounter) → names_from n naming counter [] ≡ names_from 1 own_names first_cursor (lines_of text) → names_in text ≡ Ok naming
+pub all_named : (text : List ℕ) (n : ℕ) (naming : Naming) (counter : LocationCounter) → names_from n naming counter [] ≡ names_from 1 (first_names text) first_cursor (lines_of text) → names_in text ≡ Ok naming
 unfolding names_from names_in
 all_named text n naming counter same = sym same
 
@@ -63,3 +63,18 @@ faulty_words text n naming state said line lines step why same e f = sym same �
 pub all_woven : (text : List ℕ) (n : ℕ) (naming : Naming) (state : State) (said : List PlacedWord) → words_from n naming state said [] ≡ words_from 1 naming first_state [] (lines_of text) → words_in naming text ≡ Ok said
 unfolding words_from words_in
 all_woven text n naming state said same = sym same
+
+-- an earlier reading
+pub next_found : (naming : Naming) (counter : LocationCounter) (line : List ℕ) (lines : List (List ℕ)) (next : Labelled) → line_labelled naming counter line ≡ Ok next
+    → found_from naming counter (line ∷ lines) ≡ found_from (naming_after naming (label_of line) next.place) next.counter lines
+unfolding found_from
+next_found naming counter line lines next e = rw (e, found_from) refl
+
+pub faulty_found : (naming : Naming) (counter : LocationCounter) (line : List ℕ) (lines : List (List ℕ)) (why : SourceFault) → line_labelled naming counter line ≡ Err why
+    → found_from naming counter (line ∷ lines) ≡ found_from naming counter lines
+unfolding found_from
+faulty_found naming counter line lines why e = rw (e, found_from) refl
+
+pub all_found : (naming : Naming) (counter : LocationCounter) → found_from naming counter [] ≡ naming.given
+unfolding found_from
+all_found naming counter = refl

@@ -7,7 +7,7 @@ use Rattle.agc_word.specs.Number.{Number, pattern_of}
 use Rattle.agc_store.specs.Memory.{fixed_at}
 use Rattle.agc_listing.specs.Order.{next_is_extracode}
 use Rattle.agc_listing.proofs.RopeLines.{range_more}
-use Rattle.agc_asm.specs.Disassemble.{is_wanted_at, resolve, resolve_range, text_said, follows_word}
+use Rattle.agc_asm.specs.Disassemble.{is_wanted_at, resolve, resolve_range, shows_order, text_said, follows_word}
 use Rattle.agc_listing.specs.List.{starts_run, is_extracode_at}
 
 -- no lines yet
@@ -42,10 +42,10 @@ unfolding is_wanted_at
 wanted_first words = refl
 
 -- the line of the next place
-pub wanted_next : (words : List Number) (place : ℕ) (wanted next : Bool) (word : Number) → wanted ≡ is_wanted_at words place → word ≡ fixed_at place words
-    → next ≡ (next_is_extracode wanted word && not ((place + 1) % 0o2000 == 0)) → next ≡ is_wanted_at words (place + 1)
+pub wanted_next : (words : List Number) (place : ℕ) (wanted extracode next : Bool) (word : Number) → wanted ≡ is_wanted_at words place → extracode ≡ is_extracode_at words place → word ≡ fixed_at place words
+    → next ≡ (shows_order wanted extracode && next_is_extracode wanted word && not ((place + 1) % 0o2000 == 0)) → next ≡ is_wanted_at words (place + 1)
 unfolding is_wanted_at
-wanted_next words place wanted next word is is_word next_is = rw (next_is, add-one, is, is_word) refl
+wanted_next words place wanted extracode next word is read is_word next_is = rw (next_is, add-one, is, read, is_word) refl
 
 pub extracode_next : (words : List Number) (place : ℕ) (extracode next : Bool) (word : Number) → extracode ≡ is_extracode_at words place → word ≡ fixed_at place words
     → next ≡ (next_is_extracode extracode word && not (starts_run (place + 1))) → next ≡ is_extracode_at words (place + 1)

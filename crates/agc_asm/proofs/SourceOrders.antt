@@ -71,7 +71,7 @@ no_orders_by : (naming : Naming) (since : ℕ) (state : State) (line : List ℕ)
     → orders_from naming since state (line ∷ lines) ≡ []
 no_orders_by naming since state line lines (Err why) listed rest e = faulty_line naming since state line lines why e
 no_orders_by naming since state line lines (Ok step) listed rest e =
-    orders_more naming since state line lines step e ∙ rw (no_order naming since state line listed) (rest naming (since_after since line step.state.counter) step.state)
+    orders_more naming since state line lines step e ∙ rw (no_order naming since state line listed) (rest naming (since_after naming since line step.state.counter) step.state)
 
 no_orders : (lines : List (List ℕ)) → list_all (λ line. are_listed (said_by line)) lines ≡ true → WriteNone lines
 unfolding orders_from

@@ -17,21 +17,23 @@ use Rattle.agc_listing.specs.declared.line.PlacedWord.{PlacedWord}
 use Rattle.agc_listing.proofs.LinesBack.{NoneFrom}
 use Rattle.agc_asm.specs.Source.{names_from, words_from}
 use Rattle.agc_asm.specs.LocationCounter.{after_words, moved_to}
-use Rattle.agc_asm.specs.Disassemble.{follows_word, is_wanted_at, line_of, line_to, lines_said, resolve}
+use Rattle.agc_asm.specs.Disassemble.{follows_word, is_wanted_at, line_of, line_to, lines_said, resolve, shows_order}
+use Rattle.agc_listing.specs.Text.{said_by}
 use Rattle.agc_asm.specs.declared.location_counter.LocationCounter.{LocationCounter}
 use Rattle.agc_asm.specs.declared.pass2.State.{State}
 use Rattle.agc_asm.specs.Name.{Naming}
 use Rattle.agc_listing.specs.declared.location.Location.TheVariants as location
 use Rattle.agc_asm.proofs.Cut.{lines_more, no_lines}
 use Rattle.agc_asm.proofs.Lines.{IsHere, IsLine, Stands, after_word, is_line, moved_banks, moved_here, names_move, names_word, skips, state_after, state_moved, words_move, words_word}
-use Rattle.agc_asm.proofs.Orders.{place_line, place_line_moves, place_line_prints, place_line_unlisted, word_line, word_line_prints, word_line_says, word_line_unlisted}
+use Rattle.agc_asm.proofs.Orders.{place_line, place_line_moves, place_line_plain, place_line_prints, place_line_unlisted, word_line, word_line_prints, word_line_says, word_line_unlisted}
 
 -- both lines of a word are lines of the source
 place_is_line : (place : ℕ) → IsLine (place_line place)
-place_is_line place = is_line _ (place_line_prints place) (place_line_unlisted place)
+place_is_line place = is_line _ (place_line_prints place) (place_line_unlisted place) (place_line_plain place)
 
-word_is_line : (wanted extracode : Bool) (word : Number) → IsLine (word_line wanted extracode word)
-word_is_line wanted extracode word = is_line _ (word_line_prints wanted extracode word) (word_line_unlisted wanted extracode word)
+word_is_line : (wanted extracode : Bool) (word : Number) → word.magnitude < 2 ^ 14 → IsLine (word_line wanted extracode word)
+word_is_line wanted extracode word narrow =
+    is_line _ (word_line_prints wanted extracode word) (word_line_unlisted wanted extracode word) (word_line_says wanted extracode word narrow).plain
 
 -- and they are separate from what follows
 cut_word : (wanted extracode : Bool) (word : Number) (rest : List ℕ) → lines_of (line_of wanted extracode word ++ rest) ≡ word_line wanted extracode word ∷ lines_of rest
@@ -94,15 +96,15 @@ none_by words narrow count first n naming counter true true room stands has is r
     let here = stands.here is in
     let says = word_line_says (is_wanted_at words first) (is_extracode_at words first) (fixed_at first words) (narrow first) in
     rw (cut_follows words first (texts words (first + 1) count) has is)
-    (names_word n naming counter first (line_at words first) (lines_of (texts words (first + 1) count)) (word_is_line _ _ _) says.takes_up here
+    (names_word n naming counter first (line_at words first) (lines_of (texts words (first + 1) count)) (word_is_line _ _ _ (narrow first)) (says.takes_up naming) here
     ∙ rest (n + 1) naming (after_words counter counter.at 1) (after_word words first counter here stands.banks (omega arith)))
 none_by words narrow count first n naming counter true false room stands has is rest =
     let moved = moved_to counter (location.Fixed first) in
     let here = moved_here first counter stands.banks (omega arith) in
     let says = word_line_says (is_wanted_at words first) (is_extracode_at words first) (fixed_at first words) (narrow first) in
     rw (cut_begins words first (texts words (first + 1) count) has is)
-    (names_move n naming counter first (place_line first) (line_at words first ∷ lines_of (texts words (first + 1) count)) (place_is_line first) (place_line_moves first (omega arith))
-    ∙ names_word (n + 1) naming moved first (line_at words first) (lines_of (texts words (first + 1) count)) (word_is_line _ _ _) says.takes_up here
+    (names_move n naming counter first (place_line first) (line_at words first ∷ lines_of (texts words (first + 1) count)) (place_is_line first) (place_line_moves first (omega arith) naming)
+    ∙ names_word (n + 1) naming moved first (line_at words first) (lines_of (texts words (first + 1) count)) (word_is_line _ _ _ (narrow first)) (says.takes_up naming) here
     ∙ rest (n + 1 + 1) naming (after_words moved moved.at 1) (after_word words first moved here (moved_banks first counter stands.banks) (omega arith)))
 
 pub finds_none : (words : List Number) → ((place : ℕ) → (fixed_at place words).magnitude < 2 ^ 14) → (count first : ℕ) → first + count ≤ 0o110000 → FindsNone words first count
@@ -125,10 +127,17 @@ leads_to_none false word h =
     let none : pattern_of 15 word ≡ 0 = is_zero (pattern_of 15 word) h in
     rw none refl
 
+both_right : (a b : Bool) → a && b && false ≡ false
+both_right a b = grind (arith, nat_tests)
+
+middle : (a b : Bool) → a && false && b ≡ false
+middle a b = grind (arith, nat_tests)
+
 after_none : (words : List Number) (place : ℕ) (same has : Bool) → not (suc place % 0o2000 == 0) ≡ same → has_line words place ≡ has → same && has ≡ false
-    → next_is_extracode (is_wanted_at words place) (fixed_at place words) && not (suc place % 0o2000 == 0) ≡ false
-after_none words place false has same is h = rw same (and_right _ false refl)
-after_none words place true false same is h = rw (leads_to_none (is_wanted_at words place) (fixed_at place words) is) refl
+    → shows_order (is_wanted_at words place) (is_extracode_at words place) && next_is_extracode (is_wanted_at words place) (fixed_at place words) && not (suc place % 0o2000 == 0) ≡ false
+after_none words place false has same is h = rw same (both_right (shows_order (is_wanted_at words place) (is_extracode_at words place)) (next_is_extracode (is_wanted_at words place) (fixed_at place words)))
+after_none words place true false same is h =
+    rw (leads_to_none (is_wanted_at words place) (fixed_at place words) is) (middle (shows_order (is_wanted_at words place) (is_extracode_at words place)) (not (suc place % 0o2000 == 0)))
 after_none words place true true same is h = absurd (both_ways true h refl)
 
 wanted_none : (words : List Number) (place : ℕ) → follows_word words place ≡ false → is_wanted_at words place ≡ false
@@ -138,13 +147,16 @@ wanted_none words (suc place) h =
     let before : suc place - 1 ≡ place = omega arith in
     after_none words place (not (suc place % 0o2000 == 0)) (has_line words place) refl refl (rw before at h)
 
+last_true : (a b : Bool) → a && b ≡ a && b && true
+last_true a b = grind (arith, nat_tests)
+
 wanted_next : (words : List Number) (place : ℕ) (leads : Bool) → leads ≡ is_wanted_at words place → follows_word words (place + 1) ≡ true
-    → next_is_extracode leads (fixed_at place words) ≡ is_wanted_at words (place + 1)
+    → shows_order (is_wanted_at words place) (is_extracode_at words place) && next_is_extracode leads (fixed_at place words) ≡ is_wanted_at words (place + 1)
 unfolding is_wanted_at
 wanted_next words place leads is follows =
     let same : not ((place + 1) % 0o2000 == 0) ≡ true = (and_parts _ _ follows).0 in
     let same_next : not (suc place % 0o2000 == 0) ≡ true = rw add-one at same in
-    rw (add-one, same_next, is) (sym (and-true (next_is_extracode (is_wanted_at words place) (fixed_at place words))))
+    rw (add-one, same_next, is) (last_true (shows_order (is_wanted_at words place) (is_extracode_at words place)) (next_is_extracode (is_wanted_at words place) (fixed_at place words)))
 
 -- a state is at a place, and reads the next line as it was written
 pub record StandsIn (words : List Number) (place : ℕ) (state : State) : Type 0 where
@@ -161,8 +173,8 @@ state_skips words place state h none = record {
 }
 
 state_next : (words : List Number) (place : ℕ) (state : State) → IsHere place state.counter → length state.counter.left ≡ 36 → state.leads ≡ is_wanted_at words place → place < 0o110000
-    → StandsIn words (place + 1) (state_after state (fixed_at place words))
-state_next words place state here banks leads inside = record {
+    → (said : List (List ℕ)) → StandsIn words (place + 1) (state_after state (shows_order (is_wanted_at words place) (is_extracode_at words place)) (fixed_at place words) said)
+state_next words place state here banks leads inside said = record {
   counter = after_word words place state.counter here banks inside;
   leads = λ follows. wanted_next words place state.leads leads follows;
 }
@@ -193,10 +205,11 @@ words_by words narrow count first n naming state said true true room stands free
     let here = stands.counter.here is in
     let leads = stands.leads is in
     let word = fixed_at first words in
+    let order = shows_order (is_wanted_at words first) (is_extracode_at words first) in
     let says = word_line_says (is_wanted_at words first) (is_extracode_at words first) word (narrow first) in
     rw (cut_follows words first (texts words (first + 1) count) has is, has)
-    (words_word n naming state said first word (line_at words first) (lines_of (texts words (first + 1) count)) (word_is_line _ _ _) (rw leads says) here (free.none first (omega arith))
-    ∙ rest (n + 1) naming (state_after state word) (said ++ named_word words first ∷ []) (state_next words first state here stands.counter.banks leads (omega arith)) (named_more words first said free)
+    (words_word n naming state said first order word (line_at words first) (lines_of (texts words (first + 1) count)) (word_is_line _ _ _ (narrow first)) (rw leads says) here (free.none first (omega arith))
+    ∙ rest (n + 1) naming (state_after state order word (said_by (line_at words first))) (said ++ named_word words first ∷ []) (state_next words first state here stands.counter.banks leads (omega arith) (said_by (line_at words first))) (named_more words first said free)
     ∙ ap (λ (all : List PlacedWord). Ok all) (append_assoc said (named_word words first ∷ []) (named words (first + 1) count)))
 words_by words narrow count first n naming state said true false room stands free has is rest =
     let moved = state_moved state first in
@@ -204,11 +217,12 @@ words_by words narrow count first n naming state said true false room stands fre
     let banks = moved_banks first state.counter stands.counter.banks in
     let leads : false ≡ is_wanted_at words first = sym (wanted_none words first is) in
     let word = fixed_at first words in
+    let order = shows_order (is_wanted_at words first) (is_extracode_at words first) in
     let says = word_line_says (is_wanted_at words first) (is_extracode_at words first) word (narrow first) in
     rw (cut_begins words first (texts words (first + 1) count) has is, has)
-    (words_move n naming state said first (place_line first) (line_at words first ∷ lines_of (texts words (first + 1) count)) (place_is_line first) (place_line_moves first (omega arith))
-    ∙ words_word (n + 1) naming moved said first word (line_at words first) (lines_of (texts words (first + 1) count)) (word_is_line _ _ _) (rw leads says) here (free.none first (omega arith))
-    ∙ rest (n + 1 + 1) naming (state_after moved word) (said ++ named_word words first ∷ []) (state_next words first moved here banks leads (omega arith)) (named_more words first said free)
+    (words_move n naming state said first (place_line first) (line_at words first ∷ lines_of (texts words (first + 1) count)) (place_is_line first) (place_line_moves first (omega arith) naming)
+    ∙ words_word (n + 1) naming moved said first order word (line_at words first) (lines_of (texts words (first + 1) count)) (word_is_line _ _ _ (narrow first)) (rw leads says) here (free.none first (omega arith))
+    ∙ rest (n + 1 + 1) naming (state_after moved order word (said_by (line_at words first))) (said ++ named_word words first ∷ []) (state_next words first moved here banks leads (omega arith) (said_by (line_at words first))) (named_more words first said free)
     ∙ ap (λ (all : List PlacedWord). Ok all) (append_assoc said (named_word words first ∷ []) (named words (first + 1) count)))
 
 pub finds_words : (words : List Number) → ((place : ℕ) → (fixed_at place words).magnitude < 2 ^ 14) → (count first : ℕ) → first + count ≤ 0o110000 → FindsWords words first count

@@ -14,13 +14,14 @@ use Rattle.agc_symbols.proofs.NamesRead.{names_read}
 use Rattle.agc_asm.specs.LocationCounter.{first_cursor}
 use Rattle.agc_asm.specs.NameLines.{label_named, labels_from, labels_in, name_lines_in}
 use Rattle.agc_asm.specs.LineKind.{cursor_after, shape_of}
-use Rattle.agc_asm.specs.Source.{label_place, labelled, line_labelled, listed_labelled, naming_after, shape_labelled}
+use Rattle.agc_asm.specs.Source.{first_names, label_place, labelled, line_labelled, listed_labelled, naming_after, shape_labelled}
 use Rattle.agc_asm.specs.declared.location_counter.LocationCounter.{LocationCounter}
 use Rattle.agc_asm.specs.declared.pass1.Labelled.{Labelled}
 use Rattle.agc_asm.specs.declared.line_kind.LineKind.{LineKind}
 use Rattle.agc_listing.specs.Location.{IsWithin}
-use Rattle.agc_asm.specs.Name.{Naming, own_names}
-use Rattle.agc_listing.specs.Text.{are_listed, body_of, is_name, label_of, said_by}
+use Rattle.agc_asm.specs.Body.{body_in, spelled}
+use Rattle.agc_asm.specs.Name.{Naming}
+use Rattle.agc_listing.specs.Text.{are_listed, is_name, label_of, said_by}
 use Rattle.agc_asm.specs.declared.fault.SourceFault.{SourceFault}
 use Rattle.agc_asm.specs.declared.fault.SourceFault.TheVariants as fault
 use Rattle.agc_listing.specs.declared.location.Location.{Location}
@@ -44,7 +45,7 @@ none_faulty (Ok next) why = refl
 none_faulty (Err first) why = refl
 
 name_by : (named : Bool) (naming : Naming) (counter : LocationCounter) (s : LineKind) (name : List ℕ) (next : Labelled) (place : Location)
-    → labelled (cursor_after counter s) (if not named then Err fault.BadName else (if is_some (naming name) then Err fault.NameTwice else label_place counter s)) ≡ Ok next
+    → labelled (cursor_after counter s) (if not named then Err fault.BadName else (if is_some (naming.given name) then Err fault.NameTwice else label_place counter s)) ≡ Ok next
     → next.place ≡ Some place → named ≡ true
 name_by true naming counter s name next place e p = refl
 name_by false naming counter s name next place e p = absurd (no_place (labelled (cursor_after counter s) (Err fault.BadName)) next place (none_faulty (cursor_after counter s) fault.BadName) e p)
@@ -68,7 +69,7 @@ name_is : (naming : Naming) (counter : LocationCounter) (line name : List ℕ) (
     → next.place ≡ Some place → (list_any is_no_text line ≡ false) × (is_name name ≡ true)
 unfolding line_labelled
 name_is naming counter line name next place e l p =
-    line_by (are_listed (said_by line)) (list_any is_no_text line) naming counter (line_named line) (label_of line) name (shape_of (body_of line)) next place e l p
+    line_by (are_listed (said_by line)) (list_any is_no_text line) naming counter (line_named line) (label_of line) name (shape_of naming (spelled (body_in line))) next place e l p
 
 -- So a symbol file can hold it.
 
@@ -97,7 +98,7 @@ pub record IsTold (text : List ℕ) (naming : Naming) (counter : LocationCounter
   pub written : told ≡ names_text named
   pub sayable : AreSayable named
 
-pub first_told : (text : List ℕ) (naming : Naming) (counter : LocationCounter) (told : List ℕ) → naming ≡ own_names → counter ≡ first_cursor → told ≡ []
+pub first_told : (text : List ℕ) (naming : Naming) (counter : LocationCounter) (told : List ℕ) → naming ≡ first_names text → counter ≡ first_cursor → told ≡ []
     → IsTold text naming counter (lines_of text) told
 unfolding labels_in names_text
 first_told text naming counter told n c none = record { named = []; same = rw (n, c) refl; written = none; sayable = tt }

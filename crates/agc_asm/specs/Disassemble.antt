@@ -15,11 +15,18 @@ use Rattle.agc_listing.specs.Place.{place_text}
 abbrev pub follows_word : List Number → ℕ → Bool
 follows_word words place = not (place % fixed_bank_size == 0) && has_line words (place - 1)
 
+-- whether the line of a word shows its order, and not its digits
+abbrev pub shows_order : Bool → Bool → Bool
+shows_order true true = true
+shows_order false false = true
+shows_order wanted extracode = false
+
 -- whether the line of a place is read as an extracode: it follows EXTEND, or INDEX as an extracode, in its bank
 unfoldable pub is_wanted_at : List Number → ℕ → Bool
 is_wanted_at words zero = false
 is_wanted_at words (suc place) =
-    next_is_extracode (is_wanted_at words place) (fixed_at place words)
+    shows_order (is_wanted_at words place) (is_extracode_at words place)
+    && next_is_extracode (is_wanted_at words place) (fixed_at place words)
     && not (suc place % fixed_bank_size == 0)
 
 -- the order that `list` shows for a word if the line is read as that order; otherwise its digits

@@ -17,8 +17,8 @@ listed_name line.NamedTwice = codes "NamedTwice"
 -- the message of a fault: a sentence, or its name if a listing can have it too
 abbrev pub fault_text : SourceFault → List ℕ
 fault_text (fault.Listed why) = listed_name why
-fault_text fault.BadName = codes "a name has up to eight characters, one that is of no number, and no comma"
-fault_text fault.NameTwice = codes "this name is taken"
+fault_text fault.BadName = codes "a name is 1 to 8 characters, without a comma and not only digits and signs"
+fault_text fault.NameTwice = codes "an earlier line has this name"
 fault_text fault.MisplacedName = codes "= and EQUALS want a name in the first column, SETLOC and BANK want none"
 fault_text fault.UnknownOrder = codes "no order or directive has this name; it stands after the first column"
 fault_text fault.BadOperand = codes "the operand is missing, not wanted, or of another form"
@@ -33,8 +33,9 @@ fault_text fault.ExtracodeAlone = codes "this order is an extracode: EXTEND is w
 fault_text fault.BasicAfterExtend = codes "after EXTEND, or INDEX as an extracode, this order is none"
 fault_text fault.Full = codes "no room is left here"
 fault_text fault.WrongMemory = codes "words stand in fixed memory, and ERASE in erasable memory"
-fault_text fault.BadPlace = codes "this is no place or bank: bb,oooo or En,oooo or an address that needs no bank"
+fault_text fault.BadPlace = codes "this is no place or bank: a name, bb,oooo, En,oooo or a number is expected"
 fault_text fault.BadNumber = codes "this is no number of the form that is wanted here"
+fault_text fault.OutOfRange = codes "the number is too large: DEC takes integers up to 16383 and fractions below 1"
 
 abbrev pub trouble_text : AssemblyFault → List ℕ
 trouble_text (trouble.Line n why) = codes "line " ++ decimal n ++ codes ": " ++ fault_text why

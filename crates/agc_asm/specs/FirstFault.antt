@@ -2,20 +2,20 @@
 use Rattle.std.specs.Prelude.{◌≡◌, ◌⊎◌, ℕ, ◌-◌, ◌≤◌, List, [], length, take, Result, Ok, Err, IsOk}
 use Rattle.agc_listing.specs.declared.line.PlacedWord.{PlacedWord}
 use Rattle.agc_word.specs.Text.{lines_of}
-use Rattle.agc_asm.specs.Name.{Naming, own_names}
+use Rattle.agc_asm.specs.Name.{Naming}
 use Rattle.agc_asm.specs.declared.fault.SourceFault.{SourceFault}
 use Rattle.agc_asm.specs.declared.fault.AssemblyFault.{AssemblyFault}
 use Rattle.agc_asm.specs.declared.fault.AssemblyFault.TheVariants as trouble
 use Rattle.agc_asm.specs.LocationCounter.{first_cursor}
-use Rattle.agc_asm.specs.Source.{first_state, names_from, names_in, words_from}
+use Rattle.agc_asm.specs.Source.{first_names, first_state, names_from, names_in, words_from}
 
 -- a pass over lines: its result, or a fault
 abbrev pub Pass : Type 0 → Type 0
 Pass A = List (List ℕ) → Result A AssemblyFault
 
--- the pass for the names, and with these the pass for the words
-abbrev pub names_pass : Pass Naming
-names_pass lines = names_from 1 own_names first_cursor lines
+-- the pass for the names, after earlier readings of the text, and with these names the pass for the words
+abbrev pub names_pass : List ℕ → Pass Naming
+names_pass text lines = names_from 1 (first_names text) first_cursor lines
 
 abbrev pub words_pass : Naming → Pass (List PlacedWord)
 words_pass naming lines = words_from 1 naming first_state [] lines
@@ -30,5 +30,5 @@ pub record IsFirstOn {A : Type 0} (pass : Pass A) (lines : List (List ℕ)) (n :
 -- a fault of a source: the first in the pass for the names, or, if that has none, the first in the pass for the words
 abbrev pub IsFirstFault : List ℕ → ℕ → SourceFault → Type 0
 IsFirstFault text n why =
-    IsFirstOn names_pass (lines_of text) n why
+    IsFirstOn (names_pass text) (lines_of text) n why
     ⊎ ((naming : Naming) × (names_in text ≡ Ok naming) × IsFirstOn (words_pass naming) (lines_of text) n why)

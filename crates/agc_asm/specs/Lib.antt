@@ -1,3 +1,6 @@
+pub mod Alias
+pub mod Body
+pub mod Numeral
 pub mod Row
 pub mod Name
 pub mod Mnemonic

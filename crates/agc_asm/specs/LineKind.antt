@@ -1,13 +1,16 @@
 -- The kind of a line: what it occupies, and where the next one goes.
-use Rattle.std.specs.Prelude.{ℕ, ◌+◌, ◌<◌, ◌≤◌, nat_le, List, [], ◌∷◌, Option, Some, None, Result, Ok, Err}
-use Rattle.std.specs.Prelude.{if◌then◌else◌}
+use Rattle.std.specs.Prelude.{ℕ, ◌+◌, ◌<◌, ◌≤◌, ◌==◌, ◌||◌, ◌&&◌, nat_le, nat_lt, List, [], ◌∷◌, take, drop, position}
+use Rattle.std.specs.Prelude.{Option, Some, None, Result, Ok, Err}
+use Rattle.std.specs.Prelude.{if◌then◌else◌, Bool, false}
 use Rattle.agc_word.specs.Numeral.{octal_number}
-use Rattle.agc_asm.specs.LocationCounter.{after_cells, after_words, moved_to, room_at}
-use Rattle.agc_listing.specs.Location.{IsWithin, location_named}
+use Rattle.agc_store.specs.Places.{erasable_cells}
+use Rattle.agc_asm.specs.LocationCounter.{after_cells, after_range, after_words, in_bank, moved_to, resumed, room_at}
+use Rattle.agc_asm.specs.Name.{Naming}
+use Rattle.agc_asm.specs.Operand.{location_in}
+use Rattle.agc_listing.specs.Location.{IsWithin}
 use Rattle.agc_asm.specs.Mnemonic.{directive_named, is_order}
-use Rattle.agc_listing.specs.Number.{offset_named}
+use Rattle.agc_listing.specs.Number.{offset_said}
 use Rattle.agc_listing.specs.Text.{only_of}
-use Rattle.agc_asm.specs.declared.location_counter.At.TheVariants as at
 use Rattle.agc_asm.specs.declared.location_counter.LocationCounter.{LocationCounter}
 use Rattle.agc_asm.specs.declared.fault.SourceFault.{SourceFault}
 use Rattle.agc_asm.specs.declared.fault.SourceFault.TheVariants as fault
@@ -23,65 +26,108 @@ abbrev pub IsShape : LineKind → Type 0
 IsShape kind.Word = Unit {0}
 IsShape kind.Pair = Unit {0}
 IsShape (kind.Cells count) = (0 < count) × (count ≤ 100000)
+IsShape (kind.Range first end) = (first < end) × (end ≤ erasable_cells)
 IsShape (kind.Moves place) = IsWithin place
 IsShape (kind.Bank bank) = bank < 36
+IsShape kind.Resumes = Unit {0}
 IsShape (kind.StandsFor place) = IsWithin place
+IsShape kind.StandsHere = Unit {0}
+IsShape kind.Ebank = Unit {0}
+IsShape kind.Sbank = Unit {0}
+IsShape kind.Nothing = Unit {0}
 
-abbrev pub location_in : Option (List ℕ) → Option Location
-location_in (Some word) = location_named word
-location_in None = None
+abbrev pub moves_to : Result Location SourceFault → Result LineKind SourceFault
+moves_to (Ok place) = Ok (kind.Moves place)
+moves_to (Err why) = Err why
 
-abbrev pub moves_to : Option Location → Result LineKind SourceFault
-moves_to (Some place) = Ok (kind.Moves place)
-moves_to None = Err fault.BadPlace
+-- `=` and EQUALS without an operand name the current location
+abbrev pub as_name : Result Location SourceFault → Result LineKind SourceFault
+as_name (Ok place) = Ok (kind.StandsFor place)
+as_name (Err why) = Err why
 
-abbrev pub stands_for : Option Location → Result LineKind SourceFault
-stands_for (Some place) = Ok (kind.StandsFor place)
-stands_for None = Err fault.BadPlace
+abbrev pub stands_for : Naming → List (List ℕ) → Result LineKind SourceFault
+stands_for naming [] = Ok kind.StandsHere
+stands_for naming (word ∷ words) = as_name (location_in naming (word ∷ words))
 
--- a bank of the rope, in one or two octal digits
+-- a bank of the rope, in one or two octal digits; BANK without a number continues in the current one
 abbrev pub bank_within : Option ℕ → Result LineKind SourceFault
 bank_within (Some bank) = if nat_le bank 0o43 then Ok (kind.Bank bank) else Err fault.BadPlace
 bank_within None = Err fault.BadPlace
 
-abbrev pub bank_in : Option (List ℕ) → Result LineKind SourceFault
-bank_in (Some word) = bank_within (octal_number 2 word)
-bank_in None = Err fault.BadPlace
+abbrev pub bank_in : List (List ℕ) → Result LineKind SourceFault
+bank_in [] = Ok kind.Resumes
+bank_in (word ∷ []) = bank_within (octal_number 2 word)
+bank_in words = Err fault.BadPlace
 
--- ERASE alone reserves one cell, and with `+n` n more
-abbrev pub cells_by : Option Signed → Result LineKind SourceFault
-cells_by (Some more) =
+-- BLOCK takes bank 02 or 03
+abbrev pub block_within : Option ℕ → Result LineKind SourceFault
+block_within (Some bank) =
+    if (bank == 2) || (bank == 3) then Ok (kind.Bank bank) else Err fault.BadPlace
+block_within None = Err fault.BadPlace
+
+abbrev pub block_in : Option (List ℕ) → Result LineKind SourceFault
+block_in (Some word) = block_within (octal_number 2 word)
+block_in None = Err fault.BadPlace
+
+-- ERASE alone reserves one cell, with `+n` n more, and with a range its cells
+abbrev pub range_of : Option ℕ → Option ℕ → Result LineKind SourceFault
+range_of (Some first) (Some last) =
+    if nat_le first last && nat_lt last erasable_cells
+    then Ok (kind.Range first (last + 1))
+    else Err fault.BadNumber
+range_of first last = Err fault.BadNumber
+
+abbrev pub is_minus : ℕ → Bool
+is_minus b = b == 0x2D
+
+abbrev pub cut_range : Option ℕ → List ℕ → Result LineKind SourceFault
+cut_range (Some at) word = range_of (octal_number 6 (take at word)) (octal_number 6 (drop (at + 1) word))
+cut_range None word = Err fault.BadNumber
+
+abbrev pub cells_by : Option Signed → List ℕ → Result LineKind SourceFault
+cells_by (Some more) word =
     if more.minus then Err fault.BadNumber else Ok (kind.Cells (more.magnitude + 1))
-cells_by None = Err fault.BadNumber
+cells_by None word = cut_range (position is_minus word) word
+
+abbrev pub is_dash : List ℕ → Bool
+is_dash (b ∷ []) = b == 0x2D
+is_dash word = false
 
 abbrev pub cells_in : List (List ℕ) → Result LineKind SourceFault
 cells_in [] = Ok (kind.Cells 1)
-cells_in (word ∷ []) = cells_by (offset_named word)
+cells_in (word ∷ []) = cells_by (offset_said word) word
+cells_in (first ∷ dash ∷ last ∷ []) =
+    if is_dash dash then range_of (octal_number 6 first) (octal_number 6 last) else Err fault.BadNumber
 cells_in words = Err fault.BadNumber
 
 -- the kind of a directive, with the words after it
-abbrev pub directive_shape : Directive → List (List ℕ) → Result LineKind SourceFault
-directive_shape directive.SetLoc words = moves_to (location_in (only_of words))
-directive_shape directive.Bank words = bank_in (only_of words)
-directive_shape directive.Oct words = Ok kind.Word
-directive_shape directive.Dec words = Ok kind.Word
-directive_shape directive.PairOct words = Ok kind.Pair
-directive_shape directive.PairDec words = Ok kind.Pair
-directive_shape directive.Adres words = Ok kind.Word
-directive_shape directive.Cadr words = Ok kind.Word
-directive_shape directive.Bbcon words = Ok kind.Word
-directive_shape directive.Is words = stands_for (location_in (only_of words))
-directive_shape directive.Equals words = stands_for (location_in (only_of words))
-directive_shape directive.Erase words = cells_in words
+abbrev pub directive_shape : Naming → Directive → List (List ℕ) → Result LineKind SourceFault
+directive_shape naming directive.SetLoc words = moves_to (location_in naming words)
+directive_shape naming directive.Bank words = bank_in words
+directive_shape naming directive.Block words = block_in (only_of words)
+directive_shape naming directive.Is words = stands_for naming words
+directive_shape naming directive.Equals words = stands_for naming words
+directive_shape naming directive.Erase words = cells_in words
+directive_shape naming directive.PairOct words = Ok kind.Pair
+directive_shape naming directive.PairDec words = Ok kind.Pair
+directive_shape naming directive.PairDecStarred words = Ok kind.Pair
+directive_shape naming directive.PairCadr words = Ok kind.Pair
+directive_shape naming directive.Ebank words = Ok kind.Ebank
+directive_shape naming directive.Sbank words = Ok kind.Sbank
+directive_shape naming directive.Count words = Ok kind.Nothing
+directive_shape naming directive.CountStarred words = Ok kind.Nothing
+directive_shape naming directive.Memory words = Ok kind.Nothing
+directive_shape naming directive.BankSum words = Ok kind.Nothing
+directive_shape naming d words = Ok kind.Word
 
-abbrev pub shape_by : Option Directive → List ℕ → List (List ℕ) → Result LineKind SourceFault
-shape_by (Some d) word words = directive_shape d words
-shape_by None word words = if is_order word then Ok kind.Word else Err fault.UnknownOrder
+abbrev pub shape_by : Naming → Option Directive → List ℕ → List (List ℕ) → Result LineKind SourceFault
+shape_by naming (Some d) word words = directive_shape naming d words
+shape_by naming None word words = if is_order word then Ok kind.Word else Err fault.UnknownOrder
 
--- the kind of a line, by its words after the name
-abbrev pub shape_of : List (List ℕ) → Result LineKind SourceFault
-shape_of [] = Err fault.UnknownOrder
-shape_of (word ∷ words) = shape_by (directive_named word) word words
+-- the kind of a line, by its operation and operand
+abbrev pub shape_of : Naming → List (List ℕ) → Result LineKind SourceFault
+shape_of naming [] = Err fault.UnknownOrder
+shape_of naming (word ∷ words) = shape_by naming (directive_named word) word words
 
 -- after `count` words, if there is room for them
 abbrev pub after_room : LocationCounter → ℕ → Result ℕ SourceFault → Result LocationCounter SourceFault
@@ -94,5 +140,7 @@ cursor_after counter kind.Word = after_room counter 1 (room_at counter counter.a
 cursor_after counter kind.Pair = after_room counter 2 (room_at counter counter.at 2)
 cursor_after counter (kind.Cells count) = after_cells counter counter.at count
 cursor_after counter (kind.Moves place) = Ok (moved_to counter place)
-cursor_after counter (kind.Bank bank) = Ok (record counter { at = at.Bank bank })
-cursor_after counter (kind.StandsFor place) = Ok counter
+cursor_after counter (kind.Bank bank) = Ok (in_bank counter bank)
+cursor_after counter kind.Resumes = resumed counter counter.at
+cursor_after counter (kind.Range first end) = after_range counter counter.at end
+cursor_after counter s = Ok counter

@@ -16,12 +16,19 @@ IsAt (at.Bank bank) = bank < fixed_banks
 IsAt (at.Cell cell) = cell ≤ erasable_cells
 
 -- a source begins at the first place of bank 02, where runs start
-abbrev pub first_cursor : LocationCounter
-first_cursor = record { left = replicate fixed_banks 0; at = at.Bank 2 }
+abbrev pub nat_max : ℕ → ℕ → ℕ
+nat_max m n = if nat_le n m then m else n
 
--- the offset at which a bank was left
+abbrev pub first_cursor : LocationCounter
+first_cursor = record { left = replicate fixed_banks 0; used = replicate fixed_banks 0; at = at.Bank 2 }
+
+-- the offset of the next word in a bank
 abbrev pub left_in : LocationCounter → ℕ → ℕ
 left_in counter bank = get_or counter.left bank 0
+
+-- the offset behind the highest word so far in a bank, where BANK continues
+abbrev pub used_in : LocationCounter → ℕ → ℕ
+used_in counter bank = get_or counter.used bank 0
 
 -- the location of the next line
 abbrev pub location_at : LocationCounter → At → Location
@@ -39,14 +46,17 @@ room_at counter (at.Cell cell) count = Err fault.WrongMemory
 -- after `count` words
 abbrev pub after_words : LocationCounter → At → ℕ → LocationCounter
 after_words counter (at.Bank bank) count =
-    record counter { left = set counter.left bank (left_in counter bank + count) }
+    record counter {
+      left = set counter.left bank (left_in counter bank + count);
+      used = set counter.used bank (nat_max (used_in counter bank) (left_in counter bank + count));
+    }
 after_words counter (at.Cell cell) count = counter
 
 -- at a location
 abbrev pub moved_to : LocationCounter → Location → LocationCounter
 moved_to counter (location.Fixed place) =
     let bank = place / fixed_bank_size in
-    record { left = set counter.left bank (place % fixed_bank_size); at = at.Bank bank }
+    record counter { left = set counter.left bank (place % fixed_bank_size); at = at.Bank bank }
 moved_to counter (location.Erasable cell) = record counter { at = at.Cell cell }
 
 -- after `count` cells
@@ -56,3 +66,18 @@ after_cells counter (at.Cell cell) count =
     then Ok (record counter { at = at.Cell (cell + count) })
     else Err fault.Full
 after_cells counter (at.Bank bank) count = Err fault.WrongMemory
+
+-- behind the highest word of a bank
+abbrev pub in_bank : LocationCounter → ℕ → LocationCounter
+in_bank counter bank =
+    record counter { left = set counter.left bank (used_in counter bank); at = at.Bank bank }
+
+-- behind the highest word of the current bank
+abbrev pub resumed : LocationCounter → At → Result LocationCounter SourceFault
+resumed counter (at.Bank bank) = Ok (in_bank counter bank)
+resumed counter (at.Cell cell) = Err fault.WrongMemory
+
+-- behind a range of cells
+abbrev pub after_range : LocationCounter → At → ℕ → Result LocationCounter SourceFault
+after_range counter (at.Cell cell) end = Ok (record counter { at = at.Cell end })
+after_range counter (at.Bank bank) end = Err fault.WrongMemory

@@ -18,22 +18,43 @@ extracode_named name = find (λ order. bytes_eq (extracode_row order).mnemonic n
 unfoldable pub directive_name : Directive → List ℕ
 directive_name directive.SetLoc = codes "SETLOC"
 directive_name directive.Bank = codes "BANK"
+directive_name directive.Block = codes "BLOCK"
 directive_name directive.Oct = codes "OCT"
+directive_name directive.Octal = codes "OCTAL"
 directive_name directive.Dec = codes "DEC"
+directive_name directive.DecStarred = codes "DEC*"
 directive_name directive.PairOct = codes "2OCT"
 directive_name directive.PairDec = codes "2DEC"
+directive_name directive.PairDecStarred = codes "2DEC*"
 directive_name directive.Adres = codes "ADRES"
+directive_name directive.Remadr = codes "REMADR"
+directive_name directive.Genadr = codes "GENADR"
 directive_name directive.Cadr = codes "CADR"
+directive_name directive.Fcadr = codes "FCADR"
+directive_name directive.Ecadr = codes "ECADR"
 directive_name directive.Bbcon = codes "BBCON"
+directive_name directive.PairCadr = codes "2CADR"
+directive_name directive.VerbNoun = codes "VN"
+directive_name directive.MajorMode = codes "MM"
 directive_name directive.Is = codes "="
 directive_name directive.Equals = codes "EQUALS"
 directive_name directive.Erase = codes "ERASE"
+directive_name directive.Ebank = codes "EBANK="
+directive_name directive.Sbank = codes "SBANK="
+directive_name directive.Count = codes "COUNT"
+directive_name directive.CountStarred = codes "COUNT*"
+directive_name directive.Memory = codes "MEMORY"
+directive_name directive.BankSum = codes "BNKSUM"
 
 unfoldable pub all_directives : List Directive
 all_directives =
-    directive.SetLoc ∷ directive.Bank ∷ directive.Oct ∷ directive.Dec ∷ directive.PairOct ∷
-    directive.PairDec ∷ directive.Adres ∷ directive.Cadr ∷ directive.Bbcon ∷ directive.Is ∷
-    directive.Equals ∷ directive.Erase ∷ []
+    directive.SetLoc ∷ directive.Bank ∷ directive.Block ∷ directive.Oct ∷ directive.Octal ∷
+    directive.Dec ∷ directive.DecStarred ∷ directive.PairOct ∷ directive.PairDec ∷
+    directive.PairDecStarred ∷ directive.Adres ∷ directive.Remadr ∷ directive.Genadr ∷
+    directive.Cadr ∷ directive.Fcadr ∷ directive.Ecadr ∷ directive.Bbcon ∷ directive.PairCadr ∷
+    directive.VerbNoun ∷ directive.MajorMode ∷ directive.Is ∷ directive.Equals ∷ directive.Erase ∷
+    directive.Ebank ∷ directive.Sbank ∷ directive.Count ∷ directive.CountStarred ∷
+    directive.Memory ∷ directive.BankSum ∷ []
 
 unfoldable pub directive_named : List ℕ → Option Directive
 directive_named name = find (λ d. bytes_eq (directive_name d) name) all_directives

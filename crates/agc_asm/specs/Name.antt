@@ -96,24 +96,49 @@ all_registers =
 unfoldable pub register_named : List ℕ → Option Register
 register_named name = find (λ r. bytes_eq (register_name r) name) all_registers
 
--- the location of each name
-abbrev pub Naming : Type 0
-Naming = List ℕ → Option Location
+-- The names of a source: those of the lines so far, and those that an earlier reading found, for references to later
+-- lines.
+pub record Naming : Type 0 where
+  pub given : List ℕ → Option Location
+  pub guess : List ℕ → Option Location
 
--- one of the computer's own names, or else a line's
-abbrev pub own_or : Option Register → Option Location → Option Location
-own_or (Some r) given = Some (location.Erasable (register_cell r))
-own_or None given = given
+abbrev pub own_location : Option Register → Option Location
+own_location (Some r) = Some (location.Erasable (register_cell r))
+own_location None = None
+
+-- a line's name, or else one of the computer's own
+abbrev pub known_by : Option Location → Option Location → Option Register → Option Location
+known_by (Some place) guess own = Some place
+known_by None (Some place) own = Some place
+known_by None None own = own_location own
+
+unfoldable pub known : Naming → List ℕ → Option Location
+known naming name = known_by (naming.given name) (naming.guess name) (register_named name)
+
+-- no line has a name yet; an earlier reading found these
+abbrev pub no_name : List ℕ → Option Location
+no_name name = None
+
+abbrev pub guessing : (List ℕ → Option Location) → Naming
+guessing guess = record { given = no_name; guess = guess }
 
 -- the names that every source has
-unfoldable pub own_names : Naming
-own_names name = own_or (register_named name) None
+abbrev pub own_names : Naming
+own_names = guessing no_name
 
 -- the names in a list
+abbrev pub given_of : Names → List ℕ → Option Location
+given_of names = λ name. get_by (λ known. slice_cmp nat_cmp name known.now) names.given
+
+abbrev pub guess_of : Names → List ℕ → Option Location
+guess_of names = λ name. get_by (λ known. slice_cmp nat_cmp name known.now) names.guess
+
 abbrev pub naming_of : Names → Naming
-naming_of names = λ name.
-    own_or (register_named name) (get_by (λ known. slice_cmp nat_cmp name known.now) names.given)
+naming_of names = record { given = given_of names; guess = guess_of names }
 
 -- these names, and one more
+abbrev pub with_given : (List ℕ → Option Location) → List ℕ → Location → List ℕ → Option Location
+with_given given name place = λ other. if bytes_eq name other then Some place else given other
+
 abbrev pub with_name : Naming → List ℕ → Location → Naming
-with_name naming name place = λ other. if bytes_eq name other then Some place else naming other
+with_name naming name place = record naming { given = with_given naming.given name place }

@@ -4,8 +4,8 @@ use Rattle.agc_word.specs.Text.{lines_of}
 use Rattle.agc_symbols.specs.Symbols.{Symbol}
 use Rattle.agc_symbols.specs.Writing.{names_text}
 use Rattle.agc_asm.specs.LocationCounter.{first_cursor}
-use Rattle.agc_asm.specs.Source.{line_labelled, naming_after}
-use Rattle.agc_asm.specs.Name.{Naming, own_names}
+use Rattle.agc_asm.specs.Source.{first_names, line_labelled, naming_after}
+use Rattle.agc_asm.specs.Name.{Naming}
 use Rattle.agc_listing.specs.Text.{label_of}
 use Rattle.agc_listing.specs.declared.location.Location.{Location}
 use Rattle.agc_asm.specs.declared.location_counter.LocationCounter.{LocationCounter}
@@ -27,7 +27,7 @@ labels_from naming counter named (line ∷ lines) =
 
 -- the names of a source, each with its place, in the order of its lines
 unfoldable pub labels_in : List ℕ → List Symbol
-labels_in text = labels_from own_names first_cursor [] (lines_of text)
+labels_in text = labels_from (first_names text) first_cursor [] (lines_of text)
 
 -- a line for each name
 unfoldable pub name_lines_in : List ℕ → List ℕ

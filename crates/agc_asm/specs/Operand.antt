@@ -1,6 +1,7 @@
 -- Operands: an address, a place or a cell, and an offset from it.
-use Rattle.std.specs.Prelude.{ℕ, ◌+◌, ◌-◌, nat_lt, nat_le, ◌&&◌, List, [], ◌∷◌}
-use Rattle.std.specs.Prelude.{Option, Some, None, Result, Ok, Err, if◌then◌else◌}
+use Rattle.std.specs.Prelude.{ℕ, ◌+◌, ◌-◌, nat_lt, nat_le, Bool, ◌&&◌, List, [], ◌∷◌, length, take, drop, find}
+use Rattle.std.specs.List.{range_with_len}
+use Rattle.std.specs.Prelude.{Option, Some, None, is_some, Result, Ok, Err, if◌then◌else◌}
 use Rattle.agc_word.specs.Numeral.{octal_number}
 use Rattle.agc_order.specs.declared.row.Takes.{Takes}
 use Rattle.agc_order.specs.declared.row.Takes.TheVariants as takes
@@ -8,9 +9,9 @@ use Rattle.agc_store.specs.Places.{erasable_cells, fixed_words}
 use Rattle.agc_listing.specs.List.{listed_address}
 use Rattle.agc_listing.specs.declared.order.Operand.{Operand}
 use Rattle.agc_listing.specs.declared.order.Operand.TheVariants as operand
-use Rattle.agc_listing.specs.Location.{cell_address, is_addressable}
-use Rattle.agc_asm.specs.Name.{Naming}
-use Rattle.agc_listing.specs.Number.{offset_named}
+use Rattle.agc_listing.specs.Location.{cell_address, is_addressable, location_named, location_numbered}
+use Rattle.agc_asm.specs.Name.{Naming, known}
+use Rattle.agc_listing.specs.Number.{count_named, offset_said}
 use Rattle.agc_listing.specs.Text.{is_name}
 use Rattle.agc_asm.specs.declared.fault.SourceFault.{SourceFault}
 use Rattle.agc_asm.specs.declared.fault.SourceFault.TheVariants as fault
@@ -41,22 +42,56 @@ erasable_value None = Err fault.NoSuchPlace
 
 -- a value plus an offset
 abbrev pub value_moved : Value → Signed → Result Value SourceFault
-value_moved (value.Number n) by = number_value (moved 0o10000 n by)
+value_moved (value.Number n) by = number_value (moved 0o120000 n by)
 value_moved (value.At (location.Fixed place)) by = fixed_value (moved fixed_words place by)
 value_moved (value.At (location.Erasable cell)) by =
     erasable_value (moved erasable_cells cell by)
 
--- the value of a word: an octal number, or a name
-abbrev pub value_named : Option Location → List ℕ → Result Value SourceFault
-value_named (Some place) word = Ok (value.At place)
-value_named None word = Err (if is_name word then fault.UnknownName else fault.BadOperand)
+-- The value of a whole word: an octal number, a place with its bank, a name, or a decimal number before a letter D.
+abbrev pub value_counted : Option ℕ → Option Value
+value_counted (Some n) = Some (value.Number n)
+value_counted None = None
 
-abbrev pub value_by : Option ℕ → Naming → List ℕ → Result Value SourceFault
-value_by (Some n) naming word = Ok (value.Number n)
-value_by None naming word = value_named (naming word) word
+abbrev pub value_named : Option Location → List ℕ → Option Value
+value_named (Some place) word = Some (value.At place)
+value_named None word = value_counted (count_named word)
+
+abbrev pub value_placed : Option Location → Naming → List ℕ → Option Value
+value_placed (Some place) naming word = Some (value.At place)
+value_placed None naming word = value_named (known naming word) word
+
+abbrev pub value_by : Option ℕ → Naming → List ℕ → Option Value
+value_by (Some n) naming word = Some (value.Number n)
+value_by None naming word = value_placed (location_named word) naming word
+
+abbrev pub value_whole : Naming → List ℕ → Option Value
+value_whole naming word = value_by (octal_number 6 word) naming word
+
+-- A word that means nothing as a whole is cut before the offset at its end. Names may have signs.
+abbrev pub no_value : List ℕ → SourceFault
+no_value word = if is_name word then fault.UnknownName else fault.BadOperand
+
+abbrev pub value_parts : List ℕ → Option Value → Option Signed → Result Value SourceFault
+value_parts word (Some v) (Some by) = value_moved v by
+value_parts word v by = Err (no_value word)
+
+abbrev pub begins_offset : List ℕ → ℕ → Bool
+begins_offset word at = nat_lt at (length word) && is_some (offset_said (drop at word))
+
+unfoldable pub offset_place : List ℕ → Option ℕ
+offset_place word = find (begins_offset word) (range_with_len 0 (length word))
+
+abbrev pub value_cut : Naming → Option ℕ → List ℕ → Result Value SourceFault
+value_cut naming (Some at) word =
+    value_parts word (value_whole naming (take at word)) (offset_said (drop at word))
+value_cut naming None word = Err (no_value word)
+
+abbrev pub value_or_cut : Option Value → Naming → List ℕ → Result Value SourceFault
+value_or_cut (Some v) naming word = Ok v
+value_or_cut None naming word = value_cut naming (offset_place word) word
 
 abbrev pub value_in : Naming → List ℕ → Result Value SourceFault
-value_in naming word = value_by (octal_number 5 word) naming word
+value_in naming word = value_or_cut (value_whole naming word) naming word
 
 -- an offset alone is relative to the line itself
 abbrev pub value_here : Option Signed → Naming → ℕ → List ℕ → Result Value SourceFault
@@ -70,16 +105,48 @@ value_beside (Ok v) (Some by) = value_moved v by
 
 -- the value of an operand's words, for a line at a place
 abbrev pub value_of : Naming → ℕ → List (List ℕ) → Result Value SourceFault
-value_of naming here (word ∷ []) = value_here (offset_named word) naming here word
-value_of naming here (word ∷ by ∷ []) = value_beside (value_in naming word) (offset_named by)
+value_of naming here (word ∷ []) = value_here (offset_said word) naming here word
+value_of naming here (word ∷ by ∷ []) = value_beside (value_in naming word) (offset_said by)
 value_of naming here words = Err fault.BadOperand
 
--- the address by which an order at a place names a value
-abbrev pub address_at : ℕ → Value → Result ℕ SourceFault
-address_at here (value.Number n) = if nat_lt n 0o10000 then Ok n else Err fault.NoSuchPlace
-address_at here (value.At (location.Erasable cell)) = Ok (cell_address cell)
-address_at here (value.At (location.Fixed place)) =
+-- the location of a value; a number names one as listings count all memory
+abbrev pub location_of : Value → Option Location
+location_of (value.Number n) = location_numbered n
+location_of (value.At place) = Some place
+
+abbrev pub located : Option Location → Result Location SourceFault
+located (Some (location.Fixed place)) =
+    if nat_lt place fixed_words then Ok (location.Fixed place) else Err fault.NoSuchPlace
+located (Some (location.Erasable cell)) =
+    if nat_lt cell erasable_cells then Ok (location.Erasable cell) else Err fault.NoSuchPlace
+located None = Err fault.NoSuchPlace
+
+abbrev pub location_by : Result Value SourceFault → Result Location SourceFault
+location_by (Ok v) = located (location_of v)
+location_by (Err why) = Err why
+
+-- the location that the operand of a directive names
+abbrev pub value_apart : Naming → List (List ℕ) → Result Value SourceFault
+value_apart naming (word ∷ []) = value_in naming word
+value_apart naming (word ∷ by ∷ []) = value_beside (value_in naming word) (offset_said by)
+value_apart naming words = Err fault.BadPlace
+
+abbrev pub location_in : Naming → List (List ℕ) → Result Location SourceFault
+location_in naming words = location_by (value_apart naming words)
+
+-- the address by which an order at a place names a value; a number below 10000 is an address
+abbrev pub address_of : ℕ → Location → Result ℕ SourceFault
+address_of here (location.Erasable cell) = Ok (cell_address cell)
+address_of here (location.Fixed place) =
     if nat_lt place fixed_words && is_addressable here place then Ok (listed_address place) else Err fault.AnotherBank
+
+abbrev pub address_by : ℕ → Option Location → Result ℕ SourceFault
+address_by here (Some place) = address_of here place
+address_by here None = Err fault.NoSuchPlace
+
+abbrev pub address_at : ℕ → Value → Result ℕ SourceFault
+address_at here (value.Number n) = if nat_lt n 0o10000 then Ok n else address_by here (location_numbered n)
+address_at here (value.At place) = address_of here place
 
 -- the channel that a value names
 abbrev pub channel_at : Value → Result ℕ SourceFault

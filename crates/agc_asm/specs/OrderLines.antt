@@ -14,26 +14,28 @@ use Rattle.agc_listing.specs.List.{is_extracode_at, listed_line, listed_place}
 use Rattle.agc_listing.specs.Order.{operand_in, operand_text}
 use Rattle.agc_listing.specs.Place.{place_text}
 use Rattle.agc_listing.specs.declared.order.Operand.{Operand}
-use Rattle.agc_asm.specs.Mnemonic.{basic_named, directive_named, extracode_named}
+use Rattle.agc_asm.specs.Mnemonic.{basic_named, extracode_named}
 use Rattle.agc_asm.specs.Name.{Naming}
-use Rattle.agc_listing.specs.Text.{are_listed, body_of, said_by}
+use Rattle.agc_listing.specs.Text.{are_listed, said_by}
+use Rattle.agc_asm.specs.Body.{body_in, spelled}
+use Rattle.agc_asm.specs.Encode.{writes_order}
 use Rattle.agc_asm.specs.declared.fault.SourceFault.{SourceFault}
 use Rattle.agc_asm.specs.declared.fault.SourceFault.TheVariants as fault
 use Rattle.agc_asm.specs.declared.fault.AssemblyFault.{AssemblyFault}
 use Rattle.agc_listing.specs.declared.location.Location.{Location}
 use Rattle.agc_listing.specs.declared.location.Location.TheVariants as location
-use Rattle.agc_asm.specs.declared.mnemonic.Directive.{Directive}
 use Rattle.agc_asm.specs.LocationCounter.{location_at, room_at}
 use Rattle.agc_asm.specs.Operand.{operand_for}
 use Rattle.agc_asm.specs.LineKind.{shape_of}
 use Rattle.agc_asm.specs.Source.{first_state, line_woven, names_in, stays_put}
 use Rattle.agc_asm.specs.declared.location_counter.LocationCounter.{LocationCounter}
 use Rattle.agc_asm.specs.declared.line_kind.LineKind.{LineKind}
+use Rattle.agc_asm.specs.declared.line_kind.LineKind.TheVariants as kind
 use Rattle.agc_asm.specs.declared.pass2.State.{State}
 
--- An order that a line writes: its place, its mnemonic as written, the value of its operand, and whether an extracode
--- is expected there. From `since` on, the lines before it are consecutive: that is where the last line that moved to
--- another place went, or where the text began.
+-- An order that a line writes: its place, its own mnemonic, also if the line has another name of it, the value of its
+-- operand, and whether an extracode is expected there. From `since` on, the lines before it are consecutive orders: that
+-- is where the last line that moved to another place went, or the place behind the last data, or where the text began.
 pub record OrderLine : Type 0 where
   pub place : ℕ
   pub since : ℕ
@@ -55,16 +57,15 @@ order_with since place extracode name (Err why) = []
 order_with since place extracode name (Ok given) =
     record { place = place; since = since; extracode = extracode; mnemonic = name; operand = given } ∷ []
 
--- the order that words write at a place; directives write none
-abbrev pub order_by : Naming → ℕ → Bool → ℕ → Option Directive → List ℕ → List (List ℕ) → List OrderLine
-order_by naming since extracode place (Some d) word words = []
-order_by naming since extracode place None word words =
-    order_with since place extracode word (operand_read (row_named extracode word) naming place words)
-
+-- the order that words write at a place
 abbrev pub order_at : Naming → ℕ → Bool → ℕ → List (List ℕ) → List OrderLine
 order_at naming since extracode place [] = []
 order_at naming since extracode place (word ∷ words) =
-    order_by naming since extracode place (directive_named word) word words
+    order_with since place extracode word (operand_read (row_named extracode word) naming place words)
+
+-- the words of a line that writes an order, and none of another line
+abbrev pub order_words : List (List ℕ) → List (List ℕ)
+order_words body = if writes_order body then spelled body else []
 
 abbrev pub order_placed : Naming → ℕ → Bool → Result ℕ SourceFault → List (List ℕ) → List OrderLine
 order_placed naming since extracode (Err why) words = []
@@ -75,23 +76,31 @@ unfoldable pub order_of : Naming → ℕ → State → List ℕ → List OrderLi
 order_of naming since state line =
     if are_listed (said_by line)
     then []
-    else order_placed naming since state.leads (room_at state.counter state.counter.at 1) (body_of line)
+    else order_placed naming since state.leads (room_at state.counter state.counter.at 1) (order_words (body_in line))
 
 -- where the next line goes; no word goes into erasable memory
 abbrev pub place_of : Location → ℕ
 place_of (location.Fixed place) = place
 place_of (location.Erasable cell) = 0
 
-abbrev pub shape_stays : Result LineKind SourceFault → Bool
-shape_stays (Ok s) = stays_put s
-shape_stays (Err why) = true
+abbrev pub kind_stays : Bool → LineKind → Bool
+kind_stays order kind.Word = order
+kind_stays order kind.Pair = false
+kind_stays order s = stays_put s
 
--- whether a line does not move to another place
-abbrev pub stays : List ℕ → Bool
-stays line = are_listed (said_by line) || shape_stays (shape_of (body_of line))
+abbrev pub shape_stays : Bool → Result LineKind SourceFault → Bool
+shape_stays order (Ok s) = kind_stays order s
+shape_stays order (Err why) = true
 
-abbrev pub since_after : ℕ → List ℕ → LocationCounter → ℕ
-since_after since line counter = if stays line then since else place_of (location_at counter counter.at)
+-- whether a line neither moves to another place nor writes data
+abbrev pub stays : Naming → List ℕ → Bool
+stays naming line =
+    are_listed (said_by line)
+    || shape_stays (writes_order (body_in line)) (shape_of naming (spelled (body_in line)))
+
+abbrev pub since_after : Naming → ℕ → List ℕ → LocationCounter → ℕ
+since_after naming since line counter =
+    if stays naming line then since else place_of (location_at counter counter.at)
 
 -- the orders that lines write
 unfoldable pub orders_from : Naming → ℕ → State → List (List ℕ) → List OrderLine
@@ -99,7 +108,7 @@ orders_from naming since state [] = []
 orders_from naming since state (line ∷ lines) =
     elim (line_woven naming state line) [
       | Ok step ↦ order_of naming since state line
-          ++ orders_from naming (since_after since line step.state.counter) step.state lines
+          ++ orders_from naming (since_after naming since line step.state.counter) step.state lines
       | Err why ↦ []
     ]
 
@@ -111,18 +120,13 @@ orders_by (Err why) lines = []
 unfoldable pub orders_in : List ℕ → List OrderLine
 orders_in text = orders_by (names_in text) (lines_of text)
 
--- The mnemonic of a line that writes an order: it is not a listing line, and its first word after the name, if it has
--- one, is not a directive.
-abbrev pub mnemonic_by : Option Directive → List ℕ → List (List ℕ)
-mnemonic_by (Some d) word = []
-mnemonic_by None word = word ∷ []
-
+-- the mnemonic of a line that writes an order and is not a listing line
 abbrev pub mnemonic_in : List (List ℕ) → List (List ℕ)
 mnemonic_in [] = []
-mnemonic_in (word ∷ words) = mnemonic_by (directive_named word) word
+mnemonic_in (word ∷ words) = word ∷ []
 
 unfoldable pub mnemonic_of : List ℕ → List (List ℕ)
-mnemonic_of line = if are_listed (said_by line) then [] else mnemonic_in (body_of line)
+mnemonic_of line = if are_listed (said_by line) then [] else mnemonic_in (order_words (body_in line))
 
 -- the mnemonics of a source, in the order of its lines
 unfoldable pub mnemonics_in : List ℕ → List (List ℕ)
@@ -160,6 +164,6 @@ abbrev pub IsListed : List Number → OrderLine → Type 0
 IsListed words line = IsReadSo words line → has_line words line.place ≡ true
     → listed_line None words line.place ≡ line_with line (fixed_at line.place words)
 
--- it reads it that way if it reads no extracode at the place from which on the lines are consecutive
+-- it reads it that way if it reads no extracode at the place from which on the lines are consecutive orders
 abbrev pub IsReadAlong : List Number → OrderLine → Type 0
 IsReadAlong words line = is_extracode_at words line.since ≡ false → IsReadSo words line

@@ -1,5 +1,5 @@
 -- How a source is assembled: first its names, then its words.
-use Rattle.std.specs.Prelude.{◌≡◌, ◌<◌, ℕ, ◌+◌, Bool, true, false, not, ◌&&◌, ◌∷◌, List, []}
+use Rattle.std.specs.Prelude.{◌≡◌, ◌<◌, ℕ, zero, suc, ◌+◌, ◌/◌, nat_lt, Bool, true, false, not, ◌&&◌, ◌∷◌, List, []}
 use Rattle.std.specs.Prelude.{Option, Some, None, Result, Ok, Err, is_some, if◌then◌else◌, IfSome}
 use Rattle.std.specs.List.{list_all, list_any}
 use Rattle.agc_word.specs.Number.{Number}
@@ -14,11 +14,16 @@ use Rattle.agc_listing.specs.declared.fault.LineFault.TheVariants as line_fault
 use Rattle.agc_listing.specs.declared.fault.WeaveFault.{WeaveFault}
 use Rattle.agc_listing.specs.declared.fault.WeaveFault.TheVariants as weave
 use Rattle.agc_listing.specs.declared.line.PlacedWord.{PlacedWord}
-use Rattle.agc_asm.specs.LocationCounter.{after_words, first_cursor, location_at, room_at}
-use Rattle.agc_asm.specs.Encode.{pair_meaning, word_meaning}
-use Rattle.agc_asm.specs.Name.{Naming, own_names, with_name}
+use Rattle.agc_store.specs.Places.{erasable_bank_size, erasable_cells, fixed_bank_size}
+use Rattle.agc_asm.specs.Body.{body_in, spelled}
+use Rattle.agc_asm.specs.LocationCounter.{IsAt, after_words, first_cursor, location_at, room_at}
+use Rattle.agc_asm.specs.Encode.{banks_after, cell_in, is_banked, pair_meaning, place_in, superbank, word_meaning, writes_order}
+use Rattle.agc_asm.specs.Name.{Naming, guessing, no_name, own_names, with_name}
+use Rattle.agc_asm.specs.Operand.{location_in}
 use Rattle.agc_asm.specs.LineKind.{cursor_after, shape_of}
-use Rattle.agc_listing.specs.Text.{are_listed, body_of, is_name, label_of, said_by}
+use Rattle.agc_listing.specs.Text.{after_first, are_listed, is_name, label_of, said_by}
+use Rattle.agc_asm.specs.declared.location_counter.At.{At}
+use Rattle.agc_asm.specs.declared.location_counter.At.TheVariants as at
 use Rattle.agc_asm.specs.declared.location_counter.LocationCounter.{LocationCounter}
 use Rattle.agc_asm.specs.declared.fault.SourceFault.{SourceFault}
 use Rattle.agc_asm.specs.declared.fault.SourceFault.TheVariants as fault
@@ -26,6 +31,8 @@ use Rattle.agc_asm.specs.declared.fault.AssemblyFault.{AssemblyFault}
 use Rattle.agc_asm.specs.declared.fault.AssemblyFault.TheVariants as trouble
 use Rattle.agc_asm.specs.declared.pass1.Labelled.{Labelled}
 use Rattle.agc_listing.specs.declared.location.Location.{Location}
+use Rattle.agc_listing.specs.declared.location.Location.TheVariants as location
+use Rattle.agc_asm.specs.declared.encode.Banks.{Banks}
 use Rattle.agc_asm.specs.declared.encode.Pair.{Pair}
 use Rattle.agc_asm.specs.declared.line_kind.LineKind.{LineKind}
 use Rattle.agc_asm.specs.declared.line_kind.LineKind.TheVariants as kind
@@ -34,18 +41,31 @@ use Rattle.agc_asm.specs.declared.pass2.Step.{Step}
 
 -- The first pass: the location of each name.
 
+-- the location of the next line, if there is room for a word or a cell
+abbrev pub here_fixed : Result ℕ SourceFault → Result (Option Location) SourceFault
+here_fixed (Ok place) = Ok (Some (location.Fixed place))
+here_fixed (Err why) = Err why
+
+abbrev pub here_place : LocationCounter → At → Result (Option Location) SourceFault
+here_place counter (at.Bank bank) = here_fixed (room_at counter (at.Bank bank) 1)
+here_place counter (at.Cell cell) =
+    if nat_lt cell erasable_cells then Ok (Some (location.Erasable cell)) else Err fault.Full
+
 -- the location of a line's name: its first word or cell, or the location that the line states
 abbrev pub label_place : LocationCounter → LineKind → Result (Option Location) SourceFault
 label_place counter kind.Word = Ok (Some (location_at counter counter.at))
 label_place counter kind.Pair = Ok (Some (location_at counter counter.at))
 label_place counter (kind.Cells count) = Ok (Some (location_at counter counter.at))
+label_place counter (kind.Range first end) = Ok (Some (location.Erasable first))
 label_place counter (kind.StandsFor place) = Ok (Some place)
-label_place counter (kind.Moves place) = Err fault.MisplacedName
-label_place counter (kind.Bank bank) = Err fault.MisplacedName
+label_place counter kind.StandsHere = here_place counter counter.at
+label_place counter kind.Nothing = Ok None
+label_place counter s = Err fault.MisplacedName
 
 -- a line without a name
 abbrev pub no_label : LineKind → Result (Option Location) SourceFault
 no_label (kind.StandsFor place) = Err fault.MisplacedName
+no_label kind.StandsHere = Err fault.MisplacedName
 no_label s = Ok None
 
 abbrev pub place_labelled : Naming → LocationCounter → LineKind → Option (List ℕ) → Result (Option Location) SourceFault
@@ -53,7 +73,7 @@ place_labelled naming counter s None = no_label s
 place_labelled naming counter s (Some label) =
     if not (is_name label)
     then Err fault.BadName
-    else (if is_some (naming label) then Err fault.NameTwice else label_place counter s)
+    else (if is_some (naming.given label) then Err fault.NameTwice else label_place counter s)
 
 abbrev pub labelled : Result LocationCounter SourceFault → Result (Option Location) SourceFault → Result Labelled SourceFault
 labelled (Err why) place = Err why
@@ -77,7 +97,7 @@ line_labelled naming counter line =
     then listed_labelled counter (line_named line)
     else (if list_any is_no_text line
     then Err (fault.Listed line_fault.NotText)
-    else shape_labelled naming counter (label_of line) (shape_of (body_of line)))
+    else shape_labelled naming counter (label_of line) (shape_of naming (spelled (body_in line))))
 
 abbrev pub naming_after : Naming → Option (List ℕ) → Option Location → Naming
 naming_after naming (Some label) (Some place) = with_name naming label place
@@ -92,38 +112,64 @@ names_from n naming counter (line ∷ lines) =
       | Err why ↦ Err (trouble.Line n why)
     ]
 
+-- The names that earlier readings of a source find, for references to later lines. Such a reading passes over faulty
+-- lines, among them those with a reference that it cannot follow; the next reading can follow it.
+unfoldable pub found_from : Naming → LocationCounter → List (List ℕ) → List ℕ → Option Location
+found_from naming counter [] = naming.given
+found_from naming counter (line ∷ lines) =
+    elim (line_labelled naming counter line) [
+      | Ok next ↦ found_from (naming_after naming (label_of line) next.place) next.counter lines
+      | Err why ↦ found_from naming counter lines
+    ]
+
+abbrev pub found_again : List ℕ → (List ℕ → Option Location) → List ℕ → Option Location
+found_again text guess = found_from (guessing guess) first_cursor (lines_of text)
+
+unfoldable pub found_after : ℕ → List ℕ → List ℕ → Option Location
+found_after zero text = no_name
+found_after (suc times) text = found_again text (found_after times text)
+
+-- the names before the first line: those that ten earlier readings found, one after the other
+unfoldable pub first_names : List ℕ → Naming
+first_names text = guessing (found_after 10 text)
+
 unfoldable pub names_in : List ℕ → Result Naming AssemblyFault
-names_in text = names_from 1 own_names first_cursor (lines_of text)
+names_in text = names_from 1 (first_names text) first_cursor (lines_of text)
 
 -- The second pass: the words.
 
+abbrev pub first_banks : Banks
+first_banks = record { erasable = 0; before = None; superbank = 0 }
+
 abbrev pub first_state : State
-first_state = record { counter = first_cursor; leads = false }
+first_state = record { counter = first_cursor; leads = false; banks = first_banks }
 
 abbrev pub word_at : ℕ → Number → Option PlacedWord
 word_at place word = Some (record { place = place; word = word })
 
--- a line of one word
-abbrev pub one_word : State → ℕ → Result Number SourceFault → Result Step SourceFault
-one_word state place (Err why) = Err why
-one_word state place (Ok word) =
+-- a line of one word: after data no extracode is expected
+abbrev pub one_word : State → ℕ → List (List ℕ) → Result Number SourceFault → Result Step SourceFault
+one_word state place body (Err why) = Err why
+one_word state place body (Ok word) =
     Ok (record {
       state = record {
         counter = after_words state.counter state.counter.at 1;
-        leads = next_is_extracode state.leads word;
+        leads = writes_order body && next_is_extracode state.leads word;
+        banks = banks_after (is_banked body) state.banks;
       };
       first = word_at place word;
       second = None;
     })
 
 -- a line of two words
-abbrev pub two_words : State → ℕ → Result Pair SourceFault → Result Step SourceFault
-two_words state place (Err why) = Err why
-two_words state place (Ok pair) =
+abbrev pub two_words : State → ℕ → List (List ℕ) → Result Pair SourceFault → Result Step SourceFault
+two_words state place body (Err why) = Err why
+two_words state place body (Ok pair) =
     Ok (record {
       state = record {
         counter = after_words state.counter state.counter.at 2;
-        leads = next_is_extracode (next_is_extracode state.leads pair.upper) pair.lower;
+        leads = false;
+        banks = banks_after (is_banked body) state.banks;
       };
       first = word_at place pair.upper;
       second = word_at (place + 1) pair.lower;
@@ -133,6 +179,7 @@ two_words state place (Ok pair) =
 abbrev pub stays_put : LineKind → Bool
 stays_put (kind.Moves place) = false
 stays_put (kind.Bank bank) = false
+stays_put kind.Resumes = false
 stays_put s = true
 
 -- a line without words
@@ -140,7 +187,7 @@ abbrev pub no_word : State → LineKind → Result LocationCounter SourceFault �
 no_word state s (Err why) = Err why
 no_word state s (Ok next) =
     Ok (record {
-      state = record { counter = next; leads = state.leads && stays_put s };
+      state = record { counter = next; leads = state.leads && stays_put s; banks = state.banks };
       first = None;
       second = None;
     })
@@ -148,18 +195,45 @@ no_word state s (Ok next) =
 abbrev pub word_placed : Naming → State → List (List ℕ) → Result ℕ SourceFault → Result Step SourceFault
 word_placed naming state body (Err why) = Err why
 word_placed naming state body (Ok place) =
-    one_word state place (word_meaning naming place state.leads body)
+    one_word state place body (word_meaning naming place state.leads state.banks body)
 
-abbrev pub pair_placed : State → List (List ℕ) → Result ℕ SourceFault → Result Step SourceFault
-pair_placed state body (Err why) = Err why
-pair_placed state body (Ok place) = two_words state place (pair_meaning body)
+abbrev pub pair_placed : Naming → State → List (List ℕ) → Result ℕ SourceFault → Result Step SourceFault
+pair_placed naming state body (Err why) = Err why
+pair_placed naming state body (Ok place) =
+    two_words state place body (pair_meaning naming state.banks body)
+
+-- EBANK= names the bank of a cell, and SBANK= the superbank of a place
+abbrev pub with_banks : State → Banks → Step
+with_banks state banks = record { state = record state { banks = banks }; first = None; second = None }
+
+abbrev pub ebank_said : State → Result ℕ SourceFault → Result Step SourceFault
+ebank_said state (Ok cell) =
+    Ok (with_banks state (record {
+      erasable = cell / erasable_bank_size;
+      before = Some state.banks.erasable;
+      superbank = state.banks.superbank;
+    }))
+ebank_said state (Err why) = Err why
+
+abbrev pub sbank_said : State → Result ℕ SourceFault → Result Step SourceFault
+sbank_said state (Ok place) =
+    Ok (with_banks state (record {
+      erasable = state.banks.erasable;
+      before = state.banks.before;
+      superbank = superbank 0 place;
+    }))
+sbank_said state (Err why) = Err why
 
 abbrev pub shape_woven : Naming → State → List (List ℕ) → Result LineKind SourceFault → Result Step SourceFault
 shape_woven naming state body (Err why) = Err why
 shape_woven naming state body (Ok kind.Word) =
     word_placed naming state body (room_at state.counter state.counter.at 1)
 shape_woven naming state body (Ok kind.Pair) =
-    pair_placed state body (room_at state.counter state.counter.at 2)
+    pair_placed naming state body (room_at state.counter state.counter.at 2)
+shape_woven naming state body (Ok kind.Ebank) =
+    ebank_said state (cell_in (location_in naming (after_first (spelled body))))
+shape_woven naming state body (Ok kind.Sbank) =
+    sbank_said state (place_in (location_in naming (after_first (spelled body))))
 shape_woven naming state body (Ok s) = no_word state s (cursor_after state.counter s)
 
 -- a listing line changes nothing but its place
@@ -172,7 +246,7 @@ unfoldable pub line_woven : Naming → State → List ℕ → Result Step Source
 line_woven naming state line =
     if are_listed (said_by line)
     then listed_woven state (line_named line)
-    else shape_woven naming state (body_of line) (shape_of (body_of line))
+    else shape_woven naming state (body_in line) (shape_of naming (spelled (body_in line)))
 
 -- no place is named twice
 abbrev pub more_said : List PlacedWord → Result (Option PlacedWord) LineFault → Result (List PlacedWord) SourceFault
@@ -238,3 +312,10 @@ abbrev pub IsPlaced : Step → Type 0
 IsPlaced step =
     IfSome step.first (λ word. word.place < fixed_words)
     × IfSome step.second (λ word. word.place < fixed_words)
+
+-- a state whose next line goes into memory, and whose banks fit a word for BB
+abbrev pub AreBanks : Banks → Type 0
+AreBanks banks = (banks.erasable < 8) × IfSome banks.before (λ bank. bank < 8) × (banks.superbank < 8)
+
+abbrev pub IsState : State → Type 0
+IsState state = IsAt state.counter.at × AreBanks state.banks

@@ -12,6 +12,7 @@ ghost use Rattle.agc_asm.specs.Disassemble.{
   lines_said,
   resolve_range,
   rope_source,
+  shows_order,
   text_said,
   word_said,
 };
@@ -26,13 +27,13 @@ use std::alloc::{AllocError, Global};
 
 /// How the assembler reads the line of a place, and how `list` shows the place.
 #[derive(Clone, Copy, Debug, PartialEq, Eq)]
-struct Read {
+pub(crate) struct Read {
     /// The place right before it in its bank holds a word.
-    follows: bool,
+    pub follows: bool,
     /// The assembler reads the line as an extracode.
-    wanted: bool,
+    pub wanted: bool,
     /// `list` shows an extracode.
-    extracode: bool,
+    pub extracode: bool,
 }
 
 /// Prints the source of the rope in a store: for each word that is not +0, in the order of the banks, a line with the
@@ -77,12 +78,13 @@ fn push_places(
 }
 
 /// Returns how the line of the next place is read.
-fn read_next(read: Read, place: usize, word: Narrow) -> Read
+pub(crate) fn read_next(read: Read, place: usize, word: Narrow) -> Read
     requires { place < fixed_words }
     ensures follows { result.follows
         ≡ (not ((place + 1) % fixed_bank_size == 0) && not (pattern_of 15 word == 0)) }
     ensures wanted { result.wanted
-        ≡ (next_is_extracode read.wanted word && not ((place + 1) % fixed_bank_size == 0)) }
+        ≡ (shows_order read.wanted read.extracode && next_is_extracode read.wanted word
+        && not ((place + 1) % fixed_bank_size == 0)) }
     ensures extracode { result.extracode
         ≡ (next_is_extracode read.extracode word && not (starts_run (place + 1))) }
 {
@@ -90,7 +92,7 @@ fn read_next(read: Read, place: usize, word: Narrow) -> Read
     let same_bank = next % FIXED_BANK_SIZE as usize != 0;
     Read {
         follows: same_bank && word.bits() != 0,
-        wanted: next_is_extracode(read.wanted, word) && same_bank,
+        wanted: read.wanted == read.extracode && next_is_extracode(read.wanted, word) && same_bank,
         extracode: next_is_extracode(read.extracode, word) && !starts_run(next),
     }
 }

@@ -1,37 +1,60 @@
 //! Encodes a line into its words.
-ghost use Rattle.std.specs.Prelude.{◌≡◌, ◌<◌, IfOk};
-ghost use Rattle.agc_store.specs.Places.{fixed_words};
+ghost use Rattle.std.specs.Prelude.{◌≡◌, ◌∷◌, [], codes, ◌+◌, ◌-◌, ◌<◌, ◌%◌, ◌^◌, IfOk, IfSome};
+ghost use Rattle.agc_word.specs.Number.{number_from_pattern, pattern_of};
+ghost use Rattle.agc_store.specs.Places.{erasable_cells, fixed_words};
+ghost use Rattle.agc_asm.specs.Body.{tokens};
+ghost use Rattle.agc_asm.specs.Numeral.{number_in};
 ghost use Rattle.agc_asm.specs.Encode.{
   any_address,
+  bank_word,
+  banks_after,
   basic_meaning,
+  cell_in,
+  complemented,
   directive_meaning,
   extracode_meaning,
+  is_banked,
+  is_banked_by,
+  is_order_by,
+  less_than_zero,
+  misfit,
+  octal_in,
+  octal_pair_in,
+  order_by_offset,
   order_meaning,
+  number_word,
   pair_by_word,
   pair_meaning,
   pair_of_number,
-  pair_of_octal,
   place_in,
+  superbank,
+  verb_noun_in,
+  major_mode_in,
+  word_by,
   word_meaning,
+  writes_order,
 };
+ghost use Rattle.agc_asm.specs.Mnemonic.{directive_named};
 ghost use Rattle.agc_asm.specs.Name.{naming_of};
-ghost use Rattle.agc_asm.specs.Operand.{value_of};
-ghost use Rattle.agc_listing.specs.Text.{only_of, said_by};
-ghost use Rattle.agc_listing.specs.Number.{signed_number};
-ghost use Rattle.agc_word.specs.Numeral.{octal_number};
+ghost use Rattle.agc_asm.specs.Operand.{location_in, value_of};
+ghost use Rattle.agc_listing.specs.Location.{IsWithin};
+ghost use Rattle.agc_listing.specs.Number.{without_sign};
+ghost use Rattle.agc_listing.specs.Text.{only_of};
 
+use crate::alias::Alias;
+use crate::body::{next_token, only_token, operation_in};
 use crate::fault::SourceFault;
 use crate::mnemonic::{Directive, basic_named, extracode_named};
 use crate::names::Names;
-use crate::operand::{Value, operand_for, value_of};
+use crate::numeral::number_in;
+use crate::operand::{Value, location_in, operand_for, value_of};
 use crate::row::{basic_word, extracode_word};
 use agc_listing::{
-    Location, bank_word, cell_address, complete_address, decimal_word, listed_address, next_said,
-    octal_word, only_word, signed_number,
+    Location, cell_address, complete_address, listed_address, octal_word, offset_said,
 };
 use agc_order::{Basic, Extracode};
-use agc_store::place::FIXED_WORDS;
-use agc_word::{Narrow, read_octal};
+use agc_store::place::bank_of;
+use agc_word::{Narrow, read_decimal, read_octal};
 
 /// Two words, the upper one first.
 #[derive(Clone, Copy, Debug, PartialEq, Eq)]
@@ -40,43 +63,145 @@ pub(crate) struct Pair {
     pub lower: Narrow,
 }
 
-/// Encodes a one-word line at a place; `leads` says whether an extracode is expected there.
+/// The banks that EBANK= and SBANK= name for words for BB.
+#[derive(Clone, Copy, Debug, PartialEq, Eq)]
+pub(crate) struct Banks {
+    pub erasable: u8,
+    /// The bank before the last EBANK=, if no word has come since.
+    pub before: Option<u8>,
+    pub superbank: u8,
+}
+
+/// Where a line is: its place, whether an extracode is expected there, and the banks for words for BB.
+#[derive(Clone, Copy, Debug, PartialEq, Eq)]
+pub(crate) struct Site {
+    pub here: u32,
+    pub leads: bool,
+    pub banks: Banks,
+}
+
+/// Encodes a one-word line.
 #[tactic(auto, unfolding(crate::specs::Encode::word_meaning))]
-pub(crate) fn word_meaning(
-    names: &Names,
-    here: u32,
-    leads: bool,
-    body: &[u8],
-) -> Result<Narrow, SourceFault>
-    ensures { result ≡ word_meaning (naming_of names.now) here leads (said_by body.now) }
+pub(crate) fn word_meaning(names: &Names, site: Site, body: &[u8]) -> Result<Narrow, SourceFault>
+    requires erasable { site.banks.erasable < 8 }
+    requires superbank { site.banks.superbank < 8 }
+    ensures { result ≡ word_meaning (naming_of names.now) site.here site.leads site.banks (tokens body.now) }
 {
-    let Some((word, rest)) = next_said(body) else {
+    let Some(operation) = operation_in(body) else {
         return Err(SourceFault::UnknownOrder);
     };
-    match Directive::from_name(word) {
-        Some(directive) => directive_meaning(names, here, directive, rest),
-        None => order_meaning(names, here, leads, word, rest),
+    if let Some(fault) = misfit(operation.alias, names, site.here, operation.rest) {
+        return Err(fault);
+    }
+    let word = word_by(names, site, operation.word, operation.rest)?;
+    Ok(complemented(operation.minus, word))
+}
+
+/// Returns why CAF or CAE does not take an operand.
+fn misfit(alias: Option<Alias>, names: &Names, here: u32, rest: &[u8]) -> Option<SourceFault>
+    ensures { result ≡ misfit alias (value_of (naming_of names.now) here (tokens rest.now)) }
+{
+    match alias {
+        Some(Alias::Caf) => match value_of(names, here, rest) {
+            Ok(Value::At(Location::Erasable(_))) => Some(SourceFault::FixedWanted),
+            _ => None,
+        },
+        Some(Alias::Cae) => match value_of(names, here, rest) {
+            Ok(Value::At(Location::Fixed(_))) => Some(SourceFault::ErasableWanted),
+            _ => None,
+        },
+        _ => None,
     }
 }
 
-fn order_meaning(
+/// Returns a word, or its complement.
+fn complemented(minus: bool, word: Narrow) -> Narrow
+    ensures { result ≡ complemented minus word }
+{
+    if minus {
+        Narrow::signed(!word.is_minus(), word.magnitude())
+    } else {
+        word
+    }
+}
+
+fn word_by(names: &Names, site: Site, word: &[u8], rest: &[u8]) -> Result<Narrow, SourceFault>
+    requires erasable { site.banks.erasable < 8 }
+    requires superbank { site.banks.superbank < 8 }
+    ensures { result ≡ word_by (naming_of names.now) site.here site.leads site.banks
+        (directive_named word.now) word.now (tokens rest.now) }
+{
+    match Directive::from_name(word) {
+        Some(directive) => directive_meaning(names, site.banks, directive, rest),
+        None => order_by_offset(names, site, word, rest),
+    }
+}
+
+/// Encodes an order; an offset that takes a number below zero is added to the order's word.
+fn order_by_offset(
     names: &Names,
-    here: u32,
-    leads: bool,
+    site: Site,
     word: &[u8],
     rest: &[u8],
 ) -> Result<Narrow, SourceFault>
-    ensures { result ≡ order_meaning (naming_of names.now) here leads word.now (said_by rest.now) }
+    ensures { result ≡ order_by_offset (naming_of names.now) site.here site.leads
+        (less_than_zero (tokens rest.now)) word.now (tokens rest.now) }
 {
-    if leads {
+    match less_than_zero(rest) {
+        None => order_meaning(names, site, word, rest),
+        Some(less) => {
+            let order = order_of_zero(names, site, word)?;
+            Ok(lowered(less, order))
+        }
+    }
+}
+
+/// Encodes an order with the operand 0.
+fn order_of_zero(names: &Names, site: Site, word: &[u8]) -> Result<Narrow, SourceFault>
+    ensures { result ≡ order_meaning (naming_of names.now) site.here site.leads word.now (codes "0" ∷ []) }
+{
+    order_meaning(names, site, word, b"0")
+}
+
+/// Returns how far below zero an offset takes a number.
+fn less_than_zero(rest: &[u8]) -> Option<u64>
+    ensures less { result ≡ less_than_zero (tokens rest.now) }
+    ensures range { IfSome result (λ less. less < 100000) }
+{
+    let (word, more) = next_token(rest)?;
+    let (by, more) = next_token(more)?;
+    if next_token(more).is_some() {
+        return None;
+    }
+    let number = read_octal(6, word)?;
+    let by = offset_said(by)?;
+    if by.minus && number < by.magnitude {
+        Some(by.magnitude - number)
+    } else {
+        None
+    }
+}
+
+fn lowered(less: u64, word: Narrow) -> Narrow
+    requires { less < 100000 }
+    ensures { result ≡ number_from_pattern 15 ((pattern_of 15 word + (2 ^ 17 - less)) % 2 ^ 15) }
+{
+    let sum = u64::from(word.bits()) + (0o400000 - less);
+    Narrow::with_bits((sum % 0o100000) as u16)
+}
+
+fn order_meaning(names: &Names, site: Site, word: &[u8], rest: &[u8]) -> Result<Narrow, SourceFault>
+    ensures { result ≡ order_meaning (naming_of names.now) site.here site.leads word.now (tokens rest.now) }
+{
+    if site.leads {
         match extracode_named(word) {
-            Some(order) => extracode_meaning(names, here, order, rest),
+            Some(order) => extracode_meaning(names, site.here, order, rest),
             None if basic_named(word).is_some() => Err(SourceFault::BasicAfterExtend),
             None => Err(SourceFault::UnknownOrder),
         }
     } else {
         match basic_named(word) {
-            Some(order) => basic_meaning(names, here, order, rest),
+            Some(order) => basic_meaning(names, site.here, order, rest),
             None if extracode_named(word).is_some() => Err(SourceFault::ExtracodeAlone),
             None => Err(SourceFault::UnknownOrder),
         }
@@ -84,7 +209,7 @@ fn order_meaning(
 }
 
 fn basic_meaning(names: &Names, here: u32, order: Basic, rest: &[u8]) -> Result<Narrow, SourceFault>
-    ensures { result ≡ basic_meaning (naming_of names.now) here order (said_by rest.now) }
+    ensures { result ≡ basic_meaning (naming_of names.now) here order (tokens rest.now) }
 {
     let given = operand_for(order.row().takes, names, here, rest)?;
     basic_word(order, given)
@@ -96,7 +221,7 @@ fn extracode_meaning(
     order: Extracode,
     rest: &[u8],
 ) -> Result<Narrow, SourceFault>
-    ensures { result ≡ extracode_meaning (naming_of names.now) here order (said_by rest.now) }
+    ensures { result ≡ extracode_meaning (naming_of names.now) here order (tokens rest.now) }
 {
     let given = operand_for(order.row().takes, names, here, rest)?;
     extracode_word(order, given)
@@ -104,105 +229,272 @@ fn extracode_meaning(
 
 fn directive_meaning(
     names: &Names,
-    here: u32,
+    banks: Banks,
     directive: Directive,
     rest: &[u8],
 ) -> Result<Narrow, SourceFault>
-    ensures { result ≡ directive_meaning (naming_of names.now) here directive (said_by rest.now) }
+    requires erasable { banks.erasable < 8 }
+    requires superbank { banks.superbank < 8 }
+    ensures { result ≡ directive_meaning (naming_of names.now) banks directive (tokens rest.now) }
 {
     match directive {
-        Directive::Oct => match only_word(rest) {
-            Some(word) => octal_word(word).ok_or(SourceFault::BadNumber),
-            None => Err(SourceFault::BadNumber),
-        },
-        Directive::Dec => match only_word(rest) {
-            Some(word) => decimal_word(word).ok_or(SourceFault::BadNumber),
-            None => Err(SourceFault::BadNumber),
-        },
-        Directive::Adres => {
-            let address = any_address(value_of(names, here, rest)?)?;
-            Ok(Narrow::with_bits(address))
+        Directive::Oct | Directive::Octal => octal_in(rest).ok_or(SourceFault::BadNumber),
+        Directive::Dec => number_word(false, rest),
+        Directive::DecStarred => number_word(true, rest),
+        Directive::Adres | Directive::Remadr | Directive::Genadr => {
+            let place = location_in(names, rest)?;
+            Ok(Narrow::with_bits(any_address(place)))
         }
-        Directive::Cadr => {
-            let place = place_in(names, here, rest)?;
+        Directive::Cadr | Directive::Fcadr => {
+            let place = place_in(names, rest)?;
             Ok(Narrow::with_bits(complete_address(place)))
         }
-        Directive::Bbcon => {
-            let place = place_in(names, here, rest)?;
-            Ok(Narrow::with_bits(bank_word(place)))
+        Directive::Ecadr => {
+            let cell = cell_in(names, rest)?;
+            Ok(Narrow::with_bits(cell as u16))
         }
+        Directive::Bbcon => {
+            let place = place_in(names, rest)?;
+            Ok(Narrow::with_bits(bank_word(banks, place)))
+        }
+        Directive::VerbNoun => verb_noun_in(rest),
+        Directive::MajorMode => major_mode_in(rest),
         _ => Err(SourceFault::UnknownOrder),
     }
 }
 
-/// Returns the address of a value, whatever its bank.
-fn any_address(value: Value) -> Result<u16, SourceFault>
-    ensures address { result ≡ any_address value }
-    ensures range { IfOk result (λ address. address < 0o10000) }
+/// Parses up to five octal digits, with or without a sign; a minus complements the word.
+fn octal_in(rest: &[u8]) -> Option<Narrow>
+    ensures { result ≡ octal_in (only_of (tokens rest.now)) }
 {
-    match value {
-        Value::Number(number) if number < 0o10000 => Ok(number as u16),
-        Value::At(Location::Erasable(cell)) => Ok(cell_address(cell)),
-        Value::At(Location::Fixed(place)) if place < FIXED_WORDS => Ok(listed_address(
-            place as usize,
-        )),
-        _ => Err(SourceFault::NoSuchPlace),
+    let word = only_token(rest)?;
+    let minus = matches!(word, [b'-', ..]);
+    Some(complemented(minus, octal_word(without_sign(word))?))
+}
+
+fn without_sign(text: &[u8]) -> &[u8]
+    ensures { result.now ≡ without_sign text.now }
+{
+    match text {
+        [b'+' | b'-', digits @ ..] => digits,
+        _ => text,
+    }
+}
+
+/// Parses a decimal number of one word.
+fn number_word(starred: bool, rest: &[u8]) -> Result<Narrow, SourceFault>
+    ensures { result ≡ number_word (number_in 14 starred (tokens rest.now)) }
+{
+    let number = number_in(14, starred, rest)?;
+    Ok(Narrow::signed(number.minus, number.magnitude as u16))
+}
+
+/// Returns the address of a location, whatever its bank.
+fn any_address(location: Location) -> u16
+    requires { IsWithin location }
+    ensures address { result ≡ any_address location }
+    ensures range { result < 0o10000 }
+{
+    match location {
+        Location::Erasable(cell) => cell_address(cell),
+        Location::Fixed(place) => listed_address(place as usize),
     }
 }
 
 /// Returns the place in fixed memory that an operand names.
-fn place_in(names: &Names, here: u32, rest: &[u8]) -> Result<u32, SourceFault>
-    ensures place { result ≡ place_in (value_of (naming_of names.now) here (said_by rest.now)) }
+pub(crate) fn place_in(names: &Names, rest: &[u8]) -> Result<u32, SourceFault>
+    ensures place { result ≡ place_in (location_in (naming_of names.now) (tokens rest.now)) }
     ensures range { IfOk result (λ place. place < fixed_words) }
 {
-    match value_of(names, here, rest)? {
-        Value::At(Location::Fixed(place)) if place < FIXED_WORDS => Ok(place),
-        Value::At(Location::Fixed(_)) => Err(SourceFault::NoSuchPlace),
-        _ => Err(SourceFault::FixedWanted),
+    match location_in(names, rest)? {
+        Location::Fixed(place) => Ok(place),
+        Location::Erasable(_) => Err(SourceFault::FixedWanted),
+    }
+}
+
+/// Returns the cell that an operand names.
+pub(crate) fn cell_in(names: &Names, rest: &[u8]) -> Result<u32, SourceFault>
+    ensures cell { result ≡ cell_in (location_in (naming_of names.now) (tokens rest.now)) }
+    ensures range { IfOk result (λ cell. cell < erasable_cells) }
+{
+    match location_in(names, rest)? {
+        Location::Erasable(cell) => Ok(cell),
+        Location::Fixed(_) => Err(SourceFault::ErasableWanted),
+    }
+}
+
+/// Returns the superbank that channel 7 holds for a place, or the one that SBANK= said.
+pub(crate) fn superbank(said: u8, place: u32) -> u8
+    requires said { said < 8 }
+    requires place { place < fixed_words }
+    ensures superbank { result ≡ superbank said place }
+    ensures range { result < 8 }
+{
+    let bank = bank_of(place);
+    if bank < 0o30 {
+        said
+    } else if bank < 0o40 {
+        3
+    } else {
+        4
+    }
+}
+
+/// Returns the word for BB that reaches a place.
+fn bank_word(banks: Banks, place: u32) -> u16
+    requires erasable { banks.erasable < 8 }
+    requires superbank { banks.superbank < 8 }
+    requires place { place < fixed_words }
+    ensures word { result ≡ bank_word banks place }
+    ensures range { result < 0o100000 }
+{
+    let superbank = u16::from(superbank(banks.superbank, place));
+    agc_listing::bank_word(place) + 0o20 * superbank + u16::from(banks.erasable)
+}
+
+/// Parses a verb and a noun, two digits each.
+fn verb_noun_in(rest: &[u8]) -> Result<Narrow, SourceFault>
+    ensures { result ≡ verb_noun_in (only_of (tokens rest.now)) }
+{
+    let Some(word) = only_token(rest) else {
+        return Err(SourceFault::BadNumber);
+    };
+    match read_decimal(4, word) {
+        Some(n) => Ok(Narrow::signed(false, (0o200 * (n / 100) + n % 100) as u16)),
+        None => Err(SourceFault::BadNumber),
+    }
+}
+
+/// Parses a major mode of two digits.
+fn major_mode_in(rest: &[u8]) -> Result<Narrow, SourceFault>
+    ensures { result ≡ major_mode_in (only_of (tokens rest.now)) }
+{
+    let Some(word) = only_token(rest) else {
+        return Err(SourceFault::BadNumber);
+    };
+    match read_decimal(2, word) {
+        Some(n) => Ok(Narrow::signed(false, n as u16)),
+        None => Err(SourceFault::BadNumber),
+    }
+}
+
+/// Returns whether a line writes an order, and not data.
+#[tactic(auto, unfolding(crate::specs::Encode::writes_order))]
+pub(crate) fn writes_order(body: &[u8]) -> bool
+    ensures { result ≡ writes_order (tokens body.now) }
+{
+    match operation_in(body) {
+        Some(operation) => is_order(operation.word, operation.rest) && !operation.minus,
+        None => false,
+    }
+}
+
+fn is_order(word: &[u8], rest: &[u8]) -> bool
+    ensures { result ≡ is_order_by (directive_named word.now) (tokens rest.now) }
+{
+    match Directive::from_name(word) {
+        Some(_) => false,
+        None => less_than_zero(rest).is_none(),
+    }
+}
+
+/// Returns whether a line's words hold the banks that EBANK= and SBANK= name.
+#[tactic(auto, unfolding(crate::specs::Encode::is_banked))]
+pub(crate) fn is_banked(body: &[u8]) -> bool
+    ensures { result ≡ is_banked (tokens body.now) }
+{
+    match operation_in(body) {
+        Some(operation) => is_banked_by(Directive::from_name(operation.word)),
+        None => false,
+    }
+}
+
+fn is_banked_by(directive: Option<Directive>) -> bool
+    ensures { result ≡ is_banked_by directive }
+{
+    matches!(directive, Some(Directive::Bbcon | Directive::PairCadr))
+}
+
+/// Returns the banks after a word: an EBANK= right before a word for BB holds for this word alone.
+pub(crate) fn banks_after(banked: bool, banks: Banks) -> Banks
+    requires { IfSome banks.before (λ bank. bank < 8) }
+    ensures banks { result ≡ banks_after banked banks }
+    ensures erasable { banks.erasable < 8 → result.erasable < 8 }
+{
+    let erasable = match (banked, banks.before) {
+        (true, Some(before)) => before,
+        _ => banks.erasable,
+    };
+    Banks {
+        erasable,
+        before: None,
+        superbank: banks.superbank,
     }
 }
 
 /// Encodes a two-word line.
 #[tactic(auto, unfolding(crate::specs::Encode::pair_meaning))]
-pub(crate) fn pair_meaning(body: &[u8]) -> Result<Pair, SourceFault>
-    ensures { result ≡ pair_meaning (said_by body.now) }
+pub(crate) fn pair_meaning(names: &Names, banks: Banks, body: &[u8]) -> Result<Pair, SourceFault>
+    requires erasable { banks.erasable < 8 }
+    requires superbank { banks.superbank < 8 }
+    ensures { result ≡ pair_meaning (naming_of names.now) banks (tokens body.now) }
 {
-    let Some((word, rest)) = next_said(body) else {
+    let Some(operation) = operation_in(body) else {
         return Err(SourceFault::BadNumber);
     };
-    match Directive::from_name(word) {
-        Some(directive) => pair_by_word(directive, rest),
-        None => Err(SourceFault::BadNumber),
-    }
+    let pair = match Directive::from_name(operation.word) {
+        Some(directive) => pair_by_word(names, banks, directive, operation.rest)?,
+        None => return Err(SourceFault::BadNumber),
+    };
+    Ok(Pair {
+        upper: complemented(operation.minus, pair.upper),
+        lower: complemented(operation.minus, pair.lower),
+    })
 }
 
-fn pair_by_word(directive: Directive, rest: &[u8]) -> Result<Pair, SourceFault>
-    ensures { result ≡ pair_by_word directive (only_of (said_by rest.now)) }
+fn pair_by_word(
+    names: &Names,
+    banks: Banks,
+    directive: Directive,
+    rest: &[u8],
+) -> Result<Pair, SourceFault>
+    requires erasable { banks.erasable < 8 }
+    requires superbank { banks.superbank < 8 }
+    ensures { result ≡ pair_by_word (naming_of names.now) banks directive (tokens rest.now) }
 {
-    match (directive, only_word(rest)) {
-        (Directive::PairDec, Some(word)) => pair_of_number(word),
-        (Directive::PairOct, Some(word)) => pair_of_octal(word),
+    match directive {
+        Directive::PairDec => pair_of_number(false, rest),
+        Directive::PairDecStarred => pair_of_number(true, rest),
+        Directive::PairOct => octal_pair_in(rest),
+        Directive::PairCadr => {
+            let place = place_in(names, rest)?;
+            Ok(Pair {
+                upper: Narrow::with_bits(listed_address(place as usize)),
+                lower: Narrow::with_bits(bank_word(banks, place)),
+            })
+        }
         _ => Err(SourceFault::BadNumber),
     }
 }
 
 /// Encodes a decimal number as two words.
-fn pair_of_number(word: &[u8]) -> Result<Pair, SourceFault>
-    ensures { result ≡ pair_of_number (signed_number 9 word.now) }
+fn pair_of_number(starred: bool, rest: &[u8]) -> Result<Pair, SourceFault>
+    ensures { result ≡ pair_of_number (number_in 28 starred (tokens rest.now)) }
 {
-    match signed_number(9, word) {
-        Some(number) if number.magnitude < 1 << 28 => Ok(Pair {
-            upper: Narrow::signed(number.minus, (number.magnitude / 0o40000) as u16),
-            lower: Narrow::signed(number.minus, (number.magnitude % 0o40000) as u16),
-        }),
-        _ => Err(SourceFault::BadNumber),
-    }
+    let number = number_in(28, starred, rest)?;
+    Ok(Pair {
+        upper: Narrow::signed(number.minus, (number.magnitude / 0o40000) as u16),
+        lower: Narrow::signed(number.minus, (number.magnitude % 0o40000) as u16),
+    })
 }
 
 /// Encodes ten octal digits as two words.
-fn pair_of_octal(word: &[u8]) -> Result<Pair, SourceFault>
-    ensures { result ≡ pair_of_octal (octal_number 10 word.now) }
+fn octal_pair_in(rest: &[u8]) -> Result<Pair, SourceFault>
+    ensures { result ≡ octal_pair_in (only_of (tokens rest.now)) }
 {
+    let Some(word) = only_token(rest) else {
+        return Err(SourceFault::BadNumber);
+    };
     match read_octal(10, word) {
         Some(bits) => Ok(Pair {
             upper: Narrow::with_bits((bits / 0o100000) as u16),

@@ -46,8 +46,10 @@ pub enum SourceFault {
     WrongMemory,
     /// A bad operand of SETLOC, BANK, `=` or EQUALS.
     BadPlace,
-    /// A bad operand of OCT, DEC, 2OCT, 2DEC or ERASE.
+    /// A bad operand of OCT, DEC, 2OCT, 2DEC, VN, MM or ERASE.
     BadNumber,
+    /// A number that its word or pair cannot hold.
+    OutOfRange,
 }
 
 impl SourceFault {
@@ -58,8 +60,8 @@ impl SourceFault {
         match self {
             SourceFault::Listed(fault) => listed_name(fault),
             SourceFault::BadName =>
-                "a name has up to eight characters, one that is of no number, and no comma",
-            SourceFault::NameTwice => "this name is taken",
+                "a name is 1 to 8 characters, without a comma and not only digits and signs",
+            SourceFault::NameTwice => "an earlier line has this name",
             SourceFault::MisplacedName =>
                 "= and EQUALS want a name in the first column, SETLOC and BANK want none",
             SourceFault::UnknownOrder =>
@@ -79,8 +81,10 @@ impl SourceFault {
             SourceFault::Full => "no room is left here",
             SourceFault::WrongMemory => "words stand in fixed memory, and ERASE in erasable memory",
             SourceFault::BadPlace =>
-                "this is no place or bank: bb,oooo or En,oooo or an address that needs no bank",
+                "this is no place or bank: a name, bb,oooo, En,oooo or a number is expected",
             SourceFault::BadNumber => "this is no number of the form that is wanted here",
+            SourceFault::OutOfRange =>
+                "the number is too large: DEC takes integers up to 16383 and fractions below 1",
         }
     }
 }

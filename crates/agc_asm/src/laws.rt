@@ -1,6 +1,14 @@
 //! Laws of sources, each the contract of a function with an empty body. `assemble`, and `list` of agc_listing, are
 //! proved equal to the definitions that these laws are about.
-ghost use Rattle.std.specs.Prelude.{◌≡◌, ℕ, true, false, All, List, Err, map};
+ghost use Rattle.std.specs.Prelude.{◌≡◌, ℕ, ◌*◌, ◌^◌, ◌<◌, true, false, All, List, [], ◌∷◌, Some, Ok, Err, map};
+ghost use Rattle.agc_word.specs.Number.{number_from_pattern};
+ghost use Rattle.agc_asm.specs.Alias.{alias_word, is_extracode_alias};
+ghost use Rattle.agc_asm.specs.Body.{alias_name};
+ghost use Rattle.agc_asm.specs.Encode.{word_meaning};
+ghost use Rattle.agc_asm.specs.Numeral.{IsNearest, nearest, raised};
+ghost use Rattle.agc_asm.specs.declared.alias.Alias.{Alias};
+ghost use Rattle.agc_asm.specs.declared.encode.Banks.{Banks};
+ghost use Rattle.agc_asm.specs.declared.numeral.Quotient.{Quotient};
 ghost use Rattle.agc_word.specs.Text.{lines_of};
 ghost use Rattle.agc_store.specs.RopeFile.{rope_words};
 ghost use Rattle.agc_store.specs.declared.rope_file.RopeForm.{RopeForm};
@@ -14,7 +22,7 @@ ghost use Rattle.agc_asm.specs.OrderLines.{
   orders_in,
 };
 ghost use Rattle.agc_asm.specs.Source.{IsSourceWoven, is_listing, source_in};
-ghost use Rattle.agc_asm.specs.Name.{own_names};
+ghost use Rattle.agc_asm.specs.Name.{Naming, own_names};
 ghost use Rattle.agc_asm.specs.declared.fault.SourceFault.{SourceFault};
 ghost use Rattle.agc_asm.specs.declared.fault.AssemblyFault.TheVariants.{Line};
 
@@ -22,8 +30,8 @@ ghost use Rattle.agc_asm.specs.declared.fault.AssemblyFault.TheVariants.{Line};
 /// line the rope has the only word that names this order with this operand, and the listing shows this mnemonic and
 /// operand there, except that it has no line for +0. This holds if the listing reads the place as the source does, as
 /// an extracode or not. It does if it reads no extracode at the place to which the last SETLOC or BANK before the line
-/// went, or at which the text began. So only lines that are placed right behind an EXTEND of other lines can be listed
-/// as other orders.
+/// went, or that follows the last data before it, or at which the text began. So only lines that are placed right behind
+/// an EXTEND of other lines, or behind data with the word of EXTEND, can be listed as other orders.
 pub fn a_listing_shows_the_orders_of_a_source()
     // Every line that writes an order is covered.
     ensures all { (form : RopeForm) (text file : List ℕ) → IsSourceWoven form text file
@@ -38,7 +46,8 @@ pub fn a_listing_shows_the_orders_of_a_source()
 
 /// The fault reported for a source is the first of its pass, and the first is reported: the lines before its line have
 /// no fault, and with that line they have this one. The second pass, for the words, runs only if the first pass, for
-/// the names, has no fault. A text with only places and words has no names, and only the pass for its words.
+/// the names, has no fault. The first pass begins with the names that earlier readings found for references to later
+/// lines. A text with only places and words has no names, and only the pass for its words.
 pub fn the_fault_told_is_the_first()
     ensures source { (text : List ℕ) (n : ℕ) (why : SourceFault) → is_listing text ≡ false
         → source_in text ≡ Err (Line n why) → IsFirstFault text n why }
@@ -46,4 +55,22 @@ pub fn the_fault_told_is_the_first()
         → IsFirstFault text n why → source_in text ≡ Err (Line n why) }
     ensures listing { (text : List ℕ) (n : ℕ) (why : SourceFault) → is_listing text ≡ true
         → source_in text ≡ Err (Line n why) → IsFirstOn (words_pass own_names) (lines_of text) n why }
+{}
+
+/// Another name of an order that has its operand is the word of its table: the address of a register, or the next place
+/// for NOOP.
+pub fn aliases_are_the_words_of_their_table()
+    ensures registers { (a : Alias) (bits : ℕ) → alias_word a ≡ Some bits
+        → (naming : Naming) (here : ℕ) (banks : Banks)
+        → word_meaning naming here (is_extracode_alias a) banks (alias_name a ∷ [])
+        ≡ Ok (number_from_pattern 15 bits) }
+{}
+
+/// A fraction's word or pair is the nearest one: no integer below the limit is nearer to the quotient of the number in
+/// units of its last bit. The quotient's parts are products: the digits times powers of ten and two, over such powers.
+pub fn a_fraction_is_the_nearest_number()
+    ensures nearest { (limit : ℕ) (r : Quotient) (n : ℕ) → 0 < r.under → nearest limit r ≡ Some n
+        → IsNearest limit r n }
+    ensures product { (n base times more : ℕ) → raised n base times ≡ Some more
+        → more ≡ n * base ^ times }
 {}

@@ -1,16 +1,21 @@
 //! The assembler: turns source text with names and orders into a rope file, and a rope back into source.
 #![tactic(auto)]
 
+mod alias;
 mod assemble_source;
+mod body;
 mod disassemble;
 mod encode;
 mod fault;
+mod faulty;
 mod laws;
 mod line_kind;
+mod listing_style;
 mod location_counter;
 mod mnemonic;
 mod mnemonic_check;
 mod names;
+mod numeral;
 mod operand;
 mod pass1;
 mod pass2;
@@ -19,10 +24,16 @@ mod row;
 mod symbol_file;
 
 pub use agc_listing::Location;
+pub use alias::Alias;
 pub use assemble_source::assemble;
 pub use disassemble::rope_source;
 pub use fault::{AssemblyFault, SourceFault};
-pub use laws::{a_listing_shows_the_orders_of_a_source, the_fault_told_is_the_first};
+pub use faulty::{FaultyLine, faulty_lines};
+pub use laws::{
+    a_fraction_is_the_nearest_number, a_listing_shows_the_orders_of_a_source,
+    aliases_are_the_words_of_their_table, the_fault_told_is_the_first,
+};
+pub use listing_style::yul_source;
 pub use mnemonic::{Directive, basic_named, extracode_named, is_order};
 pub use mnemonic_check::{Misnamed, Written, first_misnamed};
 pub use names::Names;

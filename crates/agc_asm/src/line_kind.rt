@@ -1,22 +1,36 @@
 //! The kind of a line: what it occupies, and where the next one goes.
-ghost use Rattle.std.specs.Prelude.{◌≡◌, ◌<◌, ◌≤◌, IfOk, IfSome};
+ghost use Rattle.std.specs.Prelude.{◌≡◌, ◌<◌, ◌≤◌, length, position, IfOk, IfSome};
+ghost use Rattle.agc_asm.specs.Body.{spelled, tokens};
 ghost use Rattle.agc_asm.specs.LocationCounter.{IsAt};
-ghost use Rattle.agc_listing.specs.Location.{IsWithin};
 ghost use Rattle.agc_asm.specs.LineKind.{
   IsShape,
   bank_in,
+  bank_within,
+  block_in,
+  cells_by,
   cells_in,
   cursor_after,
+  cut_range,
   directive_shape,
-  location_in,
+  is_dash,
+  is_minus,
+  range_of,
   shape_of,
+  stands_for,
 };
-ghost use Rattle.agc_listing.specs.Text.{only_of, said_by};
+ghost use Rattle.agc_asm.specs.Name.{naming_of};
+ghost use Rattle.agc_listing.specs.Number.{offset_said};
+ghost use Rattle.agc_listing.specs.Text.{only_of};
+ghost use Rattle.agc_word.specs.Numeral.{octal_number};
 
+use crate::body::{next_token, only_token, operation_in};
 use crate::fault::SourceFault;
 use crate::location_counter::LocationCounter;
 use crate::mnemonic::{Directive, is_order};
-use agc_listing::{Location, location_named, next_said, offset_named, only_word};
+use crate::names::Names;
+use crate::operand::location_in;
+use agc_listing::{Location, offset_said};
+use agc_store::place::ERASABLE_CELLS;
 use agc_word::read_octal;
 
 /// What a line occupies.
@@ -28,85 +42,168 @@ pub(crate) enum LineKind {
     Pair,
     /// This many cells of erasable memory.
     Cells(u32),
+    /// The cells from the first number up to the second, without it.
+    Range(u32, u32),
     /// Nothing: the next line goes to this location.
     Moves(Location),
-    /// Nothing: the next line goes where this bank was left.
+    /// Nothing: the next line goes behind the highest word of this bank.
     Bank(u8),
+    /// Nothing: the next line goes behind the highest word of the current bank.
+    Resumes,
     /// Nothing: the line's name is a name for this location.
     StandsFor(Location),
+    /// Nothing: the line's name is a name for the location of the next line.
+    StandsHere,
+    /// Nothing: names the erasable bank of words for BB.
+    Ebank,
+    /// Nothing: names the superbank of words for BB.
+    Sbank,
+    /// Nothing at all.
+    Nothing,
 }
 
 /// Parses the kind of a line from its words after the name.
-pub(crate) fn shape_of(body: &[u8]) -> Result<LineKind, SourceFault>
-    ensures kind { result ≡ shape_of (said_by body.now) }
+pub(crate) fn shape_of(names: &Names, body: &[u8]) -> Result<LineKind, SourceFault>
+    ensures kind { result ≡ shape_of (naming_of names.now) (spelled (tokens body.now)) }
     ensures range { IfOk result IsShape }
 {
-    let Some((word, rest)) = next_said(body) else {
+    let Some(operation) = operation_in(body) else {
         return Err(SourceFault::UnknownOrder);
     };
-    match Directive::from_name(word) {
-        Some(directive) => directive_shape(directive, rest),
-        None if is_order(word) => Ok(LineKind::Word),
+    match Directive::from_name(operation.word) {
+        Some(directive) => directive_shape(names, directive, operation.rest),
+        None if is_order(operation.word) => Ok(LineKind::Word),
         None => Err(SourceFault::UnknownOrder),
     }
 }
 
-fn directive_shape(directive: Directive, rest: &[u8]) -> Result<LineKind, SourceFault>
-    ensures kind { result ≡ directive_shape directive (said_by rest.now) }
+fn directive_shape(
+    names: &Names,
+    directive: Directive,
+    rest: &[u8],
+) -> Result<LineKind, SourceFault>
+    ensures kind { result ≡ directive_shape (naming_of names.now) directive (tokens rest.now) }
     ensures range { IfOk result IsShape }
 {
     match directive {
-        Directive::SetLoc => match location_in(rest) {
-            Some(place) => Ok(LineKind::Moves(place)),
-            None => Err(SourceFault::BadPlace),
-        },
-        Directive::Is | Directive::Equals => match location_in(rest) {
-            Some(place) => Ok(LineKind::StandsFor(place)),
-            None => Err(SourceFault::BadPlace),
-        },
+        Directive::SetLoc => Ok(LineKind::Moves(location_in(names, rest)?)),
+        Directive::Is | Directive::Equals => stands_for(names, rest),
         Directive::Bank => bank_in(rest),
+        Directive::Block => block_in(rest),
         Directive::Erase => cells_in(rest),
-        Directive::PairOct | Directive::PairDec => Ok(LineKind::Pair),
-        Directive::Oct | Directive::Dec | Directive::Adres | Directive::Cadr | Directive::Bbcon =>
-            Ok(LineKind::Word),
+        Directive::PairOct | Directive::PairDec | Directive::PairDecStarred | Directive::PairCadr =>
+            Ok(LineKind::Pair),
+        Directive::Ebank => Ok(LineKind::Ebank),
+        Directive::Sbank => Ok(LineKind::Sbank),
+        Directive::Count | Directive::CountStarred | Directive::Memory | Directive::BankSum => Ok(
+            LineKind::Nothing,
+        ),
+        _ => Ok(LineKind::Word),
     }
 }
 
-/// Parses the only word of a text as a location.
-fn location_in(rest: &[u8]) -> Option<Location>
-    ensures location { result ≡ location_in (only_of (said_by rest.now)) }
-    ensures range { IfSome result IsWithin }
-{
-    location_named(only_word(rest)?)
-}
-
-/// Parses the only word of a text as a bank.
-fn bank_in(rest: &[u8]) -> Result<LineKind, SourceFault>
-    ensures bank { result ≡ bank_in (only_of (said_by rest.now)) }
+/// Parses the operand of `=` and EQUALS: a location, or nothing for the current one.
+fn stands_for(names: &Names, rest: &[u8]) -> Result<LineKind, SourceFault>
+    ensures kind { result ≡ stands_for (naming_of names.now) (tokens rest.now) }
     ensures range { IfOk result IsShape }
 {
-    let Some(word) = only_word(rest) else {
-        return Err(SourceFault::BadPlace);
+    match next_token(rest) {
+        Some(_) => Ok(LineKind::StandsFor(location_in(names, rest)?)),
+        None => Ok(LineKind::StandsHere),
+    }
+}
+
+/// Parses the operand of BANK: a bank, or nothing for the current one.
+fn bank_in(rest: &[u8]) -> Result<LineKind, SourceFault>
+    ensures bank { result ≡ bank_in (tokens rest.now) }
+    ensures range { IfOk result IsShape }
+{
+    let Some((word, more)) = next_token(rest) else {
+        return Ok(LineKind::Resumes);
     };
+    if next_token(more).is_some() {
+        return Err(SourceFault::BadPlace);
+    }
     match read_octal(2, word) {
         Some(bank) if bank <= 0o43 => Ok(LineKind::Bank(bank as u8)),
         _ => Err(SourceFault::BadPlace),
     }
 }
 
-/// Parses how many cells ERASE reserves from its operand.
-fn cells_in(rest: &[u8]) -> Result<LineKind, SourceFault>
-    ensures cells { result ≡ cells_in (said_by rest.now) }
+/// Parses the operand of BLOCK: bank 02 or 03.
+fn block_in(rest: &[u8]) -> Result<LineKind, SourceFault>
+    ensures bank { result ≡ block_in (only_of (tokens rest.now)) }
     ensures range { IfOk result IsShape }
 {
-    let Some((word, more)) = next_said(rest) else {
+    let Some(word) = only_token(rest) else {
+        return Err(SourceFault::BadPlace);
+    };
+    match read_octal(2, word) {
+        Some(bank) if bank == 2 || bank == 3 => Ok(LineKind::Bank(bank as u8)),
+        _ => Err(SourceFault::BadPlace),
+    }
+}
+
+/// Parses which cells ERASE reserves from its operand.
+fn cells_in(rest: &[u8]) -> Result<LineKind, SourceFault>
+    ensures cells { result ≡ cells_in (tokens rest.now) }
+    ensures range { IfOk result IsShape }
+{
+    let Some((word, more)) = next_token(rest) else {
         return Ok(LineKind::Cells(1));
     };
-    if next_said(more).is_some() {
-        return Err(SourceFault::BadNumber);
+    let Some((dash, more)) = next_token(more) else {
+        return cells_by(word);
+    };
+    match (is_dash(dash), only_token(more)) {
+        (true, Some(last)) => range_of(read_octal(6, word), read_octal(6, last)),
+        _ => Err(SourceFault::BadNumber),
     }
-    match offset_named(word) {
+}
+
+fn is_dash(word: &[u8]) -> bool
+    ensures { result ≡ is_dash word.now }
+{
+    matches!(word, [b'-'])
+}
+
+/// Parses how many more cells there are, or a range without blanks.
+fn cells_by(word: &[u8]) -> Result<LineKind, SourceFault>
+    ensures cells { result ≡ cells_by (offset_said word.now) word.now }
+    ensures range { IfOk result IsShape }
+{
+    match offset_said(word) {
         Some(by) if !by.minus => Ok(LineKind::Cells(by.magnitude as u32 + 1)),
+        Some(_) => Err(SourceFault::BadNumber),
+        None => cut_range(word),
+    }
+}
+
+fn cut_range(word: &[u8]) -> Result<LineKind, SourceFault>
+    ensures cells { result ≡ cut_range (position is_minus word.now) word.now }
+    ensures range { IfOk result IsShape }
+{
+    match first_minus(word) {
+        Some(at) => range_of(read_octal(6, &word[..at]), read_octal(6, &word[at + 1..])),
+        None => Err(SourceFault::BadNumber),
+    }
+}
+
+fn first_minus(word: &[u8]) -> Option<usize>
+    ensures minus { result ≡ position is_minus word.now }
+    ensures bound { IfSome result (λ at. at < length word.now) }
+{
+    word.iter().position(|b| *b == b'-')
+}
+
+fn range_of(first: Option<u64>, last: Option<u64>) -> Result<LineKind, SourceFault>
+    ensures cells { result ≡ range_of first last }
+    ensures range { IfOk result IsShape }
+{
+    match (first, last) {
+        (Some(first), Some(last)) if first <= last && last < u64::from(ERASABLE_CELLS) => {
+            Ok(LineKind::Range(first as u32, last as u32 + 1))
+        }
         _ => Err(SourceFault::BadNumber),
     }
 }
@@ -131,8 +228,10 @@ pub(crate) fn cursor_after(
             Ok(counter.after_words(2))
         }
         LineKind::Cells(count) => counter.after_cells(count),
+        LineKind::Range(_, end) => counter.after_range(end),
         LineKind::Moves(place) => Ok(counter.moved_to(place)),
         LineKind::Bank(bank) => Ok(counter.in_bank(bank)),
-        LineKind::StandsFor(_) => Ok(counter),
+        LineKind::Resumes => counter.resumed(),
+        _ => Ok(counter),
     }
 }

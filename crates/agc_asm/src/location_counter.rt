@@ -1,13 +1,16 @@
 //! The location counter: where the next line of a source goes.
 ghost use Rattle.std.specs.Prelude.{◌≡◌, ◌+◌, ◌*◌, ◌<◌, ◌≤◌, get_or, IfOk, IsOk};
-ghost use Rattle.agc_store.specs.Places.{fixed_bank_size, fixed_banks, fixed_words};
+ghost use Rattle.agc_store.specs.Places.{erasable_cells, fixed_bank_size, fixed_banks, fixed_words};
 ghost use Rattle.agc_asm.specs.LocationCounter.{
   IsAt,
   after_cells,
+  after_range,
   after_words,
   first_cursor,
+  in_bank,
   location_at,
   moved_to,
+  resumed,
   room_at,
 };
 ghost use Rattle.agc_listing.specs.Location.{IsWithin};
@@ -20,16 +23,19 @@ use agc_store::place::{ERASABLE_CELLS, FIXED_BANK_SIZE, bank_of, offset_of, plac
 /// Which memory the lines go into.
 #[derive(Clone, Copy, Debug, PartialEq, Eq)]
 pub(crate) enum At {
-    /// A fixed bank, from where it was left.
+    /// A fixed bank.
     Bank(u8),
     /// Erasable memory, from a cell on.
     Cell(u32),
 }
 
-/// Where the next line goes, and the offset at which each bank was left.
+/// Where the next line goes.
 #[derive(Clone, Copy, Debug, PartialEq, Eq)]
 pub(crate) struct LocationCounter {
+    /// The offset of the next word in each bank.
     pub left: [u16; 36],
+    /// The offset behind the highest word so far in each bank.
+    pub used: [u16; 36],
     pub at: At,
 }
 
@@ -41,6 +47,7 @@ impl LocationCounter {
     {
         LocationCounter {
             left: [0; 36],
+            used: [0; 36],
             at: At::Bank(2),
         }
     }
@@ -91,7 +98,10 @@ impl LocationCounter {
     {
         let mut next = self;
         if let At::Bank(bank) = self.at {
-            next.left[usize::from(bank)] += count;
+            let end = self.left[usize::from(bank)] + count;
+            next.left[usize::from(bank)] = end;
+            let used = self.used[usize::from(bank)];
+            next.used[usize::from(bank)] = if end <= used { used } else { end };
         }
         next
     }
@@ -114,15 +124,44 @@ impl LocationCounter {
         next
     }
 
-    /// Moves to a bank, where it was left.
+    /// Moves behind the highest word of a bank.
     pub fn in_bank(self, bank: u8) -> LocationCounter
         requires { bank < fixed_banks }
-        ensures bank { result ≡ record self { at = at.Bank bank } }
+        ensures bank { result ≡ in_bank self bank }
         ensures range { IsAt result.at }
     {
         let mut next = self;
+        next.left[usize::from(bank)] = self.used[usize::from(bank)];
         next.at = At::Bank(bank);
         next
+    }
+
+    /// Moves behind the highest word of the current bank.
+    pub fn resumed(self) -> Result<LocationCounter, SourceFault>
+        requires { IsAt self.at }
+        ensures resumed { result ≡ resumed self self.at }
+        ensures range { IfOk result (λ counter. IsAt counter.at) }
+    {
+        match self.at {
+            At::Bank(bank) => Ok(self.in_bank(bank)),
+            At::Cell(_) => Err(SourceFault::WrongMemory),
+        }
+    }
+
+    /// Moves behind a range of cells.
+    pub fn after_range(self, end: u32) -> Result<LocationCounter, SourceFault>
+        requires { end ≤ erasable_cells }
+        ensures after { result ≡ after_range self self.at end }
+        ensures range { IfOk result (λ counter. IsAt counter.at) }
+    {
+        match self.at {
+            At::Bank(_) => Err(SourceFault::WrongMemory),
+            At::Cell(_) => {
+                let mut next = self;
+                next.at = At::Cell(end);
+                Ok(next)
+            }
+        }
     }
 
     /// Moves past `count` cells.

@@ -15,45 +15,96 @@ use agc_order::{Basic, Extracode};
 pub enum Directive {
     /// Moves the lines that follow to a location.
     SetLoc,
-    /// Continues where a bank was left.
+    /// Continues where a bank was left: the one of its operand, or the current one.
     Bank,
+    /// Continues where bank 02 or 03 was left.
+    Block,
     /// A word in octal.
     Oct,
+    /// The same.
+    Octal,
     /// A decimal number.
     Dec,
+    /// The same; its scales may end in `*`.
+    DecStarred,
     /// Two words in octal.
     PairOct,
     /// A decimal number of two words.
     PairDec,
+    /// The same; its scales may end in `*`.
+    PairDecStarred,
     /// An address.
     Adres,
+    /// The same, of another bank.
+    Remadr,
+    /// The same, of any bank.
+    Genadr,
     /// A complete address: bank and offset.
     Cadr,
+    /// The same.
+    Fcadr,
+    /// A complete address in erasable memory.
+    Ecadr,
     /// A word for BB.
     Bbcon,
+    /// An address and the word for BB to reach it.
+    PairCadr,
+    /// A verb and a noun.
+    VerbNoun,
+    /// A major mode.
+    MajorMode,
     /// A name for a location.
     Is,
     /// The same.
     Equals,
     /// Reserves consecutive cells.
     Erase,
+    /// Names the erasable bank of later words for BB.
+    Ebank,
+    /// Names the superbank of later words for BB.
+    Sbank,
+    /// Means nothing here.
+    Count,
+    /// Means nothing here.
+    CountStarred,
+    /// Means nothing here.
+    Memory,
+    /// Means nothing here.
+    BankSum,
 }
 
 impl Directive {
     /// Every directive, once.
-    pub const ALL: [Directive; 12] = [
+    pub const ALL: [Directive; 29] = [
         Directive::SetLoc,
         Directive::Bank,
+        Directive::Block,
         Directive::Oct,
+        Directive::Octal,
         Directive::Dec,
+        Directive::DecStarred,
         Directive::PairOct,
         Directive::PairDec,
+        Directive::PairDecStarred,
         Directive::Adres,
+        Directive::Remadr,
+        Directive::Genadr,
         Directive::Cadr,
+        Directive::Fcadr,
+        Directive::Ecadr,
         Directive::Bbcon,
+        Directive::PairCadr,
+        Directive::VerbNoun,
+        Directive::MajorMode,
         Directive::Is,
         Directive::Equals,
         Directive::Erase,
+        Directive::Ebank,
+        Directive::Sbank,
+        Directive::Count,
+        Directive::CountStarred,
+        Directive::Memory,
+        Directive::BankSum,
     ];
 
     /// Returns the directive with this name.
@@ -74,16 +125,33 @@ impl Directive {
         match self {
             Directive::SetLoc => "SETLOC",
             Directive::Bank => "BANK",
+            Directive::Block => "BLOCK",
             Directive::Oct => "OCT",
+            Directive::Octal => "OCTAL",
             Directive::Dec => "DEC",
+            Directive::DecStarred => "DEC*",
             Directive::PairOct => "2OCT",
             Directive::PairDec => "2DEC",
+            Directive::PairDecStarred => "2DEC*",
             Directive::Adres => "ADRES",
+            Directive::Remadr => "REMADR",
+            Directive::Genadr => "GENADR",
             Directive::Cadr => "CADR",
+            Directive::Fcadr => "FCADR",
+            Directive::Ecadr => "ECADR",
             Directive::Bbcon => "BBCON",
+            Directive::PairCadr => "2CADR",
+            Directive::VerbNoun => "VN",
+            Directive::MajorMode => "MM",
             Directive::Is => "=",
             Directive::Equals => "EQUALS",
             Directive::Erase => "ERASE",
+            Directive::Ebank => "EBANK=",
+            Directive::Sbank => "SBANK=",
+            Directive::Count => "COUNT",
+            Directive::CountStarred => "COUNT*",
+            Directive::Memory => "MEMORY",
+            Directive::BankSum => "BNKSUM",
         }
     }
 }

@@ -1,42 +1,64 @@
 //! The names of a source, each with its location.
-ghost use Rattle.std.specs.Prelude.{◌≡◌, None, OnOk};
-ghost use Rattle.agc_asm.specs.Name.{naming_of, own_names, with_name};
+ghost use Rattle.std.specs.Prelude.{◌≡◌, OnOk};
+ghost use Rattle.agc_asm.specs.Name.{given_of, guessing, known, naming_of, own_names, with_name};
 
 use crate::register::Register;
 use agc_listing::Location;
 use std::alloc::{AllocError, Global};
 use std::collections::BTreeMap;
 
-/// The computer's own names, and those of lines.
+/// The names of lines, those that an earlier reading of the source found, and the computer's own.
 #[derive(Drop)]
 pub struct Names<'a> {
     given: BTreeMap<&'a [u8], Location>,
+    guess: BTreeMap<&'a [u8], Location>,
 }
 
 impl<'a> Names<'a> {
     /// Creates the names that every source has.
-    #[tactic(auto, unfolding(crate::specs::Name::own_names))]
     pub fn new(alloc: Global) -> Names<'a>
         ensures { naming_of result ≡ own_names }
     {
         Names {
             given: BTreeMap::new(alloc),
+            guess: BTreeMap::new(alloc),
+        }
+    }
+
+    /// Creates the names for another reading of a source: those of lines are known from the earlier one.
+    pub fn again(self, alloc: Global) -> Names<'a>
+        ensures { naming_of result ≡ guessing (given_of self.entry) }
+    {
+        Names {
+            given: BTreeMap::new(alloc),
+            guess: self.given,
         }
     }
 
     /// Returns the location of a name.
+    #[tactic(auto, unfolding(crate::specs::Name::known))]
     pub fn get(&self, name: &[u8]) -> Option<Location>
-        ensures { result ≡ naming_of self.now name.now }
+        ensures { result ≡ known (naming_of self.now) name.now }
     {
-        match Register::from_name(name) {
-            Some(register) => Some(Location::Erasable(register.cell())),
-            None => self.given.get(name).copied(),
+        if let Some(place) = self.given.get(name) {
+            return Some(*place);
         }
+        if let Some(place) = self.guess.get(name) {
+            return Some(*place);
+        }
+        let register = Register::from_name(name)?;
+        Some(Location::Erasable(register.cell()))
     }
 
-    /// Adds a name that has no location yet.
+    /// Returns the location of a name that a line has.
+    pub fn of_line(&self, name: &[u8]) -> Option<Location>
+        ensures { result ≡ given_of self.now name.now }
+    {
+        self.given.get(name).copied()
+    }
+
+    /// Adds the name of a line, which no line before it has.
     pub fn add(&mut self, name: &'a [u8], place: Location) -> Result<(), AllocError>
-        requires { naming_of self.old name.now ≡ None }
         ensures { OnOk result (naming_of self.new ≡ with_name (naming_of self.old) name.now place) }
     {
         self.given.insert(name, place)?;

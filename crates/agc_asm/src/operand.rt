@@ -1,25 +1,38 @@
 //! Parses operands: an address, a place or a cell, and an offset from it.
-ghost use Rattle.std.specs.Prelude.{◌≡◌, ◌<◌, ◌^◌, IfOk};
+ghost use Rattle.std.specs.Prelude.{◌≡◌, ◌+◌, ◌<◌, ◌^◌, length, IfOk, IfSome};
+ghost use Rattle.agc_asm.specs.Body.{tokens};
 ghost use Rattle.agc_asm.specs.Name.{naming_of};
 ghost use Rattle.agc_asm.specs.Operand.{
   address_at,
+  address_of,
+  begins_offset,
   channel_at,
+  located,
+  location_in,
+  location_of,
   moved,
+  no_value,
+  offset_place,
   operand_for,
+  value_apart,
   value_beside,
+  value_cut,
   value_here,
   value_in,
   value_moved,
   value_of,
+  value_parts,
+  value_whole,
 };
-ghost use Rattle.agc_listing.specs.Number.{offset_named};
-ghost use Rattle.agc_listing.specs.Text.{said_by};
+ghost use Rattle.agc_listing.specs.Location.{IsWithin};
+ghost use Rattle.agc_listing.specs.Number.{offset_said};
 
+use crate::body::next_token;
 use crate::fault::SourceFault;
 use crate::names::Names;
 use agc_listing::{
-    Location, Operand, Signed, cell_address, is_addressable, is_name, listed_address, next_said,
-    offset_named,
+    Location, Operand, Signed, cell_address, count_named, is_addressable, is_name, listed_address,
+    location_named, location_numbered, offset_said,
 };
 use agc_order::Takes;
 use agc_store::place::{ERASABLE_CELLS, FIXED_WORDS};
@@ -41,10 +54,10 @@ pub(crate) fn operand_for(
     here: u32,
     text: &[u8],
 ) -> Result<Operand, SourceFault>
-    ensures { result ≡ operand_for takes (naming_of names.now) here (said_by text.now) }
+    ensures { result ≡ operand_for takes (naming_of names.now) here (tokens text.now) }
 {
     match takes {
-        Takes::Nothing => match next_said(text) {
+        Takes::Nothing => match next_token(text) {
             Some(_) => Err(SourceFault::BadOperand),
             None => Ok(Operand::Nothing),
         },
@@ -61,15 +74,15 @@ pub(crate) fn operand_for(
 
 /// Parses the value of an operand, for a line at a place.
 pub(crate) fn value_of(names: &Names, here: u32, text: &[u8]) -> Result<Value, SourceFault>
-    ensures { result ≡ value_of (naming_of names.now) here (said_by text.now) }
+    ensures { result ≡ value_of (naming_of names.now) here (tokens text.now) }
 {
-    let Some((word, rest)) = next_said(text) else {
+    let Some((word, rest)) = next_token(text) else {
         return Err(SourceFault::BadOperand);
     };
-    let Some((by, more)) = next_said(rest) else {
+    let Some((by, more)) = next_token(rest) else {
         return value_here(names, here, word);
     };
-    if next_said(more).is_some() {
+    if next_token(more).is_some() {
         return Err(SourceFault::BadOperand);
     }
     value_beside(names, word, by)
@@ -77,9 +90,9 @@ pub(crate) fn value_of(names: &Names, here: u32, text: &[u8]) -> Result<Value, S
 
 /// Parses a value of one word: an offset from the line itself, a number or a name.
 fn value_here(names: &Names, here: u32, word: &[u8]) -> Result<Value, SourceFault>
-    ensures { result ≡ value_here (offset_named word.now) (naming_of names.now) here word.now }
+    ensures { result ≡ value_here (offset_said word.now) (naming_of names.now) here word.now }
 {
-    match offset_named(word) {
+    match offset_said(word) {
         Some(by) => value_moved(Value::At(Location::Fixed(here)), by),
         None => value_in(names, word),
     }
@@ -87,26 +100,88 @@ fn value_here(names: &Names, here: u32, word: &[u8]) -> Result<Value, SourceFaul
 
 /// Parses a value and an offset.
 fn value_beside(names: &Names, word: &[u8], by: &[u8]) -> Result<Value, SourceFault>
-    ensures { result ≡ value_beside (value_in (naming_of names.now) word.now) (offset_named by.now) }
+    ensures { result ≡ value_beside (value_in (naming_of names.now) word.now) (offset_said by.now) }
 {
     let value = value_in(names, word)?;
-    match offset_named(by) {
+    match offset_said(by) {
         Some(by) => value_moved(value, by),
         None => Err(SourceFault::BadOperand),
     }
 }
 
-/// Parses a word: an octal number, or a name.
+/// Parses a word; one that means nothing as a whole is cut before a sign.
 fn value_in(names: &Names, word: &[u8]) -> Result<Value, SourceFault>
     ensures { result ≡ value_in (naming_of names.now) word.now }
 {
-    if let Some(number) = read_octal(5, word) {
-        return Ok(Value::Number(number as u32));
+    match value_whole(names, word) {
+        Some(value) => Ok(value),
+        None => value_cut(names, word),
     }
-    match names.get(word) {
-        Some(place) => Ok(Value::At(place)),
-        None if is_name(word) => Err(SourceFault::UnknownName),
-        None => Err(SourceFault::BadOperand),
+}
+
+/// Parses a whole word: an octal number, a place with its bank, a name, or a decimal number before a letter D.
+fn value_whole(names: &Names, word: &[u8]) -> Option<Value>
+    ensures { result ≡ value_whole (naming_of names.now) word.now }
+{
+    if let Some(number) = read_octal(6, word) {
+        return Some(Value::Number(number as u32));
+    }
+    if let Some(place) = location_named(word) {
+        return Some(Value::At(place));
+    }
+    if let Some(place) = names.get(word) {
+        return Some(Value::At(place));
+    }
+    Some(Value::Number(count_named(word)? as u32))
+}
+
+/// Parses a word that is cut before the offset at its end.
+fn value_cut(names: &Names, word: &[u8]) -> Result<Value, SourceFault>
+    ensures { result ≡ value_cut (naming_of names.now) (offset_place word.now) word.now }
+{
+    match offset_place(word) {
+        Some(at) => value_parts(
+            word,
+            value_whole(names, &word[..at]),
+            offset_said(&word[at..]),
+        ),
+        None => Err(no_value(word)),
+    }
+}
+
+/// Returns where the offset at the end of a word begins, if it has one.
+#[tactic(auto, unfolding(crate::specs::Operand::offset_place))]
+fn offset_place(word: &[u8]) -> Option<usize>
+    ensures place { result ≡ offset_place word.now }
+    ensures bound { IfSome result (λ at. at < length word.now) }
+{
+    (0..word.len()).find(|at| begins_offset(word, *at))
+}
+
+fn begins_offset(word: &[u8], at: usize) -> bool
+    ensures { result ≡ begins_offset word.now at }
+{
+    at < word.len() && offset_said(&word[at..]).is_some()
+}
+
+fn value_parts(word: &[u8], value: Option<Value>, by: Option<Signed>) -> Result<Value, SourceFault>
+    requires { IfSome by (λ by. by.magnitude < 100000) }
+    ensures { result ≡ value_parts word.now value by }
+{
+    match (value, by) {
+        (Some(value), Some(by)) => value_moved(value, by),
+        _ => Err(no_value(word)),
+    }
+}
+
+/// Returns why a word has no value.
+fn no_value(word: &[u8]) -> SourceFault
+    ensures { result ≡ no_value word.now }
+{
+    if is_name(word) {
+        SourceFault::UnknownName
+    } else {
+        SourceFault::BadOperand
     }
 }
 
@@ -116,7 +191,7 @@ fn value_moved(value: Value, by: Signed) -> Result<Value, SourceFault>
     ensures { result ≡ value_moved value by }
 {
     let found = match value {
-        Value::Number(number) => moved(0o10000, number, by).map(Value::Number),
+        Value::Number(number) => moved(0o120000, number, by).map(Value::Number),
         Value::At(Location::Fixed(place)) => {
             moved(u64::from(FIXED_WORDS), place, by).map(|place| Value::At(Location::Fixed(place)))
         }
@@ -144,16 +219,75 @@ fn moved(bound: u64, number: u32, by: Signed) -> Option<u32>
     if sum < bound { Some(sum as u32) } else { None }
 }
 
-/// Returns the address by which an order at a place names a value.
+/// Returns the location that the operand of a directive names: a name or a number, and perhaps an offset.
+pub(crate) fn location_in(names: &Names, text: &[u8]) -> Result<Location, SourceFault>
+    ensures location { result ≡ location_in (naming_of names.now) (tokens text.now) }
+    ensures range { IfOk result IsWithin }
+{
+    located(location_of(value_apart(names, text)?))
+}
+
+fn value_apart(names: &Names, text: &[u8]) -> Result<Value, SourceFault>
+    ensures { result ≡ value_apart (naming_of names.now) (tokens text.now) }
+{
+    let Some((word, rest)) = next_token(text) else {
+        return Err(SourceFault::BadPlace);
+    };
+    let Some((by, more)) = next_token(rest) else {
+        return value_in(names, word);
+    };
+    if next_token(more).is_some() {
+        return Err(SourceFault::BadPlace);
+    }
+    value_beside(names, word, by)
+}
+
+/// Returns the location of a value; a number names one as listings count all memory.
+fn location_of(value: Value) -> Option<Location>
+    ensures { result ≡ location_of value }
+{
+    match value {
+        Value::Number(number) => location_numbered(number),
+        Value::At(place) => Some(place),
+    }
+}
+
+/// Checks that a location is in memory.
+fn located(location: Option<Location>) -> Result<Location, SourceFault>
+    ensures location { result ≡ located location }
+    ensures range { IfOk result IsWithin }
+{
+    match location {
+        Some(Location::Fixed(place)) if place < FIXED_WORDS => Ok(Location::Fixed(place)),
+        Some(Location::Erasable(cell)) if cell < u32::from(ERASABLE_CELLS) => Ok(Location::Erasable(
+            cell,
+        )),
+        _ => Err(SourceFault::NoSuchPlace),
+    }
+}
+
+/// Returns the address by which an order at a place names a value; a number below 10000 octal is an address.
 pub(crate) fn address_at(here: u32, value: Value) -> Result<u16, SourceFault>
     ensures address { result ≡ address_at here value }
     ensures range { IfOk result (λ address. address < 0o10000) }
 {
     match value {
         Value::Number(number) if number < 0o10000 => Ok(number as u16),
-        Value::Number(_) => Err(SourceFault::NoSuchPlace),
-        Value::At(Location::Erasable(cell)) => Ok(cell_address(cell)),
-        Value::At(Location::Fixed(place)) => {
+        Value::Number(number) => match location_numbered(number) {
+            Some(place) => address_of(here, place),
+            None => Err(SourceFault::NoSuchPlace),
+        },
+        Value::At(place) => address_of(here, place),
+    }
+}
+
+fn address_of(here: u32, location: Location) -> Result<u16, SourceFault>
+    ensures address { result ≡ address_of here location }
+    ensures range { IfOk result (λ address. address < 0o10000) }
+{
+    match location {
+        Location::Erasable(cell) => Ok(cell_address(cell)),
+        Location::Fixed(place) => {
             if place < FIXED_WORDS && is_addressable(here, place) {
                 Ok(listed_address(place as usize))
             } else {

@@ -1,9 +1,15 @@
 //! The first pass over a source: collects its names.
-ghost use Rattle.std.specs.Prelude.{◌≡◌, ◌≢◌, None, Ok, Err, IfOk, IfErr, IfSome, IsOk, OnOk, option_map};
-ghost use Rattle.agc_asm.specs.LocationCounter.{IsAt};
-ghost use Rattle.agc_asm.specs.Name.{naming_of};
+ghost use Rattle.std.specs.Prelude.{◌≡◌, ◌≢◌, ◌<◌, None, Ok, Err, IfOk, IfErr, IfSome, IsOk, OnOk, option_map};
+ghost use Rattle.agc_asm.specs.Body.{body_in, spelled};
+ghost use Rattle.agc_word.specs.Text.{lines_of};
+ghost use Rattle.agc_asm.specs.LocationCounter.{IsAt, first_cursor};
+ghost use Rattle.agc_asm.specs.Name.{given_of, guessing, naming_of};
 ghost use Rattle.agc_asm.specs.LineKind.{IsShape, cursor_after, shape_of};
 ghost use Rattle.agc_asm.specs.Source.{
+  first_names,
+  found_after,
+  found_from,
+  here_place,
   label_place,
   line_labelled,
   listed_labelled,
@@ -13,15 +19,17 @@ ghost use Rattle.agc_asm.specs.Source.{
   shape_labelled,
 };
 ghost use Rattle.agc_listing.specs.Location.{IsWithin};
-ghost use Rattle.agc_listing.specs.Text.{body_of, label_of, said_by};
+ghost use Rattle.agc_listing.specs.Text.{label_of, said_by};
 ghost use Rattle.agc_listing.specs.Line.{line_named};
 ghost use Rattle.agc_asm.specs.declared.fault.AssemblyFault.TheVariants.{Memory};
 
+use crate::body::cut_line;
 use crate::fault::{AssemblyFault, SourceFault};
 use crate::line_kind::{LineKind, cursor_after, shape_of};
-use crate::location_counter::LocationCounter;
+use crate::location_counter::{At, LocationCounter};
 use crate::names::Names;
 use agc_listing::{LineFault, Location, cut_label, has_other_byte, is_listed, is_name, read_line};
+use agc_store::place::ERASABLE_CELLS;
 use agc_word::next_line;
 use std::alloc::{AllocError, Global};
 
@@ -37,7 +45,7 @@ pub(crate) fn read_names(alloc: Global, text: &[u8]) -> Result<Names<'_>, Assemb
     ensures names { IfOk result (λ names. names_in text.now ≡ Ok (naming_of names)) }
     ensures fault { IfErr result (λ why. why ≢ Memory → names_in text.now ≡ Err why) }
 {
-    let mut names = Names::new(alloc);
+    let mut names = first_names(alloc, text)?;
     let mut counter = LocationCounter::new();
     let mut lines = 0;
     let mut rest = text;
@@ -55,13 +63,52 @@ pub(crate) fn read_names(alloc: Global, text: &[u8]) -> Result<Names<'_>, Assemb
     Ok(names)
 }
 
+/// Returns the names before the first line: those that ten earlier readings of the source find. With each reading, one
+/// more reference to a later line can be followed.
+#[tactic(auto, unfolding(crate::specs::Source::first_names))]
+pub(crate) fn first_names(alloc: Global, text: &[u8]) -> Result<Names<'_>, AllocError>
+    ensures { IfOk result (λ names. naming_of names ≡ first_names text.now) }
+{
+    found_after(alloc, 10, text)
+}
+
+#[tactic(auto, unfolding(crate::specs::Source::found_after))]
+fn found_after(alloc: Global, times: u32, text: &[u8]) -> Result<Names<'_>, AllocError>
+    ensures { IfOk result (λ names. naming_of names ≡ guessing (found_after times text.now)) }
+{
+    if times == 0 {
+        return Ok(Names::new(alloc));
+    }
+    let names = found_after(alloc, times - 1, text)?;
+    Ok(found_again(names, text)?.again(alloc))
+}
+
+/// Adds to these names those of the lines of a source, passing over faulty lines.
+fn found_again<'a>(known: Names<'a>, text: &'a [u8]) -> Result<Names<'a>, AllocError>
+    ensures { IfOk result (λ found. given_of found ≡ found_from (naming_of known.entry) first_cursor (lines_of text.now)) }
+{
+    let mut names = known;
+    let mut counter = LocationCounter::new();
+    let mut rest = text;
+    while let Some((line, after)) = next_line(rest) {
+        match line_labelled(&names, counter, line) {
+            Ok(next) => {
+                note_label(&mut names, line, next.place)?;
+                counter = next.counter;
+            }
+            Err(_) => {}
+        }
+        rest = after;
+    }
+    Ok(names)
+}
+
 /// Adds the name of a line, if it has a location.
 pub(crate) fn note_label<'a>(
     names: &mut Names<'a>,
     line: &'a [u8],
     place: Option<Location>,
 ) -> Result<(), AllocError>
-    requires { IfSome place (λ _. IfSome (label_of line.now) (λ label. naming_of names.old label ≡ None)) }
     ensures { OnOk result (naming_of names.new ≡ naming_after (naming_of names.old) (label_of line.now) place) }
 {
     match (cut_label(line).0, place) {
@@ -81,8 +128,6 @@ pub(crate) fn line_labelled(
     ensures labelled { result ≡ line_labelled (naming_of names.now) counter line.now }
     ensures range { IfOk result (λ next. IsAt next.counter.at) }
     ensures within { IfOk result (λ next. IfSome next.place IsWithin) }
-    ensures unnamed { IfOk result (λ next. IfSome next.place
-        (λ _. IfSome (label_of line.now) (λ label. naming_of names.now label ≡ None))) }
 {
     if is_listed(line) {
         return listed_labelled(counter, line);
@@ -90,8 +135,8 @@ pub(crate) fn line_labelled(
     if has_other_byte(line) {
         return Err(SourceFault::Listed(LineFault::NotText));
     }
-    let (label, body) = cut_label(line);
-    let kind = shape_of(body)?;
+    let (label, body) = cut_line(line);
+    let kind = shape_of(names, body)?;
     let next = cursor_after(counter, kind)?;
     let place = place_labelled(names, counter, kind, label)?;
     Ok(Labelled {
@@ -105,7 +150,6 @@ fn listed_labelled(counter: LocationCounter, line: &[u8]) -> Result<Labelled, So
     requires { IsAt counter.at }
     ensures labelled { result ≡ listed_labelled counter (line_named line.now) }
     ensures range { IfOk result (λ next. IsAt next.counter.at) }
-    ensures unnamed { IfOk result (λ next. next.place ≡ None) }
 {
     match read_line(line) {
         Ok(_) => Ok(Labelled {
@@ -129,19 +173,17 @@ fn place_labelled(
     ensures place { result ≡ place_labelled (naming_of names.now) counter kind
         (option_map (λ label. label.now) label.entry) }
     ensures within { IfOk result (λ place. IfSome place IsWithin) }
-    ensures unnamed { IfOk result (λ place. IfSome place
-        (λ _. IfSome label.entry (λ label. naming_of names.now label.now ≡ None))) }
 {
     let Some(label) = label else {
         return match kind {
-            LineKind::StandsFor(_) => Err(SourceFault::MisplacedName),
+            LineKind::StandsFor(_) | LineKind::StandsHere => Err(SourceFault::MisplacedName),
             _ => Ok(None),
         };
     };
     if !is_name(label) {
         return Err(SourceFault::BadName);
     }
-    if names.get(label).is_some() {
+    if names.of_line(label).is_some() {
         return Err(SourceFault::NameTwice);
     }
     label_place(counter, kind)
@@ -158,7 +200,23 @@ fn label_place(counter: LocationCounter, kind: LineKind) -> Result<Option<Locati
 {
     match kind {
         LineKind::Word | LineKind::Pair | LineKind::Cells(_) => Ok(Some(counter.location())),
+        LineKind::Range(first, _) => Ok(Some(Location::Erasable(first))),
         LineKind::StandsFor(place) => Ok(Some(place)),
-        LineKind::Moves(_) | LineKind::Bank(_) => Err(SourceFault::MisplacedName),
+        LineKind::StandsHere => here_place(counter),
+        LineKind::Nothing => Ok(None),
+        _ => Err(SourceFault::MisplacedName),
+    }
+}
+
+/// Returns the location of the next line, if there is room for a word or a cell.
+fn here_place(counter: LocationCounter) -> Result<Option<Location>, SourceFault>
+    requires { IsAt counter.at }
+    ensures place { result ≡ here_place counter counter.at }
+    ensures within { IfOk result (λ place. IfSome place IsWithin) }
+{
+    match counter.at {
+        At::Bank(_) => Ok(Some(Location::Fixed(counter.room(1)?))),
+        At::Cell(cell) if cell < u32::from(ERASABLE_CELLS) => Ok(Some(Location::Erasable(cell))),
+        At::Cell(_) => Err(SourceFault::Full),
     }
 }

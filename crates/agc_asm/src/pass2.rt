@@ -1,43 +1,57 @@
 //! The second pass over a source: assembles the words of its lines.
 ghost use Rattle.std.specs.Prelude.{◌≡◌, ◌≢◌, ◌<◌, Ok, Err, IfOk, IfErr, IfSome, OnOk};
 ghost use Rattle.agc_store.specs.Places.{fixed_words};
-ghost use Rattle.agc_asm.specs.LocationCounter.{IsAt};
 ghost use Rattle.agc_asm.specs.Name.{naming_of};
 ghost use Rattle.agc_asm.specs.LineKind.{IsShape, shape_of};
 ghost use Rattle.agc_asm.specs.Source.{
   IsPlaced,
+  IsState,
+  ebank_said,
   both_said,
   first_state,
   line_woven,
   listed_woven,
   no_word,
   pair_placed,
+  shape_woven,
   said_more,
+  sbank_said,
   stays_put,
+  with_banks,
   told_at,
   word_placed,
   words_in,
 };
 ghost use Rattle.agc_asm.specs.LineKind.{cursor_after};
 ghost use Rattle.agc_asm.specs.LocationCounter.{room_at};
-ghost use Rattle.agc_listing.specs.Text.{body_of, said_by};
+ghost use Rattle.agc_asm.specs.Body.{body_in, spelled, tokens};
+ghost use Rattle.agc_asm.specs.Encode.{cell_in, place_in};
+ghost use Rattle.agc_asm.specs.Operand.{location_in};
+ghost use Rattle.agc_listing.specs.Text.{after_first, said_by};
 ghost use Rattle.agc_listing.specs.Line.{line_named};
 ghost use Rattle.agc_asm.specs.declared.fault.AssemblyFault.TheVariants.{Memory};
 
-use crate::encode::{pair_meaning, word_meaning};
+use crate::body::{cut_line, operation_in};
+use crate::encode::{
+    Banks, Site, banks_after, cell_in, is_banked, pair_meaning, place_in, superbank, word_meaning,
+    writes_order,
+};
 use crate::fault::{AssemblyFault, SourceFault};
 use crate::line_kind::{LineKind, cursor_after, shape_of};
 use crate::location_counter::LocationCounter;
 use crate::names::Names;
-use agc_listing::{PlacedWord, RopeBuilder, cut_label, is_listed, next_is_extracode, read_line};
+use agc_listing::{PlacedWord, RopeBuilder, is_listed, next_is_extracode, read_line};
+use agc_store::place::ERASABLE_BANK_SIZE;
 use agc_word::next_line;
 use std::alloc::Global;
 
-/// The state after the lines so far: where the next one goes, and whether an extracode is expected there.
+/// The state after the lines so far: where the next one goes, whether an extracode is expected there, and the banks for
+/// words for BB.
 #[derive(Clone, Copy, Debug, PartialEq, Eq)]
 pub(crate) struct State {
     pub counter: LocationCounter,
     pub leads: bool,
+    pub banks: Banks,
 }
 
 /// The result of a line: the state after it, and its words.
@@ -62,6 +76,11 @@ pub(crate) fn read_words(
     let mut state = State {
         counter: LocationCounter::new(),
         leads: false,
+        banks: Banks {
+            erasable: 0,
+            before: None,
+            superbank: 0,
+        },
     };
     let mut lines = 0;
     let mut rest = text;
@@ -111,28 +130,91 @@ fn add_word(
 
 /// Assembles a line: its words with their places, and where the next line goes.
 #[tactic(auto, unfolding(crate::specs::Source::line_woven))]
-fn line_woven(names: &Names, state: State, line: &[u8]) -> Result<Step, SourceFault>
-    requires { IsAt state.counter.at }
+pub(crate) fn line_woven(names: &Names, state: State, line: &[u8]) -> Result<Step, SourceFault>
+    requires { IsState state }
     ensures woven { result ≡ line_woven (naming_of names.now) state line.now }
-    ensures range { IfOk result (λ step. IsAt step.state.counter.at) }
+    ensures range { IfOk result (λ step. IsState step.state) }
     ensures placed { IfOk result IsPlaced }
 {
     if is_listed(line) {
         return listed_woven(state, line);
     }
-    let (_, body) = cut_label(line);
-    match shape_of(body)? {
+    let (_, body) = cut_line(line);
+    match shape_of(names, body)? {
         LineKind::Word => word_placed(names, state, body),
-        LineKind::Pair => pair_placed(state, body),
+        LineKind::Pair => pair_placed(names, state, body),
+        LineKind::Ebank => ebank_said(names, state, operand_in(body)),
+        LineKind::Sbank => sbank_said(names, state, operand_in(body)),
         kind => no_word(state, kind),
+    }
+}
+
+/// Returns the operand of a line.
+fn operand_in(body: &[u8]) -> &[u8]
+    ensures { tokens result.now ≡ after_first (spelled (tokens body.now)) }
+{
+    match operation_in(body) {
+        Some(operation) => operation.rest,
+        None => &[],
+    }
+}
+
+/// Takes the erasable bank that EBANK= names.
+fn ebank_said(names: &Names, state: State, rest: &[u8]) -> Result<Step, SourceFault>
+    requires { IsState state }
+    ensures woven { result ≡ ebank_said state (cell_in (location_in (naming_of names.now) (tokens rest.now))) }
+    ensures range { IfOk result (λ step. IsState step.state) }
+    ensures placed { IfOk result IsPlaced }
+{
+    let cell = cell_in(names, rest)?;
+    Ok(with_banks(
+        state,
+        Banks {
+            erasable: (cell / u32::from(ERASABLE_BANK_SIZE)) as u8,
+            before: Some(state.banks.erasable),
+            superbank: state.banks.superbank,
+        },
+    ))
+}
+
+/// Takes the superbank that SBANK= names.
+fn sbank_said(names: &Names, state: State, rest: &[u8]) -> Result<Step, SourceFault>
+    requires { IsState state }
+    ensures woven { result ≡ sbank_said state (place_in (location_in (naming_of names.now) (tokens rest.now))) }
+    ensures range { IfOk result (λ step. IsState step.state) }
+    ensures placed { IfOk result IsPlaced }
+{
+    let place = place_in(names, rest)?;
+    Ok(with_banks(
+        state,
+        Banks {
+            erasable: state.banks.erasable,
+            before: state.banks.before,
+            superbank: superbank(0, place),
+        },
+    ))
+}
+
+/// Returns the step of a line that only changes the banks.
+fn with_banks(state: State, banks: Banks) -> Step
+    ensures { result ≡ with_banks state banks }
+{
+    Step {
+        state: State {
+            counter: state.counter,
+            leads: state.leads,
+            banks,
+        },
+        first: None,
+        second: None,
     }
 }
 
 /// Assembles a line of a listing.
 fn listed_woven(state: State, line: &[u8]) -> Result<Step, SourceFault>
-    requires { IsAt state.counter.at }
+    requires { IsState state }
     ensures woven { result ≡ listed_woven state (line_named line.now) }
-    ensures range { IfOk result (λ step. IsAt step.state.counter.at) }
+    ensures range { IfOk result (λ step. IsState step.state) }
     ensures placed { IfOk result IsPlaced }
 {
     match read_line(line) {
@@ -147,18 +229,24 @@ fn listed_woven(state: State, line: &[u8]) -> Result<Step, SourceFault>
 
 /// Assembles a line of one word.
 fn word_placed(names: &Names, state: State, body: &[u8]) -> Result<Step, SourceFault>
-    requires { IsAt state.counter.at }
-    ensures woven { result ≡ word_placed (naming_of names.now) state (said_by body.now)
+    requires { IsState state }
+    ensures woven { result ≡ word_placed (naming_of names.now) state (tokens body.now)
         (room_at state.counter state.counter.at 1) }
-    ensures range { IfOk result (λ step. IsAt step.state.counter.at) }
+    ensures range { IfOk result (λ step. IsState step.state) }
     ensures placed { IfOk result IsPlaced }
 {
     let place = state.counter.room(1)?;
-    let word = word_meaning(names, place, state.leads, body)?;
+    let site = Site {
+        here: place,
+        leads: state.leads,
+        banks: state.banks,
+    };
+    let word = word_meaning(names, site, body)?;
     Ok(Step {
         state: State {
             counter: state.counter.after_words(1),
-            leads: next_is_extracode(state.leads, word),
+            leads: writes_order(body) && next_is_extracode(state.leads, word),
+            banks: banks_after(is_banked(body), state.banks),
         },
         first: Some(PlacedWord {
             place: place as usize,
@@ -169,20 +257,20 @@ fn word_placed(names: &Names, state: State, body: &[u8]) -> Result<Step, SourceF
 }
 
 /// Assembles a line of two words.
-fn pair_placed(state: State, body: &[u8]) -> Result<Step, SourceFault>
-    requires { IsAt state.counter.at }
-    ensures woven { result ≡ pair_placed state (said_by body.now)
+fn pair_placed(names: &Names, state: State, body: &[u8]) -> Result<Step, SourceFault>
+    requires { IsState state }
+    ensures woven { result ≡ pair_placed (naming_of names.now) state (tokens body.now)
         (room_at state.counter state.counter.at 2) }
-    ensures range { IfOk result (λ step. IsAt step.state.counter.at) }
+    ensures range { IfOk result (λ step. IsState step.state) }
     ensures placed { IfOk result IsPlaced }
 {
     let place = state.counter.room(2)?;
-    let pair = pair_meaning(body)?;
-    let leads = next_is_extracode(state.leads, pair.upper);
+    let pair = pair_meaning(names, state.banks, body)?;
     Ok(Step {
         state: State {
             counter: state.counter.after_words(2),
-            leads: next_is_extracode(leads, pair.lower),
+            leads: false,
+            banks: banks_after(is_banked(body), state.banks),
         },
         first: Some(PlacedWord {
             place: place as usize,
@@ -197,10 +285,10 @@ fn pair_placed(state: State, body: &[u8]) -> Result<Step, SourceFault>
 
 /// Assembles a line without words.
 fn no_word(state: State, kind: LineKind) -> Result<Step, SourceFault>
-    requires at { IsAt state.counter.at }
+    requires at { IsState state }
     requires kind { IsShape kind }
     ensures woven { result ≡ no_word state kind (cursor_after state.counter kind) }
-    ensures range { IfOk result (λ step. IsAt step.state.counter.at) }
+    ensures range { IfOk result (λ step. IsState step.state) }
     ensures placed { IfOk result IsPlaced }
 {
     let next = cursor_after(state.counter, kind)?;
@@ -208,6 +296,7 @@ fn no_word(state: State, kind: LineKind) -> Result<Step, SourceFault>
         state: State {
             counter: next,
             leads: state.leads && stays_put(kind),
+            banks: state.banks,
         },
         first: None,
         second: None,
@@ -218,5 +307,8 @@ fn no_word(state: State, kind: LineKind) -> Result<Step, SourceFault>
 fn stays_put(kind: LineKind) -> bool
     ensures { result ≡ stays_put kind }
 {
-    !matches!(kind, LineKind::Moves(_) | LineKind::Bank(_))
+    !matches!(
+        kind,
+        LineKind::Moves(_) | LineKind::Bank(_) | LineKind::Resumes
+    )
 }

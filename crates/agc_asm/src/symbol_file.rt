@@ -6,8 +6,7 @@ ghost use Rattle.agc_asm.specs.NameLines.{label_named, labels_in, name_lines_in}
 ghost use Rattle.agc_listing.specs.Text.{label_of};
 
 use crate::location_counter::LocationCounter;
-use crate::names::Names;
-use crate::pass1::{line_labelled, note_label};
+use crate::pass1::{first_names, line_labelled, note_label};
 use agc_listing::{Location, cut_label};
 use agc_symbols::push_name_line;
 use agc_word::next_line;
@@ -21,7 +20,7 @@ pub fn name_lines(alloc: Global, text: &[u8]) -> Result<Vec<u8>, AllocError>
     ensures read { IfOk result (λ lines. names_in lines.items ≡ Ok (labels_in text.now)) }
 {
     let mut told = Vec::new(alloc);
-    let mut names = Names::new(alloc);
+    let mut names = first_names(alloc, text)?;
     let mut counter = LocationCounter::new();
     let mut rest = text;
     while let Some((line, after)) = next_line(rest) {

@@ -23,6 +23,6 @@ loop-place-preserved c =
       text = text_more c.args.bank words place c.loop-place.read.follows c.loop-place.read.wanted c.loop-place.read.extracode word _ _ _
           h.follows h.wanted h.extracode is h.text c.in_ok-push_place_said.ensures;
       follows = follows_next words place c.read_next-read.result.follows word is next.follows;
-      wanted = wanted_next words place c.loop-place.read.wanted c.read_next-read.result.wanted word h.wanted is next.wanted;
+      wanted = wanted_next words place c.loop-place.read.wanted c.loop-place.read.extracode c.read_next-read.result.wanted word h.wanted h.extracode is next.wanted;
       extracode = extracode_next words place c.loop-place.read.extracode c.read_next-read.result.extracode word h.extracode is next.extracode;
     }

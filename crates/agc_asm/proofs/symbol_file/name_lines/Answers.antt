@@ -4,7 +4,7 @@ use Rattle.agc_asm.proofs.symbol_file.name_lines.Goals as goal
 
 pub loop-line-init : goal.loop-line-init
 loop-line-init c = record {
-  told = first_told c.args.text.now _ _ _ c.new-names.ensures c.new-counter.ensures.start c.new-told.ensures.items;
+  told = first_told c.args.text.now _ _ _ c.in_ok-names.ensures c.new-counter.ensures.start c.new-told.ensures.items;
   at = c.new-counter.ensures.range;
 }
 

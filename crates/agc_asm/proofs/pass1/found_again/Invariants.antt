@@ -1,0 +1,15 @@
+use Rattle.std.specs.Prelude.{◌≡◌, length}
+use Rattle.agc_word.specs.Text.{lines_of}
+use Rattle.agc_asm.specs.LocationCounter.{IsAt, first_cursor}
+use Rattle.agc_asm.specs.Name.{naming_of}
+use Rattle.agc_asm.specs.Source.{found_from}
+use Rattle.agc_asm.proofs.pass1.found_again.Given as goal
+
+abbrev pub invariant-loop-line : goal.invariant-loop-line
+invariant-loop-line l = record {
+  same : found_from (naming_of l.names) l.counter (lines_of l.rest) ≡ found_from (naming_of l.fn.known) first_cursor (lines_of l.fn.text);
+  at : IsAt l.counter.at;
+}
+
+abbrev pub decreases-loop-line : goal.decreases-loop-line
+decreases-loop-line l = length l.rest

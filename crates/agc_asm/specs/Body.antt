@@ -1,0 +1,144 @@
+-- What a line of a source does: its operation and operands, without its name and its comment.
+use Rattle.std.specs.Prelude.{◌≡◌, ℕ, ◌==◌, Bool, true, false, List, [], ◌∷◌, take, drop, position, find, codes}
+use Rattle.std.specs.Prelude.{Option, Some, None, is_some, if◌then◌else◌}
+use Rattle.std.specs.Str.{bytes_eq}
+use Rattle.agc_listing.specs.Number.{begins_with_minus, offset_said}
+use Rattle.agc_listing.specs.Text.{body_of, label_of, said_by}
+use Rattle.agc_asm.specs.declared.alias.Alias.{Alias}
+use Rattle.agc_asm.specs.declared.alias.Alias.TheVariants as alias
+
+-- a comment begins at `#`, also within a word
+abbrev pub is_hash_byte : ℕ → Bool
+is_hash_byte b = b == 0x23
+
+abbrev pub comment_cut : Option ℕ → List ℕ → List (List ℕ) → List (List ℕ)
+comment_cut (Some at) word words = if at == 0 then [] else take at word ∷ []
+comment_cut None word words = word ∷ words
+
+unfoldable pub uncommented : List (List ℕ) → List (List ℕ)
+uncommented [] = []
+uncommented (word ∷ words) = comment_cut (position is_hash_byte word) word (uncommented words)
+
+-- the words of a text before its comment
+unfoldable pub tokens : List ℕ → List (List ℕ)
+tokens text = uncommented (said_by text)
+
+-- In a line without a name, a sign and digits before the operation mean nothing: they say how far the line is from a
+-- name.
+abbrev pub without_adornment : List (List ℕ) → List (List ℕ)
+without_adornment [] = []
+without_adornment (word ∷ words) = if is_some (offset_said word) then words else word ∷ words
+
+abbrev pub body_by : Option (List ℕ) → List (List ℕ) → List (List ℕ)
+body_by (Some label) words = words
+body_by None words = without_adornment words
+
+unfoldable pub body_in : List ℕ → List (List ℕ)
+body_in line = body_by (label_of line) (uncommented (body_of line))
+
+-- Other names of orders, some with an operand of their own.
+
+unfoldable pub alias_name : Alias → List ℕ
+alias_name alias.Caf = codes "CAF"
+alias_name alias.Cae = codes "CAE"
+alias_name alias.Tcr = codes "TCR"
+alias_name alias.Ndx = codes "NDX"
+alias_name alias.Msk = codes "MSK"
+alias_name alias.Noop = codes "NOOP"
+alias_name alias.Ovsk = codes "OVSK"
+alias_name alias.Return = codes "RETURN"
+alias_name alias.Xxalq = codes "XXALQ"
+alias_name alias.Xlq = codes "XLQ"
+alias_name alias.Tcaa = codes "TCAA"
+alias_name alias.Dtcb = codes "DTCB"
+alias_name alias.Dtcf = codes "DTCF"
+alias_name alias.Zl = codes "ZL"
+alias_name alias.Zq = codes "ZQ"
+alias_name alias.Com = codes "COM"
+alias_name alias.Dcom = codes "DCOM"
+alias_name alias.Double = codes "DOUBLE"
+alias_name alias.Ddoubl = codes "DDOUBL"
+alias_name alias.Square = codes "SQUARE"
+
+unfoldable pub all_aliases : List Alias
+all_aliases =
+    alias.Caf ∷ alias.Cae ∷ alias.Tcr ∷ alias.Ndx ∷ alias.Msk ∷ alias.Noop ∷ alias.Ovsk ∷
+    alias.Return ∷ alias.Xxalq ∷ alias.Xlq ∷ alias.Tcaa ∷ alias.Dtcb ∷ alias.Dtcf ∷ alias.Zl ∷
+    alias.Zq ∷ alias.Com ∷ alias.Dcom ∷ alias.Double ∷ alias.Ddoubl ∷ alias.Square ∷ []
+
+unfoldable pub alias_named : List ℕ → Option Alias
+alias_named name = find (λ a. bytes_eq (alias_name a) name) all_aliases
+
+-- the order of each
+unfoldable pub alias_order : Alias → List ℕ
+alias_order alias.Caf = codes "CA"
+alias_order alias.Cae = codes "CA"
+alias_order alias.Tcr = codes "TC"
+alias_order alias.Ndx = codes "INDEX"
+alias_order alias.Msk = codes "MASK"
+alias_order alias.Noop = codes "TCF"
+alias_order alias.Ovsk = codes "TS"
+alias_order alias.Return = codes "TC"
+alias_order alias.Xxalq = codes "TC"
+alias_order alias.Xlq = codes "TC"
+alias_order alias.Tcaa = codes "TS"
+alias_order alias.Dtcb = codes "DXCH"
+alias_order alias.Dtcf = codes "DXCH"
+alias_order alias.Zl = codes "LXCH"
+alias_order alias.Zq = codes "QXCH"
+alias_order alias.Com = codes "CS"
+alias_order alias.Dcom = codes "DCS"
+alias_order alias.Double = codes "AD"
+alias_order alias.Ddoubl = codes "DAS"
+alias_order alias.Square = codes "MP"
+
+-- its operand, if it takes none in the source: an address, or for NOOP the next place
+unfoldable pub alias_operand : Alias → Option (List ℕ)
+alias_operand alias.Caf = None
+alias_operand alias.Cae = None
+alias_operand alias.Tcr = None
+alias_operand alias.Ndx = None
+alias_operand alias.Msk = None
+alias_operand alias.Noop = Some (codes "+1")
+alias_operand alias.Ovsk = Some (codes "0")
+alias_operand alias.Return = Some (codes "2")
+alias_operand alias.Xxalq = Some (codes "0")
+alias_operand alias.Xlq = Some (codes "1")
+alias_operand alias.Tcaa = Some (codes "5")
+alias_operand alias.Dtcb = Some (codes "5")
+alias_operand alias.Dtcf = Some (codes "4")
+alias_operand alias.Zl = Some (codes "7")
+alias_operand alias.Zq = Some (codes "7")
+alias_operand alias.Com = Some (codes "0")
+alias_operand alias.Dcom = Some (codes "0")
+alias_operand alias.Double = Some (codes "0")
+alias_operand alias.Ddoubl = Some (codes "0")
+alias_operand alias.Square = Some (codes "0")
+
+-- a minus before an operation is no part of its name
+abbrev pub without_minus : List ℕ → List ℕ
+without_minus [] = []
+without_minus (b ∷ bs) = if b == 0x2D then bs else b ∷ bs
+
+abbrev pub has_minus : List (List ℕ) → Bool
+has_minus [] = false
+has_minus (word ∷ words) = begins_with_minus word
+
+abbrev pub alias_in : List (List ℕ) → Option Alias
+alias_in [] = None
+alias_in (word ∷ words) = alias_named (without_minus word)
+
+-- An order that has its operand takes no other: with one it has too many, and is refused for that.
+abbrev pub operand_spelled : Option (List ℕ) → List (List ℕ) → List (List ℕ)
+operand_spelled None words = words
+operand_spelled (Some operand) [] = operand ∷ []
+operand_spelled (Some operand) (word ∷ words) = codes "0" ∷ codes "0" ∷ codes "0" ∷ []
+
+abbrev pub spelled_by : Option Alias → List ℕ → List (List ℕ) → List (List ℕ)
+spelled_by (Some a) word words = alias_order a ∷ operand_spelled (alias_operand a) words
+spelled_by None word words = word ∷ words
+
+-- the words of a line with the order's own name and operand, and without the minus before it
+unfoldable pub spelled : List (List ℕ) → List (List ℕ)
+spelled [] = []
+spelled (word ∷ words) = spelled_by (alias_named (without_minus word)) (without_minus word) words

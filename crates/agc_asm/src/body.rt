@@ -1,0 +1,140 @@
+//! Splits a line of a source: its name, its operation, and the words of its operand.
+ghost use Rattle.std.specs.Prelude.{◌≡◌, ◌<◌, ◌∷◌, [], length, position, option_map, MatchOption, IfSome, codes, true, false};
+ghost use Rattle.agc_listing.specs.Number.{begins_with_minus};
+ghost use Rattle.agc_listing.specs.Text.{body_of, label_of, only_of, said_by};
+ghost use Rattle.agc_asm.specs.Body.{
+  alias_in,
+  alias_named,
+  alias_operand,
+  body_in,
+  has_minus,
+  is_hash_byte,
+  operand_spelled,
+  spelled,
+  spelled_by,
+  tokens,
+  uncommented,
+  without_adornment,
+  without_minus,
+};
+
+use crate::alias::Alias;
+use agc_listing::{cut_label, next_said, offset_said};
+
+/// The operation of a line and what follows it.
+#[derive(Clone, Copy)]
+pub(crate) struct Operation<'a> {
+    /// A minus stands before it: its words are complemented.
+    pub minus: bool,
+    /// The name in the source, if it is another name of an order.
+    pub alias: Option<Alias>,
+    /// The order's own name, or the directive.
+    pub word: &'a [u8],
+    /// The operand.
+    pub rest: &'a [u8],
+}
+
+/// Returns the first word of a text before its comment, and what follows it; `None` if there is no word.
+#[tactic(auto, unfolding(crate::specs::Body::tokens, crate::specs::Body::uncommented))]
+pub(crate) fn next_token(text: &[u8]) -> Option<(&[u8], &[u8])>
+    ensures { MatchOption result (tokens text.now ≡ [])
+        (λ cut. tokens text.now ≡ cut.0.now ∷ tokens cut.1.now) }
+{
+    let (word, rest) = next_said(text)?;
+    match first_hash(word) {
+        None => Some((word, rest)),
+        Some(0) => None,
+        Some(at) => Some((&word[..at], &[])),
+    }
+}
+
+fn first_hash(word: &[u8]) -> Option<usize>
+    ensures hash { result ≡ position is_hash_byte word.now }
+    ensures bound { IfSome result (λ at. at < length word.now) }
+{
+    word.iter().position(|b| *b == b'#')
+}
+
+/// Returns the only word of a text before its comment.
+pub(crate) fn only_token(text: &[u8]) -> Option<&[u8]>
+    ensures { option_map (λ word. word.now) result ≡ only_of (tokens text.now) }
+{
+    let (word, rest) = next_token(text)?;
+    match next_token(rest) {
+        Some(_) => None,
+        None => Some(word),
+    }
+}
+
+/// Returns the name of a line, if it has one, and its operation with the operand.
+#[tactic(auto, unfolding(crate::specs::Body::body_in, crate::specs::Body::tokens))]
+pub(crate) fn cut_line(line: &[u8]) -> (Option<&[u8]>, &[u8])
+    ensures label { option_map (λ label. label.now) result.0 ≡ label_of line.now }
+    ensures body { tokens result.1.now ≡ body_in line.now }
+{
+    let (label, body) = cut_label(line);
+    match label {
+        Some(_) => (label, body),
+        None => (None, without_adornment(body)),
+    }
+}
+
+/// Returns the operation of a line without a name: what follows a sign and digits.
+fn without_adornment(body: &[u8]) -> &[u8]
+    ensures { tokens result.now ≡ without_adornment (tokens body.now) }
+{
+    match next_token(body) {
+        Some((word, rest)) if offset_said(word).is_some() => rest,
+        _ => body,
+    }
+}
+
+/// Returns the operation of a line, spelled with the order's own name and operand; `None` if there is no word.
+#[tactic(auto, unfolding(crate::specs::Body::spelled))]
+pub(crate) fn operation_in(body: &[u8]) -> Option<Operation<'_>>
+    ensures spelled { MatchOption result (spelled (tokens body.now) ≡ [])
+        (λ op. spelled (tokens body.now) ≡ op.word.now ∷ tokens op.rest.now) }
+    ensures minus { IfSome result (λ op. op.minus ≡ has_minus (tokens body.now)) }
+    ensures alias { IfSome result (λ op. op.alias ≡ alias_in (tokens body.now)) }
+{
+    let (first, rest) = next_token(body)?;
+    let word = without_minus(first);
+    let alias = Alias::from_name(word);
+    let minus = matches!(first, [b'-', ..]);
+    Some(match alias {
+        Some(alias) => Operation {
+            minus,
+            alias: Some(alias),
+            word: alias.order().as_bytes(),
+            rest: operand_spelled(alias, rest),
+        },
+        None => Operation {
+            minus,
+            alias: None,
+            word,
+            rest,
+        },
+    })
+}
+
+fn without_minus(word: &[u8]) -> &[u8]
+    ensures { result.now ≡ without_minus word.now }
+{
+    match word {
+        [b'-', name @ ..] => name,
+        _ => word,
+    }
+}
+
+/// Returns the operand of an alias.
+fn operand_spelled(alias: Alias, rest: &[u8]) -> &[u8]
+    ensures { tokens result.now ≡ operand_spelled (alias_operand alias) (tokens rest.now) }
+{
+    let Some(operand) = alias.operand() else {
+        return rest;
+    };
+    match next_token(rest) {
+        Some(_) => b"0 0 0",
+        None => operand.as_bytes(),
+    }
+}
