@@ -34,7 +34,7 @@ unfoldable pub word_with_parity : ℕ → List ℕ
 word_with_parity word =
     codes " is " ++ octal_digits 5 (pattern_of 15 (narrow_number (word / 2)))
     ++ codes " with parity bit " ++ decimal (word % 2)
-    ++ codes ": " ++ decimal (count_ones word) ++ codes " one bits, and they should be odd\n"
+    ++ codes ": " ++ decimal (count_ones word) ++ codes " one bits; the count must be odd\n"
 
 -- a place as listings name it, and its sixteen bits in the file
 unfoldable pub bad_word_text : ℕ → ℕ → ℕ → List ℕ
@@ -49,12 +49,12 @@ parity_why file bank offset =
 
 unfoldable pub rope_why : List ℕ → RopeFault → List ℕ
 rope_why file rope.Empty =
-    codes "    the file has no bytes, and a rope has a word at least: two bytes\n"
+    codes "    the file is empty; a rope has at least one word, of two bytes\n"
 rope_why file rope.OddLength =
-    codes "    the file has " ++ decimal (length file) ++ codes " bytes, and each word has two\n"
+    codes "    the file has " ++ decimal (length file) ++ codes " bytes; the count must be even, two bytes a word\n"
 rope_why file rope.TooLong =
     codes "    the file has " ++ decimal (length file)
-    ++ codes " bytes, and 73728 are the most: 36 banks of 1024 words\n"
+    ++ codes " bytes; at most 73728 are allowed: 36 banks of 1024 words\n"
 rope_why file (rope.Parity bank offset) = parity_why file bank offset
 rope_why file rope.Memory = codes ""
 

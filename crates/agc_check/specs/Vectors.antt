@@ -35,7 +35,7 @@ unfoldable pub empty_vectors_text : List Number → List ℕ
 empty_vectors_text words = first_vectors_text 10 words
 
 unfoldable pub remark_head : List ℕ
-remark_head = codes "    at these interrupt vectors stands +0, and a run goes astray there:"
+remark_head = codes "    these interrupt vectors are empty, and an interrupt there runs off into the registers:"
 
 -- the remark on the vectors that hold +0, when there are any
 unfoldable pub vectors_remark : List Number → List ℕ

@@ -78,6 +78,6 @@ fn push_bad_key(alloc: Global, text: &mut String, word: &[u8]) -> Result<(), All
         alloc,
         text,
         word,
-        " belongs into the script: the lines `pro down` and `pro up` press it and let it go\n",
+        " is not a key of this file: press it in the script, by `pro down` and `pro up`\n",
     )
 }

@@ -8,11 +8,14 @@ use crate::remarks::{push_quoted, push_quoted_then, words_of};
 use crate::reports::Report;
 use crate::shown::push_line;
 use crate::source_remark::push_source_why;
-use agc_asm::{AssemblyFault, SourceFault, assemble};
+use agc_asm::{AssemblyFault, SourceFault, assemble, faulty_lines};
 use agc_listing::{LineFault, is_listed};
 use agc_store::RopeForm;
 use agc_word::without_return;
 use std::alloc::{AllocError, Global};
+
+/// The most faulty lines that a report shows.
+const MOST_LINES: usize = 20;
 
 /// Checks the text of a rope as `weave` reads it: places and words, or names, orders and directives. The report says
 /// that it has no fault, or gives the first fault of the first faulty line found and what is wrong there. Fails if out
@@ -33,8 +36,8 @@ pub fn check_listing(alloc: Global, file: &[u8]) -> Result<Report, AllocError>
         Err(AssemblyFault::Memory) => Err(AllocError),
         Err(AssemblyFault::Line(number, fault)) => {
             push_listing_fault(&mut text, number, fault)?;
-            let remark = remark(alloc, file, number, fault)?;
-            text.push_str(remark.as_str())?;
+            let remarks = remarks(alloc, file, number, fault)?;
+            text.push_str(remarks.as_str())?;
             Ok(Report {
                 text,
                 is_sound: false,
@@ -56,6 +59,24 @@ fn push_listing_fault(
     write!(text, "text line {number}: ")?;
     text.push_str(fault.text())?;
     text.push_str("\n")
+}
+
+/// Returns the remark on the first faulty line, and below it the other faulty lines with theirs.
+fn remarks(
+    alloc: Global,
+    file: &[u8],
+    number: usize,
+    fault: SourceFault,
+) -> Result<String, AllocError> {
+    let mut text = remark(alloc, file, number, fault)?;
+    for faulty in faulty_lines(alloc, file, MOST_LINES)?.iter() {
+        if faulty.line != number {
+            push_listing_fault(&mut text, faulty.line, faulty.fault)?;
+            let remark = remark(alloc, file, faulty.line, faulty.fault)?;
+            text.push_str(remark.as_str())?;
+        }
+    }
+    Ok(text)
 }
 
 /// Returns the faulty line, and below it the word that is wrong and what is expected.
@@ -106,7 +127,7 @@ fn push_why(text: &mut String, fault: LineFault, words: &[&[u8]]) -> Result<(), 
         LineFault::BadWord => push_bad_word(text, words),
         LineFault::NamedTwice => {
             push_word(text, words, 0)?;
-            text.push_str(" is named by an earlier line too: each place has one line\n")
+            text.push_str(" has a word from an earlier line: write each place once\n")
         }
     }
 }
@@ -125,19 +146,19 @@ fn push_not_text(text: &mut String, words: &[&[u8]]) -> Result<(), AllocError> {
         .iter()
         .position(|word| word.iter().any(|b| *b < 0x20 || *b >= 0x7F));
     push_word(text, words, place.unwrap_or(words.len()))?;
-    text.push_str(" has a byte that is neither a tab nor one that prints in ASCII\n")
+    text.push_str(" has a byte that is neither a tab nor printable ASCII\n")
 }
 
 fn push_bad_address(text: &mut String, words: &[&[u8]]) -> Result<(), AllocError> {
     push_word(text, words, 0)?;
     text.push_str(
-        " is no place of a rope: 4000 to 7777, or a bank from 00 to 43 and an address, as 04,2000; a comment begins with #\n",
+        " is not a place of a rope: 4000 to 7777, or a bank from 00 to 43 and an address, as 04,2000; start comments with #\n",
     )
 }
 
 fn push_bad_word(text: &mut String, words: &[&[u8]]) -> Result<(), AllocError> {
     if words.len() > 1 {
-        push_quoted_then(text, words[1], " is no word: five octal digits\n")
+        push_quoted_then(text, words[1], " is not a word: five octal digits\n")
     } else {
         text.push_str("the word is missing: five octal digits after the place\n")
     }

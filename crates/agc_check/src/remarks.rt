@@ -52,7 +52,7 @@ fn push_why(
 {
     match fault.kind {
         FaultKind::LineTooLong => push_too_long(text, line.len()),
-        FaultKind::NotAscii => push_not_ascii(text, words),
+        FaultKind::NotAscii => push_not_ascii(text, line, words),
         FaultKind::BadCycle => push_bad_cycle(text, words),
         FaultKind::OutOfOrder => push_out_of_order(text, words, last_start(file, fault.line - 1)),
         FaultKind::UnknownWord => push_unknown(alloc, text, words),
@@ -114,20 +114,25 @@ fn command_place(words: &[&[u8]]) -> usize
 fn push_too_long(text: &mut String, bytes: usize) -> Result<(), AllocError> {
     writeln!(
         text,
-        "the line has {bytes} bytes, and {LONGEST_LINE} are the most"
+        "the line has {bytes} bytes; at most {LONGEST_LINE} are allowed, comments included"
     )
 }
 
 fn push_too_many(text: &mut String) -> Result<(), AllocError> {
     writeln!(
         text,
-        "a script has {MOST_EVENTS} events at most, and with this line it has more"
+        "a script has at most {MOST_EVENTS} events; this line makes it more"
     )
 }
 
-fn push_not_ascii(text: &mut String, words: &[&[u8]]) -> Result<(), AllocError> {
-    push_subject(text, word_beyond_ascii(words), "a byte of the line")?;
-    text.push_str(" is not ASCII: no byte of a script is 200 octal or above\n")
+fn push_not_ascii(text: &mut String, line: &[u8], words: &[&[u8]]) -> Result<(), AllocError> {
+    push_subject(text, word_beyond_ascii(words), "a word of the line")?;
+    let before = line.iter().take_while(|b| **b < 0o200).count();
+    let number = before.saturating_add(1);
+    writeln!(
+        text,
+        " is not ASCII, from byte {number} of the line on: scripts are ASCII, comments too"
+    )
 }
 
 /// Returns the first word with a byte that is not ASCII.
@@ -144,7 +149,7 @@ fn push_bad_cycle(text: &mut String, words: &[&[u8]]) -> Result<(), AllocError> 
     push_subject(text, word_of_no_cycle(words), "a word of the line")?;
     writeln!(
         text,
-        " is no cycle: 1 to {MOST_CYCLE_DIGITS} decimal digits, {LAST_CYCLE} at most"
+        " is not a cycle: 1 to {MOST_CYCLE_DIGITS} decimal digits, at most {LAST_CYCLE}"
     )
 }
 
@@ -168,7 +173,7 @@ fn push_out_of_order(text: &mut String, words: &[&[u8]], last: u64) -> Result<()
     }
     writeln!(
         text,
-        " is too early: the event line before starts at {last}"
+        " is too early: the event line before starts at {last}, and cycles must rise"
     )
 }
 
@@ -183,16 +188,22 @@ fn push_unknown(alloc: Global, text: &mut String, words: &[&[u8]]) -> Result<(),
         Some(command) if given == command.argument_count() => {
             push_unknown_name(alloc, text, command, words[words.len() - 1])
         }
+        Some(_) if has_comment(&words[place..]) => text.push_str(
+            "a comment needs a line of its own\n",
+        ),
         Some(command) => push_wrong_count(text, command, given),
     }
+}
+
+/// Returns whether a word begins like a comment.
+fn has_comment(words: &[&[u8]]) -> bool {
+    words.iter().any(|word| word.first() == Some(&b'#'))
 }
 
 /// Appends that a word is not a command, and the nearest one.
 fn push_no_command(alloc: Global, text: &mut String, word: &[u8]) -> Result<(), AllocError> {
     if word == EVERY.as_bytes() {
-        text.push_str(
-            "`every` stands first, in place of the cycle: `every N FROM TO` and the command\n",
-        )
+        text.push_str("`every` replaces the cycle: write `every N FROM TO`, then the command\n")
     } else {
         let names = Command::ALL.map(|command| command.name().as_bytes());
         push_nearest(alloc, text, word, "command", &names)
@@ -201,7 +212,8 @@ fn push_no_command(alloc: Global, text: &mut String, word: &[u8]) -> Result<(), 
 
 /// Appends how a command is written, if it has too many or too few words after it.
 fn push_wrong_count(text: &mut String, command: Command, given: usize) -> Result<(), AllocError> {
-    push_quoted_then(text, command.usage().as_bytes(), " is right: here ")?;
+    text.push_str("write ")?;
+    push_quoted_then(text, command.usage().as_bytes(), ": here ")?;
     match given {
         1 => text.push_str("is 1 word after the command\n"),
         _ => writeln!(text, "are {given} words after the command"),
@@ -211,7 +223,7 @@ fn push_wrong_count(text: &mut String, command: Command, given: usize) -> Result
 /// Appends that the command is missing, and with `every` perhaps some of its cycles.
 fn push_missing(text: &mut String, words: &[&[u8]]) -> Result<(), AllocError> {
     if is_every(words) {
-        text.push_str("`every N FROM TO` wants these three cycles and a command after them\n")
+        text.push_str("`every N FROM TO` needs these three cycles and a command after them\n")
     } else {
         text.push_str("the command is missing: ")?;
         for (place, command) in Command::ALL.iter().enumerate() {
@@ -241,7 +253,7 @@ fn push_unknown_name(
             alloc,
             text,
             word,
-            " has no code: the lines `pro down` and `pro up` press it and let it go\n",
+            " has no key code: use `pro down` and `pro up`\n",
         ),
         Command::Pro => push_nearest(
             alloc,
@@ -257,11 +269,10 @@ fn push_unknown_name(
             "kind of pulse",
             &PULSES.map(|kind| kind.name().as_bytes()),
         ),
-        Command::Input | Command::Raise | Command::Poke => push_quoted_then(
-            text,
-            command.usage().as_bytes(),
-            " is right, and the line has another word\n",
-        ),
+        Command::Input | Command::Raise | Command::Poke => {
+            text.push_str("write ")?;
+            push_quoted_then(text, command.usage().as_bytes(), "\n")
+        }
     }
 }
 
@@ -291,7 +302,7 @@ fn is_pro(word: &[u8]) -> bool {
     word.eq_ignore_ascii_case(b"pro") || word.eq_ignore_ascii_case(b"proceed")
 }
 
-/// Appends that a word is not a name of this kind, and the name that was probably meant.
+/// Appends that a word is not a name of this kind, and asks whether the nearest name was meant.
 pub(crate) fn push_nearest(
     alloc: Global,
     text: &mut String,
@@ -299,13 +310,15 @@ pub(crate) fn push_nearest(
     what: &str,
     names: &[&[u8]],
 ) -> Result<(), AllocError> {
-    push_quoted_then(text, word, " is no ")?;
+    text.push_str("unknown ")?;
     text.push_str(what)?;
+    text.push_str(" ")?;
+    push_quoted(text, word)?;
     if names.is_empty() {
         text.push_str("\n")
     } else {
-        text.push_str("; the nearest is ")?;
-        push_quoted_then(text, nearest(alloc, word, names)?, "\n")
+        text.push_str("; did you mean ")?;
+        push_quoted_then(text, nearest(alloc, word, names)?, "?\n")
     }
 }
 
@@ -313,12 +326,12 @@ fn push_bad_number(text: &mut String, words: &[&[u8]]) -> Result<(), AllocError>
     match word_of_no_number(words) {
         Some((word, range)) => {
             push_quoted(text, word)?;
-            write!(text, " is no number: 1 to {MOST_DIGITS} digits, ")?;
+            write!(text, " is not a number: 1 to {MOST_DIGITS} digits, ")?;
             push_range(text, range)
         }
         None => writeln!(
             text,
-            "a word of the line is no number: 1 to {MOST_DIGITS} digits of its base"
+            "a word of the line is not a number: 1 to {MOST_DIGITS} digits of its base"
         ),
     }
 }
@@ -357,7 +370,7 @@ fn range_at(words: &[&[u8]], place: usize) -> Option<NumberRange> {
 fn push_out_of_range(text: &mut String, words: &[&[u8]]) -> Result<(), AllocError> {
     if is_every(words) && words.len() > 3 {
         if read_cycle(words[1]) == Some(0) {
-            return push_quoted_then(text, words[1], " is no distance of cycles: 1 at least\n");
+            return push_quoted_then(text, words[1], " is not a distance of cycles: at least 1\n");
         }
         if read_cycle(words[3]) < read_cycle(words[2]) {
             push_quoted_then(text, words[3], " is too early: ")?;

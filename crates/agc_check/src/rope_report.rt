@@ -80,17 +80,17 @@ fn push_why(text: &mut String, file: &[u8], fault: RopeFault) -> Result<(), Allo
     let bytes = file.len();
     match fault {
         RopeFault::Empty => {
-            text.push_str("    the file has no bytes, and a rope has a word at least: two bytes\n")
+            text.push_str("    the file is empty; a rope has at least one word, of two bytes\n")
         }
         RopeFault::OddLength => {
             writeln!(
                 text,
-                "    the file has {bytes} bytes, and each word has two"
+                "    the file has {bytes} bytes; the count must be even, two bytes a word"
             )
         }
         RopeFault::TooLong => writeln!(
             text,
-            "    the file has {bytes} bytes, and 73728 are the most: 36 banks of 1024 words"
+            "    the file has {bytes} bytes; at most 73728 are allowed: 36 banks of 1024 words"
         ),
         RopeFault::Parity { bank, offset } => push_parity_why(text, file, bank, offset),
         RopeFault::Memory => Ok(()),
@@ -131,7 +131,7 @@ fn push_word(text: &mut String, word: u16) -> Result<(), AllocError>
     let (parity, ones) = (word % 2, word.count_ones());
     writeln!(
         text,
-        " is {digits} with parity bit {parity}: {ones} one bits, and they should be odd"
+        " is {digits} with parity bit {parity}: {ones} one bits; the count must be odd"
     )
 }
 

@@ -1,7 +1,8 @@
 //! Explains which word of a source line is at fault: the name in its first column, its order, or its operand.
+use crate::names::nearest;
 use crate::remarks::{push_nearest, push_quoted, push_quoted_then, push_subject};
 use crate::shown::push_bytes;
-use agc_asm::{Directive, Names, SourceFault};
+use agc_asm::{Alias, Directive, SourceFault, is_order};
 use agc_listing::{cut_label, is_listed, is_name, next_said};
 use agc_order::{Basic, Extracode};
 use agc_word::without_return;
@@ -17,15 +18,15 @@ pub(crate) fn push_source_why(
 ) -> Result<(), AllocError> {
     let (label, body) = cut_label(line);
     let Some((order, operand)) = next_said(body) else {
-        return text.push_str("the order is missing: it stands after the name\n");
+        return push_missing(text, label);
     };
     match fault {
-        SourceFault::NameTwice => push_taken(alloc, text, file, label.unwrap_or(order)),
+        SourceFault::NameTwice => push_taken(text, file, label.unwrap_or(order)),
         SourceFault::BadName | SourceFault::MisplacedName => push_label(text, label, order),
-        SourceFault::UnknownOrder => push_no_order(alloc, text, order),
+        SourceFault::UnknownOrder => push_no_order(alloc, text, label, order),
         SourceFault::UnknownName => push_no_name(alloc, text, file, operand),
         SourceFault::ExtracodeAlone => push_order(text, order, "an extracode"),
-        SourceFault::BasicAfterExtend => push_order(text, order, "no extracode"),
+        SourceFault::BasicAfterExtend => push_order(text, order, "a basic order"),
         SourceFault::Full => push_order(text, order, "past the last place"),
         SourceFault::WrongMemory => push_order(text, order, "in the other memory"),
         SourceFault::Listed(_) => push_order(text, order, "at a place that has a word already"),
@@ -37,7 +38,8 @@ pub(crate) fn push_source_why(
         | SourceFault::AnotherBank
         | SourceFault::OtherOrder
         | SourceFault::BadPlace
-        | SourceFault::BadNumber => push_operand(text, order, operand),
+        | SourceFault::BadNumber
+        | SourceFault::OutOfRange => push_operand(text, order, operand),
     }
 }
 
@@ -48,30 +50,54 @@ fn push_label(text: &mut String, label: Option<&[u8]>, order: &[u8]) -> Result<(
     push_quoted_then(text, order, "\n")
 }
 
-/// Appends who has a name already: the computer itself, or an earlier line.
-fn push_taken(
-    alloc: Global,
-    text: &mut String,
-    file: &[u8],
-    name: &[u8],
-) -> Result<(), AllocError> {
+/// Appends which earlier line has a name.
+fn push_taken(text: &mut String, file: &[u8], name: &[u8]) -> Result<(), AllocError> {
     push_quoted(text, name)?;
-    if Names::new(alloc).get(name).is_some() {
-        return text.push_str(" is one of the computer's own names\n");
-    }
     let lines = file.split(|b| *b == b'\n');
     let number = lines.take_while(|line| name_of(line) != Some(name)).count() + 1;
     writeln!(text, " is the name of line {number}")
 }
 
-/// Appends that the order of a line is unknown, and the nearest order or directive.
-fn push_no_order(alloc: Global, text: &mut String, order: &[u8]) -> Result<(), AllocError> {
-    let names = orders_and_directives(alloc)?;
+/// Appends that a line has no order, or has it in the first column.
+fn push_missing(text: &mut String, label: Option<&[u8]>) -> Result<(), AllocError> {
+    match label {
+        Some(label) if is_operation(label) => push_first_column(text, label),
+        _ => text.push_str("the order is missing: write it after the name\n"),
+    }
+}
+
+/// Appends that an order or directive is in the first column.
+fn push_first_column(text: &mut String, label: &[u8]) -> Result<(), AllocError> {
+    push_quoted(text, label)?;
+    text.push_str(" is in the first column, where names are: begin the line with a blank\n")
+}
+
+/// Returns whether a word is an order or a directive.
+fn is_operation(word: &[u8]) -> bool {
+    is_order(word) || Alias::from_name(word).is_some() || Directive::from_name(word).is_some()
+}
+
+/// Appends that the order of a line is unknown, and the nearest order or directive, or that it is in the first column.
+fn push_no_order(
+    alloc: Global,
+    text: &mut String,
+    label: Option<&[u8]>,
+    order: &[u8],
+) -> Result<(), AllocError> {
+    if let Some(label) = label {
+        if is_operation(label) {
+            return push_first_column(text, label);
+        }
+    }
+    let mut names = orders(alloc)?;
+    for directive in Directive::ALL {
+        names.push(directive.name().as_bytes())?;
+    }
     push_nearest(alloc, text, order, "order or directive", names.as_slice())
 }
 
-/// Returns all orders and directives, with which a line may begin after its name.
-fn orders_and_directives(alloc: Global) -> Result<Vec<&'static [u8]>, AllocError> {
+/// Returns the mnemonics of all orders.
+fn orders(alloc: Global) -> Result<Vec<&'static [u8]>, AllocError> {
     let mut names = Vec::new(alloc);
     for order in Basic::ALL {
         names.push(order.row().mnemonic.as_bytes())?;
@@ -79,10 +105,22 @@ fn orders_and_directives(alloc: Global) -> Result<Vec<&'static [u8]>, AllocError
     for order in Extracode::ALL {
         names.push(order.row().mnemonic.as_bytes())?;
     }
-    for directive in Directive::ALL {
-        names.push(directive.name().as_bytes())?;
+    for alias in Alias::ALL {
+        names.push(alias.name().as_bytes())?;
     }
     Ok(names)
+}
+
+/// Returns the question whether the mnemonic nearest to a word was meant: `did you mean CA?`. Fails if out of memory.
+pub fn nearest_order(alloc: Global, word: &[u8]) -> Result<String, AllocError> {
+    let mut text = String::new(alloc);
+    let names = orders(alloc)?;
+    if !names.is_empty() {
+        text.push_str("; did you mean ")?;
+        push_bytes(&mut text, nearest(alloc, word, names.as_slice())?)?;
+        text.push_str("?")?;
+    }
+    Ok(text)
 }
 
 /// Appends that no line has an operand's name, and the nearest name.
@@ -94,7 +132,7 @@ fn push_no_name(
 ) -> Result<(), AllocError> {
     let (name, _) = next_said(operand).unwrap_or((operand, operand));
     let names = names_of(alloc, file)?;
-    push_nearest(alloc, text, name, "name of a line", names.as_slice())
+    push_nearest(alloc, text, name, "name", names.as_slice())
 }
 
 /// Returns the names of a source's lines, in their order.

@@ -37,7 +37,9 @@ fn push_remark(text: &mut String, store: &Store) -> Result<(), AllocError>
 fn push_head(text: &mut String) -> Result<(), AllocError>
     ensures { OnOk result (string_bytes text.new ≡ string_bytes text.old ++ remark_head) }
 {
-    text.push_str("    at these interrupt vectors stands +0, and a run goes astray there:")
+    text.push_str(
+        "    these interrupt vectors are empty, and an interrupt there runs off into the registers:",
+    )
 }
 
 #[tactic(auto, unfolding(crate::specs::Vectors::has_empty_vector))]
