@@ -26,3 +26,5 @@ pub mod Alone
 pub mod Together
 pub mod Apart
 pub mod WatchedFilm
+pub mod TableLines
+pub mod Applied

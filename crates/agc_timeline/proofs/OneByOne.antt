@@ -7,12 +7,15 @@ use Rattle.std.proofs.lemmas.Slice.Eq.{bytes_eq-Decides}
 use Rattle.agc_machine.specs.Boundary.{boundary}
 use Rattle.agc_machine.specs.State.{State}
 use Rattle.agc_panel.specs.declared.watch_spec.WatchSpec.{WatchSpec}
-use Rattle.agc_trace.proofs.Lines.{IsWritten, appends_nothing, nothing_written, written_more, written_whole}
+use Rattle.agc_io.specs.Output.{IsBegun}
+use Rattle.agc_io.proofs.Begun.{begun_as}
+use Rattle.agc_trace.proofs.Lines.{IsWritten, appends_nothing, begun_next, nothing_written, written_more, written_whole}
 use Rattle.agc_timeline.specs.Changes.{Sight, changes, changes_in, is_in, shown_after, sight_of, sights_in}
 use Rattle.agc_timeline.specs.Lines.{change_text, changed_lines, changes_text, jobs_text, line_at, lines_at, lines_in, told_of}
 use Rattle.agc_timeline.specs.States.{states_of}
 use Rattle.agc_trace.specs.declared.span.Span.{Span}
-use Rattle.agc_timeline.proofs.Sights.{none_past, seen, sights_end, sights_go_on, unseen}
+use Rattle.agc_timeline.proofs.Sights.{none_past, seen, sights_by_first, sights_end, sights_go_on, unseen}
+use Rattle.agc_timeline.proofs.States.{states_by_first}
 
 -- a property on Ok implies a weaker one
 pub on_ok : {X Y A B : Type 0} (r : Result X Y) → (A → B) → OnOk r A → OnOk r B
@@ -80,6 +83,12 @@ module _ (span : Span) (spec : WatchSpec) where
       subst (λ (text : List ℕ). Appends known new text)
       (sym (ap (λ (xs : List Sight). told_of shown xs) (seen span spec s e) ∙ told_one shown (sight_of spec s))) h
 
+  pub begun_inside : (known new : Option (List ℕ)) (shown : List ℕ) (s : State) → is_in span s ≡ true → IsBegun known new (change_text shown (sight_of spec s)) →
+      IsBegun known new (told_of shown (sights_in span spec (s ∷ [])))
+  begun_inside known new shown s e h =
+      begun_as known new (change_text shown (sight_of spec s)) (told_of shown (sights_in span spec (s ∷ [])))
+      (sym (ap (λ (xs : List Sight). told_of shown xs) (seen span spec s e) ∙ told_one shown (sight_of spec s))) h
+
   pub shown_inside : (shown new : List ℕ) (s : State) → is_in span s ≡ true → new ≡ (sight_of spec s).text →
       new ≡ shown_after shown (sights_in span spec (s ∷ []))
   shown_inside shown new s e h = h ∙ sym (ap (λ (xs : List Sight). shown_after shown xs) (seen span spec s e))
@@ -121,6 +130,19 @@ module _ (span : Span) (spec : WatchSpec) where
       ∙ ap (λ (u : State). told_of shown one ++ left_of next u) (sym is) in
       written_more start now new (told_of shown one) (left_of next t) whole
       (subst (λ (text : List ℕ). IsWritten start now text whole) split h) k
+
+  -- a beginning of what is printed of a state
+  pub state_begun : (start now new : Option (List ℕ)) (shown : List ℕ) (s : State) (whole : List ℕ) → IsWritten start now (left_of shown s) whole →
+      IsBegun now new (told_of shown (sights_in span spec (s ∷ []))) → IsBegun start new whole
+  state_begun start now new shown s whole h k =
+      let later : List State = if is_some s.stopped then [] else states_of (boundary None s).0 in
+      let one = sights_in span spec (s ∷ []) in
+      let rest = told_of (shown_after shown one) (sights_in span spec later) in
+      let split : left_of shown s ≡ told_of shown one ++ rest =
+      ap (λ (ss : List State). told_of shown (sights_in span spec ss)) (states_by_first s)
+      ∙ ap (λ (xs : List Sight). told_of shown xs) (sights_by_first span spec s later)
+      ∙ told_append shown one (sights_in span spec later) in
+      begun_next start now new (told_of shown one) rest whole (subst (λ (text : List ℕ). IsWritten start now text whole) split h) k
 
   -- the last state is printed
   pub last_told : (start now new : Option (List ℕ)) (shown : List ℕ) (s : State) (whole : List ℕ) → is_some s.stopped ≡ true →

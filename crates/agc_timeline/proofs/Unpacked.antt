@@ -48,12 +48,12 @@ lines_join face =
 
 -- one frame, put over the lines before it, or over any lines if it is a keyframe
 laid_over : (whole : Bool) (shown before lines : List (List ℕ)) → map name_of shown ≡ map name_of lines → are_apart (map name_of lines) ≡ true →
-    (whole ≡ true) ⊎ (shown ≡ before) → fold with_line shown (lines_written whole before lines) ≡ lines
+    (whole ≡ true) ⊎ (shown ≡ before) → fold (with_line name_of) shown (lines_written whole before lines) ≡ lines
 laid_over whole shown before lines e h (inl k) =
-    ap (λ (b : Bool). fold with_line shown (lines_written b before lines)) k
-    ∙ ap (fold with_line shown) (all_written before lines ∙ sym (all_written shown lines)) ∙ laid true shown lines e h
+    ap (λ (b : Bool). fold (with_line name_of) shown (lines_written b before lines)) k
+    ∙ ap (fold (with_line name_of) shown) (all_written before lines ∙ sym (all_written shown lines)) ∙ laid name_of true shown lines e h
 laid_over whole shown before lines e h (inr k) =
-    ap (λ (olds : List (List ℕ)). fold with_line shown (lines_written whole olds lines)) (sym k) ∙ laid whole shown lines e h
+    ap (λ (olds : List (List ℕ)). fold (with_line name_of) shown (lines_written whole olds lines)) (sym k) ∙ laid name_of whole shown lines e h
 
 unpack_from : (place : ℕ) (shown before : List (List ℕ)) (frames : List Frame) → map name_of shown ≡ names →
     (is_keyframe place ≡ true) ⊎ (shown ≡ before) → unpacked_after shown (packed_from place before frames) ≡ told frames
@@ -61,7 +61,7 @@ unfolding packed_from unpacked_after
 unpack_from place shown before [] e k = refl
 unpack_from place shown before (frame ∷ frames) e k =
     let lines = panel_lines frame.panel in
-    let here : fold with_line shown (lines_written (is_keyframe place) before lines) ≡ lines =
+    let here : fold (with_line name_of) shown (lines_written (is_keyframe place) before lines) ≡ lines =
     laid_over (is_keyframe place) shown before lines (e ∙ sym (have_names frame.panel)) (are_named_apart frame.panel) k in
     ap (λ (ls : List (List ℕ)). (frame.cycle, concat ls) ∷ unpacked_after ls (packed_from (place + 1) lines frames)) here
     ∙ ap (λ (text : List ℕ). (frame.cycle, text) ∷ unpacked_after lines (packed_from (place + 1) lines frames)) (lines_join frame.panel)

@@ -10,6 +10,7 @@ pub mod KeyEvents
 pub mod Recording
 pub mod Watched
 pub mod Packed
+pub mod Printed
 pub mod Divergence
 pub mod Title
 pub mod Page

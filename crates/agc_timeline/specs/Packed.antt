@@ -47,15 +47,15 @@ unfoldable pub name_of : List ℕ → List ℕ
 name_of [] = []
 name_of (b ∷ bs) = if b == 32 then [] else b ∷ name_of bs
 
--- a line in place of the one with its name
-unfoldable pub with_line : List (List ℕ) → List ℕ → List (List ℕ)
-with_line lines line = map (λ old. if bytes_eq (name_of old) (name_of line) then line else old) lines
+-- a line in place of the one that has the same name
+unfoldable pub with_line : (List ℕ → List ℕ) → List (List ℕ) → List ℕ → List (List ℕ)
+with_line name lines line = map (λ old. if bytes_eq (name old) (name line) then line else old) lines
 
 -- written frames after a panel of these lines, unpacked: the cycle of each, and what it shows
 unfoldable pub unpacked_after : List (List ℕ) → List Packed → List (ℕ × List ℕ)
 unpacked_after before [] = []
 unpacked_after before (frame ∷ frames) =
-    let lines = fold with_line before frame.lines in
+    let lines = fold (with_line name_of) before frame.lines in
     (frame.cycle, concat lines) ∷ unpacked_after lines frames
 
 -- written frames, unpacked from a blank panel on

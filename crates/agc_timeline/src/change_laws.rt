@@ -1,12 +1,14 @@
 //! Laws of the changes of a run, each the contract of a function that does nothing. The code is proved equal to the
 //! definitions that these laws are about.
-ghost use Rattle.std.specs.Prelude.{◌≡◌, ◌≤◌, ℕ, []};
+ghost use Rattle.std.specs.Prelude.{◌≡◌, ◌≤◌, ◌<◌, ◌^◌, ℕ, [], flat_map, map};
 ghost use Rattle.agc_panel.specs.declared.watch_spec.WatchSpec.{WatchSpec};
 ghost use Rattle.agc_machine.specs.Laws.{after};
 ghost use Rattle.agc_machine.specs.State.{State};
 ghost use Rattle.agc_timeline.specs.ChangeLaws.{AreChanges, shown_at, tables_at};
-ghost use Rattle.agc_timeline.specs.Changes.{changes_in};
+ghost use Rattle.agc_timeline.specs.Changes.{Sight, changes_in};
 ghost use Rattle.agc_timeline.specs.Film.{film_of};
+ghost use Rattle.agc_timeline.specs.Lines.{jobs_text, lines_in};
+ghost use Rattle.agc_timeline.specs.Printed.{applied, jobs_printed, lines_up_to, printed_text};
 ghost use Rattle.agc_trace.specs.declared.span.Span.{Span};
 
 /// At each cycle of a span, from the first state in it on, the changes show the tables of the run's last state up to
@@ -24,6 +26,19 @@ pub fn what_is_shown_is_the_tables()
 pub fn each_entry_is_a_change()
     ensures { (span : Span) (spec : WatchSpec) (s : State)
         → AreChanges span.from span.to [] (changes_in span spec s) }
+{}
+
+/// The printed lines are those of the changes. Applied one after another, each in place of the line of the same entry,
+/// they give the lines of the tables after each change, and at each cycle those of the run's last state up to it.
+pub fn the_printed_lines_give_the_tables()
+    ensures text { (span : Span) (spec : WatchSpec) (s : State)
+        → jobs_text span spec s ≡ flat_map printed_text (jobs_printed span spec s) }
+    ensures changes { (span : Span) (spec : WatchSpec) (s : State) → spec.sets < 2 ^ 32
+        → applied (jobs_printed span spec s)
+        ≡ map (λ (sight : Sight). (sight.cycle, lines_in sight.text)) (changes_in span spec s) }
+    ensures tables { (span : Span) (spec : WatchSpec) (s : State) (n cycle : ℕ) → spec.sets < 2 ^ 32
+        → span.from ≤ (after n s).cycle → (after n s).cycle ≤ cycle → cycle ≤ span.to
+        → lines_up_to (applied (jobs_printed span spec s)) cycle ≡ lines_in (tables_at spec s cycle) }
 {}
 
 /// At each cycle of a part, its film shows the tables of the run's last state up to that cycle.

@@ -1,15 +1,15 @@
 //! Writes the tables of a run line by line as they change, so that memory does not grow with the run.
-ghost use Rattle.std.specs.Prelude.{◌≡◌, [], ◌∷◌, IfErr, IfOk, OnOk};
+ghost use Rattle.std.specs.Prelude.{◌≡◌, [], ◌∷◌, IfErr, OnErr, OnOk};
 ghost use Rattle.std.specs.Io.KnownBytes.{Appends, Keeps};
+ghost use Rattle.agc_io.specs.Output.{IsBegun};
 ghost use Rattle.agc_panel.specs.declared.watch_spec.WatchSpec.{WatchSpec};
-ghost use Rattle.agc_trace.specs.Cut.{IsCut};
 ghost use Rattle.agc_trace.specs.declared.tracing.TraceFault.TheVariants as fault;
 ghost use Rattle.agc_timeline.specs.Changes.{shown_after, sight_of, sights_in};
 ghost use Rattle.agc_timeline.specs.Lines.{change_text, jobs_text, told_of};
 ghost use Rattle.agc_timeline.specs.States.{states_of};
 
 use crate::shown::Shown;
-use agc_io::{Progress, report_at};
+use agc_io::{Progress, report_at, write_in_full};
 use agc_machine::{Machine, Stepped};
 use agc_panel::{CheckedSpec, Tables};
 use agc_trace::{Span, TraceFault};
@@ -28,7 +28,7 @@ pub fn write_changes<W: Write, P: Progress>(
 ) -> Result<(), TraceFault>
     ensures lines { OnOk result (Appends (W.contents out.old) (W.contents out.new)
         (jobs_text span spec.now machine.old)) }
-    ensures cut { IfErr result (λ why. IsCut why (W.contents out.old) (W.contents out.new)
+    ensures cut { OnErr result (IsBegun (W.contents out.old) (W.contents out.new)
         (jobs_text span spec.now machine.old)) }
 {
     go_to_first(machine, span, progress);
@@ -61,7 +61,7 @@ fn write_in_span<W: Write, P: Progress>(
 ) -> Result<(), TraceFault>
     ensures lines { OnOk result (Appends (W.contents out.old) (W.contents out.new)
         (jobs_text span spec.now machine.old)) }
-    ensures cut { IfErr result (λ why. IsCut why (W.contents out.old) (W.contents out.new)
+    ensures cut { OnErr result (IsBegun (W.contents out.old) (W.contents out.new)
         (jobs_text span spec.now machine.old)) }
 {
     let mut mark = 0;
@@ -90,6 +90,8 @@ fn write_state<W: Write>(
         (told_of shown.old (sights_in span spec.now (machine.now ∷ [])))) }
     ensures shown { OnOk result
         (shown.new ≡ shown_after shown.old (sights_in span spec.now (machine.now ∷ []))) }
+    ensures cut { OnErr result (IsBegun (W.contents out.old) (W.contents out.new)
+        (told_of shown.old (sights_in span spec.now (machine.now ∷ [])))) }
     ensures kept { IfErr result (λ why. why ≡ fault.Memory
         → Keeps (W.contents out.old) (W.contents out.new)) }
 {
@@ -111,6 +113,8 @@ fn write_sight<W: Write>(
     ensures lines { OnOk result (Appends (W.contents out.old) (W.contents out.new)
         (change_text shown.old (sight_of spec.now machine.now))) }
     ensures shown { OnOk result (shown.new ≡ (sight_of spec.now machine.now).text) }
+    ensures cut { OnErr result (IsBegun (W.contents out.old) (W.contents out.new)
+        (change_text shown.old (sight_of spec.now machine.now))) }
     ensures kept { IfErr result (λ why. why ≡ fault.Memory
         → Keeps (W.contents out.old) (W.contents out.new)) }
 {
@@ -127,9 +131,10 @@ fn write_sight<W: Write>(
 /// Writes lines.
 fn write_lines<W: Write>(lines: &str, out: &mut W) -> Result<(), TraceFault>
     ensures lines { OnOk result (Appends (W.contents out.old) (W.contents out.new) lines.now) }
+    ensures cut { OnErr result (IsBegun (W.contents out.old) (W.contents out.new) lines.now) }
     ensures fault { IfErr result (λ why. why ≡ fault.Write) }
 {
-    match out.write_all(lines.as_bytes()) {
+    match write_in_full(out, lines.as_bytes()) {
         Ok(()) => Ok(()),
         Err(_) => Err(TraceFault::Write),
     }

@@ -3,6 +3,8 @@ use Rattle.std.proofs.Common.{◌≡◌, ℕ, List, [], ◌∷◌, ◌++◌, Opt
 use Rattle.std.specs.Prelude.{if◌then◌else◌, filter}
 use Rattle.std.proofs.lemmas.Grind.{flat_map-append}
 use Rattle.std.specs.Io.KnownBytes.{Appends}
+use Rattle.agc_io.specs.Output.{IsBegun}
+use Rattle.agc_io.proofs.Begun.{begun_as, first_begun, more_begun}
 use Rattle.agc_machine.specs.Boundary.{boundary, upcoming_of}
 use Rattle.agc_machine.specs.State.{State}
 use Rattle.agc_symbols.specs.Symbols.{Symbol}
@@ -111,13 +113,39 @@ pub written_more : (start now new : Option (List ℕ)) (line left whole : List �
 written_more start now new line left whole h k =
     (h.0 ++ line, appends_more start now new h.0 line h.1 k, append_assoc h.0 line left ∙ h.2)
 
+-- what is written so far, and perhaps a beginning of the next line, is a beginning of the whole
+pub begun_so_far : (start now : Option (List ℕ)) (left whole : List ℕ) → IsWritten start now left whole → IsBegun start now whole
+begun_so_far start now left whole h = record { written = h.0; left = left; appends = h.1; whole = h.2 }
+
+pub begun_next : (start now new : Option (List ℕ)) (line left whole : List ℕ) → IsWritten start now (line ++ left) whole → IsBegun now new line → IsBegun start new whole
+begun_next start now new line left whole h k =
+    more_begun start now new h.0 (line ++ left) whole h.2 h.1 (first_begun now new line left (line ++ left) refl k)
+
 -- a line depends only on its entry and changes, however they were obtained
 pub line_as : (names : Option (List Symbol)) (now new : Option (List ℕ)) (x : Watched) (entry : Entry) (changes items : List Change) → changes ≡ items →
     record { entry = entry; changes = items } ≡ x → Appends now new (watched_line names (record { entry = entry; changes = changes })) → Appends now new (watched_line names x)
 line_as names now new x entry changes items e f h =
     subst (λ (y : Watched). Appends now new (watched_line names y)) (ap (λ (cs : List Change). record { entry = entry; changes = cs }) e ∙ f) h
 
+pub begun_line_as : (names : Option (List Symbol)) (now new : Option (List ℕ)) (x : Watched) (entry : Entry) (changes items : List Change) → changes ≡ items →
+    record { entry = entry; changes = items } ≡ x → IsBegun now new (watched_line names (record { entry = entry; changes = changes })) → IsBegun now new (watched_line names x)
+begun_line_as names now new x entry changes items e f h =
+    begun_as now new _ (watched_line names x) (ap (watched_line names) (ap (λ (cs : List Change). record { entry = entry; changes = cs }) e ∙ f)) h
+
 module _ (names : Option (List Symbol)) (w : Selection) (cells : List ℕ) where
+  -- a beginning of the next line is written
+  pub line_begun : (start now new : Option (List ℕ)) (s : State) (entry : Watched) (whole : List ℕ) → entry ≡ watched_of cells s →
+      IsWritten start now (lines_of names (selected w (watch_of cells s))) whole → IsBegun now new (lines_of names (selected w (entry ∷ []))) →
+      IsBegun start new whole
+  line_begun start now new s entry whole e h k =
+      let rest : List Watched = if is_stop (upcoming_of s) then [] else watch_of cells (boundary None s).0 in
+      let split : lines_of names (selected w (watch_of cells s)) ≡ lines_of names (selected w (entry ∷ [])) ++ lines_of names (selected w rest) =
+      ap (λ (xs : List Watched). lines_of names (selected w xs)) (watch_by_entry cells s ∙ ap (λ (x : Watched). x ∷ rest) (sym e))
+      ∙ ap (λ (xs : List Watched). lines_of names xs) (split_entry w entry rest)
+      ∙ lines_of-append names (selected w (entry ∷ [])) (selected w rest) in
+      begun_next start now new (lines_of names (selected w (entry ∷ []))) (lines_of names (selected w rest)) whole
+      (subst (λ (xs : List ℕ). IsWritten start now xs whole) split h) k
+
   -- one more line is written, and what is left belongs to the next boundary's watch
   pub line_written : (start now new : Option (List ℕ)) (s t : State) (entry : Watched) (whole : List ℕ) →
       entry ≡ watched_of cells s → t ≡ (boundary None s).0 → is_stop entry.entry.happening ≡ false →

@@ -7,7 +7,6 @@ pub mod Touched
 pub mod Watch
 pub mod Selection
 pub mod Service
-pub mod Cut
 pub mod TraceLaws
 pub mod Passing
 pub mod StateLines

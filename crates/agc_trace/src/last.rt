@@ -1,7 +1,7 @@
 //! Writes the last lines of a trace: keeps a number of entries, and writes them when the run has ended.
-ghost use Rattle.std.specs.Prelude.{◌≡◌, ◌≤◌, [], ◌∷◌, ◌++◌, All, IfErr, IfOk, OnOk, if◌then◌else◌, length};
+ghost use Rattle.std.specs.Prelude.{◌≡◌, ◌≤◌, [], ◌∷◌, ◌++◌, All, IfErr, IfOk, OnErr, OnOk, if◌then◌else◌, length};
 ghost use Rattle.std.specs.Io.KnownBytes.{Appends};
-ghost use Rattle.agc_trace.specs.Cut.{IsCut};
+ghost use Rattle.agc_io.specs.Output.{IsBegun};
 ghost use Rattle.agc_trace.specs.Entry.{FitsLine};
 ghost use Rattle.agc_trace.specs.Selection.{last_of, lines_of, selected, watch_for};
 ghost use Rattle.agc_trace.specs.Service.{service_left};
@@ -51,7 +51,7 @@ pub(crate) fn write_last<W: Write, P: Progress>(
     ensures lines { OnOk result (Appends (W.contents out.old) (W.contents out.new)
         (lines_of names.now (last_of most (selected selection.now (watch_for selection.now machine.old))))) }
     ensures service { IfOk result (λ left. left ≡ service_left selection.now (trace_of machine.old)) }
-    ensures cut { IfErr result (λ why. IsCut why (W.contents out.old) (W.contents out.new)
+    ensures cut { OnErr result (IsBegun (W.contents out.old) (W.contents out.new)
         (lines_of names.now (last_of most (selected selection.now (watch_for selection.now machine.old))))) }
 {
     let mut last = VecDeque::new(alloc);
@@ -144,7 +144,7 @@ fn write_kept<W: Write>(
     requires { All FitsWatched last.old.items }
     ensures lines { OnOk result
         (Appends (W.contents out.old) (W.contents out.new) (lines_of names.now last.old.items)) }
-    ensures cut { IfErr result (λ why. IsCut why (W.contents out.old) (W.contents out.new)
+    ensures cut { OnErr result (IsBegun (W.contents out.old) (W.contents out.new)
         (lines_of names.now last.old.items)) }
 {
     while let Some(kept) = last.pop_front() {

@@ -1,7 +1,7 @@
 //! Writes the trace of a run line by line, so that memory use does not grow with the run.
-ghost use Rattle.std.specs.Prelude.{◌≡◌, [], ◌∷◌, OnOk, IfOk, IfErr};
+ghost use Rattle.std.specs.Prelude.{◌≡◌, [], ◌∷◌, IfErr, IfOk, OnErr, OnOk};
 ghost use Rattle.std.specs.Io.KnownBytes.{Appends, Keeps};
-ghost use Rattle.agc_trace.specs.Cut.{IsCut};
+ghost use Rattle.agc_io.specs.Output.{IsBegun};
 ghost use Rattle.agc_trace.specs.Entry.{FitsLine};
 ghost use Rattle.agc_trace.specs.NamedLine.{watched_line};
 ghost use Rattle.agc_trace.specs.Selection.{last_of, lines_of, selected, selected_lines, watch_for};
@@ -15,7 +15,7 @@ use crate::named_line::push_watched_line;
 use crate::passing::pass_unasked;
 use crate::selection::Selection;
 use crate::service::{Service, service_after};
-use agc_io::{Progress, report_at};
+use agc_io::{Progress, report_at, write_in_full};
 use agc_machine::{Machine, Stepped};
 use agc_symbols::SymbolTable;
 use std::alloc::{AllocError, Global};
@@ -56,7 +56,7 @@ pub fn trace<W: Write, P: Progress>(
     ensures lines { OnOk result (Appends (W.contents out.old) (W.contents out.new)
         (selected_lines names.now selection.now (watch_for selection.now machine.old))) }
     ensures service { IfOk result (λ left. left ≡ service_left selection.now (trace_of machine.old)) }
-    ensures cut { IfErr result (λ why. IsCut why (W.contents out.old) (W.contents out.new)
+    ensures cut { OnErr result (IsBegun (W.contents out.old) (W.contents out.new)
         (selected_lines names.now selection.now (watch_for selection.now machine.old))) }
 {
     go_to_first(machine, selection, progress);
@@ -95,7 +95,7 @@ fn write_lines<W: Write, P: Progress>(
     ensures lines { OnOk result (Appends (W.contents out.old) (W.contents out.new)
         (lines_of names.now (selected selection.now (watch_for selection.now machine.old)))) }
     ensures service { IfOk result (λ left. left ≡ service_left selection.now (trace_of machine.old)) }
-    ensures cut { IfErr result (λ why. IsCut why (W.contents out.old) (W.contents out.new)
+    ensures cut { OnErr result (IsBegun (W.contents out.old) (W.contents out.new)
         (lines_of names.now (selected selection.now (watch_for selection.now machine.old)))) }
 {
     let mut seen = see_named(alloc, selection.cells.as_slice(), machine.store())?;
@@ -128,6 +128,8 @@ fn write_selected<W: Write>(
     requires { FitsLine entry.now }
     ensures line { OnOk result (Appends (W.contents out.old) (W.contents out.new) (lines_of names.now
         (selected selection.now (record { entry = entry.now; changes = changes.now } ∷ [])))) }
+    ensures cut { OnErr result (IsBegun (W.contents out.old) (W.contents out.new) (lines_of names.now
+        (selected selection.now (record { entry = entry.now; changes = changes.now } ∷ [])))) }
     ensures kept { IfErr result (λ why. why ≡ TraceFault.Memory
         → Keeps (W.contents out.old) (W.contents out.new)) }
 {
@@ -149,6 +151,8 @@ pub(crate) fn write_line<W: Write>(
     requires { FitsLine entry.now }
     ensures line { OnOk result (Appends (W.contents out.old) (W.contents out.new)
         (watched_line names.now (record { entry = entry.now; changes = changes.now }))) }
+    ensures cut { OnErr result (IsBegun (W.contents out.old) (W.contents out.new)
+        (watched_line names.now (record { entry = entry.now; changes = changes.now }))) }
     ensures kept { IfErr result (λ why. why ≡ TraceFault.Memory
         → Keeps (W.contents out.old) (W.contents out.new)) }
 {
@@ -156,7 +160,7 @@ pub(crate) fn write_line<W: Write>(
     if push_watched_line(&mut line, names, entry, changes).is_err() {
         return Err(TraceFault::Memory);
     }
-    match out.write_all(line.as_bytes()) {
+    match write_in_full(out, line.as_bytes()) {
         Ok(()) => Ok(()),
         Err(_) => Err(TraceFault::Write),
     }

@@ -5,7 +5,8 @@ use Rattle.agc_machine.specs.State.{State}
 use Rattle.agc_machine.specs.declared.answer.Stepped.{Stepped}
 use Rattle.agc_machine.specs.declared.answer.Stop.{Stop}
 use Rattle.agc_trace.specs.Trace.{entries_left}
-use Rattle.agc_timeline.proofs.OneByOne.{last_told, nothing_told, past_told, state_told}
+use Rattle.agc_io.proofs.Begun.{any_err}
+use Rattle.agc_timeline.proofs.OneByOne.{last_told, nothing_told, past_told, state_begun, state_told}
 use Rattle.agc_timeline.proofs.States.{fewer_states}
 use Rattle.agc_timeline.proofs.watching.write_in_span.Goals as goal
 
@@ -44,3 +45,7 @@ loop-alloc-preserved g c =
 pub returns-clause-lines : goal.returns-clause-lines
 returns-clause-lines g c =
     past_told c.args.span c.args.spec.now _ _ _ _ _ (omega (arith, c.cycle.ensures.cycle, c.loop-alloc-test.false)) c.loop-alloc.invariant
+
+pub returns-in_err-write_state-clause-cut : goal.returns-in_err-write_state-clause-cut
+returns-in_err-write_state-clause-cut g c =
+    any_err _ (state_begun c.args.span c.args.spec.now _ _ _ _ c.loop-alloc.machine _ c.loop-alloc.invariant c.in_err-write_state.ensures.cut)

@@ -9,6 +9,7 @@ use Rattle.agc_machine.specs.State.{State}
 use Rattle.agc_timeline.specs.Changes.{sight_of}
 use Rattle.agc_timeline.specs.Lines.{change_text, lines_at, lines_in}
 use Rattle.agc_timeline.proofs.OneByOne.{nothing_new, on_ok}
+use Rattle.agc_io.proofs.Begun.{begun_as, none_begun, on_err}
 use Rattle.agc_timeline.proofs.watching.write_sight.Goals as goal
 
 -- the text of the tables of a machine's memory
@@ -44,3 +45,13 @@ pub returns-in-Ok-clause-shown : goal.returns-in-Ok-clause-shown
 returns-in-Ok-clause-shown g c =
     let text = text_of c.args.machine.now c.store.result.now c.args.spec.now c.read-tables.result c.store.ensures c.read-tables.ensures in
     on_ok c.write_lines.result (λ _. c.in-Ok.ensures.shown ∙ text) c.write_lines.ensures.lines
+
+pub returns-in-Ok-clause-cut : goal.returns-in-Ok-clause-cut
+returns-in-Ok-clause-cut g c =
+    let text = text_of c.args.machine.now c.store.result.now c.args.spec.now c.read-tables.result c.store.ensures c.read-tables.ensures in
+    let told = told_of_change c.args.machine.now c.args.spec.now c.cycle.result c.args.shown.now (tables_text c.read-tables.result) _ c.as_str.result.now c.cycle.ensures.cycle text
+    c.in-Ok.ensures.told c.as_str.ensures.value in
+    on_err c.write_lines.result (λ h. begun_as _ _ c.as_str.result.now _ told h) c.write_lines.ensures.cut
+
+pub returns-in-Err-clause-cut : goal.returns-in-Err-clause-cut
+returns-in-Err-clause-cut g c = none_begun _ _

@@ -3,7 +3,8 @@ use Rattle.std.specs.Prelude.{nat_le, ◌&&◌}
 use Rattle.agc_machine.specs.State.{State}
 use Rattle.agc_timeline.specs.Changes.{is_in}
 use Rattle.agc_trace.specs.declared.span.Span.{Span}
-use Rattle.agc_timeline.proofs.OneByOne.{on_ok, shown_inside, shown_outside, told_inside, told_outside}
+use Rattle.agc_io.proofs.Begun.{on_err}
+use Rattle.agc_timeline.proofs.OneByOne.{begun_inside, on_ok, shown_inside, shown_outside, told_inside, told_outside}
 use Rattle.agc_timeline.proofs.watching.write_state.Goals as goal
 
 -- a state is in the span where its cycle is one of it
@@ -29,3 +30,8 @@ pub returns-else-has-clause-shown : goal.returns-else-has-clause-shown
 returns-else-has-clause-shown g c =
     shown_outside c.args.span c.args.spec.now c.args.shown.now c.args.machine.now
     (is_in_by _ c.has.result c.args.span c.args.machine.now c.cycle.result c.cycle.ensures.cycle c.has.ensures c.if-has.false)
+
+pub returns-then-has-clause-cut : goal.returns-then-has-clause-cut
+returns-then-has-clause-cut g c =
+    let inside = is_in_by _ c.has.result c.args.span c.args.machine.now c.cycle.result c.cycle.ensures.cycle c.has.ensures c.if-has.true in
+    on_err c.write_sight.result (begun_inside c.args.span c.args.spec.now _ _ c.args.shown.now c.args.machine.now inside) c.write_sight.ensures.cut

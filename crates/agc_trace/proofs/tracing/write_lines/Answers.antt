@@ -1,7 +1,8 @@
 use Rattle.std.proofs.Common.{sym, ◌∙◌, ap, List, arith}
 use Rattle.agc_trace.specs.Selection.{lines_of}
 use Rattle.agc_trace.specs.Watch.{Watched}
-use Rattle.agc_trace.proofs.Lines.{all_written, line_written, lines_of-none, written_whole}
+use Rattle.agc_io.proofs.Begun.{any_err}
+use Rattle.agc_trace.proofs.Lines.{all_written, line_begun, line_written, lines_of-none, written_whole}
 use Rattle.agc_trace.proofs.Range.{no_late_entries}
 use Rattle.agc_trace.proofs.Services.{left_after, left_at_stop, none_past}
 use Rattle.agc_trace.proofs.Steps.{fewer_after_entry}
@@ -45,3 +46,8 @@ pub returns-clause-service : goal.returns-clause-service
 returns-clause-service g c =
     sym (none_past c.args.selection.now _ _ (omega (arith, c.cycle.ensures.cycle, c.loop-alloc-test.false)))
     ∙ c.loop-alloc.invariant.service
+
+pub returns-in_err-write_selected-clause-cut : goal.returns-in_err-write_selected-clause-cut
+returns-in_err-write_selected-clause-cut g c =
+    any_err _ (line_begun c.args.names.now c.args.selection.now _ _ _ _ _ _ _ (shown_is _ _ _ _ c.as_slice-in-loop-alloc.ensures.value c.in_ok-entry.ensures.watched)
+    c.loop-alloc.invariant.written c.in_err-write_selected.ensures.cut)
