@@ -12,7 +12,7 @@ use Rattle.agc_word.specs.declared.channel_write.ChannelWrite.{ChannelWrite}
 use Rattle.agc_panel.specs.Face.{panel_of}
 use Rattle.agc_panel.specs.declared.face.Face.{Face}
 use Rattle.agc_diff.specs.CommonPrefix.{one_write, run_after}
-use Rattle.agc_diff.specs.Cursor.{HasGone, IsEnd, PartAfter, WritesTold, run_with}
+use Rattle.agc_diff.specs.Cursor.{HasAdvanced, IsEnd, PartAfter, FindsWriteDivergence, run_with}
 use Rattle.agc_diff.specs.declared.cursor.End.{End}
 use Rattle.agc_diff.specs.declared.cursor.Cursor.{Cursor}
 
@@ -29,16 +29,16 @@ writes_left follower s = length (run_with follower.held s).writes
 -- two cursors have returned the same writes
 pub record HasToldSame (before number : ℕ) (left : Cursor) (s : State) (left_now : Cursor) (u : State)
     (right : Cursor) (t : State) (right_now : Cursor) (v : State) : Type 0 where
-  pub told : List ChannelWrite
-  pub left_gone : HasGone left s told left_now u
-  pub right_gone : HasGone right t told right_now v
-  pub count : number ≡ before + length told
+  pub reported : List ChannelWrite
+  pub left_advanced : HasAdvanced left s reported left_now u
+  pub right_advanced : HasAdvanced right t reported right_now v
+  pub count : number ≡ before + length reported
 
 -- a step with no write at all
-gone_none : (f : Cursor) (s : State) → HasGone f s [] f s
+gone_none : (f : Cursor) (s : State) → HasAdvanced f s [] f s
 gone_none f s = record { run = refl; panel = λ taken e. e ∙ ap panel_of (sym (append-nil taken)) }
 
-gone_on : (f g h : Cursor) (s t u : State) (xs ys : List ChannelWrite) → HasGone f s xs g t → HasGone g t ys h u → HasGone f s (xs ++ ys) h u
+gone_on : (f g h : Cursor) (s t u : State) (xs ys : List ChannelWrite) → HasAdvanced f s xs g t → HasAdvanced g t ys h u → HasAdvanced f s (xs ++ ys) h u
 gone_on f g h s t u xs ys a b =
     record {
       run = a.run ∙ ap (run_after xs) b.run ∙ ap (λ (ws : List ChannelWrite). record { writes = ws; last = (run_of u).last }) (sym (append_assoc xs ys (run_with h.held u).writes));
@@ -52,7 +52,7 @@ same_at_end : (s t : State) (why : Stop) → (t, next.Stopped why) ≡ next_of s
 same_at_end s t why e = run_at_stop s t why e ∙ sym (run_at_end s t why e)
 
 -- the stop comes before any further write
-pub took_none : (f : Cursor) (s t : State) (why : Stop) → (t, next.Stopped why) ≡ next_of s → HasGone f s [] f t
+pub took_none : (f : Cursor) (s t : State) (why : Stop) → (t, next.Stopped why) ≡ next_of s → HasAdvanced f s [] f t
 took_none f s t why e =
     record {
       run = ap (run_after (one_write f.held)) (same_at_end s t why e);
@@ -64,7 +64,7 @@ ended held s t why h e = ap (λ (o : Option ChannelWrite). (run_with o t).writes
 
 -- the held write is returned
 pub took_held : (f g : Cursor) (s t : State) (write : ChannelWrite) → s ≡ t → f.held ≡ Some write → g.held ≡ None →
-    ((taken : List ChannelWrite) → f.panel ≡ panel_of taken → g.panel ≡ panel_of (taken ++ write ∷ [])) → HasGone f s (write ∷ []) g t
+    ((taken : List ChannelWrite) → f.panel ≡ panel_of taken → g.panel ≡ panel_of (taken ++ write ∷ [])) → HasAdvanced f s (write ∷ []) g t
 took_held f g s t write e h k p =
     record {
       run =
@@ -74,14 +74,14 @@ took_held f g s t write e h k p =
     }
 
 -- the machine's next write is returned
-pub took_next : (f g : Cursor) (s t u : State) (write told : ChannelWrite) → t ≡ u → write ≡ told → f.held ≡ None → g.held ≡ None →
+pub took_next : (f g : Cursor) (s t u : State) (write reported : ChannelWrite) → t ≡ u → write ≡ reported → f.held ≡ None → g.held ≡ None →
     (t, next.Wrote write) ≡ next_of s →
-    ((taken : List ChannelWrite) → f.panel ≡ panel_of taken → g.panel ≡ panel_of (taken ++ told ∷ [])) → HasGone f s (told ∷ []) g u
-took_next f g s t u write told d n h k e p =
+    ((taken : List ChannelWrite) → f.panel ≡ panel_of taken → g.panel ≡ panel_of (taken ++ reported ∷ [])) → HasAdvanced f s (reported ∷ []) g u
+took_next f g s t u write reported d n h k e p =
     record {
       run =
           ap (λ (o : Option ChannelWrite). run_with o s) h ∙ run_at_write s t write e ∙ ap (λ (v : State). run_after (write ∷ []) (run_of v)) d
-          ∙ ap (λ (w : ChannelWrite). run_after (w ∷ []) (run_of u)) n ∙ ap (λ (o : Option ChannelWrite). run_after (told ∷ []) (run_with o u)) (sym k);
+          ∙ ap (λ (w : ChannelWrite). run_after (w ∷ []) (run_of u)) n ∙ ap (λ (o : Option ChannelWrite). run_after (reported ∷ []) (run_with o u)) (sym k);
       panel = p;
     }
 
@@ -135,31 +135,31 @@ some_write (Some write) h = (write, refl)
 some_write None h = cc
 
 -- no write is returned yet
-pub told_none : (before : ℕ) (f g : Cursor) (s t : State) → HasToldSame before before f s f s g t g t
-told_none before f g s t = record { told = []; left_gone = gone_none f s; right_gone = gone_none g t; count = sym (add-zero before) }
+pub reported_none : (before : ℕ) (f g : Cursor) (s t : State) → HasToldSame before before f s f s g t g t
+reported_none before f g s t = record { reported = []; left_advanced = gone_none f s; right_advanced = gone_none g t; count = sym (add-zero before) }
 
 -- a write that both have is returned
-told_write : (before number more : ℕ) (f f2 f3 g g2 g3 : Cursor) (s s2 s3 t t2 t3 : State) (x y : Option ChannelWrite) (write : ChannelWrite) →
-    HasGone f2 s2 (one_write x) f3 s3 → HasGone g2 t2 (one_write y) g3 t3 → x ≡ y → x ≡ Some write → more ≡ number + 1 →
+reported_write : (before number more : ℕ) (f f2 f3 g g2 g3 : Cursor) (s s2 s3 t t2 t3 : State) (x y : Option ChannelWrite) (write : ChannelWrite) →
+    HasAdvanced f2 s2 (one_write x) f3 s3 → HasAdvanced g2 t2 (one_write y) g3 t3 → x ≡ y → x ≡ Some write → more ≡ number + 1 →
     HasToldSame before number f s f2 s2 g t g2 t2 → HasToldSame before more f s f3 s3 g t g3 t3
-told_write before number more f f2 f3 g g2 g3 s s2 s3 t t2 t3 x y write a b same some m h =
-    let u : HasGone f2 s2 (write ∷ []) f3 s3 = subst (λ (o : Option ChannelWrite). HasGone f2 s2 (one_write o) f3 s3) some a in
-    let v : HasGone g2 t2 (write ∷ []) g3 t3 = subst (λ (o : Option ChannelWrite). HasGone g2 t2 (one_write o) g3 t3) (sym same ∙ some) b in
+reported_write before number more f f2 f3 g g2 g3 s s2 s3 t t2 t3 x y write a b same some m h =
+    let u : HasAdvanced f2 s2 (write ∷ []) f3 s3 = subst (λ (o : Option ChannelWrite). HasAdvanced f2 s2 (one_write o) f3 s3) some a in
+    let v : HasAdvanced g2 t2 (write ∷ []) g3 t3 = subst (λ (o : Option ChannelWrite). HasAdvanced g2 t2 (one_write o) g3 t3) (sym same ∙ some) b in
     record {
-      told = h.told ++ write ∷ [];
-      left_gone = gone_on f f2 f3 s s2 s3 h.told (write ∷ []) h.left_gone u;
-      right_gone = gone_on g g2 g3 t t2 t3 h.told (write ∷ []) h.right_gone v;
-      count = omega (arith, m, h.count, length-append h.told (write ∷ []));
+      reported = h.reported ++ write ∷ [];
+      left_advanced = gone_on f f2 f3 s s2 s3 h.reported (write ∷ []) h.left_advanced u;
+      right_advanced = gone_on g g2 g3 t t2 t3 h.reported (write ∷ []) h.right_advanced v;
+      count = omega (arith, m, h.count, length-append h.reported (write ∷ []));
     }
 
-pub told_more : (before number more : ℕ) (f f2 f3 g g2 g3 : Cursor) (s s2 s3 t t2 t3 : State) (x y : Option ChannelWrite) →
-    HasGone f2 s2 (one_write x) f3 s3 → HasGone g2 t2 (one_write y) g3 t3 → x ≡ y → IsSome x → more ≡ number + 1 →
+pub reported_more : (before number more : ℕ) (f f2 f3 g g2 g3 : Cursor) (s s2 s3 t t2 t3 : State) (x y : Option ChannelWrite) →
+    HasAdvanced f2 s2 (one_write x) f3 s3 → HasAdvanced g2 t2 (one_write y) g3 t3 → x ≡ y → IsSome x → more ≡ number + 1 →
     HasToldSame before number f s f2 s2 g t g2 t2 → HasToldSame before more f s f3 s3 g t g3 t3
-told_more before number more f f2 f3 g g2 g3 s s2 s3 t t2 t3 x y a b same some m h =
+reported_more before number more f f2 f3 g g2 g3 s s2 s3 t t2 t3 x y a b same some m h =
     let write = some_write x some in
-    told_write before number more f f2 f3 g g2 g3 s s2 s3 t t2 t3 x y write.0 a b same write.1 m h
+    reported_write before number more f f2 f3 g g2 g3 s s2 s3 t t2 t3 x y write.0 a b same write.1 m h
 
-fewer_by : (f g : Cursor) (s t : State) (x : Option ChannelWrite) (write : ChannelWrite) → HasGone f s (one_write x) g t → x ≡ Some write →
+fewer_by : (f g : Cursor) (s t : State) (x : Option ChannelWrite) (write : ChannelWrite) → HasAdvanced f s (one_write x) g t → x ≡ Some write →
     writes_left g t < writes_left f s
 fewer_by f g s t x write h e =
     let run : run_with f.held s ≡ run_after (write ∷ []) (run_with g.held t) =
@@ -167,67 +167,67 @@ fewer_by f g s t x write h e =
     let count : writes_left f s ≡ suc (writes_left g t) = ap (λ (r : Run). length r.writes) run in
     omega (arith, count)
 
-pub fewer_left : (f g : Cursor) (s t : State) (x : Option ChannelWrite) → HasGone f s (one_write x) g t → IsSome x → writes_left g t < writes_left f s
+pub fewer_left : (f g : Cursor) (s t : State) (x : Option ChannelWrite) → HasAdvanced f s (one_write x) g t → IsSome x → writes_left g t < writes_left f s
 fewer_left f g s t x h some = let write = some_write x some in fewer_by f g s t x write.0 h write.1
 
 -- all writes of both runs are returned
-pub told_all : (before number : ℕ) (f f2 f3 g g2 g3 : Cursor) (s s2 s3 t t2 t3 : State) (x y : Option ChannelWrite) →
-    HasGone f2 s2 (one_write x) f3 s3 → HasGone g2 t2 (one_write y) g3 t3 → x ≡ y → x ≡ None →
+pub reported_all : (before number : ℕ) (f f2 f3 g g2 g3 : Cursor) (s s2 s3 t t2 t3 : State) (x y : Option ChannelWrite) →
+    HasAdvanced f2 s2 (one_write x) f3 s3 → HasAdvanced g2 t2 (one_write y) g3 t3 → x ≡ y → x ≡ None →
     (x ≡ None → (run_with f3.held s3).writes ≡ []) → (y ≡ None → (run_with g3.held t3).writes ≡ []) →
-    HasToldSame before number f s f2 s2 g t g2 t2 → WritesTold before f g s t None f3 g3 s3 t3
-told_all before number f f2 f3 g g2 g3 s s2 s3 t t2 t3 x y a b same none p q h =
-    let left = gone_on f f2 f3 s s2 s3 h.told (one_write x) h.left_gone a in
-    let right = gone_on g g2 g3 t t2 t3 h.told (one_write y) h.right_gone b in
-    let after : (h.told ++ one_write x) ++ (run_with f3.held s3).writes ≡ (h.told ++ one_write y) ++ (run_with g3.held t3).writes =
-    ap (λ (o : Option ChannelWrite). (h.told ++ one_write o) ++ (run_with f3.held s3).writes) same
-    ∙ ap (λ (ws : List ChannelWrite). (h.told ++ one_write y) ++ ws) (p none ∙ sym (q (sym same ∙ none))) in
+    HasToldSame before number f s f2 s2 g t g2 t2 → FindsWriteDivergence before f g s t None f3 g3 s3 t3
+reported_all before number f f2 f3 g g2 g3 s s2 s3 t t2 t3 x y a b same none p q h =
+    let left = gone_on f f2 f3 s s2 s3 h.reported (one_write x) h.left_advanced a in
+    let right = gone_on g g2 g3 t t2 t3 h.reported (one_write y) h.right_advanced b in
+    let after : (h.reported ++ one_write x) ++ (run_with f3.held s3).writes ≡ (h.reported ++ one_write y) ++ (run_with g3.held t3).writes =
+    ap (λ (o : Option ChannelWrite). (h.reported ++ one_write o) ++ (run_with f3.held s3).writes) same
+    ∙ ap (λ (ws : List ChannelWrite). (h.reported ++ one_write y) ++ ws) (p none ∙ sym (q (sym same ∙ none))) in
     record {
       writes = ap (λ (r : Run). r.writes) left.run ∙ after ∙ ap (λ (r : Run). r.writes) (sym right.run);
-      left_told = h.told ++ one_write x;
-      left_gone = left;
-      right_told = h.told ++ one_write y;
-      right_gone = right;
+      left_writes = h.reported ++ one_write x;
+      left_advanced = left;
+      right_writes = h.reported ++ one_write y;
+      right_advanced = right;
     }
 
 -- two lists that differ in what comes next
-parts_after : (told xs ys : List ChannelWrite) (x y : Option ChannelWrite) → x ≢ y → (x ≡ None → xs ≡ []) → (y ≡ None → ys ≡ []) →
-    PartAfter (length told) ((told ++ one_write x) ++ xs) ((told ++ one_write y) ++ ys) x y
-parts_after told xs ys x y differ p q =
-    let left = append_assoc told (one_write x) xs in
-    let right = append_assoc told (one_write y) ys in
+parts_after : (reported xs ys : List ChannelWrite) (x y : Option ChannelWrite) → x ≢ y → (x ≡ None → xs ≡ []) → (y ≡ None → ys ≡ []) →
+    PartAfter (length reported) ((reported ++ one_write x) ++ xs) ((reported ++ one_write y) ++ ys) x y
+parts_after reported xs ys x y differ p q =
+    let left = append_assoc reported (one_write x) xs in
+    let right = append_assoc reported (one_write y) ys in
     record {
       same =
-          ap (take (length told)) left ∙ take-append_seam told (one_write x ++ xs)
-          ∙ sym (ap (take (length told)) right ∙ take-append_seam told (one_write y ++ ys));
-      left = ap (λ (ws : List ChannelWrite). slice_get ws (length told)) left ∙ get_seam told (one_write x ++ xs) ∙ get_next x xs p;
-      right = ap (λ (ws : List ChannelWrite). slice_get ws (length told)) right ∙ get_seam told (one_write y ++ ys) ∙ get_next y ys q;
+          ap (take (length reported)) left ∙ take-append_seam reported (one_write x ++ xs)
+          ∙ sym (ap (take (length reported)) right ∙ take-append_seam reported (one_write y ++ ys));
+      left = ap (λ (ws : List ChannelWrite). slice_get ws (length reported)) left ∙ get_seam reported (one_write x ++ xs) ∙ get_next x xs p;
+      right = ap (λ (ws : List ChannelWrite). slice_get ws (length reported)) right ∙ get_seam reported (one_write y ++ ys) ∙ get_next y ys q;
       differ = differ;
     }
 
 -- the writes that come next differ
-pub told_apart : (before number more : ℕ) (f f2 f3 g g2 g3 : Cursor) (s s2 s3 t t2 t3 : State) (x y : Option ChannelWrite) →
-    HasGone f2 s2 (one_write x) f3 s3 → HasGone g2 t2 (one_write y) g3 t3 → x ≢ y →
+pub reported_apart : (before number more : ℕ) (f f2 f3 g g2 g3 : Cursor) (s s2 s3 t t2 t3 : State) (x y : Option ChannelWrite) →
+    HasAdvanced f2 s2 (one_write x) f3 s3 → HasAdvanced g2 t2 (one_write y) g3 t3 → x ≢ y →
     (x ≡ None → (run_with f3.held s3).writes ≡ []) → (y ≡ None → (run_with g3.held t3).writes ≡ []) → more ≡ number + 1 →
-    HasToldSame before number f s f2 s2 g t g2 t2 → WritesTold before f g s t (Some (record { number = more; left = x; right = y })) f3 g3 s3 t3
-told_apart before number more f f2 f3 g g2 g3 s s2 s3 t t2 t3 x y a b differ p q m h =
-    let left = gone_on f f2 f3 s s2 s3 h.told (one_write x) h.left_gone a in
-    let right = gone_on g g2 g3 t t2 t3 h.told (one_write y) h.right_gone b in
+    HasToldSame before number f s f2 s2 g t g2 t2 → FindsWriteDivergence before f g s t (Some (record { number = more; left = x; right = y })) f3 g3 s3 t3
+reported_apart before number more f f2 f3 g g2 g3 s s2 s3 t t2 t3 x y a b differ p q m h =
+    let left = gone_on f f2 f3 s s2 s3 h.reported (one_write x) h.left_advanced a in
+    let right = gone_on g g2 g3 t t2 t3 h.reported (one_write y) h.right_advanced b in
     record {
       writes = (
-        length h.told,
+        length h.reported,
         omega (arith, m, h.count),
-        subst (λ (ws : List ChannelWrite). PartAfter (length h.told) ws (run_with g.held t).writes x y) (ap (λ (r : Run). r.writes) (sym left.run))
-            (subst (λ (ws : List ChannelWrite). PartAfter (length h.told) ((h.told ++ one_write x) ++ (run_with f3.held s3).writes) ws x y) (ap (λ (r : Run). r.writes) (sym right.run))
-            (parts_after h.told (run_with f3.held s3).writes (run_with g3.held t3).writes x y differ p q)),
+        subst (λ (ws : List ChannelWrite). PartAfter (length h.reported) ws (run_with g.held t).writes x y) (ap (λ (r : Run). r.writes) (sym left.run))
+            (subst (λ (ws : List ChannelWrite). PartAfter (length h.reported) ((h.reported ++ one_write x) ++ (run_with f3.held s3).writes) ws x y) (ap (λ (r : Run). r.writes) (sym right.run))
+            (parts_after h.reported (run_with f3.held s3).writes (run_with g3.held t3).writes x y differ p q)),
       );
-      left_told = h.told ++ one_write x;
-      left_gone = left;
-      right_told = h.told ++ one_write y;
-      right_gone = right;
+      left_writes = h.reported ++ one_write x;
+      left_advanced = left;
+      right_writes = h.reported ++ one_write y;
+      right_advanced = right;
     }
 
 -- the end of a run from a later state is the end of the whole run
-pub end_after : (f g : Cursor) (s t : State) (writes : List ChannelWrite) (end : End) (u : State) → HasGone f s writes g t →
+pub end_after : (f g : Cursor) (s t : State) (writes : List ChannelWrite) (end : End) (u : State) → HasAdvanced f s writes g t →
     IsEnd g.panel (run_with g.held t) end u → IsEnd f.panel (run_with f.held s) end u
 end_after f g s t writes end u h k =
     record {

@@ -2,7 +2,7 @@ pub mod Kept
 pub mod Alike
 pub mod Follows
 pub mod Together
-pub mod Told
+pub mod Reported
 pub mod Nothing
 pub mod Passed
 pub mod Followed

@@ -16,8 +16,8 @@ use Rattle.agc_trace.specs.Entry.{entry_of, write_shown}
 use Rattle.agc_trace.specs.Trace.{is_stop, trace_of}
 use Rattle.agc_trace.specs.declared.entry.Entry.{Entry}
 use Rattle.agc_trace.proofs.Steps.{trace_by_entry}
-use Rattle.agc_diff.specs.CommonPrefix.{ComesApart, HasEnded, HasParted, HasPassed, TellsEntries, one_write, run_after, entry_writes}
-use Rattle.agc_diff.specs.declared.common_prefix.Common.{Common}
+use Rattle.agc_diff.specs.CommonPrefix.{ComesApart, HasEnded, HasDiverged, HasPassed, SummarizesEntries, one_write, run_after, entry_writes}
+use Rattle.agc_diff.specs.declared.common_prefix.CommonPrefix.{CommonPrefix}
 use Rattle.agc_panel.specs.Face.{panel_of}
 use Rattle.agc_trace.specs.Entry.{FitsLine}
 use Rattle.agc_diff.proofs.Kept.{keep_one}
@@ -38,9 +38,9 @@ run_by_boundary s =
     run_by s (boundary None s) refl (boundary_falls s)
     ∙ ap (λ (write : Option ChannelWrite). run_after (one_write write) (run_of (boundary None s).0)) (sym (shows s))
 
-tells : (s : State) → (entry_of s).happening ≡ upcoming_of s
+reports : (s : State) → (entry_of s).happening ≡ upcoming_of s
 unfolding entry_of
-tells s = refl
+reports s = refl
 
 pub entry_writes-snoc : (entries : List Entry) (entry : Entry) → entry_writes (entries ++ entry ∷ []) ≡ entry_writes entries ++ one_write entry.write
 unfolding entry_writes
@@ -77,10 +77,10 @@ passed_none s = record { trace = refl; run = refl }
 pub passed_one : (s t u : State) (entries : List Entry) (entry : Entry) → entry ≡ entry_of t → u ≡ (boundary None t).0 →
     is_stop entry.happening ≡ false → HasPassed s entries t → HasPassed s (entries ++ entry ∷ []) u
 passed_one s t u entries entry e f stop h =
-    let told : is_stop (upcoming_of t) ≡ false = ap is_stop (sym (tells t) ∙ ap (λ (x : Entry). x.happening) (sym e)) ∙ stop in
+    let reported : is_stop (upcoming_of t) ≡ false = ap is_stop (sym (reports t) ∙ ap (λ (x : Entry). x.happening) (sym e)) ∙ stop in
     let rest = trace_of (boundary None t).0 in
     let trace : trace_of s ≡ (entries ++ entry_of t ∷ []) ++ rest =
-    h.trace ∙ ap (λ (xs : List Entry). entries ++ xs) (trace_by_entry t ∙ ap (λ (xs : List Entry). entry_of t ∷ xs) (goes_on (is_stop (upcoming_of t)) rest told))
+    h.trace ∙ ap (λ (xs : List Entry). entries ++ xs) (trace_by_entry t ∙ ap (λ (xs : List Entry). entry_of t ∷ xs) (goes_on (is_stop (upcoming_of t)) rest reported))
     ∙ sym (append_assoc entries (entry_of t ∷ []) rest) in
     let passed : HasPassed s (entries ++ entry_of t ∷ []) (boundary None t).0 = record { trace = trace; run = run_passed s t entries h.run } in
     subst (λ (x : Entry). HasPassed s (entries ++ x ∷ []) u) (sym e) (subst (λ (v : State). HasPassed s (entries ++ entry_of t ∷ []) v) (sym f) passed)
@@ -89,31 +89,31 @@ passed_one s t u entries entry e f stop h =
 pub ended_with : (s t u : State) (entries : List Entry) (entry : Entry) → entry ≡ entry_of t → u ≡ (boundary None t).0 →
     is_stop entry.happening ≡ true → HasPassed s entries t → HasEnded s (entries ++ entry ∷ []) u
 ended_with s t u entries entry e f stop h =
-    let told : is_stop (upcoming_of t) ≡ true = ap is_stop (sym (tells t) ∙ ap (λ (x : Entry). x.happening) (sym e)) ∙ stop in
+    let reported : is_stop (upcoming_of t) ≡ true = ap is_stop (sym (reports t) ∙ ap (λ (x : Entry). x.happening) (sym e)) ∙ stop in
     let rest = trace_of (boundary None t).0 in
     let trace : trace_of s ≡ entries ++ entry_of t ∷ [] =
-    h.trace ∙ ap (λ (xs : List Entry). entries ++ xs) (trace_by_entry t ∙ ap (λ (xs : List Entry). entry_of t ∷ xs) (ends (is_stop (upcoming_of t)) rest told)) in
+    h.trace ∙ ap (λ (xs : List Entry). entries ++ xs) (trace_by_entry t ∙ ap (λ (xs : List Entry). entry_of t ∷ xs) (ends (is_stop (upcoming_of t)) rest reported)) in
     let ended : HasEnded s (entries ++ entry_of t ∷ []) (boundary None t).0 = record { trace = trace; run = run_passed s t entries h.run } in
     subst (λ (x : Entry). HasEnded s (entries ++ x ∷ []) u) (sym e) (subst (λ (v : State). HasEnded s (entries ++ entry_of t ∷ []) v) (sym f) ended)
 
 -- What two runs have in common up to a state of each.
-pub record Shares (s t : State) (common : Common) (last : Buffer Entry) (u v : State) : Type 0 where
+pub record Shares (s t : State) (common : CommonPrefix) (last : Buffer Entry) (u v : State) : Type 0 where
   pub entries : List Entry
-  pub tells : TellsEntries entries common last
+  pub reports : SummarizesEntries entries common last
   pub left : HasPassed s entries u
   pub right : HasPassed t entries v
 
 -- one more boundary is recorded
-pub record TellsMore (c d : Common) (last more : Buffer Entry) (entry : Entry) : Type 0 where
+pub record TellsMore (c d : CommonPrefix) (last more : Buffer Entry) (entry : Entry) : Type 0 where
   pub boundaries : d.boundaries ≡ c.boundaries + 1
   pub writes : d.writes ≡ c.writes + length (one_write entry.write)
   pub panel : (taken : List ChannelWrite) → c.panel ≡ panel_of taken → d.panel ≡ panel_of (taken ++ one_write entry.write)
   pub fits : FitsLine entry
   pub last_ones : more ≡ buffer (keep_last last.capacity (last.items ++ entry ∷ [])) last.capacity
 
-tells_more : (entries : List Entry) (c d : Common) (last more : Buffer Entry) (entry : Entry) → TellsMore c d last more entry →
-    TellsEntries entries c last → TellsEntries (entries ++ entry ∷ []) d more
-tells_more entries c d last more entry h t =
+reports_more : (entries : List Entry) (c d : CommonPrefix) (last more : Buffer Entry) (entry : Entry) → TellsMore c d last more entry →
+    SummarizesEntries entries c last → SummarizesEntries (entries ++ entry ∷ []) d more
+reports_more entries c d last more entry h t =
     let writes = entry_writes-snoc entries entry in
     record {
       boundaries = h.boundaries ∙ ap (λ n. n + 1) t.boundaries ∙ sym (length-append entries (entry ∷ []));
@@ -125,51 +125,51 @@ tells_more entries c d last more entry h t =
       fits = All-append FitsLine entries (entry ∷ []) t.fits (All-cons FitsLine entry [] h.fits (All-nil FitsLine));
     }
 
-pub shares_none : (s t : State) (common : Common) (last : Buffer Entry) → common.boundaries ≡ 0 → common.writes ≡ 0 → common.panel ≡ panel_of [] →
+pub shares_none : (s t : State) (common : CommonPrefix) (last : Buffer Entry) → common.boundaries ≡ 0 → common.writes ≡ 0 → common.panel ≡ panel_of [] →
     last ≡ buffer [] 5 → Shares s t common last s t
 unfolding entry_writes
 shares_none s t common last b w p l =
-    record { entries = []; tells = record { boundaries = b; writes = w; panel = p; last_ones = l; fits = All-nil FitsLine }; left = passed_none s; right = passed_none t }
+    record { entries = []; reports = record { boundaries = b; writes = w; panel = p; last_ones = l; fits = All-nil FitsLine }; left = passed_none s; right = passed_none t }
 
 -- another boundary that both have
-pub shares_more : (s t : State) (c d : Common) (last more : Buffer Entry) (u v x y : State) (entry other : Entry) →
+pub shares_more : (s t : State) (c d : CommonPrefix) (last more : Buffer Entry) (u v x y : State) (entry other : Entry) →
     entry ≡ entry_of u → other ≡ entry_of v → x ≡ (boundary None u).0 → y ≡ (boundary None v).0 → entry ≡ other →
     is_stop entry.happening ≡ false → TellsMore c d last more entry → Shares s t c last u v → Shares s t d more x y
-shares_more s t c d last more u v x y entry other e f g h same stop tells k =
+shares_more s t c d last more u v x y entry other e f g h same stop reports k =
     record {
       entries = k.entries ++ entry ∷ [];
-      tells = tells_more k.entries c d last more entry tells k.tells;
+      reports = reports_more k.entries c d last more entry reports k.reports;
       left = passed_one s u x k.entries entry e g stop k.left;
       right = passed_one t v y k.entries entry (same ∙ f) h stop k.right;
     }
 
 -- the stop, which both have
-pub shares_all : (s t : State) (c d : Common) (last more : Buffer Entry) (u v x y : State) (entry other : Entry) →
+pub shares_all : (s t : State) (c d : CommonPrefix) (last more : Buffer Entry) (u v x y : State) (entry other : Entry) →
     entry ≡ entry_of u → other ≡ entry_of v → x ≡ (boundary None u).0 → y ≡ (boundary None v).0 → entry ≡ other →
     is_stop entry.happening ≡ true → TellsMore c d last more entry → Shares s t c last u v → ComesApart s t d more None x y
-shares_all s t c d last more u v x y entry other e f g h same stop tells k = (
+shares_all s t c d last more u v x y entry other e f g h same stop reports k = (
   k.entries ++ entry ∷ [],
-  tells_more k.entries c d last more entry tells k.tells,
+  reports_more k.entries c d last more entry reports k.reports,
   ended_with s u x k.entries entry e g stop k.left,
   ended_with t v y k.entries entry (same ∙ f) h stop k.right,
 )
 
 parted_with : (s u x : State) (entries : List Entry) (entry : Entry) → entry ≡ entry_of u → x ≡ (boundary None u).0 → FitsLine entry →
-    HasPassed s entries u → HasParted s entries entry x
+    HasPassed s entries u → HasDiverged s entries entry x
 parted_with s u x entries entry e f fits h =
     let rest = if is_stop (upcoming_of u) then [] else trace_of (boundary None u).0 in
-    let parted : HasParted s entries (entry_of u) (boundary None u).0 =
+    let parted : HasDiverged s entries (entry_of u) (boundary None u).0 =
     record {
       rest = rest;
       trace = h.trace ∙ ap (λ (xs : List Entry). entries ++ xs) (trace_by_entry u);
       run = run_on s u (entry_writes entries) h.run;
       fits = subst FitsLine e fits;
     } in
-    subst (λ (y : Entry). HasParted s entries y x) (sym e) (subst (λ (v : State). HasParted s entries (entry_of u) v) (sym f) parted)
+    subst (λ (y : Entry). HasDiverged s entries y x) (sym e) (subst (λ (v : State). HasDiverged s entries (entry_of u) v) (sym f) parted)
 
 -- the boundaries at which they diverge
-pub shares_no_more : (s t : State) (c : Common) (last : Buffer Entry) (u v x y : State) (entry other : Entry) →
+pub shares_no_more : (s t : State) (c : CommonPrefix) (last : Buffer Entry) (u v x y : State) (entry other : Entry) →
     entry ≡ entry_of u → other ≡ entry_of v → x ≡ (boundary None u).0 → y ≡ (boundary None v).0 → entry ≢ other →
     FitsLine entry → FitsLine other → Shares s t c last u v → ComesApart s t c last (Some (record { left = entry; right = other })) x y
 shares_no_more s t c last u v x y entry other e f g h differ fits fits_too k =
-    (k.entries, k.tells, parted_with s u x k.entries entry e g fits k.left, parted_with t v y k.entries other f h fits_too k.right, differ)
+    (k.entries, k.reports, parted_with s u x k.entries entry e g fits k.left, parted_with t v y k.entries other f h fits_too k.right, differ)

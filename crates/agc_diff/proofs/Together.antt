@@ -10,29 +10,29 @@ use Rattle.agc_diff.proofs.Kept.{keep_one}
 use Rattle.agc_machine.specs.State.{State}
 use Rattle.agc_panel.specs.Face.{panel_of}
 use Rattle.agc_panel.specs.declared.face.Face.{Face}
-use Rattle.agc_diff.specs.ObservedPrefix.{FitsPair, GoTogether, apart, drift_of, kept, lefts, rights, seen}
+use Rattle.agc_diff.specs.ObservedPrefix.{FitsPair, GoTogether, apart, skew_of, kept, lefts, rights, seen}
 use Rattle.agc_diff.specs.ObservedCursor.{HasShown, shown_left}
 use Rattle.agc_diff.specs.Observation.{FitsShown, Look, look_of, looks_of, shown_by}
 use Rattle.agc_diff.specs.declared.observed.diff_by.DiffBy.{DiffBy}
-use Rattle.agc_diff.specs.declared.observed.common_prefix.Common.{Common}
+use Rattle.agc_diff.specs.declared.observed.common_prefix.CommonPrefix.{CommonPrefix}
 use Rattle.agc_diff.specs.declared.observed.comparison.Pair.{Pair}
 use Rattle.agc_diff.specs.declared.observed.observation.Observation.{Observation}
 
 -- Two runs have shown these pairs, which are alike, and each has reached a state.
-pub record HasMatched (what : DiffBy) (s t : State) (common : Common) (last : Buffer Pair) (p : Face) (u : State) (q : Face) (v : State) : Type 0 where
+pub record HasMatched (what : DiffBy) (s t : State) (common : CommonPrefix) (last : Buffer Pair) (p : Face) (u : State) (q : Face) (v : State) : Type 0 where
   pub pairs : List Pair
   pub left : shown_by what s ≡ lefts pairs ++ shown_left what p u
   pub right : shown_by what t ≡ rights pairs ++ shown_left what q v
   pub alike : looks_of (lefts pairs) ≡ looks_of (rights pairs)
   pub count : common.count ≡ length pairs
-  pub skew : common.skew ≡ drift_of pairs
+  pub skew : common.skew ≡ skew_of pairs
   pub last_ones : last ≡ buffer (keep_last kept pairs) kept
   pub fits : All FitsPair pairs
 
 -- no pair yet
-pub matched_none : (what : DiffBy) (s t : State) (common : Common) (last : Buffer Pair) (p q : Face) → p ≡ panel_of [] → q ≡ panel_of [] →
+pub matched_none : (what : DiffBy) (s t : State) (common : CommonPrefix) (last : Buffer Pair) (p q : Face) → p ≡ panel_of [] → q ≡ panel_of [] →
     common.count ≡ 0 → common.skew ≡ 0 → last ≡ buffer [] kept → HasMatched what s t common last p s q t
-unfolding drift_of
+unfolding skew_of
 matched_none what s t common last p q e f c d l =
     record {
       pairs = [];
@@ -63,13 +63,13 @@ alike_more pairs pair same alike =
 most_of : (a b c d : ℕ) → d ≡ max b c → max a d ≡ max (max a b) c
 most_of a b c d e = omega arith
 
-drift_more : (pairs : List Pair) (pair : Pair) → drift_of (pairs ++ pair ∷ []) ≡ max (drift_of pairs) (apart pair)
-unfolding drift_of
-drift_more [] pair = let most : (n : ℕ) → max n 0 ≡ max 0 n = λ n. omega arith in most (apart pair)
-drift_more (one ∷ pairs) pair = most_of (apart one) (drift_of pairs) (apart pair) (drift_of (pairs ++ pair ∷ [])) (drift_more pairs pair)
+skew_more : (pairs : List Pair) (pair : Pair) → skew_of (pairs ++ pair ∷ []) ≡ max (skew_of pairs) (apart pair)
+unfolding skew_of
+skew_more [] pair = let most : (n : ℕ) → max n 0 ≡ max 0 n = λ n. omega arith in most (apart pair)
+skew_more (one ∷ pairs) pair = most_of (apart one) (skew_of pairs) (apart pair) (skew_of (pairs ++ pair ∷ [])) (skew_more pairs pair)
 
 -- another pair
-pub matched_more : (what : DiffBy) (s t : State) (c d : Common) (last more : Buffer Pair) (p p2 : Face) (u u2 : State) (q q2 : Face) (v v2 : State)
+pub matched_more : (what : DiffBy) (s t : State) (c d : CommonPrefix) (last more : Buffer Pair) (p p2 : Face) (u u2 : State) (q q2 : Face) (v v2 : State)
     (x y : Option Observation) (pair : Pair) → HasShown what p u x p2 u2 → HasShown what q v y q2 v2 → IfSome x FitsShown → IfSome y FitsShown →
     (x ≡ Some pair.left) × (y ≡ Some pair.right) × (look_of pair.left.sight ≡ look_of pair.right.sight) →
     d.count ≡ c.count + 1 → d.skew ≡ max c.skew (apart pair) → more ≡ buffer (keep_last last.capacity (last.items ++ pair ∷ [])) last.capacity →
@@ -81,7 +81,7 @@ matched_more what s t c d last more p p2 u u2 q q2 v v2 x y pair a b fx fy meets
       right = one_more (λ (pair : Pair). pair.right) (shown_by what t) h.pairs pair y (shown_left what q v) (shown_left what q2 v2) h.right b.next meets.1;
       alike = alike_more h.pairs pair meets.2 h.alike;
       count = count ∙ ap (λ n. n + 1) h.count ∙ sym (length-append h.pairs (pair ∷ []));
-      skew = skew ∙ ap (λ n. max n (apart pair)) h.skew ∙ sym (drift_more h.pairs pair);
+      skew = skew ∙ ap (λ n. max n (apart pair)) h.skew ∙ sym (skew_more h.pairs pair);
       last_ones =
           l ∙ ap (λ (b : Buffer Pair). buffer (keep_last b.capacity (b.items ++ pair ∷ [])) b.capacity) h.last_ones
           ∙ ap (λ (xs : List Pair). buffer xs 5) (keep_one h.pairs pair);
@@ -111,7 +111,7 @@ get_after f all pairs x now rest e n h =
     ∙ slice_get-append_right (map f pairs) (cons_option x rest) (length pairs) 0 (omega (arith, length-map pairs f)) ∙ first_of x rest h
 
 -- they diverge here
-pub matched_apart : (what : DiffBy) (s t : State) (c : Common) (last : Buffer Pair) (p p2 : Face) (u u2 : State) (q q2 : Face) (v v2 : State)
+pub matched_apart : (what : DiffBy) (s t : State) (c : CommonPrefix) (last : Buffer Pair) (p p2 : Face) (u u2 : State) (q q2 : Face) (v v2 : State)
     (x y : Option Observation) (number : ℕ) → HasShown what p u x p2 u2 → HasShown what q v y q2 v2 → IfSome x FitsShown → IfSome y FitsShown →
     seen x ≢ seen y → number ≡ c.count + 1 → HasMatched what s t c last p u q v →
     GoTogether what s t c last (Some (record { number = number; left = x; right = y }))
@@ -143,7 +143,7 @@ all_of f all pairs x now rest e n none h =
     sym (ap length (e ∙ ap (λ (ys : List Observation). map f pairs ++ ys) nothing ∙ append-nil (map f pairs)) ∙ length-map pairs f)
 
 -- both have shown everything
-pub matched_all : (what : DiffBy) (s t : State) (c : Common) (last : Buffer Pair) (p p2 : Face) (u u2 : State) (q q2 : Face) (v v2 : State)
+pub matched_all : (what : DiffBy) (s t : State) (c : CommonPrefix) (last : Buffer Pair) (p p2 : Face) (u u2 : State) (q q2 : Face) (v v2 : State)
     (x y : Option Observation) → HasShown what p u x p2 u2 → HasShown what q v y q2 v2 → (x ≡ None) × (y ≡ None) → HasMatched what s t c last p u q v →
     GoTogether what s t c last None
 matched_all what s t c last p p2 u u2 q q2 v v2 x y a b over h =

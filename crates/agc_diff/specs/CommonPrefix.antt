@@ -9,7 +9,7 @@ use Rattle.agc_diff.specs.ObservedPrefix.{kept}
 use Rattle.agc_trace.specs.Entry.{FitsLine}
 use Rattle.agc_trace.specs.Trace.{trace_of}
 use Rattle.agc_trace.specs.declared.entry.Entry.{Entry}
-use Rattle.agc_diff.specs.declared.common_prefix.Common.{Common}
+use Rattle.agc_diff.specs.declared.common_prefix.CommonPrefix.{CommonPrefix}
 use Rattle.agc_diff.specs.declared.common_prefix.Divergence.{Divergence}
 
 -- a write, if there is one
@@ -26,7 +26,7 @@ abbrev pub run_after : List ChannelWrite → Run → Run
 run_after writes run = record { writes = writes ++ run.writes; last = run.last }
 
 -- the summary of the entries that two runs have in common
-pub record TellsEntries (entries : List Entry) (common : Common)
+pub record SummarizesEntries (entries : List Entry) (common : CommonPrefix)
     (last : Buffer Entry) : Type 0 where
   pub boundaries : common.boundaries ≡ length entries
   pub writes : common.writes ≡ length (entry_writes entries)
@@ -45,26 +45,26 @@ pub record HasEnded (s : State) (entries : List Entry) (t : State) : Type 0 wher
   pub run : run_of s ≡ run_after (entry_writes entries) (run_of t)
 
 -- a run has passed these entries, and then one more
-pub record HasParted (s : State) (entries : List Entry) (entry : Entry) (t : State) : Type 0 where
+pub record HasDiverged (s : State) (entries : List Entry) (entry : Entry) (t : State) : Type 0 where
   pub rest : List Entry
   pub trace : trace_of s ≡ entries ++ entry ∷ rest
   pub run : run_of s ≡ run_after (entry_writes entries ++ one_write entry.write) (run_of t)
   pub fits : FitsLine entry
 
 -- Two runs have reached a divergence after their common entries, or their stops if they have all entries in common.
-abbrev pub ComesApart : State → State → Common → Buffer Entry → Option Divergence → State → State → Type 0
+abbrev pub ComesApart : State → State → CommonPrefix → Buffer Entry → Option Divergence → State → State → Type 0
 ComesApart s t common last None u v =
-    (entries : List Entry) × TellsEntries entries common last × HasEnded s entries u
+    (entries : List Entry) × SummarizesEntries entries common last × HasEnded s entries u
     × HasEnded t entries v
-ComesApart s t common last (Some fork) u v =
-    (entries : List Entry) × TellsEntries entries common last × HasParted s entries fork.left u
-    × HasParted t entries fork.right v × (fork.left ≢ fork.right)
+ComesApart s t common last (Some diverging) u v =
+    (entries : List Entry) × SummarizesEntries entries common last × HasDiverged s entries diverging.left u
+    × HasDiverged t entries diverging.right v × (diverging.left ≢ diverging.right)
 
 -- the writes of the boundaries at a divergence
 abbrev pub held_left : Option Divergence → Option ChannelWrite
 held_left None = None
-held_left (Some fork) = fork.left.write
+held_left (Some diverging) = diverging.left.write
 
 abbrev pub held_right : Option Divergence → Option ChannelWrite
 held_right None = None
-held_right (Some fork) = fork.right.write
+held_right (Some diverging) = diverging.right.write

@@ -35,7 +35,7 @@ abbrev pub cells_at_end : State → List Number
 cells_at_end s = (end_of s).processor.store.erasable
 
 -- What two traces have in common: this many entries from the start, their writes, and the last five.
-pub record TellsCommon (xs ys : List Entry) (c : Comparison) : Type 0 where
+pub record SummarizesCommon (xs ys : List Entry) (c : Comparison) : Type 0 where
   pub same : take c.boundaries xs ≡ take c.boundaries ys
   pub within : c.boundaries ≤ length xs
   pub writes : c.writes ≡ length (entry_writes (take c.boundaries xs))
@@ -48,26 +48,26 @@ TracesPart count xs ys (Some divergence) =
     (divergence.number ≡ count + 1) × PartAfter count xs ys (Some divergence.left) (Some divergence.right)
 
 -- a machine has reached the end of its run, which is recorded: the stop, its cycle, and the panel of all writes
-pub record TellsEnd (s : State) (end : End) (t : State) : Type 0 where
+pub record ShowsEnd (s : State) (end : End) (t : State) : Type 0 where
   pub last : t ≡ end_of s
   pub stopped : (end_of s).stopped ≡ Some end.stop
   pub cycle : (end_of s).cycle ≡ end.cycle
   pub panel : end.panel ≡ panel_of (run_of s).writes
 
 -- each number in the report fits its digits
-abbrev pub FitsParting : Option DivergencePoint → Type 0
-FitsParting None = Unit {0}
-FitsParting (Some divergence) = FitsLine divergence.left × FitsLine divergence.right
+abbrev pub FitsDivergence : Option DivergencePoint → Type 0
+FitsDivergence None = Unit {0}
+FitsDivergence (Some divergence) = FitsLine divergence.left × FitsLine divergence.right
 
-abbrev pub FitsWriteParting : Option WriteDivergence → Type 0
-FitsWriteParting None = Unit {0}
-FitsWriteParting (Some divergence) = FitsWrite divergence.left × FitsWrite divergence.right
+abbrev pub FitsWriteDivergence : Option WriteDivergence → Type 0
+FitsWriteDivergence None = Unit {0}
+FitsWriteDivergence (Some divergence) = FitsWrite divergence.left × FitsWrite divergence.right
 
 abbrev pub IsCell : CellPair → Type 0
 IsCell cell = cell.place < erasable_cells
 
 pub record FitsLines (c : Comparison) : Type 0 where
   pub before : All FitsLine c.before.items
-  pub divergence : FitsParting c.divergence
-  pub write : FitsWriteParting c.write
+  pub divergence : FitsDivergence c.divergence
+  pub write : FitsWriteDivergence c.write
   pub cells : All IsCell c.cells.items

@@ -15,7 +15,7 @@ abbrev pub run_with : Option ChannelWrite → State → Run
 run_with held s = run_after (one_write held) (run_of s)
 
 -- A cursor has returned these writes of a run between two states, and its panel shows them.
-pub record HasGone (before : Cursor) (s : State) (writes : List ChannelWrite) (after : Cursor)
+pub record HasAdvanced (before : Cursor) (s : State) (writes : List ChannelWrite) (after : Cursor)
     (t : State) : Type 0 where
   pub run : run_with before.held s ≡ run_after writes (run_with after.held t)
   pub panel : (taken : List ChannelWrite) → before.panel ≡ panel_of taken
@@ -44,11 +44,11 @@ WritesPart before xs ys (Some divergence) =
     × PartAfter count xs ys divergence.left divergence.right
 
 -- The comparison of the writes of two runs: the first that differs, if one does, and how far both have run.
-pub record WritesTold (before : ℕ) (left right : Cursor) (s t : State)
+pub record FindsWriteDivergence (before : ℕ) (left right : Cursor) (s t : State)
     (divergence : Option WriteDivergence) (left_now right_now : Cursor) (u v : State) : Type 0 where
   pub writes : WritesPart before (run_with left.held s).writes (run_with right.held t).writes
       divergence
-  pub left_told : List ChannelWrite
-  pub left_gone : HasGone left s left_told left_now u
-  pub right_told : List ChannelWrite
-  pub right_gone : HasGone right t right_told right_now v
+  pub left_writes : List ChannelWrite
+  pub left_advanced : HasAdvanced left s left_writes left_now u
+  pub right_writes : List ChannelWrite
+  pub right_advanced : HasAdvanced right t right_writes right_now v

@@ -1,3 +1,4 @@
+pub mod Counted
 pub mod Observation
 pub mod ObservedCursor
 pub mod ObservedPrefix

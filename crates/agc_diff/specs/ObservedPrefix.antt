@@ -6,11 +6,11 @@ use Rattle.circular_buffer.specs.Buffer.{Buffer, buffer, keep_last}
 use Rattle.agc_machine.specs.State.{State}
 use Rattle.agc_diff.specs.Observation.{FitsShown, Look, look_of, looks_of, shown_by}
 use Rattle.agc_diff.specs.declared.observed.diff_by.DiffBy.{DiffBy}
-use Rattle.agc_diff.specs.declared.observed.common_prefix.Common.{Common}
+use Rattle.agc_diff.specs.declared.observed.common_prefix.CommonPrefix.{CommonPrefix}
 use Rattle.agc_diff.specs.declared.observed.comparison.Pair.{Pair}
 use Rattle.agc_diff.specs.declared.observed.comparison.ObservedDivergence.{ObservedDivergence}
 use Rattle.agc_diff.specs.declared.observed.pairing.Pairing.{Pairing}
-use Rattle.agc_diff.specs.declared.observed.pairing.Pairing.TheVariants as meeting
+use Rattle.agc_diff.specs.declared.observed.pairing.Pairing.TheVariants as pairing
 use Rattle.agc_diff.specs.declared.observed.observation.Observation.{Observation}
 
 -- the number of last pairs kept
@@ -29,9 +29,9 @@ abbrev pub apart : Pair → ℕ
 apart pair = abs_diff pair.left.cycle pair.right.cycle
 
 -- the largest difference between the cycles of a pair
-unfoldable pub drift_of : List Pair → ℕ
-drift_of [] = 0
-drift_of (pair ∷ pairs) = max (apart pair) (drift_of pairs)
+unfoldable pub skew_of : List Pair → ℕ
+skew_of [] = 0
+skew_of (pair ∷ pairs) = max (apart pair) (skew_of pairs)
 
 -- the observations of two runs side by side, as far as both have them
 unfoldable pub pairs_of : List Observation → List Observation → List Pair
@@ -45,12 +45,12 @@ seen (Some shown) = Some (look_of shown.sight)
 seen None = None
 
 -- the next observations of two runs, compared
-abbrev pub Meets : Option Observation → Option Observation → Pairing → Type 0
-Meets x y (meeting.Alike pair) =
+abbrev pub IsPairing : Option Observation → Option Observation → Pairing → Type 0
+IsPairing x y (pairing.Alike pair) =
     (x ≡ Some pair.left) × (y ≡ Some pair.right)
     × (look_of pair.left.sight ≡ look_of pair.right.sight)
-Meets x y meeting.Apart = seen x ≢ seen y
-Meets x y meeting.Over = (x ≡ None) × (y ≡ None)
+IsPairing x y pairing.Apart = seen x ≢ seen y
+IsPairing x y pairing.Over = (x ≡ None) × (y ≡ None)
 
 abbrev pub FitsPair : Pair → Type 0
 FitsPair pair = FitsShown pair.left × FitsShown pair.right
@@ -63,12 +63,12 @@ ShownPart count xs ys (Some divergence) =
     (divergence.number ≡ count + 1) × (slice_get xs count ≡ divergence.left)
     × (slice_get ys count ≡ divergence.right) × (seen divergence.left ≢ seen divergence.right)
 
-abbrev pub FitsParting : Option ObservedDivergence → Type 0
-FitsParting None = Unit {0}
-FitsParting (Some divergence) = IfSome divergence.left FitsShown × IfSome divergence.right FitsShown
+abbrev pub FitsDivergence : Option ObservedDivergence → Type 0
+FitsDivergence None = Unit {0}
+FitsDivergence (Some divergence) = IfSome divergence.left FitsShown × IfSome divergence.right FitsShown
 
 -- Two runs have shown these pairs, which are alike, and have diverged or reached their stops.
-pub record GoTogether (what : DiffBy) (s t : State) (common : Common) (last : Buffer Pair)
+pub record GoTogether (what : DiffBy) (s t : State) (common : CommonPrefix) (last : Buffer Pair)
     (divergence : Option ObservedDivergence) : Type 0 where
   pub pairs : List Pair
   pub left_rest : List Observation
@@ -77,8 +77,8 @@ pub record GoTogether (what : DiffBy) (s t : State) (common : Common) (last : Bu
   pub right : shown_by what t ≡ rights pairs ++ right_rest
   pub alike : looks_of (lefts pairs) ≡ looks_of (rights pairs)
   pub count : common.count ≡ length pairs
-  pub skew : common.skew ≡ drift_of pairs
+  pub skew : common.skew ≡ skew_of pairs
   pub last_ones : last ≡ buffer (keep_last kept pairs) kept
   pub fits : All FitsPair pairs
   pub part : ShownPart (length pairs) (shown_by what s) (shown_by what t) divergence
-  pub part_fits : FitsParting divergence
+  pub part_fits : FitsDivergence divergence

@@ -4,6 +4,7 @@ use Rattle.std.specs.Fmt.{decimal}
 use Rattle.std.specs.Str.Lines.{lines}
 use Rattle.agc_panel.specs.Text.{panel_text}
 use Rattle.agc_word.specs.Octal.{octal_digits, word_digits}
+use Rattle.agc_diff.specs.Counted.{counted}
 use Rattle.agc_diff.specs.declared.observed.diff_by.DiffBy.{DiffBy}
 use Rattle.agc_diff.specs.declared.observed.diff_by.DiffBy.TheVariants as kind
 use Rattle.agc_diff.specs.declared.observed.comparison.Pair.{Pair}
@@ -18,6 +19,15 @@ abbrev pub item_name : DiffBy → List ℕ
 item_name kind.Writes = codes "write"
 item_name (kind.Channel channel) = codes "word"
 item_name kind.Panels = codes "panel"
+
+-- how many such observations
+abbrev pub items_counted : DiffBy → ℕ → List ℕ
+items_counted kind.Writes n = counted n (codes "write") (codes "writes")
+items_counted (kind.Channel channel) n = counted n (codes "word") (codes "words")
+items_counted kind.Panels n = counted n (codes "panel") (codes "panels")
+
+abbrev pub cycles_counted : ℕ → List ℕ
+cycles_counted n = counted n (codes "cycle") (codes "cycles")
 
 -- a line after a space
 abbrev pub spaced : List ℕ → List ℕ
@@ -41,16 +51,16 @@ shown_text (Some shown) = decimal shown.cycle ++ observed_text shown.sight ++ co
 shown_text None = codes "-\n"
 
 -- what each run shows where they diverge
-unfoldable pub parting_text : ObservedDivergence → List ℕ
-parting_text divergence =
+unfoldable pub divergence_text : ObservedDivergence → List ℕ
+divergence_text divergence =
     codes "< " ++ shown_text divergence.left ++ codes "> " ++ shown_text divergence.right
 
 -- two runs that show the same
 unfoldable pub same_text : ObservedComparison → List ℕ
 same_text c =
-    codes "The runs show the same: " ++ decimal c.count ++ codes " " ++ item_name c.what
-    ++ codes "s, and their clocks are never more than " ++ decimal c.skew
-    ++ codes " cycles apart\n"
+    codes "The runs show the same: " ++ items_counted c.what c.count
+    ++ codes ", and their clocks are never more than " ++ cycles_counted c.skew
+    ++ codes " apart\n"
 
 -- the number of the first observation that differs
 unfoldable pub number_text : DiffBy → ℕ → List ℕ
@@ -58,10 +68,10 @@ number_text what number =
     codes "The runs part at " ++ item_name what ++ codes " " ++ decimal number ++ codes ":\n"
 
 -- how far apart the clocks were before
-unfoldable pub drift_text : ℕ → List ℕ
-drift_text skew =
-    codes "Before that their clocks are never more than " ++ decimal skew
-    ++ codes " cycles apart\n"
+unfoldable pub skew_text : ℕ → List ℕ
+skew_text skew =
+    codes "Before that their clocks are never more than " ++ cycles_counted skew
+    ++ codes " apart\n"
 
 -- One line if the runs show the same. Otherwise where they diverge, with the pairs before it, what each shows there,
 -- and how far apart the clocks were before.
@@ -69,7 +79,7 @@ unfoldable pub report_of : ObservedComparison → Option ObservedDivergence → 
 report_of c None = same_text c
 report_of c (Some divergence) =
     number_text c.what divergence.number ++ flat_map pair_text c.before.items
-    ++ parting_text divergence ++ drift_text c.skew
+    ++ divergence_text divergence ++ skew_text c.skew
 
 -- the cycle of the observation on the left; without one, of that on the right
 abbrev pub first_cycle : Option Observation → Option Observation → ℕ

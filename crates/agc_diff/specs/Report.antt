@@ -16,6 +16,7 @@ use Rattle.agc_listing.specs.Cell.{cell_place, cell_word}
 use Rattle.agc_machine.specs.Answer.{stop_name}
 use Rattle.agc_trace.specs.declared.entry.Entry.{Entry}
 use Rattle.agc_diff.specs.Compare.{is_same}
+use Rattle.agc_diff.specs.Counted.{counted}
 use Rattle.agc_diff.specs.declared.cells.CellPair.{CellPair}
 use Rattle.agc_diff.specs.declared.comparison.Comparison.{Comparison}
 use Rattle.agc_diff.specs.declared.comparison.DivergencePoint.{DivergencePoint}
@@ -27,19 +28,28 @@ pub record Names : Type 0 where
   pub left : Option (List Symbol)
   pub right : Option (List Symbol)
 
+abbrev pub boundaries_counted : ℕ → List ℕ
+boundaries_counted n = counted n (codes "boundary") (codes "boundaries")
+
+abbrev pub writes_counted : ℕ → List ℕ
+writes_counted n = counted n (codes "write") (codes "writes")
+
+abbrev pub last_cycle_text : ℕ → List ℕ
+last_cycle_text cycle = codes ", stop at cycle " ++ decimal cycle ++ codes "\n"
+
 -- two runs that are the same
 unfoldable pub same_text : Comparison → List ℕ
 same_text c =
-    codes "The runs are the same: " ++ decimal c.boundaries ++ codes " boundaries, "
-    ++ decimal c.writes ++ codes " writes, stop at cycle " ++ decimal c.left.cycle ++ codes "\n"
+    codes "The runs are the same: " ++ boundaries_counted c.boundaries ++ codes ", "
+    ++ writes_counted c.writes ++ last_cycle_text c.left.cycle
 
 -- a line that both runs have, indented by two spaces
 unfoldable pub entry_text : Option (List Symbol) → Entry → List ℕ
 entry_text names entry = codes "  " ++ line_with names entry
 
 -- the first boundary that differs, the line of each run with its own symbols
-unfoldable pub parting_text : Names → DivergencePoint → List ℕ
-parting_text names divergence =
+unfoldable pub divergence_text : Names → DivergencePoint → List ℕ
+divergence_text names divergence =
     codes "< " ++ line_with names.left divergence.left
     ++ codes "> " ++ line_with names.right divergence.right
 
@@ -54,10 +64,10 @@ number_text divergence =
 unfoldable pub boundaries_text : Names → Comparison → Option DivergencePoint → List ℕ
 boundaries_text names c (Some divergence) =
     number_text divergence ++ flat_map (entry_text names.left) c.before.items
-    ++ parting_text names divergence
+    ++ divergence_text names divergence
 boundaries_text names c None =
-    codes "The runs are the same for " ++ decimal c.boundaries ++ codes " boundaries and "
-    ++ decimal c.writes ++ codes " writes, but not in their cells\n"
+    codes "The runs are the same for " ++ boundaries_counted c.boundaries ++ codes " and "
+    ++ writes_counted c.writes ++ codes ", but not in their cells\n"
 
 -- a write with its cycle, or that there is no further one
 unfoldable pub write_text : Option ChannelWrite → List ℕ
@@ -72,11 +82,11 @@ write_number_text number =
     codes "The first write that differs is number " ++ decimal number ++ codes ":\n"
 
 -- the first channel write that differs
-unfoldable pub write_parting_text : Option WriteDivergence → List ℕ
-write_parting_text (Some divergence) =
+unfoldable pub write_divergence_text : Option WriteDivergence → List ℕ
+write_divergence_text (Some divergence) =
     write_number_text divergence.number ++ codes "< " ++ write_text divergence.left ++ codes "> "
     ++ write_text divergence.right
-write_parting_text None = []
+write_divergence_text None = []
 
 -- two lines, if they differ
 unfoldable pub line_pair_text : List ℕ × List ℕ → List ℕ
@@ -116,6 +126,6 @@ ends_text left right = codes "< " ++ end_text left ++ codes "> " ++ end_text rig
 unfoldable pub report_of : Names → Comparison → List ℕ
 report_of names c =
     if is_same c then same_text c
-    else boundaries_text names c c.divergence ++ write_parting_text c.write
+    else boundaries_text names c c.divergence ++ write_divergence_text c.write
     ++ panels_text c.left.panel c.right.panel ++ cells_text c.cells.items
     ++ ends_text c.left c.right

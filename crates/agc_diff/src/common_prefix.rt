@@ -16,7 +16,7 @@ use std::alloc::AllocError;
 
 /// The common start of two runs.
 #[derive(Clone, Copy, Debug, PartialEq, Eq)]
-pub(crate) struct Common {
+pub(crate) struct CommonPrefix {
     /// The number of boundaries from the start that are the same.
     pub(crate) boundaries: u64,
     /// The number of channel writes of these boundaries.
@@ -39,22 +39,22 @@ pub(crate) fn run_together<P: Progress>(
     right: &mut Machine,
     last: &mut HeapCircularBuffer<Entry>,
     progress: &mut P,
-) -> Result<(Common, Option<Divergence>), AllocError>
+) -> Result<(CommonPrefix, Option<Divergence>), AllocError>
     requires { last.old ≡ buffer [] kept }
-    ensures { IfOk result (λ (common, fork).
-        ComesApart left.old right.old common last.new fork left.new right.new) }
+    ensures { IfOk result (λ (common, diverging).
+        ComesApart left.old right.old common last.new diverging left.new right.new) }
 {
-    let mut common = Common::none();
+    let mut common = CommonPrefix::none();
     let mut mark = 0;
     loop {
         let left_entry = next_entry(left);
         let right_entry = next_entry(right);
         if !is_same_entry(&left_entry, &right_entry) {
-            let fork = Divergence {
+            let diverging = Divergence {
                 left: left_entry,
                 right: right_entry,
             };
-            return Ok((common, Some(fork)));
+            return Ok((common, Some(diverging)));
         }
         common.take(left_entry.write)?;
         push_last(last, left_entry);
@@ -65,19 +65,19 @@ pub(crate) fn run_together<P: Progress>(
     }
 }
 
-impl Common {
+impl CommonPrefix {
     ghost use Rattle.std.specs.Prelude.{◌≡◌, ◌+◌, [], ◌++◌, List, length, OnOk};
     ghost use Rattle.agc_word.specs.declared.channel_write.ChannelWrite.{ChannelWrite};
     ghost use Rattle.agc_panel.specs.Face.{panel_of};
     ghost use Rattle.agc_diff.specs.CommonPrefix.{one_write};
 
     /// Returns an empty common start.
-    fn none() -> Common
+    fn none() -> CommonPrefix
         ensures boundaries { result.boundaries ≡ 0 }
         ensures writes { result.writes ≡ 0 }
         ensures panel { result.panel ≡ panel_of [] }
     {
-        Common {
+        CommonPrefix {
             boundaries: 0,
             writes: 0,
             panel: Panel::new(),

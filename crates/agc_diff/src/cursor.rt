@@ -4,7 +4,7 @@ ghost use Rattle.agc_word.specs.declared.channel_write.ChannelWrite.{ChannelWrit
 ghost use Rattle.agc_panel.specs.Face.{panel_of};
 ghost use Rattle.agc_diff.specs.CommonPrefix.{one_write};
 ghost use Rattle.agc_machine.specs.Run.{run_of};
-ghost use Rattle.agc_diff.specs.Cursor.{IsEnd, WritesTold};
+ghost use Rattle.agc_diff.specs.Cursor.{IsEnd, FindsWriteDivergence};
 
 use crate::observed::{next_write, one_more};
 use crate::same::is_same_write;
@@ -53,7 +53,7 @@ pub(crate) fn first_write_apart<P: Progress>(
     right_machine: &mut Machine,
     progress: &mut P,
 ) -> Result<Option<WriteDivergence>, AllocError>
-    ensures { IfOk result (λ divergence. WritesTold before left.old right.old left_machine.old
+    ensures { IfOk result (λ divergence. FindsWriteDivergence before left.old right.old left_machine.old
         right_machine.old divergence left.new right.new left_machine.new right_machine.new) }
 {
     let mut number = before;
@@ -133,7 +133,7 @@ fn run_out<P: Progress>(mut panel: Panel, machine: &mut Machine, progress: &mut 
 impl Cursor {
     ghost use Rattle.std.specs.Prelude.{◌≡◌, [], None};
     ghost use Rattle.agc_diff.specs.CommonPrefix.{one_write};
-    ghost use Rattle.agc_diff.specs.Cursor.{HasGone, IsEnd, run_with};
+    ghost use Rattle.agc_diff.specs.Cursor.{HasAdvanced, IsEnd, run_with};
 
     /// Advances to the next write. Returns `None` if the machine stops before one.
     fn next_write<P: Progress>(
@@ -141,7 +141,7 @@ impl Cursor {
         machine: &mut Machine,
         progress: &mut P,
     ) -> Option<ChannelWrite>
-        ensures gone { HasGone self.old machine.old (one_write result) self.new machine.new }
+        ensures gone { HasAdvanced self.old machine.old (one_write result) self.new machine.new }
         ensures ended { result ≡ None → (run_with self.new.held machine.new).writes ≡ [] }
     {
         let write = match self.held {

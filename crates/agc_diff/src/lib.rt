@@ -4,6 +4,7 @@
 mod cells;
 mod common_prefix;
 mod comparison;
+mod counted;
 mod cursor;
 mod observed;
 mod report;

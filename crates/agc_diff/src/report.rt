@@ -3,28 +3,32 @@ ghost use Rattle.std.specs.Prelude.{◌≡◌, ◌<◌, ◌++◌, All, OnOk, fla
 ghost use Rattle.std.specs.List.{zip};
 ghost use Rattle.std.specs.Str.Lines.{lines};
 ghost use Rattle.agc_trace.specs.Entry.{FitsLine, FitsWrite};
-ghost use Rattle.agc_diff.specs.Compare.{FitsLines, FitsWriteParting, IsCell};
+ghost use Rattle.agc_diff.specs.Compare.{FitsLines, FitsWriteDivergence, IsCell};
 ghost use Rattle.agc_diff.specs.SideNames.{both_names};
 ghost use Rattle.agc_diff.specs.Report.{
+  boundaries_counted,
   boundaries_text,
   cell_text,
   cells_text,
   end_text,
   ends_text,
   entry_text,
+  last_cycle_text,
   line_pair_text,
   number_text,
   panels_text,
-  parting_text,
+  divergence_text,
   report_of,
   same_text,
   write_number_text,
-  write_parting_text,
+  write_divergence_text,
   write_text,
+  writes_counted,
 };
 
 use crate::cells::CellPair;
 use crate::comparison::{Comparison, DivergencePoint};
+use crate::counted::push_counted;
 use crate::cursor::{End, WriteDivergence};
 use agc_listing::{Cell, push_cell_word, push_place};
 use agc_panel::Panel;
@@ -59,7 +63,7 @@ pub fn push_comparison(
         return push_same(text, comparison);
     }
     push_boundaries(text, names, comparison)?;
-    push_write_parting(text, comparison.write)?;
+    push_write_divergence(text, comparison.write)?;
     push_panels(text, &comparison.left.panel, &comparison.right.panel)?;
     push_cells(text, comparison.cells.as_slice())?;
     push_ends(text, comparison.left, comparison.right)
@@ -71,13 +75,32 @@ fn push_same(text: &mut String, comparison: &Comparison) -> Result<(), AllocErro
     ensures { OnOk result (string_bytes text.new
         ≡ string_bytes text.old ++ same_text comparison.now) }
 {
-    let boundaries = comparison.boundaries;
-    let writes = comparison.writes;
-    let cycle = comparison.left.cycle;
-    writeln!(
-        text,
-        "The runs are the same: {boundaries} boundaries, {writes} writes, stop at cycle {cycle}"
-    )
+    text.push_str("The runs are the same: ")?;
+    push_boundary_count(text, comparison.boundaries)?;
+    text.push_str(", ")?;
+    push_write_count(text, comparison.writes)?;
+    push_last_cycle(text, comparison.left.cycle)
+}
+
+fn push_last_cycle(text: &mut String, cycle: u64) -> Result<(), AllocError>
+    ensures { OnOk result
+        (string_bytes text.new ≡ string_bytes text.old ++ last_cycle_text cycle) }
+{
+    writeln!(text, ", stop at cycle {cycle}")
+}
+
+fn push_boundary_count(text: &mut String, count: u64) -> Result<(), AllocError>
+    ensures { OnOk result
+        (string_bytes text.new ≡ string_bytes text.old ++ boundaries_counted count) }
+{
+    push_counted(text, count, "boundary", "boundaries")
+}
+
+fn push_write_count(text: &mut String, count: u64) -> Result<(), AllocError>
+    ensures { OnOk result
+        (string_bytes text.new ≡ string_bytes text.old ++ writes_counted count) }
+{
+    push_counted(text, count, "write", "writes")
 }
 
 /// Adds the first boundary that differs, with the lines before it, or that no boundary differs.
@@ -95,15 +118,14 @@ fn push_boundaries(
         Some(divergence) => {
             push_number(text, &divergence)?;
             push_entries(text, names.left, comparison.before.as_slice())?;
-            push_parting(text, names, &divergence)
+            push_divergence(text, names, &divergence)
         }
         None => {
-            let boundaries = comparison.boundaries;
-            let writes = comparison.writes;
-            writeln!(
-                text,
-                "The runs are the same for {boundaries} boundaries and {writes} writes, but not in their cells"
-            )
+            text.push_str("The runs are the same for ")?;
+            push_boundary_count(text, comparison.boundaries)?;
+            text.push_str(" and ")?;
+            push_write_count(text, comparison.writes)?;
+            text.push_str(", but not in their cells\n")
         }
     }
 }
@@ -154,8 +176,8 @@ fn push_entry(
 }
 
 /// Adds the two lines that differ.
-#[tactic(auto, unfolding(crate::specs::Report::parting_text))]
-fn push_parting(
+#[tactic(auto, unfolding(crate::specs::Report::divergence_text))]
+fn push_divergence(
     text: &mut String,
     names: SideNames<'_>,
     divergence: &DivergencePoint,
@@ -163,7 +185,7 @@ fn push_parting(
     requires left { FitsLine divergence.now.left }
     requires right { FitsLine divergence.now.right }
     ensures { OnOk result (string_bytes text.new
-        ≡ string_bytes text.old ++ parting_text (both_names names.entry) divergence.now) }
+        ≡ string_bytes text.old ++ divergence_text (both_names names.entry) divergence.now) }
 {
     text.push_str("< ")?;
     push_line_with(text, names.left, &divergence.left)?;
@@ -172,14 +194,14 @@ fn push_parting(
 }
 
 /// Adds the first channel write that differs, if one does.
-#[tactic(auto, unfolding(crate::specs::Report::write_parting_text))]
-fn push_write_parting(
+#[tactic(auto, unfolding(crate::specs::Report::write_divergence_text))]
+fn push_write_divergence(
     text: &mut String,
     divergence: Option<WriteDivergence>,
 ) -> Result<(), AllocError>
-    requires { FitsWriteParting divergence }
+    requires { FitsWriteDivergence divergence }
     ensures { OnOk result (string_bytes text.new
-        ≡ string_bytes text.old ++ write_parting_text divergence) }
+        ≡ string_bytes text.old ++ write_divergence_text divergence) }
 {
     match divergence {
         Some(divergence) => {

@@ -7,7 +7,7 @@ use crate::observed::comparison::{ObservedDivergence, Pair};
 use crate::observed::count::one_more;
 use crate::observed::cursor::Cursor;
 use crate::observed::diff_by::DiffBy;
-use crate::observed::pairing::{Pairing, meeting_of};
+use crate::observed::pairing::{Pairing, pairing_of};
 use agc_io::Progress;
 use agc_machine::Machine;
 use circular_buffer::HeapCircularBuffer;
@@ -18,7 +18,7 @@ const KEPT: usize = 5;
 
 /// The common start of two runs, by their observations.
 #[derive(Clone, Copy, Debug, PartialEq, Eq)]
-pub(crate) struct Common {
+pub(crate) struct CommonPrefix {
     /// The number of pairs.
     pub(crate) count: u64,
     /// The largest difference between the cycles of a pair.
@@ -41,19 +41,19 @@ pub(crate) fn go_together<P: Progress>(
     right: &mut Machine,
     last: &mut HeapCircularBuffer<Pair>,
     progress: &mut P,
-) -> Result<(Common, Option<ObservedDivergence>), AllocError>
+) -> Result<(CommonPrefix, Option<ObservedDivergence>), AllocError>
     requires { last.old ≡ buffer [] kept }
     ensures { IfOk result (λ (common, divergence).
         GoTogether what left.old right.old common last.new divergence) }
 {
-    let mut left_follower = Cursor::new();
-    let mut right_follower = Cursor::new();
-    let mut common = Common::none();
+    let mut left_cursor = Cursor::new();
+    let mut right_cursor = Cursor::new();
+    let mut common = CommonPrefix::none();
     loop {
-        let left_shown = left_follower.next_shown(alloc, what, left, progress)?;
-        let right_shown = right_follower.next_shown(alloc, what, right, progress)?;
-        let meeting = meeting_of(alloc, left_shown, right_shown)?;
-        match meeting {
+        let left_shown = left_cursor.next_shown(alloc, what, left, progress)?;
+        let right_shown = right_cursor.next_shown(alloc, what, right, progress)?;
+        let pairing = pairing_of(alloc, left_shown, right_shown)?;
+        match pairing {
             Pairing::Alike(pair) => {
                 common.take(&pair)?;
                 push_last(last, pair);
@@ -71,16 +71,16 @@ pub(crate) fn go_together<P: Progress>(
     }
 }
 
-impl Common {
+impl CommonPrefix {
     ghost use Rattle.std.specs.Prelude.{◌≡◌, ◌+◌, max, OnOk};
     ghost use Rattle.agc_diff.specs.ObservedPrefix.{apart};
 
     /// Returns an empty common start.
-    fn none() -> Common
+    fn none() -> CommonPrefix
         ensures count { result.count ≡ 0 }
         ensures skew { result.skew ≡ 0 }
     {
-        Common { count: 0, skew: 0 }
+        CommonPrefix { count: 0, skew: 0 }
     }
 
     /// Adds one more pair. Fails if the count overflows.

@@ -1,6 +1,6 @@
 //! Pairs the next observations of two runs.
 ghost use Rattle.std.specs.Prelude.{◌≡◌, IfOk};
-ghost use Rattle.agc_diff.specs.ObservedPrefix.{Meets};
+ghost use Rattle.agc_diff.specs.ObservedPrefix.{IsPairing};
 
 use crate::observed::comparison::Pair;
 use crate::observed::observation::{Observation, are_alike};
@@ -18,12 +18,12 @@ pub(crate) enum Pairing {
 }
 
 /// Compares the next observations of two runs; `None` means that a run has no further one. Fails if memory runs out.
-pub(crate) fn meeting_of(
+pub(crate) fn pairing_of(
     alloc: Global,
     left: Option<Observation>,
     right: Option<Observation>,
 ) -> Result<Pairing, AllocError>
-    ensures { IfOk result (λ meeting. Meets left right meeting) }
+    ensures { IfOk result (λ pairing. IsPairing left right pairing) }
 {
     match (left, right) {
         (Some(left), Some(right)) => {

@@ -6,11 +6,13 @@ ghost use Rattle.agc_diff.specs.ObservedPrefix.{FitsPair};
 ghost use Rattle.agc_diff.specs.ObservedCompared.{FitsLines};
 ghost use Rattle.agc_diff.specs.ObservedReport.{
   brief_of,
-  drift_text,
+  cycles_counted,
+  skew_text,
   first_cycle,
+  items_counted,
   number_text,
   pair_text,
-  parting_text,
+  divergence_text,
   report_of,
   same_text,
   shown_text,
@@ -19,6 +21,7 @@ ghost use Rattle.agc_diff.specs.ObservedReport.{
 };
 ghost use Rattle.agc_diff.specs.Observation.{FitsShown, FitsSight};
 
+use crate::counted::push_counted;
 use crate::observed::comparison::{ObservedComparison, ObservedDivergence, Pair};
 use crate::observed::diff_by::DiffBy;
 use crate::observed::observation::{Observation, Observed};
@@ -39,8 +42,8 @@ pub fn push_shown(text: &mut String, comparison: &ObservedComparison) -> Result<
         Some(divergence) => {
             push_number(text, comparison.what, divergence.number)?;
             push_pairs(text, comparison.before.as_slice())?;
-            push_parting(text, &divergence)?;
-            push_drift(text, comparison.skew)
+            push_divergence(text, &divergence)?;
+            push_skew(text, comparison.skew)
         }
         None => push_same(text, comparison),
     }
@@ -82,13 +85,29 @@ fn push_same(text: &mut String, comparison: &ObservedComparison) -> Result<(), A
     ensures { OnOk result (string_bytes text.new
         ≡ string_bytes text.old ++ same_text comparison.now) }
 {
-    let count = comparison.count;
-    let item = comparison.what.item();
-    let skew = comparison.skew;
-    writeln!(
-        text,
-        "The runs show the same: {count} {item}s, and their clocks are never more than {skew} cycles apart"
-    )
+    text.push_str("The runs show the same: ")?;
+    push_item_count(text, comparison.what, comparison.count)?;
+    text.push_str(", and their clocks are never more than ")?;
+    push_cycle_count(text, comparison.skew)?;
+    text.push_str(" apart\n")
+}
+
+fn push_item_count(text: &mut String, what: DiffBy, count: u64) -> Result<(), AllocError>
+    ensures { OnOk result
+        (string_bytes text.new ≡ string_bytes text.old ++ items_counted what count) }
+{
+    match what {
+        DiffBy::Writes => push_counted(text, count, "write", "writes"),
+        DiffBy::Channel(_) => push_counted(text, count, "word", "words"),
+        DiffBy::Panels => push_counted(text, count, "panel", "panels"),
+    }
+}
+
+fn push_cycle_count(text: &mut String, count: u64) -> Result<(), AllocError>
+    ensures { OnOk result
+        (string_bytes text.new ≡ string_bytes text.old ++ cycles_counted count) }
+{
+    push_counted(text, count, "cycle", "cycles")
 }
 
 /// Adds the number of the first observation that differs.
@@ -127,12 +146,12 @@ fn push_pair(text: &mut String, pair: &Pair) -> Result<(), AllocError>
 }
 
 /// Adds what each run shows where they diverge.
-#[tactic(auto, unfolding(crate::specs::ObservedReport::parting_text))]
-fn push_parting(text: &mut String, divergence: &ObservedDivergence) -> Result<(), AllocError>
+#[tactic(auto, unfolding(crate::specs::ObservedReport::divergence_text))]
+fn push_divergence(text: &mut String, divergence: &ObservedDivergence) -> Result<(), AllocError>
     requires left { IfSome divergence.now.left FitsShown }
     requires right { IfSome divergence.now.right FitsShown }
     ensures { OnOk result (string_bytes text.new
-        ≡ string_bytes text.old ++ parting_text divergence.now) }
+        ≡ string_bytes text.old ++ divergence_text divergence.now) }
 {
     text.push_str("< ")?;
     push_one(text, divergence.left)?;
@@ -208,12 +227,11 @@ fn push_line(text: &mut String, line: &str) -> Result<(), AllocError>
 }
 
 /// Adds how far apart the clocks of two runs were before they diverged.
-#[tactic(auto, unfolding(crate::specs::ObservedReport::drift_text))]
-fn push_drift(text: &mut String, skew: u64) -> Result<(), AllocError>
-    ensures { OnOk result (string_bytes text.new ≡ string_bytes text.old ++ drift_text skew) }
+#[tactic(auto, unfolding(crate::specs::ObservedReport::skew_text))]
+fn push_skew(text: &mut String, skew: u64) -> Result<(), AllocError>
+    ensures { OnOk result (string_bytes text.new ≡ string_bytes text.old ++ skew_text skew) }
 {
-    writeln!(
-        text,
-        "Before that their clocks are never more than {skew} cycles apart"
-    )
+    text.push_str("Before that their clocks are never more than ")?;
+    push_cycle_count(text, skew)?;
+    text.push_str(" apart\n")
 }

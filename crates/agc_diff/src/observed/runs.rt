@@ -1,7 +1,7 @@
 //! Runs two machines side by side and compares their observations.
 ghost use Rattle.std.specs.Prelude.{◌≡◌, ◌↔◌, IfOk, IsTrue};
 ghost use Rattle.agc_diff.specs.ObservedPrefix.{ShownPart};
-ghost use Rattle.agc_diff.specs.ObservedCompared.{FitsLines, TellsPairs, is_same};
+ghost use Rattle.agc_diff.specs.ObservedCompared.{FitsLines, SummarizesPairs, is_same};
 ghost use Rattle.agc_diff.specs.Observation.{looks_of, shown_by};
 
 use crate::observed::common_prefix::{go_together, none_kept};
@@ -24,7 +24,7 @@ pub fn compare_shown<P: Progress>(
         ↔ (looks_of (shown_by what left.old) ≡ looks_of (shown_by what right.old))) }
     ensures compared { IfOk result (λ c. c.what ≡ what) }
     ensures pairs { IfOk result (λ c.
-        TellsPairs (shown_by what left.old) (shown_by what right.old) c) }
+        SummarizesPairs (shown_by what left.old) (shown_by what right.old) c) }
     ensures divergence { IfOk result (λ c.
         ShownPart c.count (shown_by what left.old) (shown_by what right.old) c.divergence) }
     ensures fits { IfOk result (λ c. FitsLines c) }

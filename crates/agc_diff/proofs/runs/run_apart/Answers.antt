@@ -1,6 +1,6 @@
-use Rattle.agc_diff.proofs.Compared.{ends_told}
+use Rattle.agc_diff.proofs.Compared.{ends_reported}
 use Rattle.agc_diff.proofs.runs.run_apart.Goals as goal
 
 pub returns : goal.returns
 returns g c =
-    ends_told c.args.common c.args.fork _ _ _ _ _ _ _ _ _ _ _ _ _ c.held_writes.ensures.left c.held_writes.ensures.right c.in_ok-write.ensures c.finish.ensures c.finish-2.ensures
+    ends_reported c.args.common c.args.diverging _ _ _ _ _ _ _ _ _ _ _ _ _ c.held_writes.ensures.left c.held_writes.ensures.right c.in_ok-write.ensures c.finish.ensures c.finish-2.ensures

@@ -5,7 +5,7 @@ use Rattle.agc_diff.proofs.observed.common_prefix.go_together.Given as goal
 
 -- what both runs have shown so far is alike
 abbrev pub invariant-loop-left_shown : goal.invariant-loop-left_shown
-invariant-loop-left_shown g l = HasMatched l.what l.initial.left l.initial.right l.common l.last l.left_follower.panel l.left l.right_follower.panel l.right
+invariant-loop-left_shown g l = HasMatched l.what l.initial.left l.initial.right l.common l.last l.left_cursor.panel l.left l.right_cursor.panel l.right
 
 abbrev pub decreases-loop-left_shown : goal.decreases-loop-left_shown
-decreases-loop-left_shown g l = length (shown_left l.what l.left_follower.panel l.left)
+decreases-loop-left_shown g l = length (shown_left l.what l.left_cursor.panel l.left)
