@@ -7,6 +7,12 @@ use clap::{Arg, ArgMatches, Command};
 use std::alloc::{AllocError, Global};
 use std::rt::Env;
 
+/// What `clap` says of a number with another letter than a digit.
+const NO_DIGIT: &str = "invalid digit found in string";
+
+/// How a number is written.
+const DIGITS: &str = "write decimal digits only, such as 1000000";
+
 /// The arguments of a program.
 pub trait Args: Sized {
     /// The program's name.
@@ -50,7 +56,18 @@ pub fn parse<'a, A: Args>(alloc: Global, words: &'a [&'a str]) -> Result<A, Args
     let command = A::command(alloc)?;
     match command.try_get_matches_from(words) {
         Ok(matches) => Ok(A::from_matches(alloc, &matches)?),
-        Err(error) => Err(fault_of(alloc, &error)),
+        Err(error) => Err(mistake_of(alloc, &error)),
+    }
+}
+
+/// Converts an error of `clap` into a fault. For a number that is malformed, the message says how to write one.
+fn mistake_of(alloc: Global, error: &clap::Error) -> ArgsFault {
+    match fault_of(alloc, error) {
+        ArgsFault::Command(text) => match text.replace(alloc, NO_DIGIT, DIGITS) {
+            Ok(text) => ArgsFault::Command(text),
+            Err(_) => ArgsFault::Memory,
+        },
+        other => other,
     }
 }
 

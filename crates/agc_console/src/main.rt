@@ -37,7 +37,7 @@ where
     R: Files + AllocGlobal,
 {
     match asked {
-        Ok(asked) => match sit_down(rt, &asked) {
+        Ok(asked) => match open_all(rt, &asked) {
             Ok((session, names)) => {
                 status_after(run_repl(rt.alloc(), session, &names, commands, out), err)
             }
@@ -48,7 +48,7 @@ where
 }
 
 /// Opens the session at the start of time, and the symbols, which are checked first.
-fn sit_down<R: Files + AllocGlobal>(
+fn open_all<R: Files + AllocGlobal>(
     rt: &R,
     asked: &Console,
 ) -> Result<(Session, Option<SymbolTable>), Error> {

@@ -19,7 +19,7 @@ impl Args for Console {
     /// is the last possible cycle.
     fn command<'a>(alloc: Global) -> Result<Command<'a>, AllocError> {
         let command = Command::new(alloc, Console::NAME).about(
-            "Runs a rope on an emulated Block II computer by commands: a line each on standard input, answered before the next is read. The command help lists them. The script may be /dev/null.",
+            "Runs a rope by commands: a line each on standard input, answered before the next is read. The command help lists them. Example: printf 'key VERB\\ngo 85333\\npanel\\n' | agc-console ROPE /dev/null",
         );
         let command = with_session_args(alloc, command, script_file(alloc))?;
         with_parameter(command, names_option(alloc))

@@ -1,7 +1,7 @@
 -- How the parts of an answer make up the whole.
-use Rattle.std.specs.Prelude.{◌≡◌, ◌≢◌, ◌⊎◌, ℕ, ◌+◌, ◌==◌, Bool, true, false, List, [], ◌++◌, length, Option, None, Some, Result, Ok, Err, IfOk, MatchResult, OnOk, IsErrOf, codes, flat_map, if◌then◌else◌}
+use Rattle.std.specs.Prelude.{◌≡◌, ◌≢◌, ◌⊎◌, ℕ, ◌+◌, ◌==◌, nat_le, Bool, true, false, List, [], ◌++◌, length, Option, None, Some, Result, Ok, Err, IfOk, IfSome, MatchResult, OnOk, IsErrOf, codes, flat_map, if◌then◌else◌}
 use Rattle.std.specs.Io.KnownBytes.{Appends, append_known}
-use Rattle.std.proofs.Common.{refl, ap, sym, subst, ◌∙◌}
+use Rattle.std.proofs.Common.{refl, ap, sym, subst, ◌∙◌, inl, inr}
 use Rattle.std.proofs.KnownBytes.{Appends-trans}
 use Rattle.std.proofs.lemmas.Bool.{eq-eqb, eqb-true}
 use Rattle.agc_repl.specs.Fault.{fault_text}
@@ -9,7 +9,8 @@ use Rattle.agc_repl.specs.declared.command.Command.{Command}
 use Rattle.agc_repl.specs.declared.command.Command.TheVariants as command
 use Rattle.agc_repl.specs.declared.command.Breakpoint.{Breakpoint}
 use Rattle.agc_repl.specs.declared.fault.CommandFault.{CommandFault}
-use Rattle.agc_script.specs.Event.{most_events}
+use Rattle.agc_repl.specs.Command.{IsCommandInRange}
+use Rattle.agc_script.specs.Event.{IsWhatInRange, most_events}
 use Rattle.agc_script.specs.declared.event.What.{What}
 use Rattle.agc_session.specs.Session.{injected_now}
 use Rattle.agc_session.specs.declared.fault.InjectFault.{InjectFault}
@@ -17,7 +18,7 @@ use Rattle.agc_session.specs.declared.fault.InjectFault.TheVariants as fault
 use Rattle.agc_trace.specs.NamedLine.{line_with}
 use Rattle.agc_trace.specs.Trace.{trace_within}
 use Rattle.agc_repl.specs.Answer.{error_line}
-use Rattle.agc_repl.specs.Answered.{Answer, GoesNotBack, Grows, IsLeft, Request, RunsOut, Tells, answer_to, answered, cycles_on, done, ended, given_answer, last_line, refusal_text, refused_by, shown_until, shown_stretch}
+use Rattle.agc_repl.specs.Answered.{Answer, Begins, GoesBack, IsAnswered, IsLeft, IsPartOf, IsPlain, Request, RunsOut, Tells, ahead_text, answer_to, answered, back_answer, cycles_on, done, ended, given_answer, last_line, refusal_text, refused_by, shown_until, shown_stretch}
 use Rattle.agc_repl.specs.Queries.{shown_text}
 use Rattle.agc_repl.specs.Repl.{GoesOn, after_boundaries, after_due, gone_back, takes_event}
 use Rattle.agc_repl.specs.Stretch.{armed_in, stretch_to}
@@ -25,6 +26,7 @@ use Rattle.agc_repl.specs.declared.armed_breakpoint.ArmedBreakpoint.TheVariants 
 use Rattle.agc_repl.specs.declared.conversation.ReplFault.{ReplFault}
 use Rattle.agc_repl.specs.declared.repl.Repl.{Repl}
 use Rattle.agc_repl.proofs.Going.{stays_put}
+use Rattle.agc_repl.proofs.Beginning.{nothing_begun}
 use Rattle.agc_repl.proofs.Telling.{grown}
 use Rattle.agc_symbols.specs.Symbols.{Symbol}
 
@@ -36,14 +38,20 @@ tells_end a t begun o old new h e =
     subst (λ (u : Repl). Appends (append_known o old) (append_known o new) (last_line u)) h.0 (grown o old new (last_line t) e) in
     (h.0, Appends-trans begun (append_known o old) (append_known o new) a.1 (last_line a.0) h.1 line)
 
-pub answered_other : (names : Option (List Symbol)) (c : Command) (s : Repl) → ((what : What) → c ≡ command.Inject what → ⊥) → answered names c s ≡ ended (done names c s)
+pub answered_plain : (names : Option (List Symbol)) (c : Command) (s : Repl) → IsPlain c → answered names c s ≡ ended (done names c s)
 unfolding answered
-answered_other names (command.Inject what) s h = absurd (h what refl)
-answered_other names c s h = refl
+answered_plain names (command.Inject what) s h = absurd h
+answered_plain names (command.Back cycle) s h = absurd h
+answered_plain names c s h = refl
 
-pub answered_event : (names : Option (List Symbol)) (c : Command) (what : What) (s : Repl) → c ≡ command.Inject what → answered names c s ≡ given_answer what s
-unfolding answered
-answered_event names c what s e = ap (λ (x : Command). answered names x s) e
+pub answered_event : (names : Option (List Symbol)) (what : What) (s : Repl) → answer_to names (Ok (Some (command.Inject what))) s ≡ given_answer what s
+unfolding answer_to answered
+answered_event names what s = refl
+
+pub what_in_range : (request : Request) (said : Option Command) (c : Command) (what : What) → request ≡ Ok said → said ≡ Some c → c ≡ command.Inject what
+    → IfOk request (λ read. IfSome read IsCommandInRange) → IsWhatInRange what
+unfolding IsCommandInRange
+what_in_range request said c what e f h k = rw (e, f, h) at k
 
 pub answer_of_command : (names : Option (List Symbol)) (request : Request) (said : Option Command) (c : Command) (s : Repl) → request ≡ Ok said → said ≡ Some c → answer_to names request s ≡ answered names c s
 unfolding answer_to
@@ -92,10 +100,36 @@ unfolding given_answer
 full_there what s h = full_by (events s == most_events) _ _ (eq-eqb (events s) most_events h)
 
 -- memory ran out
-pub ran_out : (names : Option (List Symbol)) (request : Request) (s t : Repl) (a b c : Option (List ℕ)) → IsLeft names request s t → Grows a b → Appends b c (codes "error: memory\n")
-    → RunsOut names request s t a c
-ran_out names request s t a b c left h k =
-    record { left = left; said = h.0; ends = Appends-trans a b c h.0 (codes "error: memory\n") h.1 k }
+pub ran_out : (names : Option (List Symbol)) (request : Request) (s t : Repl) (none : List ℕ) (a b c : Option (List ℕ)) → IsLeft request s t → none ≡ []
+    → Begins (none ++ (answer_to names request s).1) a b → Appends b c (codes "error: memory\n") → RunsOut names request s t a c
+ran_out names request s t none a b c left e h k =
+    record {
+      left = left;
+      said = h.0;
+      rest = h.1;
+      begins = sym (ap (λ (xs : List ℕ). xs ++ (answer_to names request s).1) e) ∙ h.3;
+      ends = Appends-trans a b c h.0 (codes "error: memory\n") h.2 k;
+    }
+
+-- nothing was done
+pub left_nothing : (request : Request) (s : Repl) → IsLeft request s s
+left_nothing (Ok (Some (command.Go cycles))) s = stays_put s.session
+left_nothing (Ok (Some (command.GoTo cycle))) s = stays_put s.session
+left_nothing (Ok (Some (command.Step boundaries))) s = stays_put s.session
+left_nothing (Ok (Some (command.Until what within))) s = stays_put s.session
+left_nothing (Ok (Some (command.Inject what))) s = inl refl
+left_nothing (Ok (Some c)) s = refl
+left_nothing (Ok None) s = refl
+left_nothing (Err why) s = refl
+
+pub left_by : (request : Request) (said : Option Command) (c : Command) (s t : Repl) → request ≡ Ok said → said ≡ Some c → IsPartOf c s t → IsLeft request s t
+left_by request said c s t e f h = rw (e, f) h
+
+pub part_as : (c d : Command) (s t : Repl) → c ≡ d → IsPartOf d s t → IsPartOf c s t
+part_as c d s t e h = rw e h
+
+pub begins_as : (a b : Answer) (old : List ℕ) (from now : Option (List ℕ)) → a ≡ b → Begins (old ++ b.1) from now → Begins (old ++ a.1) from now
+begins_as a b old from now e h = rw e h
 
 -- what each command does
 pub done_go : (names : Option (List Symbol)) (c : Command) (cycles end : ℕ) (s : Repl) → c ≡ command.Go cycles → end ≡ cycles_on cycles s
@@ -117,27 +151,51 @@ pub done_until : (names : Option (List Symbol)) (c : Command) (what : Breakpoint
 unfolding done
 done_until names c what within s e = ap (λ (x : Command). done names x s) e
 
-pub done_shown : (names : Option (List Symbol)) (c : Command) (s : Repl) → GoesNotBack c → ((cycles : ℕ) → c ≡ command.Go cycles → ⊥) → ((cycle : ℕ) → c ≡ command.GoTo cycle → ⊥)
+pub done_shown : (names : Option (List Symbol)) (c : Command) (s : Repl) → ((cycles : ℕ) → c ≡ command.Go cycles → ⊥) → ((cycle : ℕ) → c ≡ command.GoTo cycle → ⊥)
     → ((boundaries : ℕ) → c ≡ command.Step boundaries → ⊥) → ((what : Breakpoint) (within : ℕ) → c ≡ command.Until what within → ⊥)
     → done names c s ≡ (s, shown_text names c s.session s.writes)
 unfolding done
-done_shown names (command.Go cycles) s h a b d e = absurd (a cycles refl)
-done_shown names (command.GoTo cycle) s h a b d e = absurd (b cycle refl)
-done_shown names (command.Step boundaries) s h a b d e = absurd (d boundaries refl)
-done_shown names (command.Until what within) s h a b d e = absurd (e what within refl)
-done_shown names (command.Back cycle) s h a b d e = absurd h
-done_shown names c s h a b d e = refl
+done_shown names (command.Go cycles) s a b d e = absurd (a cycles refl)
+done_shown names (command.GoTo cycle) s a b d e = absurd (b cycle refl)
+done_shown names (command.Step boundaries) s a b d e = absurd (d boundaries refl)
+done_shown names (command.Until what within) s a b d e = absurd (e what within refl)
+done_shown names c s a b d e = refl
 
-pub answered_back : (names : Option (List Symbol)) (cycle : ℕ) (s : Repl) → answer_to names (Ok (Some (command.Back cycle))) s ≡ ended (gone_back cycle s, [])
-unfolding answer_to answered done
-answered_back names cycle s = refl
+pub changes_nothing : (c : Command) (s : Repl) → IsPlain c → ((cycles : ℕ) → c ≡ command.Go cycles → ⊥) → ((cycle : ℕ) → c ≡ command.GoTo cycle → ⊥)
+    → ((boundaries : ℕ) → c ≡ command.Step boundaries → ⊥) → ((what : Breakpoint) (within : ℕ) → c ≡ command.Until what within → ⊥) → IsPartOf c s s
+changes_nothing (command.Go cycles) s h a b d e = absurd (a cycles refl)
+changes_nothing (command.GoTo cycle) s h a b d e = absurd (b cycle refl)
+changes_nothing (command.Step boundaries) s h a b d e = absurd (d boundaries refl)
+changes_nothing (command.Until what within) s h a b d e = absurd (e what within refl)
+changes_nothing (command.Inject what) s h a b d e = absurd h
+changes_nothing c s h a b d e = refl
 
-pub when_both : {P Q R : Type 0} (r : Result (Unit {0}) ReplFault) → OnOk r P → OnOk r Q → (P → Q → R) → OnOk r R
-when_both (Ok u) h k f = f h k
-when_both (Err why) h k f = tt
+if_reached : (there : Bool) (x y : Answer) → there ≡ true → (if there then x else y) ≡ x
+if_reached there x y e = rw e refl
 
-pub left_same : (a b : Answer) (t : Repl) (P : Type 0) → a ≡ b → ((t ≡ b.0) ⊎ P) → (t ≡ a.0) ⊎ P
-left_same a b t P e h = rw e h
+if_ahead : (there : Bool) (x y : Answer) → there ≡ false → (if there then x else y) ≡ y
+if_ahead there x y e = rw e refl
+
+answered_back : (names : Option (List Symbol)) (cycle : ℕ) (s : Repl) → nat_le cycle s.session.now.cycle ≡ true
+    → answer_to names (Ok (Some (command.Back cycle))) s ≡ ended (gone_back cycle s, [])
+unfolding answer_to answered back_answer
+answered_back names cycle s e = if_reached (nat_le cycle s.session.now.cycle) _ _ e
+
+answered_ahead : (names : Option (List Symbol)) (cycle : ℕ) (s : Repl) → nat_le cycle s.session.now.cycle ≡ false
+    → answer_to names (Ok (Some (command.Back cycle))) s ≡ (s, error_line ahead_text)
+unfolding answer_to answered back_answer
+answered_ahead names cycle s e = if_ahead (nat_le cycle s.session.now.cycle) _ _ e
+
+-- `back` went there, or did nothing
+pub back_told : (names : Option (List Symbol)) (cycle : ℕ) (s t : Repl) (old new : Option (List ℕ)) → nat_le cycle s.session.now.cycle ≡ true → GoesBack cycle s t old new
+    → IsAnswered names (Ok (Some (command.Back cycle))) s t old new
+back_told names cycle s t old new e (inl h) = inl (tells_same _ _ t old new (answered_back names cycle s e) h)
+back_told names cycle s t old new e (inr h) =
+    inr (ran_out names (Ok (Some (command.Back cycle))) s t [] old old new h.0 refl (nothing_begun _ old) h.1)
+
+pub ahead_told : (names : Option (List Symbol)) (cycle : ℕ) (s t : Repl) (old new : Option (List ℕ)) → nat_le cycle s.session.now.cycle ≡ false
+    → (t ≡ s) × Appends old new (error_line ahead_text) → IsAnswered names (Ok (Some (command.Back cycle))) s t old new
+ahead_told names cycle s t old new e h = inl (tells_same _ _ t old new (answered_ahead names cycle s e) h)
 
 -- a part of an answer that is not yet written
 pub tells_waiting : (a : Answer) (t : Repl) (o : Option (List ℕ)) (old new : List ℕ) → t ≡ a.0 → new ≡ old ++ a.1 → Tells a t (append_known o old) (append_known o new)
@@ -168,8 +226,46 @@ pub line_is : (old new line other : List ℕ) → new ≡ old ++ line → line �
 line_is old new line other h e = h ∙ ap (λ (x : List ℕ). old ++ x) e
 
 -- the last line of the answer to `back`
-pub end_written : (a b : Option (List ℕ)) (none : List ℕ) (t u : Repl) → none ≡ [] → t ≡ u → Appends a b (none ++ last_line t) → Appends a b ([] ++ last_line u)
-end_written a b none t u n same h = subst (Appends a b) (ap (λ (x : List ℕ). x ++ last_line t) n ∙ ap last_line same) h
+pub end_written : (cycle : ℕ) (s t : Repl) (a b : Option (List ℕ)) → t ≡ gone_back cycle s → Appends a b (last_line t) → Tells (ended (gone_back cycle s, [])) t a b
+end_written cycle s t a b e h = (e, subst (λ (u : Repl). Appends a b (last_line u)) e h)
+
+-- an event that was injected, or rejected
+pub event_given : (names : Option (List Symbol)) (what : What) (s t : Repl) (old new : Option (List ℕ)) → (t ≡ (given_answer what s).0) × (last_line t ≡ (given_answer what s).1)
+    → Appends old new (last_line t) → IsAnswered names (Ok (Some (command.Inject what))) s t old new
+event_given names what s t old new h k =
+    inl (tells_same _ _ t old new (answered_event names what s) (h.0, subst (Appends old new) h.1 k))
+
+pub event_refused : (names : Option (List Symbol)) (what : What) (s t : Repl) (why : InjectFault) (old new : Option (List ℕ))
+    → (t ≡ (given_answer what s).0) × (error_line (refusal_text why) ≡ (given_answer what s).1) → Appends old new (error_line (refusal_text why))
+    → IsAnswered names (Ok (Some (command.Inject what))) s t old new
+event_refused names what s t why old new h k =
+    inl (tells_same _ _ t old new (answered_event names what s) (h.0, subst (Appends old new) h.1 k))
+
+pub event_short : (names : Option (List Symbol)) (what : What) (s t : Repl) (old new : Option (List ℕ)) → IsPartOf (command.Inject what) s t
+    → Appends old new (codes "error: memory\n") → IsAnswered names (Ok (Some (command.Inject what))) s t old new
+event_short names what s t old new h k =
+    inr (ran_out names (Ok (Some (command.Inject what))) s t [] old old new h refl (nothing_begun _ old) k)
+
+-- why an event was not injected decides what is written
+event_by : (names : Option (List Symbol)) (what : What) (s t : Repl) (r : Result (Unit {0}) InjectFault) (why : InjectFault) (old new : Option (List ℕ)) → r ≡ Err why
+    → (IsErrOf r fault.Unwanted → (t ≡ record s { session = after_due s.session }) × (takes_event (after_due s.session).now ≡ false) × (events s ≢ most_events))
+    → (IsErrOf r fault.TooMany → (t ≡ s) × (events s ≡ most_events)) → (IsErrOf r fault.Memory → IsPartOf (command.Inject what) s t)
+    → ((why ≡ fault.Memory → ⊥) → Appends old new (error_line (refusal_text why))) → (why ≡ fault.Memory → Appends old new (codes "error: memory\n"))
+    → IsAnswered names (Ok (Some (command.Inject what))) s t old new
+event_by names what s t r fault.Memory old new e u m x line short = event_short names what s t old new (x e) (short refl)
+event_by names what s t r fault.Unwanted old new e u m x line short =
+    event_refused names what s t fault.Unwanted old new (refused_is what s t r fault.Unwanted e (λ never. cc) u m) (line (λ never. cc))
+event_by names what s t r fault.TooMany old new e u m x line short =
+    event_refused names what s t fault.TooMany old new (refused_is what s t r fault.TooMany e (λ never. cc) u m) (line (λ never. cc))
+
+pub event_not_given : (names : Option (List Symbol)) (what : What) (s t : Repl) (r : Result (Unit {0}) InjectFault) (why : InjectFault) (w : Result (Unit {0}) ReplFault)
+    (old new : Option (List ℕ)) → r ≡ Err why
+    → (IsErrOf r fault.Unwanted → (t ≡ record s { session = after_due s.session }) × (takes_event (after_due s.session).now ≡ false) × (events s ≢ most_events))
+    → (IsErrOf r fault.TooMany → (t ≡ s) × (events s ≡ most_events)) → (IsErrOf r fault.Memory → IsPartOf (command.Inject what) s t)
+    → OnOk w ((why ≡ fault.Memory → ⊥) → Appends old new (error_line (refusal_text why))) → OnOk w (why ≡ fault.Memory → Appends old new (codes "error: memory\n"))
+    → OnOk w (IsAnswered names (Ok (Some (command.Inject what))) s t old new)
+event_not_given names what s t r why (Ok u) old new e f m x line short = event_by names what s t r why old new e f m x line short
+event_not_given names what s t r why (Err bad) old new e f m x line short = tt
 
 -- a REPL is kept if its answer could be written
 pub when_kept : {P : Type 0} (Q : Repl → Type 0) (told : Result (Unit {0}) ReplFault) (t : Repl) (r : Result Repl ReplFault)
@@ -177,9 +273,6 @@ pub when_kept : {P : Type 0} (Q : Repl → Type 0) (told : Result (Unit {0}) Rep
 when_kept Q (Ok u) t r e h f = rw e (f h)
 when_kept Q (Err why) t r e h f = rw e tt
 
-pub when_stayed : {P : Type 0} (Q : Repl → Type 0) (t : Repl) (r : Result Repl ReplFault) → IfOk r (λ left. (left ≡ t) × P) → (P → Q t) → IfOk r Q
-when_stayed Q t (Ok left) h f = rw h.0 (f h.1)
-when_stayed Q t (Err why) h f = tt
-
-pub same_goes : (s t : Repl) → t ≡ s → GoesOn s.session t.session
-same_goes s t e = subst (λ (x : Repl). GoesOn s.session x.session) (sym e) (stays_put s.session)
+pub when_left : {P : Repl → Type 0} (Q : Repl → Type 0) (r : Result Repl ReplFault) → IfOk r P → ((t : Repl) → P t → Q t) → IfOk r Q
+when_left Q (Ok left) h f = f left h
+when_left Q (Err why) h f = tt

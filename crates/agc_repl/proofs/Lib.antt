@@ -1,4 +1,5 @@
 pub mod Ascii
+pub mod Beginning
 pub mod Answering
 pub mod Cells
 pub mod Due

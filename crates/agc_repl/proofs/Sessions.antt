@@ -23,7 +23,7 @@ nothing_answered names (Some input) left s old e = (input, e, λ end h. h)
 pub still_answered : (names : Option (List Symbol)) (request : Request) (s t : Repl) (old mid new : Option (List ℕ)) → IsAnswered names request s t old mid → Keeps mid new → IsAnswered names request s t old new
 still_answered names request s t old mid new (inl h) k = inl (h.0, Appends-kept old mid new (answer_to names request s).1 h.1 k)
 still_answered names request s t old mid new (inr h) k =
-    inr (record { left = h.left; said = h.said; ends = Appends-kept old mid new _ h.ends k })
+    inr (record { left = h.left; said = h.said; rest = h.rest; begins = h.begins; ends = Appends-kept old mid new _ h.ends k })
 
 first_answered : (names : Option (List Symbol)) (request : Request) (requests : List Request) (s t : Repl) (old mid new : Option (List ℕ)) → IsAnswered names request s t old mid
     → AreAnswered names requests t mid new → AreAnswered names (request ∷ requests) s old new
@@ -98,15 +98,26 @@ answer_first names request requests s t old mid new h (inl k) =
     inl (subst (Appends old new) whole (Appends-trans old mid new (answer_to names request s).1 (session_text names requests t) h.1 k))
 answer_first names request requests s t old mid new h (inr k) =
     let rest = k.said ++ (codes "error: memory\n" ++ k.more) in
+    let one = (answer_to names request s).1 in
+    let until : session_text names (request ∷ (k.earlier ++ (k.request ∷ []))) s ≡ session_text names (request ∷ k.earlier) s ++ (k.said ++ k.rest) =
+    text_then names request (k.earlier ++ (k.request ∷ [])) s
+    ∙ ap (λ (u : Repl). one ++ session_text names (k.earlier ++ (k.request ∷ [])) u) (sym h.0)
+    ∙ ap (λ (text : List ℕ). one ++ text) k.begins
+    ∙ sym (append_assoc one (session_text names k.earlier t) (k.said ++ k.rest))
+    ∙ ap (λ (u : Repl). (one ++ session_text names k.earlier u) ++ (k.said ++ k.rest)) h.0
+    ∙ ap (λ (text : List ℕ). text ++ (k.said ++ k.rest)) (sym (text_then names request k.earlier s)) in
     let whole : (answer_to names request s).1 ++ (session_text names k.earlier t ++ rest) ≡ session_text names (request ∷ k.earlier) s ++ rest =
     sym (append_assoc (answer_to names request s).1 (session_text names k.earlier t) rest)
     ∙ ap (λ (u : Repl). ((answer_to names request s).1 ++ session_text names k.earlier u) ++ rest) h.0
     ∙ ap (λ (text : List ℕ). text ++ rest) (sym (text_then names request k.earlier s)) in
     inr (record {
       earlier = request ∷ k.earlier;
-      rest = k.rest;
+      request = k.request;
+      later = k.later;
       requests_are = ap (λ (more : List Request). request ∷ more) k.requests_are;
       said = k.said;
+      rest = k.rest;
+      begins = until;
       more = k.more;
       text = subst (Appends old new) whole (Appends-trans old mid new (answer_to names request s).1 (session_text names k.earlier t ++ rest) h.1 k.text);
     })
@@ -114,12 +125,19 @@ answer_first names request requests s t old mid new h (inr k) =
 ran_out_first : (names : Option (List Symbol)) (request : Request) (requests : List Request) (s t : Repl) (old mid new : Option (List ℕ)) → RunsOut names request s t old mid → Grows mid new
     → RanOut names (request ∷ requests) s old new
 ran_out_first names request requests s t old mid new h k =
+    let one = (answer_to names request s).1 in
+    let until : session_text names (request ∷ []) s ≡ session_text names [] s ++ (h.said ++ h.rest) =
+    text_then names request [] s ∙ ap (λ (text : List ℕ). one ++ text) (no_text names (answer_to names request s).0) ∙ append-nil one ∙ h.begins
+    ∙ ap (λ (text : List ℕ). text ++ (h.said ++ h.rest)) (sym (no_text names s)) in
     let here : Appends old new ((h.said ++ codes "error: memory\n") ++ k.0) = Appends-trans old mid new (h.said ++ codes "error: memory\n") k.0 h.ends k.1 in
     record {
       earlier = [];
-      rest = request ∷ requests;
+      request = request;
+      later = requests;
       requests_are = refl;
       said = h.said;
+      rest = h.rest;
+      begins = until;
       more = k.0;
       text = subst (Appends old new) (append_assoc h.said (codes "error: memory\n") k.0 ∙ ap (λ (text : List ℕ). text ++ (h.said ++ (codes "error: memory\n" ++ k.0))) (sym (no_text names s))) here;
     }

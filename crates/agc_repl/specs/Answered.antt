@@ -1,5 +1,5 @@
 -- The answer to each request: the state that it leads to and the lines it prints.
-use Rattle.std.specs.Prelude.{◌≡◌, ◌⊎◌, ℕ, ◌+◌, ◌-◌, ◌^◌, ◌==◌, min, length, List, [], ◌++◌, Option, None, Some, Result, Ok, Err, if◌then◌else◌, codes, flat_map}
+use Rattle.std.specs.Prelude.{◌≡◌, ◌⊎◌, ℕ, ◌+◌, ◌-◌, ◌^◌, ◌==◌, nat_le, min, length, List, [], ◌++◌, Option, None, Some, Result, Ok, Err, if◌then◌else◌, codes, flat_map}
 use Rattle.std.specs.Io.KnownBytes.{Appends}
 use Rattle.agc_repl.specs.Fault.{fault_text}
 use Rattle.agc_repl.specs.declared.command.Command.{Command}
@@ -43,8 +43,8 @@ shown_stretch stretch t = (after_stretch stretch t, writes_text stretch.writes)
 abbrev pub shown_until : Stretch → Repl → Answer
 shown_until stretch t = (after_stretch stretch t, writes_text stretch.writes ++ hit_line stretch.hit)
 
--- What a command does, and what it prints before the last line of its answer: one case each. Commands without a case
--- show something and change nothing.
+-- What a command does, and what it prints before the last line of its answer, unless it injects or goes back: one case
+-- each. Commands without a case show something and change nothing.
 unfoldable pub done : Option (List Symbol) → Command → Repl → Answer
 done names (command.Go cycles) t = shown_stretch (stretch_to armed.Nothing (cycles_on cycles t) t.session.now) t
 done names (command.GoTo cycle) t = shown_stretch (stretch_to armed.Nothing cycle t.session.now) t
@@ -52,7 +52,6 @@ done names (command.Step boundaries) t =
     (after_boundaries boundaries t, flat_map (line_with names) (trace_within boundaries t.session.now))
 done names (command.Until what within) t =
     shown_until (stretch_to (armed_in t.session.now what) (cycles_on within t) t.session.now) t
-done names (command.Back cycle) t = (gone_back cycle t, [])
 done names shown t = (t, shown_text names shown t.session t.writes)
 
 -- why an event was not injected
@@ -78,9 +77,20 @@ given_answer what t =
     then ended (record { session = injected_now what due.session; writes = due.writes }, [])
     else refused_by fault.Unwanted due
 
+-- why a session does not go back to a cycle
+abbrev pub ahead_text : List ℕ
+ahead_text = codes "Ahead: the machine has not reached this cycle; go to C runs on to it"
+
+-- A session goes back to a cycle that it has reached.
+unfoldable pub back_answer : ℕ → Repl → Answer
+back_answer cycle t =
+    if nat_le cycle t.session.now.cycle then ended (gone_back cycle t, [])
+    else (t, error_line ahead_text)
+
 -- the answer to a command
 unfoldable pub answered : Option (List Symbol) → Command → Repl → Answer
 answered names (command.Inject what) t = given_answer what t
+answered names (command.Back cycle) t = back_answer cycle t
 answered names other t = ended (done names other t)
 
 -- the answer to a request: just the last line for a line without a command, and an error line for a fault
@@ -97,25 +107,51 @@ Tells answer t old new = (t ≡ answer.0) × Appends old new answer.1
 abbrev pub Grows : Option (List ℕ) → Option (List ℕ) → Type 0
 Grows old new = (said : List ℕ) × Appends old new said
 
--- the request is done, or at most some boundaries were taken and nothing was injected
-abbrev pub IsLeft : Option (List Symbol) → Request → Repl → Repl → Type 0
-IsLeft names request s t = (t ≡ (answer_to names request s).0) ⊎ GoesOn s.session t.session
+-- the known output has grown by a beginning of this text
+abbrev pub Begins : List ℕ → Option (List ℕ) → Option (List ℕ) → Type 0
+Begins whole old new = (said : List ℕ) × (rest : List ℕ) × Appends old new said × (whole ≡ said ++ rest)
 
--- Memory ran out during an answer, which ends by reporting it.
+-- What a command has done if memory ran out: a run took some boundaries; for an event at most the script's events that
+-- were due have happened, and it was not injected; every other command, `back` too, has changed nothing.
+abbrev pub IsPartOf : Command → Repl → Repl → Type 0
+IsPartOf (command.Go cycles) s t = GoesOn s.session t.session
+IsPartOf (command.GoTo cycle) s t = GoesOn s.session t.session
+IsPartOf (command.Step boundaries) s t = GoesOn s.session t.session
+IsPartOf (command.Until what within) s t = GoesOn s.session t.session
+IsPartOf (command.Inject what) s t =
+    (t ≡ s) ⊎ (t ≡ record { session = after_due s.session; writes = s.writes })
+IsPartOf shown s t = t ≡ s
+
+-- the same for a request: a line that is no command, and one at fault, changes nothing
+abbrev pub IsLeft : Request → Repl → Repl → Type 0
+IsLeft (Ok (Some command)) s t = IsPartOf command s t
+IsLeft (Ok None) s t = t ≡ s
+IsLeft (Err why) s t = t ≡ s
+
+-- `back` has gone there, or memory ran out and it did nothing
+abbrev pub GoesBack : ℕ → Repl → Repl → Option (List ℕ) → Option (List ℕ) → Type 0
+GoesBack cycle s t old new =
+    Tells (ended (gone_back cycle s, [])) t old new ⊎ ((t ≡ s) × Appends old new (codes "error: memory\n"))
+
+-- Memory ran out during an answer: a beginning of it was printed, and then that memory ran out.
 pub record RunsOut (names : Option (List Symbol)) (request : Request) (s t : Repl) (old new : Option (List ℕ)) : Type 0 where
-  pub left : IsLeft names request s t
+  pub left : IsLeft request s t
   pub said : List ℕ
+  pub rest : List ℕ
+  pub begins : (answer_to names request s).1 ≡ said ++ rest
   pub ends : Appends old new (said ++ codes "error: memory\n")
 
 -- a request is answered, or memory ran out
 abbrev pub IsAnswered : Option (List Symbol) → Request → Repl → Repl → Option (List ℕ) → Option (List ℕ) → Type 0
 IsAnswered names request s t old new = Tells (answer_to names request s) t old new ⊎ RunsOut names request s t old new
 
--- any command but `back`, which is executed separately
-abbrev pub GoesNotBack : Command → Type 0
-GoesNotBack (command.Back cycle) = ⊥
-GoesNotBack command = Unit {0}
+-- commands that neither go back nor inject, which are executed separately
+abbrev pub IsPlain : Command → Type 0
+IsPlain (command.Back cycle) = ⊥
+IsPlain (command.Inject what) = ⊥
+IsPlain command = Unit {0}
 
-abbrev pub IsOfNow : Request → Type 0
-IsOfNow (Ok (Some command)) = GoesNotBack command
-IsOfNow request = Unit {0}
+abbrev pub IsPlainRequest : Request → Type 0
+IsPlainRequest (Ok (Some command)) = IsPlain command
+IsPlainRequest (Ok None) = Unit {0}
+IsPlainRequest (Err why) = Unit {0}

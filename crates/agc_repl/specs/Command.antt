@@ -1,6 +1,6 @@
 -- How a line is parsed as a command, with symbols for places if there are any: one definition for each command, on
 -- the words after its name.
-use Rattle.std.specs.Prelude.{◌≡◌, ℕ, ◌+◌, ◌≤◌, ◌<◌, nat_lt, is_none, List, [], ◌∷◌, length, codes}
+use Rattle.std.specs.Prelude.{◌≡◌, ℕ, ◌+◌, ◌≤◌, ◌<◌, ◌==◌, ◌||◌, nat_lt, is_none, List, [], ◌∷◌, length, codes}
 use Rattle.std.specs.Prelude.{Option, Some, None, Result, Ok, Err, if◌then◌else◌}
 use Rattle.std.specs.List.{list_any}
 use Rattle.std.specs.Str.{bytes_eq}
@@ -13,11 +13,14 @@ use Rattle.agc_script.specs.Line.{begins_comment, is_beyond_ascii, longest_line}
 use Rattle.agc_word.specs.Text.{words_of}
 use Rattle.agc_script.specs.declared.event.What.{What}
 use Rattle.agc_script.specs.declared.fault.FaultKind.{FaultKind}
+use Rattle.agc_script.specs.declared.fault.FaultKind.TheVariants as kind
+use Rattle.agc_script.specs.declared.key.Key.{Key}
+use Rattle.agc_script.specs.declared.key.Key.TheVariants as key
 use Rattle.agc_store.specs.Places.{erasable_cells}
 use Rattle.agc_listing.specs.Location.{IsWithin}
-use Rattle.agc_word.specs.Channels.{last_io_channel}
+use Rattle.agc_word.specs.Channels.{IsIoChannel, last_io_channel}
 use Rattle.agc_repl.specs.Name.{name_named}
-use Rattle.agc_repl.specs.Number.{channel_in, cycles_in, spec_in}
+use Rattle.agc_repl.specs.Number.{channel_in, cycles_in, spec_in, written_channel_in}
 use Rattle.agc_repl.specs.Place.{cell_in, cells_after, place_in}
 use Rattle.agc_repl.specs.Words.{alone, and_then, only_word}
 use Rattle.agc_repl.specs.declared.command.Command.{Command}
@@ -62,7 +65,7 @@ until_target what words = and_then (within_of words) (λ within. Ok (command.Unt
 abbrev pub until_write : List (List ℕ) → Result Command CommandFault
 until_write [] = Err (fault.Usage name.Until)
 until_write (channel ∷ words) =
-    and_then (channel_in channel) (λ number. until_target (target.Write number) words)
+    and_then (written_channel_in channel) (λ number. until_target (target.Write number) words)
 
 -- `until cell PLACE`
 abbrev pub until_cell : Option (List Symbol) → List (List ℕ) → Result Command CommandFault
@@ -117,21 +120,44 @@ command_by names name.Script words = alone command.Script name.Script words
 command_by names name.Help words = alone command.Help name.Help words
 command_by names name.Quit words = alone command.Quit name.Quit words
 
--- an event in the words of a script
-abbrev pub injected : Result What FaultKind → Result Command CommandFault
-injected (Ok what) = Ok (command.Inject what)
-injected (Err kind) = Err (fault.BadEvent kind)
+-- the key with the first letter of a word, in upper or lower case
+unfoldable pub key_from : ℕ → Option Key
+key_from letter =
+    if letter == 86 || letter == 118 then Some key.Verb
+    else if letter == 78 || letter == 110 then Some key.Noun
+    else if letter == 82 || letter == 114 then Some key.Reset
+    else if letter == 75 || letter == 107 then Some key.KeyRelease
+    else if letter == 69 || letter == 101 then Some key.Enter
+    else if letter == 67 || letter == 99 then Some key.Clear
+    else None
 
--- all words of a line whose first word is none of the console's own commands
+unfoldable pub key_fault : List ℕ → CommandFault
+key_fault [] = fault.UnknownKey None
+key_fault (letter ∷ letters) =
+    if letter == 80 || letter == 112 then fault.ProKey else fault.UnknownKey (key_from letter)
+
+-- the fault of an event: of a single word after `key`, that it is no key
+unfoldable pub event_fault : FaultKind → List ℕ → List (List ℕ) → CommandFault
+event_fault kind.UnknownWord first (word ∷ []) =
+    if bytes_eq first (codes "key") then key_fault word else fault.BadEvent kind.UnknownWord
+event_fault why first words = fault.BadEvent why
+
+-- an event in the words of a script
+abbrev pub injected : List ℕ → List (List ℕ) → Result What FaultKind → Result Command CommandFault
+injected first words (Ok what) = Ok (command.Inject what)
+injected first words (Err why) = Err (event_fault why first words)
+
+-- a line whose first word is none of the console's own commands
 unfoldable pub event_of : List ℕ → List (List ℕ) → Result Command CommandFault
 event_of first words =
-    if is_none (command_named first) then Err fault.UnknownCommand else injected (command_of words)
+    if is_none (command_named first) then Err fault.UnknownCommand
+    else injected first words (command_of (first ∷ words))
 
 -- a command by its first word
 abbrev pub named_or_event : Option (List Symbol) → Option CommandName → List ℕ → List (List ℕ)
     → Result Command CommandFault
 named_or_event names (Some n) first words = command_by names n words
-named_or_event names None first words = event_of first (first ∷ words)
+named_or_event names None first words = event_of first words
 
 abbrev pub asked : Command → Result (Option Command) CommandFault
 asked command = Ok (Some command)
@@ -153,7 +179,7 @@ request_of names line =
 -- each number of a command is in its range
 unfoldable pub IsBreakpointInRange : Breakpoint → Type 0
 IsBreakpointInRange (target.Order place) = IsWithin place
-IsBreakpointInRange (target.Write channel) = channel ≤ last_io_channel
+IsBreakpointInRange (target.Write channel) = IsIoChannel channel
 IsBreakpointInRange (target.Cell cell) = cell < erasable_cells
 
 unfoldable pub IsCommandInRange : Command → Type 0

@@ -1,9 +1,11 @@
 -- The answer to an invalid command line: the name of the fault and what would be valid.
-use Rattle.std.specs.Prelude.{ℕ, List, ◌++◌, codes}
+use Rattle.std.specs.Prelude.{ℕ, List, ◌++◌, codes, Option, None, Some}
 use Rattle.agc_panel.specs.declared.watch_spec.WatchFault.{WatchFault}
 use Rattle.agc_panel.specs.declared.watch_spec.WatchFault.TheVariants as watch
 use Rattle.agc_script.specs.declared.fault.FaultKind.{FaultKind}
 use Rattle.agc_script.specs.declared.fault.FaultKind.TheVariants as kind
+use Rattle.agc_script.specs.declared.key.Key.{Key}
+use Rattle.agc_script.specs.declared.key.Key.TheVariants as key
 use Rattle.agc_repl.specs.Name.{usage_text}
 use Rattle.agc_repl.specs.declared.fault.CommandFault.{CommandFault}
 use Rattle.agc_repl.specs.declared.fault.CommandFault.TheVariants as fault
@@ -17,43 +19,59 @@ fault_name fault.BadNumber = codes "BadNumber"
 fault_name fault.BadPlace = codes "BadPlace"
 fault_name fault.NotErasable = codes "NotErasable"
 fault_name fault.BadChannel = codes "BadChannel"
+fault_name fault.NoWrites = codes "BadChannel"
 fault_name fault.BadCount = codes "BadCount"
 fault_name (fault.BadEvent k) = codes "BadEvent"
+fault_name (fault.UnknownKey meant) = codes "BadEvent"
+fault_name fault.ProKey = codes "BadEvent"
 fault_name fault.BadSpec = codes "BadSpec"
 fault_name (fault.Watch why) = codes "BadWatch"
 
 -- what would be a valid event
 unfoldable pub event_advice : FaultKind → List ℕ
-event_advice kind.BadNumber = codes "numbers are 1 to 6 octal digits, of raise decimal ones"
+event_advice kind.BadNumber = codes "a number is 1 to 6 octal digits; for raise, decimal ones"
 event_advice kind.OutOfRange =
-    codes "channels are 5 to 777, words 0 to 77777, counters 24 to 60, interrupts 1 to 10, banks 0 to 7, offsets 0 to 377, in bank 0 from 10 on"
+    codes "octal channels are 5 to 777, words 0 to 77777, counters 24 to 60, banks 0 to 7, offsets 0 to 377, in bank 0 from 10 on; decimal interrupts are 1 to 10"
 event_advice k =
-    codes "key NAME, pro down or up, input CCC WORD, pulse COUNTER KIND, raise N, or poke BANK OFFSET WORD"
+    codes "an event is key NAME, pro down, pro up, input CCC WORD, pulse COUNTER KIND, raise N or poke BANK OFFSET WORD"
+
+-- which key was probably meant
+unfoldable pub key_advice : Option Key → List ℕ
+key_advice (Some key.Verb) = codes "unknown key; did you mean VERB?"
+key_advice (Some key.Noun) = codes "unknown key; did you mean NOUN?"
+key_advice (Some key.Reset) = codes "unknown key; did you mean RSET?"
+key_advice (Some key.KeyRelease) = codes "unknown key; did you mean KEYREL?"
+key_advice (Some key.Enter) = codes "unknown key; did you mean ENTR?"
+key_advice (Some key.Clear) = codes "unknown key; did you mean CLR?"
+key_advice other = codes "keys are 0 to 9, VERB, NOUN, +, -, ENTR, CLR, RSET and KEYREL"
 
 -- which tables would be valid
 unfoldable pub watch_advice : WatchFault → List ℕ
-watch_advice (watch.OutOfErasable table) = codes "each table stands in erasable memory, whole"
-watch_advice watch.TooManySets = codes "at most 20 core sets, octal"
+watch_advice (watch.OutOfErasable table) = codes "each table must be in erasable memory, whole"
+watch_advice watch.TooManySets = codes "there are at most 20 core sets, octal"
 watch_advice watch.Memory = codes "out of memory"
 
 -- what would be valid
 unfoldable pub fault_advice : CommandFault → List ℕ
 fault_advice fault.LineTooLong = codes "a line has at most 120 bytes"
-fault_advice fault.NotAscii = codes "a line is ASCII alone"
+fault_advice fault.NotAscii = codes "a line is ASCII only"
 fault_advice fault.UnknownCommand = codes "help lists the commands"
 fault_advice (fault.Usage name) = usage_text name
 fault_advice fault.BadNumber =
-    codes "cycles and boundaries are 1 to 13 decimal digits, at most 1000000000000"
+    codes "cycles and boundaries are 1 to 13 decimal digits, such as 1000000, at most 1000000000000"
 fault_advice fault.BadPlace =
-    codes "a place is En,oooo, or an address below 1400, or bb,oooo, or an address from 4000 on, in octal"
+    codes "a place is octal, such as 0100, 4100, 12,2000 or E3,1400, or a name of --names"
 fault_advice fault.NotErasable =
-    codes "a cell stands in erasable memory: En,oooo, or an address below 1400, in octal"
+    codes "a cell is in erasable memory: octal, such as 0100 or E3,1400"
 fault_advice fault.BadChannel = codes "a channel is octal, 0 to 777"
+fault_advice fault.NoWrites = codes "only channels 5 to 777 octal show writes"
 fault_advice fault.BadCount =
-    codes "cells are counted in decimal, from 1 up to the last cell, E7,1777"
+    codes "a number of cells is decimal, from 1 up to the last cell, E7,1777"
 fault_advice (fault.BadEvent k) = event_advice k
+fault_advice (fault.UnknownKey meant) = key_advice meant
+fault_advice fault.ProKey = codes "PRO is a switch; use pro down, then pro up"
 fault_advice fault.BadSpec =
-    codes "tables are seven octal numbers with commas between: bank, offset and count of core sets, bank and offset of LST1, bank and offset of LST2"
+    codes "tables are seven octal numbers with commas between: bank, offset and number of core sets, bank and offset of LST1, bank and offset of LST2"
 fault_advice (fault.Watch why) = watch_advice why
 
 -- the text of a fault

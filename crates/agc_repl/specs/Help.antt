@@ -1,29 +1,27 @@
 -- The answer to `help`.
 use Rattle.std.specs.Prelude.{ℕ, List, ◌++◌, codes, flat_map}
-use Rattle.agc_script.specs.declared.fault.FaultKind.TheVariants as kind
-use Rattle.agc_repl.specs.Fault.{event_advice}
 use Rattle.agc_repl.specs.Name.{all_names, usage_text}
 use Rattle.agc_repl.specs.declared.name.CommandName.{CommandName}
 use Rattle.agc_repl.specs.declared.name.CommandName.TheVariants as name
 
 -- what a command does
 unfoldable pub purpose_text : CommandName → List ℕ
-purpose_text name.Go = codes "N cycles on, or on to cycle C, with a line for each channel write"
-purpose_text name.Step = codes "one boundary or N, with their trace lines"
+purpose_text name.Go = codes "runs N cycles, or to cycle C, in decimal. Example: go 85333"
+purpose_text name.Step = codes "takes one boundary, or N, with trace lines. Example: step 10"
 purpose_text name.Until =
-    codes "on to the order at a place, the next write to a channel or the next change of a cell, 1000000 cycles or N at most"
-purpose_text name.Panel = codes "the lines of the panel"
+    codes "runs on to it. Example: until write 10"
+purpose_text name.Panel = codes "shows the panel"
 purpose_text name.Watch =
-    codes "the Executive's tables: SPEC has seven octal numbers with commas between, as --watch"
-purpose_text name.Registers = codes "A, L, Q, Z, EB, FB and BB"
-purpose_text name.Next = codes "what comes next, as a trace names it"
-purpose_text name.Cell = codes "the word of a cell of erasable memory, or of N cells from it on"
-purpose_text name.Channel = codes "the word of a channel"
-purpose_text name.Writes = codes "how many channel writes there were"
-purpose_text name.Back = codes "back to the state before cycle C; what was given since is dropped"
-purpose_text name.Script = codes "the script that repeats this session"
-purpose_text name.Help = codes "these lines"
-purpose_text name.Quit = codes "the end, as the end of the input is"
+    codes "shows the Executive's tables, octal. Example: watch 0,200,7,0,330,0,340"
+purpose_text name.Registers = codes "shows A, L, Q, Z, EB, FB and BB, octal"
+purpose_text name.Next = codes "shows what comes next, as a trace does"
+purpose_text name.Cell = codes "shows a cell, or N (decimal). Example: cell 0100 8"
+purpose_text name.Channel = codes "shows a channel, 0 to 777 octal. Example: channel 10"
+purpose_text name.Writes = codes "shows the number of channel writes so far"
+purpose_text name.Back = codes "returns to before cycle C and drops later events. Example: back 85333"
+purpose_text name.Script = codes "prints the script that repeats this session"
+purpose_text name.Help = codes "prints these lines"
+purpose_text name.Quit = codes "ends the session, as the end of the input does"
 
 -- the syntax of a command and what it does
 unfoldable pub help_line : CommandName → List ℕ
@@ -33,9 +31,10 @@ help_line name = usage_text name ++ codes ": " ++ purpose_text name ++ codes "\n
 unfoldable pub all_commands_text : List ℕ
 all_commands_text = flat_map help_line all_names
 
--- the line of the events
-unfoldable pub events_line : List ℕ
-events_line = event_advice kind.UnknownWord ++ codes ": happens now, as a script says it\n"
+-- the lines of the events, which happen now
+unfoldable pub events_text : List ℕ
+events_text =
+    codes "key NAME: presses a key, 0 to 9 + - VERB NOUN ENTR CLR RSET KEYREL. Example: key VERB\npro down, or pro up: turns the PRO switch. Example: pro down\ninput CCC WORD: sets a channel, 5 to 777, octal. Example: input 33 77775\npulse COUNTER KIND: pinc, minc, pcdu, mcdu, shinc or shanc. Example: pulse 37 pinc\nraise N: requests an interrupt, 1 to 10, decimal. Example: raise 5\npoke BANK OFFSET WORD: stores a word in erasable memory, octal. Example: poke 0 100 12345\n"
 
 abbrev pub help_text : List ℕ
-help_text = all_commands_text ++ events_line
+help_text = all_commands_text ++ events_text

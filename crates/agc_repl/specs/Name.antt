@@ -36,7 +36,7 @@ unfoldable pub usage_text : CommandName → List ℕ
 usage_text name.Go = codes "go N, or go to C"
 usage_text name.Step = codes "step, or step N"
 usage_text name.Until =
-    codes "until PLACE, until write CCC or until cell PLACE, and within N after it or not"
+    codes "until PLACE, write CCC or cell PLACE [within N]"
 usage_text name.Panel = codes "panel"
 usage_text name.Watch = codes "watch SPEC"
 usage_text name.Registers = codes "registers"

@@ -5,7 +5,7 @@ use Rattle.agc_panel.specs.WatchSpec.{spec_of, watch_fault_of}
 use Rattle.agc_panel.specs.declared.watch_spec.WatchFault.{WatchFault}
 use Rattle.agc_panel.specs.declared.watch_spec.WatchSpec.{WatchSpec}
 use Rattle.agc_script.specs.Line.{cycle_of}
-use Rattle.agc_word.specs.Channels.{last_io_channel}
+use Rattle.agc_word.specs.Channels.{is_io_channel, last_io_channel}
 use Rattle.agc_word.specs.Numeral.{octal_number}
 use Rattle.agc_repl.specs.declared.fault.CommandFault.{CommandFault}
 use Rattle.agc_repl.specs.declared.fault.CommandFault.TheVariants as fault
@@ -22,6 +22,15 @@ channel_at None = Err fault.BadChannel
 
 unfoldable pub channel_in : List ℕ → Result ℕ CommandFault
 channel_in word = channel_at (octal_number 6 word)
+
+-- a channel whose writes show
+abbrev pub written_channel_at : Option ℕ → Result ℕ CommandFault
+written_channel_at (Some channel) =
+    if is_io_channel channel then Ok channel else Err fault.NoWrites
+written_channel_at None = Err fault.NoWrites
+
+unfoldable pub written_channel_in : List ℕ → Result ℕ CommandFault
+written_channel_in word = written_channel_at (octal_number 6 word)
 
 -- tables that can be watched
 abbrev pub spec_unless : Option WatchFault → WatchSpec → Result WatchSpec CommandFault

@@ -34,11 +34,15 @@ AreAnswered names (request ∷ requests) t old new =
     (left : Repl) × (mid : Option (List ℕ)) × IsAnswered names request t left old mid
     × AreAnswered names requests left mid new
 
--- Memory ran out: up to some request the text is that of the session, then it reports that.
+-- Memory ran out at some request: up to it the text is that of the session, then comes a beginning of its answer, and
+-- then that memory ran out.
 pub record RanOut (names : Option (List Symbol)) (requests : List Request) (t : Repl) (old new : Option (List ℕ)) : Type 0 where
   pub earlier : List Request
-  pub rest : List Request
-  pub requests_are : requests ≡ earlier ++ rest
+  pub request : Request
+  pub later : List Request
+  pub requests_are : requests ≡ earlier ++ (request ∷ later)
   pub said : List ℕ
+  pub rest : List ℕ
+  pub begins : session_text names (earlier ++ (request ∷ [])) t ≡ session_text names earlier t ++ (said ++ rest)
   pub more : List ℕ
   pub text : Appends old new (session_text names earlier t ++ (said ++ (codes "error: memory\n" ++ more)))

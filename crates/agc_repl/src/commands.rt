@@ -1,6 +1,6 @@
 //! Executes the commands that move the machine.
-ghost use Rattle.std.specs.Prelude.{◌≡◌, ◌≢◌, true, false, ◌+◌, ◌-◌, ◌^◌, [], ◌∷◌, min, IsErrOf, IfErr, IfOk, OnOk, OnErr, flat_map, length, string_bytes};
-ghost use Rattle.std.specs.Io.KnownBytes.{Appends, append_known};
+ghost use Rattle.std.specs.Prelude.{◌≡◌, ◌≢◌, ◌⊎◌, ◌++◌, true, false, ◌+◌, ◌-◌, ◌^◌, [], ◌∷◌, min, IsErrOf, IfErr, IfOk, OnOk, OnErr, flat_map, length, string_bytes};
+ghost use Rattle.std.specs.Io.KnownBytes.{Appends, Keeps, append_known};
 ghost use Rattle.agc_machine.specs.Boundary.{boundary, upcoming_of};
 ghost use Rattle.agc_machine.specs.Laws.{HasChannel};
 ghost use Rattle.agc_machine.specs.Replay.{writes_in};
@@ -9,7 +9,7 @@ ghost use Rattle.agc_trace.specs.Entry.{FitsLine, entry_of};
 ghost use Rattle.agc_trace.specs.NamedLine.{line_with};
 ghost use Rattle.agc_trace.specs.Trace.{trace_within};
 ghost use Rattle.agc_repl.specs.Command.{IsBreakpointInRange};
-ghost use Rattle.agc_repl.specs.Answered.{Grows, Tells, refusal_text, shown_until, shown_stretch};
+ghost use Rattle.agc_repl.specs.Answered.{Begins, Grows, Tells, refusal_text, shown_until, shown_stretch};
 ghost use Rattle.agc_repl.specs.Repl.{GoesOn, after_boundaries, after_due, after_stretch, gone_on, takes_event};
 ghost use Rattle.agc_repl.specs.Stretch.{IsArmedInRange, armed_in, stretch_to, writes_text};
 ghost use Rattle.agc_repl.specs.declared.armed_breakpoint.ArmedBreakpoint.TheVariants.{Nothing};
@@ -40,6 +40,9 @@ pub(crate) fn go<W: Write>(
         (append_known (W.contents output.old) (string_bytes text.old))
         (append_known (W.contents output.new) (string_bytes text.new))) }
     ensures on { GoesOn repl.old.session repl.new.session }
+    ensures begins { IsErrOf result ReplFault.Memory → Begins (string_bytes text.old
+        ++ (shown_stretch (stretch_to Nothing (min (repl.old.session.now.cycle + cycles) (2 ^ 64 - 1)) repl.old.session.now) repl.old).1)
+        (W.contents output.old) (W.contents output.new) }
     ensures grows { (IsErrOf result ReplFault.Write → ⊥) → Grows (W.contents output.old) (W.contents output.new) }
 {
     let cycle = repl.cycle().saturating_add(cycles);
@@ -57,6 +60,9 @@ pub(crate) fn go_on_to<W: Write>(
         (append_known (W.contents output.old) (string_bytes text.old))
         (append_known (W.contents output.new) (string_bytes text.new))) }
     ensures on { GoesOn repl.old.session repl.new.session }
+    ensures begins { IsErrOf result ReplFault.Memory → Begins (string_bytes text.old
+        ++ (shown_stretch (stretch_to Nothing cycle repl.old.session.now) repl.old).1)
+        (W.contents output.old) (W.contents output.new) }
     ensures grows { (IsErrOf result ReplFault.Write → ⊥) → Grows (W.contents output.old) (W.contents output.new) }
 {
     go_to(repl, &ArmedBreakpoint::Nothing, cycle, text, output)?;
@@ -78,6 +84,8 @@ fn go_to<W: Write>(
         (append_known (W.contents output.new) (string_bytes text.new))
         (writes_text (stretch_to armed.now cycle repl.old.session.now).writes)) }
     ensures on { GoesOn repl.old.session repl.new.session }
+    ensures begins { IsErrOf result ReplFault.Memory → Begins (string_bytes text.old
+        ++ writes_text (stretch_to armed.now cycle repl.old.session.now).writes) (W.contents output.old) (W.contents output.new) }
     ensures grows { (IsErrOf result ReplFault.Write → ⊥) → Grows (W.contents output.old) (W.contents output.new) }
 {
     while repl.is_before(cycle) {
@@ -95,6 +103,7 @@ fn tell<W: Write>(stepped: &Stepped, text: &mut String, output: &mut W) -> Resul
     requires { HasChannel stepped.now }
     ensures told { OnOk result (Appends (append_known (W.contents output.old) (string_bytes text.old))
         (append_known (W.contents output.new) (string_bytes text.new)) (writes_text (writes_in (stepped.now ∷ [])))) }
+    ensures kept { IsErrOf result ReplFault.Memory → Keeps (W.contents output.old) (W.contents output.new) }
     ensures grows { (IsErrOf result ReplFault.Write → ⊥) → Grows (W.contents output.old) (W.contents output.new) }
 {
     let Stepped::Wrote(write) = stepped else {
@@ -118,6 +127,8 @@ pub(crate) fn step<W: Write>(
         (append_known (W.contents output.new) (string_bytes text.new))
         (flat_map (line_with names.now) (trace_within boundaries repl.old.session.now))) }
     ensures on { GoesOn repl.old.session repl.new.session }
+    ensures begins { IsErrOf result ReplFault.Memory → Begins (string_bytes text.old
+        ++ flat_map (line_with names.now) (trace_within boundaries repl.old.session.now)) (W.contents output.old) (W.contents output.new) }
     ensures grows { (IsErrOf result ReplFault.Write → ⊥) → Grows (W.contents output.old) (W.contents output.new) }
 {
     for _boundary in 0..boundaries {
@@ -170,16 +181,41 @@ pub(crate) fn until<W: Write>(
         (append_known (W.contents output.old) (string_bytes text.old))
         (append_known (W.contents output.new) (string_bytes text.new))) }
     ensures on { GoesOn repl.old.session repl.new.session }
+    ensures begins { IsErrOf result ReplFault.Memory → Begins (string_bytes text.old
+        ++ (shown_until (stretch_to (armed_in repl.old.session.now what)
+        (min (repl.old.session.now.cycle + within) (2 ^ 64 - 1)) repl.old.session.now) repl.old).1)
+        (W.contents output.old) (W.contents output.new) }
     ensures grows { (IsErrOf result ReplFault.Write → ⊥) → Grows (W.contents output.old) (W.contents output.new) }
 {
     let armed = ArmedBreakpoint::new(repl.machine(), what);
     let end = repl.cycle().saturating_add(within);
-    let hit = go_to(repl, &armed, end, text, output)?;
+    go_until(repl, &armed, end, text, output)
+}
+
+/// Runs to `cycle`, to the stop or until `armed` is hit. Prints each channel write, and whether it was hit.
+fn go_until<W: Write>(
+    repl: &mut Repl,
+    armed: &ArmedBreakpoint,
+    cycle: u64,
+    text: &mut String,
+    output: &mut W,
+) -> Result<(), ReplFault>
+    requires { IsArmedInRange armed.now }
+    ensures told { OnOk result (Tells (shown_until (stretch_to armed.now cycle repl.old.session.now) repl.old) repl.new
+        (append_known (W.contents output.old) (string_bytes text.old))
+        (append_known (W.contents output.new) (string_bytes text.new))) }
+    ensures on { GoesOn repl.old.session repl.new.session }
+    ensures begins { IsErrOf result ReplFault.Memory → Begins (string_bytes text.old
+        ++ (shown_until (stretch_to armed.now cycle repl.old.session.now) repl.old).1)
+        (W.contents output.old) (W.contents output.new) }
+    ensures grows { (IsErrOf result ReplFault.Write → ⊥) → Grows (W.contents output.old) (W.contents output.new) }
+{
+    let hit = go_to(repl, armed, cycle, text, output)?;
     push_hit_line(text, hit)?;
     Ok(())
 }
 
-/// Injects an event, after the script's events that are due.
+/// Injects an event, after the script's events that are due. If memory runs out, it is not injected.
 pub(crate) fn inject(repl: &mut Repl, what: What) -> Result<(), InjectFault>
     requires { IsWhatInRange what }
     ensures injected { OnOk result (repl.new ≡ record repl.old { session = injected_now what (after_due repl.old.session) }) }
@@ -191,7 +227,8 @@ pub(crate) fn inject(repl: &mut Repl, what: What) -> Result<(), InjectFault>
         × (length repl.old.session.script + length repl.old.session.injected ≢ most_events) }
     ensures many { IsErrOf result InjectFault.TooMany → (repl.new ≡ repl.old)
         × (length repl.old.session.script + length repl.old.session.injected ≡ most_events) }
-    ensures on { OnErr result (GoesOn repl.old.session repl.new.session) }
+    ensures memory { IsErrOf result InjectFault.Memory
+        → (repl.new ≡ repl.old) ⊎ (repl.new ≡ record repl.old { session = after_due repl.old.session }) }
 {
     repl.session.make_room()?;
     take_due_events(repl);

@@ -1,39 +1,43 @@
 //! Reads commands line by line, and answers each one before it reads the next.
 //!
 //! Unless memory runs out, the output is the session's text: this is the contract of [`run_repl`]. Part of a long
-//! answer is written before the rest is known; if memory runs out then, the machine has already moved. An event that
-//! is rejected because the machine takes no more events is tried after the script's events that were due, and those
-//! have happened. No clause states that an answer is written before the next line is read; only tests show it.
-ghost use Rattle.std.specs.Prelude.{◌≡◌, ◌⊎◌, ◌++◌, Some, Ok, Err, codes, IfErr, IfOk, IfSome, IsErrOf, MatchOption, MatchResult, OnOk, string_bytes};
+//! answer is written before the rest is known; if memory runs out then, the machine has already moved. An event and
+//! `back` reserve what they need first, and their answers need no memory. An event that is rejected because the
+//! machine takes no more events is tried after the script's events that were due, and those have happened. No clause
+//! states that an answer is written before the next line is read; only tests show it.
+ghost use Rattle.std.specs.Prelude.{◌≡◌, ◌⊎◌, ◌++◌, Some, Ok, Err, codes, IfErr, IfOk, IfSome, IsErrOf, MatchResult, OnOk, string_bytes};
 ghost use Rattle.std.specs.Io.KnownBytes.{Appends, Keeps, append_known};
 ghost use Rattle.agc_repl.specs.Answer.{end_line, error_line};
 ghost use Rattle.agc_repl.specs.Answered.{
-  GoesNotBack,
+  Begins,
+  GoesBack,
   Grows,
   IsAnswered,
   IsLeft,
-  IsOfNow,
+  IsPartOf,
+  IsPlain,
+  IsPlainRequest,
   Tells,
+  ahead_text,
   answer_to,
   answered,
   done,
-  given_answer,
   refusal_text,
 };
 ghost use Rattle.agc_repl.specs.Transcript.{AreAnswered, RanOut, requests_in, session_text};
 ghost use Rattle.agc_repl.specs.Queries.{shown_text};
-ghost use Rattle.agc_repl.specs.Repl.{GoesOn, at_start};
+ghost use Rattle.agc_repl.specs.Repl.{at_start};
 ghost use Rattle.agc_script.specs.Event.{IsWhatInRange};
 ghost use Rattle.agc_repl.specs.Fault.{fault_text};
 ghost use Rattle.agc_repl.specs.Command.{IsCommandInRange};
 ghost use Rattle.agc_repl.specs.declared.conversation.ReplFault.TheVariants.{Memory};
 
-use crate::answer::{push_end_line, push_error_line, push_fault_line};
+use crate::answer::{push_end_line, push_fault_line};
 use crate::command::Command;
 use crate::commands::{go, go_on_to, inject, refusal, step, until};
 use crate::fault::CommandFault;
 use crate::lines::{Request, next_request};
-use crate::output::write_text;
+use crate::output::{write_end_line, write_error_line, write_text};
 use crate::queries::push_shown;
 use crate::repl::Repl;
 use agc_script::What;
@@ -158,27 +162,20 @@ fn answer<W: Write>(
     requires { IfOk request (λ said. IfSome said IsCommandInRange) }
     ensures { IfOk result (λ left. IsAnswered names.now request repl left (W.contents output.old) (W.contents output.new)) }
 {
-    match goes_back_to(&request) {
-        Some(cycle) => rewind_to(alloc, names, repl, cycle, output),
-        None => {
-            let told = answer_now(alloc, names, &mut repl, request, output);
+    match request {
+        Ok(Some(Command::Back(cycle))) => rewind_to(alloc, names, repl, cycle, output),
+        Ok(Some(Command::Inject(what))) => {
+            let told = answer_event(alloc, names, &mut repl, what, output);
+            keep_if(told, repl)
+        }
+        plain => {
+            let told = answer_now(alloc, names, &mut repl, plain, output);
             keep_if(told, repl)
         }
     }
 }
 
-/// Returns the cycle that a request rewinds to, or `None` if it is another request.
-fn goes_back_to(request: &Request) -> Option<u64>
-    ensures { MatchOption result (IsOfNow request.now)
-        (λ cycle. request.now ≡ Ok (Some (Command.Back cycle))) }
-{
-    match request {
-        Ok(Some(Command::Back(cycle))) => Some(*cycle),
-        _ => None,
-    }
-}
-
-/// Answers a request that does not rewind.
+/// Answers a request that neither rewinds nor injects.
 fn answer_now<W: Write>(
     alloc: Global,
     names: &Option<SymbolTable>,
@@ -187,7 +184,7 @@ fn answer_now<W: Write>(
     output: &mut W,
 ) -> Result<(), ReplFault>
     requires range { IfOk request (λ said. IfSome said IsCommandInRange) }
-    requires now { IsOfNow request }
+    requires plain { IsPlainRequest request }
     ensures { OnOk result (IsAnswered names.now request repl.old repl.new (W.contents output.old) (W.contents output.new)) }
 {
     let Ok(mut text) = String::with_capacity(alloc, LONGEST_END) else {
@@ -221,12 +218,13 @@ fn execute<W: Write>(
     output: &mut W,
 ) -> Result<(), ReplFault>
     requires range { IfOk request (λ said. IfSome said IsCommandInRange) }
-    requires now { IsOfNow request }
+    requires plain { IsPlainRequest request }
     ensures said { OnOk result (Tells (answer_to names.now request repl.old) repl.new
         (append_known (W.contents output.old) (string_bytes text.old))
         (append_known (W.contents output.new) (string_bytes text.new))) }
-    ensures left { IsLeft names.now request repl.old repl.new }
-    ensures grows { (IsErrOf result ReplFault.Write → ⊥) → Grows (W.contents output.old) (W.contents output.new) }
+    ensures left { IsLeft request repl.old repl.new }
+    ensures begins { IsErrOf result ReplFault.Memory
+        → Begins (string_bytes text.old ++ (answer_to names.now request repl.old).1) (W.contents output.old) (W.contents output.new) }
 {
     match request {
         Ok(Some(command)) => say_command(alloc, names, repl, command, text, output),
@@ -236,7 +234,6 @@ fn execute<W: Write>(
 }
 
 /// Executes a command, and adds the unwritten rest of its answer.
-#[tactic(auto, unfolding(crate::specs::Command::IsCommandInRange, crate::specs::Answered::answered))]
 fn say_command<W: Write>(
     alloc: Global,
     names: &Option<SymbolTable>,
@@ -246,48 +243,16 @@ fn say_command<W: Write>(
     output: &mut W,
 ) -> Result<(), ReplFault>
     requires range { IsCommandInRange command }
-    requires now { GoesNotBack command }
+    requires plain { IsPlain command }
     ensures said { OnOk result (Tells (answered names.now command repl.old) repl.new
         (append_known (W.contents output.old) (string_bytes text.old))
         (append_known (W.contents output.new) (string_bytes text.new))) }
-    ensures left { (repl.new ≡ (answered names.now command repl.old).0) ⊎ GoesOn repl.old.session repl.new.session }
-    ensures grows { (IsErrOf result ReplFault.Write → ⊥) → Grows (W.contents output.old) (W.contents output.new) }
+    ensures left { IsPartOf command repl.old repl.new }
+    ensures begins { IsErrOf result ReplFault.Memory
+        → Begins (string_bytes text.old ++ (answered names.now command repl.old).1) (W.contents output.old) (W.contents output.new) }
 {
-    match command {
-        Command::Inject(what) => push_given(repl, what, text),
-        other => {
-            carry_out(alloc, names, repl, other, text, output)?;
-            push_end(repl, text)
-        }
-    }
-}
-
-/// Injects an event, and adds the answer.
-#[tactic(auto, unfolding(crate::specs::Answered::given_answer))]
-fn push_given(repl: &mut Repl, what: What, text: &mut String) -> Result<(), ReplFault>
-    requires { IsWhatInRange what }
-    ensures gone { OnOk result (repl.new ≡ (given_answer what repl.old).0) }
-    ensures said { OnOk result (string_bytes text.new ≡ string_bytes text.old ++ (given_answer what repl.old).1) }
-    ensures left { (repl.new ≡ (given_answer what repl.old).0) ⊎ GoesOn repl.old.session repl.new.session }
-{
-    match inject(repl, what) {
-        Ok(()) => push_end(repl, text),
-        Err(fault) => push_refused(fault, text),
-    }
-}
-
-/// Adds why an event was not injected, unless memory ran out.
-fn push_refused(fault: InjectFault, text: &mut String) -> Result<(), ReplFault>
-    ensures { OnOk result ((fault ≡ InjectFault.Memory → ⊥)
-        × (string_bytes text.new ≡ string_bytes text.old ++ error_line (refusal_text fault))) }
-{
-    match fault {
-        InjectFault::Memory => Err(ReplFault::Memory),
-        InjectFault::Unwanted | InjectFault::TooMany => {
-            push_error_line(text, refusal(fault))?;
-            Ok(())
-        }
-    }
+    carry_out(alloc, names, repl, command, text, output)?;
+    push_end(repl, text)
 }
 
 /// Adds the answer to an invalid command line.
@@ -310,11 +275,13 @@ fn carry_out<W: Write>(
     output: &mut W,
 ) -> Result<(), ReplFault>
     requires range { IsCommandInRange command }
-    requires now { GoesNotBack command }
+    requires plain { IsPlain command }
     ensures told { OnOk result (Tells (done names.now command repl.old) repl.new
         (append_known (W.contents output.old) (string_bytes text.old))
         (append_known (W.contents output.new) (string_bytes text.new))) }
-    ensures on { GoesOn repl.old.session repl.new.session }
+    ensures left { IsPartOf command repl.old repl.new }
+    ensures begins { IsErrOf result ReplFault.Memory
+        → Begins (string_bytes text.old ++ (done names.now command repl.old).1) (W.contents output.old) (W.contents output.new) }
     ensures grows { (IsErrOf result ReplFault.Write → ⊥) → Grows (W.contents output.old) (W.contents output.new) }
 {
     match command {
@@ -351,7 +318,38 @@ fn push_end(repl: &Repl, text: &mut String) -> Result<(), ReplFault>
     Ok(())
 }
 
-/// Rewinds to the state before `cycle`, and answers. If memory runs out before that, nothing changes.
+/// Injects an event, and answers. If memory runs out, the event is not injected.
+fn answer_event<W: Write>(
+    alloc: Global,
+    names: &Option<SymbolTable>,
+    repl: &mut Repl,
+    what: What,
+    output: &mut W,
+) -> Result<(), ReplFault>
+    requires { IsWhatInRange what }
+    ensures { OnOk result (IsAnswered names.now (Ok (Some (Command.Inject what))) repl.old repl.new
+        (W.contents output.old) (W.contents output.new)) }
+{
+    match inject(repl, what) {
+        Ok(()) => write_end(alloc, repl, output),
+        Err(fault) => write_refusal(fault, output),
+    }
+}
+
+/// Writes why an event was not injected.
+fn write_refusal<W: Write>(fault: InjectFault, output: &mut W) -> Result<(), ReplFault>
+    ensures refused { OnOk result ((fault ≡ InjectFault.Memory → ⊥)
+        → Appends (W.contents output.old) (W.contents output.new) (error_line (refusal_text fault))) }
+    ensures memory { OnOk result (fault ≡ InjectFault.Memory
+        → Appends (W.contents output.old) (W.contents output.new) (codes "error: memory\n")) }
+{
+    match fault {
+        InjectFault::Memory => write_text(output, OUT_OF_MEMORY),
+        refused => write_error_line(output, refusal(refused)),
+    }
+}
+
+/// Rewinds to the state before `cycle` if the machine has reached it, and answers.
 fn rewind_to<W: Write>(
     alloc: Global,
     names: &Option<SymbolTable>,
@@ -362,16 +360,45 @@ fn rewind_to<W: Write>(
     ensures { IfOk result (λ left. IsAnswered names.now (Ok (Some (Command.Back cycle))) repl left
         (W.contents output.old) (W.contents output.new)) }
 {
-    let Ok(text) = String::with_capacity(alloc, LONGEST_END) else {
-        return stay(repl, output);
-    };
+    if repl.has_reached(cycle) {
+        rewind_reached(alloc, repl, cycle, output)
+    } else {
+        refuse_ahead(repl, output)
+    }
+}
+
+/// Rewinds to the state before `cycle`, and answers. If memory runs out, nothing changes.
+fn rewind_reached<W: Write>(
+    alloc: Global,
+    repl: Repl,
+    cycle: u64,
+    output: &mut W,
+) -> Result<Repl, ReplFault>
+    ensures { IfOk result (λ left. GoesBack cycle repl left (W.contents output.old) (W.contents output.new)) }
+{
     match repl.back(alloc, cycle) {
         Ok(earlier) => {
-            let told = write_end(&earlier, text, output);
+            let told = write_end(alloc, &earlier, output);
             keep_if(told, earlier)
         }
         Err(same) => stay(same, output),
     }
+}
+
+/// Answers that a cycle to go back to is ahead, and changes nothing.
+fn refuse_ahead<W: Write>(repl: Repl, output: &mut W) -> Result<Repl, ReplFault>
+    ensures { IfOk result (λ left. (left ≡ repl)
+        × Appends (W.contents output.old) (W.contents output.new) (error_line ahead_text)) }
+{
+    let told = write_error_line(output, ahead());
+    keep_if(told, repl)
+}
+
+/// Returns why a session does not go back to a cycle.
+fn ahead() -> &'static str
+    ensures { result.now ≡ ahead_text }
+{
+    "Ahead: the machine has not reached this cycle; go to C runs on to it"
 }
 
 /// Answers that memory ran out, and changes nothing.
@@ -383,13 +410,16 @@ fn stay<W: Write>(repl: Repl, output: &mut W) -> Result<Repl, ReplFault>
     keep_if(told, repl)
 }
 
-/// Writes a text with the last line of an answer.
-fn write_end<W: Write>(repl: &Repl, mut text: String, output: &mut W) -> Result<(), ReplFault>
+/// Writes the last line of an answer, also if memory has run out.
+fn write_end<W: Write>(alloc: Global, repl: &Repl, output: &mut W) -> Result<(), ReplFault>
     ensures { OnOk result (Appends (W.contents output.old) (W.contents output.new)
-        (string_bytes text ++ end_line repl.now.session.now.stopped repl.now.session.now.cycle)) }
+        (end_line repl.now.session.now.stopped repl.now.session.now.cycle)) }
 {
-    push_end(repl, &mut text)?;
-    write_text(output, &text)
+    let mut text = String::new(alloc);
+    match push_end_line(&mut text, repl.stopped(), repl.cycle()) {
+        Ok(()) => write_text(output, &text),
+        Err(_) => write_end_line(output, repl.stopped(), repl.cycle()),
+    }
 }
 
 /// Returns the REPL if its answer could be written, else the fault.

@@ -1,10 +1,10 @@
 //! Faults of a command line, with their names and advice.
 ghost use Rattle.std.specs.Prelude.{◌≡◌};
-ghost use Rattle.agc_repl.specs.Fault.{event_advice, watch_advice};
+ghost use Rattle.agc_repl.specs.Fault.{event_advice, key_advice, watch_advice};
 
 use crate::name::CommandName;
 use agc_panel::WatchFault;
-use agc_script::FaultKind;
+use agc_script::{FaultKind, Key};
 use std::error::Error;
 use std::fmt;
 
@@ -27,10 +27,16 @@ pub enum CommandFault {
     NotErasable,
     /// Not 1 to 6 octal digits, or above 777 octal.
     BadChannel,
+    /// Not a channel that shows writes: 1 to 6 octal digits, 5 to 777 octal.
+    NoWrites,
     /// Not 1 to 6 decimal digits, or 0, or past the end of erasable memory.
     BadCount,
     /// The event has this fault.
     BadEvent(FaultKind),
+    /// Not a key; this one was probably meant.
+    UnknownKey(Option<Key>),
+    /// PRO, which is a switch and not a key with a code.
+    ProKey,
     /// Not seven octal numbers.
     BadSpec,
     /// The tables cannot be at these places.
@@ -55,8 +61,11 @@ impl CommandFault {
             CommandFault::BadPlace => "BadPlace",
             CommandFault::NotErasable => "NotErasable",
             CommandFault::BadChannel => "BadChannel",
+            CommandFault::NoWrites => "BadChannel",
             CommandFault::BadCount => "BadCount",
             CommandFault::BadEvent(_) => "BadEvent",
+            CommandFault::UnknownKey(_) => "BadEvent",
+            CommandFault::ProKey => "BadEvent",
             CommandFault::BadSpec => "BadSpec",
             CommandFault::Watch(_) => "BadWatch",
         }
@@ -69,21 +78,24 @@ impl CommandFault {
     {
         match self {
             CommandFault::LineTooLong => "a line has at most 120 bytes",
-            CommandFault::NotAscii => "a line is ASCII alone",
+            CommandFault::NotAscii => "a line is ASCII only",
             CommandFault::UnknownCommand => "help lists the commands",
             CommandFault::Usage(name) => name.usage(),
             CommandFault::BadNumber =>
-                "cycles and boundaries are 1 to 13 decimal digits, at most 1000000000000",
+                "cycles and boundaries are 1 to 13 decimal digits, such as 1000000, at most 1000000000000",
             CommandFault::BadPlace =>
-                "a place is En,oooo, or an address below 1400, or bb,oooo, or an address from 4000 on, in octal",
+                "a place is octal, such as 0100, 4100, 12,2000 or E3,1400, or a name of --names",
             CommandFault::NotErasable =>
-                "a cell stands in erasable memory: En,oooo, or an address below 1400, in octal",
+                "a cell is in erasable memory: octal, such as 0100 or E3,1400",
             CommandFault::BadChannel => "a channel is octal, 0 to 777",
+            CommandFault::NoWrites => "only channels 5 to 777 octal show writes",
             CommandFault::BadCount =>
-                "cells are counted in decimal, from 1 up to the last cell, E7,1777",
+                "a number of cells is decimal, from 1 up to the last cell, E7,1777",
             CommandFault::BadEvent(kind) => event_advice(kind),
+            CommandFault::UnknownKey(meant) => key_advice(meant),
+            CommandFault::ProKey => "PRO is a switch; use pro down, then pro up",
             CommandFault::BadSpec =>
-                "tables are seven octal numbers with commas between: bank, offset and count of core sets, bank and offset of LST1, bank and offset of LST2",
+                "tables are seven octal numbers with commas between: bank, offset and number of core sets, bank and offset of LST1, bank and offset of LST2",
             CommandFault::Watch(fault) => watch_advice(fault),
         }
     }
@@ -91,15 +103,31 @@ impl CommandFault {
 
 /// Returns what would be a valid event.
 #[tactic(auto, unfolding(crate::specs::Fault::event_advice))]
-pub(crate) fn event_advice(kind: FaultKind) -> &'static str
+fn event_advice(kind: FaultKind) -> &'static str
     ensures { result.now ≡ event_advice kind }
 {
     match kind {
-        FaultKind::BadNumber => "numbers are 1 to 6 octal digits, of raise decimal ones",
+        FaultKind::BadNumber => "a number is 1 to 6 octal digits; for raise, decimal ones",
         FaultKind::OutOfRange =>
-            "channels are 5 to 777, words 0 to 77777, counters 24 to 60, interrupts 1 to 10, banks 0 to 7, offsets 0 to 377, in bank 0 from 10 on",
+            "octal channels are 5 to 777, words 0 to 77777, counters 24 to 60, banks 0 to 7, offsets 0 to 377, in bank 0 from 10 on; decimal interrupts are 1 to 10",
         _ =>
-            "key NAME, pro down or up, input CCC WORD, pulse COUNTER KIND, raise N, or poke BANK OFFSET WORD",
+            "an event is key NAME, pro down, pro up, input CCC WORD, pulse COUNTER KIND, raise N or poke BANK OFFSET WORD",
+    }
+}
+
+/// Returns which key was probably meant.
+#[tactic(auto, unfolding(crate::specs::Fault::key_advice))]
+fn key_advice(meant: Option<Key>) -> &'static str
+    ensures { result.now ≡ key_advice meant }
+{
+    match meant {
+        Some(Key::Verb) => "unknown key; did you mean VERB?",
+        Some(Key::Noun) => "unknown key; did you mean NOUN?",
+        Some(Key::Reset) => "unknown key; did you mean RSET?",
+        Some(Key::KeyRelease) => "unknown key; did you mean KEYREL?",
+        Some(Key::Enter) => "unknown key; did you mean ENTR?",
+        Some(Key::Clear) => "unknown key; did you mean CLR?",
+        _ => "keys are 0 to 9, VERB, NOUN, +, -, ENTR, CLR, RSET and KEYREL",
     }
 }
 
@@ -109,8 +137,8 @@ fn watch_advice(fault: WatchFault) -> &'static str
     ensures { result.now ≡ watch_advice fault }
 {
     match fault {
-        WatchFault::OutOfErasable { .. } => "each table stands in erasable memory, whole",
-        WatchFault::TooManySets => "at most 20 core sets, octal",
+        WatchFault::OutOfErasable { .. } => "each table must be in erasable memory, whole",
+        WatchFault::TooManySets => "there are at most 20 core sets, octal",
         WatchFault::Memory => "out of memory",
     }
 }

@@ -2,23 +2,22 @@
 ghost use Rattle.std.specs.Prelude.{◌≡◌, ◌++◌, OnOk, flat_map, string_bytes};
 ghost use Rattle.agc_repl.specs.Help.{
   all_commands_text,
-  events_line,
+  events_text,
   help_line,
   help_text,
   purpose_text,
 };
 
-use crate::fault::event_advice;
 use crate::name::CommandName;
-use agc_script::FaultKind;
 use std::alloc::AllocError;
 
-/// Adds a line for each command, with its syntax and its effect, and one for the events. Fails if memory runs out.
+/// Adds a line for each command and for each event, with its syntax, its effect and an example. Fails if memory runs
+/// out.
 pub fn push_help(text: &mut String) -> Result<(), AllocError>
     ensures { OnOk result (string_bytes text.new ≡ string_bytes text.old ++ help_text) }
 {
     push_all_commands(text)?;
-    push_events_line(text)
+    push_events(text)
 }
 
 #[tactic(auto, unfolding(crate::specs::Help::all_commands_text, crate::specs::Name::all_names))]
@@ -28,12 +27,14 @@ fn push_all_commands(text: &mut String) -> Result<(), AllocError>
     push_help_lines(text, &CommandName::ALL)
 }
 
-#[tactic(auto, unfolding(crate::specs::Help::events_line))]
-fn push_events_line(text: &mut String) -> Result<(), AllocError>
-    ensures { OnOk result (string_bytes text.new ≡ string_bytes text.old ++ events_line) }
+/// Adds the lines of the events.
+#[tactic(auto, unfolding(crate::specs::Help::events_text))]
+fn push_events(text: &mut String) -> Result<(), AllocError>
+    ensures { OnOk result (string_bytes text.new ≡ string_bytes text.old ++ events_text) }
 {
-    let events = event_advice(FaultKind::UnknownWord);
-    writeln!(text, "{events}: happens now, as a script says it")
+    text.push_str(
+        "key NAME: presses a key, 0 to 9 + - VERB NOUN ENTR CLR RSET KEYREL. Example: key VERB\npro down, or pro up: turns the PRO switch. Example: pro down\ninput CCC WORD: sets a channel, 5 to 777, octal. Example: input 33 77775\npulse COUNTER KIND: pinc, minc, pcdu, mcdu, shinc or shanc. Example: pulse 37 pinc\nraise N: requests an interrupt, 1 to 10, decimal. Example: raise 5\npoke BANK OFFSET WORD: stores a word in erasable memory, octal. Example: poke 0 100 12345\n",
+    )
 }
 
 /// Adds the lines of these commands.
@@ -62,21 +63,21 @@ fn purpose(name: CommandName) -> &'static str
     ensures { result.now ≡ purpose_text name }
 {
     match name {
-        CommandName::Go => "N cycles on, or on to cycle C, with a line for each channel write",
-        CommandName::Step => "one boundary or N, with their trace lines",
-        CommandName::Until =>
-            "on to the order at a place, the next write to a channel or the next change of a cell, 1000000 cycles or N at most",
-        CommandName::Panel => "the lines of the panel",
+        CommandName::Go => "runs N cycles, or to cycle C, in decimal. Example: go 85333",
+        CommandName::Step => "takes one boundary, or N, with trace lines. Example: step 10",
+        CommandName::Until => "runs on to it. Example: until write 10",
+        CommandName::Panel => "shows the panel",
         CommandName::Watch =>
-            "the Executive's tables: SPEC has seven octal numbers with commas between, as --watch",
-        CommandName::Registers => "A, L, Q, Z, EB, FB and BB",
-        CommandName::Next => "what comes next, as a trace names it",
-        CommandName::Cell => "the word of a cell of erasable memory, or of N cells from it on",
-        CommandName::Channel => "the word of a channel",
-        CommandName::Writes => "how many channel writes there were",
-        CommandName::Back => "back to the state before cycle C; what was given since is dropped",
-        CommandName::Script => "the script that repeats this session",
-        CommandName::Help => "these lines",
-        CommandName::Quit => "the end, as the end of the input is",
+            "shows the Executive's tables, octal. Example: watch 0,200,7,0,330,0,340",
+        CommandName::Registers => "shows A, L, Q, Z, EB, FB and BB, octal",
+        CommandName::Next => "shows what comes next, as a trace does",
+        CommandName::Cell => "shows a cell, or N (decimal). Example: cell 0100 8",
+        CommandName::Channel => "shows a channel, 0 to 777 octal. Example: channel 10",
+        CommandName::Writes => "shows the number of channel writes so far",
+        CommandName::Back =>
+            "returns to before cycle C and drops later events. Example: back 85333",
+        CommandName::Script => "prints the script that repeats this session",
+        CommandName::Help => "prints these lines",
+        CommandName::Quit => "ends the session, as the end of the input does",
     }
 }

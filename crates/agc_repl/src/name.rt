@@ -82,8 +82,7 @@ impl CommandName {
         match self {
             CommandName::Go => "go N, or go to C",
             CommandName::Step => "step, or step N",
-            CommandName::Until =>
-                "until PLACE, until write CCC or until cell PLACE, and within N after it or not",
+            CommandName::Until => "until PLACE, write CCC or cell PLACE [within N]",
             CommandName::Panel => "panel",
             CommandName::Watch => "watch SPEC",
             CommandName::Registers => "registers",

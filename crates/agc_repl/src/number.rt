@@ -2,13 +2,13 @@
 ghost use Rattle.std.specs.Prelude.{◌≡◌, ◌≤◌, None, IfOk};
 ghost use Rattle.agc_panel.specs.WatchSpec.{watch_fault_of};
 ghost use Rattle.agc_script.specs.Event.{last_cycle};
-ghost use Rattle.agc_word.specs.Channels.{last_io_channel};
-ghost use Rattle.agc_repl.specs.Number.{channel_in, cycles_in, sound_spec, spec_in};
+ghost use Rattle.agc_word.specs.Channels.{IsIoChannel, last_io_channel};
+ghost use Rattle.agc_repl.specs.Number.{channel_in, cycles_in, sound_spec, spec_in, written_channel_in};
 
 use crate::fault::CommandFault;
 use agc_panel::WatchSpec;
 use agc_script::{MOST_DIGITS, read_cycle};
-use agc_word::{LAST_IO_CHANNEL, read_octal};
+use agc_word::{FIRST_IO_CHANNEL, LAST_IO_CHANNEL, read_octal};
 
 /// Parses a number of cycles or boundaries, in decimal.
 #[tactic(auto, unfolding(crate::specs::Number::cycles_in))]
@@ -28,6 +28,20 @@ pub(crate) fn read_channel(word: &[u8]) -> Result<u16, CommandFault>
     match read_octal(MOST_DIGITS, word) {
         Some(channel) if channel <= u64::from(LAST_IO_CHANNEL) => Ok(channel as u16),
         _ => Err(CommandFault::BadChannel),
+    }
+}
+
+/// Parses the number of a channel whose writes show, in octal.
+#[tactic(auto, unfolding(crate::specs::Number::written_channel_in))]
+pub(crate) fn read_written_channel(word: &[u8]) -> Result<u16, CommandFault>
+    ensures channel { result ≡ written_channel_in word.now }
+    ensures range { IfOk result IsIoChannel }
+{
+    match read_octal(MOST_DIGITS, word) {
+        Some(channel)
+            if u64::from(FIRST_IO_CHANNEL) <= channel && channel <= u64::from(LAST_IO_CHANNEL) =>
+            Ok(channel as u16),
+        _ => Err(CommandFault::NoWrites),
     }
 }
 

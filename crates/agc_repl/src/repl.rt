@@ -1,5 +1,5 @@
 //! The state of a console: a session, and the number of channel writes that it has shown.
-ghost use Rattle.std.specs.Prelude.{◌≡◌, [], ◌∷◌, IfOk, IfErr};
+ghost use Rattle.std.specs.Prelude.{◌≡◌, [], ◌∷◌, nat_le, IfOk, IfErr};
 ghost use Rattle.agc_machine.specs.Boundary.{boundary};
 ghost use Rattle.agc_machine.specs.Laws.{HasChannel};
 ghost use Rattle.agc_machine.specs.Replay.{writes_in};
@@ -61,6 +61,13 @@ impl Repl {
         ensures { result ≡ is_short_of cycle self.now.session.now }
     {
         self.cycle() < cycle && self.stopped().is_none()
+    }
+
+    /// Returns whether the machine has reached `cycle`.
+    pub(crate) fn has_reached(&self, cycle: u64) -> bool
+        ensures { result ≡ nat_le cycle self.now.session.now.cycle }
+    {
+        cycle <= self.cycle()
     }
 
     /// Takes one boundary.

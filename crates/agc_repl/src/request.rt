@@ -1,5 +1,5 @@
 //! Parses a line as a command.
-ghost use Rattle.std.specs.Prelude.{◌≡◌, ◌≤◌, IfOk, IfSome};
+ghost use Rattle.std.specs.Prelude.{◌≡◌, ◌≤◌, ◌∷◌, IfOk, IfSome};
 ghost use Rattle.agc_script.specs.Event.{last_cycle};
 ghost use Rattle.agc_word.specs.Text.{words_of};
 ghost use Rattle.agc_repl.specs.Command.{
@@ -9,8 +9,11 @@ ghost use Rattle.agc_repl.specs.Command.{
   cells_of,
   channel_of,
   command_by,
+  event_fault,
   event_of,
   go_of,
+  key_fault,
+  key_from,
   request_of,
   step_of,
   until_of,
@@ -23,10 +26,10 @@ ghost use Rattle.agc_repl.specs.Command.{
 use crate::command::{Breakpoint, Command};
 use crate::fault::CommandFault;
 use crate::name::CommandName;
-use crate::number::{read_channel, read_cycles, read_spec};
+use crate::number::{read_channel, read_cycles, read_spec, read_written_channel};
 use crate::place::{read_cell, read_cells_after, read_place};
 use crate::words::{alone, is_word, only_word};
-use agc_script::{LONGEST_LINE, has_high_byte, read_command};
+use agc_script::{FaultKind, Key, LONGEST_LINE, has_high_byte, read_command};
 use agc_symbols::SymbolTable;
 use agc_word::next_word;
 
@@ -65,7 +68,7 @@ fn read_words(names: &Option<SymbolTable>, line: &[u8]) -> Result<Option<Command
     }
     let command = match CommandName::from_word(first) {
         Some(name) => read_named(names, name, words)?,
-        None => read_event(first, line)?,
+        None => read_event(first, words, line)?,
     };
     Ok(Some(command))
 }
@@ -98,10 +101,11 @@ fn read_named(
     }
 }
 
-/// Parses an event, if its first word is a command of scripts.
+/// Parses an event, if the first word of its line is a command of scripts.
 #[tactic(auto, unfolding(crate::specs::Command::event_of, crate::specs::Command::IsCommandInRange))]
-fn read_event(first: &[u8], line: &[u8]) -> Result<Command, CommandFault>
-    ensures event { result ≡ event_of first.now (words_of line.now) }
+fn read_event(first: &[u8], words: &[u8], line: &[u8]) -> Result<Command, CommandFault>
+    requires { words_of line.now ≡ first.now ∷ words_of words.now }
+    ensures event { result ≡ event_of first.now (words_of words.now) }
     ensures range { IfOk result IsCommandInRange }
 {
     if agc_script::Command::from_name(first).is_none() {
@@ -109,7 +113,63 @@ fn read_event(first: &[u8], line: &[u8]) -> Result<Command, CommandFault>
     }
     match read_command(line) {
         Ok(what) => Ok(Command::Inject(what)),
-        Err(kind) => Err(CommandFault::BadEvent(kind)),
+        Err(kind) => Err(event_fault(kind, first, words)),
+    }
+}
+
+/// Returns the fault of an event: of a single word after `key`, that it is no key.
+#[tactic(auto, unfolding(crate::specs::Command::event_fault))]
+fn event_fault(kind: FaultKind, first: &[u8], words: &[u8]) -> CommandFault
+    ensures { result ≡ event_fault kind first.now (words_of words.now) }
+{
+    let Some((word, rest)) = next_word(words) else {
+        return CommandFault::BadEvent(kind);
+    };
+    let alone = next_word(rest).is_none();
+    if kind == FaultKind::UnknownWord && alone && is_word(first, "key") {
+        key_fault(word)
+    } else {
+        CommandFault::BadEvent(kind)
+    }
+}
+
+/// Returns the fault of a word that is no key, with the key that has its first letter.
+#[tactic(auto, unfolding(crate::specs::Command::key_fault))]
+fn key_fault(word: &[u8]) -> CommandFault
+    ensures { result ≡ key_fault word.now }
+{
+    match word.first() {
+        None => CommandFault::UnknownKey(None),
+        Some(letter) => {
+            let letter = *letter;
+            if letter == b'P' || letter == b'p' {
+                CommandFault::ProKey
+            } else {
+                CommandFault::UnknownKey(key_from(letter))
+            }
+        }
+    }
+}
+
+/// Returns the key whose name has this first letter, in upper or lower case.
+#[tactic(auto, unfolding(crate::specs::Command::key_from))]
+fn key_from(letter: u8) -> Option<Key>
+    ensures { result ≡ key_from letter }
+{
+    if letter == b'V' || letter == b'v' {
+        Some(Key::Verb)
+    } else if letter == b'N' || letter == b'n' {
+        Some(Key::Noun)
+    } else if letter == b'R' || letter == b'r' {
+        Some(Key::Reset)
+    } else if letter == b'K' || letter == b'k' {
+        Some(Key::KeyRelease)
+    } else if letter == b'E' || letter == b'e' {
+        Some(Key::Enter)
+    } else if letter == b'C' || letter == b'c' {
+        Some(Key::Clear)
+    } else {
+        None
     }
 }
 
@@ -150,7 +210,7 @@ fn read_until(names: &Option<SymbolTable>, words: &[u8]) -> Result<Command, Comm
     let (first, rest) = next_word(words).ok_or(CommandFault::Usage(CommandName::Until))?;
     if is_word(first, "write") {
         let (channel, rest) = next_word(rest).ok_or(CommandFault::Usage(CommandName::Until))?;
-        let channel = read_channel(channel)?;
+        let channel = read_written_channel(channel)?;
         return read_until_target(Breakpoint::Write(channel), rest);
     }
     if is_word(first, "cell") {

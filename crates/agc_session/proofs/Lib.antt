@@ -4,3 +4,4 @@ pub mod Reached
 pub mod Joins
 pub mod Again
 pub mod OneRun
+pub mod Written

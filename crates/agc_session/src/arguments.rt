@@ -1,16 +1,22 @@
 //! The command-line arguments of a session: its files, its limit and the rope's form.
-ghost use Rattle.std.specs.Prelude.{◌≡◌, IfErr};
+ghost use Rattle.std.specs.Prelude.{◌≡◌, IfOk, IfSome, None};
+ghost use Rattle.clap.specs.Words.{found_of, rows_of};
+ghost use Rattle.agc_store.specs.RopeFile.{rope_words};
+ghost use Rattle.agc_script.specs.Parse.{script_of};
+ghost use Rattle.agc_load.specs.Files.{events_in};
+ghost use Rattle.agc_machine.specs.State.{start_state};
+ghost use Rattle.agc_session.specs.Arguments.{AreArguments};
 
 use crate::fault::BeginFault;
 use crate::session::Session;
 use agc_cli::{form_of, form_option, number_of, path_of, rope_file, text_of, with_parameter};
 use agc_io::InputFile;
 use agc_load::{LoadFault, read_rope, read_script};
-use agc_script::Script;
 use agc_store::RopeForm;
 use clap::{Arg, ArgMatches, Command};
 use std::alloc::{AllocError, Global};
 use std::fs;
+use std::io::{self, Read};
 use std::rt::Files;
 
 /// The arguments that start a session.
@@ -32,10 +38,19 @@ pub fn with_session_args<'a>(
     command: Command<'a>,
     script: Arg<'a>,
 ) -> Result<Command<'a>, AllocError> {
-    let command = with_parameter(command, rope_file(alloc))?;
+    let rope = rope_file(alloc).help(
+        "Rope file: 16-bit words, high byte first, at most 36 banks of 1024",
+    );
+    let script = script.help(
+        "Script file: events from outside, one a line, in the order of their cycles",
+    );
+    let form = form_option(alloc).help(
+        "Order of the rope's banks: 2, 3, 0, 1, 4 to 43 (octal); or 0 to 43, with parity",
+    );
+    let command = with_parameter(command, rope)?;
     let command = with_parameter(command, script)?;
     let command = with_parameter(command, limit_option(alloc))?;
-    with_parameter(command, form_option(alloc))
+    with_parameter(command, form)
 }
 
 /// Returns the `--limit` option of a session. Its default is the last possible cycle.
@@ -43,10 +58,13 @@ fn limit_option<'a>(alloc: Global) -> Arg<'a> {
     agc_cli::limit_option(alloc)
         .required(false)
         .default_value("1000000000000")
+        .help("Stop at this cycle, 85333 a second: decimal, 1 to 1000000000000")
 }
 
 /// Returns the session's arguments among the parsed ones.
-pub fn session_args(alloc: Global, matches: &ArgMatches<'_>) -> Result<SessionArgs, AllocError> {
+pub fn session_args(alloc: Global, matches: &ArgMatches<'_>) -> Result<SessionArgs, AllocError>
+    ensures { IfOk result (AreArguments (rows_of (found_of matches.now))) }
+{
     Ok(SessionArgs {
         rope: path_of(alloc, matches, "rope")?,
         script: text_of(alloc, matches, "script")?,
@@ -59,17 +77,38 @@ pub fn session_args(alloc: Global, matches: &ArgMatches<'_>) -> Result<SessionAr
 pub fn open_session<R: Files + AllocGlobal>(
     rt: &R,
     start: &SessionArgs,
-) -> Result<Session, LoadFault> {
+) -> Result<Session, LoadFault>
+    ensures limit { IfOk result (λ session. session.now.limit ≡ start.now.limit) }
+{
     let mut rope = InputFile::new(fs::open(rt, start.rope.as_str()));
-    let rope = read_rope(rt.alloc(), start.form, &mut rope)?;
-    let script = match &start.script {
+    match &start.script {
         Some(path) => {
             let mut script = InputFile::new(fs::open(rt, path.as_str()));
-            read_script(rt.alloc(), &mut script)?
+            session_from(rt.alloc(), start, &mut rope, &mut script)
         }
-        None => Script::empty(rt.alloc()),
-    };
-    match Session::new(rt.alloc(), rope, script, start.limit) {
+        None => session_from(rt.alloc(), start, &mut rope, &mut io::empty()),
+    }
+}
+
+/// Reads a rope and a script, and makes the session that [`open_session`] opens: its machine stops at the limit of the
+/// arguments, and has the words that their form finds in the rope file.
+#[tactic(auto, unfolding(agc_machine::specs::State::start_state))]
+pub fn session_from<F: Read, S: Read>(
+    alloc: Global,
+    start: &SessionArgs,
+    rope: &mut F,
+    script: &mut S,
+) -> Result<Session, LoadFault>
+    ensures limit { IfOk result (λ session. session.now.limit ≡ start.now.limit) }
+    ensures now { IfOk result (λ session. IfSome (F.remaining rope.old) (λ rope_file.
+        IfSome (S.remaining script.old) (λ script_file. session.now
+        ≡ start_state (rope_words start.now.form rope_file) (events_in (script_of script_file)) start.now.limit None))) }
+    ensures base { IfOk result (λ session.
+        IfSome (S.remaining script.old) (λ script_file. session.base ≡ events_in (script_of script_file))) }
+{
+    let rope = read_rope(alloc, start.form, rope)?;
+    let script = read_script(alloc, script)?;
+    match Session::new(alloc, rope, script, start.limit) {
         Ok(session) => Ok(session),
         Err(BeginFault::Limit(limit)) => Err(LoadFault::Limit(limit)),
         Err(BeginFault::Memory) => Err(LoadFault::Memory),

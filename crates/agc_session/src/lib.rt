@@ -5,7 +5,9 @@ mod arguments;
 mod fault;
 pub mod laws;
 mod session;
+mod writing;
 
-pub use arguments::{SessionArgs, open_session, session_args, with_session_args};
+pub use arguments::{SessionArgs, open_session, session_args, session_from, with_session_args};
 pub use fault::{BeginFault, InjectFault, RewindFailed};
 pub use session::Session;
+pub use writing::LINE_ROOM;

@@ -1,11 +1,13 @@
 //! The interactive session: a machine, the panel that its writes make, and the events injected so far.
 ghost use Rattle.std.specs.Prelude.{◌≡◌, ◌+◌, ◌<◌, ◌≤◌, ◌↔◌, List, [], ◌∷◌, ◌++◌, length, None, Some};
 ghost use Rattle.std.specs.Prelude.{IfOk, IfErr, IfSome, IsErrOf, IsOk, OnOk, OnErr};
+ghost use Rattle.std.specs.Io.KnownBytes.{Appends};
 ghost use Rattle.agc_word.specs.declared.channel_write.ChannelWrite.{ChannelWrite};
 ghost use Rattle.agc_script.specs.Event.{IsWhatInRange, last_cycle, most_events};
 ghost use Rattle.agc_script.specs.Injection.{said_at};
 ghost use Rattle.agc_script.specs.Merge.{joined};
 ghost use Rattle.agc_script.specs.Script.{IsInOrder, IsNotBefore};
+ghost use Rattle.agc_script.specs.Written.{script_text};
 ghost use Rattle.agc_machine.specs.Boundary.{boundary, WantsKey};
 ghost use Rattle.agc_machine.specs.Laws.{HasChannel};
 ghost use Rattle.agc_machine.specs.Run.{next_before};
@@ -16,11 +18,13 @@ ghost use Rattle.agc_session.specs.Session.{HasGone, HasReached, IsReplay, injec
 ghost use Rattle.agc_session.specs.Session.{discarded, retained_before, script_of, script_before};
 
 use crate::fault::{BeginFault, InjectFault, RewindFailed};
+use crate::writing::write_joined;
 use agc_machine::{LimitFault, Machine, Stepped};
 use agc_panel::Panel;
 use agc_script::{MOST_EVENTS, Script, What};
 use agc_store::Rope;
 use std::alloc::Global;
+use std::io::{self, Write};
 use std::marker::Model;
 
 /// The scripts that a rewind starts from.
@@ -245,6 +249,24 @@ impl Session {
         ensures replay { IfSome result (λ script. IsReplay script self.now) }
     {
         self.script.join(alloc, &self.injected).ok()
+    }
+
+    /// Returns the number of events in the script of the session.
+    pub fn events(&self) -> usize
+        ensures { result ≡ length self.now.script + length self.now.injected }
+    {
+        self.script.len() + self.injected.len()
+    }
+
+    /// Writes the script of the session as text, a line for each event. Uses `line` for one line at a time, so it
+    /// needs no memory if `line` has room for [`LINE_ROOM`](crate::LINE_ROOM) bytes.
+    #[tactic(auto, unfolding(agc_script::specs::Written::script_text))]
+    pub fn write_script<W: Write>(&self, line: &mut String, out: &mut W) -> io::Result<()>
+        ensures written { OnOk result (Appends (W.contents out.old) (W.contents out.new)
+            (script_text (script_of self.now))) }
+    {
+        let _count = self.script.len();
+        write_joined(out, line, self.script.rest(0), self.injected.rest(0))
     }
 
     /// Returns the machine in its present state.

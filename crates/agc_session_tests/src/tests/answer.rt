@@ -97,10 +97,15 @@ cell E7,1777 54321
 fn help_tells_each_command_once(rt: HostRuntime) {
     let mut text = String::new(rt.alloc());
     has_room(&rt, push_help(&mut text));
-    equal(&rt, text.as_str().lines().count(), 15);
+    equal(&rt, text.as_str().lines().count(), 20);
     assert!(rt;
-        text.as_str()
-            .contains("\nback C: back to the state before cycle C")
+        text.as_str().contains(
+            "\nback C: returns to before cycle C and drops later events. Example: back 85333\n"
+        )
     );
-    assert!(rt; text.as_str().contains("\nkey NAME, pro down or up, "));
+    assert!(rt;
+        text.as_str().contains(
+            "\nraise N: requests an interrupt, 1 to 10, decimal. Example: raise 5\n"
+        )
+    );
 }

@@ -138,7 +138,7 @@ next 4002 OUT +1       01010 WRITE 010
 at 3
 3 4002 OUT +1       01010 WRITE 010 > 010 54171 | A 154171 L 00000 Q 000000 Z 4004 EB 0 FB 00
 at 5
-error: BadPlace: a place is En,oooo, or an address below 1400, or bb,oooo, or an address from 4000 on, in octal
+error: BadPlace: a place is octal, such as 0100, 4100, 12,2000 or E3,1400, or a name of --names
 came no
 at 5
 ";

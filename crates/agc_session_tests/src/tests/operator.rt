@@ -84,10 +84,31 @@ fn keys_wait_their_turn(rt: HostRuntime) {
     tells(&rt, &operator, whole);
     let (mut operator, went) = operator.back(rt.alloc(), 30_000);
     assert!(rt; went);
+    operator.rerun(u64::MAX);
     equal(&rt, operator.cycle(), 30_000);
     tells(&rt, &operator, "0 pro down\n17067 pro up\n25600 pro down\n");
     go_to(&rt, &mut operator, 60_000);
     tells(&rt, &operator, whole);
+}
+
+/// Going back reruns the machine bit by bit. On the way the script and the limit that repeat the session are those of the
+/// end already, and going back further begins again.
+#[test]
+fn going_back_takes_turns(rt: HostRuntime) {
+    let mut operator = operator_of(&rt, "");
+    type_pro(&rt, &mut operator);
+    go_to(&rt, &mut operator, 60_000);
+    let (mut operator, _) = operator.back(rt.alloc(), 30_000);
+    operator.rerun(10_000);
+    equal(&rt, operator.cycle(), 10_000);
+    equal(&rt, operator.rerun_end(), Some(30_000));
+    equal(&rt, operator.limit_to_repeat(), 30_000);
+    tells(&rt, &operator, "0 pro down\n17067 pro up\n");
+    let (mut operator, _) = operator.back(rt.alloc(), 5_000);
+    operator.rerun(10_000);
+    equal(&rt, operator.cycle(), 5_000);
+    equal(&rt, operator.rerun_end(), None);
+    tells(&rt, &operator, "0 pro down\n");
 }
 
 /// A script has at most 65,536 events. A further key is dropped, and the machine continues without it.
@@ -169,9 +190,11 @@ fn last_boundaries_with_a_key(rt: HostRuntime) {
 fn last_boundaries_where_time_goes_back(rt: HostRuntime) {
     let mut operator = operator_of(&rt, "");
     go_to(&rt, &mut operator, 100);
-    let (operator, _) = operator.back(rt.alloc(), 50);
+    let (mut operator, _) = operator.back(rt.alloc(), 50);
+    operator.rerun(u64::MAX);
     shows_twelve(&rt, &operator);
-    let (operator, _) = operator.back(rt.alloc(), 1);
+    let (mut operator, _) = operator.back(rt.alloc(), 1);
+    operator.rerun(u64::MAX);
     shows(
         &rt,
         &operator,
@@ -190,7 +213,9 @@ fn last_boundaries_of_all(rt: HostRuntime) {
     go_to(&rt, &mut operator, 2_000_000);
     let script = "0 pro down\n17067 pro up\n";
     tells(&rt, &operator, script);
-    let operator = operator.rebuild_history(rt.alloc());
+    let mut operator = operator.rebuild_history(rt.alloc());
+    equal(&rt, operator.rerun_end(), Some(1_000_000));
+    operator.rerun(u64::MAX);
     shows(
         &rt,
         &operator,

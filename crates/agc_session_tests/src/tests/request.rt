@@ -91,8 +91,10 @@ fn a_run_goes_until_a_place_a_write_or_a_cell(rt: HostRuntime) {
     );
     refuses(&rt, b"until cell 4071", CommandFault::NotErasable);
     refuses(&rt, b"until 1400", CommandFault::BadPlace);
-    refuses(&rt, b"until write 1000", CommandFault::BadChannel);
-    refuses(&rt, b"until write 8", CommandFault::BadChannel);
+    asks_until(&rt, b"until write 5", Breakpoint::Write(5), 1_000_000);
+    refuses(&rt, b"until write 4", CommandFault::NoWrites);
+    refuses(&rt, b"until write 1000", CommandFault::NoWrites);
+    refuses(&rt, b"until write 8", CommandFault::NoWrites);
     refuses(
         &rt,
         b"until 4071 within",
@@ -120,9 +122,17 @@ fn events_are_those_of_a_script(rt: HostRuntime) {
             value,
         }),
     );
+    refuses(&rt, b"key verb", CommandFault::UnknownKey(Some(Key::Verb)));
     refuses(
         &rt,
-        b"key verb",
+        b"key ENTER",
+        CommandFault::UnknownKey(Some(Key::Enter)),
+    );
+    refuses(&rt, b"key 10", CommandFault::UnknownKey(None));
+    refuses(&rt, b"key proceed", CommandFault::ProKey);
+    refuses(
+        &rt,
+        b"key 1 2",
         CommandFault::BadEvent(FaultKind::UnknownWord),
     );
     refuses(

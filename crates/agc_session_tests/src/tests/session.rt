@@ -19,9 +19,19 @@ fn press_at(rt: &impl Abort, session: &mut Session, cycle: u64, key: Key) {
     press(rt, session, key, Ok(()));
 }
 
-/// Checks the text of the session's script.
+/// Checks the text of the session's script, exported and written.
 fn tells(rt: &(impl AllocGlobal + Abort), session: &Session, wanted: &str) {
     has_text(rt, session.script(rt.alloc()), wanted);
+    writes(rt, session, wanted);
+    equal(rt, session.events(), wanted.lines().count());
+}
+
+/// Checks what the session writes as its script.
+fn writes(rt: &(impl AllocGlobal + Abort), session: &Session, wanted: &str) {
+    let mut line = String::new(rt.alloc());
+    let mut written = Vec::new(rt.alloc());
+    assert!(rt; session.write_script(&mut line, &mut written).is_ok());
+    assert!(rt; written.as_slice() == wanted.as_bytes());
 }
 
 /// Checks that the session is at this cycle.

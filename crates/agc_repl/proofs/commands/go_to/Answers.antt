@@ -1,7 +1,8 @@
-use Rattle.std.proofs.Common.{◌≡◌, ap, sym, ◌∙◌, true, false}
+use Rattle.std.proofs.Common.{◌≡◌, ap, sym, ◌∙◌, true, false, string_bytes}
 use Rattle.std.proofs.lemmas.Result.{err_from_is_err_and}
 use Rattle.agc_machine.specs.State.{State}
 use Rattle.agc_repl.specs.Stretch.{has_come}
+use Rattle.agc_repl.proofs.Beginning.{begun, begun_kept}
 use Rattle.agc_repl.proofs.Going.{goes_then, stays_put, under_way}
 use Rattle.agc_repl.proofs.Telling.{grows_then, stays_known}
 use Rattle.agc_repl.proofs.Ways.{Onward, came_not, came_there, followed_there, followed_up, follows, follows_on, nothing_said, said_all, said_there, says_on}
@@ -66,3 +67,9 @@ returns-clause-hit g c = came_not _ _ _ _ c.loop-repl.invariant.0 (sym c.is_befo
 
 pub returns-clause-told : goal.returns-clause-told
 returns-clause-told g c = said_all _ _ c.args.repl.now c.loop-repl.repl _ _ c.loop-repl.invariant.1 (sym c.is_before.ensures ∙ c.loop-repl-test.false)
+
+pub returns-in_err-tell-clause-begins : goal.returns-in_err-tell-clause-begins
+returns-in_err-tell-clause-begins g c e =
+    let p = err_from_is_err_and c.from_residual.result c.from_residual.ensures.1 in
+    begun_kept _ _ _ _ (begun _ _ (string_bytes c.args.text.now) (string_bytes c.loop-repl.text) _ _ c.loop-repl.invariant.1 c.loop-repl.invariant.3)
+    (c.tell.ensures.kept (cc (p.1, p.2, c.in_err-tell.was, e)))

@@ -3,6 +3,7 @@ use Rattle.std.proofs.lemmas.Result.{err_from_is_err_and}
 use Rattle.agc_trace.specs.NamedLine.{line_with}
 use Rattle.agc_trace.proofs.Lines.{written_whole}
 use Rattle.agc_repl.specs.Repl.{after_boundaries}
+use Rattle.agc_repl.proofs.Beginning.{begun, not_memory}
 use Rattle.agc_repl.proofs.Going.{goes_then, stays_put}
 use Rattle.agc_repl.proofs.Stepping.{all_taken, boundaries_on, no_boundaries, none_after_stop, none_taken, one_said, stop_said}
 use Rattle.agc_repl.proofs.Telling.{grows_then, pushed, stays_known}
@@ -67,3 +68,12 @@ pub returns-in_err-write_part-clause-grows : goal.returns-in_err-write_part-clau
 returns-in_err-write_part-clause-grows g c never =
     let p = err_from_is_err_and c.from_residual-in_err-write_part.result c.from_residual-in_err-write_part.ensures.1 in
     grows_then _ _ _ c.loop-boundary.invariant.3 (c.write_part.ensures.grows (λ e. never (cc (p.1, p.2, c.in_err-write_part.was, e))))
+
+pub returns-in_err-push_line_with-clause-begins : goal.returns-in_err-push_line_with-clause-begins
+returns-in_err-push_line_with-clause-begins g c e =
+    begun _ _ (string_bytes c.args.text.now) (string_bytes c.loop-boundary.text) _ _ c.loop-boundary.invariant.0 c.loop-boundary.invariant.3
+
+pub returns-in_err-write_part-clause-begins : goal.returns-in_err-write_part-clause-begins
+returns-in_err-write_part-clause-begins g c e =
+    let p = err_from_is_err_and c.from_residual-in_err-write_part.result c.from_residual-in_err-write_part.ensures.1 in
+    absurd (not_memory c.write_part.result c.write_part.ensures.fault (cc (p.1, p.2, c.in_err-write_part.was, e)))

@@ -1,8 +1,7 @@
-use Rattle.agc_repl.proofs.Answering.{when_kept}
+use Rattle.agc_repl.proofs.Answering.{what_in_range}
 use Rattle.agc_repl.proofs.conversation.answer.Goals as goal
 
-pub returns-in-Some : goal.returns-in-Some
-returns-in-Some g c = rw c.in-Some.ensures c.rewind_to.ensures
-
-pub returns-in-None : goal.returns-in-None
-returns-in-None g c = when_kept _ c.answer_now-told.result c.answer_now-told.new.repl c.keep_if.result c.keep_if.ensures c.answer_now-told.ensures (λ told. told)
+pub answer_event-told-requires : goal.answer_event-told-requires
+answer_event-told-requires g c =
+    what_in_range c.args.request c.in-Ok-Some-Inject.field-0 c.in-Ok-Some-Inject.field-0-0 c.in-Ok-Some-Inject.what c.in-Ok-Some-Inject.is c.in-Ok-Some-Inject.field-0-is
+    c.in-Ok-Some-Inject.field-0-0-is c.requires

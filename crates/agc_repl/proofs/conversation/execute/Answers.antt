@@ -1,8 +1,8 @@
 use Rattle.std.specs.Prelude.{string_bytes}
-use Rattle.std.proofs.Common.{refl, inr}
-use Rattle.agc_repl.proofs.Answering.{answer_of_command, answer_of_fault, answer_of_nothing, left_same, tells_same, tells_waiting}
-use Rattle.agc_repl.proofs.Going.{stays_put}
-use Rattle.agc_repl.proofs.Telling.{stays_known, when_ok}
+use Rattle.std.proofs.Common.{refl}
+use Rattle.agc_repl.proofs.Answering.{answer_of_command, answer_of_fault, answer_of_nothing, begins_as, left_by, left_nothing, tells_same, tells_waiting}
+use Rattle.agc_repl.proofs.Beginning.{nothing_begun}
+use Rattle.agc_repl.proofs.Telling.{when_ok}
 use Rattle.agc_repl.proofs.conversation.execute.Goals as goal
 
 pub returns-in-Ok-Some-clause-said : goal.returns-in-Ok-Some-clause-said
@@ -12,7 +12,12 @@ returns-in-Ok-Some-clause-said g c =
 
 pub returns-in-Ok-Some-clause-left : goal.returns-in-Ok-Some-clause-left
 returns-in-Ok-Some-clause-left g c =
-    left_same _ _ _ _ (answer_of_command c.args.names.now c.args.request c.in-Ok-Some.field-0 c.in-Ok-Some.command c.args.repl.now c.in-Ok-Some.is c.in-Ok-Some.field-0-is) c.say_command.ensures.left
+    left_by c.args.request c.in-Ok-Some.field-0 c.in-Ok-Some.command c.args.repl.now c.say_command.new.repl c.in-Ok-Some.is c.in-Ok-Some.field-0-is c.say_command.ensures.left
+
+pub returns-in-Ok-Some-clause-begins : goal.returns-in-Ok-Some-clause-begins
+returns-in-Ok-Some-clause-begins g c e =
+    begins_as _ _ (string_bytes c.args.text.now) _ _ (answer_of_command c.args.names.now c.args.request c.in-Ok-Some.field-0 c.in-Ok-Some.command c.args.repl.now c.in-Ok-Some.is c.in-Ok-Some.field-0-is)
+    (c.say_command.ensures.begins e)
 
 pub returns-in-Ok-None-clause-said : goal.returns-in-Ok-None-clause-said
 returns-in-Ok-None-clause-said g c =
@@ -21,10 +26,10 @@ returns-in-Ok-None-clause-said g c =
     (tells_waiting _ _ (g.W.Write.contents c.args.output.now) (string_bytes c.args.text.now) (string_bytes c.push_end.new.text) refl said))
 
 pub returns-in-Ok-None-clause-left : goal.returns-in-Ok-None-clause-left
-returns-in-Ok-None-clause-left g c = inr (stays_put _)
+returns-in-Ok-None-clause-left g c = left_nothing c.args.request c.args.repl.now
 
-pub returns-in-Ok-None-clause-grows : goal.returns-in-Ok-None-clause-grows
-returns-in-Ok-None-clause-grows g c never = stays_known _
+pub returns-in-Ok-None-clause-begins : goal.returns-in-Ok-None-clause-begins
+returns-in-Ok-None-clause-begins g c e = nothing_begun _ _
 
 pub returns-in-Err-clause-said : goal.returns-in-Err-clause-said
 returns-in-Err-clause-said g c =
@@ -33,7 +38,7 @@ returns-in-Err-clause-said g c =
     (tells_waiting _ _ (g.W.Write.contents c.args.output.now) (string_bytes c.args.text.now) (string_bytes c.push_refusal.new.text) refl said))
 
 pub returns-in-Err-clause-left : goal.returns-in-Err-clause-left
-returns-in-Err-clause-left g c = inr (stays_put _)
+returns-in-Err-clause-left g c = left_nothing c.args.request c.args.repl.now
 
-pub returns-in-Err-clause-grows : goal.returns-in-Err-clause-grows
-returns-in-Err-clause-grows g c never = stays_known _
+pub returns-in-Err-clause-begins : goal.returns-in-Err-clause-begins
+returns-in-Err-clause-begins g c e = nothing_begun _ _

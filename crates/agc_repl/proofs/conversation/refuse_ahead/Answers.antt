@@ -1,0 +1,9 @@
+use Rattle.std.proofs.Common.{refl, subst}
+use Rattle.agc_repl.specs.Answer.{error_line}
+use Rattle.agc_repl.proofs.Answering.{when_kept}
+use Rattle.agc_repl.proofs.conversation.refuse_ahead.Goals as goal
+
+pub returns : goal.returns
+returns g c =
+    when_kept _ c.write_error_line-told.result c.args.repl c.keep_if.result c.keep_if.ensures c.write_error_line-told.ensures
+    (λ written. (refl, rw (c.ahead.ensures) at written))
