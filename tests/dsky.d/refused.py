@@ -20,8 +20,8 @@ LONGEST = 20
 # Sessions are drawn as long as they last, so that there is always one growth more: so many are tried.
 MOST = {"GROWTH": 60, "READ": 12, "WRITE": 12}
 REFUSALS = {
-    "GROWTH": {"agc-dsky: memory", "agc-dsky: rope: Memory"},
-    "READ": {"agc-dsky: cannot read rope"},
+    "GROWTH": {"agc-dsky: memory", f"agc-dsky: {rope}: rope: Memory"},
+    "READ": {f"agc-dsky: {rope}: cannot read rope"},
     "WRITE": set(),
 }
 

@@ -8,6 +8,7 @@ import fcntl
 import os
 import pty
 import re
+import resource
 import select
 import shlex
 import signal
@@ -30,6 +31,8 @@ HOUR = 307_200_000
 LARGE, SMALL = (24, 80), (14, 60)
 NAMES = {"v": "VERB", "n": "NOUN", "c": "CLR", "k": "KEYREL", "r": "RSET", "\r": "ENTR", **{key: key for key in "0123456789+-"}}
 WHITE, CAUTION, UNLIT, GREEN = "30;47", "30;43", "2", "1;32"
+# The programs agc and agc-study that the last lines name: beside the one that was started.
+AGAIN, FILM = (os.path.join(os.path.dirname(dsky), name) for name in ("agc", "agc-study"))
 CAUTIONS = {"TEMP", "GIMBAL LOCK", "PROG", "TRACKER", "ALT", "VEL"}
 
 passed = 0
@@ -53,12 +56,12 @@ class Late(Exception):
 class Terminal:
     """agc-dsky on a terminal of this size, which answers what it is asked. The slave side stays open here."""
 
-    def __init__(self, words, size=LARGE, **names):
+    def __init__(self, words, size=LARGE, program=dsky, folder=None, **names):
         self.screen, self.answers = Screen(*size), True
         self.master, self.slave = pty.openpty()
         self.sized(*size)
         self.before = termios.tcgetattr(self.slave)
-        self.process = started(words, self.slave, self.slave, self.slave, names)
+        self.process = started(words, self.slave, self.slave, self.slave, names, program, folder)
 
     def sized(self, lines, columns):
         fcntl.ioctl(self.slave, termios.TIOCSWINSZ, struct.pack("HHHH", lines, columns, 0, 0))
@@ -161,11 +164,13 @@ class Terminal:
                 pass
 
 
-def started(words, keys, out, err, names):
-    """agc-dsky with these streams, the terminal among them as its controlling one."""
+def started(words, keys, out, err, names, program=dsky, folder=None):
+    """agc-dsky with these streams, the terminal among them as its controlling one, in a folder. A file that would be
+    larger than a limit is an error, as a full disk is."""
 
     def own_terminal():
         os.setsid()
+        signal.signal(signal.SIGXFSZ, signal.SIG_IGN)
         for stream in (0, 1):
             if os.isatty(stream):
                 fcntl.ioctl(stream, termios.TIOCSCTTY, 0)
@@ -173,7 +178,7 @@ def started(words, keys, out, err, names):
 
     environment = {name: value for name, value in os.environ.items() if name != "NO_COLOR"}
     environment.update({"TERM": "xterm", **names})
-    return subprocess.Popen([dsky, *words], stdin=keys, stdout=out, stderr=err, env=environment, preexec_fn=own_terminal)
+    return subprocess.Popen([program, *words], stdin=keys, stdout=out, stderr=err, env=environment, cwd=folder, preexec_fn=own_terminal)
 
 
 def children(pid):
@@ -225,7 +230,7 @@ def last_line(screen):
 
 def told(text):
     """The script on the terminal, the limit with which the session is repeated, and all behind the script."""
-    found = re.search(r"(?m)^(?:agc-dsky: [^\n]*\s)?again: \./agc [^\n]*? --limit (\d+)", text)
+    found = re.search(rf"(?m)^(?:agc-dsky: [^\n]*\s)?again: {re.escape(AGAIN)} [^\n]*? --limit (\d+)", text)
     if not found:
         raise Late(f"nothing tells how to repeat it: {text[-500:]!r}")
     return text[: found.start()], int(found[1]), text[found.start() :]
@@ -367,8 +372,8 @@ def try_face(name, rope, typed, size):
         judge(f"{name}: the colour of digits", {GREEN}, terminal.screen.colours_at(y, x, 5))
         status, text = terminal.quit()
         judge(f"{name}: the end", (0, True), (status, terminal.is_put_back()))
-        wanted = f"again: ./agc {rope} {save} --limit {cycle}\n"
-        wanted += f"as a film: ./agc-study film {rope} {save} --limit {cycle} > film.html\n"
+        wanted = f"again: {AGAIN} {rope} {save} --limit {cycle}\n"
+        wanted += f"as a film: {FILM} film {rope} {save} --limit {cycle} > film.html\n"
         judge(f"{name}: what is printed", wanted, text)
         judge(f"{name}: the file at the end", script, read(save))
     finally:
@@ -420,25 +425,67 @@ def trace_of(rope, script, limit):
     return subprocess.run(words, capture_output=True, text=True).stdout.splitlines()
 
 
-def try_saving():
-    """No file is written over unasked, none is made in no folder, and a full disk loses nothing."""
+def is_refused(name, words, line, status=1):
+    """A session does not start: it ends with a status and a line, and draws nothing."""
+    terminal = Terminal(words)
+    try:
+        ended = terminal.status()
+        judge(name, (status, f"agc-dsky: {line}\r\n", True), (ended, terminal.screen.plain, terminal.is_put_back()))
+    finally:
+        terminal.close()
+
+
+def try_unsaved():
+    """What is not a file is named for what it is, no file is written over unasked, and none is made in no folder."""
     save = written("old", "mine\n")
     nowhere = os.path.join(scratch, "none", "x")
-    for name, words, line in (
-        ("a file that is there", [save], "is there already; --force writes over it"),
-        ("no folder", [nowhere], "cannot be made"),
-        ("no folder, by force", [nowhere, "--force"], "cannot be made"),
+    link, pipe = os.path.join(scratch, "link"), os.path.join(scratch, "pipe")
+    os.symlink(os.path.join(scratch, "absent"), link)
+    os.mkfifo(pipe)
+    odd = written("odd\x1b[31m name's", "mine\n")
+    for name, path, line in (
+        ("a folder", scratch, "a folder; name a file in it"),
+        ("a link to nothing", link, "a link to a file that is not there; create that file first"),
+        ("a pipe", pipe, "a pipe or a device; name a file"),
+        ("a device", "/dev/full", "a pipe or a device; name a file"),
+        ("no folder", nowhere, "cannot be created; its folder must exist and be writable"),
     ):
-        terminal = Terminal([KEYS_ROPE, "--save", *words])
-        try:
-            status = terminal.status()
-            judge(f"{name}: the status", (1, True), (status, terminal.is_put_back()))
-            judge(f"{name}: a line", f"agc-dsky: the file after --save {line}\r\n", terminal.screen.plain)
-        finally:
-            terminal.close()
-        judge(f"{name}: nothing is changed", "mine\n", read(save))
-    fresh = os.path.join(scratch, "fresh")
-    for name, words, path in (("--force", [save, "--force"], save), ("a new file", [fresh], fresh)):
+        is_refused(name, [KEYS_ROPE, "--save", path], f"{path}: {line}")
+        is_refused(f"{name}, by force", [KEYS_ROPE, "--save", path, "--force"], f"{path}: {line}")
+    taken = "not empty; name another file, or overwrite it with --force"
+    is_refused("a file that is there", [KEYS_ROPE, "--save", save], f"{save}: {taken}")
+    escaped = f"$'{scratch}/odd\\033[31m name\\'s'"
+    is_refused("a name with an escape", [KEYS_ROPE, "--save", odd], f"{escaped}: {taken}")
+    for name, words, path, line in (
+        ("a pipe as rope", [pipe], pipe, "a pipe, and no key is heard while it is read; write it to a file first"),
+        ("a pipe as script", [KEYS_ROPE, pipe], pipe, "a pipe, and no key is heard while it is read; write it to a file first"),
+        ("no rope", [nowhere], nowhere, "cannot read rope"),
+        ("no script", [KEYS_ROPE, nowhere], nowhere, "cannot read script"),
+        ("a script with a mistake", [KEYS_ROPE, save], save, "script line 1: BadCycle; agc-study check explains it"),
+    ):
+        is_refused(name, words, f"{path}: {line}")
+    is_refused("a limit of 0", [KEYS_ROPE, "--limit", "0"], "limit: Zero; --limit takes 1 to 1000000000000")
+    line = "watch: BadSpec; --watch takes BANK,OFFSET,SETS,BANK,OFFSET,BANK,OFFSET in octal"
+    is_refused("no tables", [KEYS_ROPE, "--watch", "x"], line)
+    judge("nothing is changed", ("mine\n", "mine\n"), (read(save), read(odd)))
+    judge("nothing is made", [], [name for name in os.listdir(scratch) if name.endswith(".tmp") or name == "absent"])
+
+
+def types_key(terminal, key, noun):
+    terminal.type(key)
+    terminal.until(f"NOUN {noun}", lambda screen: screen.fields()["NOUN"] == noun)
+
+
+def says(terminal, remark):
+    terminal.until("no remark", lambda screen: last_line(screen) == f" {remark}")
+
+
+def try_saving():
+    """Each save is the whole script, under the permissions that the file had, and a link stays one."""
+    save, fresh, link = written("old", "mine\n"), os.path.join(scratch, "fresh"), os.path.join(scratch, "to-old")
+    os.chmod(save, 0o600)
+    os.symlink(save, link)
+    for name, words, path in (("--force", [link, "--force"], save), ("a new file", [fresh], fresh)):
         terminal = Terminal([KEYS_ROPE, "--save", *words])
         try:
             terminal.begun()
@@ -446,34 +493,103 @@ def try_saving():
             terminal.until("NOUN 47", lambda screen: screen.fields()["NOUN"] == "47")
             script = terminal.saved(path)
             judge(f"{name}: by s", ["4", "7"], keys_of(script))
-            terminal.type("1")
-            terminal.until("NOUN 71", lambda screen: screen.fields()["NOUN"] == "71")
+            types_key(terminal, "1", "71")
             status, text = terminal.quit()
             judge(f"{name}: at the end", (0, "", ["4", "7", "1"]), (status, told(text)[0], keys_of(read(path))))
             judge(f"{name}: the same begin", script, read(path)[: len(script)])
         finally:
             terminal.close()
-    terminal = Terminal([KEYS_ROPE, "--save", "/dev/full", "--force"])
-    try:
-        terminal.begun()
-        terminal.type("4")
-        terminal.until("NOUN _4", lambda screen: screen.fields()["NOUN"] == "_4")
-        terminal.type("s")
-        terminal.until("no remark", lambda screen: last_line(screen) == " the script could not be saved")
-        status, text = terminal.quit()
-        script, _, rest = told(text)
-        judge("a full disk", (3, ["4"], True), (status, keys_of(script), terminal.is_put_back()))
-        judge("a full disk: a line", "agc-dsky: the script could not be saved", rest.splitlines()[-1])
-    finally:
-        terminal.close()
+    judge("a link stays a link", save, os.readlink(link))
+    judge("permissions stay", 0o600, os.stat(save).st_mode & 0o777)
     terminal = Terminal([KEYS_ROPE])
     try:
         terminal.begun()
         terminal.type("s")
-        terminal.until("no remark", lambda screen: last_line(screen) == " no file is named: start with --save FILE")
+        says(terminal, "no file is named: start with --save FILE")
         judge("s without a file", 0, terminal.quit()[0])
     finally:
         terminal.close()
+
+
+def try_full_disk():
+    """A save that fails leaves the last one, and the script is printed at the end."""
+    save = os.path.join(scratch, "full")
+    terminal = Terminal([KEYS_ROPE, "--save", save])
+    try:
+        terminal.begun()
+        types_key(terminal, "4", "_4")
+        script = terminal.saved(save)
+        resource.prlimit(program_of(terminal), resource.RLIMIT_FSIZE, (3, 3))
+        types_key(terminal, "7", "47")
+        terminal.type("s")
+        says(terminal, "not saved: the file cannot be written; it is as it was")
+        judge("a full disk: by s", script, read(save))
+        status, text = terminal.quit()
+        printed, _, rest = told(text)
+        judge("a full disk", (3, ["4", "7"], True), (status, keys_of(printed), terminal.is_put_back()))
+        judge("a full disk: a line", f"agc-dsky: {save}: the script could not be saved; it is printed above", rest.splitlines()[-1])
+        judge("a full disk: at the end", script, read(save))
+        judge("a full disk: beside it", ["full"], [name for name in os.listdir(scratch) if name.startswith("full")])
+    finally:
+        terminal.close()
+
+
+def try_two_sessions():
+    """Of two sessions with one file the second to save does not write over the first, unless it is forced to."""
+    save = os.path.join(scratch, "shared")
+    for name, words in (("another session", []), ("another session, by force", ["--force"])):
+        written("shared", "")
+        first, second = Terminal([KEYS_ROPE, "--save", save, *words]), Terminal([KEYS_ROPE, "--save", save])
+        try:
+            first.begun()
+            second.begun()
+            types_key(first, "1", "_1")
+            types_key(second, "2", "_2")
+            script = second.saved(save)
+            first.type("s")
+            says(first, "saved" if words else "not saved: another program changed the file")
+            judge(f"{name}: by s", ["1" if words else "2"], keys_of(read(save)))
+            status, text = first.quit()
+            line = "" if words else f"agc-dsky: {save}: changed by another program, and left so; the script is printed above"
+            judge(f"{name}: the end", (0 if words else 3, [] if words else ["1"]), (status, keys_of(told(text)[0])))
+            judge(f"{name}: a line", line, "".join(text.splitlines()[-1:]) if status else "")
+            judge(f"{name}: at the end", words or script, words or read(save))
+        finally:
+            first.close()
+            second.close()
+
+
+def try_little_memory():
+    """Where memory runs out, each key that was pressed is in the script that is printed or saved at the end."""
+    save = os.path.join(scratch, "little")
+    for name, words in (("little memory", []), ("little memory, saved", ["--save", save])):
+        terminal = Terminal([KEYS_ROPE, "--speed", "max", *words])
+        try:
+            terminal.begun()
+            program = program_of(terminal)
+            size = 1024 * int(re.search(r"(?m)^VmSize:\s+(\d+)", read(f"/proc/{program}/status"))[1]) + (1 << 19)
+            resource.prlimit(program, resource.RLIMIT_AS, (size, size))
+            typed = ("4711290" * 5000)[:30000]
+            left, end = typed, time.monotonic() + LONGEST
+            while left and terminal.process.poll() is None and time.monotonic() < end:
+                if select.select([], [terminal.master], [], 0)[1]:
+                    terminal.type(left[:100])
+                    left = left[100:]
+                terminal.take(0.001)
+            # Where there is no memory to draw, the session ends by itself.
+            if terminal.process.poll() is None:
+                terminal.until("keys wait for ever", lambda screen: is_idle(screen) or terminal.process.poll() is not None)
+                terminal.type("q")
+            status, text = terminal.status(), terminal.screen.plain.replace("\r\n", "\n")
+            printed, limit, _ = told(text)
+            script = read(save) if words else printed
+            keys, rest = keys_of(script), iter(typed)
+            print(f"dsky: with little memory {len(keys)} of {len(typed)} keys were pressed")
+            judge(name, (True, True), (status in (0, 1), len(keys) > 1000))
+            judge(f"{name}: the keys in order", True, all(key in rest for key in keys))
+            judge(f"{name}: the last keys", "".join(keys[-2:]), panel_of(KEYS_ROPE, script, limit).get("NOUN"))
+        finally:
+            terminal.close()
 
 
 def try_last_keys():
@@ -505,19 +621,32 @@ def try_last_keys():
 
 
 def try_told_names():
-    """The lines that repeat a session are those that a shell reads, and need no script where nothing was typed."""
-    rope = os.path.join(scratch, "my rope's")
-    with open(KEYS_ROPE, "rb") as file, open(rope, "wb") as copy:
-        copy.write(file.read())
-    terminal = Terminal([rope])
-    try:
-        terminal.begun()
-        status, text = terminal.quit()
-        _, limit, _ = told(text)
-        words = shlex.split(text.splitlines()[0])
-        judge("names with a space and a quote", (0, ["again:", "./agc", rope, "/dev/null", "--limit", str(limit)]), (status, words))
-    finally:
-        terminal.close()
+    """The lines that repeat a session are those that a shell reads where it was started, with the programs beside the one
+    that was started, and need no script where nothing was typed. No name reaches the terminal as a sequence."""
+    examples = os.path.join(top, "examples")
+    beside = os.path.relpath(dsky, examples)
+    agc_beside = os.path.join(os.path.dirname(beside), "agc")
+    for name, program, folder, rope, shown in (
+        ("a space and a quote", dsky, scratch, os.path.join(scratch, "my rope's"), "'{}/my rope'\\''s'"),
+        ("an escape", dsky, scratch, os.path.join(scratch, "my\x1b[31m rope's"), "$'{}/my\\033[31m rope\\'s'"),
+        ("a leading -", dsky, scratch, "-r", "./-r"),
+        ("another folder", beside, examples, "keys/rope", "keys/rope"),
+    ):
+        if folder == scratch:
+            with open(KEYS_ROPE, "rb") as file, open(os.path.join(scratch, rope), "wb") as copy:
+                copy.write(file.read())
+        terminal = Terminal(["--", rope], program=program, folder=folder)
+        try:
+            terminal.begun()
+            status, text = terminal.quit()
+            limit = re.search(r" --limit (\d+)", text)[1]
+            agc_path = AGAIN if program == dsky else agc_beside
+            line = f"again: {agc_path} {shown.format(scratch)} /dev/null --limit {limit}"
+            judge(name, (0, line, []), (status, text.splitlines()[0], terminal.screen.faults))
+            again = subprocess.run(["bash", "-c", line.removeprefix("again: ")], cwd=folder, capture_output=True, text=True)
+            judge(f"{name}: again", (0, "", True), (again.returncode, again.stderr, f"STOP Limit CYCLE {limit} " in again.stdout))
+        finally:
+            terminal.close()
 
 
 def try_leaving():
@@ -585,15 +714,8 @@ def try_no_terminal():
     terminal = Terminal([KEYS_ROPE], TERM="dumb")
     try:
         judge("TERM=dumb", 2, terminal.status())
-        line = "agc-dsky: a terminal of TERM=dumb cannot be drawn on\r\n"
+        line = "agc-dsky: TERM=dumb says that the terminal cannot draw; set TERM to its kind, as xterm\r\n"
         judge("TERM=dumb: a line", (line, True), (terminal.screen.plain, terminal.is_put_back()))
-    finally:
-        terminal.close()
-    terminal = Terminal([os.path.join(scratch, "no-such-rope")])
-    try:
-        judge("no rope", 1, terminal.status())
-        line = "agc-dsky: cannot read rope\r\n"
-        judge("no rope: a line", (line, True), (terminal.screen.plain, terminal.is_put_back()))
     finally:
         terminal.close()
     save = os.path.join(scratch, "beside")
@@ -601,9 +723,9 @@ def try_no_terminal():
     master, slave = pty.openpty()
     nothing, pipe = subprocess.DEVNULL, subprocess.PIPE
     for name, keys, out, line in (
-        ("no input", nothing, slave, b"agc-dsky: standard input is no terminal\n"),
-        ("no output", slave, pipe, b"agc-dsky: standard output is no terminal\n"),
-        ("neither", nothing, pipe, b"agc-dsky: standard input is no terminal\n"),
+        ("no input", nothing, slave, b"agc-dsky: standard input is not a terminal; start it in one, without < or |\n"),
+        ("no output", slave, pipe, b"agc-dsky: standard output is not a terminal; start it in one, without > or |\n"),
+        ("neither", nothing, pipe, b"agc-dsky: standard input is not a terminal; start it in one, without < or |\n"),
     ):
         process = started(words, keys, out, pipe, {})
         said, error = process.communicate(timeout=LONGEST)
@@ -621,9 +743,9 @@ def try_resizing():
         for size, has_come in (
             (SMALL, lambda screen: screen.is_small() and screen.fields()["NOUN"] == "_4"),
             (LARGE, lambda screen: screen.is_large() and screen.fields()["NOUN"] == "_4"),
-            ((10, 40), lambda screen: screen.text().rstrip() == "58 columns and 14 lines are wanted"),
+            ((10, 40), lambda screen: screen.text().rstrip() == "terminal too small:\n40 x 10, need 58 x 14"),
             (SMALL, lambda screen: screen.is_small() and screen.fields()["NOUN"] == "_4"),
-            ((13, 80), lambda screen: screen.text().rstrip() == "58 columns and 14 lines are wanted"),
+            ((13, 80), lambda screen: screen.text().rstrip() == "terminal too small:\n80 x 13, need 58 x 14"),
             ((14, 58), lambda screen: screen.is_small() and screen.fields()["NOUN"] == "_4"),
             ((23, 80), lambda screen: screen.is_small() and screen.fields()["NOUN"] == "_4"),
             ((50, 200), lambda screen: screen.is_large() and screen.fields()["NOUN"] == "_4"),
@@ -665,7 +787,7 @@ def try_refusals():
     """What is refused makes no file."""
     empty, save = written("empty", ""), os.path.join(scratch, "unmade")
     for name, words, status, line in (
-        ("an empty rope", [empty], 1, "agc-dsky: rope: Empty\r\n"),
+        ("an empty rope", [empty], 1, f"agc-dsky: {empty}: rope: Empty; agc-study check explains it\r\n"),
         ("a limit of 0", [KEYS_ROPE, "--limit", "0"], None, ""),
         ("an unknown speed", [KEYS_ROPE, "--speed", "2"], 2, "error: "),
         ("no rope", [], 2, "error: "),
@@ -751,6 +873,53 @@ def try_going_back():
         judge("going back: the end", (0, []), (terminal.quit()[0], terminal.screen.faults))
     finally:
         terminal.close()
+
+
+# Counts in its cell 100 for ever.
+COUNTS = "4000 24100\n4001 14000\n" + "".join(f"{0o4004 + 4 * vector:o} 50017\n" for vector in range(10))
+
+
+def rerun_of(screen):
+    """The cycle that a session is rerun to, if it is."""
+    found = re.match(r" rerunning to cycle (\d+): \d+ %; q quits$", last_line(screen))
+    return found and int(found[1])
+
+
+def try_a_long_way_back():
+    """Going back a long run shows how far it is, and hears what is typed; the end is that of the place gone back to."""
+    made = subprocess.run([study, "weave", written("counts.words", COUNTS)], capture_output=True)
+    rope = os.path.join(scratch, "counts.rope")
+    with open(rope, "wb") as file:
+        file.write(made.stdout)
+    save = os.path.join(scratch, "long")
+    for name, by in (("q", "q"), ("control-C", b"\x03"), ("its end", "")):
+        terminal = Terminal([rope, "--speed", "max", "--save", save, "--force"])
+        try:
+            terminal.begun()
+            terminal.type("4")
+            end = time.monotonic() + 5
+            while time.monotonic() < end:
+                terminal.take(0.05)
+            cycle = terminal.pause()
+            terminal.type(b"\x7f")
+            terminal.until("no rerun", lambda screen: rerun_of(screen) == cycle - SPACING)
+            came = terminal.screen.cycle()
+            terminal.until("no way", lambda screen: came < screen.cycle() < cycle - SPACING)
+            terminal.type(b"s\x7f")
+            terminal.until("not further back", lambda screen: rerun_of(screen) == cycle - 2 * SPACING)
+            judge(f"going back to {name}: saved on the way", ["4"], keys_of(read(save)))
+            if by:
+                begun = time.monotonic()
+                status, text = terminal.quit(by)
+                judge(f"going back to {name}", (0, cycle - 2 * SPACING, True), (status, told(text)[1], time.monotonic() < begun + 2))
+            else:
+                terminal.until("never back", lambda screen: rerun_of(screen) is None and screen.cycle() >= cycle - 2 * SPACING)
+                came = terminal.screen.cycle()
+                judge(f"going back to {name}", True, cycle - 2 * SPACING <= came < cycle - 2 * SPACING + 6)
+                judge(f"going back to {name}: the end", (0, came), (lambda end: (end[0], told(end[1])[1]))(terminal.quit()))
+            judge(f"going back to {name}: the script", ["4"], keys_of(read(save)))
+        finally:
+            terminal.close()
 
 
 # Waits for its cell 100 to be more than 0, and then divides by cell 101, which is 0: the machine stops.
@@ -953,8 +1122,8 @@ for each in (LARGE, SMALL):
     for face, made, keys in faces():
         attempt(f"{face} at {each}", try_face, f"{face} at {each[0]} lines", made, keys, each)
 for each in (
-    try_saving, try_last_keys, try_told_names, try_leaving, try_ink, try_no_terminal, try_resizing, try_script, try_refusals, try_many_keys, try_going_back,
-    try_boundaries, try_start, try_speeds, try_idleness,
+    try_unsaved, try_saving, try_full_disk, try_two_sessions, try_little_memory, try_last_keys, try_told_names, try_leaving, try_ink, try_no_terminal, try_resizing, try_script, try_refusals, try_many_keys, try_going_back,
+    try_a_long_way_back, try_boundaries, try_start, try_speeds, try_idleness,
 ):
     attempt(each.__name__, each)
 print(f"{passed} passed, {failed} failed")

@@ -11,6 +11,9 @@ use std::time::{Clock, Duration};
 /// The most microseconds that the machine runs before keys are read again.
 const TURN: u64 = 15_000;
 
+/// The same while it reruns.
+const RERUN_TURN: u64 = 90_000;
+
 /// The milliseconds of sleep between two turns.
 const REST: u64 = 10;
 
@@ -144,12 +147,15 @@ impl EventLoop {
     /// Queues a key.
     fn type_key(&mut self, button: Button) {
         if self.operator.type_key(button).is_err() {
-            self.remark = "no memory for this key";
+            self.remark = "key dropped: out of memory";
         }
     }
 
-    /// Presses the key that may be pressed at the present cycle.
+    /// Presses the key that may be pressed at the present cycle. None may during a rerun.
     fn press_now(&mut self) {
+        if self.operator.rerun_end().is_some() {
+            return;
+        }
         let cycle = self.operator.cycle();
         let pressed = self.operator.go_to(cycle);
         self.note(pressed);
@@ -159,7 +165,7 @@ impl EventLoop {
     fn show_tables(&mut self) {
         match self.watch {
             Some(_) => self.are_tables = !self.are_tables,
-            None => self.remark = "no tables are named: start with --watch SPEC",
+            None => self.remark = "no tables: start with --watch SPEC",
         }
     }
 
@@ -168,25 +174,29 @@ impl EventLoop {
         self.pacer.begin_at(micros_of(clock), self.operator.cycle());
     }
 
-    /// Pauses or resumes. Before a pause takes the last boundaries one by one, so that they are recorded.
+    /// Pauses or resumes. Before a pause takes the last boundaries one by one, so that they are recorded, except during a
+    /// rerun, which records its own.
     fn pause_or_go_on(&mut self) {
         self.pacer.pause_or_go_on();
-        if self.pacer.is_paused() {
+        if self.pacer.is_paused() && self.operator.rerun_end().is_none() {
             let slowed = self.operator.step_tail();
             self.note(slowed);
         }
     }
 
-    /// Takes one boundary if the session is paused, else pauses it.
+    /// Takes one boundary if the session is paused, else pauses it. During a rerun takes none.
     fn step(&mut self) {
         if !self.pacer.is_paused() {
             return self.pause_or_go_on();
+        }
+        if self.operator.rerun_end().is_some() {
+            return;
         }
         let stepped = self.operator.step();
         self.note(stepped);
     }
 
-    /// Rebuilds the history if the inspector is shown and the machine has stopped by itself.
+    /// Begins a rerun that rebuilds the history, if the inspector is shown and the machine has stopped by itself.
     pub fn look_inside(self, alloc: Global) -> EventLoop {
         if !self.is_inside {
             return self;
@@ -195,7 +205,7 @@ impl EventLoop {
         EventLoop { operator, ..self }
     }
 
-    /// Goes back by a second, or by a tenth of a second during a pause.
+    /// Begins to go back by a second, or by a tenth of a second during a pause. [`go_on`](EventLoop::go_on) does the rest.
     pub fn back<C: Clock>(self, alloc: Global, clock: &C) -> EventLoop {
         let EventLoop {
             operator,
@@ -214,8 +224,8 @@ impl EventLoop {
         } else {
             SECOND
         };
-        let cycle = operator.cycle().saturating_sub(way);
-        let (operator, went) = operator.back(alloc, cycle);
+        let from = operator.rerun_end().unwrap_or(operator.cycle());
+        let (operator, went) = operator.back(alloc, from.saturating_sub(way));
         let asked_at = operator.cycle();
         let presses = operator.presses();
         let mut event_loop = EventLoop {
@@ -226,7 +236,11 @@ impl EventLoop {
             is_inside,
             watch,
             are_tables,
-            remark: if went { "" } else { "no memory to go back" },
+            remark: if went {
+                ""
+            } else {
+                "cannot go back: out of memory"
+            },
             runs_at: None,
             asked,
             asked_at,
@@ -237,8 +251,11 @@ impl EventLoop {
         event_loop
     }
 
-    /// Runs the machine to the cycle that is due now, or as far as it gets within a turn.
+    /// Runs the machine to the cycle that is due now, or as far as it gets within a turn. Goes on with a rerun first.
     pub fn go_on<C: Clock>(&mut self, clock: &C) {
+        if self.operator.rerun_end().is_some() {
+            return self.rerun(clock);
+        }
         let start = micros_of(clock);
         let due = self.pacer.due(start);
         let end = start.saturating_add(TURN);
@@ -259,13 +276,35 @@ impl EventLoop {
         }
     }
 
+    /// Goes on with a rerun, as far as it gets within a turn.
+    fn rerun<C: Clock>(&mut self, clock: &C) {
+        let start = micros_of(clock);
+        let end = start.saturating_add(RERUN_TURN);
+        for _chunk in 0..u64::MAX {
+            self.operator.rerun(CHUNK);
+            let now = micros_of(clock);
+            if self.operator.rerun_end().is_none() {
+                self.asked = now;
+                self.asked_at = self.operator.cycle();
+                return self.begin_pace(clock);
+            }
+            if end <= now || now == start {
+                return;
+            }
+        }
+    }
+
     /// Shows why a key was not injected.
     fn note(&mut self, gone: Result<(), InjectFault>) {
         match gone {
             Ok(()) => {}
-            Err(InjectFault::Unwanted) => self.remark = "the machine takes no key any more",
-            Err(InjectFault::TooMany) => self.remark = "no key more: the script has 65536 events",
-            Err(InjectFault::Memory) => self.remark = "no memory for a key",
+            Err(InjectFault::Unwanted) => {
+                self.remark = "key dropped: the machine has stopped; Backspace goes back"
+            }
+            Err(InjectFault::TooMany) => {
+                self.remark = "key dropped: the script is full, with 65536 events"
+            }
+            Err(InjectFault::Memory) => self.remark = "key dropped: out of memory",
         }
     }
 
@@ -280,7 +319,9 @@ impl EventLoop {
         let since = micros.saturating_sub(self.asked);
         if ASKED_EVERY <= since {
             ask_size(out)?;
-            self.measure(since);
+            if self.operator.rerun_end().is_none() {
+                self.measure(since);
+            }
             self.asked = micros;
             self.asked_at = self.operator.cycle();
         }

@@ -1,41 +1,59 @@
 //! `agc-dsky`: an operator's DSKY on a terminal, for a computer that runs a rope.
 #![tactic(auto)]
 
+mod ending;
 mod error;
 mod event_loop;
+mod quoting;
 mod saving;
 mod screen;
 mod words;
 
 use agc_cli::{ArgsFault, exit_usage, parse_env};
-use agc_io::{OK, REFUSED, USAGE, WRITE_FAILED, hold_closed_streams, status_of};
+use agc_io::{REFUSED, USAGE, hold_closed_streams, status_of};
 use agc_load::LoadFault;
 use agc_panel::WatchSpec;
 use agc_session::open_session;
 use agc_tui::{ColorMode, Operator};
+use ending::Ending;
 use error::Error;
 use event_loop::{Action, Ended, EventLoop, read_input, rest};
-use saving::Run;
+use saving::SaveFile;
 use screen::{DrawFault, Screen};
-use std::alloc::{AllocError, Global};
 use std::io::{IsTerminal, Read, Write};
+use std::os::unix::fs::FileTypeExt;
 use std::process::ExitCode;
 use std::rt::{Env, Files};
 use std::time::Clock;
-use std::{env, io};
+use std::{env, fs, process};
 use words::Dsky;
+
+/// Where the program runs.
+#[derive(Drop)]
+struct Place {
+    /// How the terminal is drawn on, if it can be.
+    color: Result<ColorMode, Error>,
+    /// The path that the program was started by; empty if it is not known.
+    program: String,
+    /// The number of the process.
+    number: u32,
+}
 
 fn main(rt: HostRuntime) -> ExitCode {
     let _stand_ins = hold_closed_streams(&rt);
     let (mut keys, mut out, mut err) = (rt.stdin(), rt.stdout(), rt.stderr());
     let asked = parse_env(&rt);
-    let place = place_of(&rt, keys.is_terminal(), out.is_terminal());
-    ExitCode::from(run(&rt, asked, place, &mut keys, &mut out, &mut err))
+    let place = Place {
+        color: color_of(&rt, keys.is_terminal(), out.is_terminal()),
+        program: program_of(&rt),
+        number: process::id(rt.process()),
+    };
+    ExitCode::from(run(&rt, asked, &place, &mut keys, &mut out, &mut err))
 }
 
 /// Checks that this is a terminal that can be drawn on, and returns its colour mode. `NO_COLOR`, unless empty, turns
 /// colour off.
-fn place_of<R: Env + AllocGlobal>(
+fn color_of<R: Env + AllocGlobal>(
     rt: &R,
     is_input: bool,
     is_output: bool,
@@ -56,12 +74,21 @@ fn place_of<R: Env + AllocGlobal>(
     }
 }
 
+/// Returns the path that the program was started by, or nothing if it is not known.
+fn program_of<R: Env + AllocGlobal>(rt: &R) -> String {
+    let nothing = String::new(rt.alloc());
+    match env::args(rt) {
+        Ok(mut words) => words.next().unwrap_or(nothing),
+        Err(_) => nothing,
+    }
+}
+
 /// Runs a session over the rope and script of the command line. The text of help goes to `out`, with status 0. An
 /// error goes to `err` in one line, with status 1, and a usage error with status 2. A failed write gives status 3.
 fn run<R, K: Read, W: Write, E: Write>(
     rt: &R,
     asked: Result<Dsky, ArgsFault>,
-    place: Result<ColorMode, Error>,
+    place: &Place,
     keys: &mut K,
     out: &mut W,
     err: &mut E,
@@ -79,7 +106,7 @@ where
 fn run_asked<R, K: Read, W: Write, E: Write>(
     rt: &R,
     asked: &Dsky,
-    place: Result<ColorMode, Error>,
+    place: &Place,
     keys: &mut K,
     out: &mut W,
     err: &mut E,
@@ -87,14 +114,16 @@ fn run_asked<R, K: Read, W: Write, E: Write>(
 where
     R: Files + Clock + AllocGlobal,
 {
-    let event_loop = match begin(rt, asked, place, out) {
-        Ok(event_loop) => event_loop,
-        Err(error) => return status_of(status_for(error), error.write_to(err)),
+    let (event_loop, mut ending) = match begin(rt, asked, place) {
+        Ok(begun) => begun,
+        Err(error) => return status_of(status_for(error), error.write_to(asked, err)),
     };
-    let (event_loop, ended) = sit(rt, event_loop, asked, keys, out);
-    let status = finish(rt, &event_loop.operator, asked, ended, out, err);
-    drop(event_loop);
-    status
+    // If the terminal accepts no output, the first drawing reports it.
+    let _begun = screen::begin(out);
+    let (event_loop, ended) = sit(rt, event_loop, &mut ending, keys, out);
+    // A terminal that is gone cannot be restored.
+    let _put_back = screen::end(out);
+    ending.finish(rt, &event_loop.operator, asked, ended, out, err)
 }
 
 /// Returns the status if no session could start.
@@ -104,46 +133,51 @@ fn status_for(error: Error) -> u8 {
 
 /// Opens the session. Checks the terminal first, then the rope, the script, the limit, the tables, and last the file
 /// to save to, so that no file is created without a session.
-fn begin<R, W: Write>(
-    rt: &R,
-    asked: &Dsky,
-    place: Result<ColorMode, Error>,
-    out: &mut W,
-) -> Result<EventLoop, Error>
+fn begin<R>(rt: &R, asked: &Dsky, place: &Place) -> Result<(EventLoop, Ending), Error>
 where
     R: Files + Clock + AllocGlobal,
 {
-    let color = place?;
+    let color = place.color?;
     let operator = operator_for(rt, asked)?;
-    match load(rt, asked) {
-        Ok(watch) => {
-            let screen = Screen::new(rt.alloc(), color);
-            // If the terminal accepts no output, the first drawing reports it.
-            let _begun = screen::begin(out);
-            Ok(EventLoop::new(rt, operator, screen, asked.speed, watch))
-        }
-        Err(error) => {
-            drop(operator);
-            Err(error)
-        }
-    }
+    let watch = watch_for(asked)?;
+    let ending = ending_for(rt, asked, place)?;
+    let screen = Screen::new(rt.alloc(), color);
+    let event_loop = EventLoop::new(rt, operator, screen, asked.speed, watch);
+    Ok((event_loop, ending))
 }
 
-/// Returns the tables that can be shown, and reserves the file to save to.
-fn load<R: Files>(rt: &R, asked: &Dsky) -> Result<Option<WatchSpec>, Error> {
-    let watch = watch_for(asked)?;
+/// Reserves what the end of the session needs, with the file to save to.
+fn ending_for<R: Files + AllocGlobal>(
+    rt: &R,
+    asked: &Dsky,
+    place: &Place,
+) -> Result<Ending, Error> {
+    let mut ending = Ending::new(rt.alloc(), place.program.as_str())?;
     if let Some(path) = &asked.save {
-        saving::reserve(rt, path.as_str(), asked.force)?;
+        let file = SaveFile::reserve(rt, path.as_str(), asked.force, place.number)?;
+        ending.file = Some(file);
     }
-    Ok(watch)
+    Ok(ending)
 }
 
 /// Creates the operator of a machine at its start.
 fn operator_for<R: Files + AllocGlobal>(rt: &R, asked: &Dsky) -> Result<Operator, Error> {
+    if is_pipe(rt, asked.start.rope.as_str()) {
+        return Err(Error::RopeIsPipe);
+    }
+    match &asked.start.script {
+        Some(path) if is_pipe(rt, path.as_str()) => return Err(Error::ScriptIsPipe),
+        _ => {}
+    }
     let session = open_session(rt, &asked.start)?;
-    match Operator::new(rt.alloc(), session) {
-        Ok(operator) => Ok(operator),
-        Err(_) => Err(Error::Refused(LoadFault::Memory)),
+    Ok(Operator::new(rt.alloc(), session)?)
+}
+
+/// Returns whether there is a pipe at a path. No key is heard while it is read, and no one may ever write to it.
+fn is_pipe<R: Files>(rt: &R, path: &str) -> bool {
+    match fs::metadata(rt, path) {
+        Ok(about) => about.file_type().is_fifo(),
+        Err(_) => false,
     }
 }
 
@@ -165,7 +199,7 @@ fn watch_for(asked: &Dsky) -> Result<Option<WatchSpec>, LoadFault> {
 fn sit<R, K: Read, W: Write>(
     rt: &R,
     mut event_loop: EventLoop,
-    asked: &Dsky,
+    ending: &mut Ending,
     keys: &mut K,
     out: &mut W,
 ) -> (EventLoop, Ended)
@@ -182,7 +216,7 @@ where
                 Action::None => {}
                 Action::Back => event_loop = event_loop.back(rt.alloc(), rt),
                 Action::Save => {
-                    let remark = save_now(rt, &event_loop.operator, asked);
+                    let remark = save_now(rt, &event_loop.operator, ending);
                     event_loop.say(remark);
                 }
                 Action::Quit => return (event_loop, Ended::Quit),
@@ -207,121 +241,11 @@ fn ended_by(fault: DrawFault) -> Ended {
 }
 
 /// Saves the script during the session, and returns the remark to show.
-fn save_now<R: Files + AllocGlobal>(rt: &R, operator: &Operator, asked: &Dsky) -> &'static str {
-    let Some(path) = &asked.save else {
-        return "no file is named: start with --save FILE";
-    };
-    match saved(rt, operator, path.as_str()) {
-        Ok(()) => "saved",
-        Err(_) => "the script could not be saved",
+fn save_now<R: Files>(rt: &R, operator: &Operator, ending: &mut Ending) -> &'static str {
+    match ending.save(rt, operator) {
+        Ok(true) => "saved",
+        Ok(false) => "no file is named: start with --save FILE",
+        Err(Error::SaveChanged) => "not saved: another program changed the file",
+        Err(_) => "not saved: the file cannot be written; it is as it was",
     }
-}
-
-/// Writes the script that repeats the session to a file.
-fn saved<R: Files + AllocGlobal>(rt: &R, operator: &Operator, path: &str) -> Result<(), Error> {
-    let Ok(text) = script_of(rt.alloc(), operator) else {
-        return Err(Error::Refused(LoadFault::Memory));
-    };
-    match saving::save(rt, path, text.as_str()) {
-        Ok(()) => Ok(()),
-        Err(_) => Err(Error::SaveFailed),
-    }
-}
-
-/// Returns the text of the script that repeats the session.
-fn script_of(alloc: Global, operator: &Operator) -> Result<String, AllocError> {
-    match operator.script(alloc) {
-        Some(script) => saving::text_of(alloc, &script),
-        None => Err(AllocError),
-    }
-}
-
-/// Restores the screen, saves the script, and prints how to repeat the session. If the script cannot be saved, prints
-/// it, so that nothing is lost.
-fn finish<R, W: Write, E: Write>(
-    rt: &R,
-    operator: &Operator,
-    asked: &Dsky,
-    ended: Ended,
-    out: &mut W,
-    err: &mut E,
-) -> u8
-where
-    R: Files + AllocGlobal,
-{
-    // A terminal that is gone cannot be restored.
-    let _put_back = screen::end(out);
-    let handed_on = hand_on(rt, operator, asked);
-    let status = match tell_end(rt, operator, asked, handed_on.is_ok(), out) {
-        Ok(()) => status_at_end(ended, err),
-        Err(_) => WRITE_FAILED,
-    };
-    match handed_on {
-        Ok(()) => status,
-        Err(error) => status_of(WRITE_FAILED, error.write_to(err)),
-    }
-}
-
-/// Saves the script, if a file is named for it.
-fn hand_on<R: Files + AllocGlobal>(rt: &R, operator: &Operator, asked: &Dsky) -> Result<(), Error> {
-    match &asked.save {
-        Some(path) => saved(rt, operator, path.as_str()),
-        None => Ok(()),
-    }
-}
-
-/// Prints how to repeat the session: with the saved script file, or else with the printed script.
-fn tell_end<R: AllocGlobal, W: Write>(
-    rt: &R,
-    operator: &Operator,
-    asked: &Dsky,
-    is_handed_on: bool,
-    out: &mut W,
-) -> io::Result<()> {
-    match &asked.save {
-        Some(path) if is_handed_on => tell(asked, path.as_str(), operator, out),
-        _ => tell_unsaved(rt, asked, operator, out),
-    }
-}
-
-/// Returns the status at the end of a session.
-fn status_at_end<E: Write>(ended: Ended, err: &mut E) -> u8 {
-    match ended {
-        Ended::Quit => OK,
-        Ended::Gone => WRITE_FAILED,
-        Ended::Memory => status_of(REFUSED, Error::Refused(LoadFault::Memory).write_to(err)),
-    }
-}
-
-/// Prints how to repeat the session with a script.
-fn tell<W: Write>(asked: &Dsky, script: &str, operator: &Operator, out: &mut W) -> io::Result<()> {
-    let run = Run {
-        rope: asked.start.rope.as_str(),
-        script,
-        form: asked.start.form,
-        limit: operator.limit_to_repeat(),
-    };
-    saving::tell_how(out, &run)
-}
-
-/// Prints the script that repeats the session, and how to use it. An empty script is not printed.
-fn tell_unsaved<R: AllocGlobal, W: Write>(
-    rt: &R,
-    asked: &Dsky,
-    operator: &Operator,
-    out: &mut W,
-) -> io::Result<()> {
-    let text = script_of(rt.alloc(), operator)?;
-    let script = print_script(out, text.as_str())?;
-    tell(asked, script, operator, out)
-}
-
-/// Prints a script unless it is empty, and returns the name of a file with it.
-fn print_script<W: Write>(out: &mut W, text: &str) -> io::Result<&'static str> {
-    if text.is_empty() {
-        return Ok("/dev/null");
-    }
-    out.write_all(text.as_bytes())?;
-    out.write_all(b"agc-dsky: with the lines above in a file SCRIPT,\n")?;
-    Ok("SCRIPT")
 }

@@ -114,12 +114,21 @@ impl Screen {
     ) -> Result<String, AllocError> {
         let mut frame = String::new(alloc);
         if self.columns < COLUMNS || self.lines < SMALL_LINES {
-            push_too_small(&mut frame)?;
+            self.push_too_small(&mut frame)?;
         } else {
             let picture = self.picture(alloc, operator, shown)?;
             self.push_frame(&mut frame, &picture, operator, shown)?;
         }
         Ok(frame)
+    }
+
+    /// Adds the size of a terminal that is too small, and the one that is needed, in columns and lines.
+    fn push_too_small(&self, frame: &mut String) -> Result<(), AllocError> {
+        let (columns, lines) = (self.columns, self.lines);
+        write!(
+            frame,
+            "\x1b[Hterminal too small:{LINE_END}{columns} x {lines}, need {COLUMNS} x {SMALL_LINES}\x1b[K\x1b[J"
+        )
     }
 
     /// Adds as much of a picture as there is room for, and the two lines below it.
@@ -135,7 +144,10 @@ impl Screen {
         let left = push_lines(frame, picture, room)?;
         push_time(frame, operator, shown)?;
         frame.push_str(LINE_END)?;
-        self.push_last_line(frame, shown.remark, left)?;
+        match operator.rerun_end() {
+            Some(end) => push_rerun(frame, operator.cycle(), end)?,
+            None => self.push_last_line(frame, shown.remark, left)?,
+        }
         frame.push_str("\x1b[K\x1b[J")
     }
 
@@ -198,7 +210,7 @@ impl Screen {
             return write!(frame, " {remark}");
         }
         if 0 < left {
-            return write!(frame, " {left} lines more in a higher terminal");
+            return write!(frame, " {left} more lines: enlarge the terminal");
         }
         frame.push_str(if self.columns < LONG_HINT_COLUMNS {
             " v n c k r p Enter 0-9 + -  space . < >  i t s  q quit"
@@ -283,13 +295,6 @@ fn insides_of(
     Ok(inspector)
 }
 
-fn push_too_small(frame: &mut String) -> Result<(), AllocError> {
-    write!(
-        frame,
-        "\x1b[H{COLUMNS} columns and {SMALL_LINES} lines are wanted\x1b[K\x1b[J"
-    )
-}
-
 /// Adds as many lines of a picture as there is room for, and returns how many are left over.
 fn push_lines(frame: &mut String, picture: &str, room: usize) -> Result<usize, AllocError> {
     for line in picture.lines().take(room) {
@@ -297,6 +302,12 @@ fn push_lines(frame: &mut String, picture: &str, room: usize) -> Result<usize, A
         frame.push_str(LINE_END)?;
     }
     Ok(picture.lines().count().saturating_sub(room))
+}
+
+/// Adds the last line during a rerun: how far it is.
+fn push_rerun(frame: &mut String, cycle: u64, end: u64) -> Result<(), AllocError> {
+    let percent = cycle.saturating_mul(100) / end.max(1);
+    write!(frame, " rerunning to cycle {end}: {percent} %; q quits")
 }
 
 /// Adds the line with the machine's time and speed.

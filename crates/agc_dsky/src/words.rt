@@ -25,9 +25,11 @@ impl Args for Dsky {
     const NAME: &'static str = "agc-dsky";
 
     fn command<'a>(alloc: Global) -> Result<Command<'a>, AllocError> {
-        let command = Command::new(alloc, Dsky::NAME).about(
-            "Sits before the DSKY of an emulated Block II computer that runs a rope: shows it on this terminal, and presses its keys as they are typed.",
-        );
+        let command = Command::new(alloc, Dsky::NAME)
+            .about(
+                "Shows the DSKY of an emulated Block II computer in this terminal, with keys to type.",
+            )
+            .after_help("Example: agc-dsky examples/verbs/rope --save my.script");
         let command = with_session_args(alloc, command, script_file(alloc).required(false))?;
         let command = with_parameter(command, speed_option(alloc))?;
         let command = with_parameter(command, save_option(alloc))?;
@@ -59,12 +61,12 @@ fn speed_option<'a>(alloc: Global) -> Arg<'a> {
         .value_name("SPEED")
         .default_value("1")
         .value_parser(SPEEDS.as_slice())
-        .help("How many times as fast as the hardware time goes at first, or max")
+        .help("Speed at the start: a multiple of the hardware's, or max")
 }
 
 fn save_option<'a>(alloc: Global) -> Arg<'a> {
     Arg::new(alloc, "save").long("save").value_name("FILE").help(
-        "Write the script that repeats the session to this file, at the end and where s is typed",
+        "Save the script of the session to this new file, at the end and when you type s",
     )
 }
 
@@ -72,12 +74,12 @@ fn force_option<'a>(alloc: Global) -> Arg<'a> {
     Arg::new(alloc, "force")
         .long("force")
         .action(ArgAction::SetTrue)
-        .help("Write over the file after --save where it is there already")
+        .help("Overwrite the file after --save, whatever is in it")
 }
 
 fn watch_option<'a>(alloc: Global) -> Arg<'a> {
     Arg::new(alloc, "watch")
         .long("watch")
         .value_name("SPEC")
-        .help("The core sets and wait lists that t shows: octal, as those of agc")
+        .help("Tables for t: CORE_BANK,OFFSET,SETS,LST1_BANK,OFFSET,LST2_BANK,OFFSET in octal")
 }

@@ -1,5 +1,9 @@
 //! The operator: queues typed keys and presses each one when the machine can accept it.
+ghost use Rattle.std.specs.Prelude.{OnOk};
+ghost use Rattle.std.specs.Io.KnownBytes.{Appends};
 ghost use Rattle.agc_script.specs.Event.{IsWhatInRange};
+ghost use Rattle.agc_script.specs.Written.{script_text};
+ghost use Rattle.agc_session.specs.Session.{script_of};
 
 use crate::history::{History, KEPT};
 use crate::keyboard::Button;
@@ -7,6 +11,7 @@ use agc_machine::{Machine, Stop};
 use agc_script::{MOST_EVENTS, Script, What};
 use agc_session::{InjectFault, Session};
 use std::alloc::{AllocError, Global};
+use std::io::{self, Write};
 
 /// The least number of cycles between two keys: a tenth of a second, so that a program that each key interrupts has
 /// time to take it.
@@ -28,6 +33,16 @@ struct Press {
     released: Option<u64>,
 }
 
+/// A run again from the start, to where the session goes back to or to the stop of the machine.
+#[derive(Clone, Copy, Debug, PartialEq, Eq)]
+struct Rerun {
+    /// The cycle that it runs to.
+    to: u64,
+    /// The cycle of the session at its end, and the limit with which `agc` gets as far.
+    end: u64,
+    limit: u64,
+}
+
 /// A session, the keys that wait to be pressed, and those that were pressed.
 #[derive(Drop)]
 pub struct Operator {
@@ -38,6 +53,8 @@ pub struct Operator {
     waiting: Vec<Button>,
     /// The keys that were pressed, in order.
     pressed: Vec<Press>,
+    /// The rerun that has not ended yet.
+    rerun: Option<Rerun>,
 }
 
 impl Operator {
@@ -49,6 +66,7 @@ impl Operator {
             history,
             waiting: Vec::new(alloc),
             pressed: Vec::new(alloc),
+            rerun: None,
         })
     }
 
@@ -85,7 +103,11 @@ impl Operator {
 
     /// Returns the limit with which `agc` gets as far as this session. It is above the present cycle if a key was
     /// pressed at this cycle or an order stopped the machine, because both only happen below the limit.
+    /// During a rerun it is the one for its end.
     pub fn limit_to_repeat(&self) -> u64 {
+        if let Some(rerun) = self.rerun {
+            return rerun.limit;
+        }
         let cycle = self.cycle();
         match self.machine().stopped() {
             Some(Stop::Limit) => cycle.max(1),
@@ -273,50 +295,85 @@ impl Operator {
         self.history.inject(&mut self.session, what)
     }
 
-    /// Goes back to `cycle`, and discards the keys pressed at it or later and all that wait. A PRO that was down then
-    /// is released as it would have been. Returns false if memory ran out; then nothing has changed.
+    /// Begins to go back to `cycle`, and discards the keys pressed at it or later and all that wait. A PRO that was down
+    /// then is released as it would have been. [`rerun`](Operator::rerun) does the rest. Returns false if memory ran out;
+    /// then nothing has changed.
     pub fn back(self, alloc: Global, cycle: u64) -> (Operator, bool) {
-        let (mut operator, is_new) = self.rewind(alloc, cycle);
+        let rerun = Rerun {
+            to: cycle,
+            end: cycle,
+            limit: cycle.max(1),
+        };
+        let (mut operator, is_new) = self.rewind(alloc, cycle, rerun);
         if is_new {
             operator.waiting.clear();
             forget_from(&mut operator.pressed, cycle);
-            operator.come_to(cycle);
         }
         (operator, is_new)
     }
 
-    /// Rebuilds an empty history of a stopped machine, by running it again to its stop. If memory runs out, nothing
-    /// has changed.
+    /// Begins to rebuild an empty history of a stopped machine, by a rerun to its stop. If memory runs out, nothing has
+    /// changed.
     pub fn rebuild_history(self, alloc: Global) -> Operator {
         let stop = self.cycle();
         if !self.has_stopped() || !self.history.is_empty() {
             return self;
         }
-        let (mut operator, is_new) = self.rewind(alloc, u64::MAX);
-        if is_new {
-            operator.come_to(stop.saturating_add(1));
-        }
+        let rerun = Rerun {
+            to: stop.saturating_add(1),
+            end: stop,
+            limit: self.limit_to_repeat(),
+        };
+        let (operator, _is_new) = self.rewind(alloc, u64::MAX, rerun);
         operator
     }
 
-    /// Restarts the session without the events injected at `cycle` or later. Returns false if memory ran out; then
-    /// nothing has changed.
-    fn rewind(self, alloc: Global, cycle: u64) -> (Operator, bool) {
+    /// Returns the cycle at which the rerun ends, if there is one. Meanwhile no key is pressed.
+    pub fn rerun_end(&self) -> Option<u64> {
+        match self.rerun {
+            Some(rerun) => Some(rerun.end),
+            None => None,
+        }
+    }
+
+    /// Goes on with a rerun for about this many cycles, or to its end, where the last boundaries are taken one by one so
+    /// that they are recorded.
+    pub fn rerun(&mut self, cycles: u64) {
+        let Some(rerun) = self.rerun else {
+            return;
+        };
+        let next = self.cycle().saturating_add(cycles);
+        if next < rerun.to.saturating_sub(RECENT_CYCLES) {
+            self.run_to(next);
+        } else {
+            self.come_to(rerun.to);
+            self.rerun = None;
+        }
+    }
+
+    /// Restarts the session without the events injected at `cycle` or later, for a rerun. Returns false if memory ran out;
+    /// then nothing has changed.
+    fn rewind(self, alloc: Global, cycle: u64, rerun: Rerun) -> (Operator, bool) {
         let Operator {
             session,
-            history,
+            mut history,
             waiting,
             pressed,
+            rerun: before,
         } = self;
         let (session, is_new) = match session.rewind(alloc, cycle) {
             Ok(session) => (session, true),
             Err(same) => (same.session, false),
         };
+        if is_new {
+            history.forget();
+        }
         let operator = Operator {
             session,
             history,
             waiting,
             pressed,
+            rerun: if is_new { Some(rerun) } else { before },
         };
         (operator, is_new)
     }
@@ -337,6 +394,15 @@ impl Operator {
     /// Returns the script of the session, or `None` if memory runs out.
     pub fn script(&self, alloc: Global) -> Option<Script> {
         self.session.script(alloc)
+    }
+
+    /// Writes the script of the session as text. Uses `line` for one line at a time, so it needs no memory if `line` has
+    /// room for one.
+    pub fn write_script<W: Write>(&self, line: &mut String, out: &mut W) -> io::Result<()>
+        ensures { OnOk result (Appends (W.contents out.old) (W.contents out.new)
+            (script_text (script_of self.now.session))) }
+    {
+        self.session.write_script(line, out)
     }
 }
 
