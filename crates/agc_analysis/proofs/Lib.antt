@@ -1,6 +1,7 @@
 mod Unwoven
 pub mod Whole
 pub mod Starts
+pub mod Status
 pub mod Tables
 pub mod FilmedRuns
 pub mod CountedRuns

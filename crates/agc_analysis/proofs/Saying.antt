@@ -21,7 +21,7 @@ next_said question names done text texts left places h e = rw (h, e, all_said)
 -- a value that names none
 pub none_said : (question : Question) (names : Option (List Symbol)) (done : List LocationRange) (text : String Global) (texts left : List (String Global)) (why : RangeFault)
     → left ≡ text ∷ texts → said_in question names (string_bytes text) ≡ Err why
-    → all_said question names done left ≡ Err (unsaid_text question (string_bytes text) why)
+    → all_said question names done left ≡ Err (unsaid_text question names (string_bytes text) why)
 unfolding all_said
 none_said question names done text texts left why h e = rw (h, e, all_said)
 

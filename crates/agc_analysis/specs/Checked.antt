@@ -1,7 +1,6 @@
 -- The reports of `check` on its files.
 use Rattle.std.specs.Prelude.{◌≡◌, ℕ, ◌&&◌, Bool, List, ◌++◌, Option, Some, None, is_none, is_ok}
 use Rattle.std.specs.Prelude.{string_bytes}
-use Rattle.std.specs.Io.KnownBytes.{Appends}
 use Rattle.agc_store.specs.RopeFile.{rope_fault_of}
 use Rattle.agc_store.specs.declared.rope_file.RopeForm.{RopeForm}
 use Rattle.agc_script.specs.Parse.{script_of}
@@ -75,15 +74,17 @@ pub record IsCheckedWith (form : RopeForm) (rope script : Option (List ℕ)) (mo
   pub checked : IsChecked form rope script first
   pub joined : IsWithMore first more whole
 
--- the text of a report was written, and the report finds its files sound, or not
-pub record IsWritten (report : Report) (is_sound : Bool)
-    (before after : Option (List ℕ)) : Type 0 where
+-- the text of a report was written, or a beginning of it, and the report finds its files sound, or not
+pub record IsWritten (Writes : Option (List ℕ) → Option (List ℕ) → List ℕ → Type 0)
+    (report : Report) (is_sound : Bool) (before after : Option (List ℕ)) : Type 0 where
   pub sound : report.is_sound ≡ is_sound
-  pub text : Appends before after (string_bytes report.text)
+  pub text : Writes before after (string_bytes report.text)
 
--- the report on two files was written, followed by the report on other files: all is sound, or something is not
-pub record IsCheckWritten (form : RopeForm) (rope script : Option (List ℕ)) (more : Option Report)
+-- the report on two files was written, or a beginning of it, followed by the report on other files: all is sound, or
+-- something is not
+pub record IsCheckWritten (Writes : Option (List ℕ) → Option (List ℕ) → List ℕ → Type 0)
+    (form : RopeForm) (rope script : Option (List ℕ)) (more : Option Report)
     (is_sound : Bool) (before after : Option (List ℕ)) : Type 0 where
   pub report : Report
   pub checked : IsCheckedWith form rope script more report
-  pub written : IsWritten report is_sound before after
+  pub written : IsWritten Writes report is_sound before after

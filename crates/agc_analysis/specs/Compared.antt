@@ -1,17 +1,16 @@
 -- The result of `compare` for the runs of two ropes and two scripts.
 use Rattle.std.specs.Prelude.{◌≡◌, ◌↔◌, ℕ, Bool, List, Option, Some, None, IsTrue, string_bytes}
 use Rattle.std.specs.Prelude.{if◌then◌else◌}
-use Rattle.std.specs.Io.KnownBytes.{Appends}
 use Rattle.agc_machine.specs.Run.{run_of}
 use Rattle.agc_machine.specs.State.{State}
 use Rattle.agc_trace.specs.Trace.{trace_of}
 use Rattle.agc_diff.specs.Cells.{cells_that_differ}
-use Rattle.agc_diff.specs.Compare.{TellsCommon, TellsEnd, TracesPart, cells_at_end}
+use Rattle.agc_diff.specs.Compare.{SummarizesCommon, ShowsEnd, TracesPart, cells_at_end}
 use Rattle.agc_diff.specs.Cursor.{WritesPart}
 use Rattle.agc_diff.specs.Report.{Names, report_of}
 use Rattle.agc_diff.specs.declared.comparison.Comparison.{Comparison}
 use Rattle.agc_diff.specs.ObservedPrefix.{ShownPart}
-use Rattle.agc_diff.specs.ObservedCompared.{TellsPairs}
+use Rattle.agc_diff.specs.ObservedCompared.{SummarizesPairs}
 use Rattle.agc_diff.specs.ObservedReport.{brief_of, report_of as shown_report_of}
 use Rattle.agc_diff.specs.Observation.{looks_of, shown_by}
 use Rattle.agc_diff.specs.declared.observed.comparison.ObservedComparison.{ObservedComparison}
@@ -27,14 +26,14 @@ pub record IsToldOf (names : Names) (left right : State) (told : DiffOutcome) : 
       ↔ ((trace_of left ≡ trace_of right) × (cells_at_end left ≡ cells_at_end right))
   pub comparison : Comparison
   pub text : string_bytes told.text ≡ report_of names comparison
-  pub common : TellsCommon (trace_of left) (trace_of right) comparison
+  pub common : SummarizesCommon (trace_of left) (trace_of right) comparison
   pub divergence : TracesPart comparison.boundaries (trace_of left) (trace_of right)
       comparison.divergence
   pub write : WritesPart 0 (run_of left).writes (run_of right).writes comparison.write
   pub cells : comparison.cells.items
       ≡ cells_that_differ (cells_at_end left) (cells_at_end right)
-  pub left_end : (last : State) × TellsEnd left comparison.left last
-  pub right_end : (last : State) × TellsEnd right comparison.right last
+  pub left_end : (last : State) × ShowsEnd left comparison.left last
+  pub right_end : (last : State) × ShowsEnd right comparison.right last
 
 -- the text of a comparison of what the runs show: its report, or one line
 abbrev pub shown_text_of : ObservedArgs → ObservedComparison → List ℕ
@@ -49,7 +48,7 @@ pub record IsShownToldOf (asked : ObservedArgs) (left right : State) (told : Dif
   pub comparison : ObservedComparison
   pub what : comparison.what ≡ asked.what
   pub text : string_bytes told.text ≡ shown_text_of asked comparison
-  pub pairs : TellsPairs (shown_by asked.what left) (shown_by asked.what right) comparison
+  pub pairs : SummarizesPairs (shown_by asked.what left) (shown_by asked.what right) comparison
   pub divergence : ShownPart comparison.count (shown_by asked.what left) (shown_by asked.what right)
       comparison.divergence
 
@@ -67,15 +66,18 @@ pub record IsCompared (names : Names) (asked : CompareArgs)
   pub right_start : IsStarted asked.form asked.until None asked.limit right_rope right_script right
   pub tells : IsToldAs names asked.shown left right told
 
--- the comparison was written, and the runs are the same or not
-pub record IsToldTo (told : DiffOutcome) (is_same : Bool) (before after : Option (List ℕ)) : Type 0 where
+-- the comparison was written, or a beginning of it, and the runs are the same or not
+pub record IsToldTo (Writes : Option (List ℕ) → Option (List ℕ) → List ℕ → Type 0)
+    (told : DiffOutcome) (is_same : Bool) (before after : Option (List ℕ)) : Type 0 where
   pub same : told.is_same ≡ is_same
-  pub text : Appends before after (string_bytes told.text)
+  pub text : Writes before after (string_bytes told.text)
 
--- the comparison of the runs of four files was written, with the result that they are the same, or not
-pub record IsComparisonWritten (names : Names) (asked : CompareArgs)
+-- the comparison of the runs of four files was written, or a beginning of it, with the result that they are the same,
+-- or not
+pub record IsComparisonWritten (Writes : Option (List ℕ) → Option (List ℕ) → List ℕ → Type 0)
+    (names : Names) (asked : CompareArgs)
     (left_rope left_script right_rope right_script : Option (List ℕ)) (is_same : Bool)
     (before after : Option (List ℕ)) : Type 0 where
   pub told : DiffOutcome
   pub compared : IsCompared names asked left_rope left_script right_rope right_script told
-  pub written : IsToldTo told is_same before after
+  pub written : IsToldTo Writes told is_same before after

@@ -1,6 +1,5 @@
 -- The printed profile of the run of a rope and a script.
 use Rattle.std.specs.Prelude.{◌≡◌, ℕ, List, Option, None, string_bytes}
-use Rattle.std.specs.Io.KnownBytes.{Appends}
 use Rattle.std.specs.declared.alloc.Global.{Global}
 use Rattle.std.specs.declared.string.String.{String}
 use Rattle.agc_machine.specs.State.{State}
@@ -23,9 +22,9 @@ pub record IsCounted (asked : ProfileArgs) (rope script : Option (List ℕ)) (te
   pub start : IsStarted asked.form asked.until None asked.limit rope script machine
   pub text_is : string_bytes text ≡ counted_text asked machine
 
--- this text was written
-pub record IsCountWritten (asked : ProfileArgs) (rope script before after : Option (List ℕ))
-    : Type 0 where
+-- this text was written, or a beginning of it
+pub record IsCountWritten (Writes : Option (List ℕ) → Option (List ℕ) → List ℕ → Type 0)
+    (asked : ProfileArgs) (rope script before after : Option (List ℕ)) : Type 0 where
   pub text : String Global
   pub counted : IsCounted asked rope script text
-  pub written : Appends before after (string_bytes text)
+  pub written : Writes before after (string_bytes text)

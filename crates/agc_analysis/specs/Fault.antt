@@ -6,6 +6,12 @@ use Rattle.agc_symbols.specs.NamesFile.{names_refusal_text}
 use Rattle.agc_load.specs.Fault.{refusal_text}
 use Rattle.agc_load.specs.declared.fault.LoadFault.{LoadFault}
 use Rattle.agc_load.specs.declared.fault.LoadFault.TheVariants as refusal
+use Rattle.agc_store.specs.declared.rope_file.RopeFault.{RopeFault}
+use Rattle.agc_store.specs.declared.rope_file.RopeFault.TheVariants as rope
+use Rattle.agc_script.specs.declared.fault.FaultKind.{FaultKind}
+use Rattle.agc_script.specs.declared.fault.FaultKind.TheVariants as kind
+use Rattle.agc_panel.specs.declared.watch_spec.WatchFault.{WatchFault}
+use Rattle.agc_panel.specs.declared.watch_spec.WatchFault.TheVariants as watch
 use Rattle.agc_asm.specs.FaultText.{fault_text}
 use Rattle.agc_asm.specs.declared.fault.AssemblyFault.{AssemblyFault}
 use Rattle.agc_asm.specs.declared.fault.AssemblyFault.TheVariants as source
@@ -16,13 +22,35 @@ abbrev pub weave_text : AssemblyFault → List ℕ
 weave_text (source.Line n why) = codes "text line " ++ decimal n ++ codes ": " ++ fault_text why
 weave_text source.Memory = codes "memory"
 
--- the text: a fault in the words of `agc`, after the name of the run if it is the right one
+-- what to do about a fault that `agc` reports by its name alone
+abbrev pub rope_remedy : RopeFault → List ℕ
+rope_remedy rope.Memory = codes ""
+rope_remedy fault = codes "; agc-study check explains it"
+
+abbrev pub script_remedy : FaultKind → List ℕ
+script_remedy kind.Memory = codes ""
+script_remedy fault = codes "; agc-study check explains it"
+
+abbrev pub watch_remedy : WatchFault → List ℕ
+watch_remedy watch.Memory = codes ""
+watch_remedy fault = codes "; --watch needs tables in erasable memory, and at most 20 sets (octal)"
+
+abbrev pub remedy_text : LoadFault → List ℕ
+remedy_text (refusal.Rope fault) = rope_remedy fault
+remedy_text (refusal.Script fault) = script_remedy fault.kind
+remedy_text (refusal.Limit fault) = codes "; --limit is 1 to 1000000000000 cycles"
+remedy_text refusal.BadWatchSpec = codes "; --watch is seven octal numbers with commas between them"
+remedy_text (refusal.Watch fault) = watch_remedy fault
+remedy_text refusal.BadUntilSpec = codes "; --until is BANK,ADDR in octal, or a name of --names"
+remedy_text r = codes ""
+
+-- the text: a fault in the words of `agc` and its remedy, after the name of the run if it is the right one
 abbrev pub trouble_text : AnalysisFault → List ℕ
-trouble_text (trouble.Refused r) = refusal_text r
-trouble_text (trouble.OtherRefused r) = codes "other run: " ++ refusal_text r
+trouble_text (trouble.Refused r) = refusal_text r ++ remedy_text r
+trouble_text (trouble.OtherRefused r) = codes "other run: " ++ refusal_text r ++ remedy_text r
 trouble_text trouble.CannotReadText = codes "cannot read text"
 trouble_text (trouble.Text fault) = weave_text fault
-trouble_text trouble.BadBankSpec = codes "bank: BadSpec"
+trouble_text trouble.BadBankSpec = codes "no such bank: --bank is one or two octal digits, 00 to 43"
 trouble_text (trouble.Unnamed r) = names_refusal_text r
 
 -- the line of an error

@@ -1,6 +1,5 @@
 -- The page that shows the run of a rope and a script, or of two of each.
 use Rattle.std.specs.Prelude.{◌≡◌, ℕ, List, Option, Some, None, string_bytes}
-use Rattle.std.specs.Io.KnownBytes.{Appends}
 use Rattle.std.specs.declared.alloc.Global.{Global}
 use Rattle.std.specs.declared.string.String.{String}
 use Rattle.agc_store.specs.declared.rope_file.RopeForm.{RopeForm}
@@ -70,17 +69,19 @@ pub record IsFilmPair (head script_of_tables tail : List ℕ) (asked : FilmArgs)
   pub right_filmed : IsFilmed asked right_rope right_script right
   pub text : string_bytes page ≡ film_pair_text head script_of_tables tail asked.limit asked.files left other right
 
--- the page of one run was written
-pub record IsFilmWritten (head script_of_tables tail : List ℕ) (asked : FilmArgs)
+-- the page of one run was written, or a beginning of it
+pub record IsFilmWritten (Writes : Option (List ℕ) → Option (List ℕ) → List ℕ → Type 0)
+    (head script_of_tables tail : List ℕ) (asked : FilmArgs)
     (rope script before after : Option (List ℕ)) : Type 0 where
   pub page : String Global
   pub film : IsFilm head script_of_tables tail asked rope script page
-  pub written : Appends before after (string_bytes page)
+  pub written : Writes before after (string_bytes page)
 
--- the page of two runs was written
-pub record IsFilmPairWritten (head script_of_tables tail : List ℕ) (asked : FilmArgs) (other : RunFiles)
+-- the page of two runs was written, or a beginning of it
+pub record IsFilmPairWritten (Writes : Option (List ℕ) → Option (List ℕ) → List ℕ → Type 0)
+    (head script_of_tables tail : List ℕ) (asked : FilmArgs) (other : RunFiles)
     (left_rope left_script right_rope right_script before after : Option (List ℕ))
     : Type 0 where
   pub page : String Global
   pub film : IsFilmPair head script_of_tables tail asked other left_rope left_script right_rope right_script page
-  pub written : Appends before after (string_bytes page)
+  pub written : Writes before after (string_bytes page)

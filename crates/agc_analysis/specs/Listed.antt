@@ -2,7 +2,6 @@
 use Rattle.std.specs.Prelude.{◌≡◌, ◌≤◌, ℕ, false, true, nat_le, length, List, ◌++◌, codes, Option, Some, None, Err}
 use Rattle.std.specs.Prelude.{if◌then◌else◌, IfSome}
 use Rattle.std.specs.Fmt.{decimal}
-use Rattle.std.specs.Io.KnownBytes.{Appends}
 use Rattle.std.specs.declared.alloc.Global.{Global}
 use Rattle.std.specs.declared.string.String.{String}
 use Rattle.agc_word.specs.Numeral.{octal_number}
@@ -45,12 +44,13 @@ abbrev pub shown_with : Option (List Symbol) → List ℕ → List ℕ
 shown_with (Some names) text = text_with_names names text
 shown_with None text = text
 
--- the text of a rope was written, for the bytes that the rope's reader reports
-pub record IsListWritten (form : RopeForm) (bank : Option (String Global))
-    (names : Option (List Symbol)) (rope before after : Option (List ℕ)) : Type 0 where
+-- the text of a rope was written, or a beginning of it, for the bytes that the rope's reader reports
+pub record IsListWritten (Writes : Option (List ℕ) → Option (List ℕ) → List ℕ → Type 0)
+    (form : RopeForm) (bank : Option (String Global)) (names : Option (List Symbol))
+    (rope before after : Option (List ℕ)) : Type 0 where
   pub text : List ℕ
   pub listed : IfSome rope (λ file. IsListing form bank file text)
-  pub written : Appends before after (shown_with names text)
+  pub written : Writes before after (shown_with names text)
 
 -- How `list` rejects a file, if its reader reports its bytes: first an invalid `--bank`, then the faults that `agc`
 -- reports for the rope, which include out of memory.
@@ -67,11 +67,12 @@ pub record IsWoven (form : RopeForm) (text : List ℕ) (woven : Woven) : Type 0 
   pub first : woven.misnamed ≡ misnamed_in text
   pub kept : woven.text.items ≡ text
 
--- the file of a text was written, for the bytes that the text's reader reports
-pub record IsWeaveWritten (form : RopeForm) (known before after : Option (List ℕ)) : Type 0 where
+-- the file of a text was written, or a beginning of it, for the bytes that the text's reader reports
+pub record IsWeaveWritten (Writes : Option (List ℕ) → Option (List ℕ) → List ℕ → Type 0)
+    (form : RopeForm) (known before after : Option (List ℕ)) : Type 0 where
   pub woven : Woven
   pub weaves : IfSome known (λ text. IsWoven form text woven)
-  pub written : Appends before after woven.bytes.items
+  pub written : Writes before after woven.bytes.items
 
 -- the remark on such a line: the order that its word encodes, and the mnemonic after it
 abbrev pub misnamed_line : Misnamed → List ℕ

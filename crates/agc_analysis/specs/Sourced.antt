@@ -1,6 +1,5 @@
 -- What `list --source` prints for a rope.
 use Rattle.std.specs.Prelude.{◌≡◌, ℕ, List, Option, None, IfSome}
-use Rattle.std.specs.Io.KnownBytes.{Appends}
 use Rattle.std.specs.declared.alloc.Global.{Global}
 use Rattle.std.specs.declared.string.String.{String}
 use Rattle.agc_store.specs.RopeFile.{rope_fault_of, rope_words}
@@ -18,9 +17,9 @@ pub record IsSource (form : RopeForm) (bank : Option (String Global)) (file text
   pub source : text ≡ rope_source (said_by bank_named bank) (rope_words form file)
   pub weaves : bank ≡ None → WeavesTo (rope_words form file) text
 
--- the source of a rope was written, for the bytes that the rope's reader reports
-pub record IsSourceWritten (form : RopeForm) (bank : Option (String Global))
-    (rope before after : Option (List ℕ)) : Type 0 where
+-- the source of a rope was written, or a beginning of it, for the bytes that the rope's reader reports
+pub record IsSourceWritten (Writes : Option (List ℕ) → Option (List ℕ) → List ℕ → Type 0)
+    (form : RopeForm) (bank : Option (String Global)) (rope before after : Option (List ℕ)) : Type 0 where
   pub text : List ℕ
   pub source : IfSome rope (λ file. IsSource form bank file text)
-  pub written : Appends before after text
+  pub written : Writes before after text

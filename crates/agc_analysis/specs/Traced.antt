@@ -2,16 +2,15 @@
 use Rattle.std.specs.Prelude.{◌≡◌, ◌⊎◌, ℕ, List, ◌++◌, Option, None, codes}
 use Rattle.std.specs.Fmt.{decimal}
 use Rattle.std.specs.Io.KnownBytes.{Appends, Keeps}
+use Rattle.agc_io.specs.Output.{IsBegun}
 use Rattle.agc_processor.specs.Interrupt.{rupt_name}
 use Rattle.agc_machine.specs.State.{State}
 use Rattle.agc_study_args.specs.declared.args.TraceArgs.{TraceArgs}
 use Rattle.agc_symbols.specs.Symbols.{Symbol}
-use Rattle.agc_trace.specs.Cut.{IsCut}
 use Rattle.agc_trace.specs.Selection.{selected_lines, watch_for}
 use Rattle.agc_trace.specs.Service.{service_left}
 use Rattle.agc_trace.specs.Trace.{trace_of}
 use Rattle.agc_trace.specs.declared.service.Service.{Service}
-use Rattle.agc_trace.specs.declared.tracing.TraceFault.{TraceFault}
 use Rattle.agc_trace.specs.declared.tracing.TraceFault.TheVariants as fault
 use Rattle.agc_analysis.specs.Started.{IsRefused, IsStarted}
 use Rattle.agc_analysis.specs.Fault.{trouble_line}
@@ -33,12 +32,12 @@ pub record IsTraceWritten (asked : TraceArgs) (names : Option (List Symbol))
   pub service : Option Service
   pub traced : IsTraced asked names rope script before after service
 
--- the lines of the run of two files were cut off
+-- the lines of the run of two files were cut off: a beginning of them was written
 pub record IsCutOff (asked : TraceArgs) (names : Option (List Symbol))
-    (rope script before after : Option (List ℕ)) (why : TraceFault) : Type 0 where
+    (rope script before after : Option (List ℕ)) : Type 0 where
   pub machine : State
   pub start : IsStarted asked.form asked.until None asked.limit rope script machine
-  pub cut : IsCut why before after (selected_lines names asked.selection (watch_for asked.selection machine))
+  pub cut : IsBegun before after (selected_lines names asked.selection (watch_for asked.selection machine))
 
 -- why the trace is incomplete: a fault before anything was written, or the lines were cut off
 abbrev pub IsUntraced : TraceArgs → Option (List Symbol) → Option (List ℕ) → Option (List ℕ)
@@ -46,7 +45,7 @@ abbrev pub IsUntraced : TraceArgs → Option (List Symbol) → Option (List ℕ)
 IsUntraced asked names rope script before after (error.Refused r) =
     IsRefused asked.form asked.until None asked.limit rope script r × Keeps before after
 IsUntraced asked names rope script before after (error.Cut why) =
-    IsCutOff asked names rope script before after why
+    IsCutOff asked names rope script before after
 
 -- How the program ends then: with 2 and the line of a fault, or with 3 if that line or the trace could not be
 -- written, or memory ran out.

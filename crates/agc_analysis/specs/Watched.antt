@@ -3,14 +3,13 @@ use Rattle.std.specs.Prelude.{◌≡◌, ℕ, List, Option, Some, None, IsSomeAn
 use Rattle.std.specs.declared.alloc.Global.{Global}
 use Rattle.std.specs.declared.string.String.{String}
 use Rattle.std.specs.Io.KnownBytes.{Appends, Keeps}
+use Rattle.agc_io.specs.Output.{IsBegun}
 use Rattle.agc_machine.specs.State.{State}
 use Rattle.agc_panel.specs.WatchSpec.{spec_of, watch_fault_of}
 use Rattle.agc_panel.specs.declared.watch_spec.WatchSpec.{WatchSpec}
 use Rattle.agc_study_args.specs.declared.args.JobsArgs.{JobsArgs}
 use Rattle.agc_timeline.specs.Lines.{jobs_text}
 use Rattle.agc_load.specs.declared.fault.LoadFault.{LoadFault}
-use Rattle.agc_trace.specs.Cut.{IsCut}
-use Rattle.agc_trace.specs.declared.tracing.TraceFault.{TraceFault}
 use Rattle.agc_analysis.specs.Started.{IsRefused, IsStarted}
 use Rattle.agc_analysis.specs.declared.traces.TraceError.{TraceError}
 use Rattle.agc_analysis.specs.declared.traces.TraceError.TheVariants as error
@@ -33,14 +32,13 @@ pub record IsWatched (asked : JobsArgs) (rope script before after : Option (List
   pub watchable : IsWatchable (string_bytes asked.watch) spec
   pub lines : Appends before after (jobs_text asked.span spec machine)
 
--- the same, cut off
-pub record IsWatchCut (asked : JobsArgs) (rope script before after : Option (List ℕ))
-    (why : TraceFault) : Type 0 where
+-- the same, cut off: a beginning of them was written
+pub record IsWatchCut (asked : JobsArgs) (rope script before after : Option (List ℕ)) : Type 0 where
   pub machine : State
   pub start : IsStarted asked.form asked.until (Some asked.watch) asked.limit rope script machine
   pub spec : WatchSpec
   pub watchable : IsWatchable (string_bytes asked.watch) spec
-  pub cut : IsCut why before after (jobs_text asked.span spec machine)
+  pub cut : IsBegun before after (jobs_text asked.span spec machine)
 
 -- what may be rejected: the files, or the tables
 abbrev pub IsWatchRefused : JobsArgs → Option (List ℕ) → Option (List ℕ) → LoadFault → Type 0
@@ -53,4 +51,4 @@ abbrev pub IsUnwatched : JobsArgs → Option (List ℕ) → Option (List ℕ) �
 IsUnwatched asked rope script before after (error.Refused r) =
     IsWatchRefused asked rope script r × Keeps before after
 IsUnwatched asked rope script before after (error.Cut why) =
-    IsWatchCut asked rope script before after why
+    IsWatchCut asked rope script before after

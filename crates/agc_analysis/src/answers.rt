@@ -36,7 +36,8 @@ pub fn last_cycle(asked: &Result<Args, ArgsFault>) -> u64 {
 /// Status 2: one line, or clap's error text, is on `err`, and nothing is on `out`. Status 3: a write failed, or a
 /// trace or the tables were cut off. Progress goes to `progress`, which is wiped before the end of the run is
 /// reported. `remarks` gets a line beside the result: which file cannot be read and why, that a mnemonic of a listing
-/// does not match its word, that no boundary is in the range of a trace or of tables, or that a film is long.
+/// does not match its word, that a source puts cells over others or over registers, that the run stopped before the
+/// range, or that a film is long.
 pub fn answer<R, W: Write, E: Write, N: Write, P: ProgressLine>(
     rt: &R,
     asked: Result<Args, ArgsFault>,
@@ -67,7 +68,10 @@ where
 }
 
 /// If the command failed, reports which input file cannot be read.
-fn remark_on_end<R: Files, N: Write>(rt: &R, status: u8, asked: &Args, remarks: &mut N) {
+fn remark_on_end<R, N: Write>(rt: &R, status: u8, asked: &Args, remarks: &mut N)
+where
+    R: Files + AllocGlobal,
+{
     if status == FAULTY {
         remark_unreadable(rt, asked, remarks);
     }
@@ -91,9 +95,9 @@ where
     match asked {
         Args::List(listing) => list_as_asked(rt, listing, out, err),
         Args::Weave(weaving) => weave_to(rt, weaving, out, err, remarks),
-        Args::Check(checking) => check_to(rt, checking, out, err),
+        Args::Check(checking) => check_to(rt, checking, out, err, remarks),
         Args::Trace(tracing) => trace_to(rt, tracing, out, err, remarks, progress),
-        Args::Count(counting) => profile_to(rt, counting, out, err, progress),
+        Args::Count(counting) => profile_to(rt, counting, out, err, remarks, progress),
         Args::Jobs(watching) => jobs_to(rt, watching, out, err, remarks, progress),
         Args::Compare(comparing) => compare_to(rt, comparing, out, err, progress),
         Args::Film(filming) => film_to(rt, filming, out, err, remarks, progress),

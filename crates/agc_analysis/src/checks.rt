@@ -7,7 +7,7 @@ ghost use Rattle.agc_analysis.specs.Checked.{IsWithMore};
 ghost use Rattle.agc_analysis.specs.declared.fault.AnalysisFault.TheVariants as told;
 
 use crate::fault::AnalysisFault;
-use agc_check::{Report, check, check_keys, check_listing};
+use agc_check::{Report, check, check_keys, check_listing, erase_remarks};
 use agc_io::{KEY_BYTES, ROPE_BYTES, ReadError, TEXT_BYTES, read_limited};
 use agc_load::LoadFault;
 use agc_store::RopeForm;
@@ -106,10 +106,21 @@ pub fn check_key_file<K: Read>(alloc: Global, keys: &mut K) -> Result<Report, An
     }
 }
 
-/// Checks the text of a rope and returns the report.
-pub fn check_listing_file<L: Read>(alloc: Global, listing: &mut L) -> Result<Report, AnalysisFault>
-    ensures checked { IfOk result (λ report. IfSome (L.remaining listing.old)
-        (λ text. IsListingChecked text report)) }
+/// The report on the text of a rope.
+#[derive(Debug, Drop)]
+pub struct CheckedListing {
+    pub report: Report,
+    /// Lines about cells that lie over registers or over other cells.
+    pub remarks: String,
+}
+
+/// Checks the text of a rope and returns the report, and remarks on its cells.
+pub fn check_listing_file<L: Read>(
+    alloc: Global,
+    listing: &mut L,
+) -> Result<CheckedListing, AnalysisFault>
+    ensures checked { IfOk result (λ checked. IfSome (L.remaining listing.old)
+        (λ text. IsListingChecked text checked.report)) }
     ensures refused { IfErr result IsListingUnchecked }
 {
     let bytes = match read_limited(alloc, listing, TEXT_BYTES) {
@@ -117,8 +128,12 @@ pub fn check_listing_file<L: Read>(alloc: Global, listing: &mut L) -> Result<Rep
         Err(ReadError::CannotRead(_)) => return Err(AnalysisFault::CannotReadText),
         Err(ReadError::Memory) => return Err(AnalysisFault::Refused(LoadFault::Memory)),
     };
-    match check_listing(alloc, bytes.as_slice()) {
-        Ok(report) => Ok(report),
+    let report = match check_listing(alloc, bytes.as_slice()) {
+        Ok(report) => report,
+        Err(_) => return Err(AnalysisFault::Refused(LoadFault::Memory)),
+    };
+    match erase_remarks(alloc, bytes.as_slice()) {
+        Ok(remarks) => Ok(CheckedListing { report, remarks }),
         Err(_) => Err(AnalysisFault::Refused(LoadFault::Memory)),
     }
 }

@@ -1,6 +1,7 @@
 //! Runs `film`: writes the page that shows a run, or two.
 ghost use Rattle.std.specs.Prelude.{◌≡◌, ◌≢◌, ◌⊎◌, string_bytes};
 ghost use Rattle.std.specs.Io.KnownBytes.{Appends, Keeps};
+ghost use Rattle.agc_io.specs.Output.{IsBegun};
 ghost use Rattle.agc_analysis.specs.Ended.{IsEnded};
 ghost use Rattle.agc_analysis.specs.Filmed.{IsFilmPairRefused, IsFilmPairWritten, IsFilmRefused, IsFilmWritten};
 ghost use Rattle.agc_analysis.specs.Fault.{IsTold, trouble_line};
@@ -11,7 +12,7 @@ use crate::fault::AnalysisFault;
 use crate::films::{FilmPage, film_file_pairs, film_files};
 use crate::inputs::opened;
 use crate::until::name_until;
-use agc_io::{OK, ProgressLine, status_of};
+use agc_io::{OK, ProgressLine, status_of, write_in_full};
 use agc_load::LoadFault;
 use agc_study_args::FilmArgs;
 use agc_symbols::names_at;
@@ -109,7 +110,11 @@ fn write_film<R: Read, S: Read, W: Write, E: Write, N: Write, P: ProgressLine>(
         (E.contents err.old) (E.contents err.new) }
     ensures no_note { result ≡ 2 → Keeps (N.contents remarks.old) (N.contents remarks.new) }
     ensures faulty { result ≢ 1 }
-    ensures film { result ≡ 0 → IsFilmWritten HEAD.now TABLES.now TAIL.now asked.now
+    ensures film { result ≡ 0 → IsFilmWritten Appends HEAD.now TABLES.now TAIL.now asked.now
+        (R.remaining rope.old) (S.remaining script.old)
+        (W.contents out.old) (W.contents out.new) }
+    ensures cut { result ≡ 3 → Keeps (W.contents out.old) (W.contents out.new)
+        ⊎ IsFilmWritten IsBegun HEAD.now TABLES.now TAIL.now asked.now
         (R.remaining rope.old) (S.remaining script.old)
         (W.contents out.old) (W.contents out.new) }
     ensures refused { result ≡ 2 → (r : LoadFault) × IsFilmRefused asked.now
@@ -151,7 +156,13 @@ fn write_film_pair<
         (E.contents err.old) (E.contents err.new) }
     ensures no_note { result ≡ 2 → Keeps (N.contents remarks.old) (N.contents remarks.new) }
     ensures faulty { result ≢ 1 }
-    ensures film { result ≡ 0 → IsFilmPairWritten HEAD.now TABLES.now TAIL.now asked.now other.now
+    ensures film { result ≡ 0
+        → IsFilmPairWritten Appends HEAD.now TABLES.now TAIL.now asked.now other.now
+        (R.remaining rope.old) (S.remaining script.old)
+        (T.remaining other_rope.old) (U.remaining other_script.old)
+        (W.contents out.old) (W.contents out.new) }
+    ensures cut { result ≡ 3 → Keeps (W.contents out.old) (W.contents out.new)
+        ⊎ IsFilmPairWritten IsBegun HEAD.now TABLES.now TAIL.now asked.now other.now
         (R.remaining rope.old) (S.remaining script.old)
         (T.remaining other_rope.old) (U.remaining other_script.old)
         (W.contents out.old) (W.contents out.new) }
@@ -182,9 +193,11 @@ fn write_page<W: Write, N: Write>(page: &FilmPage, out: &mut W, remarks: &mut N)
     ensures status { (result ≡ 0) ⊎ (result ≡ 3) }
     ensures page { result ≡ 0
         → Appends (W.contents out.old) (W.contents out.new) (string_bytes page.now.text) }
+    ensures cut { result ≡ 3
+        → IsBegun (W.contents out.old) (W.contents out.new) (string_bytes page.now.text) }
 {
     remark_on_length(page.frames, remarks);
-    status_of(OK, out.write_all(page.text.as_bytes()))
+    status_of(OK, write_in_full(out, page.text.as_bytes()))
 }
 
 /// Suggests how to shorten a film of many frames. A remark that cannot be written does not change the film.

@@ -1,17 +1,17 @@
 //! Runs `jobs`: writes how the Executive's tables change in a run.
-ghost use Rattle.std.specs.Prelude.{◌≡◌, ◌≢◌};
+ghost use Rattle.std.specs.Prelude.{◌≡◌, ◌≢◌, ◌⊎◌};
 ghost use Rattle.std.specs.Io.KnownBytes.{Appends, Keeps};
 ghost use Rattle.agc_analysis.specs.Fault.{trouble_line};
-ghost use Rattle.agc_analysis.specs.Watched.{IsWatchRefused, IsWatched};
+ghost use Rattle.agc_analysis.specs.Watched.{IsWatchCut, IsWatchRefused, IsWatched};
 ghost use Rattle.agc_analysis.specs.declared.fault.AnalysisFault.TheVariants as told;
 ghost use Rattle.agc_load.specs.declared.fault.LoadFault.{LoadFault};
 ghost use Rattle.agc_analysis.specs.Ended.{IsEnded};
 
 use crate::inputs::opened;
+use crate::remarks::{remark_on_start, stop_of};
 use crate::traces::status_of_trace_error;
 use crate::watches::watch_files;
 use agc_io::{OK, ProgressLine};
-use agc_machine::Machine;
 use agc_study_args::JobsArgs;
 use std::alloc::Global;
 use std::io::{Read, Write};
@@ -65,6 +65,9 @@ fn write_jobs<R: Read, S: Read, W: Write, E: Write, N: Write, P: ProgressLine>(
     ensures watched { result ≡ 0 → IsWatched asked.now
         (R.remaining rope.old) (S.remaining script.old)
         (W.contents out.old) (W.contents out.new) }
+    ensures cut { result ≡ 3 → Keeps (W.contents out.old) (W.contents out.new)
+        ⊎ IsWatchCut asked.now (R.remaining rope.old) (S.remaining script.old)
+        (W.contents out.old) (W.contents out.new) }
     ensures refused { result ≡ 2 → (r : LoadFault) × IsWatchRefused asked.now
         (R.remaining rope.old) (S.remaining script.old) r
         × Appends (E.contents err.old) (E.contents err.new) (trouble_line (told.Refused r)) }
@@ -73,24 +76,9 @@ fn write_jobs<R: Read, S: Read, W: Write, E: Write, N: Write, P: ProgressLine>(
     progress.wipe();
     match watched {
         Ok(machine) => {
-            remark_on_start(&machine, asked.span.from, remarks);
+            remark_on_start(stop_of(&machine), asked.span.from, remarks);
             OK
         }
         Err(unwatched) => status_of_trace_error(unwatched, err),
     }
-}
-
-/// Reports where and why a run stops before a cycle. A remark that cannot be written does not change the result.
-fn remark_on_start<N: Write>(machine: &Machine, from: u64, remarks: &mut N) {
-    let cycle = machine.cycle();
-    let _told = match machine.stopped() {
-        Some(why) if cycle < from => {
-            let reason = why.name();
-            writeln!(
-                remarks,
-                "agc-study: the run stopped at cycle {cycle}, before cycle {from}: {reason}"
-            )
-        }
-        _ => Ok(()),
-    };
 }

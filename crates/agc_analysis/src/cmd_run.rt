@@ -1,28 +1,28 @@
 //! Runs `trace` and `compare`: writes a trace, or the comparison of two runs.
-ghost use Rattle.std.specs.Prelude.{◌≡◌, ◌≢◌, ◌⊎◌, None, true, false};
+ghost use Rattle.std.specs.Prelude.{◌≡◌, ◌≢◌, ◌⊎◌, Bool, None, true, false, string_bytes};
 ghost use Rattle.std.specs.Option.{option_or};
-ghost use Rattle.std.specs.Io.KnownBytes.{Keeps};
+ghost use Rattle.std.specs.Io.KnownBytes.{Appends, Keeps};
+ghost use Rattle.agc_io.specs.Output.{IsBegun};
 ghost use Rattle.agc_diff.specs.SideNames.{both_names};
 ghost use Rattle.agc_analysis.specs.Compared.{IsComparisonWritten, IsToldTo};
 ghost use Rattle.agc_analysis.specs.Ended.{IsEnded};
 ghost use Rattle.agc_analysis.specs.Started.{IsPairRefused};
-ghost use Rattle.agc_analysis.specs.Traced.{IsTraceWritten};
+ghost use Rattle.agc_analysis.specs.Traced.{IsCutOff, IsTraceWritten};
 ghost use Rattle.agc_analysis.specs.Fault.{IsTold};
 
 use crate::compares::{DiffOutcome, compare_files};
 use crate::fault::{AnalysisFault, FAULTY};
 use crate::inputs::opened;
 use crate::placed::place;
+use crate::remarks::{remark_on_start, stop_of};
 use crate::traces::{Traced, remark_service, status_of_trace_error, trace_files};
 use crate::until::name_until;
 use agc_cli::exit_usage;
 use agc_diff::SideNames;
-use agc_io::{OK, ProgressLine, status_of};
+use agc_io::{OK, ProgressLine, status_of, write_in_full};
 use agc_load::LoadFault;
-use agc_machine::{Machine, Upcoming};
 use agc_study_args::{CompareArgs, NAME, TraceArgs};
 use agc_symbols::{SymbolTable, names_at};
-use agc_trace::Selection;
 use std::alloc::Global;
 use std::io::{Read, Write};
 use std::rt::Files;
@@ -31,8 +31,8 @@ use std::rt::Files;
 const APART: u8 = 1;
 
 /// Traces the run of a rope file and a script file. A value of `--at` or `--cell` that names no location, with the
-/// symbol file in use, is reported as a command-line error. Remarks warn if the range is empty, and if the service of
-/// an interrupt is still in progress at the stop.
+/// symbol file in use, is reported as a command-line error. Remarks warn if the run stops before the range, and if the
+/// service of an interrupt is still in progress at the stop.
 pub fn trace_to<R, W: Write, E: Write, N: Write, P: ProgressLine>(
     rt: &R,
     tracing: &mut TraceArgs,
@@ -89,41 +89,28 @@ fn write_trace<R: Read, S: Read, W: Write, E: Write, N: Write, P: ProgressLine>(
     ensures traced { result ≡ 0 → IsTraceWritten tracing.now names.now
         (R.remaining rope.old) (S.remaining script.old)
         (W.contents out.old) (W.contents out.new) }
+    ensures cut { result ≡ 3 → Keeps (W.contents out.old) (W.contents out.new)
+        ⊎ IsCutOff tracing.now names.now (R.remaining rope.old) (S.remaining script.old)
+        (W.contents out.old) (W.contents out.new) }
 {
     let traced = trace_files(alloc, tracing, names, rope, script, out, progress);
     progress.wipe();
     match traced {
         Ok(traced) => {
-            remark_on_trace(&traced, &tracing.selection, remarks);
+            remark_on_trace(&traced, tracing.selection.from, remarks);
             OK
         }
         Err(error) => status_of_trace_error(error, err),
     }
 }
 
-/// Reports why no boundary was selected, and the service in progress at the stop. A failed remark changes nothing.
-fn remark_on_trace<N: Write>(traced: &Traced, selection: &Selection, remarks: &mut N) {
-    remark_on_range(&traced.machine, selection, remarks);
+/// Reports that the run stopped before the range, and the service in progress at the stop. A failed remark changes
+/// nothing.
+fn remark_on_trace<N: Write>(traced: &Traced, from: u64, remarks: &mut N) {
+    remark_on_start(stop_of(&traced.machine), from, remarks);
     if let Some(service) = traced.service {
         let _told = remark_service(service, remarks);
     }
-}
-
-/// Reports why no boundary was selected, if none begins in the range.
-fn remark_on_range<N: Write>(machine: &Machine, selection: &Selection, remarks: &mut N) {
-    let (from, to) = (selection.from, selection.to);
-    let cycle = machine.cycle();
-    let _told = match machine.upcoming() {
-        Upcoming::Stop(why) if cycle < from => {
-            let reason = why.name();
-            writeln!(
-                remarks,
-                "agc-study: the run stopped at cycle {cycle}, before cycle {from}: {reason}"
-            )
-        }
-        _ if to < from => writeln!(remarks, "agc-study: no cycle is from {from} to {to}"),
-        _ => Ok(()),
-    };
 }
 
 /// Compares the runs of two rope and two script files. Symbols of the left run may name the stop address of both.
@@ -196,14 +183,19 @@ fn write_comparison<R: Read, S: Read, T: Read, U: Read, W: Write, E: Write, P: P
 ) -> u8
     ensures ended { IsEnded result (W.contents out.old) (W.contents out.new)
         (E.contents err.old) (E.contents err.new) }
-    ensures same { result ≡ 0 → IsComparisonWritten (both_names names.entry) asked.now
+    ensures same { result ≡ 0 → IsComparisonWritten Appends (both_names names.entry) asked.now
         (R.remaining rope.old) (S.remaining script.old)
         (T.remaining other_rope.old) (U.remaining other_script.old) true
         (W.contents out.old) (W.contents out.new) }
-    ensures apart { result ≡ 1 → IsComparisonWritten (both_names names.entry) asked.now
+    ensures apart { result ≡ 1 → IsComparisonWritten Appends (both_names names.entry) asked.now
         (R.remaining rope.old) (S.remaining script.old)
         (T.remaining other_rope.old) (U.remaining other_script.old) false
         (W.contents out.old) (W.contents out.new) }
+    ensures cut { result ≡ 3 → Keeps (W.contents out.old) (W.contents out.new)
+        ⊎ ((is_same : Bool) × IsComparisonWritten IsBegun (both_names names.entry) asked.now
+        (R.remaining rope.old) (S.remaining script.old)
+        (T.remaining other_rope.old) (U.remaining other_script.old) is_same
+        (W.contents out.old) (W.contents out.new)) }
     ensures refused { result ≡ 2 → IsTold (IsPairRefused
         asked.now.form asked.now.until None asked.now.limit
         (R.remaining rope.old) (S.remaining script.old)
@@ -229,10 +221,12 @@ fn write_comparison<R: Read, S: Read, T: Read, U: Read, W: Write, E: Write, P: P
 
 /// Writes the comparison. Returns status 0 if the runs are the same, or 1 if they differ.
 pub fn write_outcome<W: Write>(told: &DiffOutcome, out: &mut W) -> u8
-    ensures same { result ≡ 0 → IsToldTo told.now true (W.contents out.old) (W.contents out.new) }
-    ensures apart { result ≡ 1 → IsToldTo told.now false (W.contents out.old) (W.contents out.new) }
+    ensures same { result ≡ 0 → IsToldTo Appends told.now true (W.contents out.old) (W.contents out.new) }
+    ensures apart { result ≡ 1 → IsToldTo Appends told.now false (W.contents out.old) (W.contents out.new) }
+    ensures cut { result ≡ 3
+        → IsBegun (W.contents out.old) (W.contents out.new) (string_bytes told.now.text) }
     ensures status { (result ≡ 0) ⊎ ((result ≡ 1) ⊎ (result ≡ 3)) }
 {
     let status = if told.is_same { OK } else { APART };
-    status_of(status, out.write_all(told.text.as_bytes()))
+    status_of(status, write_in_full(out, told.text.as_bytes()))
 }

@@ -1,10 +1,11 @@
 //! Reads a rope and a script, and makes the profile of their run.
-ghost use Rattle.std.specs.Prelude.{◌≡◌, IfErr, IfOk, None, string_bytes};
+ghost use Rattle.std.specs.Prelude.{◌≡◌, IfErr, IfOk, None, false, string_bytes};
 ghost use Rattle.agc_profile.specs.Report.{count_text};
 ghost use Rattle.agc_analysis.specs.Counted.{IsCounted, counted_text};
 ghost use Rattle.agc_analysis.specs.Started.{IsRefused};
 ghost use Rattle.agc_load.specs.declared.fault.LoadFault.TheVariants as refusal;
 
+use crate::remarks::{RunStop, stop_of};
 use crate::runs::read_machine;
 use agc_io::Progress;
 use agc_load::LoadFault;
@@ -15,6 +16,14 @@ use agc_study_args::ProfileArgs;
 use std::alloc::Global;
 use std::io::Read;
 
+/// The profile of a run.
+#[derive(Drop)]
+pub struct Profiled {
+    pub text: String,
+    /// The stop of the run, if it came to one.
+    pub stop: Option<RunStop>,
+}
+
 /// Reads a rope and a script, and makes the text of the profile of their run. Fails with the first fault, checked in
 /// this order: rope, script, limit, `--until`; or if memory runs out.
 pub fn profile_files<R: Read, S: Read, P: Progress>(
@@ -23,14 +32,20 @@ pub fn profile_files<R: Read, S: Read, P: Progress>(
     rope: &mut R,
     script: &mut S,
     progress: &mut P,
-) -> Result<String, LoadFault>
-    ensures counted { IfOk result
-        (IsCounted asked.now (R.remaining rope.old) (S.remaining script.old)) }
+) -> Result<Profiled, LoadFault>
+    ensures counted { IfOk result (λ profiled.
+        IsCounted asked.now (R.remaining rope.old) (S.remaining script.old) profiled.text) }
     ensures refused { IfErr result (IsRefused asked.now.form asked.now.until None asked.now.limit
         (R.remaining rope.old) (S.remaining script.old)) }
 {
     let mut machine = read_machine(alloc, asked.form, asked.limit, &asked.until, rope, script)?;
-    count_run(alloc, asked, &mut machine, progress)
+    match count_run(alloc, asked, &mut machine, progress) {
+        Ok(text) => Ok(Profiled {
+            text,
+            stop: stop_of(&machine),
+        }),
+        Err(_) => Err(LoadFault::Memory),
+    }
 }
 
 /// Returns the profile of a machine's run as text. Fails if memory runs out.
@@ -40,6 +55,7 @@ fn count_run<P: Progress>(
     machine: &mut Machine,
     progress: &mut P,
 ) -> Result<String, LoadFault>
+    requires fresh { machine.old.begun ≡ false }
     ensures text { IfOk result (λ text. string_bytes text ≡ counted_text asked.now machine.old) }
     ensures refused { IfErr result (λ r. r ≡ refusal.Memory) }
 {

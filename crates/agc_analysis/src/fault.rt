@@ -1,12 +1,16 @@
 //! The error that ends `agc-study` with one line.
 ghost use Rattle.std.specs.Prelude.{◌≡◌, ◌⊎◌, OnOk};
 ghost use Rattle.std.specs.Io.KnownBytes.{Appends};
-ghost use Rattle.agc_analysis.specs.Fault.{other_trouble, trouble_line};
+ghost use Rattle.agc_analysis.specs.Fault.{other_trouble, remedy_text, rope_remedy, script_remedy};
+ghost use Rattle.agc_analysis.specs.Fault.{trouble_line, watch_remedy};
 ghost use Rattle.agc_analysis.specs.declared.fault.AnalysisFault.TheVariants as told;
 
 use agc_asm::AssemblyFault;
 use agc_io::status_of;
 use agc_load::LoadFault;
+use agc_panel::WatchFault;
+use agc_script::FaultKind;
+use agc_store::RopeFault;
 use agc_symbols::SymbolFileFault;
 use std::fmt;
 use std::io::{self, Write};
@@ -79,15 +83,61 @@ impl fmt::Display for AnalysisFault {
 
     fn fmt<W: fmt::Write>(&self, f: &mut fmt::Formatter<W>) -> fmt::Result {
         match *self {
-            AnalysisFault::Refused(refusal) => write!(f, "{refusal}"),
-            AnalysisFault::OtherRefused(refusal) => write!(f, "other run: {refusal}"),
+            AnalysisFault::Refused(refusal) => write!(f, "{refusal}{}", remedy(refusal)),
+            AnalysisFault::OtherRefused(refusal) => {
+                write!(f, "other run: {refusal}{}", remedy(refusal))
+            }
             AnalysisFault::CannotReadText => f.write_str("cannot read text"),
             AnalysisFault::Text(AssemblyFault::Line(line, fault)) => {
                 write!(f, "text line {line}: {fault}")
             }
             AnalysisFault::Text(AssemblyFault::Memory) => f.write_str("memory"),
-            AnalysisFault::BadBankSpec => f.write_str("bank: BadSpec"),
+            AnalysisFault::BadBankSpec => f.write_str(
+                "no such bank: --bank is one or two octal digits, 00 to 43",
+            ),
             AnalysisFault::Unnamed(refusal) => write!(f, "{refusal}"),
         }
+    }
+}
+
+/// Returns the end of the line: what to do about a fault that `agc` reports by its name alone.
+fn remedy(refusal: LoadFault) -> &'static str
+    ensures { result.now ≡ remedy_text refusal }
+{
+    match refusal {
+        LoadFault::Rope(fault) => rope_remedy(fault),
+        LoadFault::Script(fault) => script_remedy(fault.kind),
+        LoadFault::Limit(_) => "; --limit is 1 to 1000000000000 cycles",
+        LoadFault::BadWatchSpec => "; --watch is seven octal numbers with commas between them",
+        LoadFault::Watch(fault) => watch_remedy(fault),
+        LoadFault::BadUntilSpec => "; --until is BANK,ADDR in octal, or a name of --names",
+        _ => "",
+    }
+}
+
+fn rope_remedy(fault: RopeFault) -> &'static str
+    ensures { result.now ≡ rope_remedy fault }
+{
+    match fault {
+        RopeFault::Memory => "",
+        _ => "; agc-study check explains it",
+    }
+}
+
+fn script_remedy(kind: FaultKind) -> &'static str
+    ensures { result.now ≡ script_remedy kind }
+{
+    match kind {
+        FaultKind::Memory => "",
+        _ => "; agc-study check explains it",
+    }
+}
+
+fn watch_remedy(fault: WatchFault) -> &'static str
+    ensures { result.now ≡ watch_remedy fault }
+{
+    match fault {
+        WatchFault::Memory => "",
+        _ => "; --watch needs tables in erasable memory, and at most 20 sets (octal)",
     }
 }

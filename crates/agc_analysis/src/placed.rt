@@ -1,14 +1,17 @@
 //! Resolves the locations that `trace` selects with `--at` and `--cell`.
-ghost use Rattle.std.specs.Prelude.{◌≡◌, ◌∷◌, ◌++◌, [], IfErr, IfOk, Ok, OnOk, string_bytes};
+ghost use Rattle.std.specs.Prelude.{◌≡◌, ◌∷◌, ◌++◌, [], IfErr, IfOk, Ok, OnOk, is_some, string_bytes};
 ghost use Rattle.agc_analysis.specs.Placed.{
+  AddsChannels,
   IsMistake,
   IsPlaced,
+  IsUnnamed,
   IsUnplaced,
   IsUnsaid,
   all_said,
   option_name,
   said_in,
   unsaid_text,
+  why_text,
 };
 
 use crate::until::name_until;
@@ -51,8 +54,8 @@ impl Question {
     }
 }
 
-/// Resolves the values of `--at` and `--cell` with these symbols and adds them to the selection; replaces a symbolic
-/// `--until`. A value of `--at` or `--cell` that names no location is a command-line error.
+/// Resolves the values of `--at`, `--cell` and `--channel` with these symbols and adds them to the selection; replaces a
+/// symbolic `--until`. A value that names no location, or no channel, is a command-line error.
 pub fn place(
     alloc: Global,
     names: &Option<SymbolTable>,
@@ -62,9 +65,11 @@ pub fn place(
     ensures unplaced { IfErr result (IsUnplaced names.now asked.old) }
 {
     let (at, cell) = (asked.at.as_slice(), asked.cell.as_slice());
+    let channel = asked.channel.as_slice();
     let selection = &mut asked.selection;
     push_said(alloc, Question::At, names, at, &mut selection.places)?;
     push_said(alloc, Question::Cell, names, cell, &mut selection.cells)?;
+    push_channels(alloc, names, channel, &mut selection.channels)?;
     name_until(alloc, names, &mut asked.until)?;
     Ok(())
 }
@@ -84,7 +89,7 @@ fn push_said(
     for text in texts {
         match question.said(names, text.as_bytes()) {
             Ok(places) => push_places(several, places)?,
-            Err(why) => return Err(unsaid(alloc, question, text.as_str(), why)),
+            Err(why) => return Err(unsaid(alloc, question, names, text.as_str(), why)),
         }
     }
     Ok(())
@@ -97,11 +102,70 @@ fn push_places(several: &mut Vec<LocationRange>, places: LocationRange) -> Resul
     Ok(())
 }
 
-/// Returns the error for a value that names no location.
-fn unsaid(alloc: Global, question: Question, text: &str, why: RangeFault) -> ArgsFault
-    ensures { IsMistake (unsaid_text question text.now why) result }
+/// Appends the channels that texts name.
+fn push_channels(
+    alloc: Global,
+    names: &Option<SymbolTable>,
+    texts: &[String],
+    several: &mut Vec<u16>,
+) -> Result<(), ArgsFault>
+    ensures named { OnOk result (AddsChannels several.old.items several.new.items) }
+    ensures unnamed { IfErr result IsUnnamed }
 {
-    match unsaid_text(alloc, question, text, why) {
+    let mut named = Vec::new(alloc);
+    for text in texts {
+        push_channel(&mut named, channel_called(alloc, names, text.as_str())?)?;
+    }
+    several.extend_from_slice(named.as_slice())?;
+    Ok(())
+}
+
+fn push_channel(several: &mut Vec<u16>, channel: u16) -> Result<(), AllocError> {
+    several.push(channel)?;
+    Ok(())
+}
+
+/// Returns the channel that a text names, or the error for it.
+fn channel_called(alloc: Global, names: &Option<SymbolTable>, text: &str) -> Result<u16, ArgsFault>
+    ensures { IfErr result IsUnnamed }
+{
+    let channel = match names {
+        Some(names) => names.channel(text.as_bytes()),
+        None => None,
+    };
+    match channel {
+        Some(channel) => Ok(channel),
+        None => Err(no_channel(alloc, text)),
+    }
+}
+
+/// Returns the error for a text that names no channel.
+fn no_channel(alloc: Global, text: &str) -> ArgsFault
+    ensures { IsUnnamed result }
+{
+    match no_channel_text(alloc, text) {
+        Ok(text) => ArgsFault::Command(text),
+        Err(AllocError) => ArgsFault::Memory,
+    }
+}
+
+fn no_channel_text(alloc: Global, text: &str) -> Result<String, AllocError> {
+    format!(in alloc;
+        "error: invalid value '{text}' for '--channel <CCC>': a channel is one to three octal digits, 0 to 777, or a name of --names\n\nFor more information, try '--help'.\n"
+    )
+}
+
+/// Returns the error for a value that names no location.
+fn unsaid(
+    alloc: Global,
+    question: Question,
+    names: &Option<SymbolTable>,
+    text: &str,
+    why: RangeFault,
+) -> ArgsFault
+    ensures { IsMistake (unsaid_text question names.now text.now why) result }
+{
+    match unsaid_text(alloc, question, names, text, why) {
         Ok(text) => ArgsFault::Command(text),
         Err(AllocError) => ArgsFault::Memory,
     }
@@ -111,13 +175,36 @@ fn unsaid(alloc: Global, question: Question, text: &str, why: RangeFault) -> Arg
 fn unsaid_text(
     alloc: Global,
     question: Question,
+    names: &Option<SymbolTable>,
     text: &str,
     why: RangeFault,
 ) -> Result<String, AllocError>
-    ensures { IfOk result (λ told. string_bytes told ≡ unsaid_text question text.now why) }
+    ensures { IfOk result (λ told. string_bytes told ≡ unsaid_text question names.now text.now why) }
 {
-    let (option, why) = (question.option(), why.name());
+    let (option, why) = (question.option(), why_text(has_names(names), why));
     format!(in alloc;
         "error: invalid value '{text}' for '{option}': {why}\n\nFor more information, try '--help'.\n"
     )
+}
+
+fn has_names(names: &Option<SymbolTable>) -> bool
+    ensures { result ≡ is_some names.now }
+{
+    names.is_some()
+}
+
+/// Returns what is wrong with a value, and what is right; it depends on whether there are symbols.
+fn why_text(has_names: bool, why: RangeFault) -> &'static str
+    ensures { result.now ≡ why_text has_names why }
+{
+    match (why, has_names) {
+        (RangeFault::BadPlace, false) => {
+            "no such place: octal 4100, 05,2071, E3,1400 or 4100-4177; a name needs --names FILE"
+        }
+        (RangeFault::BadPlace, true) => "no such place, and no such name in the file of --names",
+        (RangeFault::BadRange, _) => "a range has two places of one bank, the lower one first",
+        (RangeFault::NotErasable, _) => {
+            "this is in fixed memory; cells are 0000 to 1377, or E0,1400 to E7,1777"
+        }
+    }
 }

@@ -12,11 +12,12 @@ ghost use Rattle.agc_asm.specs.declared.fault.AssemblyFault.TheVariants as sourc
 ghost use Rattle.agc_analysis.specs.declared.fault.AnalysisFault.TheVariants as told;
 
 use crate::fault::AnalysisFault;
-use agc_asm::{AssemblyFault, Misnamed, assemble, first_misnamed, rope_source};
+use agc_asm::{AssemblyFault, Misnamed, assemble, first_misnamed, rope_source, yul_source};
 use agc_io::{ReadError, TEXT_BYTES, read_limited};
 use agc_listing::{files_say_rope_words, list, push_order};
 use agc_load::{LoadFault, read_rope};
 use agc_store::{RopeForm, Store};
+use agc_symbols::SymbolTable;
 use agc_word::read_octal;
 use std::alloc::{AllocError, Global};
 use std::io::Read;
@@ -58,6 +59,25 @@ pub fn source_of_rope<R: Read>(
     let store = Store::new(read_rope(alloc, form, reader)?);
     files_say_rope_words();
     match rope_source(alloc, &store, bank) {
+        Ok(text) => Ok(text),
+        Err(_) => Err(AnalysisFault::Refused(LoadFault::Memory)),
+    }
+}
+
+/// Returns a rope file, or one of its banks, as a page in the listings' language with these names. Rejects an invalid
+/// `--bank` before it reads the file.
+pub fn page_of_rope<R: Read>(
+    alloc: Global,
+    form: RopeForm,
+    bank: &Option<String>,
+    names: &Option<SymbolTable>,
+    reader: &mut R,
+) -> Result<String, AnalysisFault>
+    ensures named { OnOk result (says_nothing bank_named bank.now ≡ false) }
+{
+    let bank = bank_of(bank)?;
+    let store = Store::new(read_rope(alloc, form, reader)?);
+    match yul_source(alloc, &store, bank, names) {
         Ok(text) => Ok(text),
         Err(_) => Err(AnalysisFault::Refused(LoadFault::Memory)),
     }

@@ -1,5 +1,5 @@
 //! Reads a rope and a script, and makes the machine to trace and the tables to watch in its run.
-ghost use Rattle.std.specs.Prelude.{◌≡◌, IfErr, IfOk, MatchResult, None, Some, option_copied};
+ghost use Rattle.std.specs.Prelude.{◌≡◌, IfErr, IfOk, MatchResult, None, Some, false, option_copied};
 ghost use Rattle.agc_machine.specs.State.{start_state};
 ghost use Rattle.agc_machine.specs.StopAddress.{stop_address_of};
 ghost use Rattle.agc_analysis.specs.Started.{IsRefused, IsStarted, watched_steps};
@@ -35,6 +35,7 @@ pub fn read_machine<R: Read, S: Read>(
 ) -> Result<Machine, LoadFault>
     ensures started { IfOk result
         (IsStarted form until.now None limit (R.remaining rope.old) (S.remaining script.old)) }
+    ensures fresh { IfOk result (λ machine. machine.begun ≡ false) }
     ensures refused { IfErr result
         (IsRefused form until.now None limit (R.remaining rope.old) (S.remaining script.old)) }
 {
@@ -55,6 +56,7 @@ pub fn read_start<R: Read, S: Read>(
 ) -> Result<Start, LoadFault>
     ensures started { IfOk result (λ start. IsStarted form until.now (option_copied watch.entry) limit
         (R.remaining rope.old) (S.remaining script.old) start.machine) }
+    ensures fresh { IfOk result (λ start. start.machine.begun ≡ false) }
     ensures tables { IfOk result (λ start. AreWatched (option_copied watch.entry) start.tables) }
     ensures refused { IfErr result (IsRefused form until.now (option_copied watch.entry) limit
         (R.remaining rope.old) (S.remaining script.old)) }
@@ -75,6 +77,7 @@ fn start_watched(
     ensures started { ComesOf (watched_steps until.now (option_copied watch.entry) limit)
         (λ start. start.machine
         ≡ start_state rope script limit (said_by stop_address_of until.now)) result }
+    ensures fresh { IfOk result (λ start. start.machine.begun ≡ false) }
     ensures tables { IfOk result (λ start. AreWatched (option_copied watch.entry) start.tables) }
 {
     let Loaded { machine, watch } = load(rope, script, limit, until, watch)?;

@@ -1,31 +1,41 @@
 //! Reports which input file cannot be read and the system's reason, beside the error line.
-use agc_study_args::Args;
+use crate::remarks::remark_on_file;
+use agc_study_args::{Args, InputPath};
 use std::fs;
-use std::io::{self, ErrorKind, Write};
+use std::io::{self, ErrorKind, Read, Write};
 use std::rt::Files;
 
-/// Reports the first input file that cannot be read, with the system's reason. Reads nothing, so it never waits for
-/// anybody; a remark that cannot be written does not change the result.
-pub fn remark_unreadable<R: Files, N: Write>(rt: &R, asked: &Args, remarks: &mut N) {
-    for path in asked.paths() {
-        let Some(path) = path else {
+/// Reports the first input file that cannot be read or is too long, with the reason. Reads from nothing but a regular
+/// file, so it never waits for anybody.
+pub fn remark_unreadable<R, N: Write>(rt: &R, asked: &Args, remarks: &mut N)
+where
+    R: Files + AllocGlobal,
+{
+    for input in asked.inputs() {
+        let Some(input) = input else {
             continue;
         };
-        if let Err(reason) = try_open(rt, path) {
-            let _told = writeln!(remarks, "agc-study: {path}: {reason}");
+        if let Err(reason) = try_input(rt, input) {
+            remark_on_file(rt.alloc(), input.path, &reason, remarks);
             return;
         }
     }
 }
 
-/// Opens a file once more. Reports a folder as unreadable, and leaves alone what is neither a folder nor a file.
-fn try_open<R: Files>(rt: &R, path: &str) -> io::Result<()> {
-    let found = rt.metadata(path)?;
+/// Opens a file once more and reads its first byte. Reports a folder as unreadable, and leaves alone what is neither a
+/// folder nor a file.
+fn try_input<R: Files>(rt: &R, input: InputPath<'_>) -> io::Result<()> {
+    let found = rt.metadata(input.path)?;
     if found.is_dir() {
         return Err(io::Error::from(ErrorKind::IsADirectory));
     }
     if found.is_file() {
-        fs::open(rt, path)?;
+        let mut file = fs::open(rt, input.path)?;
+        let mut byte = [0];
+        file.read(&mut byte)?;
+        if found.len() > input.most as u64 {
+            return Err(io::Error::from(ErrorKind::FileTooLarge));
+        }
     }
     Ok(())
 }

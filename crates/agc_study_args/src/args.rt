@@ -1,5 +1,6 @@
 //! The parsed arguments of `agc-study`, one struct for each subcommand.
 use agc_diff::DiffBy;
+use agc_io::{KEY_BYTES, ROPE_BYTES, TEXT_BYTES};
 use agc_profile::Layout;
 use agc_store::RopeForm;
 use agc_timeline::{Part, RunFiles};
@@ -21,46 +22,75 @@ pub enum Args {
     Film(FilmArgs),
 }
 
+/// A file that a subcommand reads.
+#[derive(Clone, Copy, Debug, PartialEq, Eq)]
+pub struct InputPath<'a> {
+    pub path: &'a str,
+    /// The most bytes that it may have.
+    pub most: usize,
+}
+
+fn rope(path: &String) -> Option<InputPath<'_>> {
+    Some(InputPath {
+        path: path.as_str(),
+        most: ROPE_BYTES,
+    })
+}
+
+fn text(path: &String) -> Option<InputPath<'_>> {
+    Some(InputPath {
+        path: path.as_str(),
+        most: TEXT_BYTES,
+    })
+}
+
+fn text_if_given(path: &Option<String>) -> Option<InputPath<'_>> {
+    match path {
+        Some(path) => text(path),
+        None => None,
+    }
+}
+
 impl Args {
-    /// Returns the paths of the input files in the order in which they are read.
-    pub fn paths(&self) -> [Option<&str>; 6] {
+    /// Returns the input files in the order in which they are read.
+    pub fn inputs(&self) -> [Option<InputPath<'_>>; 6] {
         match self {
             Args::List(asked) => [
-                asked.names.as_deref(),
-                Some(asked.rope.as_str()),
+                text_if_given(&asked.names),
+                rope(&asked.rope),
                 None,
                 None,
                 None,
                 None,
             ],
-            Args::Weave(asked) => [Some(asked.text.as_str()), None, None, None, None, None],
-            Args::Check(asked) => asked.paths(),
+            Args::Weave(asked) => [text(&asked.text), None, None, None, None, None],
+            Args::Check(asked) => asked.inputs(),
             Args::Trace(asked) => [
-                asked.names.as_deref(),
-                Some(asked.rope.as_str()),
-                Some(asked.script.as_str()),
+                text_if_given(&asked.names),
+                rope(&asked.rope),
+                text(&asked.script),
                 None,
                 None,
                 None,
             ],
             Args::Count(asked) => [
-                Some(asked.rope.as_str()),
-                Some(asked.script.as_str()),
+                rope(&asked.rope),
+                text(&asked.script),
                 None,
                 None,
                 None,
                 None,
             ],
             Args::Jobs(asked) => [
-                Some(asked.rope.as_str()),
-                Some(asked.script.as_str()),
+                rope(&asked.rope),
+                text(&asked.script),
                 None,
                 None,
                 None,
                 None,
             ],
-            Args::Compare(asked) => asked.paths(),
-            Args::Film(asked) => asked.paths(),
+            Args::Compare(asked) => asked.inputs(),
+            Args::Film(asked) => asked.inputs(),
         }
     }
 }
@@ -76,6 +106,8 @@ pub struct ListArgs {
     pub names: Option<String>,
     /// Whether to list it as a source (`--source`).
     pub source: bool,
+    /// Whether to list it as a page in the listings' language (`--style yul`).
+    pub yul: bool,
 }
 
 /// Arguments of `weave`: a text file to assemble.
@@ -83,8 +115,10 @@ pub struct ListArgs {
 pub struct WeaveArgs {
     pub text: String,
     pub form: RopeForm,
-    /// The file that the symbols of the text are written to (`--names`).
-    pub names: Option<String>,
+    /// The file that the symbols of the text are written to (`--write-names`).
+    pub write_names: Option<String>,
+    /// Whether that file may exist already (`--force`).
+    pub force: bool,
 }
 
 /// Arguments of `check`: at least one file to check.
@@ -99,15 +133,21 @@ pub struct CheckArgs {
 }
 
 impl CheckArgs {
-    fn paths(&self) -> [Option<&str>; 6] {
-        let keys = self.keys.as_deref();
-        let listing = self.listing.as_deref();
+    fn inputs(&self) -> [Option<InputPath<'_>>; 6] {
+        let keys = match &self.keys {
+            Some(path) => Some(InputPath {
+                path: path.as_str(),
+                most: KEY_BYTES,
+            }),
+            None => None,
+        };
+        let listing = text_if_given(&self.listing);
         match &self.run {
             Some(run) => [
                 keys,
                 listing,
-                Some(run.rope.as_str()),
-                Some(run.script.as_str()),
+                rope(&run.rope),
+                text(&run.script),
                 None,
                 None,
             ],
@@ -133,9 +173,11 @@ pub struct TraceArgs {
     /// The value of `--until`.
     pub until: Option<String>,
     pub selection: Selection,
-    /// The values of `--at` and `--cell` that are not in the selection yet, because they may use symbols.
+    /// The values of `--at` and `--cell`, and those of `--channel` that are no numbers: they may be symbols, and are not
+    /// in the selection yet.
     pub at: Vec<String>,
     pub cell: Vec<String>,
+    pub channel: Vec<String>,
     /// The symbol file (`--names`).
     pub names: Option<String>,
 }
@@ -199,14 +241,14 @@ pub struct ObservedArgs {
 }
 
 impl CompareArgs {
-    fn paths(&self) -> [Option<&str>; 6] {
+    fn inputs(&self) -> [Option<InputPath<'_>>; 6] {
         [
-            self.names.as_deref(),
-            self.other_names.as_deref(),
-            Some(self.rope.as_str()),
-            Some(self.script.as_str()),
-            Some(self.other_rope.as_str()),
-            Some(self.other_script.as_str()),
+            text_if_given(&self.names),
+            text_if_given(&self.other_names),
+            rope(&self.rope),
+            text(&self.script),
+            rope(&self.other_rope),
+            text(&self.other_script),
         ]
     }
 }
@@ -230,19 +272,19 @@ pub struct FilmArgs {
 }
 
 impl FilmArgs {
-    fn paths(&self) -> [Option<&str>; 6] {
-        let names = self.names.as_deref();
-        let (rope, script) = (self.files.rope.as_str(), self.files.script.as_str());
+    fn inputs(&self) -> [Option<InputPath<'_>>; 6] {
+        let names = text_if_given(&self.names);
+        let (left_rope, left_script) = (rope(&self.files.rope), text(&self.files.script));
         match &self.other {
             Some(other) => [
                 names,
-                Some(rope),
-                Some(script),
-                Some(other.rope.as_str()),
-                Some(other.script.as_str()),
+                left_rope,
+                left_script,
+                rope(&other.rope),
+                text(&other.script),
                 None,
             ],
-            None => [names, Some(rope), Some(script), None, None, None],
+            None => [names, left_rope, left_script, None, None, None],
         }
     }
 }

@@ -4,6 +4,6 @@
 mod args;
 
 pub use args::{
-    Args, CheckArgs, CheckedRunArgs, CompareArgs, FilmArgs, JobsArgs, ListArgs, NAME, ObservedArgs,
-    ProfileArgs, TraceArgs, WeaveArgs,
+    Args, CheckArgs, CheckedRunArgs, CompareArgs, FilmArgs, InputPath, JobsArgs, ListArgs, NAME,
+    ObservedArgs, ProfileArgs, TraceArgs, WeaveArgs,
 };

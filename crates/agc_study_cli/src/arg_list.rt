@@ -19,9 +19,15 @@ impl<'a> Subcommands<'a> {
         }
     }
 
-    /// Adds the subcommand of this name.
-    pub fn with(self, name: &'a str, about: &'a str, words: ArgList<'a>) -> Subcommands<'a> {
-        self.with_command(words.command(name, about))
+    /// Adds the subcommand of this name, whose help ends with an example.
+    pub fn with(
+        self,
+        name: &'a str,
+        about: &'a str,
+        example: &'a str,
+        words: ArgList<'a>,
+    ) -> Subcommands<'a> {
+        self.with_command(words.command(name, about, example))
     }
 
     fn with_command(self, command: Result<Command<'a>, AllocError>) -> Subcommands<'a> {
@@ -82,10 +88,18 @@ impl<'a> ArgList<'a> {
     }
 
     // Returns the subcommand of this name with these arguments.
-    fn command(self, name: &'a str, about: &'a str) -> Result<Command<'a>, AllocError> {
+    fn command(
+        self,
+        name: &'a str,
+        about: &'a str,
+        example: &'a str,
+    ) -> Result<Command<'a>, AllocError> {
         let ArgList { alloc, args, added } = self;
         added?;
-        Command::new(alloc, name).about(about).args(args)
+        Command::new(alloc, name)
+            .about(about)
+            .after_help(example)
+            .args(args)
     }
 
     pub fn with(self, arg: Arg<'a>) -> ArgList<'a> {

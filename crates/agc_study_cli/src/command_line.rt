@@ -6,11 +6,18 @@ use std::alloc::{AllocError, Global};
 
 static KINDS: [&str; 3] = ["writes", "interrupts", "jumps"];
 
+static STYLES: [&str; 1] = ["yul"];
+
+const FIRST_PRINTED: &str = "First machine cycle to print: decimal; 0 if left out";
+
+const LAST_PRINTED: &str = "Last machine cycle to print: decimal; the stop if left out";
+
 /// Returns the `clap` command of the program. A subcommand is required.
 pub fn command<'a>(alloc: Global) -> Result<Command<'a>, AllocError> {
     let commands = subcommands(alloc).all()?;
     Command::new(alloc, "agc-study")
-        .about("Looks inside the ropes and the runs of a Block II computer.")
+        .about("Inspects ropes and runs of the Apollo Guidance Computer, Block II.")
+        .after_help("Example:\n  agc-study list examples/prog12/rope")
         .subcommand_required(true)
         .subcommands(commands)
 }
@@ -33,11 +40,13 @@ impl<'a> Subcommands<'a> {
             .rope_file(true)
             .form_option()
             .bank_option()
-            .names_option()
-            .source_option();
+            .names_option("Show names of places from this file: a line for each, PLACE NAME")
+            .source_option()
+            .style_option();
         self.with(
             "list",
-            "Prints each word of a rope that is not +0, as an order.",
+            "Disassembles a rope: prints each word that is not +0 as an order.",
+            "Example:\n  agc-study list examples/prog12/rope --bank 02",
             words,
         )
     }
@@ -46,10 +55,12 @@ impl<'a> Subcommands<'a> {
         let words = ArgList::none(self.alloc)
             .text_file()
             .form_option()
-            .names_file();
+            .write_names_option()
+            .force_option();
         self.with(
             "weave",
-            "Writes the rope file of a text: places with words, or names, orders and directives, a line each.",
+            "Assembles a source, or a text as list prints it, into a rope file on standard output.",
+            "Example:\n  agc-study weave program.agc --write-names names > rope",
             words,
         )
     }
@@ -63,7 +74,8 @@ impl<'a> Subcommands<'a> {
             .form_option();
         self.with(
             "check",
-            "Tells what is wrong with a rope and a script, a text of live keys or the text of a rope, or what they hold.",
+            "Reports what is wrong with a rope and a script, with live keys, or with the text of a rope.",
+            "Example:\n  agc-study check examples/keys/rope examples/keys/script",
             words,
         )
     }
@@ -75,18 +87,21 @@ impl<'a> Subcommands<'a> {
             .limit_option()
             .form_option()
             .until_named()
-            .cycle_option("from", "The first cycle whose line is printed")
-            .cycle_option("to", "The last cycle whose line is printed")
+            .cycle_option("from", FIRST_PRINTED)
+            .cycle_option("to", LAST_PRINTED)
             .only_option()
             .at_option()
             .order_option()
             .channel_option()
             .cell_option()
             .last_option()
-            .names_option();
+            .names_option(
+                "Show names from this file (a line for each, PLACE NAME), and accept them as places",
+            );
         self.with(
             "trace",
             "Runs a rope and a script, and prints a line for each order, event, timer step and interrupt.",
+            "Example:\n  agc-study trace examples/keys/rope examples/keys/script --limit 300 --channel 10",
             words,
         )
     }
@@ -98,13 +113,20 @@ impl<'a> Subcommands<'a> {
             .limit_option()
             .form_option()
             .until_option()
-            .cycle_option("from", "The first cycle that is counted")
-            .cycle_option("to", "The last cycle that is counted")
+            .cycle_option(
+                "from",
+                "First machine cycle to count: decimal; 0 if left out",
+            )
+            .cycle_option(
+                "to",
+                "Last machine cycle to count: decimal; the stop if left out",
+            )
             .whole_option()
             .csv_option();
         self.with(
             "profile",
-            "Runs a rope and a script, and prints how often each word ran, and how many cycles went where.",
+            "Runs a rope and a script, and prints how often each word ran and where the cycles went.",
+            "Example:\n  agc-study profile examples/timers/rope examples/timers/script --limit 700",
             words,
         )
     }
@@ -117,11 +139,12 @@ impl<'a> Subcommands<'a> {
             .watch_option(true)
             .form_option()
             .until_option()
-            .cycle_option("from", "The first cycle at which the tables are told")
-            .cycle_option("to", "The last cycle at which the tables are told");
+            .cycle_option("from", FIRST_PRINTED)
+            .cycle_option("to", LAST_PRINTED);
         self.with(
             "jobs",
-            "Runs a rope and a script, and prints the lines of the Executive's tables as they change.",
+            "Runs a rope and a script, and prints each change of the Executive's tables.",
+            "Example:\n  agc-study jobs examples/study/jobs-sets/rope examples/study/jobs-sets/script --limit 40 --watch 0,100,2,0,130,0,140",
             words,
         )
     }
@@ -140,7 +163,8 @@ impl<'a> Subcommands<'a> {
             .names_of_runs();
         self.with(
             "compare",
-            "Runs two ropes with two scripts, and tells where the runs part.",
+            "Runs two ropes with two scripts, and prints where the runs differ first.",
+            "Example:\n  agc-study compare examples/prog12/rope examples/prog12/script examples/study/compare-apart/rope examples/prog12/script --limit 10",
             words,
         )
     }
@@ -154,13 +178,20 @@ impl<'a> Subcommands<'a> {
             .limit_option()
             .form_option()
             .until_named()
-            .cycle_option("from", "The first cycle that is filmed")
-            .cycle_option("to", "The last cycle that is filmed")
+            .cycle_option(
+                "from",
+                "First machine cycle of the film: decimal; 0 if left out",
+            )
+            .cycle_option(
+                "to",
+                "Last machine cycle of the film: decimal; the stop if left out",
+            )
             .watch_option(false)
-            .names_of_stop();
+            .names_option("Accept names from this file in --until: a line for each, PLACE NAME");
         self.with(
             "film",
-            "Prints a page for a browser that shows the DSKY over the time of a run, or of two runs.",
+            "Prints a web page that shows the DSKY over the time of a run, or of two runs side by side.",
+            "Example:\n  agc-study film examples/keys/rope examples/keys/script --limit 300 > film.html",
             words,
         )
     }
@@ -172,7 +203,7 @@ impl<'a> ArgList<'a> {
             self.alloc,
             "watch",
             "SPEC",
-            "Where core sets and wait lists stand: octal CORE_BANK,CORE_OFFSET,SETS,LST1_BANK,LST1_OFFSET,LST2_BANK,LST2_OFFSET",
+            "Octal: CORE_BANK,CORE_OFFSET,SETS,LST1_BANK,LST1_OFFSET,LST2_BANK,LST2_OFFSET",
         )
         .required(is_required);
         self.with(arg)
@@ -182,21 +213,21 @@ impl<'a> ArgList<'a> {
         let arg = flag(
             self.alloc,
             "whole",
-            "Print the words of the whole rope that are not +0, with those that never ran",
+            "Print every word of the rope that is not +0, also those that never ran",
         )
         .long("rope");
         self.with(arg)
     }
 
     fn csv_option(self) -> ArgList<'a> {
-        self.flag("csv", "Print comma-separated values in place of columns")
+        self.flag("csv", "Print comma-separated values instead of columns")
     }
 
     fn by_option(self) -> ArgList<'a> {
         self.option(
             "by",
             "WHAT",
-            "Compare what shows, with the cycles left out: writes, channel CCC (octal, 0 to 777), or panels",
+            "Compare what shows, without cycles: writes, channel CCC (octal, 0 to 777), or panels",
         )
     }
 
@@ -204,7 +235,7 @@ impl<'a> ArgList<'a> {
         let arg = flag(
             self.alloc,
             "brief",
-            "Tell it in one line: same, or the cycle and the number of the first that differs",
+            "With --by, print one line: same, or the cycle and the number of the first difference",
         )
         .requires_arg("by");
         self.with_tied(arg)
@@ -214,7 +245,7 @@ impl<'a> ArgList<'a> {
         self.file(
             "other-rope",
             "ROPE",
-            "The rope file of the other run",
+            "Rope file of the second run",
             is_required,
         )
     }
@@ -223,7 +254,7 @@ impl<'a> ArgList<'a> {
         self.file(
             "other-script",
             "SCRIPT",
-            "The script file of the other run",
+            "Script file of the second run",
             is_required,
         )
     }
@@ -232,7 +263,7 @@ impl<'a> ArgList<'a> {
         self.file(
             "script",
             "SCRIPT",
-            "The file of the script's lines, as agc takes it",
+            "Script file: a line for each event, in order of their machine cycles",
             is_required,
         )
     }
@@ -242,7 +273,7 @@ impl<'a> ArgList<'a> {
             self.alloc,
             "limit",
             "N",
-            "Stop at this cycle: decimal, 1 to 1000000000000",
+            "Stop at this machine cycle (85,333 a second): decimal, 1 to 1000000000000",
         )
         .required(true);
         self.with(arg)
@@ -252,7 +283,7 @@ impl<'a> ArgList<'a> {
         self.option(
             "until",
             "BANK,ADDR",
-            "Stop before the order at this address runs: octal, BANK 0 to 47, ADDR 0 to 7777",
+            "Stop before the order here runs: octal, BANK 0 to 47, ADDR 0 to 7777",
         )
     }
 
@@ -261,7 +292,7 @@ impl<'a> ArgList<'a> {
         self.option(
             "until",
             "BANK,ADDR",
-            "Stop before the order at this address runs: octal, BANK 0 to 47, ADDR 0 to 7777, or a name of --names",
+            "Stop before the order here runs: octal, BANK 0 to 47, ADDR 0 to 7777, or a name",
         )
     }
 
@@ -274,7 +305,7 @@ impl<'a> ArgList<'a> {
             self.alloc,
             "only",
             "KIND",
-            "Print these lines and the stop's: orders that write to a channel, interrupts and RESUMEs, or orders that jump",
+            "Print only orders that write to channels, only interrupts and RESUMEs, or only jumps",
         )
         .value_parser(KINDS.as_slice());
         self.with(arg)
@@ -284,7 +315,7 @@ impl<'a> ArgList<'a> {
         self.repeated(
             "at",
             "PLACES",
-            "Print the orders at these places and the stop: 4100, 05,2071, E3,1400, or two of a bank as 4100-4177, or names of --names; may be said again",
+            "Print only orders here: octal 4100, 05,2071, E3,1400 or 4100-4177, or names; repeatable",
         )
     }
 
@@ -292,7 +323,7 @@ impl<'a> ArgList<'a> {
         self.repeated(
             "order",
             "NAME",
-            "Print the orders of this mnemonic and the stop; may be said again",
+            "Print only orders of this mnemonic, in capitals; repeatable",
         )
     }
 
@@ -300,7 +331,7 @@ impl<'a> ArgList<'a> {
         self.repeated(
             "channel",
             "CCC",
-            "Print the orders that read or write this channel and the stop: octal, 0 to 777; may be said again",
+            "Print only orders that read or write this channel: octal, 0 to 777, or a name; repeatable",
         )
     }
 
@@ -308,7 +339,7 @@ impl<'a> ArgList<'a> {
         self.repeated(
             "cell",
             "PLACES",
-            "Print what gives one of these erasable cells another word and the stop: 0100, E3,1400, or two of a bank as 0100-0107, or names of --names; may be said again",
+            "Print only changes of these cells: octal 0100, E3,1400 or 0100-0107, or names; repeatable",
         )
     }
 
@@ -316,16 +347,12 @@ impl<'a> ArgList<'a> {
         self.number(
             "last",
             "N",
-            "Print the last N of these lines alone, where the run has come to its end",
+            "Print only the last N of these lines, at the end of the run: decimal",
         )
     }
 
-    fn names_option(self) -> ArgList<'a> {
-        self.option(
-            "names",
-            "FILE",
-            "Print the names of places too, which this file gives: a place and its name, a line each",
-        )
+    fn names_option(self, help: &'a str) -> ArgList<'a> {
+        self.option("names", "FILE", help)
     }
 
     fn names_of_runs(self) -> ArgList<'a> {
@@ -333,33 +360,35 @@ impl<'a> ArgList<'a> {
             self.alloc,
             "names",
             "FILE",
-            "Print the names of places too, which this file gives: a place and its name, a line each; said again for the run on the right",
+            "Show names from this file: a line for each, PLACE NAME; repeat it for the second run",
         )
         .conflicts_with("by");
         self.with_tied(arg)
     }
 
-    fn names_of_stop(self) -> ArgList<'a> {
+    fn write_names_option(self) -> ArgList<'a> {
         self.option(
-            "names",
+            "write-names",
             "FILE",
-            "Take names in --until, which this file gives: a place and its name, a line each",
+            "Write the names of the source to this new file, for --names of other subcommands",
         )
     }
 
-    fn names_file(self) -> ArgList<'a> {
-        self.option(
-            "names",
-            "OUT",
-            "Write the names of the text to this file: a place and its name, a line each",
+    fn force_option(self) -> ArgList<'a> {
+        let arg = flag(
+            self.alloc,
+            "force",
+            "Let --write-names replace an existing file, except the source itself",
         )
+        .requires_arg("write-names");
+        self.with_tied(arg)
     }
 
     fn rope_file(self, is_required: bool) -> ArgList<'a> {
         self.file(
             "rope",
             "ROPE",
-            "The file of the fixed memory: 16-bit words, the high byte first",
+            "Rope file: 16-bit words, the high byte first",
             is_required,
         )
     }
@@ -368,7 +397,7 @@ impl<'a> ArgList<'a> {
         self.file(
             "text",
             "FILE",
-            "The text of a rope, as list prints it or as listings of programs are; # starts a comment",
+            "Source, or text as list prints it; # starts a comment",
             true,
         )
     }
@@ -378,7 +407,7 @@ impl<'a> ArgList<'a> {
             self.alloc,
             "form",
             "FORM",
-            "The layout of the rope file: banks 2, 3, 0, 1, 4 to 43 octal, or 0 to 43 octal with odd parity",
+            "Layout of the rope file: octal banks 2, 3, 0, 1, 4 to 43, or 0 to 43 with odd parity",
         )
         .default_value("classic")
         .value_parser(FORMS.as_slice());
@@ -389,7 +418,7 @@ impl<'a> ArgList<'a> {
         self.option(
             "keys",
             "FILE",
-            "A text of keys for agc --live, to check it too",
+            "Check this file of live keys, as agc --live reads it: at most 65536 bytes",
         )
     }
 
@@ -397,21 +426,33 @@ impl<'a> ArgList<'a> {
         self.option(
             "listing",
             "FILE",
-            "The text of a rope for weave, to check it too",
+            "Check this text of a rope, as weave reads it: at most 16777216 bytes",
         )
     }
 
     fn bank_option(self) -> ArgList<'a> {
-        self.option("bank", "BB", "List this bank alone: octal, 00 to 43")
+        self.option("bank", "BB", "List only this bank: octal, 00 to 43")
     }
 
     fn source_option(self) -> ArgList<'a> {
         let arg = flag(
             self.alloc,
             "source",
-            "Print a source that weaves to the rope again: orders without places and words",
+            "Print a source, without places and words, that weave turns back into the rope",
         )
         .conflicts_with("names");
+        self.with_tied(arg)
+    }
+
+    fn style_option(self) -> ArgList<'a> {
+        let arg = option(
+            self.alloc,
+            "style",
+            "STYLE",
+            "Print a page in the language of the flight listings, with names in the first column",
+        )
+        .value_parser(STYLES.as_slice())
+        .conflicts_with("source");
         self.with_tied(arg)
     }
 }

@@ -3,6 +3,7 @@
 
 mod arg_list;
 mod command_line;
+mod mistakes;
 mod profile;
 mod questions;
 mod runs;

@@ -1,64 +1,20 @@
-//! Parses the repeatable filters of a trace: locations, mnemonics, channels and cells.
+//! Parses the repeatable filters of a trace: mnemonics and channels, and the texts of locations and cells.
 use agc_asm::is_order;
+use agc_check::nearest_order;
 use agc_cli::ArgsFault;
-use agc_listing::LocationRange;
 use agc_word::read_octal;
 use clap::ArgMatches;
 use std::alloc::{AllocError, Global};
 
-/// Parses the values of `--at`. With a symbol file they are parsed later.
-pub(crate) fn places_of(
-    alloc: Global,
-    given: &ArgMatches<'_>,
-) -> Result<Vec<LocationRange>, ArgsFault> {
-    match (given.get_strs("at"), given.get_str("names")) {
-        (Some(texts), None) => places_in(alloc, texts),
-        _ => Ok(Vec::new(alloc)),
-    }
-}
-
-fn places_in(alloc: Global, texts: &[&str]) -> Result<Vec<LocationRange>, ArgsFault> {
-    let mut several = Vec::new(alloc);
-    for text in texts {
-        match LocationRange::named(text.as_bytes()) {
-            Ok(places) => push(&mut several, places)?,
-            Err(fault) => return Err(refused(alloc, text, "--at <PLACES>", fault.name())),
-        }
-    }
-    Ok(several)
-}
-
-/// Parses the values of `--cell`. With a symbol file they are parsed later.
-pub(crate) fn cells_of(
-    alloc: Global,
-    given: &ArgMatches<'_>,
-) -> Result<Vec<LocationRange>, ArgsFault> {
-    match (given.get_strs("cell"), given.get_str("names")) {
-        (Some(texts), None) => cells_in(alloc, texts),
-        _ => Ok(Vec::new(alloc)),
-    }
-}
-
-fn cells_in(alloc: Global, texts: &[&str]) -> Result<Vec<LocationRange>, ArgsFault> {
-    let mut several = Vec::new(alloc);
-    for text in texts {
-        match LocationRange::of_cells(text.as_bytes()) {
-            Ok(places) => push(&mut several, places)?,
-            Err(fault) => return Err(refused(alloc, text, "--cell <PLACES>", fault.name())),
-        }
-    }
-    Ok(several)
-}
-
-/// Returns the values of an option that are parsed later with the symbol file.
+/// Returns the values of an option that are parsed later, with the symbol file.
 pub(crate) fn texts_of(
     alloc: Global,
     given: &ArgMatches<'_>,
     id: &str,
 ) -> Result<Vec<String>, AllocError> {
-    match (given.get_strs(id), given.get_str("names")) {
-        (Some(texts), Some(_)) => texts_in(alloc, texts),
-        _ => Ok(Vec::new(alloc)),
+    match given.get_strs(id) {
+        Some(texts) => texts_in(alloc, texts),
+        None => Ok(Vec::new(alloc)),
     }
 }
 
@@ -69,6 +25,9 @@ fn texts_in(alloc: Global, texts: &[&str]) -> Result<Vec<String>, AllocError> {
     }
     Ok(several)
 }
+
+/// Why a text is no channel.
+pub(crate) const NO_CHANNEL: &str = "a channel is one to three octal digits, 0 to 777";
 
 /// Parses the values of `--order`.
 pub(crate) fn orders_of(alloc: Global, given: &ArgMatches<'_>) -> Result<Vec<String>, ArgsFault> {
@@ -82,27 +41,46 @@ fn orders_in(alloc: Global, texts: &[&str]) -> Result<Vec<String>, ArgsFault> {
     let mut several = Vec::new(alloc);
     for text in texts {
         if !is_order(text.as_bytes()) {
-            return Err(refused(alloc, text, "--order <NAME>", "BadOrder"));
+            return Err(no_order(alloc, text));
         }
         push(&mut several, String::from_str(alloc, text)?)?;
     }
     Ok(several)
 }
 
-/// Parses the values of `--channel`.
-pub(crate) fn channels_of(alloc: Global, given: &ArgMatches<'_>) -> Result<Vec<u16>, ArgsFault> {
-    match given.get_strs("channel") {
-        Some(texts) => channels_in(alloc, texts),
-        None => Ok(Vec::new(alloc)),
+/// Returns the error for a text that is no mnemonic, with the nearest one.
+fn no_order(alloc: Global, text: &str) -> ArgsFault {
+    match no_order_text(alloc, text) {
+        Ok(why) => refused(alloc, text, "--order <NAME>", why.as_str()),
+        Err(AllocError) => ArgsFault::Memory,
     }
 }
 
-fn channels_in(alloc: Global, texts: &[&str]) -> Result<Vec<u16>, ArgsFault> {
+fn no_order_text(alloc: Global, text: &str) -> Result<String, AllocError> {
+    let near = nearest_order(alloc, text.as_bytes())?;
+    format!(in alloc; "no such order{near}")
+}
+
+/// Parses the values of `--channel` that are numbers.
+pub(crate) fn channels_of(alloc: Global, given: &ArgMatches<'_>) -> Result<Vec<u16>, AllocError> {
     let mut several = Vec::new(alloc);
-    for text in texts {
-        match read_octal(3, text.as_bytes()) {
-            Some(channel) => push(&mut several, channel as u16)?,
-            None => return Err(refused(alloc, text, "--channel <CCC>", "BadChannel")),
+    for text in given.get_strs("channel").unwrap_or(&[]) {
+        if let Some(channel) = read_octal(3, text.as_bytes()) {
+            push(&mut several, channel as u16)?;
+        }
+    }
+    Ok(several)
+}
+
+/// Returns the values of `--channel` that are no numbers; they are parsed later, with the symbol file.
+pub(crate) fn channel_names_of(
+    alloc: Global,
+    given: &ArgMatches<'_>,
+) -> Result<Vec<String>, AllocError> {
+    let mut several = Vec::new(alloc);
+    for text in given.get_strs("channel").unwrap_or(&[]) {
+        if read_octal(3, text.as_bytes()).is_none() {
+            push(&mut several, String::from_str(alloc, text)?)?;
         }
     }
     Ok(several)

@@ -1,5 +1,5 @@
 //! Parses the options `--by` and `--brief` of `compare`; `--by channel NUMBER` takes two words.
-use crate::questions::{push, refused};
+use crate::questions::{NO_CHANNEL, push, refused};
 use agc_cli::ArgsFault;
 use agc_diff::DiffBy;
 use agc_study_args::ObservedArgs;
@@ -78,10 +78,10 @@ fn what_of(text: &str) -> Result<DiffBy, &'static str> {
     match text {
         "writes" => Ok(DiffBy::Writes),
         "panels" => Ok(DiffBy::Panels),
-        "channel" => Err("BadChannel"),
+        "channel" => Err("channel needs a number after it, as in --by channel 10"),
         _ => match text.strip_prefix("channel ") {
             Some(number) => channel_of(number),
-            None => Err("BadKind"),
+            None => Err("compare by writes, panels or channel CCC"),
         },
     }
 }
@@ -90,6 +90,6 @@ fn what_of(text: &str) -> Result<DiffBy, &'static str> {
 fn channel_of(number: &str) -> Result<DiffBy, &'static str> {
     match read_octal(3, number.as_bytes()) {
         Some(channel) => Ok(DiffBy::Channel(channel as u16)),
-        None => Err("BadChannel"),
+        None => Err(NO_CHANNEL),
     }
 }

@@ -1,7 +1,8 @@
 //! Parses the words of a command line into the arguments of a subcommand.
 use crate::command_line::command;
+use crate::mistakes::without_tip;
 use crate::profile::profile_args;
-use crate::questions::{cells_of, channels_of, orders_of, places_of, texts_of};
+use crate::questions::{channel_names_of, channels_of, orders_of, texts_of};
 use crate::runs::{files_of, other_files_of, run_of};
 use crate::shown::{shown_of, with_channels_joined};
 use crate::watched::watching_of;
@@ -57,14 +58,14 @@ fn asked_by_joined(alloc: Global, words: &[&str]) -> Result<Args, ArgsFault> {
     let command = command(alloc)?;
     match command.try_get_matches_from(words) {
         Ok(matches) => asked_in(alloc, &matches),
-        Err(error) => Err(fault_of(alloc, &error)),
+        Err(error) => Err(without_tip(alloc, fault_of(alloc, &error))),
     }
 }
 
 fn asked_in(alloc: Global, matches: &ArgMatches<'_>) -> Result<Args, ArgsFault> {
     match matches.subcommand() {
         Some((name, given)) => asked_as(alloc, name, given),
-        None => Err(mistake(alloc, "error: a subcommand is required\n")),
+        None => Err(mistake(alloc, "error: a subcommand is required: see --help\n")),
     }
 }
 
@@ -79,7 +80,7 @@ fn asked_as(alloc: Global, name: &str, given: &ArgMatches<'_>) -> Result<Args, A
         "jobs" => watching_of(alloc, given),
         "compare" => comparing_of(alloc, given),
         "film" => filming_of(alloc, given),
-        _ => Err(mistake(alloc, "error: there is no such subcommand\n")),
+        _ => Err(mistake(alloc, "error: no such subcommand: see --help\n")),
     }
 }
 
@@ -98,6 +99,7 @@ fn listing_of(alloc: Global, given: &ArgMatches<'_>) -> Result<Args, ArgsFault> 
         bank: text_of(alloc, given, "bank")?,
         names: text_of(alloc, given, "names")?,
         source: given.get_flag("source"),
+        yul: text_of(alloc, given, "style")?.is_some(),
     }))
 }
 
@@ -105,7 +107,8 @@ fn weaving_of(alloc: Global, given: &ArgMatches<'_>) -> Result<Args, ArgsFault> 
     Ok(Args::Weave(WeaveArgs {
         text: path_of(alloc, given, "text")?,
         form: form_of(given),
-        names: text_of(alloc, given, "names")?,
+        write_names: text_of(alloc, given, "write-names")?,
+        force: given.get_flag("force"),
     }))
 }
 
@@ -116,7 +119,7 @@ fn checking_of(alloc: Global, given: &ArgMatches<'_>) -> Result<Args, ArgsFault>
     if run.is_none() && keys.is_none() && listing.is_none() {
         return Err(mistake(
             alloc,
-            "error: check needs a ROPE and a SCRIPT, or --keys or --listing\n",
+            "error: nothing to check: give ROPE SCRIPT, --keys FILE or --listing FILE\n",
         ));
     }
     Ok(Args::Check(CheckArgs {
@@ -140,7 +143,7 @@ fn checked_run_of(
         (None, None) => Ok(None),
         (Some(_), None) | (None, Some(_)) => Err(mistake(
             alloc,
-            "error: check needs a SCRIPT beside its ROPE\n",
+            "error: check needs a SCRIPT after its ROPE\n",
         )),
     }
 }
@@ -156,20 +159,22 @@ fn tracing_of(alloc: Global, given: &ArgMatches<'_>) -> Result<Args, ArgsFault> 
         selection: selection_of(alloc, given)?,
         at: texts_of(alloc, given, "at")?,
         cell: texts_of(alloc, given, "cell")?,
+        channel: channel_names_of(alloc, given)?,
         names: text_of(alloc, given, "names")?,
     }))
 }
 
-/// Parses which lines of a trace are printed.
+/// Parses which lines of a trace are printed; `--at` and `--cell` are parsed later, with the symbol file.
 fn selection_of(alloc: Global, given: &ArgMatches<'_>) -> Result<Selection, ArgsFault> {
+    let Span { from, to } = span_of(alloc, given)?;
     Ok(Selection {
-        from: number_of(given, "from", 0),
-        to: number_of(given, "to", u64::MAX),
+        from,
+        to,
         only: only_of(given),
-        places: places_of(alloc, given)?,
+        places: Vec::new(alloc),
         orders: orders_of(alloc, given)?,
         channels: channels_of(alloc, given)?,
-        cells: cells_of(alloc, given)?,
+        cells: Vec::new(alloc),
         last: given.get_one::<u64>("last"),
     })
 }
@@ -199,7 +204,10 @@ fn other_names_of(alloc: Global, given: &ArgMatches<'_>) -> Result<Option<String
     match given.get_strs("names") {
         None | Some([_]) => Ok(None),
         Some([_, right]) => Ok(Some(String::from_str(alloc, right)?)),
-        Some(_) => Err(mistake(alloc, "error: compare takes --names once, or twice\n")),
+        Some(_) => Err(mistake(
+            alloc,
+            "error: too many --names: compare takes one for both runs, or one for each\n",
+        )),
     }
 }
 
@@ -223,7 +231,7 @@ fn other_run_of(alloc: Global, given: &ArgMatches<'_>) -> Result<Option<RunFiles
         (None, None) => Ok(None),
         (Some(_), None) | (None, Some(_)) => Err(mistake(
             alloc,
-            "error: the other run needs a SCRIPT beside its ROPE\n",
+            "error: the second ROPE needs a SCRIPT after it\n",
         )),
     }
 }
@@ -239,7 +247,7 @@ pub(crate) fn span_of(alloc: Global, given: &ArgMatches<'_>) -> Result<Span, Arg
     let from = number_of(given, "from", 0);
     let to = number_of(given, "to", u64::MAX);
     if to < from {
-        let text = format!(in alloc; "{NAME}: no cycle is from {from} to {to}\n")?;
+        let text = format!(in alloc; "{NAME}: empty range: --to {to} is before --from {from}\n")?;
         return Err(ArgsFault::Command(text));
     }
     Ok(Span { from, to })

@@ -1,4 +1,6 @@
 //! Tests of listings, traces, profiles, comparisons, films and reports, worked out by hand.
+ghost use Rattle.std.specs.Prelude.{◌≡◌, false};
+
 mod check;
 mod compare;
 mod count;
@@ -6,6 +8,7 @@ mod film;
 mod jobs;
 mod misnamed;
 mod names;
+mod page_lines;
 mod progress;
 mod rope_listing;
 mod source;
@@ -34,11 +37,20 @@ fn rope_of(rt: &(impl AllocGlobal + Abort), listing: &str) -> Rope {
 }
 
 /// Returns the machine of a listing and a script at the start of a run up to a limit of cycles.
-fn machine_of(rt: &(impl AllocGlobal + Abort), listing: &str, script: &str, limit: u64) -> Machine {
+fn machine_of(rt: &(impl AllocGlobal + Abort), listing: &str, script: &str, limit: u64) -> Machine
+    ensures { result.begun ≡ false }
+{
     let script = Script::parse(rt.alloc(), script.as_bytes())
         .ok()
         .expect(rt, "a script");
-    Machine::new(rope_of(rt, listing), script, limit)
+    let machine = new_machine(rt, rope_of(rt, listing), script, limit);
+    assert!(rt; machine.fresh());
+    machine
+}
+
+/// Returns the machine of a rope. It has no contract, so that the contract above rests on `fresh` alone.
+fn new_machine(rt: &impl Abort, rope: Rope, script: Script, limit: u64) -> Machine {
+    Machine::new(rope, script, limit)
         .ok()
         .expect(rt, "the limit is in range")
 }

@@ -16,7 +16,7 @@ static ROPE: [u8; 4] = [0x70, 0x08, 0x00, 0x0C];
 
 /// The report on that rope.
 const HOLDS: &str = "rope: words 2, banks 1
-    at these interrupt vectors stands +0, and a run goes astray there: 4004 4010 4014 4020 4024 4030 4034 4040 4044 4050
+    these interrupt vectors are empty, and an interrupt there runs off into the registers: 4004 4010 4014 4020 4024 4030 4034 4040 4044 4050
 ";
 
 fn report(rt: &(impl AllocGlobal + Abort), form: RopeForm, rope: &[u8], script: &[u8]) -> Report {
@@ -71,40 +71,40 @@ fn lines_and_cycles(rt: HostRuntime) {
         &[
             (
                 b"10 key \xC3\xA4",
-                "script line 1: NotAscii\n    10 key \\303\\244\n    `\\303\\244` is not ASCII: no byte of a script is 200 octal or above\n",
+                "script line 1: NotAscii\n    10 key \\303\\244\n    `\\303\\244` is not ASCII, from byte 8 of the line on: scripts are ASCII, comments too\n",
             ),
             // 177 octal is the last byte of ASCII, and 200 the first beyond it
             (
                 b"10 \x7F \x80 \x81",
-                "script line 1: NotAscii\n    10 \\177 \\200 \\201\n    `\\200` is not ASCII: no byte of a script is 200 octal or above\n",
+                "script line 1: NotAscii\n    10 \\177 \\200 \\201\n    `\\200` is not ASCII, from byte 6 of the line on: scripts are ASCII, comments too\n",
             ),
             (
                 b"every 5 x 9 key 1\n",
-                "script line 1: BadCycle\n    every 5 x 9 key 1\n    `x` is no cycle: 1 to 13 decimal digits, 1000000000000 at most\n",
+                "script line 1: BadCycle\n    every 5 x 9 key 1\n    `x` is not a cycle: 1 to 13 decimal digits, at most 1000000000000\n",
             ),
             (
                 b"every y x z key 1\n",
-                "script line 1: BadCycle\n    every y x z key 1\n    `y` is no cycle: 1 to 13 decimal digits, 1000000000000 at most\n",
+                "script line 1: BadCycle\n    every y x z key 1\n    `y` is not a cycle: 1 to 13 decimal digits, at most 1000000000000\n",
             ),
             (
                 b"every 5 7 z w\n",
-                "script line 1: BadCycle\n    every 5 7 z w\n    `z` is no cycle: 1 to 13 decimal digits, 1000000000000 at most\n",
+                "script line 1: BadCycle\n    every 5 7 z w\n    `z` is not a cycle: 1 to 13 decimal digits, at most 1000000000000\n",
             ),
             (
                 b"1000000000001 key 1\n",
-                "script line 1: BadCycle\n    1000000000001 key 1\n    `1000000000001` is no cycle: 1 to 13 decimal digits, 1000000000000 at most\n",
+                "script line 1: BadCycle\n    1000000000001 key 1\n    `1000000000001` is not a cycle: 1 to 13 decimal digits, at most 1000000000000\n",
             ),
             (
                 b"10 key 1\nevery 1 20 30 key 2\n# 7\n5 key 3\n",
-                "script line 4: OutOfOrder\n    5 key 3\n    `5` is too early: the event line before starts at 20\n",
+                "script line 4: OutOfOrder\n    5 key 3\n    `5` is too early: the event line before starts at 20, and cycles must rise\n",
             ),
             (
                 b"10 key 1\nevery 30 9 40 key 2\n",
-                "script line 2: OutOfOrder\n    every 30 9 40 key 2\n    `9` is too early: the event line before starts at 10\n",
+                "script line 2: OutOfOrder\n    every 30 9 40 key 2\n    `9` is too early: the event line before starts at 10, and cycles must rise\n",
             ),
             (
                 b"every 0 5 9 key 1\n",
-                "script line 1: OutOfRange\n    every 0 5 9 key 1\n    `0` is no distance of cycles: 1 at least\n",
+                "script line 1: OutOfRange\n    every 0 5 9 key 1\n    `0` is not a distance of cycles: at least 1\n",
             ),
             (
                 b"every 1 9 5 key 1\n",
@@ -112,7 +112,7 @@ fn lines_and_cycles(rt: HostRuntime) {
             ),
             (
                 b"every 1 0 65536 key 1\n",
-                "script line 1: TooMany\n    every 1 0 65536 key 1\n    a script has 65536 events at most, and with this line it has more\n",
+                "script line 1: TooMany\n    every 1 0 65536 key 1\n    a script has at most 65536 events; this line makes it more\n",
             ),
         ],
     );
@@ -125,43 +125,43 @@ fn names(rt: HostRuntime) {
         &[
             (
                 b"# a comment\n\n20\tkye VERB",
-                "script line 3: UnknownWord\n    20\tkye VERB\n    `kye` is no command; the nearest is `key`\n",
+                "script line 3: UnknownWord\n    20\tkye VERB\n    unknown command `kye`; did you mean `key`?\n",
             ),
             (
                 b"20 key VREB",
-                "script line 1: UnknownWord\n    20 key VREB\n    `VREB` is no key; the nearest is `VERB`\n",
+                "script line 1: UnknownWord\n    20 key VREB\n    unknown key `VREB`; did you mean `VERB`?\n",
             ),
             (
                 b"every 5 20 30 pro dwn",
-                "script line 1: UnknownWord\n    every 5 20 30 pro dwn\n    `dwn` is no direction of PRO; the nearest is `down`\n",
+                "script line 1: UnknownWord\n    every 5 20 30 pro dwn\n    unknown direction of PRO `dwn`; did you mean `down`?\n",
             ),
             (
                 b"20 pulse 24 pnic",
-                "script line 1: UnknownWord\n    20 pulse 24 pnic\n    `pnic` is no kind of pulse; the nearest is `pinc`\n",
+                "script line 1: UnknownWord\n    20 pulse 24 pnic\n    unknown kind of pulse `pnic`; did you mean `pinc`?\n",
             ),
             (
                 b"20 key PRO",
-                "script line 1: UnknownWord\n    20 key PRO\n    `PRO` has no code: the lines `pro down` and `pro up` press it and let it go\n",
+                "script line 1: UnknownWord\n    20 key PRO\n    `PRO` has no key code: use `pro down` and `pro up`\n",
             ),
             (
                 b"20 key Proceed",
-                "script line 1: UnknownWord\n    20 key Proceed\n    `Proceed` has no code: the lines `pro down` and `pro up` press it and let it go\n",
+                "script line 1: UnknownWord\n    20 key Proceed\n    `Proceed` has no key code: use `pro down` and `pro up`\n",
             ),
             (
                 b"20 every 5 20 30 key VERB",
-                "script line 1: UnknownWord\n    20 every 5 20 30 key VERB\n    `every` stands first, in place of the cycle: `every N FROM TO` and the command\n",
+                "script line 1: UnknownWord\n    20 every 5 20 30 key VERB\n    `every` replaces the cycle: write `every N FROM TO`, then the command\n",
             ),
             (
                 b"20 pulse 24",
-                "script line 1: UnknownWord\n    20 pulse 24\n    `pulse COUNTER KIND` is right: here is 1 word after the command\n",
+                "script line 1: UnknownWord\n    20 pulse 24\n    write `pulse COUNTER KIND`: here is 1 word after the command\n",
             ),
             (
                 b"20 key",
-                "script line 1: UnknownWord\n    20 key\n    `key NAME` is right: here are 0 words after the command\n",
+                "script line 1: UnknownWord\n    20 key\n    write `key NAME`: here are 0 words after the command\n",
             ),
             (
                 b"every 5 20",
-                "script line 1: UnknownWord\n    every 5 20\n    `every N FROM TO` wants these three cycles and a command after them\n",
+                "script line 1: UnknownWord\n    every 5 20\n    `every N FROM TO` needs these three cycles and a command after them\n",
             ),
             (
                 b"20",
@@ -178,11 +178,11 @@ fn numbers(rt: HostRuntime) {
         &[
             (
                 b"0 poke 8 400 1",
-                "script line 1: BadNumber\n    0 poke 8 400 1\n    `8` is no number: 1 to 6 digits, 0 to 7 octal\n",
+                "script line 1: BadNumber\n    0 poke 8 400 1\n    `8` is not a number: 1 to 6 digits, 0 to 7 octal\n",
             ),
             (
                 b"0 raise A",
-                "script line 1: BadNumber\n    0 raise A\n    `A` is no number: 1 to 6 digits, 1 to 10 decimal\n",
+                "script line 1: BadNumber\n    0 raise A\n    `A` is not a number: 1 to 6 digits, 1 to 10 decimal\n",
             ),
             (
                 b"0 input 1000 1",
@@ -220,7 +220,7 @@ fn numbers_after_every(rt: HostRuntime) {
             ),
             (
                 b"every 9 0 99 raise 9A",
-                "script line 1: BadNumber\n    every 9 0 99 raise 9A\n    `9A` is no number: 1 to 6 digits, 1 to 10 decimal\n",
+                "script line 1: BadNumber\n    every 9 0 99 raise 9A\n    `9A` is not a number: 1 to 6 digits, 1 to 10 decimal\n",
             ),
             (
                 b"every 100 0 1000 poke 0 7 1",
@@ -247,7 +247,7 @@ fn a_long_line_is_cut(rt: HostRuntime) {
         &[
             "script line 1: LineTooLong\n    ",
             cut.as_str(),
-            " ..\n    the line has 121 bytes, and 120 are the most\n",
+            " ..\n    the line has 121 bytes; at most 120 are allowed, comments included\n",
         ],
     );
     told(&rt, script.as_slice(), text.as_str(), false);
@@ -266,22 +266,22 @@ fn ropes_at_fault(rt: HostRuntime) {
         (
             RopeForm::Classic,
             b"",
-            "rope: Empty\n    the file has no bytes, and a rope has a word at least: two bytes\nscript: events 0\n",
+            "rope: Empty\n    the file is empty; a rope has at least one word, of two bytes\nscript: events 0\n",
         ),
         (
             RopeForm::Classic,
             b"abc",
-            "rope: OddLength\n    the file has 3 bytes, and each word has two\nscript: events 0\n",
+            "rope: OddLength\n    the file has 3 bytes; the count must be even, two bytes a word\nscript: events 0\n",
         ),
         (
             RopeForm::Classic,
             long.as_slice(),
-            "rope: TooLong\n    the file has 73730 bytes, and 73728 are the most: 36 banks of 1024 words\nscript: events 0\n",
+            "rope: TooLong\n    the file has 73730 bytes; at most 73728 are allowed: 36 banks of 1024 words\nscript: events 0\n",
         ),
         (
             RopeForm::Parity,
             ROPE.as_slice(),
-            "rope: Parity\n    the word at 00,2000 is 34004 with parity bit 0: 4 one bits, and they should be odd\nscript: events 0\n",
+            "rope: Parity\n    the word at 00,2000 is 34004 with parity bit 0: 4 one bits; the count must be odd\nscript: events 0\n",
         ),
     ];
     for (form, rope, text) in ropes {
@@ -313,19 +313,19 @@ fn vectors_without_an_order(rt: HostRuntime) {
         (SERVED, "rope: words 10, banks 1\n"),
         (
             "4010 50017\n4014 50017\n4020 50017\n4024 50017\n4030 50017\n4034 50017\n4040 50017\n4044 50017\n4050 50017\n",
-            "rope: words 9, banks 1\n    at these interrupt vectors stands +0, and a run goes astray there: 4004\n",
+            "rope: words 9, banks 1\n    these interrupt vectors are empty, and an interrupt there runs off into the registers: 4004\n",
         ),
         (
             "4004 50017\n4010 50017\n4014 50017\n4020 50017\n4024 50017\n4030 50017\n4034 50017\n4040 50017\n4044 50017\n",
-            "rope: words 9, banks 1\n    at these interrupt vectors stands +0, and a run goes astray there: 4050\n",
+            "rope: words 9, banks 1\n    these interrupt vectors are empty, and an interrupt there runs off into the registers: 4050\n",
         ),
         (
             "4010 50017\n4014 50017\n4020 50017\n4024 50017\n4030 50017\n4034 50017\n4040 50017\n4044 50017\n",
-            "rope: words 8, banks 1\n    at these interrupt vectors stands +0, and a run goes astray there: 4004 4050\n",
+            "rope: words 8, banks 1\n    these interrupt vectors are empty, and an interrupt there runs off into the registers: 4004 4050\n",
         ),
         (
             "4004 77777\n4010 00000\n4011 50017\n4013 50017\n00,2010 50017\n4014 00001\n4020 00001\n4024 00001\n4030 00001\n4034 00001\n4040 00001\n4044 00001\n4050 00001\n",
-            "rope: words 12, banks 2\n    at these interrupt vectors stands +0, and a run goes astray there: 4010\n",
+            "rope: words 12, banks 2\n    these interrupt vectors are empty, and an interrupt there runs off into the registers: 4010\n",
         ),
     ] {
         rope_holds(&rt, text, told);
@@ -378,19 +378,19 @@ fn key_texts(rt: HostRuntime) {
         (b"VERB 3 7\r\nNOUN\tENTR\n", "keys: 5\n"),
         (
             b"VERB 3 vreb X\n",
-            "keys: BadKey\n    word 3: `vreb` is no key; the nearest is `VERB`\n",
+            "keys: BadKey\n    word 3: unknown key `vreb`; did you mean `VERB`?\n",
         ),
         (
             b"\n  37\nVERB",
-            "keys: BadKey\n    word 1: `37` is no key; the nearest is `3`\n",
+            "keys: BadKey\n    word 1: unknown key `37`; did you mean `3`?\n",
         ),
         (
             b"VERB PRO",
-            "keys: BadKey\n    word 2: `PRO` belongs into the script: the lines `pro down` and `pro up` press it and let it go\n",
+            "keys: BadKey\n    word 2: `PRO` is not a key of this file: press it in the script, by `pro down` and `pro up`\n",
         ),
         (
             b"VERB \xC3",
-            "keys: BadKey\n    word 2: `\\303` is no key; the nearest is `0`\n",
+            "keys: BadKey\n    word 2: unknown key `\\303`; did you mean `0`?\n",
         ),
     ];
     for (text, told) in texts {
@@ -406,9 +406,9 @@ fn a_long_key_is_cut(rt: HostRuntime) {
     let text = joined(
         &rt,
         &[
-            "keys: BadKey\n    word 1: `",
+            "keys: BadKey\n    word 1: unknown key `",
             cut.as_str(),
-            "` is no key; the nearest is `VERB`\n",
+            "`; did you mean `VERB`?\n",
         ],
     );
     keys_tell(&rt, keys.as_slice(), text.as_str());
@@ -423,29 +423,37 @@ fn listing_tells(rt: &(impl AllocGlobal + Abort), listing: &[u8], text: &str) {
 /// Texts for `weave`: no fault, or the faulty line and word.
 #[test]
 fn listings(rt: HostRuntime) {
-    let texts: [(&[u8], &str); 12] = [
+    let texts: [(&[u8], &str); 14] = [
         (b"", "text: no fault\n"),
         (b"START CA PROG\nPROG OCT 54171", "text: no fault\n"),
         (
             b"START CA PROG\n",
-            "text line 1: no line has this name\n    START CA PROG\n    `PROG` is no name of a line; the nearest is `START`\n",
+            "text line 1: no line has this name\n    START CA PROG\n    unknown name `PROG`; did you mean `START`?\n",
         ),
         (
             b"START CAA 4000 # one\n",
-            "text line 1: no order or directive has this name; it stands after the first column\n    START CAA 4000 # one\n    `CAA` is no order or directive; the nearest is `CA`\n",
+            "text line 1: no order or directive has this name; it stands after the first column\n    START CAA 4000 # one\n    unknown order or directive `CAA`; did you mean `CA`?\n",
         ),
         (
             b"# here\nSTART # alone\n",
-            "text line 2: no order or directive has this name; it stands after the first column\n    START # alone\n    the order is missing: it stands after the name\n",
+            "text line 2: no order or directive has this name; it stands after the first column\n    START # alone\n    the order is missing: write it after the name\n",
+        ),
+        (
+            b"SETLOC 4000\n",
+            "text line 1: no order or directive has this name; it stands after the first column\n    SETLOC 4000\n    `SETLOC` is in the first column, where names are: begin the line with a blank\n",
+        ),
+        (
+            b" CA ONE\n CA 1\n CA TWO\n",
+            "text line 1: no line has this name\n     CA ONE\n    `ONE` is no name of a line\ntext line 3: no line has this name\n     CA TWO\n    `TWO` is no name of a line\n",
         ),
         (b"# a rope\n4000 14000 TCF 4000", "text: no fault\n"),
         (
             b"4000 14000\n3777 00001 here\n",
-            "text line 2: BadAddress\n    3777 00001 here\n    `3777` is no place of a rope: 4000 to 7777, or a bank from 00 to 43 and an address, as 04,2000; a comment begins with #\n",
+            "text line 2: BadAddress\n    3777 00001 here\n    `3777` is not a place of a rope: 4000 to 7777, or a bank from 00 to 43 and an address, as 04,2000; start comments with #\n",
         ),
         (
             b"4000\t1010 WRITE\r\n",
-            "text line 1: BadWord\n    4000\t1010 WRITE\n    `1010` is no word: five octal digits\n",
+            "text line 1: BadWord\n    4000\t1010 WRITE\n    `1010` is not a word: five octal digits\n",
         ),
         (
             b"\n4000",
@@ -453,15 +461,15 @@ fn listings(rt: HostRuntime) {
         ),
         (
             b"4000 00001\n# again\n02,4000 00001",
-            "text line 3: NamedTwice\n    02,4000 00001\n    `02,4000` is named by an earlier line too: each place has one line\n",
+            "text line 3: NamedTwice\n    02,4000 00001\n    `02,4000` has a word from an earlier line: write each place once\n",
         ),
         (
             b"4000 00001 caf\xC3\xA9",
-            "text line 1: NotText\n    4000 00001 caf\\303\\251\n    `caf\\303\\251` has a byte that is neither a tab nor one that prints in ASCII\n",
+            "text line 1: NotText\n    4000 00001 caf\\303\\251\n    `caf\\303\\251` has a byte that is neither a tab nor printable ASCII\n",
         ),
         (
             b"# ~ \x7F",
-            "text line 1: NotText\n    # ~ \\177\n    `\\177` has a byte that is neither a tab nor one that prints in ASCII\n",
+            "text line 1: NotText\n    # ~ \\177\n    `\\177` has a byte that is neither a tab nor printable ASCII\n",
         ),
     ];
     for (text, told) in texts {
@@ -493,17 +501,12 @@ fn names_of_sources_at_fault(rt: HostRuntime) {
         &[
             (
                 "+1 OCT 1",
-                "a name has up to eight characters, one that is of no number, and no comma",
+                "a name is 1 to 8 characters, without a comma and not only digits and signs",
                 "`+1` stands before `OCT`",
             ),
             (
-                "A OCT 1",
-                "this name is taken",
-                "`A` is one of the computer's own names",
-            ),
-            (
                 "# x\nX OCT 1\n OCT 2\nX OCT 3",
-                "this name is taken",
+                "an earlier line has this name",
                 "`X` is the name of line 2",
             ),
             (
@@ -519,13 +522,9 @@ fn names_of_sources_at_fault(rt: HostRuntime) {
             (
                 "KEYIN OCT 1\n CA KEYNI # a key",
                 "no line has this name",
-                "`KEYNI` is no name of a line; the nearest is `KEYIN`",
+                "unknown name `KEYNI`; did you mean `KEYIN`?",
             ),
-            (
-                " CA KEYIN",
-                "no line has this name",
-                "`KEYIN` is no name of a line",
-            ),
+            (" CA KEYIN", "no line has this name", "unknown name `KEYIN`"),
         ],
     );
 }
@@ -543,7 +542,7 @@ fn orders_of_sources_at_fault(rt: HostRuntime) {
             (
                 " EXTEND\nX TCF 4000",
                 "after EXTEND, or INDEX as an extracode, this order is none",
-                "`TCF` is no extracode",
+                "`TCF` is a basic order",
             ),
             (
                 " SETLOC 7777\n OCT 1\nX OCT 2",
@@ -580,9 +579,9 @@ fn operands_of_sources_at_fault(rt: HostRuntime) {
                 "`0 +1 2` stands after `CA`",
             ),
             (
-                " CA 4000 +5000",
+                " CA 117000 +5000",
                 "there is no such place",
-                "`4000 +5000` stands after `CA`",
+                "`117000 +5000` stands after `CA`",
             ),
             (
                 " TS 4000",
@@ -611,12 +610,12 @@ fn operands_of_sources_at_fault(rt: HostRuntime) {
             ),
             (
                 " SETLOC 9",
-                "this is no place or bank: bb,oooo or En,oooo or an address that needs no bank",
+                "the operand is missing, not wanted, or of another form",
                 "`9` stands after `SETLOC`",
             ),
             (
                 " DEC 16384",
-                "this is no number of the form that is wanted here",
+                "the number is too large: DEC takes integers up to 16383 and fractions below 1",
                 "`16384` stands after `DEC`",
             ),
         ],

@@ -56,7 +56,7 @@ fn the_same(rt: HostRuntime) {
     let text = report(&rt, (PROG, ""), (PROG, ""));
     assert_eq!(rt;
         text.as_str(),
-        "The runs are the same: 7 boundaries, 1 writes, stop at cycle 8\n"
+        "The runs are the same: 7 boundaries, 1 write, stop at cycle 8\n"
     );
 }
 

@@ -2,8 +2,8 @@
 use super::same;
 use agc_listing::{Location, LocationRange, RangeFault};
 use agc_symbols::{
-    NameFault, SymbolFileFault, SymbolTable, SymbolTableFault, push_column, push_name_line,
-    push_named, read_names, resolve, resolve_cells, resolve_range, text_with_names,
+    NameFault, SymbolFileFault, SymbolTable, SymbolTableFault, push_channel_line, push_column,
+    push_name_line, push_named, read_names, resolve, resolve_cells, resolve_range, text_with_names,
 };
 use std::process::Abort;
 
@@ -55,12 +55,39 @@ fn each_fault_is_told(rt: HostRuntime) {
         ("4000", 1, NameFault::BadName),
         ("4000 NINECHARS", 1, NameFault::BadName),
         ("4000 A\n4001 B C", 2, NameFault::MoreWords),
+        ("C8 A", 1, NameFault::BadPlace),
+        ("C1000 A", 1, NameFault::BadPlace),
+        ("C15", 1, NameFault::BadName),
+        ("C15 +1", 1, NameFault::BadName),
+        ("4000 A\nC15 B C", 2, NameFault::MoreWords),
     ] {
         let mut bytes = text.as_bytes();
         let refused = read_names(rt.alloc(), &mut bytes).err();
         let trouble = SymbolTableFault::Line(line, fault);
         same(&rt, refused, Some(SymbolFileFault::Names(trouble)), text);
     }
+}
+
+/// A channel is no place, and a place is no channel. The first of two channels with one name counts.
+#[test]
+fn channels_have_names(rt: HostRuntime) {
+    let text = b"C015 KEYS # from the DSKY\nE0,0100 COUNT\nC7 SUPER\nC777 KEYS\n";
+    let names = SymbolTable::read(rt.alloc(), text).ok();
+    let table = names.as_ref().expect(&rt, "names");
+    for (name, channel) in [
+        ("KEYS", Some(0o15)),
+        ("SUPER", Some(7)),
+        ("COUNT", None),
+        ("KEY", None),
+    ] {
+        same(&rt, table.channel(name.as_bytes()), channel, name);
+    }
+    same(&rt, resolve(&names, b"KEYS"), None, "a channel");
+    let mut line = Vec::new(rt.alloc());
+    push_channel_line(rt.alloc(), &mut line, 7, b"SUPER")
+        .ok()
+        .expect(&rt, "memory");
+    assert!(rt; line.as_slice() == b"C007 SUPER\n".as_slice());
 }
 
 /// Returns the lines of a symbol file with these locations and names.

@@ -1,8 +1,9 @@
 //! Tests sources of ropes; each line's word was worked out by hand from the tables of orders. The numbers are octal.
 use super::same;
-use agc_asm::{AssemblyFault, SourceFault, assemble, rope_source};
+use agc_asm::{AssemblyFault, SourceFault, assemble, rope_source, yul_source};
 use agc_listing::{LineFault, list};
 use agc_store::{Rope, RopeForm, Store};
+use agc_symbols::SymbolTable;
 use std::process::Abort;
 
 /// Assembles a source into a rope file.
@@ -191,15 +192,14 @@ fn faults_of_form(rt: HostRuntime) {
     refuses(&rt, 1, SourceFault::BadName, "NINELONGS CA 1\n");
     refuses(&rt, 1, SourceFault::BadName, "A,B CA 1\n");
     refuses(&rt, 2, SourceFault::NameTwice, "HERE CA 1\nHERE CA 1\n");
-    refuses(&rt, 1, SourceFault::NameTwice, "TIME1 CA 1\n");
     refuses(&rt, 1, SourceFault::MisplacedName, "HERE BANK 2\n");
     refuses(&rt, 1, SourceFault::MisplacedName, " = 100\n");
     refuses(&rt, 1, SourceFault::BadOperand, " CA\n");
     refuses(&rt, 1, SourceFault::BadOperand, " RELINT 3\n");
     refuses(&rt, 1, SourceFault::BadOperand, " CA 100 X\n");
-    refuses(&rt, 1, SourceFault::BadNumber, " DEC 16384\n");
+    refuses(&rt, 1, SourceFault::OutOfRange, " DEC 16384\n");
     refuses(&rt, 1, SourceFault::BadNumber, " OCT 8\n");
-    refuses(&rt, 1, SourceFault::BadPlace, " SETLOC 2000\n");
+    refuses(&rt, 1, SourceFault::BadPlace, " SETLOC\n");
     refuses(&rt, 1, SourceFault::BadPlace, " BANK 44\n");
     refuses(
         &rt,
@@ -212,12 +212,11 @@ fn faults_of_form(rt: HostRuntime) {
 #[test]
 fn faults_of_operands(rt: HostRuntime) {
     refuses(&rt, 1, SourceFault::UnknownName, " CA NOWHERE\n");
-    refuses(&rt, 1, SourceFault::NoSuchPlace, " CA 10000\n");
-    refuses(&rt, 1, SourceFault::NoSuchPlace, " CA 0 -1\n");
+    refuses(&rt, 1, SourceFault::NoSuchPlace, " CA 120000\n");
     refuses(&rt, 2, SourceFault::ErasableWanted, "HERE CA 1\n TS HERE\n");
     refuses(&rt, 1, SourceFault::ErasableWanted, " CCS 2000\n");
     refuses(&rt, 1, SourceFault::FixedWanted, " TCF A\n");
-    refuses(&rt, 1, SourceFault::FixedWanted, " CADR 4000\n");
+    refuses(&rt, 1, SourceFault::FixedWanted, " CADR 100\n");
     refuses(&rt, 2, SourceFault::ChannelWanted, " EXTEND\n READ 1000\n");
 }
 
@@ -292,4 +291,23 @@ fn a_rope_stands_as_a_source(rt: HostRuntime) {
         "        SETLOC 03,6000\n        OCT 01010\n        MASK 7777\n",
         "bank 03",
     );
+}
+
+/// A rope as a page of a listing: names in the first column, orders by their other names, places by their numbers.
+#[test]
+fn a_rope_stands_as_a_page(rt: HostRuntime) {
+    let words =
+        "05,2000 12001\n05,2001 54005\n05,2002 40000\n05,2003 00006\n05,2004 70000\n05,2005 00002\n05,2006 20000\n42,2000 52006\n";
+    let store = store_of(&rt, words);
+    let names = SymbolTable::read(rt.alloc(), "05,2000 WAIT\n".as_bytes()).ok();
+    let page = yul_source(rt.alloc(), &store, None, &names)
+        .ok()
+        .expect(&rt, "memory");
+    same(
+        &rt,
+        page.as_str(),
+        "\tSETLOC\t22000\nWAIT\tNOOP\n\tTCAA\n\tCOM\n\tEXTEND\n\tSQUARE\n\tRETURN\n\tOCT\t20000\n\tSETLOC\t114000\n\tDTCB\n",
+        "page",
+    );
+    weaves(&rt, page.as_str(), words);
 }

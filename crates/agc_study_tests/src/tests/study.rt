@@ -124,6 +124,10 @@ fn mistakes(rt: HostRuntime) {
         "agc-study trace rope --limit 10",
         "agc-study trace rope script --limit ten",
         "agc-study trace rope script --limit 10 --only orders",
+        "agc-study trace rope script --limit 10 --from 3 --to 2",
+        "agc-study trace rope script --limit 10 --order ca",
+        "agc-study trace rope script --limit 10 --at LOOP",
+        "agc-study weave text --force",
         "agc-study film rope script --limit 10 --from 3 --to 2",
         "agc-study jobs rope script --limit 10",
         "agc-study jobs rope script --limit 10 --watch 0,0,0,0,0,0,0 --from 3 --to 2",
@@ -178,11 +182,11 @@ fn troubles(rt: HostRuntime) {
         ),
         (
             "agc-study list nothing --bank 44",
-            "agc-study: bank: BadSpec\n",
+            "agc-study: no such bank: --bank is one or two octal digits, 00 to 43\n",
         ),
         (
             "agc-study list nothing --bank=8",
-            "agc-study: bank: BadSpec\n",
+            "agc-study: no such bank: --bank is one or two octal digits, 00 to 43\n",
         ),
         (
             "agc-study list nothing --names nothing",
@@ -251,12 +255,12 @@ fn files_are_checked(rt: HostRuntime) {
         (
             b"7 key 1\n",
             0,
-            "rope: words 1, banks 1\n    at these interrupt vectors stands +0, and a run goes astray there: 4004 4010 4014 4020 4024 4030 4034 4040 4044 4050\nscript: events 1, first cycle 7, last cycle 7\n",
+            "rope: words 1, banks 1\n    these interrupt vectors are empty, and an interrupt there runs off into the registers: 4004 4010 4014 4020 4024 4030 4034 4040 4044 4050\nscript: events 1, first cycle 7, last cycle 7\n",
         ),
         (
             b"7 raise 0\n",
             1,
-            "rope: words 1, banks 1\n    at these interrupt vectors stands +0, and a run goes astray there: 4004 4010 4014 4020 4024 4030 4034 4040 4044 4050\nscript line 1: OutOfRange\n    7 raise 0\n    `0` is out of range: 1 to 10 decimal\n",
+            "rope: words 1, banks 1\n    these interrupt vectors are empty, and an interrupt there runs off into the registers: 4004 4010 4014 4020 4024 4030 4034 4040 4044 4050\nscript line 1: OutOfRange\n    7 raise 0\n    `0` is out of range: 1 to 10 decimal\n",
         ),
     ];
     for (script, status, told) in scripts {
@@ -279,6 +283,7 @@ fn listing_report(rt: &(impl AllocGlobal + Abort), listing: &[u8]) -> Report {
     check_listing_file(rt.alloc(), &mut listing)
         .ok()
         .expect(rt, "a report")
+        .report
 }
 
 /// Keys and the text of a rope, each sound and faulty.
@@ -289,8 +294,8 @@ fn keys_and_listings_are_checked(rt: HostRuntime) {
         (
             b"VERB 33",
             b"4000 1400",
-            "keys: BadKey\n    word 2: `33` is no key; the nearest is `3`\n",
-            "text line 1: BadWord\n    4000 1400\n    `1400` is no word: five octal digits\n",
+            "keys: BadKey\n    word 2: unknown key `33`; did you mean `3`?\n",
+            "text line 1: BadWord\n    4000 1400\n    `1400` is not a word: five octal digits\n",
         ),
     ];
     for (keys, listing, keys_told, listing_told) in texts {
@@ -327,7 +332,7 @@ fn other_files_are_told_last(rt: HostRuntime) {
         (
             b"ENTER".as_slice(),
             1,
-            "\nscript: events 0\nkeys: BadKey\n    word 1: `ENTER` is no key; the nearest is `ENTR`\n",
+            "\nscript: events 0\nkeys: BadKey\n    word 1: unknown key `ENTER`; did you mean `ENTR`?\n",
         ),
     ] {
         ends_with(&rt, &report_with(&rt, keys), status, told);
@@ -417,9 +422,24 @@ fn is_in_line(rt: &(impl AllocGlobal + Abort), trouble: AnalysisFault, told: &st
 #[test]
 fn the_run_at_fault_is_named(rt: HostRuntime) {
     let ropes: [(&[u8], &[u8], u64, &str); 3] = [
-        (b"", &[0x30, 0x00], 2, "agc-study: rope: Empty\n"),
-        (&[0x30, 0x00], b"", 2, "agc-study: other run: rope: Empty\n"),
-        (&[0x30, 0x00], b"", 0, "agc-study: limit: Zero\n"),
+        (
+            b"",
+            &[0x30, 0x00],
+            2,
+            "agc-study: rope: Empty; agc-study check explains it\n",
+        ),
+        (
+            &[0x30, 0x00],
+            b"",
+            2,
+            "agc-study: other run: rope: Empty; agc-study check explains it\n",
+        ),
+        (
+            &[0x30, 0x00],
+            b"",
+            0,
+            "agc-study: limit: Zero; --limit is 1 to 1000000000000 cycles\n",
+        ),
     ];
     for (left, right, limit, told) in ropes {
         let trouble = compared(&rt, left, right, limit).err();
@@ -528,14 +548,18 @@ fn tables_are_watched(rt: HostRuntime) {
         (
             &[0x30, 0x00][..],
             "7,0,0,7,0,7",
-            "agc-study: watch: BadSpec\n",
+            "agc-study: watch: BadSpec; --watch is seven octal numbers with commas between them\n",
         ),
         (
             &[0x30, 0x00],
             "7,0,0,7,0,7,400",
-            "agc-study: watch: OutOfErasable\n",
+            "agc-study: watch: OutOfErasable; --watch needs tables in erasable memory, and at most 20 sets (octal)\n",
         ),
-        (&[], "7,0,0,7,0,7", "agc-study: rope: Empty\n"),
+        (
+            &[],
+            "7,0,0,7,0,7",
+            "agc-study: rope: Empty; agc-study check explains it\n",
+        ),
     ] {
         is_not_watched(&rt, &watching(&rt, watch), rope, told);
     }
@@ -551,8 +575,14 @@ fn tables_are_watched(rt: HostRuntime) {
 #[test]
 fn the_text_of_watch_is_told_before_that_of_until(rt: HostRuntime) {
     for (watch, told) in [
-        ("7,0,0,7,0,7", "agc-study: watch: BadSpec\n"),
-        ("7,0,0,7,0,7,400", "agc-study: until: BadSpec\n"),
+        (
+            "7,0,0,7,0,7",
+            "agc-study: watch: BadSpec; --watch is seven octal numbers with commas between them\n",
+        ),
+        (
+            "7,0,0,7,0,7,400",
+            "agc-study: until: BadSpec; --until is BANK,ADDR in octal, or a name of --names\n",
+        ),
     ] {
         let mut asked = watching(&rt, watch);
         asked.until = Some(owned(&rt, "7"));
@@ -586,14 +616,18 @@ fn tables_are_filmed(rt: HostRuntime) {
         (
             &[0x30, 0x00][..],
             "7,0,0,7,0,7",
-            "agc-study: watch: BadSpec\n",
+            "agc-study: watch: BadSpec; --watch is seven octal numbers with commas between them\n",
         ),
         (
             &[0x30, 0x00],
             "7,0,21,7,0,7,0",
-            "agc-study: watch: TooManySets\n",
+            "agc-study: watch: TooManySets; --watch needs tables in erasable memory, and at most 20 sets (octal)\n",
         ),
-        (&[], "7,0,0,7,0,7", "agc-study: rope: Empty\n"),
+        (
+            &[],
+            "7,0,0,7,0,7",
+            "agc-study: rope: Empty; agc-study check explains it\n",
+        ),
     ] {
         is_not_filmed(&rt, rope, watch, told);
     }

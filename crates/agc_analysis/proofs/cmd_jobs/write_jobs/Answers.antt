@@ -1,9 +1,9 @@
-use Rattle.std.proofs.Common.{◌≡◌, inl, inr, ℕ, List, Option, arith}
-use Rattle.std.specs.Io.KnownBytes.{Appends}
+use Rattle.std.proofs.Common.{◌≡◌, ◌⊎◌, inl, inr, ℕ, List, Option, arith}
+use Rattle.std.specs.Io.KnownBytes.{Appends, Keeps}
 use Rattle.agc_study_args.specs.declared.args.JobsArgs.{JobsArgs}
 use Rattle.agc_analysis.specs.Traced.{EndsUntraced}
 use Rattle.agc_analysis.specs.Fault.{trouble_line}
-use Rattle.agc_analysis.specs.Watched.{IsUnwatched, IsWatchRefused}
+use Rattle.agc_analysis.specs.Watched.{IsUnwatched, IsWatchCut, IsWatchRefused}
 use Rattle.agc_analysis.specs.declared.traces.TraceError.{TraceError}
 use Rattle.agc_analysis.specs.declared.traces.TraceError.TheVariants as error
 use Rattle.agc_analysis.specs.declared.fault.AnalysisFault.TheVariants as told
@@ -23,3 +23,12 @@ refused_by (error.Cut fault.Memory) asked rope script ob oa eb ea status h e two
 pub returns-in-Err-clause-refused : goal.returns-in-Err-clause-refused
 returns-in-Err-clause-refused g c =
     refused_by c.in-Err.unwatched c.args.asked.now _ _ _ _ _ _ c.status_of_trace_error.result c.in-Err.ensures.unwatched c.status_of_trace_error.ensures
+
+-- a run that was refused has written nothing, and one that was cut off a beginning of the lines
+unfinished : (u : TraceError) (asked : JobsArgs) (rope script before after : Option (List ℕ)) → IsUnwatched asked rope script before after u →
+    Keeps before after ⊎ IsWatchCut asked rope script before after
+unfinished (error.Refused r) asked rope script before after h = inl h.1
+unfinished (error.Cut why) asked rope script before after h = inr h
+
+pub returns-in-Err-clause-cut : goal.returns-in-Err-clause-cut
+returns-in-Err-clause-cut g c failed = unfinished c.in-Err.unwatched c.args.asked.now _ _ _ _ c.in-Err.ensures.unwatched

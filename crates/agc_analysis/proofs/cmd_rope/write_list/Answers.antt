@@ -1,3 +1,5 @@
+use Rattle.std.proofs.Common.{inl, inr}
+use Rattle.std.proofs.KnownBytes.{Keeps-refl}
 use Rattle.std.specs.Prelude.{string_bytes}
 use Rattle.agc_load.proofs.Denied.{rope_known_memory}
 use Rattle.agc_load.specs.declared.fault.LoadFault.TheVariants as refusal
@@ -17,3 +19,13 @@ returns-in-Ok-clause-refused g c told = record {
   may = (c.in-Ok.ensures.named, rope_known_memory c.args.form _);
   line = c.write_text.ensures.refused told;
 }
+
+pub returns-in-Ok-clause-cut : goal.returns-in-Ok-clause-cut
+returns-in-Ok-clause-cut g c failed = inr (record {
+  text = string_bytes c.in-Ok.text;
+  listed = c.in-Ok.ensures.listed;
+  written = rw c.as_str.ensures.value at (c.write_text.ensures.cut failed);
+})
+
+pub returns-in-Err-clause-cut : goal.returns-in-Err-clause-cut
+returns-in-Err-clause-cut g c failed = inl (Keeps-refl _)

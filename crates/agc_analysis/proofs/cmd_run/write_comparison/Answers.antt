@@ -1,3 +1,5 @@
+use Rattle.std.proofs.Common.{inl, inr, refl}
+use Rattle.std.proofs.KnownBytes.{Keeps-refl}
 use Rattle.agc_analysis.proofs.cmd_run.write_comparison.Goals as goal
 
 pub returns-in-Ok-clause-same : goal.returns-in-Ok-clause-same
@@ -5,3 +7,12 @@ returns-in-Ok-clause-same g c done = record { told = c.in-Ok.told; compared = c.
 
 pub returns-in-Ok-clause-apart : goal.returns-in-Ok-clause-apart
 returns-in-Ok-clause-apart g c apart = record { told = c.in-Ok.told; compared = c.in-Ok.ensures.compared; written = c.write_outcome.ensures.apart apart }
+
+pub returns-in-Ok-clause-cut : goal.returns-in-Ok-clause-cut
+returns-in-Ok-clause-cut g c failed = inr (
+  c.in-Ok.told.is_same,
+  record { told = c.in-Ok.told; compared = c.in-Ok.ensures.compared; written = record { same = refl; text = c.write_outcome.ensures.cut failed } },
+)
+
+pub returns-in-Err-clause-cut : goal.returns-in-Err-clause-cut
+returns-in-Err-clause-cut g c failed = inl (Keeps-refl _)

@@ -140,7 +140,10 @@ fn refuses_beside(rt: &(impl AllocGlobal + Abort), edge: &Edge) {
 
 fn refuses_long(rt: &(impl AllocGlobal + Abort), edge: &Edge) {
     let line = line_of(rt, edge.before, "0000001", edge.after);
-    let why = joined(rt, &["`0000001` is no number: 1 to 6 digits, ", edge.range]);
+    let why = joined(
+        rt,
+        &["`0000001` is not a number: 1 to 6 digits, ", edge.range],
+    );
     refused(rt, line.as_str(), FaultKind::BadNumber, why.as_str());
 }
 
@@ -177,14 +180,14 @@ fn tables(rt: HostRuntime) {
         &rt,
         "0 pulse 24 dinc",
         FaultKind::UnknownWord,
-        "`dinc` is no kind of pulse; the nearest is `pinc`",
+        "unknown kind of pulse `dinc`; did you mean `pinc`?",
     );
 }
 
 /// Returns the report on a line with one word too many for its command.
 fn form_told(rt: &(impl AllocGlobal + Abort), usage: &str, command: Command) -> String {
     let given = command.argument_count().saturating_add(1);
-    format!(in rt.alloc(); "`{usage}` is right: here are {given} words after the command")
+    format!(in rt.alloc(); "write `{usage}`: here are {given} words after the command")
         .ok()
         .expect(rt, "memory")
 }
@@ -227,7 +230,7 @@ fn bounds(rt: HostRuntime) {
         &rt,
         "1000000000001 key 1",
         FaultKind::BadCycle,
-        "`1000000000001` is no cycle: 1 to 13 decimal digits, 1000000000000 at most",
+        "`1000000000001` is not a cycle: 1 to 13 decimal digits, at most 1000000000000",
     );
     same(&rt, MOST_EVENTS, 65536, "events");
     taken(&rt, "every 1 1 65536 key 1");
@@ -235,7 +238,7 @@ fn bounds(rt: HostRuntime) {
         &rt,
         "every 1 0 65536 key 1",
         FaultKind::TooMany,
-        "a script has 65536 events at most, and with this line it has more",
+        "a script has at most 65536 events; this line makes it more",
     );
     same(&rt, LONGEST_LINE, 120, "bytes");
     comment_of(&rt, 120, true);

@@ -17,7 +17,7 @@ fn traces_end(rt: HostRuntime) {
         (
             TraceError::Refused(LoadFault::BadUntilSpec),
             2,
-            "agc-study: until: BadSpec\n",
+            "agc-study: until: BadSpec; --until is BANK,ADDR in octal, or a name of --names\n",
         ),
         (
             TraceError::Refused(LoadFault::Memory),
@@ -67,6 +67,7 @@ fn tracing(rt: &impl AllocGlobal, limit: u64) -> TraceArgs {
         selection: between(rt, 0, u64::MAX, None),
         at: Vec::new(rt.alloc()),
         cell: Vec::new(rt.alloc()),
+        channel: Vec::new(rt.alloc()),
         names: None,
     }
 }
