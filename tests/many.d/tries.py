@@ -110,13 +110,18 @@ def told(left, right, what):
         place += 1
     drift = max((abs(one[0] - other[0]) for one, other in pairs[:place]), default=0)
     if place == len(left) == len(right):
-        return f"The runs show the same: {place} {item}s, and their clocks are never more than {drift} cycles apart\n", "same"
+        return f"The runs show the same: {counted(place, item)}, and their clocks are never more than {counted(drift, 'cycle')} apart\n", "same"
     lines = [f"The runs part at {item} {place + 1}:"]
     lines += [f"  {one[0]} {other[0]} {one[1]}" for one, other in pairs[max(0, place - KEPT) : place]]
     here = [things[place] if place < len(things) else None for things in (left, right)]
     lines += [mark + (" {} {}".format(*thing) if thing else " -") for mark, thing in zip("<>", here)]
-    lines += [f"Before that their clocks are never more than {drift} cycles apart"]
+    lines += [f"Before that their clocks are never more than {counted(drift, 'cycle')} apart"]
     return "\n".join(lines) + "\n", f"parts at cycle {(here[0] or here[1])[0]}, {item} {place + 1}"
+
+
+def counted(number, noun):
+    """A number with its noun, in the plural unless it is 1."""
+    return f"{number} {noun}{'' if number == 1 else 's'}"
 
 
 def compare(left, right, words):
