@@ -33,14 +33,14 @@ __version__ = "1.0.0"
 Path = Union[str, "os.PathLike[str]"]
 
 EVENTS = frozenset(("key", "pro", "input", "pulse", "raise", "poke"))
-"""The commands that give the machine an event, which the script then has."""
+"""The commands that inject an event."""
 
 Place = Union[int, str]
 """An address alone, as 0o4100 or 0o100, or a place as docs/CONSOLE.md names it: "4100", "12,2000" or "E3,1400"; with names
 also "LOOP", or some words beyond or before it, "LOOP+3"."""
 
 LAST_CYCLE = 1_000_000_000_000
-"""The last cycle of all: a machine stops there, where no limit is named."""
+"""The last cycle of all: a machine without a limit stops there."""
 
 
 class Error(Exception):
@@ -48,19 +48,19 @@ class Error(Exception):
 
 
 class Refused(Error):
-    """A command was answered by an error. A line at fault changes nothing. Where an event comes too late, the events of
-    the script that were due have happened; where memory ran out in `go`, `step` or `until`, the machine may have gone
-    on, and some writes are untold. `cycle` is right again after the next answer."""
+    """A command was answered by an error. A faulty line changes nothing. If an event comes too late, the events of the
+    script that were due have happened; if memory ran out in `go`, `step` or `until`, the machine may have run further,
+    and some writes are not reported. `cycle` is right again after the next answer."""
 
 
 class Ended(Error):
     """The console has ended, or never began: there is no such program, its rope, its script or its limit is refused, it
     is closed, or a call was broken off before its answer was whole."""
 
-    def __init__(self, told: str, status: Optional[int]) -> None:
-        super().__init__(told)
+    def __init__(self, message: str, status: Optional[int]) -> None:
+        super().__init__(message)
         self.status = status
-        """The status with which the process ended; None where it never began."""
+        """The status with which the process ended; None if it never began."""
 
 
 class Write(NamedTuple):
@@ -84,7 +84,7 @@ class Registers(NamedTuple):
 
 
 class Answer(NamedTuple):
-    """The lines of an answer, the cycle that the machine has come to, and why it has stopped, if it has."""
+    """The lines of an answer, the cycle that the machine has reached, and why it has stopped, if it has."""
 
     lines: List[str]
     cycle: int
@@ -119,10 +119,10 @@ class Console:
         program: Union[None, Path, Sequence[str]] = None,
         detached: bool = False,
     ) -> None:
-        """Begins a session. The program is `agc-console` of the folder that this file stands in, two levels up, or the
-        one on the path; `program` names another one, or its words. `names` is a file that gives places their names, which
-        then stand for them, and stand beside the places of orders in what `step` and `next` return. A `detached` console
-        does not see a Control-C in the terminal: its caller ends it."""
+        """Begins a session. The program is `agc-console` two levels above the folder of this file, or the one on the
+        path; `program` names another one, or its words. `names` is a file of names, which then may replace places, and
+        show beside the places of orders in what `step` and `next` return. A `detached` console does not see a Control-C
+        in the terminal: its caller ends it."""
         self.rope, self._options = rope, {"limit": limit, "form": form, "names": names, "program": program}
         words = _program(program)
         if limit is not None:
@@ -133,22 +133,22 @@ class Console:
             words.append(f"--names={os.fspath(names)}")
         words += ["--", os.fspath(rope), os.fspath(script)]
         self.cycle = 0
-        """The cycle that the machine has come to, as the last answer said it."""
+        """The cycle that the machine has reached, from the last answer."""
         self.stop: Optional[str] = None
-        """Why the machine has stopped: Limit, DivisionUndefined or Edrupt; None while it goes on."""
+        """Why the machine has stopped: Limit, DivisionUndefined or Edrupt; None while it runs."""
         self.on_answer: Optional[Callable[[str, Answer], None]] = None
         """Called with each command and its answer, if set; not for refused commands."""
         self._owner = os.getpid()
         self._base: List[Event] = []
         self._injected: List[Event] = []
-        # A file takes what is told as the session ends, since a pipe would hold the console up where it is full.
-        self._told = tempfile.TemporaryFile()
+        # A file takes standard error, because a full pipe would block the console.
+        self._errors = tempfile.TemporaryFile()
         try:
             self._process = subprocess.Popen(
-                words, stdin=subprocess.PIPE, stdout=subprocess.PIPE, stderr=self._told, start_new_session=detached
+                words, stdin=subprocess.PIPE, stdout=subprocess.PIPE, stderr=self._errors, start_new_session=detached
             )
         except OSError as error:
-            self._told.close()
+            self._errors.close()
             raise Ended(f"{words[0]}: {error.strerror}", None) from None
         assert self._process.stdin and self._process.stdout
         self._commands: IO[bytes] = self._process.stdin
@@ -179,7 +179,7 @@ class Console:
             pass
         self._answers.close()
         self._process.wait()
-        self._told.close()
+        self._errors.close()
 
     def again(self, script: Path = os.devnull) -> "Console":
         """Begins another console of the same rope, with the same options, at cycle 0. The script is not taken along."""
@@ -198,7 +198,7 @@ class Console:
     # what all commands go through
 
     def say(self, command: str) -> Answer:
-        """Says a command, as docs/CONSOLE.md has them, and returns its answer; `Refused` where that is an error."""
+        """Says a command, as docs/CONSOLE.md has them, and returns its answer; `Refused` if that is an error."""
         line = _line(command)
         if self._commands.closed:
             raise Ended("the console is closed", self._process.returncode)
@@ -219,7 +219,7 @@ class Console:
         return answer
 
     def _keep(self, words: List[str], answer: Answer) -> None:
-        """Keeps what the script of the session is made of, which is asked for after the console has ended, too."""
+        """Keeps what the script of the session is made of, so that it is available after the console has ended, too."""
         if words[0] in EVENTS:
             cost = 1 if words[0] == "pulse" else 0
             cycle = answer.cycle - cost
@@ -249,14 +249,14 @@ class Console:
 
     def _ended(self) -> Ended:
         status = self._process.wait()
-        self._told.seek(0)
-        told = self._told.read().decode(errors="replace").strip()
-        return Ended(told or f"the console ended with status {status}", status)
+        self._errors.seek(0)
+        message = self._errors.read().decode(errors="replace").strip()
+        return Ended(message or f"the console ended with status {status}", status)
 
-    # going on, and back
+    # running, and going back
 
     def go(self, cycles: int) -> List[Write]:
-        """So many cycles on. Returns the channel writes on the way, as all that go on do."""
+        """Runs for a number of cycles. Returns the channel writes on the way, like all methods that run the machine."""
         return _writes(self.say(f"go {cycles}"))
 
     def go_to(self, cycle: int) -> List[Write]:
@@ -273,7 +273,7 @@ class Console:
         return self._until(_place(place), within)
 
     def until_write(self, channel: int, within: Optional[int] = None) -> Came:
-        """On until the next write to a channel, 5 to 0o777: orders show no write to the others."""
+        """On until the next write to a channel, 5 to 0o777. Another channel is refused."""
         return self._until(f"write {channel:o}", within)
 
     def until_cell(self, place: Place, within: Optional[int] = None) -> Came:
@@ -286,10 +286,9 @@ class Console:
         return Came("came yes" in answer.lines, _writes(answer))
 
     def writes(self, until: int = LAST_CYCLE, channel: Optional[int] = None) -> Iterator[Write]:
-        """The channel writes to come, one by one, up to a cycle or the stop; of one channel, where one is named. The
-        machine goes on as they are asked for, so that events can be given between two of them: after a write to the
-        channel that is named, or else after the writes of a hundredth of a second, which are at hand at once: who leaves
-        off between these has the machine behind all of them."""
+        """Yields the next channel writes, one by one, up to a cycle or the stop. With `channel`, only those of that
+        channel, and the machine runs to each one as it is taken, so that events can be injected after it. Without, the
+        machine runs a hundredth of a second at a time, and is behind all writes of it as the first is yielded."""
         while self.stop is None and self.cycle < until:
             left = until - self.cycle
             if channel is None:
@@ -299,7 +298,7 @@ class Console:
                 yield from (write for write in came.writes if write.channel == channel)
 
     def back(self, cycle: int) -> None:
-        """Back to the state before a cycle. What was given at it or later is dropped."""
+        """Goes back to the state before a cycle that is not ahead. Events injected from it on are dropped."""
         self.say(f"back {cycle}")
 
     # what happens to the machine, now
@@ -333,7 +332,7 @@ class Console:
     # what can be seen
 
     def panel(self) -> Dict[str, str]:
-        """The display: what stands in PROG, VERB, NOUN, R1, R2 and R3, FLASH and LAMPS, as `agc` prints it."""
+        """The display: PROG, VERB, NOUN, R1, R2, R3, FLASH and LAMPS with the text that `agc` prints."""
         return dict(line.split(" ", 1) for line in self.say("panel").lines)
 
     def tables(self, spec: str) -> List[str]:
@@ -345,7 +344,7 @@ class Console:
         return Registers(*(int(word, 8) for word in self.say("registers").lines[0].split()[1::2]))
 
     def next(self) -> str:
-        """What comes next, as a trace names it: "4000 14000 TCF 4000", or "- interrupt KEYRUPT1"."""
+        """What comes next, in a trace's words: "4000 14000 TCF 4000", or "- interrupt KEYRUPT1"."""
         return self.say("next").lines[0].split(" ", 1)[1]
 
     def cell(self, place: Place) -> int:
@@ -353,7 +352,7 @@ class Console:
         return self.cells(place, 1)[0]
 
     def cells(self, place: Place, count: int) -> List[int]:
-        """The words of so many cells, from this one on."""
+        """The words of `count` cells, from this one on."""
         return [int(line.rsplit(" ", 1)[1], 8) for line in self.say(f"cell {_place(place)} {count}").lines]
 
     def channel(self, channel: int) -> int:
@@ -365,9 +364,9 @@ class Console:
         return int(self.say("writes").lines[0].split()[1])
 
     def script(self) -> str:
-        """The script that repeats this session: `agc ROPE SCRIPT --limit CYCLE` makes the same run of it. An order that
-        stops the machine wants a limit above its cycle, and so does what was given at the present one. Of a console that
-        has ended it is the script of all calls that returned."""
+        """The script that repeats this session: `agc ROPE SCRIPT --limit CYCLE` makes the same run. If an order stopped
+        the machine, or something was injected at the present cycle, add one to the limit. After the console has ended,
+        it is the script of all calls that returned."""
         try:
             lines = self.say("script").lines
         except Ended:
@@ -376,7 +375,7 @@ class Console:
 
 
 def _line(command: str) -> bytes:
-    """A command as the console reads it; ValueError where it is none, or would be more than one line."""
+    """A command for the console; ValueError if it is empty, a comment or more than one line."""
     if "\n" in command or not command.strip() or command.lstrip().startswith("#"):
         raise ValueError(f"no command: {command!r}")
     try:
@@ -386,7 +385,7 @@ def _line(command: str) -> bytes:
 
 
 def _event_of(line: str) -> Event:
-    """An event of the script as the console tells it."""
+    """An event from a line of the script."""
     return Event(int(line.split(" ", 1)[0]), line)
 
 

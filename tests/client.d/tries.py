@@ -144,6 +144,12 @@ def try_faults():
     """What is refused, and consoles that have ended."""
     with example("keys") as agc:
         judge("a fault", "BadChannel: a channel is octal, 0 to 777", raised(Refused, agc.channel, 0o1000))
+        no_writes = "BadChannel: only channels 5 to 777 octal show writes"
+        judge("a channel that shows no writes", no_writes, raised(Refused, agc.until_write, 4))
+        judge("and a loop over its writes", no_writes, raised(Refused, lambda: list(agc.writes(channel=4))))
+        ahead = "Ahead: the machine has not reached this cycle; go to C runs on to it"
+        judge("a cycle ahead", ahead, raised(Refused, agc.back, agc.cycle + 1))
+        judge("a key with another name", "BadEvent: unknown key; did you mean ENTR?", raised(Refused, agc.key, "ENTER"))
         judge("two lines are no command", "no command: 'go 1\\ngo 1'", raised(ValueError, agc.say, "go 1\ngo 1"))
         judge("nothing has changed", (0, 0), (agc.say("writes").cycle, agc.count_of_writes()))
         agc.close()
@@ -181,7 +187,7 @@ def try_odd_words():
     with example("keys") as agc:
         agc.go(10)
         judge("a key that has no bytes", "no command: 'key \\ud800'", raised(ValueError, agc.key, "\ud800"))
-        judge("a key beyond ASCII", "NotAscii: a line is ASCII alone", raised(Refused, agc.key, "é"))
+        judge("a key beyond ASCII", "NotAscii: a line is ASCII only", raised(Refused, agc.key, "é"))
         agc.key("4")
         judge("the session goes on", "10 key 4\n", agc.script())
     rope = os.path.join(top, "examples", "study", "trace-key", "rope")

@@ -135,7 +135,6 @@ class Told:
         self.script = self.asked()
         self.given = []
         self.writes = []
-        self.untold = []
 
     def asked(self):
         return [meaning(line) for line in self.session.say("script")]
@@ -151,9 +150,8 @@ class Told:
         self.given.append(event)
         judge(f"the script after {command}", self.script, self.asked())
 
-    def take_back(self, command, before):
-        """What was given at the cycle or later is dropped, and so is what was written; from an earlier cycle nothing
-        is told of the way."""
+    def take_back(self, command):
+        """What was given at the cycle or later is dropped, and so is what was written."""
         cycle = int(command.split()[1])
         for event in self.given:
             if event[0] >= cycle:
@@ -161,16 +159,6 @@ class Told:
         self.given = [event for event in self.given if event[0] < cycle]
         judge(f"the script after {command}", self.script, self.asked())
         self.writes = [write for write in self.writes if int(write.split()[0]) < cycle]
-        self.untold = [(first, min(end, cycle)) for first, end in self.untold] + [(before, cycle)]
-
-    def without_untold(self, log):
-        """The lines of a log but for those that were made while nothing was told."""
-        cycles = [int(line.split()[0]) for line in log]
-        return [
-            line
-            for line, cycle in zip(log, cycles)
-            if not any(first <= cycle < end for first, end in self.untold)
-        ]
 
 
 def try_wrong_line(session, line):
@@ -192,14 +180,18 @@ def goes_on(session, dice, limit):
             continue
         before = session.cycle, session.stop
         lines = session.say(command)
-        if lines is None:
+        if command.startswith("back ") and int(command.split()[1]) > before[0]:
+            judge(f"a cycle ahead: {command} at {before[0]}", (None, "Ahead"), (lines, session.error.split(":")[0]))
+            session.say("")
+            judge("nothing is done", before, (session.cycle, session.stop))
+        elif lines is None:
             late = before[1] is not None or session.cycle >= limit
             judge(f"only an event that comes too late is refused: {command}", True, late and command.startswith(GIVEN))
             judge(f"why {command} is refused", "Stopped", session.error.split(":")[0])
         elif command.startswith(GIVEN):
             told.take_event(command, before[0])
         elif command.startswith("back "):
-            told.take_back(command, before[0])
+            told.take_back(command)
         else:
             told.writes += shown_in(command, lines)
     # what was given last has happened, and no boundary is half a cycle's
@@ -235,7 +227,7 @@ def try_seed(seed):
     judge(f"seed {seed}: the panel", lines[:8], panel)
     judge(f"seed {seed}: the stop", lines[8:9], [stop])
     log = lines[9 : 9 + int(count[0].split()[1])]
-    judge(f"seed {seed}: each write is told once", told.without_untold(log), told.writes)
+    judge(f"seed {seed}: each write is told once", log, told.writes)
     judge(f"seed {seed}: the tables", lines[9 + len(log) :], tables)
 
     again = subprocess.run([console, *words], input=session.said, capture_output=True)

@@ -742,7 +742,7 @@ def try_flown(running):
 
 def try_rope():
     names = os.path.join(scratch, "names")
-    woven = subprocess.run([study, "weave", os.path.join(folder, "descent.agc"), "--names", names], capture_output=True)
+    woven = subprocess.run([study, "weave", os.path.join(folder, "descent.agc"), "--write-names", names], capture_output=True)
     with open(example.ROPE, "rb") as file:
         judge("the rope is that of its source", file.read(), woven.stdout)
     told = [line for line in read(os.path.join(folder, "names")).splitlines() if not line.startswith("#")]

@@ -440,6 +440,15 @@ def try_controls(tries):
                     tries.look(f"bottom('{side}')") <= min(box['top'] for box in boxes.values()))
 
 
+def try_links(tries):
+    """A link to a cycle goes there; one to something else shows what the film begins with."""
+    tries.open('one.html', 'cycle=100')
+    tries.check('the cycle of a link', 100, tries.cycle())
+    for text in ('abc', '', '-1', '1e9', 'NaN'):
+        tries.open('one.html', f'cycle={text}')
+        tries.check(f'a link to the cycle {text!r}', 0, tries.cycle())
+
+
 def try_segments(tries):
     """Each place shows each digit, the blank and `?`, and each register both signs and the blank."""
     glyphs = list(DIGITS)
@@ -654,7 +663,7 @@ def try_playing(tries):
     tries.check('from the end it plays from the start', True, tries.cycle() < 1000000)
 
 
-TRIES = (try_constants, try_film, try_changes, try_blocks, try_unpacking, try_long_film, try_remark, try_part, try_tables, try_two_films, try_long_names, try_segments, try_lamps, try_keyboard, try_keys, try_short_run,
+TRIES = (try_constants, try_film, try_changes, try_blocks, try_unpacking, try_long_film, try_remark, try_part, try_tables, try_two_films, try_long_names, try_links, try_segments, try_lamps, try_keyboard, try_keys, try_short_run,
          try_two_runs, try_unread, try_slider, try_speeds, try_playing)
 
 

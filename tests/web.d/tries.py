@@ -966,7 +966,7 @@ def try_names_and_pictures():
     """A key's service by its names, before RSET puts all lamps out: this is the picture that docs/WEB.md begins with."""
     words, rope, names = example('verbs', 'words'), os.path.join(FOLDER, 'verbs.rope'), os.path.join(FOLDER, 'verbs.names')
     with open(rope, 'wb') as file:
-        subprocess.run([os.path.join(TOP, 'agc-study'), 'weave', words, '--names', names], stdout=file, check=True)
+        subprocess.run([os.path.join(TOP, 'agc-study'), 'weave', words, '--write-names', names], stdout=file, check=True)
     site = started(example('verbs', 'rope'), '--names', names, '--watch', '0,100,2,0,130,0,140')
     page = Page(site)
     page.type('Space')

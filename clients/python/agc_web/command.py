@@ -30,8 +30,8 @@ def serve(
 ) -> str:
     """Serves the page of a console until Control-C, and returns the script that repeats the session.
 
-    The console stands at cycle 0, and is `detached`. `instruments` are described in agc_web.session. The port is 8437, or
-    a free one if that is taken and none is named. `begin` is called with the session before time can go on."""
+    The console is at cycle 0, and `detached`. `instruments` are described in agc_web.session. The port is 8437, or
+    a free one if that is taken and none is named. `begin` is called with the session before time can run."""
     session = Session(console, instruments, watch)
     try:
         film = film_by([_study()], os.fspath(console.rope), form) if _study() else None
@@ -94,7 +94,7 @@ def _arguments() -> argparse.ArgumentParser:
 
 
 def _attached(port: Optional[int]) -> Optional[Callable[[Session], Any]]:
-    """Returns what attaches the sockets of other programs' instruments, if they are asked for."""
+    """Returns what attaches the sockets of other programs' instruments, if there is a port for them."""
     if port is None:
         return None
     try:
@@ -112,19 +112,19 @@ def _study() -> Optional[str]:
 
 
 def _about(console: agc.Console, names: Optional[str], watch: Optional[str]) -> Dict[str, Any]:
-    """Returns what the page is told at first."""
+    """Returns the first message to the page."""
     return {
         "rope": os.fspath(console.rope), "names": _names_in(names), "watch": watch, "speeds": SPEEDS, "history": HISTORY,
     }
 
 
 def _names_in(file: Optional[str]) -> List[str]:
-    """Returns the names of a file of names."""
+    """Returns the names of places in a file of names; those of channels begin with C."""
     if file is None:
         return []
     with open(file, encoding="ascii", errors="replace") as lines:
         words = [line.split() for line in lines]
-    return [each[1] for each in words if len(each) > 1 and not each[0].startswith("#")][:MOST_NAMES]
+    return [each[1] for each in words if len(each) > 1 and each[0][0] not in "#C"][:MOST_NAMES]
 
 
 def _bound(
@@ -140,7 +140,7 @@ def _bound(
 
 
 def _wait(server: Server) -> None:
-    """Serves until Control-C, or until the program is asked to end."""
+    """Serves until Control-C or SIGTERM."""
 
     def end(number: int, frame: Any) -> None:
         raise KeyboardInterrupt

@@ -6,7 +6,7 @@
 agc_web.protocol, and docs/INSTRUMENTS.md describes what is served.
 
 Two threads meet here. The sockets belong to the network thread, which runs `Instruments`. The console belongs to the
-session's machine thread, on which the `Desk` does what the clients ask for. What the machine writes goes from there into
+session's machine thread, on which the `Desk` does what the clients request. What the machine writes goes from there into
 the outbox of each client.
 """
 
@@ -35,7 +35,7 @@ WAITING = 16  # connections that wait to be taken on each port
 HERE = "127.0.0.1"
 TICK = 0.02  # seconds between two looks at the machine, for what blinks and keys that wait
 CHUNK = 65_536  # bytes that are taken from a client at once: more than it may spend, so that a flood is seen whole
-SLICE = 200  # inputs that the machine is given at once
+SLICE = 200  # inputs that the machine takes at once
 ALLOWANCE = 10_000  # what a client may spend a second: a pulse or a mask costs 1
 INPUT_COST = 10  # of any other input
 MOST_SKIPPED = 32  # bytes out of step
@@ -383,7 +383,7 @@ class Instruments:
             self._accept(key.data)
 
     def _accept(self, listener: socket.socket) -> None:
-        """Takes a client, if its port has none."""
+        """Takes a client, if its port is free."""
         try:
             connection, _ = listener.accept()
             connection.setblocking(False)
@@ -424,7 +424,7 @@ class Instruments:
             self._on_machine(partial(self._desk.take, client=client, inputs=inputs[at:at + SLICE]))
 
     def _send(self, client: Client) -> None:
-        """Sends what there is to send; if something is left, asks to hear when there is room again."""
+        """Sends what there is to send; if something is left, waits for room."""
         client.check(time.monotonic())
         wanted = selectors.EVENT_READ | (selectors.EVENT_WRITE if client.send() else 0)
         if self._selector.get_key(client.connection).events != wanted:

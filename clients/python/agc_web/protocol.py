@@ -184,6 +184,6 @@ class Board:
 
 
 def can_send(channel: int) -> bool:
-    """Whether a write to a channel has a packet: a channel above 377 has none, and that of 163 would be taken for the
+    """Whether a write to a channel has a packet: not above channel 377, and not for 163, which would be taken for the
     lamps."""
     return channel <= LAST_CHANNEL and channel != SHOWN_LAMPS

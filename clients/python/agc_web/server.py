@@ -1,7 +1,7 @@
 """The server of the page: files, news by server-sent events, commands by POST.
 
 It listens on 127.0.0.1 alone. Each request has to name our host and, if it says where it comes from, our origin; and it
-has to have the token of the printed address. What a request asks for is done by the session.
+has to have the token of the printed address. The session does what a request is for.
 """
 
 import hmac
@@ -64,7 +64,7 @@ class Server(ThreadingHTTPServer):
     def __init__(
         self, session: Session, about: Dict[str, Any], port: int = 0, film: Optional[Callable[[str, int], bytes]] = None
     ) -> None:
-        """Binds to a port, or to a free one. `about` is what the page is told at first; `film` films a script."""
+        """Binds to a port, or to a free one. `about` is the first message to the page; `film` films a script."""
         self.session = session
         self.about = about
         self.film = film
@@ -134,11 +134,11 @@ class Handler(BaseHTTPRequestHandler):
         self._answer(self._get)
 
     def do_POST(self) -> None:
-        """Does what a body of JSON asks for."""
+        """Does what a body of JSON requests."""
         self._answer(self._post)
 
     def log_message(self, format: str, *args: Any) -> None:
-        """Keeps quiet: the token stands in the addresses."""
+        """Keeps quiet: the addresses have the token."""
 
     # what all requests go through
 
@@ -268,7 +268,7 @@ class Handler(BaseHTTPRequestHandler):
         self.wfile.flush()
 
     def _send_film(self) -> None:
-        """Sends a film of the session so far. Its page is kept apart from ours: it cannot reach this server."""
+        """Sends a film of the session so far. Its page is separated from ours: it cannot reach this server."""
         if self.server.film is None:
             raise Unable("films need agc-study beside agc-console, or on the path")
         session = self.server.session
@@ -384,7 +384,7 @@ def look(session: Session, body: Dict[str, Any]) -> Dict[str, Any]:
 
 
 def word_at(console: Console, place: str) -> Any:
-    """Returns the word of a cell, or why there is none."""
+    """Returns the word of a cell, or why it cannot be read."""
     if not place.isascii() or not place.isprintable() or len(place.split()) != 1:
         return "a cell is one word"
     try:

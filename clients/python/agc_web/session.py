@@ -13,8 +13,10 @@ script repeats it, going back drops it, and undo brings it back. Reported writes
 machine time at the hardware's pace: an answer to a write is injected up to that much later than the write.
 
 An instrument is an object with `tick(console, cycle)`, called every 10 ms of machine time, from cycle 0 on, and
-`view()`, which returns JSON for a panel of the page. If it also has `save()` and `load(state)`, it goes back in time with
-the machine. If it has `control(name, down)`, the buttons of its panel call that as they go down and come up.
+`view()`, which returns JSON for a panel of the page: `title`, `rows` of name and value, a `dial` with `angle`, `wanted`
+and `jets`, and `controls` with `name`, `label` and `key`. If it also has `save()` and `load(state)`, it goes back in time
+with the machine, to the tick before: each tick of the last ten seconds is kept, before that one a second. If it has
+`control(name, down)`, the buttons of its panel call that as they go down and come up.
 """
 
 import json
@@ -43,13 +45,13 @@ QUIET_NEWS = 0.04  # seconds between two looks if nothing was written
 NEWS = 0.02  # seconds between two looks at least
 LONGEST_PIECE = 0.02  # seconds that a piece may take, so that keys get in
 LOST = 1.0  # seconds behind the clock from which time is dropped
-PATIENCE = 60  # seconds that something may take that another thread asked for
+PATIENCE = 60  # seconds that something may take that another thread requested
 MOST_WAITING = 100  # keys
 MOST_BREAKPOINTS = 8
 
 
 class Event(NamedTuple):
-    """An event that was given: its cycle in the script, the console's command, and whether the user gave it."""
+    """An injected event: its cycle in the script, the console's command, and whether the user gave it."""
 
     cycle: int
     command: str
@@ -73,7 +75,7 @@ class Undo(NamedTuple):
 
 
 class Sure(Exception):
-    """Going back would drop events: the user is asked first."""
+    """Going back would drop events: the user has to consent."""
 
     def __init__(self, count: int) -> None:
         super().__init__(f"this drops {count} {'event' if count == 1 else 'events'} given since")
@@ -179,7 +181,7 @@ class Session:
         self.console.close()
         self.news.close()
 
-    # what the page asks for; each runs on the machine's thread
+    # the page's requests; each runs on the machine's thread
 
     def press(self, name: str) -> None:
         """Presses a key now, or as soon as the keys before it are through."""
@@ -211,7 +213,7 @@ class Session:
         self.call(lambda: self._take_back(sure))
 
     def add_breakpoint(self, text: str) -> None:
-        """Adds a breakpoint: PLACE, `write CCC` or `cell PLACE`, as the console's `until` has them."""
+        """Adds a breakpoint: PLACE, `write CCC` or `cell PLACE`, in the words of the console's `until`."""
         self.call(lambda: self._add_breakpoint(text))
 
     def remove_breakpoint(self, text: str) -> None:
@@ -225,7 +227,7 @@ class Session:
     # the machine's thread
 
     def _run(self) -> None:
-        """Does what is asked, and lets time go, until the session ends."""
+        """Does what is requested, and lets time run, until the session ends."""
         while not self._closing:
             self._do_jobs(WAKE if self.playing else 0.25)
             if self._closing:
@@ -527,7 +529,7 @@ class Session:
         self._look()
 
     def _go_back(self, cycle: int, sure: bool) -> None:
-        """Goes back to a cycle, and drops what was given since."""
+        """Goes back to a cycle, and drops what was injected since."""
         tick, cycle, states = self._marks.before(cycle) if self.instruments else (0, cycle, [])
         dropped = [event for event in self.journal if event.cycle >= cycle]
         controls = [pressed for pressed in self._controls if pressed >= cycle]
@@ -688,7 +690,7 @@ class Session:
         self._scouts = []
 
     def _mirror(self, command: str) -> None:
-        """Gives the scouts what the machine was given."""
+        """Gives the scouts the machine's events."""
         for scout in self._scouts:
             scout.say(command)
 
@@ -778,7 +780,7 @@ class Session:
                 self._future = []
 
     def foreseen(self, cycle: int, events: int, lines: List[str]) -> None:
-        """Takes the coming boundaries that were found, if the machine still stands there."""
+        """Takes the coming boundaries that were found, if the machine is still there."""
         if not self.playing and (self.console.cycle, len(self.journal)) == (cycle, events):
             self._future = lines
             self.news.publish("ahead", lines)
@@ -833,7 +835,7 @@ class Foreseer:
         self._thread.start()
 
     def ask(self, cycle: int, events: int) -> bool:
-        """Asks for the boundaries from a cycle on; returns whether they were not asked for before."""
+        """Asks for the boundaries from a cycle on; returns whether they were not requested before."""
         if (cycle, events) == self._last:
             return False
         self._last = (cycle, events)

@@ -110,10 +110,10 @@ function onKey(event) {
   }
 }
 
-// '#cycle=1234' goes to a cycle, and '#press=ArrowRight,Space' presses keys of the browser
+// '#cycle=1234' goes to a cycle (another text is ignored), and '#press=ArrowRight,Space' presses keys of the browser
 function followHash() {
   const asked = new URLSearchParams(location.hash.slice(1));
-  if (asked.has('cycle')) go(Number(asked.get('cycle')));
+  if (/^[0-9]+$/.test(asked.get('cycle') ?? '')) go(Number(asked.get('cycle')));
   for (const name of (asked.get('press') || '').split(',').filter(Boolean)) {
     document.body.dispatchEvent(new KeyboardEvent('keydown', { key: name === 'Space' ? ' ' : name, bubbles: true, cancelable: true }));
   }
