@@ -10,6 +10,7 @@ pub mod Fixed
 pub mod Kept
 pub mod Return
 pub mod Taken
+pub mod Taking
 pub mod Live
 pub mod Place
 pub mod InTime

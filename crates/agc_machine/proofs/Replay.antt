@@ -111,7 +111,7 @@ abbrev pub begun : State → State
 begun s = record s { begun = true }
 
 -- what comes, carried out
-comes_out : (s : State) (u : Upcoming) → s.stopped ≡ None → upcoming_of s ≡ u → boundary None s ≡ carried_out u (begun s)
+pub comes_out : (s : State) (u : Upcoming) → s.stopped ≡ None → upcoming_of s ≡ u → boundary None s ≡ carried_out u (begun s)
 comes_out s u n e = (upcoming_comes s).comes n ∙ ap (λ (u : Upcoming). carried_out u (begun s)) e
 
 -- the same comes with a tape among the events, if the same event is due

@@ -1,6 +1,6 @@
 -- What is true of every run, above the definitions: it goes forwards in time, it comes to its end,
 -- and its writes rise.
-use Rattle.std.specs.Prelude.{◌≡◌, ℕ, zero, suc, ◌+◌, ◌<◌, ◌≤◌, List, [], ◌∷◌, None, Some, false}
+use Rattle.std.specs.Prelude.{◌≡◌, ℕ, zero, suc, ◌+◌, ◌<◌, ◌≤◌, List, [], ◌∷◌, replicate, None, Some, false}
 use Rattle.agc_word.specs.Channels.{IsIoChannel}
 use Rattle.agc_word.specs.declared.channel_write.ChannelWrite.{ChannelWrite}
 use Rattle.agc_processor.specs.Processor.{z_at}
@@ -9,7 +9,9 @@ use Rattle.agc_machine.specs.declared.answer.Next.{Next}
 use Rattle.agc_machine.specs.declared.answer.Next.TheVariants as next
 use Rattle.agc_machine.specs.declared.answer.Stepped.{Stepped}
 use Rattle.agc_machine.specs.declared.answer.Stepped.TheVariants as stepped
-use Rattle.agc_machine.specs.Boundary.{boundary}
+use Rattle.agc_script.specs.declared.event.Event.{Event}
+use Rattle.agc_machine.specs.Boundary.{IsBefore, boundary}
+use Rattle.agc_machine.specs.Replay.{chain}
 use Rattle.agc_machine.specs.Run.{boundaries_left}
 use Rattle.agc_machine.specs.State.{State}
 
@@ -36,6 +38,13 @@ Comes s (t, next.Stopped why) = (t.stopped ≡ Some why) × (s.cycle ≤ t.cycle
 abbrev pub IsSameRun : State → State → Type 0
 IsSameRun s t =
     (t.processor.store.fixed ≡ s.processor.store.fixed) × (t.limit ≡ s.limit) × (t.until ≡ s.until)
+
+-- After this many boundaries without live keys a state has not stopped, has these events left, and some other events
+-- all come after its cycle.
+pub record LeavesEvents (n : ℕ) (rest other : List Event) (s : State) : Type 0 where
+  pub left : (chain (replicate n None) s).last.events ≡ rest
+  pub runs : (chain (replicate n None) s).last.stopped ≡ None
+  pub later : IsBefore (chain (replicate n None) s).last.cycle other
 
 -- a processor is back where it was interrupted: at the same Z, with the same order in hand, and no
 -- interrupt being served

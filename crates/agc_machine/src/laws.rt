@@ -1,6 +1,7 @@
 //! Laws of every run, each the contract of a function that does nothing. The machine's own calls
 //! are proved equal to the definitions that these laws are about.
 ghost use Rattle.std.specs.Prelude.{◌≡◌, ℕ, ◌+◌, ◌*◌, ◌<◌, ◌≤◌, ◌^◌, ◌++◌, List, length, replicate, Option, Some, None, IsSome};
+ghost use Rattle.agc_script.specs.declared.event.Event.{Event};
 ghost use Rattle.agc_script.specs.declared.event.What.{What};
 ghost use Rattle.agc_store.specs.Registers.{HoldsRegisters};
 ghost use Rattle.agc_processor.specs.Basic.{resume_of};
@@ -12,7 +13,7 @@ ghost use Rattle.agc_machine.specs.State.{IsAtStart, State, fed};
 ghost use Rattle.agc_machine.specs.Boundary.{boundary};
 ghost use Rattle.agc_machine.specs.Idle.{IsTurn, later};
 ghost use Rattle.agc_machine.specs.Run.{boundaries_left, next_before, next_of, run_of, while_writing};
-ghost use Rattle.agc_machine.specs.Laws.{Falls, Comes, AreRising, ComesBack, IsSameRun, after};
+ghost use Rattle.agc_machine.specs.Laws.{Falls, Comes, AreRising, ComesBack, IsSameRun, LeavesEvents, after};
 ghost use Rattle.agc_machine.specs.Replay.{chain, tape_of, AreWanted, with_tape, run_in};
 ghost use Rattle.agc_machine.specs.Taken.{TakesLive, met_between};
 ghost use Rattle.agc_machine.specs.declared.answer.Stop.{Stop};
@@ -123,4 +124,12 @@ pub fn idle_turns_repeat()
         → after (n * orders) s ≡ later (n * period) s }
     ensures next { (orders period end n : ℕ) (s : State) → IsTurn orders period end s → s.cycle + n * period < end
         → next_before end s ≡ next_before end (later (n * period) s) }
+{}
+
+/// Only the events that a chain takes count: from a state with other events in place of those left, all of which come
+/// after the chain's last cycle, it is the same chain.
+pub fn only_taken_events_count()
+    ensures { (n : ℕ) (s : State) (taken rest other : List Event) → s.events ≡ taken ++ rest → LeavesEvents n rest other s
+        → chain (replicate n None) (record s { events = taken ++ other })
+        ≡ record { answers = (chain (replicate n None) s).answers; last = record (chain (replicate n None) s).last { events = other } } }
 {}

@@ -5,11 +5,14 @@ ghost use Rattle.agc_machine.specs.Boundary.{pressed_live};
 
 use crate::answer::{Next, Stepped, Stop};
 use crate::engine::Engine;
+use crate::idle::Search;
+use crate::quiet::Pace;
 use crate::stop_address::StopAddress;
 use agc_processor::Processor;
 use agc_script::{Event, Key, Script, What};
 use agc_store::{Addr, Rope, Store};
 use agc_word::Narrow;
+use std::alloc::Global;
 use std::marker::Model;
 use thiserror::Error;
 
@@ -49,7 +52,7 @@ pub struct Refused {
 }
 
 impl Machine {
-    ghost use Rattle.std.specs.Prelude.{◌≡◌, ◌<◌, ◌≤◌, ◌↔◌, IsTrue, IsSome, IfOk, IfErr, IsOk, None, Some, not, true, false};
+    ghost use Rattle.std.specs.Prelude.{◌≡◌, ◌<◌, ◌≤◌, ◌↔◌, IsTrue, IsSome, IfOk, IfErr, IsOk, None, Some, not, true, false, drop, length};
     ghost use Rattle.agc_machine.specs.State.{start_state, IsAtStart};
     ghost use Rattle.agc_machine.specs.Boundary.{boundary, pressed_live, WantsKey};
     ghost use Rattle.agc_machine.specs.Run.{next_before, next_of};
@@ -185,6 +188,41 @@ impl Machine {
             .processor
             .channel(self.engine.cycle, channel)
             .narrow()
+    }
+
+    /// Returns a copy of the machine with these events left, or `None` if memory runs out.
+    pub fn copy_with(&self, alloc: Global, script: Script) -> Option<Machine>
+        ensures { IfSome result (λ copy. copy ≡ record self.now { events = script }) }
+    {
+        let engine = &self.engine;
+        let processor = engine.processor.copy(alloc).ok()?;
+        Some(Machine {
+            engine: Engine {
+                processor,
+                script,
+                next: 0,
+                limit: engine.limit,
+                cycle: engine.cycle,
+                begun: engine.begun,
+                stopped: engine.stopped,
+                until: engine.until,
+                quiet_until: 0,
+                pace: Pace::Held,
+                search: Search::new(),
+            },
+        })
+    }
+
+    /// Returns the machine with other events left: those of a script after the first `taken`.
+    pub fn resume_with(self, script: Script, taken: usize) -> Machine
+        requires { taken ≤ length script }
+        ensures { result ≡ record self { events = drop taken script } }
+    {
+        let Machine { mut engine } = self;
+        engine.script = script;
+        engine.next = taken;
+        engine.quiet_until = 0;
+        Machine { engine }
     }
 
     /// Returns the machine at the start of another run of the same rope, with these events, the

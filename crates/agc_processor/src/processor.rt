@@ -3,6 +3,7 @@
 use agc_store::place::{A, Q};
 use agc_store::{Addr, Store};
 use agc_word::{Narrow, Wide};
+use std::alloc::{AllocError, Global};
 
 /// What the timers have counted. Only orders on channel 13 octal change it.
 #[derive(Drop)]
@@ -66,9 +67,34 @@ pub enum Ran {
 }
 
 impl Processor {
-    ghost use Rattle.std.specs.Prelude.{◌≡◌};
+    ghost use Rattle.std.specs.Prelude.{◌≡◌, IfOk};
     ghost use Rattle.agc_store.specs.Memory.{read_of};
     ghost use Rattle.agc_processor.specs.Processor.{edit_again, skip, fetched, names, names_wide};
+
+    /// Returns a copy of the processor. Fails when memory runs out.
+    pub fn copy(&self, alloc: Global) -> Result<Processor, AllocError>
+        ensures { IfOk result (λ copy. copy ≡ self.now) }
+    {
+        let store = self.store.copy(alloc)?;
+        let timers = Timers {
+            time1: self.timers.time1,
+            time3: self.timers.time3,
+            time4: self.timers.time4,
+            time5: self.timers.time5,
+            mark: self.timers.mark,
+        };
+        Ok(Processor {
+            store,
+            channels: self.channels,
+            hand: self.hand,
+            extracode: self.extracode,
+            uninterruptible: self.uninterruptible,
+            inhibited: self.inhibited,
+            serving: self.serving,
+            requests: self.requests,
+            timers,
+        })
+    }
 
     /// Reads a word; an editing register edits it again.
     #[inline]

@@ -71,6 +71,15 @@ impl Rope {
         }
     }
 
+    /// Returns a copy of the rope. Fails when memory runs out.
+    pub fn copy(&self, alloc: Global) -> Result<Rope, AllocError>
+        ensures { IfOk result (λ copy. copy ≡ self.now) }
+    {
+        let mut words = Vec::with_capacity(alloc, self.words.len())?;
+        words.extend_from_slice(&self.words)?;
+        Ok(Rope { words })
+    }
+
     /// Returns the word at a place, 1024 times its bank plus its offset; +0 in the banks 44 to 47
     /// octal. A fixed word has no overflow, so a fetch has nothing to correct.
     #[inline]

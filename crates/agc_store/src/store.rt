@@ -1,7 +1,7 @@
 //! The store: the cells, the rope, and what each access returns and changes.
 #![tactic(auto, unfolding(crate::specs::Memory::cell_at, crate::specs::Memory::erasable_place, crate::specs::Memory::fixed_at, crate::specs::Memory::selected_bank, crate::specs::Memory::read_of, crate::specs::Cells::write_of, crate::specs::Cells::fetch_of, crate::specs::Cells::named_cell, crate::specs::Cells::reedit_of, crate::specs::Cells::cell_of, crate::specs::Cells::fixed_of, crate::specs::Cells::poke_of, crate::specs::Cells::superbank_set))]
 
-ghost use Rattle.std.specs.Prelude.{◌≡◌, ℕ, ◌+◌, ◌*◌, ◌<◌, ◌≤◌, ◌^◌, ◌&&◌, nat_lt};
+ghost use Rattle.std.specs.Prelude.{◌≡◌, ℕ, ◌+◌, ◌*◌, ◌<◌, ◌≤◌, ◌^◌, ◌&&◌, nat_lt, IfOk};
 ghost use Rattle.agc_store.specs.Places.{zero_cell, edop_cell, erasable_window, fixed_window, fixed_fixed, fixed_words};
 ghost use Rattle.agc_store.specs.Memory.{fixed_at, read_of};
 ghost use Rattle.agc_store.specs.Cells.{
@@ -31,6 +31,7 @@ use crate::rope::Rope;
 use agc_word::{Narrow, Wide, widen};
 use banks::selected;
 use narrow_cells::cleared;
+use std::alloc::{AllocError, Global};
 use std::marker::Model;
 
 /// The memory of the machine: 2048 erasable cells in 8 banks of 256, which begin with the
@@ -74,6 +75,20 @@ impl Store {
             erasable_base: 0,
             fixed_base: 0,
         }
+    }
+
+    /// Returns a copy of the memory. Fails when memory runs out.
+    pub fn copy(&self, alloc: Global) -> Result<Store, AllocError>
+        ensures { IfOk result (λ copy. copy ≡ self.now) }
+    {
+        let rope = self.rope.copy(alloc)?;
+        Ok(Store {
+            cells: self.cells,
+            rope,
+            superbank: self.superbank,
+            erasable_base: self.erasable_base,
+            fixed_base: self.fixed_base,
+        })
     }
 
     /// Returns the rope, which no run changes.
