@@ -1,6 +1,7 @@
 //! Scripts: the events that reach the computer from outside, the tape of live keys, and the merge of both.
 #![tactic(auto)]
 
+mod alike;
 mod command;
 mod event;
 mod fault;
@@ -14,6 +15,7 @@ mod script;
 mod tape;
 mod written;
 
+pub use alike::begin_alike;
 pub use command::read_command;
 pub use event::{Event, LAST_CYCLE, MOST_EVENTS, What};
 pub use fault::{FaultKind, ScriptFault};

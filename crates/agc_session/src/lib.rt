@@ -2,6 +2,7 @@
 #![tactic(auto)]
 
 mod arguments;
+mod checkpoint;
 mod fault;
 pub mod laws;
 mod session;
