@@ -96,12 +96,12 @@ live_keeps s what (t, stepped.Wrote write) w e = tt
 live_keeps s what (t, stepped.Stopped why) w e =
     let quiet : stepped.Stopped why ≡ stepped.Quiet = ap (λ (r : State × Stepped). r.1) e ∙ live_is_quiet s what w in cc
 
-none_live : (n : ℕ) (s : State) → AreWanted (replicate n None) s
+pub none_live : (n : ℕ) (s : State) → AreWanted (replicate n None) s
 unfolding AreWanted
 none_live zero s = tt
 none_live (suc n) s = none_live n (boundary None s).0
 
-no_tape : (n : ℕ) (s : State) → tape_of (replicate n None) s ≡ []
+pub no_tape : (n : ℕ) (s : State) → tape_of (replicate n None) s ≡ []
 unfolding tape_of
 no_tape zero s = refl
 no_tape (suc n) s = no_tape n (boundary None s).0

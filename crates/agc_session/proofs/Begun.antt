@@ -1,11 +1,10 @@
 -- A session at its start, and the run of its script.
-use Rattle.std.specs.Prelude.{◌≡◌, ℕ, ◌≤◌, List, [], length, replicate, Option, None, Result, Ok, Err, IfOk, IfSome}
+use Rattle.std.specs.Prelude.{◌≡◌, ℕ, List, [], length, replicate, Option, None, Result, Ok, Err, IfOk, IfSome}
 use Rattle.std.specs.Result.{result_ok}
-use Rattle.std.proofs.Common.{refl, ap, sym, subst, ◌∙◌, arith}
+use Rattle.std.proofs.Common.{refl, ap, sym, subst, ◌∙◌}
 use Rattle.agc_word.specs.Number.{Number}
 use Rattle.agc_word.specs.declared.channel_write.ChannelWrite.{ChannelWrite}
 use Rattle.agc_store.specs.Cells.{put_of, start_memory}
-use Rattle.agc_script.specs.Event.{most_events}
 use Rattle.agc_script.specs.Merge.{joined}
 use Rattle.agc_script.proofs.Merges.{joined_none}
 use Rattle.agc_script.specs.declared.event.Event.{Event}
@@ -18,36 +17,28 @@ use Rattle.agc_machine.proofs.Live.{live_starts}
 use Rattle.agc_machine.proofs.LiveTime.{live_is_same}
 use Rattle.agc_machine.proofs.Replay.{chain_replays}
 use Rattle.agc_panel.specs.Face.{panel_of}
-use Rattle.agc_panel.specs.declared.face.Face.{Face}
 use Rattle.agc_session.specs.Session.{IsReplay, IsSession, SessionState, start_with, script_of}
 
 -- a start state has the rope and the limit that it was made from
-words_at_start : (words : List Number) (events : List Event) (limit : ℕ) → (start_state words events limit None).processor.store.fixed ≡ words
+pub words_at_start : (words : List Number) (events : List Event) (limit : ℕ) → (start_state words events limit None).processor.store.fixed ≡ words
 unfolding start_state start_processor start_memory put_of
 words_at_start words events limit = refl
 
-limit_at_start : (words : List Number) (events : List Event) (limit : ℕ) → (start_state words events limit None).limit ≡ limit
+pub limit_at_start : (words : List Number) (events : List Event) (limit : ℕ) → (start_state words events limit None).limit ≡ limit
 unfolding start_state
 limit_at_start words events limit = refl
 
-start_of_start : (words : List Number) (events : List Event) (limit : ℕ) → start_with events (start_state words events limit None) ≡ start_state words events limit None
+pub start_of_start : (words : List Number) (events : List Event) (limit : ℕ) → start_with events (start_state words events limit None) ≡ start_state words events limit None
 start_of_start words events limit =
     ap (λ (w : List Number). start_state w events (start_state words events limit None).limit None) (words_at_start words events limit)
     ∙ ap (λ (l : ℕ). start_state words events l None) (limit_at_start words events limit)
 
 -- nothing was injected and nothing shown
-pub begins : (words : List Number) (base retained script : List Event) (limit : ℕ) (now : State) (panel : Face) → now ≡ start_state words script limit None
-    → panel ≡ panel_of [] → script ≡ joined base retained → length script ≤ most_events
-    → IsSession (record { base = base; retained = retained; script = script; injected = []; now = now; panel = panel })
-begins words base retained script limit now panel e p known few = record {
-  writes = [];
-  live =
-      subst (λ (s : State). IsLive (start_with script s) [] [] s) (sym e)
-      (subst (λ (s : State). IsLive s [] [] (start_state words script limit None)) (sym (start_of_start words script limit)) (live_starts (start_state words script limit None)));
-  panel = p;
-  known = known;
-  room = omega (arith, few);
-}
+pub starts_live : (words : List Number) (script : List Event) (limit : ℕ) (now : State) → now ≡ start_state words script limit None
+    → IsLive (start_with script now) [] [] now
+starts_live words script limit now e =
+    subst (λ (s : State). IsLive (start_with script s) [] [] s) (sym e)
+    (subst (λ (s : State). IsLive s [] [] (start_state words script limit None)) (sym (start_of_start words script limit)) (live_starts (start_state words script limit None)))
 
 -- a run began where it began, however far it has gone
 pub same_start : (script injected : List Event) (now later : State) (writes : List ChannelWrite) → IsLive (start_with script now) injected writes later
@@ -62,13 +53,18 @@ told_start : (script injected : List Event) (now : State) → with_tape injected
 unfolding start_state
 told_start script injected now = refl
 
-pub replays : (s : SessionState) → IsSession s → IsReplay (script_of s) s
-replays s h =
+-- the plain run of the session's script
+pub replayed : (s : SessionState) (h : IsSession s)
+    → chain (replicate (length h.live.lives) None) (start_with (script_of s) s.now) ≡ chain h.live.lives (start_with s.script s.now)
+replayed s h =
     let start = start_with s.script s.now in
     let taped : with_tape s.injected start ≡ start_with (script_of s) s.now = told_start s.script s.injected s.now in
-    let same : chain (replicate (length h.live.lives) None) (start_with (script_of s) s.now) ≡ chain h.live.lives start =
     ap (λ (t : State). chain (replicate (length h.live.lives) None) t) (sym taped)
-    ∙ ap (λ (g : List Event). chain (replicate (length h.live.lives) None) (with_tape g start)) h.live.taped ∙ chain_replays h.live.lives start h.live.wanted in
+    ∙ ap (λ (g : List Event). chain (replicate (length h.live.lives) None) (with_tape g start)) h.live.taped ∙ chain_replays h.live.lives start h.live.wanted
+
+pub replays : (s : SessionState) → IsSession s → IsReplay (script_of s) s
+replays s h =
+    let same = replayed s h in
     record {
       boundaries = length h.live.lives;
       state = ap (λ (c : Chain). c.last) same ∙ sym h.live.last;

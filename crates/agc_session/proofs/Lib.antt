@@ -1,4 +1,5 @@
 pub mod Begun
+pub mod Checkpoints
 pub mod Gone
 pub mod Reached
 pub mod Joins

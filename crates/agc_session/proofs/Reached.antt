@@ -13,9 +13,9 @@ use Rattle.agc_session.specs.Session.{BeginBefore, HasReached}
 
 -- some boundaries, each of which begins before a cycle
 pub record Way (cycle : ℕ) (s t : State) : Type 0 where
-  boundaries : ℕ
-  way : (chain (replicate boundaries None) s).last ≡ t
-  before : BeginBefore boundaries cycle s
+  pub boundaries : ℕ
+  pub way : (chain (replicate boundaries None) s).last ≡ t
+  pub before : BeginBefore boundaries cycle s
 
 pub no_way : (cycle : ℕ) (s : State) → Way cycle s s
 unfolding chain BeginBefore

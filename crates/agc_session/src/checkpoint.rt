@@ -50,7 +50,7 @@ impl Checkpoints {
 
     /// Sets when the next copy is due, after a machine has come to this cycle.
     pub(crate) fn wait(&mut self, cycle: u64)
-        ensures { self.new.copies ≡ self.old.copies }
+        ensures { self.new.copies.items ≡ self.old.copies.items }
     {
         self.due = (cycle / SPACING).saturating_add(1).saturating_mul(SPACING);
     }

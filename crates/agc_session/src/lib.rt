@@ -10,5 +10,5 @@ mod writing;
 
 pub use arguments::{SessionArgs, open_session, session_args, session_from, with_session_args};
 pub use fault::{BeginFault, InjectFault, RewindFailed};
-pub use session::Session;
+pub use session::{Rewound, Session};
 pub use writing::LINE_ROOM;

@@ -1,5 +1,6 @@
-//! The interactive session: a machine, the panel that its writes make, and the events injected so far.
-ghost use Rattle.std.specs.Prelude.{◌≡◌, ◌+◌, ◌<◌, ◌≤◌, ◌↔◌, List, [], ◌∷◌, ◌++◌, length, None, Some};
+//! The interactive session: a machine, the panel that its writes make, the events injected so far, and copies of the
+//! machine to go back to.
+ghost use Rattle.std.specs.Prelude.{◌≡◌, ◌+◌, ◌<◌, ◌≤◌, ◌↔◌, List, [], ◌∷◌, ◌++◌, All, length, None, Some};
 ghost use Rattle.std.specs.Prelude.{IfOk, IfErr, IfSome, IsErrOf, IsOk, OnOk, OnErr};
 ghost use Rattle.std.specs.Io.KnownBytes.{Appends};
 ghost use Rattle.agc_word.specs.declared.channel_write.ChannelWrite.{ChannelWrite};
@@ -14,9 +15,11 @@ ghost use Rattle.agc_machine.specs.Run.{next_before};
 ghost use Rattle.agc_machine.specs.State.{start_state};
 ghost use Rattle.agc_machine.specs.Replay.{writes_in};
 ghost use Rattle.agc_panel.specs.Face.{panel_of};
+ghost use Rattle.agc_session.specs.Checkpoints.{IsCheckpoint, IsOnWay, counted};
 ghost use Rattle.agc_session.specs.Session.{HasGone, HasReached, IsReplay, injected_now, shown_after, start_with};
 ghost use Rattle.agc_session.specs.Session.{discarded, retained_before, script_of, script_before};
 
+use crate::checkpoint::{Checkpoint, Checkpoints};
 use crate::fault::{BeginFault, InjectFault, RewindFailed};
 use crate::writing::write_joined;
 use agc_machine::{LimitFault, Machine, Stepped};
@@ -50,16 +53,36 @@ pub struct Session {
     script: Script,
     /// The events injected since then, each at the cycle of its injection.
     injected: Script,
+    /// The number of channel writes from the start to here.
+    writes: usize,
+    /// Copies of the machine, to go back to.
+    checkpoints: Checkpoints,
+}
+
+/// A session that has gone back, and the number of channel writes from the start to where it is now.
+#[derive(Drop)]
+pub struct Rewound {
+    pub session: Session,
+    pub writes: usize,
+}
+
+/// A state from which a run goes on.
+struct Resumed {
+    machine: Machine,
+    panel: Panel,
+    writes: usize,
 }
 
 impl Model for Session {
-    ghost use Rattle.agc_session.specs.Session.{IsSession, SessionState};
+    ghost use Rattle.agc_session.specs.Checkpoints.{IsKept};
+    ghost use Rattle.agc_session.specs.Session.{SessionState};
 
     ghost Value = { SessionState };
 
     ghost view = { λ s. record { base = s.base; retained = s.retained; script = s.script; injected = s.injected; now = s.machine; panel = s.panel } };
 
-    ghost invariant = { λ s. IsSession (record { base = s.base; retained = s.retained; script = s.script; injected = s.injected; now = s.machine; panel = s.panel }) };
+    ghost invariant = { λ s. IsKept (record { base = s.base; retained = s.retained; script = s.script; injected = s.injected; now = s.machine; panel = s.panel })
+        s.writes s.checkpoints.copies.items };
 }
 
 impl Session {
@@ -88,6 +111,8 @@ impl Session {
                 retained: Script::empty(alloc),
                 script: known,
                 injected: Script::empty(alloc),
+                writes: 0,
+                checkpoints: Checkpoints::new(alloc),
             }),
             Err(refused) => Err(BeginFault::Limit(refused.fault)),
         }
@@ -98,8 +123,9 @@ impl Session {
         ensures gone { HasGone self.old (boundary None self.old.now) result self.new }
         ensures channel { HasChannel result }
     {
+        self.copy_if_due();
         let stepped = self.machine.step(None);
-        show(&mut self.panel, stepped)
+        show(&mut self.panel, &mut self.writes, stepped)
     }
 
     /// Runs to the next channel write or to the stop, but no further than the first boundary that ends at `cycle` or
@@ -108,8 +134,40 @@ impl Session {
         ensures gone { HasGone self.old (next_before cycle self.old.now) result self.new }
         ensures channel { HasChannel result }
     {
+        loop {
+            self.copy_if_due();
+            match self.go_stretch(cycle.min(self.checkpoints.due)) {
+                Stepped::Quiet => {
+                    if cycle <= self.machine.cycle() {
+                        return Stepped::Quiet;
+                    }
+                }
+                Stepped::Wrote(write) => return Stepped::Wrote(write),
+                Stepped::Stopped(why) => return Stepped::Stopped(why),
+            }
+        }
+    }
+
+    /// Does the same without making a copy on the way.
+    fn go_stretch(&mut self, cycle: u64) -> Stepped
+        ensures gone { HasGone self.old (next_before cycle self.old.now) result self.new }
+        ensures channel { HasChannel result }
+    {
         let stepped = self.machine.next_write_before(cycle);
-        show(&mut self.panel, stepped)
+        show(&mut self.panel, &mut self.writes, stepped)
+    }
+
+    /// Makes a copy of the machine if one is due, no event of the script is due, and there is memory for it.
+    fn copy_if_due(&mut self)
+        ensures { self.new ≡ self.old }
+    {
+        if self.machine.cycle() < self.checkpoints.due || !self.machine.wants_key() {
+            return;
+        }
+        self.checkpoints.wait(self.machine.cycle());
+        if let Some(copy) = self.checkpoint() {
+            self.checkpoints.keep(copy);
+        }
     }
 
     /// Runs to the first boundary that ends at `cycle` or later, or to the stop if that comes first.
@@ -159,7 +217,60 @@ impl Session {
             retained,
             script,
             injected: Script::empty(alloc),
+            writes: 0,
+            checkpoints: Checkpoints::new(alloc),
         })
+    }
+
+    /// Discards the events that [`rewind`](Session::rewind) discards, and goes back to the newest copy of the machine
+    /// below `before`, or to the start of time if there is none. If memory runs out, returns the session unchanged.
+    pub fn rewind_near(
+        self,
+        alloc: Global,
+        cycle: u64,
+        before: u64,
+    ) -> Result<Rewound, RewindFailed>
+        ensures base { IfOk result (λ rewound. rewound.session.base ≡ self.base) }
+        ensures retained { IfOk result (λ rewound. rewound.session.retained ≡ retained_before cycle self) }
+        ensures script { IfOk result (λ rewound. rewound.session.script ≡ script_before cycle self) }
+        ensures again { IfOk result
+            (λ rewound. joined rewound.session.script (discarded cycle self) ≡ script_of self) }
+        ensures injected { IfOk result (λ rewound. rewound.session.injected ≡ []) }
+        ensures way { IfOk result (λ rewound. IsOnWay before (start_with (script_before cycle self) self.now)
+            rewound.session.now rewound.session.panel rewound.writes) }
+        ensures err { IfErr result (λ refused. refused.session ≡ self) }
+    {
+        let Some(known) = self.known_before(alloc, cycle) else {
+            return Err(RewindFailed { session: self });
+        };
+        let Known {
+            retained,
+            script,
+            events,
+        } = known;
+        let Session {
+            machine,
+            base,
+            mut checkpoints,
+            ..
+        } = self;
+        let Resumed {
+            machine,
+            panel,
+            writes,
+        } = resume(machine, &mut checkpoints, events, before);
+        checkpoints.wait(machine.cycle());
+        let session = Session {
+            machine,
+            panel,
+            base,
+            retained,
+            script,
+            injected: Script::empty(alloc),
+            writes,
+            checkpoints,
+        };
+        Ok(Rewound { session, writes })
     }
 
     /// Restarts as [`rewind`](Session::rewind) does, and runs to `cycle`. If memory runs out, returns the session
@@ -174,7 +285,7 @@ impl Session {
             (λ session. HasReached cycle (start_with (script_before cycle self) self.now) session.now) }
         ensures err { IfErr result (λ refused. refused.session ≡ self) }
     {
-        let mut session = self.rewind(alloc, cycle)?;
+        let Rewound { mut session, .. } = self.rewind_near(alloc, cycle, cycle)?;
         session.go_to(cycle);
         Ok(session)
     }
@@ -251,6 +362,26 @@ impl Session {
         self.script.join(alloc, &self.injected).ok()
     }
 
+    /// Returns a copy of the present state, or `None` if memory runs out or the machine has stopped.
+    fn checkpoint(&self) -> Option<Checkpoint>
+        ensures { IfSome result (IsCheckpoint self.now.now.processor.store.fixed self.now.now.limit) }
+    {
+        if self.machine.stopped().is_some() {
+            return None;
+        }
+        let alloc = *self.checkpoints.copies.allocator();
+        let script = self.script(alloc)?;
+        let machine = self.machine.copy_with(alloc, Script::empty(alloc))?;
+        let taken = script.len() - self.machine.events_left().len();
+        Some(Checkpoint {
+            machine,
+            panel: self.panel,
+            writes: self.writes,
+            script,
+            taken,
+        })
+    }
+
     /// Returns the number of events in the script of the session.
     pub fn events(&self) -> usize
         ensures { result ≡ length self.now.script + length self.now.injected }
@@ -284,18 +415,49 @@ impl Session {
     }
 }
 
-/// Applies the write of a boundary, if there is one, to the panel.
+/// Returns the state from which the run of these events goes on: the newest copy below `before` that it comes to, or
+/// its start.
+fn resume(machine: Machine, checkpoints: &mut Checkpoints, events: Script, before: u64) -> Resumed
+    requires { All (IsCheckpoint machine.processor.store.fixed machine.limit) checkpoints.old.copies.items }
+    ensures way { IsOnWay before (start_with events machine) result.machine result.panel result.writes }
+    ensures right { All (IsCheckpoint machine.processor.store.fixed machine.limit) checkpoints.new.copies.items }
+{
+    let Some(copy) = checkpoints.take_newest(&events, before) else {
+        return Resumed {
+            machine: machine.restart_with(events),
+            panel: Panel::new(),
+            writes: 0,
+        };
+    };
+    let Checkpoint {
+        machine,
+        panel,
+        writes,
+        taken,
+        ..
+    } = copy;
+    Resumed {
+        machine: machine.resume_with(events, taken),
+        panel,
+        writes,
+    }
+}
+
+/// Applies the write of a boundary, if there is one, to the panel, and counts it.
 #[tactic(auto, unfolding(agc_machine::specs::Replay::writes_in))]
-fn show(panel: &mut Panel, stepped: Stepped) -> Stepped
+fn show(panel: &mut Panel, writes: &mut usize, stepped: Stepped) -> Stepped
     ensures same { result ≡ stepped }
     ensures named { panel.new ≡ shown_after stepped panel.old }
     ensures all { (taken : List ChannelWrite) → panel.old ≡ panel_of taken
         → panel.new ≡ panel_of (taken ++ writes_in (stepped ∷ [])) }
+    ensures count { (taken : List ChannelWrite) → writes.old ≡ counted taken
+        → writes.new ≡ counted (taken ++ writes_in (stepped ∷ [])) }
 {
     match stepped {
         Stepped::Quiet => Stepped::Quiet,
         Stepped::Wrote(write) => {
             panel.take(&write);
+            *writes = writes.saturating_add(1);
             Stepped::Wrote(write)
         }
         Stepped::Stopped(why) => Stepped::Stopped(why),

@@ -7,4 +7,4 @@ returns-clause-script c = search rules
 
 pub returns-clause-again : goal.returns-clause-again
 returns-clause-again c =
-    injects_again c.args.cycle _ c.args.self.now c.in_ok-script.script c.self.view_is c.self.invariant c.rises.ensures c.rises-2.ensures (returns-clause-script c)
+    injects_again c.args.cycle _ c.args.self.now c.in_ok-script.script c.self.view_is c.self.invariant.session c.rises.ensures c.rises-2.ensures (returns-clause-script c)

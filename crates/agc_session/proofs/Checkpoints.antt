@@ -1,0 +1,183 @@
+-- A copy of the machine is a state of the session's run, and the run of a script that fits it goes on from there.
+use Rattle.std.specs.Prelude.{◌≡◌, ℕ, zero, suc, ◌+◌, ◌-◌, ◌<◌, ◌≤◌, List, [], ◌++◌, length, take, drop, replicate, All, None}
+use Rattle.std.proofs.Common.{refl, ap, sym, subst, ◌∙◌, arith}
+use Rattle.std.proofs.Math.Seq.{drop-append_seam}
+use Rattle.std.proofs.lemmas.List.{length-append, take-append-drop}
+use Rattle.std.proofs.lemmas.List.Elements.{All-nil}
+use Rattle.agc_word.specs.Number.{Number}
+use Rattle.agc_word.specs.declared.channel_write.ChannelWrite.{ChannelWrite}
+use Rattle.agc_script.specs.Event.{most_events}
+use Rattle.agc_script.specs.Merge.{joined}
+use Rattle.agc_script.specs.declared.event.Event.{Event}
+use Rattle.agc_machine.specs.Boundary.{IsBefore, boundary}
+use Rattle.agc_machine.specs.Laws.{LeavesEvents}
+use Rattle.agc_machine.specs.Live.{IsLive}
+use Rattle.agc_machine.specs.Replay.{Chain, chain, writes_in}
+use Rattle.agc_machine.specs.State.{State, start_state}
+use Rattle.agc_machine.proofs.Live.{goes_on, live_starts, none_live, no_tape}
+use Rattle.agc_machine.proofs.LiveTime.{live_is_same}
+use Rattle.agc_machine.proofs.Taking.{IsLeft, chain_later, chain_left, takes_same}
+use Rattle.agc_panel.specs.Face.{panel_of}
+use Rattle.agc_panel.specs.declared.face.Face.{Face}
+use Rattle.agc_session.specs.Checkpoints.{Fits, IsCheckpoint, IsKept, IsOnWay, counted}
+use Rattle.agc_session.specs.Session.{BeginBefore, HasReached, IsSession, SessionState, script_of, start_with}
+use Rattle.agc_session.specs.declared.checkpoint.Checkpoint.{Checkpoint}
+use Rattle.agc_session.proofs.Reached.{Way, then_way}
+use Rattle.agc_session.proofs.Begun.{limit_at_start, replayed, same_start, starts_live, words_at_start}
+
+-- a later state of a run has the same words and limit, so copies of the run stay right
+pub still_right : (script injected : List Event) (now later : State) (writes : List ChannelWrite) (copies : List Checkpoint)
+    → IsLive (start_with script now) injected writes later → All (IsCheckpoint now.processor.store.fixed now.limit) copies
+    → All (IsCheckpoint later.processor.store.fixed later.limit) copies
+still_right script injected now later writes copies live right =
+    let same = live_is_same (start_with script now) later injected writes live in
+    let words : later.processor.store.fixed ≡ now.processor.store.fixed = same.0 ∙ words_at_start now.processor.store.fixed script now.limit in
+    let limit : later.limit ≡ now.limit = same.1 ∙ limit_at_start now.processor.store.fixed script now.limit in
+    subst (λ (w : List Number). All (IsCheckpoint w later.limit) copies) (sym words)
+    (subst (λ (l : ℕ). All (IsCheckpoint now.processor.store.fixed l) copies) (sym limit) right)
+
+-- at the start there are no writes and no copies
+pub begins_kept : (words : List Number) (base retained script : List Event) (limit : ℕ) (now : State) (panel : Face) (copies : List Checkpoint)
+    → now ≡ start_state words script limit None → panel ≡ panel_of [] → script ≡ joined base retained → length script ≤ most_events → copies ≡ []
+    → IsKept (record { base = base; retained = retained; script = script; injected = []; now = now; panel = panel }) 0 copies
+begins_kept words base retained script limit now panel copies e p known few none = record {
+  session = record {
+    writes = [];
+    live = starts_live words script limit now e;
+    panel = p;
+    known = known;
+    room = omega (arith, few);
+  };
+  count = refl;
+  right = subst (All (IsCheckpoint now.processor.store.fixed now.limit)) (sym none) (All-nil (IsCheckpoint now.processor.store.fixed now.limit));
+}
+
+-- the start of a run is on it
+events_at_start : (words : List Number) (events : List Event) (limit : ℕ) → (start_state words events limit None).events ≡ events
+unfolding start_state
+events_at_start words events limit = refl
+
+with_events : (words : List Number) (events other : List Event) (limit : ℕ) → record (start_state words events limit None) { events = other } ≡ start_state words other limit None
+unfolding start_state
+with_events words events other limit = refl
+
+pub starts_on_run : (cycle : ℕ) (start : State) (panel : Face) → panel ≡ panel_of [] → IsOnWay cycle start start panel 0
+unfolding chain writes_in BeginBefore
+starts_on_run cycle start panel e = record { on_run = record { boundaries = 0; state = refl; shown = e; count = refl }; before = tt }
+
+-- each boundary on the way to an earlier cycle begins before a later one
+begin_before : (n cycle : ℕ) (s : State) → (chain (replicate n None) s).last.cycle < cycle → BeginBefore n cycle s
+unfolding chain BeginBefore
+begin_before zero cycle s l = tt
+begin_before (suc n) cycle s l = (omega (arith, l, chain_later (suc n) s), begin_before n cycle (boundary None s).0 l)
+
+-- the run of a script that fits a copy comes to it
+pub goes_on_from : (words : List Number) (limit before : ℕ) (script : List Event) (copy : Checkpoint) → IsCheckpoint words limit copy → Fits script copy
+    → copy.machine.cycle < before
+    → IsOnWay before (start_state words script limit None) (record copy.machine { events = drop copy.taken script }) copy.panel copy.writes
+goes_on_from words limit before script copy h fits l =
+    let n = h.on_run.boundaries in
+    let start : State = start_state words copy.script limit None in
+    let first = take copy.taken copy.script in
+    let rest = drop copy.taken copy.script in
+    let other = drop copy.taken script in
+    let at : (chain (replicate n None) start).last ≡ record copy.machine { events = rest } = h.on_run.state in
+    let had : start.events ≡ first ++ rest = events_at_start words copy.script limit ∙ sym (take-append-drop copy.taken copy.script) in
+    let leaves : LeavesEvents n rest other start = record {
+      left = ap (λ (s : State). s.events) at;
+      runs = ap (λ (s : State). s.stopped) at ∙ h.runs;
+      later = subst (λ (c : ℕ). IsBefore c other) (sym (ap (λ (s : State). s.cycle) at)) fits.later;
+    } in
+    let again : record start { events = first ++ other } ≡ start_state words script limit None =
+    with_events words copy.script (first ++ other) limit
+    ∙ ap (λ (events : List Event). start_state words events limit None) (ap (λ (taken : List Event). taken ++ other) (sym fits.same) ∙ take-append-drop copy.taken script) in
+    let same : chain (replicate n None) (start_state words script limit None)
+    ≡ record { answers = (chain (replicate n None) start).answers; last = record (chain (replicate n None) start).last { events = other } } =
+    ap (λ (s : State). chain (replicate n None) s) (sym again) ∙ takes_same n start first rest other had leaves in
+    let last : (chain (replicate n None) (start_state words script limit None)).last ≡ record copy.machine { events = other } =
+    ap (λ (c : Chain). c.last) same ∙ ap (λ (s : State). record s { events = other }) at in
+    record {
+      on_run = record {
+        boundaries = n;
+        state = last;
+        shown = h.on_run.shown ∙ ap (λ (c : Chain). panel_of (writes_in c.answers)) (sym same);
+        count = h.on_run.count ∙ ap (λ (c : Chain). counted (writes_in c.answers)) (sym same);
+      };
+      before = begin_before n before (start_state words script limit None) (subst (λ (s : State). s.cycle < before) (sym last) l);
+    }
+
+-- a session that has gone back to a state on the run of its script, with copies of the run
+pub resumed : (before : ℕ) (s : SessionState) (now later : State) (writes : ℕ) (copies : List Checkpoint) → s.now ≡ later → s.injected ≡ []
+    → s.script ≡ joined s.base s.retained → length s.script ≤ most_events → IsOnWay before (start_with s.script now) later s.panel writes
+    → All (IsCheckpoint now.processor.store.fixed now.limit) copies → IsKept s writes copies
+resumed before s now later writes copies at none known few way right =
+    let n = way.on_run.boundaries in
+    let start : State = start_with s.script now in
+    let shown = writes_in (chain (replicate n None) start).answers in
+    let live : IsLive start [] shown later =
+    subst (λ (t : State). IsLive start [] shown t) way.on_run.state
+    (subst (λ (tape : List Event). IsLive start tape shown (chain (replicate n None) start).last) (no_tape n start)
+    (goes_on start start [] [] (replicate n None) (live_starts start) (none_live n start))) in
+    subst (λ (given : List Event). IsKept (record s { injected = given }) writes copies) (sym none)
+    (subst (λ (t : State). IsKept (record s { injected = []; now = t }) writes copies) (sym at)
+    (record {
+      session = record {
+        writes = shown;
+        live = subst (λ (t : State). IsLive t [] shown later) (same_start s.script [] now later shown live) live;
+        panel = way.on_run.shown;
+        known = known;
+        room = omega (arith, few);
+      };
+      count = way.on_run.count;
+      right = still_right s.script [] now later shown copies live right;
+    }))
+
+-- the events left are the last ones of the script
+left_in : (script left : List Event) → IsLeft script left → (length left ≤ length script) × (drop (length script - length left) script ≡ left)
+left_in script left (taken, e) =
+    let long : length script ≡ length taken + length left = ap length e ∙ length-append taken left in
+    let count : length script - length left ≡ length taken = omega (arith, long) in
+    (omega (arith, long), ap (λ (n : ℕ). drop n script) count ∙ ap (drop (length taken)) e ∙ drop-append_seam taken left)
+
+-- a session's events left are the last ones of its script
+pub session_left : (s : SessionState) → IsSession s
+    → (length s.now.events ≤ length (script_of s)) × (drop (length (script_of s) - length s.now.events) (script_of s) ≡ s.now.events)
+session_left s h =
+    let n = length h.live.lives in
+    let start : State = start_with (script_of s) s.now in
+    let at : (chain (replicate n None) start).last ≡ s.now = ap (λ (c : Chain). c.last) (replayed s h) ∙ sym h.live.last in
+    let left : IsLeft start.events s.now.events = subst (λ (t : State). IsLeft start.events t.events) at (chain_left n start) in
+    left_in (script_of s) s.now.events
+    (subst (λ (events : List Event). IsLeft events s.now.events) (events_at_start s.now.processor.store.fixed (script_of s) s.now.limit) left)
+
+-- a copy of the present state of a session
+pub copies_now : (s : SessionState) (writes : ℕ) (all : List Checkpoint) (machine : State) (script : List Event) (taken : ℕ) → IsKept s writes all
+    → s.now.stopped ≡ None → script ≡ script_of s → taken ≡ length script - length s.now.events → machine ≡ record s.now { events = [] }
+    → IsCheckpoint s.now.processor.store.fixed s.now.limit (record { machine = machine; panel = s.panel; writes = writes; script = script; taken = taken })
+copies_now s writes all machine script taken h runs known count copied =
+    let same = replayed s h.session in
+    let rest : drop taken script ≡ s.now.events =
+    ap (λ (n : ℕ). drop n script) count ∙ ap (λ (events : List Event). drop (length events - length s.now.events) events) known ∙ (session_left s h.session).1 in
+    let there : chain (replicate (length h.session.live.lives) None) (start_state s.now.processor.store.fixed script s.now.limit None)
+    ≡ chain h.session.live.lives (start_with s.script s.now) =
+    ap (λ (events : List Event). chain (replicate (length h.session.live.lives) None) (start_with events s.now)) known ∙ same in
+    record {
+      on_run = record {
+        boundaries = length h.session.live.lives;
+        state = ap (λ (c : Chain). c.last) there ∙ sym h.session.live.last
+            ∙ ap (λ (events : List Event). record s.now { events = events }) (sym rest)
+            ∙ ap (λ (m : State). record m { events = drop taken script }) (sym copied);
+        shown = h.session.panel ∙ ap panel_of h.session.live.written ∙ ap (λ (c : Chain). panel_of (writes_in c.answers)) (sym there);
+        count = h.count ∙ ap counted h.session.live.written ∙ ap (λ (c : Chain). counted (writes_in c.answers)) (sym there);
+      };
+      runs = ap (λ (m : State). m.stopped) copied ∙ runs;
+    }
+
+-- from a state on the way to a cycle the run goes on to the cycle
+pub reaches : (cycle : ℕ) (start now later : State) (panel : Face) (writes : ℕ) → IsOnWay cycle start now panel writes → HasReached cycle now later
+    → HasReached cycle start later
+reaches cycle start now later panel writes near far =
+    let way : Way cycle start later =
+    then_way cycle start now later (record { boundaries = near.on_run.boundaries; way = near.on_run.state; before = near.before })
+    (record { boundaries = far.boundaries; way = far.way; before = far.before }) in
+    record { boundaries = way.boundaries; way = way.way; before = way.before; there = far.there }
