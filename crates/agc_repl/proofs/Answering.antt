@@ -1,5 +1,5 @@
 -- How the parts of an answer make up the whole.
-use Rattle.std.specs.Prelude.{◌≡◌, ◌≢◌, ◌⊎◌, ℕ, ◌+◌, ◌==◌, nat_le, Bool, true, false, List, [], ◌++◌, length, Option, None, Some, Result, Ok, Err, IfOk, IfSome, MatchResult, OnOk, IsErrOf, codes, flat_map, if◌then◌else◌}
+use Rattle.std.specs.Prelude.{◌≡◌, ◌≢◌, ℕ, ◌+◌, ◌==◌, nat_le, Bool, true, false, List, [], ◌++◌, length, Option, None, Some, Result, Ok, Err, IfOk, IfSome, MatchResult, OnOk, IsErrOf, codes, flat_map, if◌then◌else◌}
 use Rattle.std.specs.Io.KnownBytes.{Appends, append_known}
 use Rattle.std.proofs.Common.{refl, ap, sym, subst, ◌∙◌, inl, inr}
 use Rattle.std.proofs.KnownBytes.{Appends-trans}
@@ -20,7 +20,7 @@ use Rattle.agc_trace.specs.Trace.{trace_within}
 use Rattle.agc_repl.specs.Answer.{error_line}
 use Rattle.agc_repl.specs.Answered.{Answer, Begins, GoesBack, IsAnswered, IsLeft, IsPartOf, IsPlain, Request, RunsOut, Tells, ahead_text, answer_to, answered, back_answer, cycles_on, done, ended, given_answer, last_line, refusal_text, refused_by, shown_until, shown_stretch}
 use Rattle.agc_repl.specs.Queries.{shown_text}
-use Rattle.agc_repl.specs.Repl.{GoesOn, after_boundaries, after_due, gone_back, takes_event}
+use Rattle.agc_repl.specs.Repl.{after_boundaries, after_due, gone_back, takes_event}
 use Rattle.agc_repl.specs.Stretch.{armed_in, stretch_to}
 use Rattle.agc_repl.specs.declared.armed_breakpoint.ArmedBreakpoint.TheVariants as armed
 use Rattle.agc_repl.specs.declared.conversation.ReplFault.{ReplFault}

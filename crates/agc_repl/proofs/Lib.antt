@@ -9,3 +9,4 @@ pub mod Sessions
 pub mod Stepping
 pub mod Telling
 pub mod Ways
+pub mod Backwards

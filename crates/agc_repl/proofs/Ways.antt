@@ -14,16 +14,14 @@ use Rattle.agc_machine.specs.declared.answer.Stepped.TheVariants as stepped
 use Rattle.agc_machine.specs.declared.answer.Stop.{Stop}
 use Rattle.agc_machine.proofs.Chain.{some_left, stopped_stays}
 use Rattle.agc_machine.proofs.Live.{written}
-use Rattle.agc_panel.specs.Face.{panel_of}
-use Rattle.agc_session.specs.Session.{SessionState, retained_before, start_with, script_before}
 use Rattle.agc_trace.proofs.Lines.{IsWritten, nothing_written, written_more, written_whole}
 use Rattle.agc_repl.specs.Answer.{write_line}
-use Rattle.agc_repl.specs.Repl.{after_stretch, at_start, rewound, gone_back, gone_on, turns_left}
+use Rattle.agc_repl.specs.Repl.{after_stretch, gone_on, turns_left}
 use Rattle.agc_repl.specs.Stretch.{Stretch, and_on, has_come, is_short_of, no_way, stretch_to, way_within, writes_text}
 use Rattle.agc_repl.specs.declared.armed_breakpoint.ArmedBreakpoint.{ArmedBreakpoint}
 use Rattle.agc_repl.specs.declared.armed_breakpoint.ArmedBreakpoint.TheVariants as armed
 use Rattle.agc_repl.specs.declared.repl.Repl.{Repl}
-use Rattle.agc_repl.proofs.Going.{advances_by_boundary, gone_nowhere, gone_then, no_more, on_the_way, same_repl, under_way, unstopped}
+use Rattle.agc_repl.proofs.Going.{advances_by_boundary, gone_nowhere, gone_then, no_more, on_the_way, under_way, unstopped}
 
 if_same : (b : Bool) (x y z : Stretch) → (b ≡ true → x ≡ y) → (if b then x else z) ≡ (if b then y else z)
 if_same true x y z h = h refl
@@ -81,10 +79,10 @@ pub way_ends : (k : ArmedBreakpoint) (cycle : ℕ) (s : State) → is_short_of c
 way_ends k cycle s b = by_boundary k cycle s ∙ if_false (is_short_of cycle s) _ _ b
 
 -- a target that only a write can hit
-abbrev ComesByWrites : ArmedBreakpoint → Type 0
+abbrev pub ComesByWrites : ArmedBreakpoint → Type 0
 ComesByWrites k = (s : State) → (has_come k s stepped.Quiet ≡ false) × ((why : Stop) → has_come k s (stepped.Stopped why) ≡ false)
 
-nothing_comes : ComesByWrites armed.Nothing
+pub nothing_comes : ComesByWrites armed.Nothing
 unfolding has_come
 nothing_comes s = (refl, λ why. refl)
 
@@ -111,7 +109,7 @@ one_by k cycle s (Some why) c h e =
     sym (ap (λ (r : State × Stepped). and_on k r (stretch_to k cycle r.0)) (stopped_stays s why e) ∙ stop_on k s why (stretch_to k cycle s) ((c s).1 why))
 
 -- before the cycle a boundary is a part of the stretch, even if the machine has stopped
-one_on : (k : ArmedBreakpoint) (cycle : ℕ) (s : State) (r : State × Stepped) → ComesByWrites k → s.cycle < cycle → boundary None s ≡ r
+pub one_on : (k : ArmedBreakpoint) (cycle : ℕ) (s : State) (r : State × Stepped) → ComesByWrites k → s.cycle < cycle → boundary None s ≡ r
     → stretch_to k cycle s ≡ and_on k r (stretch_to k cycle r.0)
 one_on k cycle s r c h e =
     one_by k cycle s s.stopped c h refl ∙ ap (λ (x : State × Stepped). and_on k x (stretch_to k cycle x.0)) e
@@ -232,16 +230,3 @@ pub said_all : (k : ArmedBreakpoint) (cycle : ℕ) (s t : Repl) (old new : Optio
     → Appends old new (writes_text (stretch_to k cycle s.session.now).writes)
 said_all k cycle s t old new f e =
     written_whole old new _ _ (ap (λ (w : Stretch). writes_text w.writes) (way_ends k cycle t.session.now e)) f
-
--- a session that was rewound
-same_session : (s t : SessionState) → s.base ≡ t.base → s.retained ≡ t.retained → s.script ≡ t.script → s.injected ≡ t.injected → s.now ≡ t.now → s.panel ≡ t.panel → s ≡ t
-same_session s t a b c d e f = ap (λ (u : Repl). u.session) (same_repl (at_start s) (at_start t) a b c d e f refl)
-
-pub restart_is : (cycle : ℕ) (s t : SessionState) → t.base ≡ s.base → t.retained ≡ retained_before cycle s → t.script ≡ script_before cycle s → t.injected ≡ []
-    → t.now ≡ start_with (script_before cycle s) s.now → t.panel ≡ panel_of [] → t ≡ rewound cycle s
-restart_is cycle s t a b c d e f = same_session t (rewound cycle s) a b c d e f
-
-pub back_is : (cycle : ℕ) (s start u : Repl) (t : SessionState) → t ≡ rewound cycle s.session → start ≡ at_start t
-    → u ≡ after_stretch (stretch_to armed.Nothing cycle start.session.now) start → u ≡ gone_back cycle s
-back_is cycle s start u t e f h =
-    h ∙ ap (λ (x : Repl). after_stretch (stretch_to armed.Nothing cycle x.session.now) x) (f ∙ ap at_start e)

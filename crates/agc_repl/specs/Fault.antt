@@ -1,5 +1,5 @@
 -- The answer to an invalid command line: the name of the fault and what would be valid.
-use Rattle.std.specs.Prelude.{ℕ, List, ◌++◌, codes, Option, None, Some}
+use Rattle.std.specs.Prelude.{ℕ, List, ◌++◌, codes, Option, Some}
 use Rattle.agc_panel.specs.declared.watch_spec.WatchFault.{WatchFault}
 use Rattle.agc_panel.specs.declared.watch_spec.WatchFault.TheVariants as watch
 use Rattle.agc_script.specs.declared.fault.FaultKind.{FaultKind}

@@ -121,9 +121,12 @@ impl Repl {
         ensures err { IfErr result (λ repl. repl ≡ self) }
     {
         let Repl { session, writes } = self;
-        match session.rewind(alloc, cycle) {
-            Ok(session) => {
-                let mut earlier = Repl::new(session);
+        match session.rewind_near(alloc, cycle, cycle) {
+            Ok(rewound) => {
+                let mut earlier = Repl {
+                    session: rewound.session,
+                    writes: rewound.writes,
+                };
                 earlier.go_silently(cycle);
                 Ok(earlier)
             }

@@ -33,7 +33,7 @@ struct Press {
     released: Option<u64>,
 }
 
-/// A run again from the start, to where the session goes back to or to the stop of the machine.
+/// A run again from a copy of the machine or from the start, to where the session goes back to or to the stop.
 #[derive(Clone, Copy, Debug, PartialEq, Eq)]
 struct Rerun {
     /// The cycle that it runs to.
@@ -351,8 +351,8 @@ impl Operator {
         }
     }
 
-    /// Restarts the session without the events injected at `cycle` or later, for a rerun. Returns false if memory ran out;
-    /// then nothing has changed.
+    /// Takes the session back without the events injected at `cycle` or later, to the newest copy from which a rerun comes
+    /// to all its last boundaries. Returns false if memory ran out; then nothing has changed.
     fn rewind(self, alloc: Global, cycle: u64, rerun: Rerun) -> (Operator, bool) {
         let Operator {
             session,
@@ -361,8 +361,9 @@ impl Operator {
             pressed,
             rerun: before,
         } = self;
-        let (session, is_new) = match session.rewind(alloc, cycle) {
-            Ok(session) => (session, true),
+        let first_recent = rerun.to.saturating_sub(RECENT_CYCLES);
+        let (session, is_new) = match session.rewind_near(alloc, cycle, first_recent) {
+            Ok(rewound) => (rewound.session, true),
             Err(same) => (same.session, false),
         };
         if is_new {

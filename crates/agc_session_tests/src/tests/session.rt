@@ -114,3 +114,58 @@ fn the_panel_goes_back_too(rt: HostRuntime) {
     is_at(&rt, &session, 0);
     equal(&rt, session.panel().face(), blank);
 }
+
+/// Turns PRO at a cycle.
+#[tactic(auto, unfolding(agc_script::specs::Event::IsWhatInRange))]
+fn turn_pro_at(rt: &impl Abort, session: &mut Session, cycle: u64, down: bool) {
+    session.go_to(cycle);
+    equal_at(rt, down, session.inject(What::Pro(down)), Ok(()));
+}
+
+/// Goes back to the newest copy before a cycle, and checks where it is and how many writes there are up to it.
+fn near(
+    rt: &(impl AllocGlobal + Abort),
+    session: Session,
+    before: u64,
+    cycle: u64,
+    writes: usize,
+) -> Session {
+    let rewound = session
+        .rewind_near(rt.alloc(), before, before)
+        .ok()
+        .expect(rt, "memory");
+    is_at(rt, &rewound.session, cycle);
+    equal(rt, rewound.writes, writes);
+    rewound.session
+}
+
+/// A copy is made every 262,144 cycles, and the third one takes the place of the first. The write comes at cycle 3, so
+/// every copy counts it and shows its digits. Before the second copy only the start is left.
+#[test]
+fn copies_are_gone_back_to(rt: HostRuntime) {
+    let listing = "
+4000 34004 CA 4004
+4001 00006 EXTEND
+4002 01010 WRITE 10
+4003 14003 TCF 4003
+4004 54003";
+    let mut session = session_of(&rt, listing, "", 2_000_000);
+    let blank = session.panel().face();
+    turn_pro_at(&rt, &mut session, 300_000, true);
+    let digits = session.panel().face();
+    turn_pro_at(&rt, &mut session, 700_000, false);
+    session.go_to(1_000_000);
+    let session = near(&rt, session, 800_000, 786_432, 1);
+    tells(&rt, &session, "300000 pro down\n700000 pro up\n");
+    let session = near(&rt, session, 700_000, 524_288, 1);
+    equal(&rt, session.panel().face(), digits);
+    tells(&rt, &session, "300000 pro down\n");
+    let session = near(&rt, session, 524_288, 0, 0);
+    equal(&rt, session.panel().face(), blank);
+    tells(&rt, &session, "300000 pro down\n");
+    let mut session = back(&rt, session, 300_000);
+    tells(&rt, &session, "");
+    is_at(&rt, &session, 300_000);
+    session.go_to(300_100);
+    equal(&rt, session.panel().face(), digits);
+}

@@ -1,2 +1,0 @@
-use Rattle.std.proofs.Common.{inl, inr}
-use Rattle.agc_repl.proofs.commands.inject.Goals as goal

@@ -1,5 +1,4 @@
-use Rattle.std.proofs.Common.{refl, subst}
-use Rattle.agc_repl.specs.Answer.{error_line}
+use Rattle.std.proofs.Common.{refl}
 use Rattle.agc_repl.proofs.Answering.{when_kept}
 use Rattle.agc_repl.proofs.conversation.refuse_ahead.Goals as goal
 

@@ -1,8 +1,7 @@
-use Rattle.agc_repl.proofs.Ways.{restart_is, back_is}
+use Rattle.agc_repl.proofs.Backwards.{back_near}
 use Rattle.agc_repl.proofs.repl.Repl.back.Goals as goal
 
 pub returns-in-Ok-clause-ok : goal.returns-in-Ok-clause-ok
 returns-in-Ok-clause-ok c =
     let at = c.in-Ok.ensures in
-    back_is c.args.cycle c.args.self c.new-earlier.result c.go_silently.new.self c.in-Ok.session
-    (restart_is c.args.cycle c.args.self.session c.in-Ok.session at.base at.retained at.script at.injected at.now at.panel) c.new-earlier.ensures c.go_silently.ensures
+    back_near c.args.cycle c.args.self c.go_silently.new.self c.in-Ok.rewound.session c.in-Ok.rewound.writes at.base at.retained at.script at.injected at.way c.go_silently.ensures
