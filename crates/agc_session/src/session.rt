@@ -157,13 +157,23 @@ impl Session {
         show(&mut self.panel, &mut self.writes, stepped)
     }
 
-    /// Makes a copy of the machine if one is due, no event of the script is due, and there is memory for it.
+    /// Makes a copy of the machine if one is due and no event of the script is.
+    #[inline]
     fn copy_if_due(&mut self)
         ensures { self.new ≡ self.old }
     {
-        if self.machine.cycle() < self.checkpoints.due || !self.machine.wants_key() {
-            return;
+        if self.checkpoints.due <= self.machine.cycle() && self.machine.wants_key() {
+            self.make_copy();
         }
+    }
+
+    /// Makes a copy of the machine, if there is memory for it. It stands apart because a call costs as much time as its
+    /// variables have room.
+    #[cold]
+    #[inline(never)]
+    fn make_copy(&mut self)
+        ensures { self.new ≡ self.old }
+    {
         self.checkpoints.wait(self.machine.cycle());
         if let Some(copy) = self.checkpoint() {
             self.checkpoints.keep(copy);

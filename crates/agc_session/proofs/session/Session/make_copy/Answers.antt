@@ -1,7 +1,7 @@
 use Rattle.std.specs.Prelude.{All}
 use Rattle.std.proofs.Common.{subst, sym}
 use Rattle.agc_session.specs.Checkpoints.{IsCheckpoint}
-use Rattle.agc_session.proofs.session.Session.copy_if_due.Goals as goal
+use Rattle.agc_session.proofs.session.Session.make_copy.Goals as goal
 
 pub invariant_of-self-in-Some : goal.invariant_of-self-in-Some
 invariant_of-self-in-Some c =
