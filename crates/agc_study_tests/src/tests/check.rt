@@ -444,7 +444,7 @@ fn listings(rt: HostRuntime) {
         ),
         (
             b" CA ONE\n CA 1\n CA TWO\n",
-            "text line 1: no line has this name\n     CA ONE\n    `ONE` is no name of a line\ntext line 3: no line has this name\n     CA TWO\n    `TWO` is no name of a line\n",
+            "text line 1: no line has this name\n     CA ONE\n    unknown name `ONE`\ntext line 3: no line has this name\n     CA TWO\n    unknown name `TWO`\n",
         ),
         (b"# a rope\n4000 14000 TCF 4000", "text: no fault\n"),
         (
