@@ -1,95 +1,101 @@
-//! Resolves the locations that `trace` selects with `--at` and `--cell`.
+//! Resolves the locations, cells and channels that `trace` selects with `--at`, `--cell` and `--channel`.
 ghost use Rattle.std.specs.Prelude.{◌≡◌, ◌∷◌, ◌++◌, [], IfErr, IfOk, Ok, OnOk, is_some, string_bytes};
-ghost use Rattle.agc_analysis.specs.Placed.{
+ghost use Rattle.agc_study_args.specs.Locations.{
   AddsChannels,
+  AreResolved,
+  AreUnresolved,
   IsMistake,
-  IsPlaced,
   IsUnnamed,
-  IsUnplaced,
-  IsUnsaid,
-  all_said,
+  IsUnresolved,
+  all_resolved,
   option_name,
-  said_in,
-  unsaid_text,
+  resolved_by,
+  unresolved_text,
   why_text,
 };
 
-use crate::until::name_until;
+use crate::args::TraceArgs;
+use crate::until::resolve_until;
 use agc_cli::ArgsFault;
 use agc_listing::{LocationRange, RangeFault};
-use agc_study_args::TraceArgs;
 use agc_symbols::{SymbolTable, resolve_cells, resolve_range};
 use std::alloc::{AllocError, Global};
 
 /// An option of `trace` that selects by location.
 #[derive(Clone, Copy, Debug, PartialEq, Eq)]
-pub enum Question {
+pub enum LocationOption {
     /// `--at`: orders at locations.
     At,
     /// `--cell`: changes of cells.
     Cell,
 }
 
-impl Question {
+impl LocationOption {
     ghost use Rattle.std.specs.Prelude.{◌≡◌};
 
     /// Returns the option as command-line errors name it.
-    fn option(self) -> &'static str
+    fn name(self) -> &'static str
         ensures { result.now ≡ option_name self }
     {
         match self {
-            Question::At => "--at <PLACES>",
-            Question::Cell => "--cell <PLACES>",
+            LocationOption::At => "--at <PLACES>",
+            LocationOption::Cell => "--cell <PLACES>",
         }
     }
 
     /// Resolves a value of this option.
-    fn said(self, names: &Option<SymbolTable>, text: &[u8]) -> Result<LocationRange, RangeFault>
-        ensures { result ≡ said_in self names.now text.now }
+    fn resolve(self, names: &Option<SymbolTable>, text: &[u8]) -> Result<LocationRange, RangeFault>
+        ensures { result ≡ resolved_by self names.now text.now }
     {
         match self {
-            Question::At => resolve_range(names, text),
-            Question::Cell => resolve_cells(names, text),
+            LocationOption::At => resolve_range(names, text),
+            LocationOption::Cell => resolve_cells(names, text),
         }
     }
 }
 
 /// Resolves the values of `--at`, `--cell` and `--channel` with these symbols and adds them to the selection; replaces a
 /// symbolic `--until`. A value that names no location, or no channel, is a command-line error.
-pub fn place(
+pub fn resolve_locations(
     alloc: Global,
     names: &Option<SymbolTable>,
-    asked: &mut TraceArgs,
+    args: &mut TraceArgs,
 ) -> Result<(), ArgsFault>
-    ensures placed { IfOk result (λ _. IsPlaced names.now asked.old asked.new) }
-    ensures unplaced { IfErr result (IsUnplaced names.now asked.old) }
+    ensures resolved { IfOk result (λ _. AreResolved names.now args.old args.new) }
+    ensures unresolved { IfErr result (AreUnresolved names.now args.old) }
 {
-    let (at, cell) = (asked.at.as_slice(), asked.cell.as_slice());
-    let channel = asked.channel.as_slice();
-    let selection = &mut asked.selection;
-    push_said(alloc, Question::At, names, at, &mut selection.places)?;
-    push_said(alloc, Question::Cell, names, cell, &mut selection.cells)?;
+    let (at, cell) = (args.at.as_slice(), args.cell.as_slice());
+    let channel = args.channel.as_slice();
+    let selection = &mut args.selection;
+    push_resolved(alloc, LocationOption::At, names, at, &mut selection.places)?;
+    push_resolved(
+        alloc,
+        LocationOption::Cell,
+        names,
+        cell,
+        &mut selection.cells,
+    )?;
     push_channels(alloc, names, channel, &mut selection.channels)?;
-    name_until(alloc, names, &mut asked.until)?;
+    resolve_until(alloc, names, &mut args.options.until)?;
     Ok(())
 }
 
 /// Resolves the values of an option and appends them.
-fn push_said(
+fn push_resolved(
     alloc: Global,
-    question: Question,
+    option: LocationOption,
     names: &Option<SymbolTable>,
     texts: &[String],
     several: &mut Vec<LocationRange>,
 ) -> Result<(), ArgsFault>
-    ensures said { IfOk result (λ _. all_said question names.now several.old.items texts.now
+    ensures resolved { IfOk result (λ _. all_resolved option names.now several.old.items texts.now
         ≡ Ok several.new.items) }
-    ensures unsaid { IfErr result (IsUnsaid question names.now several.old.items texts.now) }
+    ensures unresolved { IfErr result (IsUnresolved option names.now several.old.items texts.now) }
 {
     for text in texts {
-        match question.said(names, text.as_bytes()) {
+        match option.resolve(names, text.as_bytes()) {
             Ok(places) => push_places(several, places)?,
-            Err(why) => return Err(unsaid(alloc, question, names, text.as_str(), why)),
+            Err(why) => return Err(unresolved(alloc, option, names, text.as_str(), why)),
         }
     }
     Ok(())
@@ -156,34 +162,34 @@ fn no_channel_text(alloc: Global, text: &str) -> Result<String, AllocError> {
 }
 
 /// Returns the error for a value that names no location.
-fn unsaid(
+fn unresolved(
     alloc: Global,
-    question: Question,
+    option: LocationOption,
     names: &Option<SymbolTable>,
     text: &str,
     why: RangeFault,
 ) -> ArgsFault
-    ensures { IsMistake (unsaid_text question names.now text.now why) result }
+    ensures { IsMistake (unresolved_text option names.now text.now why) result }
 {
-    match unsaid_text(alloc, question, names, text, why) {
+    match unresolved_text(alloc, option, names, text, why) {
         Ok(text) => ArgsFault::Command(text),
         Err(AllocError) => ArgsFault::Memory,
     }
 }
 
-#[tactic(auto, unfolding(crate::specs::Placed::unsaid_text))]
-fn unsaid_text(
+#[tactic(auto, unfolding(crate::specs::Locations::unresolved_text))]
+fn unresolved_text(
     alloc: Global,
-    question: Question,
+    option: LocationOption,
     names: &Option<SymbolTable>,
     text: &str,
     why: RangeFault,
 ) -> Result<String, AllocError>
-    ensures { IfOk result (λ told. string_bytes told ≡ unsaid_text question names.now text.now why) }
+    ensures { IfOk result (λ line. string_bytes line ≡ unresolved_text option names.now text.now why) }
 {
-    let (option, why) = (question.option(), why_text(has_names(names), why));
+    let (name, why) = (option.name(), why_text(has_names(names), why));
     format!(in alloc;
-        "error: invalid value '{text}' for '{option}': {why}\n\nFor more information, try '--help'.\n"
+        "error: invalid value '{text}' for '{name}': {why}\n\nFor more information, try '--help'.\n"
     )
 }
 

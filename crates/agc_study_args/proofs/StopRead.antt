@@ -14,7 +14,7 @@ use Rattle.agc_listing.proofs.Octals.{length_octal, octal_back}
 use Rattle.agc_listing.specs.Location.{IsWithin, cell_address, location_at}
 use Rattle.agc_listing.specs.declared.location.Location.{Location}
 use Rattle.agc_listing.specs.declared.location.Location.TheVariants as location
-use Rattle.agc_analysis.specs.Until.{StopsAt, stop_place}
+use Rattle.agc_study_args.specs.Until.{StopsAt, stop_place}
 
 -- two digits before the comma
 no_comma : (n : ℕ) → is_bank_comma (48 + n % 8) ≡ false

@@ -1,8 +1,8 @@
 //! Writes the symbol file of a source: first to a new file beside it, which then takes its name.
+use crate::args::WeaveArgs;
 use crate::channel_names::with_channels;
 use agc_asm::name_lines;
 use agc_cli::ArgsFault;
-use agc_study_args::WeaveArgs;
 use std::alloc::{AllocError, Global};
 use std::fs::{self, File, OpenFile};
 use std::io::{self, ErrorKind, Write};
@@ -13,7 +13,7 @@ const TRIES: u32 = 100;
 
 /// Checks the path of `--write-names`, before anything is read or written. An existing file is a command-line error
 /// unless `--force` is passed; the source itself, and a path that is not a regular file, always are.
-pub(crate) fn check_path<R>(rt: &R, weaving: &WeaveArgs, path: &str) -> Result<(), ArgsFault>
+pub fn check_names_path<R>(rt: &R, args: &WeaveArgs, path: &str) -> Result<(), ArgsFault>
 where
     R: Files + AllocGlobal,
 {
@@ -22,9 +22,9 @@ where
     };
     let why = if !found.is_file() {
         "it is there, and not a regular file"
-    } else if is_same_file(rt, path, weaving.text.as_str()) {
+    } else if is_same_file(rt, path, args.text.as_str()) {
         "this is the source"
-    } else if !weaving.force {
+    } else if !args.force {
         "the file exists; --force replaces it"
     } else {
         return Ok(());
@@ -60,7 +60,7 @@ fn refused_text(alloc: Global, path: &str, why: &str) -> Result<String, AllocErr
 }
 
 /// Writes the symbols of a source to the file at a path. If that fails, the file is as it was.
-pub(crate) fn write_names<R>(rt: &R, path: &str, source: &[u8]) -> io::Result<()>
+pub fn write_names<R>(rt: &R, path: &str, source: &[u8]) -> io::Result<()>
 where
     R: Files + AllocGlobal,
 {

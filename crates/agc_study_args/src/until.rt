@@ -2,7 +2,7 @@
 ghost use Rattle.std.specs.Prelude.{◌≡◌, IfErr, IfOk, IfSome, string_bytes};
 ghost use Rattle.agc_listing.specs.Place.{IsInPrint, place_text};
 ghost use Rattle.agc_listing.specs.Location.{IsWithin};
-ghost use Rattle.agc_analysis.specs.Until.{IsUntilWith, stop_place, stop_with, until_with};
+ghost use Rattle.agc_study_args.specs.Until.{IsUntilWith, stop_place, stop_with, until_with};
 
 use agc_listing::{Location, Place, cell_address, listed_address, push_place};
 use agc_machine::StopAddress;
@@ -11,20 +11,20 @@ use agc_symbols::{SymbolTable, resolve};
 use std::alloc::{AllocError, Global};
 
 /// Replaces a symbolic `--until` by `BANK,ADDR`. Leaves anything else unchanged, also if memory runs out.
-pub fn name_until(
+pub fn resolve_until(
     alloc: Global,
     names: &Option<SymbolTable>,
     until: &mut Option<String>,
 ) -> Result<(), AllocError>
-    ensures said { IfOk result (λ _. IsUntilWith names.now until.old until.new) }
-    ensures kept { IfErr result (λ _. until.new ≡ until.old) }
+    ensures resolved { IfOk result (λ _. IsUntilWith names.now until.old until.new) }
+    ensures unchanged { IfErr result (λ _. until.new ≡ until.old) }
 {
-    *until = until_said(alloc, names, until)?;
+    *until = resolved_until(alloc, names, until)?;
     Ok(())
 }
 
 /// Returns the text of `--until`, if any, with a symbol replaced.
-fn until_said(
+fn resolved_until(
     alloc: Global,
     names: &Option<SymbolTable>,
     until: &Option<String>,
@@ -32,14 +32,18 @@ fn until_said(
     ensures { IfOk result (IsUntilWith names.now until.now) }
 {
     match until {
-        Some(text) => Ok(Some(text_said(alloc, names, text.as_str())?)),
+        Some(text) => Ok(Some(resolved_text(alloc, names, text.as_str())?)),
         None => Ok(None),
     }
 }
 
 #[tactic(auto, unfolding(crate::specs::Until::until_with))]
-fn text_said(alloc: Global, names: &Option<SymbolTable>, text: &str) -> Result<String, AllocError>
-    ensures { IfOk result (λ said. string_bytes said ≡ until_with names.now text.now) }
+fn resolved_text(
+    alloc: Global,
+    names: &Option<SymbolTable>,
+    text: &str,
+) -> Result<String, AllocError>
+    ensures { IfOk result (λ resolved. string_bytes resolved ≡ until_with names.now text.now) }
 {
     match place_of_stop(names, text) {
         Some(at) => stop_text(alloc, at),

@@ -43,7 +43,7 @@ text_in until = option_map (λ text. string_bytes text) until
 
 -- an optional text with its symbol resolved
 abbrev pub IsUntilWith : Option (List Symbol) → Option (String Global) → Option (String Global) → Type 0
-IsUntilWith names asked said = text_in said ≡ option_map (until_with names) (text_in asked)
+IsUntilWith names before after = text_in after ≡ option_map (until_with names) (text_in before)
 
 -- an order at a location runs at this stop address
 abbrev pub StopsAt : Location → Option StopAddress → Type 0

@@ -1,20 +1,47 @@
-//! Reads a rope and a script, and makes the machine to trace and the tables to watch in its run.
+//! Opens and reads a rope and a script, and makes the machine to run and the tables to watch in its run.
 ghost use Rattle.std.specs.Prelude.{◌≡◌, IfErr, IfOk, MatchResult, None, Some, false, option_copied};
 ghost use Rattle.agc_machine.specs.State.{start_state};
 ghost use Rattle.agc_machine.specs.StopAddress.{stop_address_of};
-ghost use Rattle.agc_analysis.specs.Started.{IsRefused, IsStarted, watched_steps};
-ghost use Rattle.agc_analysis.specs.Watched.{AreWatched};
+ghost use Rattle.agc_study_args.specs.Started.{AreWatched, IsRefused, IsStarted, watched_steps};
 ghost use Rattle.agc_load.specs.Options.{said_by};
 ghost use Rattle.agc_load.specs.Prepare.{tables_refusal};
 ghost use Rattle.agc_load.specs.Steps.{ComesOf};
 
+use crate::args::RunOptions;
+use crate::read_file::{ReadFile, open_file};
+use agc_io::{ROPE_BYTES, TEXT_BYTES};
 use agc_load::{LoadFault, Loaded, load, read_rope, read_script};
 use agc_machine::Machine;
 use agc_panel::{CheckedSpec, WatchSpec};
 use agc_script::Script;
-use agc_store::{Rope, RopeForm};
+use agc_store::Rope;
+use agc_timeline::RunFiles;
 use std::alloc::Global;
-use std::io::Read;
+use std::io::{Read, Write};
+use std::rt::Files;
+
+/// Readers of a run's rope and script.
+#[derive(Drop)]
+pub struct RunInputs<R> {
+    pub rope: R,
+    pub script: R,
+}
+
+impl<F> RunInputs<ReadFile<'_, F>> {
+    /// Writes a line for each of the files that could not be read.
+    pub fn remark_fault<N: Write>(&self, alloc: Global, remarks: &mut N) {
+        self.rope.remark_fault(alloc, remarks);
+        self.script.remark_fault(alloc, remarks);
+    }
+}
+
+/// Opens the rope and the script of a run.
+pub fn open_run<'a, R: Files>(rt: &R, files: &'a RunFiles) -> RunInputs<ReadFile<'a, R::File>> {
+    RunInputs {
+        rope: open_file(rt, &files.rope, ROPE_BYTES),
+        script: open_file(rt, &files.script, TEXT_BYTES),
+    }
+}
 
 /// A machine at the start of its run.
 #[derive(Drop)]
@@ -25,62 +52,55 @@ pub struct Start {
 }
 
 /// Makes the machine of a rope and a script, or fails with the first fault of: rope, script, limit, `--until`.
-pub fn read_machine<R: Read, S: Read>(
+pub fn read_machine<R: Read>(
     alloc: Global,
-    form: RopeForm,
-    limit: u64,
-    until: &Option<String>,
-    rope: &mut R,
-    script: &mut S,
+    options: &RunOptions,
+    inputs: &mut RunInputs<R>,
 ) -> Result<Machine, LoadFault>
-    ensures started { IfOk result
-        (IsStarted form until.now None limit (R.remaining rope.old) (S.remaining script.old)) }
+    ensures started { IfOk result (IsStarted options.now None
+        (R.remaining inputs.old.rope) (R.remaining inputs.old.script)) }
     ensures fresh { IfOk result (λ machine. machine.begun ≡ false) }
-    ensures refused { IfErr result
-        (IsRefused form until.now None limit (R.remaining rope.old) (S.remaining script.old)) }
+    ensures refused { IfErr result (IsRefused options.now None
+        (R.remaining inputs.old.rope) (R.remaining inputs.old.script)) }
 {
-    let start = read_start(alloc, form, limit, until, None, rope, script)?;
+    let start = read_start(alloc, options, None, inputs)?;
     Ok(start.machine)
 }
 
 /// Does the same, with the tables of `--watch` if it is given. Fails with the first fault, checked in this order:
 /// rope, script, limit, `--watch`, `--until`, addresses of the tables.
-pub fn read_start<R: Read, S: Read>(
+pub fn read_start<R: Read>(
     alloc: Global,
-    form: RopeForm,
-    limit: u64,
-    until: &Option<String>,
+    options: &RunOptions,
     watch: Option<&String>,
-    rope: &mut R,
-    script: &mut S,
+    inputs: &mut RunInputs<R>,
 ) -> Result<Start, LoadFault>
-    ensures started { IfOk result (λ start. IsStarted form until.now (option_copied watch.entry) limit
-        (R.remaining rope.old) (S.remaining script.old) start.machine) }
+    ensures started { IfOk result (λ start. IsStarted options.now (option_copied watch.entry)
+        (R.remaining inputs.old.rope) (R.remaining inputs.old.script) start.machine) }
     ensures fresh { IfOk result (λ start. start.machine.begun ≡ false) }
     ensures tables { IfOk result (λ start. AreWatched (option_copied watch.entry) start.tables) }
-    ensures refused { IfErr result (IsRefused form until.now (option_copied watch.entry) limit
-        (R.remaining rope.old) (S.remaining script.old)) }
+    ensures refused { IfErr result (IsRefused options.now (option_copied watch.entry)
+        (R.remaining inputs.old.rope) (R.remaining inputs.old.script)) }
 {
-    let rope = read_rope(alloc, form, rope)?;
-    let script = read_script(alloc, script)?;
-    start_watched(rope, script, limit, until, watch)
+    let rope = read_rope(alloc, options.form, &mut inputs.rope)?;
+    let script = read_script(alloc, &mut inputs.script)?;
+    start_watched(rope, script, options, watch)
 }
 
 /// Makes a machine at the start of its run, and checks the tables to watch in it.
 fn start_watched(
     rope: Rope,
     script: Script,
-    limit: u64,
-    until: &Option<String>,
+    options: &RunOptions,
     watch: Option<&String>,
 ) -> Result<Start, LoadFault>
-    ensures started { ComesOf (watched_steps until.now (option_copied watch.entry) limit)
+    ensures started { ComesOf (watched_steps options.now (option_copied watch.entry))
         (λ start. start.machine
-        ≡ start_state rope script limit (said_by stop_address_of until.now)) result }
+        ≡ start_state rope script options.now.limit (said_by stop_address_of options.now.until)) result }
     ensures fresh { IfOk result (λ start. start.machine.begun ≡ false) }
     ensures tables { IfOk result (λ start. AreWatched (option_copied watch.entry) start.tables) }
 {
-    let Loaded { machine, watch } = load(rope, script, limit, until, watch)?;
+    let Loaded { machine, watch } = load(rope, script, options.limit, &options.until, watch)?;
     let tables = checked_tables(watch)?;
     Ok(Start { machine, tables })
 }

@@ -1,6 +1,6 @@
 -- A machine whose tables are watched: each step that rejects it reports a fault that may be reported; otherwise the
 -- text of `--watch` names tables that can be watched.
-use Rattle.std.proofs.Common.{◌≡◌, ℕ, [], ◌∷◌, ap, sym, ◌∙◌, refl}
+use Rattle.std.proofs.Common.{◌≡◌, [], ◌∷◌, ap, sym, ◌∙◌, refl}
 use Rattle.std.specs.Prelude.{Option, None, Some, option_map}
 use Rattle.std.specs.declared.alloc.Global.{Global}
 use Rattle.std.specs.declared.string.String.{String}
@@ -13,8 +13,8 @@ use Rattle.agc_load.specs.Prepare.{limit_refusal, start_steps, tables_refusal, u
 use Rattle.agc_load.specs.Steps.{IsTold, checks, refusal_in, refused_if}
 use Rattle.agc_load.specs.declared.fault.LoadFault.{LoadFault}
 use Rattle.agc_load.specs.declared.fault.LoadFault.TheVariants as refusal
-use Rattle.agc_analysis.specs.Started.{watched_steps}
-use Rattle.agc_analysis.specs.Watched.{AreWatched}
+use Rattle.agc_study_args.specs.declared.args.RunOptions.{RunOptions}
+use Rattle.agc_study_args.specs.Started.{AreWatched, watched_steps}
 
 no_fault : (fault : Option WatchFault) → option_map refusal.Watch fault ≡ None → fault ≡ None
 no_fault None h = refl
@@ -26,31 +26,31 @@ second_sound (Some r) watch until none = cc
 second_sound None (Some r) until none = cc
 second_sound None None until none = refl
 
-said : (watch : Option (String Global)) (tables : Option WatchSpec) → watch_spec_refusal watch ≡ None → tables ≡ said_by spec_of watch
+watched : (watch : Option (String Global)) (tables : Option WatchSpec) → watch_spec_refusal watch ≡ None → tables ≡ said_by spec_of watch
     → tables_refusal tables ≡ None → AreWatched watch tables
 unfolding watch_spec_refusal tables_refusal
-said None tables text is places = is
-said (Some watch) None text is places =
+watched None tables text is places = is
+watched (Some watch) None text is places =
     let bad : Some refusal.BadWatchSpec ≡ None =
     ap (λ (tables : Option WatchSpec). refused_if (says_nothing (λ _. tables) (Some watch)) refusal.BadWatchSpec) is ∙ text
     in cc
-said (Some watch) (Some spec) text is places = record { said = sym is; sound = no_fault (watch_fault_of spec) places }
+watched (Some watch) (Some spec) text is places = record { read = sym is; sound = no_fault (watch_fault_of spec) places }
 
-module _ (until watch : Option (String Global)) (limit : ℕ) (tables : Option WatchSpec) (is : tables ≡ said_by spec_of watch)
-    (none : refusal_in (start_steps until watch limit) ≡ None) where
-  pub none_refused : tables_refusal tables ≡ None → refusal_in (watched_steps until watch limit) ≡ None
+module _ (options : RunOptions) (watch : Option (String Global)) (tables : Option WatchSpec) (is : tables ≡ said_by spec_of watch)
+    (none : refusal_in (start_steps options.until watch options.limit) ≡ None) where
+  pub none_refused : tables_refusal tables ≡ None → refusal_in (watched_steps options watch) ≡ None
   unfolding watched_steps
-  none_refused h = none_in_both (start_steps until watch limit) _ none (rw (ap tables_refusal (sym is) ∙ h) refl)
+  none_refused h = none_in_both (start_steps options.until watch options.limit) _ none (rw (ap tables_refusal (sym is) ∙ h) refl)
 
-  pub tables_refused : (r : LoadFault) → tables_refusal tables ≡ Some r → IsTold (watched_steps until watch limit) r
+  pub tables_refused : (r : LoadFault) → tables_refusal tables ≡ Some r → IsTold (watched_steps options watch) r
   unfolding watched_steps
-  tables_refused r h = told_later (start_steps until watch limit) _ r none (rw (ap tables_refusal (sym is) ∙ h) refl)
+  tables_refused r h = told_later (start_steps options.until watch options.limit) _ r none (rw (ap tables_refusal (sym is) ∙ h) refl)
 
   pub are_watched : tables_refusal tables ≡ None → AreWatched watch tables
   unfolding start_steps
-  are_watched h = said watch tables (second_sound (limit_refusal limit) (watch_spec_refusal watch) (until_refusal until) none) is h
+  are_watched h = watched watch tables (second_sound (limit_refusal options.limit) (watch_spec_refusal watch) (until_refusal options.until) none) is h
 
-pub start_refused : (until watch : Option (String Global)) (limit : ℕ) (r : LoadFault) → refusal_in (start_steps until watch limit) ≡ Some r
-    → IsTold (watched_steps until watch limit) r
+pub start_refused : (options : RunOptions) (watch : Option (String Global)) (r : LoadFault) → refusal_in (start_steps options.until watch options.limit) ≡ Some r
+    → IsTold (watched_steps options watch) r
 unfolding watched_steps
-start_refused until watch limit r h = told_first (start_steps until watch limit) _ r (told_found (start_steps until watch limit) r h)
+start_refused options watch r h = told_first (start_steps options.until watch options.limit) _ r (told_found (start_steps options.until watch options.limit) r h)

@@ -1,0 +1,4 @@
+pub mod Resolved
+pub mod Starts
+pub mod StopRead
+pub mod Tables

@@ -1,0 +1,4 @@
+pub mod Locations
+pub mod ReadFile
+pub mod Started
+pub mod Until
