@@ -9,11 +9,11 @@ use Rattle.agc_profile.specs.declared.profile.Profile.{Profile}
 use Rattle.agc_study_args.specs.declared.args.ProfileArgs.{ProfileArgs}
 use Rattle.agc_analysis.specs.Counted.{counted_text}
 
-pub counted_run : (asked : ProfileArgs) (s t : State) (counts : Profile) (store : Memory) (text : List ℕ) → counts ≡ count_of (passages_in asked.span s) →
+pub counted_run : (args : ProfileArgs) (s t : State) (counts : Profile) (store : Memory) (text : List ℕ) → counts ≡ count_of (passages_in args.span s) →
     store ≡ t.processor.store → t.processor.store.fixed ≡ s.processor.store.fixed →
-    text ≡ count_text asked.layout asked.is_whole counts store.fixed → text ≡ counted_text asked s
+    text ≡ count_text args.layout args.is_whole counts store.fixed → text ≡ counted_text args s
 unfolding counted_text
-counted_run asked s t counts store text e f g k =
-    k ∙ ap (λ (c : Profile). count_text asked.layout asked.is_whole c store.fixed) e
-    ∙ ap (λ (m : Memory). count_text asked.layout asked.is_whole (count_of (passages_in asked.span s)) m.fixed) f
-    ∙ ap (count_text asked.layout asked.is_whole (count_of (passages_in asked.span s))) g
+counted_run args s t counts store text e f g k =
+    k ∙ ap (λ (c : Profile). count_text args.layout args.is_whole c store.fixed) e
+    ∙ ap (λ (m : Memory). count_text args.layout args.is_whole (count_of (passages_in args.span s)) m.fixed) f
+    ∙ ap (count_text args.layout args.is_whole (count_of (passages_in args.span s))) g

@@ -1,9 +1,6 @@
-mod Unwoven
+mod ListTexts
 pub mod Whole
-pub mod Starts
+pub mod Pairs
 pub mod Status
-pub mod Tables
 pub mod FilmedRuns
 pub mod CountedRuns
-pub mod Saying
-pub mod StopRead

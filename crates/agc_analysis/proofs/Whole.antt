@@ -1,34 +1,21 @@
 -- The results for files that were read to their end.
-use Rattle.std.proofs.Common.{◌≡◌, ◌≢◌, ◌≤◌, ℕ, List, length, ◌∙◌, ap, subst}
+use Rattle.std.proofs.Common.{◌≡◌, ◌≢◌, ◌≤◌, ℕ, List, length, subst}
 use Rattle.std.specs.Prelude.{Option, None, Some, IfSome, Err}
-use Rattle.std.specs.declared.alloc.Global.{Global}
-use Rattle.std.specs.declared.string.String.{String}
 use Rattle.std.specs.Io.KnownBytes.{Consumes, IsAtEnd}
-use Rattle.agc_word.specs.Number.{Number}
-use Rattle.agc_store.specs.RopeFile.{rope_fault_of, rope_words}
 use Rattle.agc_store.specs.declared.rope_file.RopeForm.{RopeForm}
-use Rattle.agc_listing.specs.List.{rope_text}
 use Rattle.agc_asm.specs.Source.{source_in}
 use Rattle.agc_asm.specs.declared.fault.AssemblyFault.{AssemblyFault}
 use Rattle.agc_asm.specs.declared.fault.AssemblyFault.TheVariants as source
 use Rattle.agc_io.proofs.Whole.{all_read, of_all}
-use Rattle.agc_load.specs.Options.{said_by}
-use Rattle.agc_analysis.specs.Listed.{IsFaulty, IsListing, IsWeaveRefused, bank_named}
+use Rattle.agc_analysis.specs.Listed.{IsFaulty, IsWeaveRefused}
 use Rattle.agc_analysis.specs.declared.fault.AnalysisFault.{AnalysisFault}
-use Rattle.agc_analysis.specs.declared.fault.AnalysisFault.TheVariants as trouble
+use Rattle.agc_analysis.specs.declared.fault.AnalysisFault.TheVariants as analysis
 use Rattle.agc_check.specs.declared.reports.Report.{Report}
 use Rattle.agc_analysis.specs.Checked.{AreKeysChecked, IsChecked, IsCheckedOf, IsListingChecked}
 
--- a listing of a file's rope
-pub listing : (form : RopeForm) (bank : Option (String Global)) (known : Option (List ℕ)) (rope : List Number) (text : List ℕ)
-    → IfSome known (λ file. rope ≡ rope_words form file) → IfSome known (λ file. rope_fault_of form file ≡ None) → text ≡ rope_text (said_by bank_named bank) rope
-    → IfSome known (λ file. IsListing form bank file text)
-listing form bank None rope text words accepted listed = tt
-listing form bank (Some file) rope text words accepted listed = record { rope = accepted; listed = listed ∙ ap (rope_text (said_by bank_named bank)) words }
-
 -- a text that was read and does not assemble
 pub weave_refused : (before after : Option (List ℕ)) (text : List ℕ) (t : AnalysisFault) → Consumes before after text → IsAtEnd after → length text ≤ 16777216
-    → (fault : AssemblyFault) × (t ≡ trouble.Text fault) × (fault ≢ source.Memory → source_in text ≡ Err fault) → IsWeaveRefused before t
+    → (fault : AssemblyFault) × (t ≡ analysis.Text fault) × (fault ≢ source.Memory → source_in text ≡ Err fault) → IsWeaveRefused before t
 weave_refused before after text t c end few (source.Memory, is, named) = rw is tt
 weave_refused before after text t c end few (source.Line n why, is, named) =
     rw is (of_all before after text (λ all. IsFaulty all (source.Line n why)) c end (record { short = few; fault = named (λ h. cc) }))

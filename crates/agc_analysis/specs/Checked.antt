@@ -13,7 +13,7 @@ use Rattle.agc_io.specs.Input.{ExplainsUnread}
 use Rattle.agc_io.specs.declared.input.ReadError.TheVariants as unread
 use Rattle.agc_load.specs.declared.fault.LoadFault.TheVariants as refusal
 use Rattle.agc_analysis.specs.declared.fault.AnalysisFault.{AnalysisFault}
-use Rattle.agc_analysis.specs.declared.fault.AnalysisFault.TheVariants as trouble
+use Rattle.agc_analysis.specs.declared.fault.AnalysisFault.TheVariants as analysis
 
 -- a report on the bytes of two files: whether both are sound, and the text
 pub record IsCheckedOf (form : RopeForm) (rope script : List ℕ) (report : Report) : Type 0 where
@@ -29,23 +29,23 @@ IsChecked form (Some rope) (Some script) report = IsCheckedOf form rope script r
 -- How a check of two files fails: the rope or the script could not be read (because it has too many bytes, if that is
 -- the cause), or memory ran out.
 abbrev pub IsUnchecked : Option (List ℕ) → Option (List ℕ) → AnalysisFault → Type 0
-IsUnchecked rope script (trouble.Refused (refusal.CannotReadRope why)) =
+IsUnchecked rope script (analysis.Refused (refusal.CannotReadRope why)) =
     ExplainsUnread 1048576 rope (unread.CannotRead why)
-IsUnchecked rope script (trouble.Refused (refusal.CannotReadScript why)) =
+IsUnchecked rope script (analysis.Refused (refusal.CannotReadScript why)) =
     ExplainsUnread 16777216 script (unread.CannotRead why)
-IsUnchecked rope script (trouble.Refused refusal.Memory) = Unit {0}
+IsUnchecked rope script (analysis.Refused refusal.Memory) = Unit {0}
 IsUnchecked rope script t = ⊥
 
 -- how a check of a text of live keys, or of the text of a rope, fails
 abbrev pub AreKeysUnchecked : Option (List ℕ) → AnalysisFault → Type 0
-AreKeysUnchecked keys (trouble.Refused (refusal.CannotReadKeys why)) =
+AreKeysUnchecked keys (analysis.Refused (refusal.CannotReadKeys why)) =
     ExplainsUnread 65536 keys (unread.CannotRead why)
-AreKeysUnchecked keys (trouble.Refused refusal.Memory) = Unit {0}
+AreKeysUnchecked keys (analysis.Refused refusal.Memory) = Unit {0}
 AreKeysUnchecked keys t = ⊥
 
 abbrev pub IsListingUnchecked : AnalysisFault → Type 0
-IsListingUnchecked trouble.CannotReadText = Unit {0}
-IsListingUnchecked (trouble.Refused refusal.Memory) = Unit {0}
+IsListingUnchecked analysis.CannotReadText = Unit {0}
+IsListingUnchecked (analysis.Refused refusal.Memory) = Unit {0}
 IsListingUnchecked t = ⊥
 
 -- the report on the bytes of a text of live keys, and on those of the text of a rope

@@ -7,24 +7,24 @@ use Rattle.agc_profile.specs.Profile.{count_of}
 use Rattle.agc_profile.specs.Step.{passages_in}
 use Rattle.agc_profile.specs.Report.{count_text}
 use Rattle.agc_study_args.specs.declared.args.ProfileArgs.{ProfileArgs}
-use Rattle.agc_analysis.specs.Started.{IsStarted}
+use Rattle.agc_study_args.specs.Started.{IsStarted}
 
 -- the profile of a machine's boundaries in a range of cycles, with the words of its rope
 unfoldable pub counted_text : ProfileArgs → State → List ℕ
-counted_text asked machine =
-    count_text asked.layout asked.is_whole (count_of (passages_in asked.span machine))
+counted_text args machine =
+    count_text args.layout args.is_whole (count_of (passages_in args.span machine))
     machine.processor.store.fixed
 
 -- a text is the profile of the run of the machine of two files
-pub record IsCounted (asked : ProfileArgs) (rope script : Option (List ℕ)) (text : String Global)
+pub record IsCounted (args : ProfileArgs) (rope script : Option (List ℕ)) (text : String Global)
     : Type 0 where
   pub machine : State
-  pub start : IsStarted asked.form asked.until None asked.limit rope script machine
-  pub text_is : string_bytes text ≡ counted_text asked machine
+  pub start : IsStarted args.options None rope script machine
+  pub text_is : string_bytes text ≡ counted_text args machine
 
 -- this text was written, or a beginning of it
 pub record IsCountWritten (Writes : Option (List ℕ) → Option (List ℕ) → List ℕ → Type 0)
-    (asked : ProfileArgs) (rope script before after : Option (List ℕ)) : Type 0 where
+    (args : ProfileArgs) (rope script before after : Option (List ℕ)) : Type 0 where
   pub text : String Global
-  pub counted : IsCounted asked rope script text
+  pub counted : IsCounted args rope script text
   pub written : Writes before after (string_bytes text)

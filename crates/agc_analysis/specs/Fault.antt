@@ -16,7 +16,7 @@ use Rattle.agc_asm.specs.FaultText.{fault_text}
 use Rattle.agc_asm.specs.declared.fault.AssemblyFault.{AssemblyFault}
 use Rattle.agc_asm.specs.declared.fault.AssemblyFault.TheVariants as source
 use Rattle.agc_analysis.specs.declared.fault.AnalysisFault.{AnalysisFault}
-use Rattle.agc_analysis.specs.declared.fault.AnalysisFault.TheVariants as trouble
+use Rattle.agc_analysis.specs.declared.fault.AnalysisFault.TheVariants as analysis
 
 abbrev pub weave_text : AssemblyFault → List ℕ
 weave_text (source.Line n why) = codes "text line " ++ decimal n ++ codes ": " ++ fault_text why
@@ -45,30 +45,30 @@ remedy_text refusal.BadUntilSpec = codes "; --until is BANK,ADDR in octal, or a 
 remedy_text r = codes ""
 
 -- the text: a fault in the words of `agc` and its remedy, after the name of the run if it is the right one
-abbrev pub trouble_text : AnalysisFault → List ℕ
-trouble_text (trouble.Refused r) = refusal_text r ++ remedy_text r
-trouble_text (trouble.OtherRefused r) = codes "other run: " ++ refusal_text r ++ remedy_text r
-trouble_text trouble.CannotReadText = codes "cannot read text"
-trouble_text (trouble.Text fault) = weave_text fault
-trouble_text trouble.BadBankSpec = codes "no such bank: --bank is one or two octal digits, 00 to 43"
-trouble_text (trouble.Unnamed r) = names_refusal_text r
+abbrev pub error_text : AnalysisFault → List ℕ
+error_text (analysis.Refused r) = refusal_text r ++ remedy_text r
+error_text (analysis.OtherRefused r) = codes "other run: " ++ refusal_text r ++ remedy_text r
+error_text analysis.CannotReadText = codes "cannot read text"
+error_text (analysis.Text fault) = weave_text fault
+error_text analysis.BadBankSpec = codes "no such bank: --bank is one or two octal digits, 00 to 43"
+error_text (analysis.Unnamed r) = names_refusal_text r
 
 -- the line of an error
-abbrev pub trouble_line : AnalysisFault → List ℕ
-trouble_line t = codes "agc-study: " ++ trouble_text t ++ codes "\n"
+abbrev pub error_line : AnalysisFault → List ℕ
+error_line t = codes "agc-study: " ++ error_text t ++ codes "\n"
 
 -- the line of an error that may be reported was written
-pub record IsTold (MayBe : AnalysisFault → Type 0) (before after : Option (List ℕ)) : Type 0 where
-  pub trouble : AnalysisFault
-  pub may : MayBe trouble
-  pub line : Appends before after (trouble_line trouble)
+pub record IsReported (MayBe : AnalysisFault → Type 0) (before after : Option (List ℕ)) : Type 0 where
+  pub fault : AnalysisFault
+  pub may : MayBe fault
+  pub line : Appends before after (error_line fault)
 
 -- How a fault of the right run is reported: as the other run's if it concerns its rope or its script, and unchanged
 -- if it concerns both runs.
-abbrev pub other_trouble : LoadFault → AnalysisFault
-other_trouble (refusal.CannotReadRope why) = trouble.OtherRefused (refusal.CannotReadRope why)
-other_trouble (refusal.Rope why) = trouble.OtherRefused (refusal.Rope why)
-other_trouble (refusal.CannotReadScript why) =
-    trouble.OtherRefused (refusal.CannotReadScript why)
-other_trouble (refusal.Script why) = trouble.OtherRefused (refusal.Script why)
-other_trouble r = trouble.Refused r
+abbrev pub other_error : LoadFault → AnalysisFault
+other_error (refusal.CannotReadRope why) = analysis.OtherRefused (refusal.CannotReadRope why)
+other_error (refusal.Rope why) = analysis.OtherRefused (refusal.Rope why)
+other_error (refusal.CannotReadScript why) =
+    analysis.OtherRefused (refusal.CannotReadScript why)
+other_error (refusal.Script why) = analysis.OtherRefused (refusal.Script why)
+other_error r = analysis.Refused r

@@ -1,13 +1,10 @@
 pub mod Fault
 pub mod Listed
-pub mod Sourced
 pub mod Checked
-pub mod Started
+pub mod Pairs
 pub mod Compared
 pub mod Filmed
 pub mod Traced
-pub mod Until
-pub mod Placed
 pub mod Counted
 pub mod Watched
 pub mod Ended

@@ -8,13 +8,20 @@ use Rattle.agc_word.specs.Numeral.{octal_number}
 use Rattle.agc_word.specs.Octal.{word_digits}
 use Rattle.agc_store.specs.RopeFile.{rope_fault_of, rope_words}
 use Rattle.agc_store.specs.declared.rope_file.RopeForm.{RopeForm}
+use Rattle.agc_word.specs.Number.{Number}
+use Rattle.agc_listing.specs.Laws.{AreRopeWords}
 use Rattle.agc_listing.specs.List.{rope_text}
 use Rattle.agc_listing.specs.Order.{order_text}
+use Rattle.agc_asm.specs.Disassemble.{rope_source}
+use Rattle.agc_asm.specs.Laws.{WeavesTo}
 use Rattle.agc_asm.specs.MnemonicCheck.{is_extracode, misnamed_in, mnemonic_of}
 use Rattle.agc_asm.specs.Source.{IsSourceWoven, source_in}
 use Rattle.agc_asm.specs.declared.mnemonic_check.Misnamed.{Misnamed}
 use Rattle.agc_asm.specs.declared.fault.AssemblyFault.{AssemblyFault}
 use Rattle.agc_asm.specs.declared.fault.AssemblyFault.TheVariants as source
+use Rattle.agc_study_args.specs.declared.args.ListArgs.{ListArgs}
+use Rattle.agc_study_args.specs.declared.args.ListStyle.{ListStyle}
+use Rattle.agc_study_args.specs.declared.args.ListStyle.TheVariants as style
 use Rattle.agc_symbols.specs.Listing.{text_with_names}
 use Rattle.agc_symbols.specs.Symbols.{Symbol}
 use Rattle.agc_load.specs.Files.{rope_steps}
@@ -22,7 +29,7 @@ use Rattle.agc_load.specs.Options.{said_by, says_nothing}
 use Rattle.agc_load.specs.Steps.{IsTold}
 use Rattle.agc_analysis.specs.declared.ropes.Woven.{Woven}
 use Rattle.agc_analysis.specs.declared.fault.AnalysisFault.{AnalysisFault}
-use Rattle.agc_analysis.specs.declared.fault.AnalysisFault.TheVariants as trouble
+use Rattle.agc_analysis.specs.declared.fault.AnalysisFault.TheVariants as analysis
 
 -- a bank that the rope has
 abbrev pub bank_within : Option ℕ → Option ℕ
@@ -39,24 +46,45 @@ pub record IsListing (form : RopeForm) (bank : Option (String Global)) (file tex
   pub rope : rope_fault_of form file ≡ None
   pub listed : text ≡ rope_text (said_by bank_named bank) (rope_words form file)
 
+-- A file is a rope file, and a text is the source of its words, or of those of the bank that `--bank` names. The
+-- source of a whole rope assembles to a rope with the same words.
+pub record IsSource (form : RopeForm) (bank : Option (String Global)) (file text : List ℕ)
+    : Type 0 where
+  pub rope : rope_fault_of form file ≡ None
+  pub source : text ≡ rope_source (said_by bank_named bank) (rope_words form file)
+  pub weaves : bank ≡ None → WeavesTo (rope_words form file) text
+
 -- the text of a rope with symbols, if there are any
 abbrev pub shown_with : Option (List Symbol) → List ℕ → List ℕ
 shown_with (Some names) text = text_with_names names text
 shown_with None text = text
 
+-- a text shows these words in a style: lines with these symbols, or a source; a page is only shown
+abbrev pub IsStyledText : ListStyle → Option ℕ → Option (List Symbol) → List Number → List ℕ → Type 0
+IsStyledText style.Lines bank names words text = text ≡ shown_with names (rope_text bank words)
+IsStyledText style.Source bank names words text =
+    (text ≡ rope_source bank words) × (bank ≡ None → AreRopeWords words → WeavesTo words text)
+IsStyledText style.Yul bank names words text = Unit {0}
+
+-- the text of a rope file in a style: its lines with these symbols, or its source; a page is only shown
+abbrev pub IsListText : ListArgs → ListStyle → Option (List Symbol) → List ℕ → List ℕ → Type 0
+IsListText args style.Lines names file text =
+    (lines : List ℕ) × IsListing args.form args.bank file lines × (text ≡ shown_with names lines)
+IsListText args style.Source names file text = IsSource args.form args.bank file text
+IsListText args style.Yul names file text = Unit {0}
+
 -- the text of a rope was written, or a beginning of it, for the bytes that the rope's reader reports
 pub record IsListWritten (Writes : Option (List ℕ) → Option (List ℕ) → List ℕ → Type 0)
-    (form : RopeForm) (bank : Option (String Global)) (names : Option (List Symbol))
-    (rope before after : Option (List ℕ)) : Type 0 where
+    (args : ListArgs) (names : Option (List Symbol)) (rope before after : Option (List ℕ)) : Type 0 where
   pub text : List ℕ
-  pub listed : IfSome rope (λ file. IsListing form bank file text)
-  pub written : Writes before after (shown_with names text)
+  pub listed : IfSome rope (λ file. IsListText args args.style names file text)
+  pub written : Writes before after text
 
 -- How `list` rejects a file, if its reader reports its bytes: first an invalid `--bank`, then the faults that `agc`
 -- reports for the rope, which include out of memory.
 abbrev pub IsListRefused : RopeForm → Option (String Global) → Option (List ℕ) → AnalysisFault → Type 0
-IsListRefused form bank known trouble.BadBankSpec = says_nothing bank_named bank ≡ true
-IsListRefused form bank known (trouble.Refused r) =
+IsListRefused form bank known analysis.BadBankSpec = says_nothing bank_named bank ≡ true
+IsListRefused form bank known (analysis.Refused r) =
     (says_nothing bank_named bank ≡ false) × IfSome known (λ file. IsTold (rope_steps form file) r)
 IsListRefused form bank known t = ⊥
 
@@ -76,11 +104,11 @@ pub record IsWeaveWritten (Writes : Option (List ℕ) → Option (List ℕ) → 
 
 -- the remark on such a line: the order that its word encodes, and the mnemonic after it
 abbrev pub misnamed_line : Misnamed → List ℕ
-misnamed_line told =
-    codes "agc-study: text line " ++ decimal told.line
-    ++ codes ": the word " ++ word_digits told.word
-    ++ codes " is " ++ order_text (is_extracode told.written) told.word
-    ++ codes ", not " ++ mnemonic_of told.written ++ codes "\n"
+misnamed_line misnamed =
+    codes "agc-study: text line " ++ decimal misnamed.line
+    ++ codes ": the word " ++ word_digits misnamed.word
+    ++ codes " is " ++ order_text (is_extracode misnamed.written) misnamed.word
+    ++ codes ", not " ++ mnemonic_of misnamed.written ++ codes "\n"
 
 -- a text has at most 16,777,216 bytes, and this is its first fault
 pub record IsFaulty (text : List ℕ) (why : AssemblyFault) : Type 0 where
@@ -89,8 +117,8 @@ pub record IsFaulty (text : List ℕ) (why : AssemblyFault) : Type 0 where
 
 -- how `weave` rejects a text: a read failed, memory ran out, there are too many bytes, or a line is faulty
 abbrev pub IsWeaveRefused : Option (List ℕ) → AnalysisFault → Type 0
-IsWeaveRefused known trouble.CannotReadText = Unit {0}
-IsWeaveRefused known (trouble.Text source.Memory) = Unit {0}
-IsWeaveRefused known (trouble.Text (source.Line n why)) =
+IsWeaveRefused known analysis.CannotReadText = Unit {0}
+IsWeaveRefused known (analysis.Text source.Memory) = Unit {0}
+IsWeaveRefused known (analysis.Text (source.Line n why)) =
     IfSome known (λ text. IsFaulty text (source.Line n why))
 IsWeaveRefused known t = ⊥

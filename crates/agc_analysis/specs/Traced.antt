@@ -12,46 +12,46 @@ use Rattle.agc_trace.specs.Service.{service_left}
 use Rattle.agc_trace.specs.Trace.{trace_of}
 use Rattle.agc_trace.specs.declared.service.Service.{Service}
 use Rattle.agc_trace.specs.declared.tracing.TraceFault.TheVariants as fault
-use Rattle.agc_analysis.specs.Started.{IsRefused, IsStarted}
-use Rattle.agc_analysis.specs.Fault.{trouble_line}
+use Rattle.agc_study_args.specs.Started.{IsRefused, IsStarted}
+use Rattle.agc_analysis.specs.Fault.{error_line}
 use Rattle.agc_analysis.specs.declared.traces.TraceError.{TraceError}
 use Rattle.agc_analysis.specs.declared.traces.TraceError.TheVariants as error
-use Rattle.agc_analysis.specs.declared.fault.AnalysisFault.TheVariants as trouble
+use Rattle.agc_analysis.specs.declared.fault.AnalysisFault.TheVariants as analysis
 
 -- the lines of the run of two files were written with these symbols, and this service is in progress at its stop
-pub record IsTraced (asked : TraceArgs) (names : Option (List Symbol))
+pub record IsTraced (args : TraceArgs) (names : Option (List Symbol))
     (rope script before after : Option (List ℕ)) (service : Option Service) : Type 0 where
   pub machine : State
-  pub start : IsStarted asked.form asked.until None asked.limit rope script machine
-  pub lines : Appends before after (selected_lines names asked.selection (watch_for asked.selection machine))
-  pub left : service ≡ service_left asked.selection (trace_of machine)
+  pub start : IsStarted args.options None rope script machine
+  pub lines : Appends before after (selected_lines names args.selection (watch_for args.selection machine))
+  pub left : service ≡ service_left args.selection (trace_of machine)
 
 -- the same, without a claim about the service
-pub record IsTraceWritten (asked : TraceArgs) (names : Option (List Symbol))
+pub record IsTraceWritten (args : TraceArgs) (names : Option (List Symbol))
     (rope script before after : Option (List ℕ)) : Type 0 where
   pub service : Option Service
-  pub traced : IsTraced asked names rope script before after service
+  pub traced : IsTraced args names rope script before after service
 
 -- the lines of the run of two files were cut off: a beginning of them was written
-pub record IsCutOff (asked : TraceArgs) (names : Option (List Symbol))
+pub record IsCutOff (args : TraceArgs) (names : Option (List Symbol))
     (rope script before after : Option (List ℕ)) : Type 0 where
   pub machine : State
-  pub start : IsStarted asked.form asked.until None asked.limit rope script machine
-  pub cut : IsBegun before after (selected_lines names asked.selection (watch_for asked.selection machine))
+  pub start : IsStarted args.options None rope script machine
+  pub cut : IsBegun before after (selected_lines names args.selection (watch_for args.selection machine))
 
 -- why the trace is incomplete: a fault before anything was written, or the lines were cut off
 abbrev pub IsUntraced : TraceArgs → Option (List Symbol) → Option (List ℕ) → Option (List ℕ)
     → Option (List ℕ) → Option (List ℕ) → TraceError → Type 0
-IsUntraced asked names rope script before after (error.Refused r) =
-    IsRefused asked.form asked.until None asked.limit rope script r × Keeps before after
-IsUntraced asked names rope script before after (error.Cut why) =
-    IsCutOff asked names rope script before after
+IsUntraced args names rope script before after (error.Refused r) =
+    IsRefused args.options None rope script r × Keeps before after
+IsUntraced args names rope script before after (error.Cut why) =
+    IsCutOff args names rope script before after
 
 -- How the program ends then: with 2 and the line of a fault, or with 3 if that line or the trace could not be
 -- written, or memory ran out.
 abbrev pub EndsUntraced : TraceError → ℕ → Option (List ℕ) → Option (List ℕ) → Type 0
 EndsUntraced (error.Refused r) ended before after =
-    ((ended ≡ 2) × Appends before after (trouble_line (trouble.Refused r))) ⊎ (ended ≡ 3)
+    ((ended ≡ 2) × Appends before after (error_line (analysis.Refused r))) ⊎ (ended ≡ 3)
 EndsUntraced (error.Cut fault.Write) ended before after = (ended ≡ 3) × Keeps before after
 EndsUntraced (error.Cut fault.Memory) ended before after = ended ≡ 3
 

@@ -4,35 +4,36 @@ ghost use Rattle.agc_load.specs.declared.fault.LoadFault.TheVariants as refusal;
 ghost use Rattle.agc_analysis.specs.Checked.{AreKeysChecked, AreKeysUnchecked, IsChecked, IsCheckedWith};
 ghost use Rattle.agc_analysis.specs.Checked.{IsJoined, IsListingChecked, IsListingUnchecked, IsUnchecked};
 ghost use Rattle.agc_analysis.specs.Checked.{IsWithMore};
-ghost use Rattle.agc_analysis.specs.declared.fault.AnalysisFault.TheVariants as told;
+ghost use Rattle.agc_analysis.specs.declared.fault.AnalysisFault.TheVariants as analysis;
 
 use crate::fault::AnalysisFault;
 use agc_check::{Report, check, check_keys, check_listing, erase_remarks};
 use agc_io::{KEY_BYTES, ROPE_BYTES, ReadError, TEXT_BYTES, read_limited};
 use agc_load::LoadFault;
 use agc_store::RopeForm;
+use agc_study_args::RunInputs;
 use std::alloc::Global;
 use std::io::Read;
 
 /// Checks a rope file and a script file and returns the report.
-pub fn check_files<R: Read, S: Read>(
+pub fn check_files<R: Read>(
     alloc: Global,
     form: RopeForm,
-    rope: &mut R,
-    script: &mut S,
+    inputs: &mut RunInputs<R>,
 ) -> Result<Report, AnalysisFault>
-    ensures checked { IfOk result
-        (λ report. IsChecked form (R.remaining rope.old) (S.remaining script.old) report) }
-    ensures refused { IfErr result (IsUnchecked (R.remaining rope.old) (S.remaining script.old)) }
+    ensures checked { IfOk result (λ report. IsChecked form
+        (R.remaining inputs.old.rope) (R.remaining inputs.old.script) report) }
+    ensures refused { IfErr result
+        (IsUnchecked (R.remaining inputs.old.rope) (R.remaining inputs.old.script)) }
 {
-    let rope = match read_limited(alloc, rope, ROPE_BYTES) {
+    let rope = match read_limited(alloc, &mut inputs.rope, ROPE_BYTES) {
         Ok(bytes) => bytes,
         Err(ReadError::CannotRead(fault)) => {
             return Err(AnalysisFault::Refused(LoadFault::CannotReadRope(fault)));
         }
         Err(ReadError::Memory) => return Err(AnalysisFault::Refused(LoadFault::Memory)),
     };
-    let script = match read_limited(alloc, script, TEXT_BYTES) {
+    let script = match read_limited(alloc, &mut inputs.script, TEXT_BYTES) {
         Ok(bytes) => bytes,
         Err(ReadError::CannotRead(fault)) => {
             return Err(AnalysisFault::Refused(LoadFault::CannotReadScript(fault)));
@@ -46,25 +47,25 @@ pub fn check_files<R: Read, S: Read>(
 }
 
 /// Checks a rope file and a script file and appends the report on other files.
-pub fn check_with<R: Read, S: Read>(
+pub fn check_with<R: Read>(
     alloc: Global,
     form: RopeForm,
-    rope: &mut R,
-    script: &mut S,
+    inputs: &mut RunInputs<R>,
     more: &Option<Report>,
 ) -> Result<Report, AnalysisFault>
     ensures checked { IfOk result (λ report. IsCheckedWith form
-        (R.remaining rope.old) (S.remaining script.old) more.now report) }
-    ensures refused { IfErr result (IsUnchecked (R.remaining rope.old) (S.remaining script.old)) }
+        (R.remaining inputs.old.rope) (R.remaining inputs.old.script) more.now report) }
+    ensures refused { IfErr result
+        (IsUnchecked (R.remaining inputs.old.rope) (R.remaining inputs.old.script)) }
 {
-    let first = check_files(alloc, form, rope, script)?;
+    let first = check_files(alloc, form, inputs)?;
     with_more(first, more)
 }
 
 /// Appends a second report, if there is one.
 fn with_more(first: Report, more: &Option<Report>) -> Result<Report, AnalysisFault>
     ensures whole { IfOk result (IsWithMore first more.now) }
-    ensures refused { IfErr result (λ t. t ≡ told.Refused refusal.Memory) }
+    ensures refused { IfErr result (λ t. t ≡ analysis.Refused refusal.Memory) }
 {
     match more {
         Some(more) => joined(first, more),
@@ -75,7 +76,7 @@ fn with_more(first: Report, more: &Option<Report>) -> Result<Report, AnalysisFau
 /// Joins two reports; the result is sound if both are.
 pub fn joined(first: Report, second: &Report) -> Result<Report, AnalysisFault>
     ensures joined { IfOk result (IsJoined first second.now) }
-    ensures refused { IfErr result (λ t. t ≡ told.Refused refusal.Memory) }
+    ensures refused { IfErr result (λ t. t ≡ analysis.Refused refusal.Memory) }
 {
     let Report { mut text, is_sound } = first;
     match text.push_str(second.text.as_str()) {

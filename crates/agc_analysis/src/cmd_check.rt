@@ -1,18 +1,18 @@
 //! Runs `check`: writes the report on a rope and a script, on live keys and on the text of a rope.
-ghost use Rattle.std.specs.Prelude.{◌≡◌, ◌⊎◌, Bool, true, false, string_bytes};
+ghost use Rattle.std.specs.Prelude.{◌≡◌, ◌⊎◌, Bool, IfErr, OnOk, true, false, string_bytes};
 ghost use Rattle.std.specs.Io.KnownBytes.{Appends, Keeps};
 ghost use Rattle.agc_io.specs.Output.{IsBegun};
 ghost use Rattle.agc_analysis.specs.Checked.{IsCheckWritten, IsUnchecked, IsWritten};
-ghost use Rattle.agc_analysis.specs.Ended.{IsEnded};
-ghost use Rattle.agc_analysis.specs.Fault.{IsTold};
+ghost use Rattle.agc_analysis.specs.Ended.{EndsWith};
+ghost use Rattle.agc_analysis.specs.Fault.{IsReported};
 
 use crate::checks::{check_key_file, check_listing_file, check_with, joined};
-use crate::fault::AnalysisFault;
-use crate::inputs::opened;
+use crate::inputs::report_fault;
+use crate::streams::Streams;
 use agc_check::Report;
-use agc_io::{OK, status_of, write_in_full};
+use agc_io::{KEY_BYTES, OK, TEXT_BYTES, status_of, write_in_full};
 use agc_store::RopeForm;
-use agc_study_args::CheckArgs;
+use agc_study_args::{CheckArgs, RunInputs, open_file, open_run};
 use std::alloc::Global;
 use std::io::{Read, Write};
 use std::rt::Files;
@@ -21,118 +21,128 @@ use std::rt::Files;
 const FAULTY: u8 = 1;
 
 /// Checks the files of the command line. Remarks warn about cells of a source that lie over registers or other cells.
-pub fn check_to<R, W: Write, E: Write, N: Write>(
+pub fn run_check<R, W: Write, E: Write, N: Write, P>(
     rt: &R,
-    checking: &CheckArgs,
-    out: &mut W,
-    err: &mut E,
-    remarks: &mut N,
+    args: &CheckArgs,
+    io: &mut Streams<W, E, N, P>,
 ) -> u8
 where
     R: Files + AllocGlobal,
-    ensures ended { IsEnded result (W.contents out.old) (W.contents out.new)
-        (E.contents err.old) (E.contents err.new) }
+    ensures ended { EndsWith W.contents E.contents result io.old io.new }
 {
-    let more = match more_checked(rt, checking, remarks) {
+    let more = match check_texts(rt, args, io) {
         Ok(more) => more,
-        Err(trouble) => return trouble.report_to(err),
+        Err(status) => return status,
     };
-    let Some(run) = &checking.run else {
+    let Some(files) = &args.run else {
         return match more {
-            Some(report) => write_report(&report, out),
+            Some(report) => write_report(&report, &mut io.out),
             None => OK,
         };
     };
-    let mut rope = opened(rt, &run.rope);
-    let mut script = opened(rt, &run.script);
-    write_check(
-        rt.alloc(),
-        checking.form,
-        &mut rope,
-        &mut script,
-        &more,
-        out,
-        err,
-    )
+    let mut inputs = open_run(rt, files);
+    let status = write_check(rt.alloc(), args.form, &mut inputs, &more, io);
+    inputs.remark_fault(rt.alloc(), &mut io.remarks);
+    status
 }
 
-/// Checks the text of live keys and the text of a rope, whichever are given.
-fn more_checked<R, N: Write>(
+/// Checks the text of live keys and the text of a rope, whichever are given. If one cannot be checked, reports that and
+/// returns the exit status.
+fn check_texts<R, W: Write, E: Write, N: Write, P>(
     rt: &R,
-    checking: &CheckArgs,
-    remarks: &mut N,
-) -> Result<Option<Report>, AnalysisFault>
+    args: &CheckArgs,
+    io: &mut Streams<W, E, N, P>,
+) -> Result<Option<Report>, u8>
 where
     R: Files + AllocGlobal,
+    ensures out { OnOk result (io.new.out ≡ io.old.out) }
+    ensures err { OnOk result (io.new.err ≡ io.old.err) }
+    ensures ended { IfErr result (λ status. EndsWith W.contents E.contents status io.old io.new) }
 {
-    let keys = keys_checked(rt, &checking.keys)?;
-    let listing = listing_checked(rt, &checking.listing, remarks)?;
+    let keys = check_keys(rt, &args.keys, io)?;
+    let listing = check_listing(rt, &args.listing, io)?;
     match (keys, listing) {
-        (Some(keys), Some(listing)) => joined(keys, &listing).map(Some),
+        (Some(keys), Some(listing)) => match joined(keys, &listing) {
+            Ok(both) => Ok(Some(both)),
+            Err(fault) => Err(fault.report_to(&mut io.err)),
+        },
         (keys, None) => Ok(keys),
         (None, listing) => Ok(listing),
     }
 }
 
 /// Checks the text of live keys, if one is given.
-fn keys_checked<R>(rt: &R, path: &Option<String>) -> Result<Option<Report>, AnalysisFault>
+fn check_keys<R, W: Write, E: Write, N: Write, P>(
+    rt: &R,
+    path: &Option<String>,
+    io: &mut Streams<W, E, N, P>,
+) -> Result<Option<Report>, u8>
 where
     R: Files + AllocGlobal,
+    ensures unchanged { OnOk result (io.new ≡ io.old) }
+    ensures ended { IfErr result (λ status. EndsWith W.contents E.contents status io.old io.new) }
 {
     let Some(path) = path else {
         return Ok(None);
     };
-    let mut file = opened(rt, path);
-    check_key_file(rt.alloc(), &mut file).map(Some)
+    let mut file = open_file(rt, path, KEY_BYTES);
+    match check_key_file(rt.alloc(), &mut file) {
+        Ok(report) => Ok(Some(report)),
+        Err(fault) => Err(report_fault(rt.alloc(), fault, &file, io)),
+    }
 }
 
 /// Checks the text of a rope, if one is given, and writes the remarks on its cells.
-fn listing_checked<R, N: Write>(
+fn check_listing<R, W: Write, E: Write, N: Write, P>(
     rt: &R,
     path: &Option<String>,
-    remarks: &mut N,
-) -> Result<Option<Report>, AnalysisFault>
+    io: &mut Streams<W, E, N, P>,
+) -> Result<Option<Report>, u8>
 where
     R: Files + AllocGlobal,
+    ensures out { OnOk result (io.new.out ≡ io.old.out) }
+    ensures err { OnOk result (io.new.err ≡ io.old.err) }
+    ensures ended { IfErr result (λ status. EndsWith W.contents E.contents status io.old io.new) }
 {
     let Some(path) = path else {
         return Ok(None);
     };
-    let mut file = opened(rt, path);
-    let checked = check_listing_file(rt.alloc(), &mut file)?;
-    let _told = remarks.write_all(checked.remarks.as_bytes());
-    Ok(Some(checked.report))
+    let mut file = open_file(rt, path, TEXT_BYTES);
+    match check_listing_file(rt.alloc(), &mut file) {
+        Ok(checked) => {
+            let _written = io.remarks.write_all(checked.remarks.as_bytes());
+            Ok(Some(checked.report))
+        }
+        Err(fault) => Err(report_fault(rt.alloc(), fault, &file, io)),
+    }
 }
 
 /// Checks a rope and a script and writes their report, followed by the report on other files.
-fn write_check<R: Read, S: Read, W: Write, E: Write>(
+fn write_check<R: Read, W: Write, E: Write, N: Write, P>(
     alloc: Global,
     form: RopeForm,
-    rope: &mut R,
-    script: &mut S,
+    inputs: &mut RunInputs<R>,
     more: &Option<Report>,
-    out: &mut W,
-    err: &mut E,
+    io: &mut Streams<W, E, N, P>,
 ) -> u8
-    ensures ended { IsEnded result (W.contents out.old) (W.contents out.new)
-        (E.contents err.old) (E.contents err.new) }
+    ensures ended { EndsWith W.contents E.contents result io.old io.new }
     ensures sound { result ≡ 0 → IsCheckWritten Appends form
-        (R.remaining rope.old) (S.remaining script.old) more.now true
-        (W.contents out.old) (W.contents out.new) }
+        (R.remaining inputs.old.rope) (R.remaining inputs.old.script) more.now true
+        (W.contents io.old.out) (W.contents io.new.out) }
     ensures faulty { result ≡ 1 → IsCheckWritten Appends form
-        (R.remaining rope.old) (S.remaining script.old) more.now false
-        (W.contents out.old) (W.contents out.new) }
-    ensures cut { result ≡ 3 → Keeps (W.contents out.old) (W.contents out.new)
+        (R.remaining inputs.old.rope) (R.remaining inputs.old.script) more.now false
+        (W.contents io.old.out) (W.contents io.new.out) }
+    ensures cut { result ≡ 3 → Keeps (W.contents io.old.out) (W.contents io.new.out)
         ⊎ ((is_sound : Bool) × IsCheckWritten IsBegun form
-        (R.remaining rope.old) (S.remaining script.old) more.now is_sound
-        (W.contents out.old) (W.contents out.new)) }
+        (R.remaining inputs.old.rope) (R.remaining inputs.old.script) more.now is_sound
+        (W.contents io.old.out) (W.contents io.new.out)) }
     ensures refused { result ≡ 2
-        → IsTold (IsUnchecked (R.remaining rope.old) (S.remaining script.old))
-        (E.contents err.old) (E.contents err.new) }
+        → IsReported (IsUnchecked (R.remaining inputs.old.rope) (R.remaining inputs.old.script))
+        (E.contents io.old.err) (E.contents io.new.err) }
 {
-    match check_with(alloc, form, rope, script, more) {
-        Ok(report) => write_report(&report, out),
-        Err(trouble) => trouble.report_to(err),
+    match check_with(alloc, form, inputs, more) {
+        Ok(report) => write_report(&report, &mut io.out),
+        Err(fault) => fault.report_to(&mut io.err),
     }
 }
 

@@ -2,20 +2,19 @@
 ghost use Rattle.std.specs.Prelude.{◌≡◌, ◌≢◌, ◌⊎◌, string_bytes};
 ghost use Rattle.std.specs.Io.KnownBytes.{Appends, Keeps};
 ghost use Rattle.agc_io.specs.Output.{IsBegun};
-ghost use Rattle.agc_analysis.specs.Ended.{IsEnded};
+ghost use Rattle.agc_analysis.specs.Ended.{EndsWith};
 ghost use Rattle.agc_analysis.specs.Filmed.{IsFilmPairRefused, IsFilmPairWritten, IsFilmRefused, IsFilmWritten};
-ghost use Rattle.agc_analysis.specs.Fault.{IsTold, trouble_line};
+ghost use Rattle.agc_analysis.specs.Fault.{IsReported, error_line};
 ghost use Rattle.agc_load.specs.declared.fault.LoadFault.{LoadFault};
-ghost use Rattle.agc_analysis.specs.declared.fault.AnalysisFault.TheVariants as told;
+ghost use Rattle.agc_analysis.specs.declared.fault.AnalysisFault.TheVariants as analysis;
 
 use crate::fault::AnalysisFault;
 use crate::films::{FilmPage, film_file_pairs, film_files};
-use crate::inputs::opened;
-use crate::until::name_until;
+use crate::inputs::read_symbols;
+use crate::streams::Streams;
 use agc_io::{OK, ProgressLine, status_of, write_in_full};
 use agc_load::LoadFault;
-use agc_study_args::FilmArgs;
-use agc_symbols::names_at;
+use agc_study_args::{FilmArgs, RunInputs, open_run, resolve_until};
 use agc_timeline::{HEAD, RunFiles, TABLES, TAIL};
 use std::alloc::Global;
 use std::io::{Read, Write};
@@ -26,165 +25,97 @@ const MANY_FRAMES: usize = 1_000_000;
 
 /// Films the run of a rope file and a script file, or the runs of two of each. A remark warns if the page is so long
 /// that a browser may be slow with it. The stop address may be a symbol.
-pub fn film_to<R, W: Write, E: Write, N: Write, P: ProgressLine>(
+pub fn run_film<R, W: Write, E: Write, N: Write, P: ProgressLine>(
     rt: &R,
-    asked: &mut FilmArgs,
-    out: &mut W,
-    err: &mut E,
-    remarks: &mut N,
-    progress: &mut P,
+    args: &mut FilmArgs,
+    io: &mut Streams<W, E, N, P>,
 ) -> u8
 where
     R: Files + AllocGlobal,
-    ensures ended { IsEnded result (W.contents out.old) (W.contents out.new)
-        (E.contents err.old) (E.contents err.new) }
-    ensures no_note { result ≡ 2 → Keeps (N.contents remarks.old) (N.contents remarks.new) }
+    ensures ended { EndsWith W.contents E.contents result io.old io.new }
     ensures faulty { result ≢ 1 }
 {
-    if let Err(trouble) = name_stop(rt, &asked.names, &mut asked.until) {
-        return trouble.report_to(err);
-    }
-    let alloc = rt.alloc();
-    let mut rope = opened(rt, &asked.files.rope);
-    let mut script = opened(rt, &asked.files.script);
-    let Some(other) = &asked.other else {
-        return write_film(
-            alloc,
-            asked,
-            &mut rope,
-            &mut script,
-            out,
-            err,
-            remarks,
-            progress,
-        );
-    };
-    let mut other_rope = opened(rt, &other.rope);
-    let mut other_script = opened(rt, &other.script);
-    write_film_pair(
-        alloc,
-        asked,
-        other,
-        &mut rope,
-        &mut script,
-        &mut other_rope,
-        &mut other_script,
-        out,
-        err,
-        remarks,
-        progress,
-    )
-}
-
-/// Replaces a symbolic stop address, using the symbol file at a path.
-fn name_stop<R>(
-    rt: &R,
-    path: &Option<String>,
-    until: &mut Option<String>,
-) -> Result<(), AnalysisFault>
-where
-    R: Files + AllocGlobal,
-{
-    let names = match names_at(rt, path) {
+    let names = match read_symbols(rt, &args.names, io) {
         Ok(names) => names,
-        Err(refusal) => return Err(AnalysisFault::Unnamed(refusal)),
+        Err(status) => return status,
     };
-    match name_until(rt.alloc(), &names, until) {
-        Ok(()) => Ok(()),
-        Err(_) => Err(AnalysisFault::Refused(LoadFault::Memory)),
+    if resolve_until(rt.alloc(), &names, &mut args.options.until).is_err() {
+        return AnalysisFault::Refused(LoadFault::Memory).report_to(&mut io.err);
     }
+    let mut left = open_run(rt, &args.files);
+    let Some(other) = &args.other else {
+        let status = write_film(rt.alloc(), args, &mut left, io);
+        left.remark_fault(rt.alloc(), &mut io.remarks);
+        return status;
+    };
+    let mut right = open_run(rt, other);
+    let status = write_film_pair(rt.alloc(), args, other, &mut left, &mut right, io);
+    left.remark_fault(rt.alloc(), &mut io.remarks);
+    right.remark_fault(rt.alloc(), &mut io.remarks);
+    status
 }
 
 /// Films the run of a rope and a script, and writes the page.
-fn write_film<R: Read, S: Read, W: Write, E: Write, N: Write, P: ProgressLine>(
+fn write_film<R: Read, W: Write, E: Write, N: Write, P: ProgressLine>(
     alloc: Global,
-    asked: &FilmArgs,
-    rope: &mut R,
-    script: &mut S,
-    out: &mut W,
-    err: &mut E,
-    remarks: &mut N,
-    progress: &mut P,
+    args: &FilmArgs,
+    inputs: &mut RunInputs<R>,
+    io: &mut Streams<W, E, N, P>,
 ) -> u8
-    ensures ended { IsEnded result (W.contents out.old) (W.contents out.new)
-        (E.contents err.old) (E.contents err.new) }
-    ensures no_note { result ≡ 2 → Keeps (N.contents remarks.old) (N.contents remarks.new) }
+    ensures ended { EndsWith W.contents E.contents result io.old io.new }
+    ensures no_note { result ≡ 2 → Keeps (N.contents io.old.remarks) (N.contents io.new.remarks) }
     ensures faulty { result ≢ 1 }
-    ensures film { result ≡ 0 → IsFilmWritten Appends HEAD.now TABLES.now TAIL.now asked.now
-        (R.remaining rope.old) (S.remaining script.old)
-        (W.contents out.old) (W.contents out.new) }
-    ensures cut { result ≡ 3 → Keeps (W.contents out.old) (W.contents out.new)
-        ⊎ IsFilmWritten IsBegun HEAD.now TABLES.now TAIL.now asked.now
-        (R.remaining rope.old) (S.remaining script.old)
-        (W.contents out.old) (W.contents out.new) }
-    ensures refused { result ≡ 2 → (r : LoadFault) × IsFilmRefused asked.now
-        (R.remaining rope.old) (S.remaining script.old) r
-        × Appends (E.contents err.old) (E.contents err.new) (trouble_line (told.Refused r)) }
+    ensures film { result ≡ 0 → IsFilmWritten Appends HEAD.now TABLES.now TAIL.now args.now
+        (R.remaining inputs.old.rope) (R.remaining inputs.old.script)
+        (W.contents io.old.out) (W.contents io.new.out) }
+    ensures cut { result ≡ 3 → Keeps (W.contents io.old.out) (W.contents io.new.out)
+        ⊎ IsFilmWritten IsBegun HEAD.now TABLES.now TAIL.now args.now
+        (R.remaining inputs.old.rope) (R.remaining inputs.old.script)
+        (W.contents io.old.out) (W.contents io.new.out) }
+    ensures refused { result ≡ 2 → (r : LoadFault) × IsFilmRefused args.now
+        (R.remaining inputs.old.rope) (R.remaining inputs.old.script) r
+        × Appends (E.contents io.old.err) (E.contents io.new.err) (error_line (analysis.Refused r)) }
 {
-    let filmed = film_files(alloc, asked, rope, script, progress);
-    progress.wipe();
+    let filmed = film_files(alloc, args, inputs, &mut io.progress);
+    io.progress.wipe();
     match filmed {
-        Ok(page) => write_page(&page, out, remarks),
-        Err(refusal) => AnalysisFault::Refused(refusal).report_to(err),
+        Ok(page) => write_page(&page, &mut io.out, &mut io.remarks),
+        Err(refusal) => AnalysisFault::Refused(refusal).report_to(&mut io.err),
     }
 }
 
 /// Films the runs of two ropes and two scripts, and writes the page.
-fn write_film_pair<
-    R: Read,
-    S: Read,
-    T: Read,
-    U: Read,
-    W: Write,
-    E: Write,
-    N: Write,
-    P: ProgressLine,
->(
+fn write_film_pair<R: Read, W: Write, E: Write, N: Write, P: ProgressLine>(
     alloc: Global,
-    asked: &FilmArgs,
+    args: &FilmArgs,
     other: &RunFiles,
-    rope: &mut R,
-    script: &mut S,
-    other_rope: &mut T,
-    other_script: &mut U,
-    out: &mut W,
-    err: &mut E,
-    remarks: &mut N,
-    progress: &mut P,
+    left: &mut RunInputs<R>,
+    right: &mut RunInputs<R>,
+    io: &mut Streams<W, E, N, P>,
 ) -> u8
-    ensures ended { IsEnded result (W.contents out.old) (W.contents out.new)
-        (E.contents err.old) (E.contents err.new) }
-    ensures no_note { result ≡ 2 → Keeps (N.contents remarks.old) (N.contents remarks.new) }
+    ensures ended { EndsWith W.contents E.contents result io.old io.new }
+    ensures no_note { result ≡ 2 → Keeps (N.contents io.old.remarks) (N.contents io.new.remarks) }
     ensures faulty { result ≢ 1 }
     ensures film { result ≡ 0
-        → IsFilmPairWritten Appends HEAD.now TABLES.now TAIL.now asked.now other.now
-        (R.remaining rope.old) (S.remaining script.old)
-        (T.remaining other_rope.old) (U.remaining other_script.old)
-        (W.contents out.old) (W.contents out.new) }
-    ensures cut { result ≡ 3 → Keeps (W.contents out.old) (W.contents out.new)
-        ⊎ IsFilmPairWritten IsBegun HEAD.now TABLES.now TAIL.now asked.now other.now
-        (R.remaining rope.old) (S.remaining script.old)
-        (T.remaining other_rope.old) (U.remaining other_script.old)
-        (W.contents out.old) (W.contents out.new) }
-    ensures refused { result ≡ 2 → IsTold (IsFilmPairRefused asked.now
-        (R.remaining rope.old) (S.remaining script.old)
-        (T.remaining other_rope.old) (U.remaining other_script.old))
-        (E.contents err.old) (E.contents err.new) }
+        → IsFilmPairWritten Appends HEAD.now TABLES.now TAIL.now args.now other.now
+        (R.remaining left.old.rope) (R.remaining left.old.script)
+        (R.remaining right.old.rope) (R.remaining right.old.script)
+        (W.contents io.old.out) (W.contents io.new.out) }
+    ensures cut { result ≡ 3 → Keeps (W.contents io.old.out) (W.contents io.new.out)
+        ⊎ IsFilmPairWritten IsBegun HEAD.now TABLES.now TAIL.now args.now other.now
+        (R.remaining left.old.rope) (R.remaining left.old.script)
+        (R.remaining right.old.rope) (R.remaining right.old.script)
+        (W.contents io.old.out) (W.contents io.new.out) }
+    ensures refused { result ≡ 2 → IsReported (IsFilmPairRefused args.now
+        (R.remaining left.old.rope) (R.remaining left.old.script)
+        (R.remaining right.old.rope) (R.remaining right.old.script))
+        (E.contents io.old.err) (E.contents io.new.err) }
 {
-    let filmed = film_file_pairs(
-        alloc,
-        asked,
-        other,
-        rope,
-        script,
-        other_rope,
-        other_script,
-        progress,
-    );
-    progress.wipe();
+    let filmed = film_file_pairs(alloc, args, other, left, right, &mut io.progress);
+    io.progress.wipe();
     match filmed {
-        Ok(page) => write_page(&page, out, remarks),
-        Err(trouble) => trouble.report_to(err),
+        Ok(page) => write_page(&page, &mut io.out, &mut io.remarks),
+        Err(fault) => fault.report_to(&mut io.err),
     }
 }
 
@@ -203,7 +134,7 @@ fn write_page<W: Write, N: Write>(page: &FilmPage, out: &mut W, remarks: &mut N)
 /// Suggests how to shorten a film of many frames. A remark that cannot be written does not change the film.
 fn remark_on_length<N: Write>(frames: usize, remarks: &mut N) {
     if frames > MANY_FRAMES {
-        let _told = writeln!(
+        let _written = writeln!(
             remarks,
             "agc-study: the film has {frames} frames, and a browser may be slow with it; --from and --to film a part"
         );

@@ -3,22 +3,22 @@ ghost use Rattle.std.specs.Prelude.{◌≡◌, ◌⊎◌, IfErr, IfOk, None, str
 ghost use Rattle.agc_diff.specs.SideNames.{both_names};
 ghost use Rattle.agc_machine.specs.State.{State};
 ghost use Rattle.agc_diff.specs.ObservedCompared.{FitsLines};
-ghost use Rattle.agc_analysis.specs.Compared.{IsCompared, IsShownToldOf, IsToldAs, IsToldOf, shown_text_of};
-ghost use Rattle.agc_analysis.specs.Started.{IsPairRefused, IsRefused, IsStarted};
-ghost use Rattle.agc_analysis.specs.Fault.{other_trouble};
-ghost use Rattle.agc_analysis.specs.declared.fault.AnalysisFault.TheVariants as told;
+ghost use Rattle.agc_analysis.specs.Compared.{IsCompared, IsShownOutcomeOf, IsOutcomeAs, IsOutcomeOf, shown_text_of};
+ghost use Rattle.agc_analysis.specs.Pairs.{IsPairRefused};
+ghost use Rattle.agc_study_args.specs.Started.{IsRefused, IsStarted};
+ghost use Rattle.agc_analysis.specs.Fault.{other_error};
+ghost use Rattle.agc_analysis.specs.declared.fault.AnalysisFault.TheVariants as analysis;
 ghost use Rattle.agc_load.specs.declared.fault.LoadFault.{LoadFault};
 ghost use Rattle.agc_load.specs.declared.fault.LoadFault.TheVariants as refusal;
 
 use crate::fault::AnalysisFault;
-use crate::runs::read_machine;
 use agc_diff::{
     ObservedComparison, SideNames, compare, compare_shown, push_brief, push_comparison, push_shown,
 };
 use agc_io::Progress;
 use agc_load::LoadFault;
 use agc_machine::Machine;
-use agc_study_args::{CompareArgs, ObservedArgs};
+use agc_study_args::{CompareArgs, ObservedArgs, RunInputs, read_machine};
 use std::alloc::{AllocError, Global};
 use std::io::Read;
 
@@ -33,73 +33,45 @@ pub struct DiffOutcome {
 /// Reads two ropes and two scripts, and compares their runs; boundaries are printed with the symbols of each run.
 /// Fails with the first fault of the left run, or, if it has none, with that of the right run, reported as the other
 /// run's. Faults are checked in this order: rope, script, limit, `--until`. Out of memory may come at any point.
-pub fn compare_files<R: Read, S: Read, T: Read, U: Read, P: Progress>(
+pub fn compare_files<R: Read, P: Progress>(
     alloc: Global,
-    asked: &CompareArgs,
+    args: &CompareArgs,
     names: SideNames<'_>,
-    left_rope: &mut R,
-    left_script: &mut S,
-    right_rope: &mut T,
-    right_script: &mut U,
+    left: &mut RunInputs<R>,
+    right: &mut RunInputs<R>,
     progress: &mut P,
 ) -> Result<DiffOutcome, AnalysisFault>
-    ensures compared { IfOk result (IsCompared (both_names names.entry) asked.now
-        (R.remaining left_rope.old) (S.remaining left_script.old)
-        (T.remaining right_rope.old) (U.remaining right_script.old)) }
-    ensures refused { IfErr result (IsPairRefused asked.now.form asked.now.until None asked.now.limit
-        (R.remaining left_rope.old) (S.remaining left_script.old)
-        (T.remaining right_rope.old) (U.remaining right_script.old)) }
+    ensures compared { IfOk result (IsCompared (both_names names.entry) args.now
+        (R.remaining left.old.rope) (R.remaining left.old.script)
+        (R.remaining right.old.rope) (R.remaining right.old.script)) }
+    ensures refused { IfErr result (IsPairRefused args.now.options None
+        (R.remaining left.old.rope) (R.remaining left.old.script)
+        (R.remaining right.old.rope) (R.remaining right.old.script)) }
 {
-    let mut left = read_run(alloc, asked, left_rope, left_script)?;
-    compare_with(
-        alloc,
-        asked,
-        names,
-        &mut left,
-        right_rope,
-        right_script,
-        progress,
-    )
+    let mut machine = read_machine(alloc, &args.options, left)?;
+    compare_with(alloc, args, names, &mut machine, right, progress)
 }
 
 /// Reads the rope and the script of the right run, and compares it with a machine on the left.
-fn compare_with<R: Read, S: Read, P: Progress>(
+fn compare_with<R: Read, P: Progress>(
     alloc: Global,
-    asked: &CompareArgs,
+    args: &CompareArgs,
     names: SideNames<'_>,
     left: &mut Machine,
-    rope: &mut R,
-    script: &mut S,
+    inputs: &mut RunInputs<R>,
     progress: &mut P,
 ) -> Result<DiffOutcome, AnalysisFault>
-    ensures compared { IfOk result (λ told. (right : State)
-        × IsStarted asked.now.form asked.now.until None asked.now.limit
-        (R.remaining rope.old) (S.remaining script.old) right
-        × IsToldAs (both_names names.entry) asked.now.shown left.old right told) }
-    ensures refused { IfErr result (λ t. (t ≡ told.Refused refusal.Memory)
-        ⊎ ((r : LoadFault) × (t ≡ other_trouble r)
-        × IsRefused asked.now.form asked.now.until None asked.now.limit
-        (R.remaining rope.old) (S.remaining script.old) r)) }
+    ensures compared { IfOk result (λ outcome. (right : State) × IsStarted args.now.options None
+        (R.remaining inputs.old.rope) (R.remaining inputs.old.script) right
+        × IsOutcomeAs (both_names names.entry) args.now.shown left.old right outcome) }
+    ensures refused { IfErr result (λ t. (t ≡ analysis.Refused refusal.Memory)
+        ⊎ ((r : LoadFault) × (t ≡ other_error r) × IsRefused args.now.options None
+        (R.remaining inputs.old.rope) (R.remaining inputs.old.script) r)) }
 {
-    match read_run(alloc, asked, rope, script) {
-        Ok(mut right) => compare_as(alloc, asked.shown, names, left, &mut right, progress),
+    match read_machine(alloc, &args.options, inputs) {
+        Ok(mut right) => compare_as(alloc, args.shown, names, left, &mut right, progress),
         Err(refusal) => Err(AnalysisFault::of_other_run(refusal)),
     }
-}
-
-/// Reads the rope and the script of a run to compare.
-fn read_run<R: Read, S: Read>(
-    alloc: Global,
-    asked: &CompareArgs,
-    rope: &mut R,
-    script: &mut S,
-) -> Result<Machine, LoadFault>
-    ensures started { IfOk result (IsStarted asked.now.form asked.now.until None asked.now.limit
-        (R.remaining rope.old) (S.remaining script.old)) }
-    ensures refused { IfErr result (IsRefused asked.now.form asked.now.until None asked.now.limit
-        (R.remaining rope.old) (S.remaining script.old)) }
-{
-    read_machine(alloc, asked.form, asked.limit, &asked.until, rope, script)
 }
 
 /// Runs two machines and compares them in the requested way.
@@ -111,15 +83,15 @@ fn compare_as<P: Progress>(
     right: &mut Machine,
     progress: &mut P,
 ) -> Result<DiffOutcome, AnalysisFault>
-    ensures tells { IfOk result (IsToldAs (both_names names.entry) shown left.old right.old) }
-    ensures refused { IfErr result (λ t. t ≡ told.Refused refusal.Memory) }
+    ensures tells { IfOk result (IsOutcomeAs (both_names names.entry) shown left.old right.old) }
+    ensures refused { IfErr result (λ t. t ≡ analysis.Refused refusal.Memory) }
 {
-    let told = match shown {
-        Some(asked) => compare_what_shows(alloc, asked, left, right, progress),
+    let outcome = match shown {
+        Some(args) => compare_what_shows(alloc, args, left, right, progress),
         None => compare_runs(alloc, names, left, right, progress),
     };
-    match told {
-        Ok(told) => Ok(told),
+    match outcome {
+        Ok(outcome) => Ok(outcome),
         Err(_) => Err(AnalysisFault::Refused(LoadFault::Memory)),
     }
 }
@@ -127,16 +99,16 @@ fn compare_as<P: Progress>(
 /// Runs two machines while they show the same, and reports whether they do up to their stops or where they diverge.
 fn compare_what_shows<P: Progress>(
     alloc: Global,
-    asked: ObservedArgs,
+    args: ObservedArgs,
     left: &mut Machine,
     right: &mut Machine,
     progress: &mut P,
 ) -> Result<DiffOutcome, AllocError>
-    ensures { IfOk result (IsShownToldOf asked left.old right.old) }
+    ensures { IfOk result (IsShownOutcomeOf args left.old right.old) }
 {
-    let comparison = compare_shown(alloc, asked.what, left, right, progress)?;
+    let comparison = compare_shown(alloc, args.what, left, right, progress)?;
     Ok(DiffOutcome {
-        text: text_of_shown(alloc, asked, &comparison)?,
+        text: text_of_shown(alloc, args, &comparison)?,
         is_same: comparison.is_same(),
     })
 }
@@ -144,14 +116,14 @@ fn compare_what_shows<P: Progress>(
 /// Returns the text about what two runs show: the report, or one line.
 fn text_of_shown(
     alloc: Global,
-    asked: ObservedArgs,
+    args: ObservedArgs,
     comparison: &ObservedComparison,
 ) -> Result<String, AllocError>
     requires { FitsLines comparison.now }
-    ensures { IfOk result (λ text. string_bytes text ≡ shown_text_of asked comparison.now) }
+    ensures { IfOk result (λ text. string_bytes text ≡ shown_text_of args comparison.now) }
 {
     let mut text = String::new(alloc);
-    if asked.is_brief {
+    if args.is_brief {
         push_brief(&mut text, comparison)?;
     } else {
         push_shown(&mut text, comparison)?;
@@ -167,7 +139,7 @@ fn compare_runs<P: Progress>(
     right: &mut Machine,
     progress: &mut P,
 ) -> Result<DiffOutcome, AllocError>
-    ensures { IfOk result (IsToldOf (both_names names.entry) left.old right.old) }
+    ensures { IfOk result (IsOutcomeOf (both_names names.entry) left.old right.old) }
 {
     let comparison = compare(alloc, left, right, progress)?;
     let mut text = String::new(alloc);

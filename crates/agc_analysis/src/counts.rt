@@ -2,17 +2,16 @@
 ghost use Rattle.std.specs.Prelude.{◌≡◌, IfErr, IfOk, None, false, string_bytes};
 ghost use Rattle.agc_profile.specs.Report.{count_text};
 ghost use Rattle.agc_analysis.specs.Counted.{IsCounted, counted_text};
-ghost use Rattle.agc_analysis.specs.Started.{IsRefused};
+ghost use Rattle.agc_study_args.specs.Started.{IsRefused};
 ghost use Rattle.agc_load.specs.declared.fault.LoadFault.TheVariants as refusal;
 
 use crate::remarks::{RunStop, stop_of};
-use crate::runs::read_machine;
 use agc_io::Progress;
 use agc_load::LoadFault;
 use agc_machine::Machine;
 use agc_profile::{Profile, count, push_profile};
 use agc_store::Store;
-use agc_study_args::ProfileArgs;
+use agc_study_args::{ProfileArgs, RunInputs, read_machine};
 use std::alloc::Global;
 use std::io::Read;
 
@@ -26,20 +25,19 @@ pub struct Profiled {
 
 /// Reads a rope and a script, and makes the text of the profile of their run. Fails with the first fault, checked in
 /// this order: rope, script, limit, `--until`; or if memory runs out.
-pub fn profile_files<R: Read, S: Read, P: Progress>(
+pub fn profile_files<R: Read, P: Progress>(
     alloc: Global,
-    asked: &ProfileArgs,
-    rope: &mut R,
-    script: &mut S,
+    args: &ProfileArgs,
+    inputs: &mut RunInputs<R>,
     progress: &mut P,
 ) -> Result<Profiled, LoadFault>
-    ensures counted { IfOk result (λ profiled.
-        IsCounted asked.now (R.remaining rope.old) (S.remaining script.old) profiled.text) }
-    ensures refused { IfErr result (IsRefused asked.now.form asked.now.until None asked.now.limit
-        (R.remaining rope.old) (S.remaining script.old)) }
+    ensures counted { IfOk result (λ profiled. IsCounted args.now
+        (R.remaining inputs.old.rope) (R.remaining inputs.old.script) profiled.text) }
+    ensures refused { IfErr result (IsRefused args.now.options None
+        (R.remaining inputs.old.rope) (R.remaining inputs.old.script)) }
 {
-    let mut machine = read_machine(alloc, asked.form, asked.limit, &asked.until, rope, script)?;
-    match count_run(alloc, asked, &mut machine, progress) {
+    let mut machine = read_machine(alloc, &args.options, inputs)?;
+    match count_run(alloc, args, &mut machine, progress) {
         Ok(text) => Ok(Profiled {
             text,
             stop: stop_of(&machine),
@@ -51,16 +49,16 @@ pub fn profile_files<R: Read, S: Read, P: Progress>(
 /// Returns the profile of a machine's run as text. Fails if memory runs out.
 fn count_run<P: Progress>(
     alloc: Global,
-    asked: &ProfileArgs,
+    args: &ProfileArgs,
     machine: &mut Machine,
     progress: &mut P,
 ) -> Result<String, LoadFault>
     requires fresh { machine.old.begun ≡ false }
-    ensures text { IfOk result (λ text. string_bytes text ≡ counted_text asked.now machine.old) }
+    ensures text { IfOk result (λ text. string_bytes text ≡ counted_text args.now machine.old) }
     ensures refused { IfErr result (λ r. r ≡ refusal.Memory) }
 {
-    let counts = count(alloc, machine, asked.span, progress)?;
-    let text = text_of(alloc, asked, &counts, machine.store());
+    let counts = count(alloc, machine, args.span, progress)?;
+    let text = text_of(alloc, args, &counts, machine.store());
     drop(counts);
     text
 }
@@ -68,15 +66,15 @@ fn count_run<P: Progress>(
 /// Returns the text of a profile with the words of a store. Fails if memory runs out.
 fn text_of(
     alloc: Global,
-    asked: &ProfileArgs,
+    args: &ProfileArgs,
     counts: &Profile,
     store: &Store,
 ) -> Result<String, LoadFault>
     ensures text { IfOk result (λ text. string_bytes text
-        ≡ count_text asked.now.layout asked.now.is_whole counts.now store.now.fixed) }
+        ≡ count_text args.now.layout args.now.is_whole counts.now store.now.fixed) }
     ensures refused { IfErr result (λ r. r ≡ refusal.Memory) }
 {
     let mut text = String::new(alloc);
-    push_profile(&mut text, asked.layout, asked.is_whole, counts, store)?;
+    push_profile(&mut text, args.layout, args.is_whole, counts, store)?;
     Ok(text)
 }

@@ -1,9 +1,9 @@
 //! The error that ends `agc-study` with one line.
 ghost use Rattle.std.specs.Prelude.{◌≡◌, ◌⊎◌, OnOk};
 ghost use Rattle.std.specs.Io.KnownBytes.{Appends};
-ghost use Rattle.agc_analysis.specs.Fault.{other_trouble, remedy_text, rope_remedy, script_remedy};
-ghost use Rattle.agc_analysis.specs.Fault.{trouble_line, watch_remedy};
-ghost use Rattle.agc_analysis.specs.declared.fault.AnalysisFault.TheVariants as told;
+ghost use Rattle.agc_analysis.specs.Fault.{other_error, remedy_text, rope_remedy, script_remedy};
+ghost use Rattle.agc_analysis.specs.Fault.{error_line, watch_remedy};
+ghost use Rattle.agc_analysis.specs.declared.fault.AnalysisFault.TheVariants as analysis;
 
 use agc_asm::AssemblyFault;
 use agc_io::status_of;
@@ -38,7 +38,7 @@ pub enum AnalysisFault {
 impl AnalysisFault {
     /// Returns the error for a fault of the right run: the other run's, if it concerns a rope or a script.
     pub fn of_other_run(refusal: LoadFault) -> AnalysisFault
-        ensures { result ≡ other_trouble refusal }
+        ensures { result ≡ other_error refusal }
     {
         match refusal {
             LoadFault::CannotReadRope(_)
@@ -52,7 +52,7 @@ impl AnalysisFault {
     /// Writes the line of this error.
     pub fn write_to<W: Write>(self, err: &mut W) -> io::Result<()>
         ensures { OnOk result
-            (Appends (W.contents err.old) (W.contents err.new) (trouble_line self)) }
+            (Appends (W.contents err.old) (W.contents err.new) (error_line self)) }
     {
         writeln!(err, "agc-study: {self}")
     }
@@ -61,14 +61,14 @@ impl AnalysisFault {
     pub fn report_to<W: Write>(self, err: &mut W) -> u8
         ensures status { (result ≡ 2) ⊎ (result ≡ 3) }
         ensures line { result ≡ 2
-            → Appends (W.contents err.old) (W.contents err.new) (trouble_line self) }
+            → Appends (W.contents err.old) (W.contents err.new) (error_line self) }
     {
         status_of(FAULTY, self.write_to(err))
     }
 }
 
 impl From<LoadFault> for AnalysisFault {
-    ghost from_gives = { λ refusal t. t ≡ told.Refused refusal };
+    ghost from_gives = { λ refusal t. t ≡ analysis.Refused refusal };
 
     fn from(refusal: LoadFault) -> AnalysisFault {
         AnalysisFault::Refused(refusal)
@@ -77,9 +77,9 @@ impl From<LoadFault> for AnalysisFault {
 
 impl fmt::Display for AnalysisFault {
     ghost use Rattle.std.specs.Prelude.{Some};
-    ghost use Rattle.agc_analysis.specs.Fault.{trouble_text};
+    ghost use Rattle.agc_analysis.specs.Fault.{error_text};
 
-    ghost output = { λ t. Some (trouble_text t) };
+    ghost output = { λ t. Some (error_text t) };
 
     fn fmt<W: fmt::Write>(&self, f: &mut fmt::Formatter<W>) -> fmt::Result {
         match *self {

@@ -5,14 +5,13 @@ ghost use Rattle.std.specs.declared.string.String.{String};
 ghost use Rattle.agc_timeline.specs.Recording.{IsRecordingOf};
 ghost use Rattle.agc_analysis.specs.Filmed.{IsFilm, IsFilmPair, IsFilmPairRefused, IsFilmRefused, IsFilmed};
 ghost use Rattle.agc_analysis.specs.Filmed.{ShowsTables};
-ghost use Rattle.agc_analysis.specs.Watched.{AreWatched};
+ghost use Rattle.agc_study_args.specs.Started.{AreWatched};
 ghost use Rattle.agc_load.specs.declared.fault.LoadFault.TheVariants as refusal;
 
 use crate::fault::AnalysisFault;
-use crate::runs::{Start, read_start};
 use agc_io::Progress;
 use agc_load::LoadFault;
-use agc_study_args::FilmArgs;
+use agc_study_args::{FilmArgs, RunInputs, Start, read_start};
 use agc_timeline::{
     HEAD, Part, Recording, RunFiles, TABLES, TAIL, film, film_watched, push_film, push_film_pair,
 };
@@ -29,82 +28,70 @@ pub struct FilmPage {
 
 /// Reads a rope and a script, and makes the page that shows their run. Fails with the first fault, checked in this
 /// order: rope, script, limit, `--watch`, `--until`, addresses of the tables; or if memory runs out.
-pub fn film_files<R: Read, S: Read, P: Progress>(
+pub fn film_files<R: Read, P: Progress>(
     alloc: Global,
-    asked: &FilmArgs,
-    rope: &mut R,
-    script: &mut S,
+    args: &FilmArgs,
+    inputs: &mut RunInputs<R>,
     progress: &mut P,
 ) -> Result<FilmPage, LoadFault>
-    ensures film { IfOk result (λ page. IsFilm HEAD.now TABLES.now TAIL.now asked.now
-        (R.remaining rope.old) (S.remaining script.old) page.text) }
-    ensures refused { IfErr result (IsFilmRefused asked.now
-        (R.remaining rope.old) (S.remaining script.old)) }
+    ensures film { IfOk result (λ page. IsFilm HEAD.now TABLES.now TAIL.now args.now
+        (R.remaining inputs.old.rope) (R.remaining inputs.old.script) page.text) }
+    ensures refused { IfErr result (IsFilmRefused args.now
+        (R.remaining inputs.old.rope) (R.remaining inputs.old.script)) }
 {
-    let recording = read_reel(alloc, asked, rope, script, progress)?;
+    let recording = record_run(alloc, args, inputs, progress)?;
     let frames = recording.frames.len();
     let mut text = String::new(alloc);
-    push_film(&mut text, asked.limit, &asked.files, &recording)?;
+    push_film(&mut text, args.options.limit, &args.files, &recording)?;
     Ok(FilmPage { text, frames })
 }
 
 /// Reads two ropes and two scripts, and makes the page that shows their runs side by side, the right one under the
 /// names of other files. Fails with the fault of the left run, or, if it has none, with that of the right run,
 /// reported as the other run's.
-pub fn film_file_pairs<R: Read, S: Read, T: Read, U: Read, P: Progress>(
+pub fn film_file_pairs<R: Read, P: Progress>(
     alloc: Global,
-    asked: &FilmArgs,
+    args: &FilmArgs,
     other: &RunFiles,
-    left_rope: &mut R,
-    left_script: &mut S,
-    right_rope: &mut T,
-    right_script: &mut U,
+    left: &mut RunInputs<R>,
+    right: &mut RunInputs<R>,
     progress: &mut P,
 ) -> Result<FilmPage, AnalysisFault>
-    ensures film { IfOk result (λ page. IsFilmPair HEAD.now TABLES.now TAIL.now asked.now other.now
-        (R.remaining left_rope.old) (S.remaining left_script.old)
-        (T.remaining right_rope.old) (U.remaining right_script.old) page.text) }
-    ensures refused { IfErr result (IsFilmPairRefused asked.now
-        (R.remaining left_rope.old) (S.remaining left_script.old)
-        (T.remaining right_rope.old) (U.remaining right_script.old)) }
+    ensures film { IfOk result (λ page. IsFilmPair HEAD.now TABLES.now TAIL.now args.now other.now
+        (R.remaining left.old.rope) (R.remaining left.old.script)
+        (R.remaining right.old.rope) (R.remaining right.old.script) page.text) }
+    ensures refused { IfErr result (IsFilmPairRefused args.now
+        (R.remaining left.old.rope) (R.remaining left.old.script)
+        (R.remaining right.old.rope) (R.remaining right.old.script)) }
 {
-    let left = read_reel(alloc, asked, left_rope, left_script, progress)?;
-    let right = match read_reel(alloc, asked, right_rope, right_script, progress) {
+    let left = record_run(alloc, args, left, progress)?;
+    let right = match record_run(alloc, args, right, progress) {
         Ok(recording) => recording,
         Err(refusal) => return Err(AnalysisFault::of_other_run(refusal)),
     };
     let frames = left.frames.len().saturating_add(right.frames.len());
-    let mut text = String::new(alloc);
-    match push_film_pair(&mut text, asked.limit, &asked.files, &left, other, &right) {
+    let (mut text, limit) = (String::new(alloc), args.options.limit);
+    match push_film_pair(&mut text, limit, &args.files, &left, other, &right) {
         Ok(()) => Ok(FilmPage { text, frames }),
         Err(_) => Err(AnalysisFault::Refused(LoadFault::Memory)),
     }
 }
 
 /// Reads a rope and a script, and records their run, with the tables if they are watched.
-fn read_reel<R: Read, S: Read, P: Progress>(
+fn record_run<R: Read, P: Progress>(
     alloc: Global,
-    asked: &FilmArgs,
-    rope: &mut R,
-    script: &mut S,
+    args: &FilmArgs,
+    inputs: &mut RunInputs<R>,
     progress: &mut P,
 ) -> Result<Recording, LoadFault>
-    ensures filmed { IfOk result
-        (IsFilmed asked.now (R.remaining rope.old) (S.remaining script.old)) }
-    ensures refused { IfErr result (IsFilmRefused asked.now
-        (R.remaining rope.old) (S.remaining script.old)) }
+    ensures filmed { IfOk result (IsFilmed args.now
+        (R.remaining inputs.old.rope) (R.remaining inputs.old.script)) }
+    ensures refused { IfErr result (IsFilmRefused args.now
+        (R.remaining inputs.old.rope) (R.remaining inputs.old.script)) }
 {
-    let watch = asked.watch.as_ref();
-    let mut start = read_start(
-        alloc,
-        asked.form,
-        asked.limit,
-        &asked.until,
-        watch,
-        rope,
-        script,
-    )?;
-    film_start(alloc, asked.part, &mut start, progress)
+    let watch = args.watch.as_ref();
+    let mut start = read_start(alloc, &args.options, watch, inputs)?;
+    film_start(alloc, args.part, &mut start, progress)
 }
 
 /// Records a part of a machine's run, with the tables if they are watched.

@@ -2,29 +2,24 @@
 #![tactic(auto)]
 
 mod answers;
-mod channel_names;
 mod checks;
 mod cmd_check;
+mod cmd_compare;
 mod cmd_film;
 mod cmd_jobs;
+mod cmd_list;
 mod cmd_profile;
-mod cmd_rope;
-mod cmd_run;
-mod cmd_source;
+mod cmd_trace;
+mod cmd_weave;
 mod compares;
 mod counts;
 mod fault;
 mod films;
 mod inputs;
-mod laws;
-mod names_out;
-mod placed;
 mod remarks;
 mod ropes;
-mod runs;
+mod streams;
 mod traces;
-mod unreadable;
-mod until;
 mod watches;
 
 pub use answers::{answer, last_cycle};
@@ -32,15 +27,13 @@ pub use checks::{
     CheckedListing, check_files, check_key_file, check_listing_file, check_with, joined,
 };
 pub use cmd_check::write_report;
-pub use cmd_run::write_outcome;
+pub use cmd_compare::write_outcome;
 pub use compares::{DiffOutcome, compare_files};
 pub use counts::{Profiled, profile_files};
 pub use fault::{AnalysisFault, FAULTY};
 pub use films::{FilmPage, film_file_pairs, film_files};
-pub use laws::a_run_stops_at_the_place_said;
-pub use placed::{Question, place};
 pub use remarks::RunStop;
-pub use ropes::{Woven, list_rope, misnamed_line, source_of_rope, weave_text};
+pub use ropes::{Woven, misnamed_line, text_of_rope, weave_text};
+pub use streams::Streams;
 pub use traces::{TraceError, Traced, remark_service, status_of_trace_error, trace_files};
-pub use until::name_until;
 pub use watches::watch_files;

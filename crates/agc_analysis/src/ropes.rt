@@ -4,12 +4,12 @@ ghost use Rattle.std.specs.Prelude.{string_bytes};
 ghost use Rattle.agc_asm.specs.MnemonicCheck.{misnamed_in};
 ghost use Rattle.agc_asm.specs.Source.{IsSourceWoven, source_in};
 ghost use Rattle.agc_load.specs.Options.{said_by, says_nothing};
-ghost use Rattle.agc_analysis.specs.Listed.{IsListRefused, IsListing, IsWeaveRefused, IsWoven};
-ghost use Rattle.agc_analysis.specs.Listed.{bank_named, misnamed_line};
-ghost use Rattle.agc_analysis.specs.Sourced.{IsSource};
+ghost use Rattle.agc_analysis.specs.Listed.{IsListRefused, IsListText, IsStyledText, IsWeaveRefused, IsWoven};
+ghost use Rattle.agc_analysis.specs.Listed.{bank_named, misnamed_line, shown_with};
+ghost use Rattle.agc_analysis.specs.Listed.{IsSource};
 ghost use Rattle.agc_asm.specs.declared.fault.AssemblyFault.{AssemblyFault};
 ghost use Rattle.agc_asm.specs.declared.fault.AssemblyFault.TheVariants as source_trouble;
-ghost use Rattle.agc_analysis.specs.declared.fault.AnalysisFault.TheVariants as told;
+ghost use Rattle.agc_analysis.specs.declared.fault.AnalysisFault.TheVariants as analysis;
 
 use crate::fault::AnalysisFault;
 use agc_asm::{AssemblyFault, Misnamed, assemble, first_misnamed, rope_source, yul_source};
@@ -17,77 +17,70 @@ use agc_io::{ReadError, TEXT_BYTES, read_limited};
 use agc_listing::{files_say_rope_words, list, push_order};
 use agc_load::{LoadFault, read_rope};
 use agc_store::{RopeForm, Store};
-use agc_symbols::SymbolTable;
+use agc_study_args::{ListArgs, ListStyle};
+use agc_symbols::{SymbolTable, text_with_names};
 use agc_word::read_octal;
 use std::alloc::{AllocError, Global};
 use std::io::Read;
 
-/// Returns the text of a rope file, or of one of its banks. Rejects an invalid `--bank` before it reads the file.
-pub fn list_rope<R: Read>(
+/// Returns the text of a rope file, or of one of its banks, in a style and with these symbols. Rejects an invalid `--bank`
+/// before it reads the file. The source of a whole rope assembles to a rope with the same words.
+pub fn text_of_rope<R: Read>(
     alloc: Global,
-    form: RopeForm,
-    bank: &Option<String>,
-    reader: &mut R,
-) -> Result<String, AnalysisFault>
-    ensures listed { IfOk result (λ text. IfSome (R.remaining reader.old)
-        (λ file. IsListing form bank.now file (string_bytes text))) }
-    ensures named { OnOk result (says_nothing bank_named bank.now ≡ false) }
-    ensures refused { IfErr result (IsListRefused form bank.now (R.remaining reader.old)) }
-{
-    let bank = bank_of(bank)?;
-    let store = Store::new(read_rope(alloc, form, reader)?);
-    match list(alloc, &store, bank) {
-        Ok(text) => Ok(text),
-        Err(_) => Err(AnalysisFault::Refused(LoadFault::Memory)),
-    }
-}
-
-/// Returns the source of a rope file, or of one of its banks. The source of a whole rope assembles to a rope with the
-/// same words. Rejects an invalid `--bank` before it reads the file.
-pub fn source_of_rope<R: Read>(
-    alloc: Global,
-    form: RopeForm,
-    bank: &Option<String>,
-    reader: &mut R,
-) -> Result<String, AnalysisFault>
-    ensures source { IfOk result (λ text. IfSome (R.remaining reader.old)
-        (λ file. IsSource form bank.now file (string_bytes text))) }
-    ensures named { OnOk result (says_nothing bank_named bank.now ≡ false) }
-    ensures refused { IfErr result (IsListRefused form bank.now (R.remaining reader.old)) }
-{
-    let bank = bank_of(bank)?;
-    let store = Store::new(read_rope(alloc, form, reader)?);
-    files_say_rope_words();
-    match rope_source(alloc, &store, bank) {
-        Ok(text) => Ok(text),
-        Err(_) => Err(AnalysisFault::Refused(LoadFault::Memory)),
-    }
-}
-
-/// Returns a rope file, or one of its banks, as a page in the listings' language with these names. Rejects an invalid
-/// `--bank` before it reads the file.
-pub fn page_of_rope<R: Read>(
-    alloc: Global,
-    form: RopeForm,
-    bank: &Option<String>,
+    args: &ListArgs,
     names: &Option<SymbolTable>,
     reader: &mut R,
-) -> Result<String, AnalysisFault>
-    ensures named { OnOk result (says_nothing bank_named bank.now ≡ false) }
+) -> Result<Vec<u8>, AnalysisFault>
+    ensures text { IfOk result (λ text. IfSome (R.remaining reader.old)
+        (λ file. IsListText args.now args.now.style names.now file text.items)) }
+    ensures named { OnOk result (says_nothing bank_named args.now.bank ≡ false) }
+    ensures refused { IfErr result (IsListRefused args.now.form args.now.bank (R.remaining reader.old)) }
 {
-    let bank = bank_of(bank)?;
-    let store = Store::new(read_rope(alloc, form, reader)?);
-    match yul_source(alloc, &store, bank, names) {
+    let bank = bank_of(&args.bank)?;
+    let store = Store::new(read_rope(alloc, args.form, reader)?);
+    files_say_rope_words();
+    match styled_text(alloc, args.style, bank, names, &store) {
         Ok(text) => Ok(text),
         Err(_) => Err(AnalysisFault::Refused(LoadFault::Memory)),
+    }
+}
+
+/// Returns the text of the words in fixed memory, or of one bank, in a style.
+fn styled_text(
+    alloc: Global,
+    style: ListStyle,
+    bank: Option<u8>,
+    names: &Option<SymbolTable>,
+    store: &Store,
+) -> Result<Vec<u8>, AllocError>
+    ensures { IfOk result (λ text. IsStyledText style bank names.now store.now.fixed text.items) }
+{
+    match style {
+        ListStyle::Lines => with_symbols(alloc, names, list(alloc, store, bank)?),
+        ListStyle::Source => Ok(rope_source(alloc, store, bank)?.into_bytes()),
+        ListStyle::Yul => Ok(yul_source(alloc, store, bank, names)?.into_bytes()),
+    }
+}
+
+/// Returns the text of a rope with symbols, if there are any.
+fn with_symbols(
+    alloc: Global,
+    names: &Option<SymbolTable>,
+    text: String,
+) -> Result<Vec<u8>, AllocError>
+    ensures { IfOk result (λ shown. shown.items ≡ shown_with names.now (string_bytes text)) }
+{
+    match names {
+        Some(names) => text_with_names(alloc, names, text.as_bytes()),
+        None => Ok(text.into_bytes()),
     }
 }
 
 /// Returns the requested bank, if there is one.
 fn bank_of(bank: &Option<String>) -> Result<Option<u8>, AnalysisFault>
-    ensures ok { IfOk result (λ asked. asked ≡ said_by bank_named bank.now) }
+    ensures ok { IfOk result (λ named. named ≡ said_by bank_named bank.now) }
     ensures named { OnOk result (says_nothing bank_named bank.now ≡ false) }
-    ensures refused { IfErr result (λ t. t ≡ told.BadBankSpec) }
+    ensures refused { IfErr result (λ t. t ≡ analysis.BadBankSpec) }
     ensures cause { IfErr result (λ _. says_nothing bank_named bank.now ≡ true) }
 {
     match bank {
@@ -140,7 +133,7 @@ pub fn weave_text<R: Read>(
 fn woven_of(alloc: Global, form: RopeForm, text: Vec<u8>) -> Result<Woven, AnalysisFault>
     ensures woven { IfOk result (λ woven. IsSourceWoven form text.items woven.bytes.items
         × (woven.misnamed ≡ misnamed_in text.items) × (woven.text.items ≡ text.items)) }
-    ensures refused { IfErr result (λ t. (fault : AssemblyFault) × (t ≡ told.Text fault)
+    ensures refused { IfErr result (λ t. (fault : AssemblyFault) × (t ≡ analysis.Text fault)
         × (fault ≢ source_trouble.Memory → source_in text.items ≡ Err fault)) }
 {
     let bytes = match assemble(alloc, form, text.as_slice()) {

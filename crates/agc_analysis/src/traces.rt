@@ -4,11 +4,10 @@ ghost use Rattle.std.specs.Io.KnownBytes.{Appends};
 ghost use Rattle.agc_analysis.specs.Traced.{EndsUntraced, IsTraced, IsUntraced, service_line};
 
 use crate::fault::AnalysisFault;
-use crate::runs::read_machine;
 use agc_io::{Progress, WRITE_FAILED};
 use agc_load::LoadFault;
 use agc_machine::Machine;
-use agc_study_args::TraceArgs;
+use agc_study_args::{RunInputs, TraceArgs, read_machine};
 use agc_symbols::SymbolTable;
 use agc_trace::{Service, TraceFault, trace};
 use std::alloc::Global;
@@ -34,28 +33,26 @@ pub enum TraceError {
 
 /// Reads a rope and a script, and writes the lines of their run with these symbols. Fails with the first fault,
 /// checked in this order: rope, script, limit, `--until`; or if memory runs out. Nothing is written in that case.
-pub fn trace_files<R: Read, S: Read, W: Write, P: Progress>(
+pub fn trace_files<R: Read, W: Write, P: Progress>(
     alloc: Global,
-    asked: &TraceArgs,
+    args: &TraceArgs,
     names: &Option<SymbolTable>,
-    rope: &mut R,
-    script: &mut S,
+    inputs: &mut RunInputs<R>,
     out: &mut W,
     progress: &mut P,
 ) -> Result<Traced, TraceError>
-    ensures traced { IfOk result (λ traced. IsTraced asked.now names.now
-        (R.remaining rope.old) (S.remaining script.old)
+    ensures traced { IfOk result (λ traced. IsTraced args.now names.now
+        (R.remaining inputs.old.rope) (R.remaining inputs.old.script)
         (W.contents out.old) (W.contents out.new) traced.service) }
-    ensures error { IfErr result (IsUntraced asked.now names.now
-        (R.remaining rope.old) (S.remaining script.old)
+    ensures error { IfErr result (IsUntraced args.now names.now
+        (R.remaining inputs.old.rope) (R.remaining inputs.old.script)
         (W.contents out.old) (W.contents out.new)) }
 {
-    let (form, limit) = (asked.form, asked.limit);
-    let mut machine = match read_machine(alloc, form, limit, &asked.until, rope, script) {
+    let mut machine = match read_machine(alloc, &args.options, inputs) {
         Ok(machine) => machine,
         Err(refusal) => return Err(TraceError::Refused(refusal)),
     };
-    match trace(alloc, &mut machine, &asked.selection, names, out, progress) {
+    match trace(alloc, &mut machine, &args.selection, names, out, progress) {
         Ok(service) => Ok(Traced { machine, service }),
         Err(fault) => Err(TraceError::Cut(fault)),
     }
@@ -83,7 +80,7 @@ pub fn status_of_trace_error<E: Write>(error: TraceError, err: &mut E) -> u8
         TraceError::Refused(refusal) => AnalysisFault::Refused(refusal).report_to(err),
         TraceError::Cut(TraceFault::Write) => WRITE_FAILED,
         TraceError::Cut(TraceFault::Memory) => {
-            let _told = AnalysisFault::Refused(LoadFault::Memory).write_to(err);
+            let _written = AnalysisFault::Refused(LoadFault::Memory).write_to(err);
             WRITE_FAILED
         }
     }

@@ -2,12 +2,10 @@
 ghost use Rattle.std.specs.Prelude.{IfErr, IfOk};
 ghost use Rattle.agc_analysis.specs.Watched.{IsUnwatched, IsWatched};
 
-use crate::runs::read_start;
 use crate::traces::TraceError;
 use agc_io::Progress;
-use agc_load::LoadFault;
 use agc_machine::Machine;
-use agc_study_args::JobsArgs;
+use agc_study_args::{JobsArgs, RunInputs, read_start};
 use agc_timeline::write_changes;
 use std::alloc::Global;
 use std::io::{Read, Write};
@@ -15,30 +13,27 @@ use std::io::{Read, Write};
 /// Reads a rope and a script, and writes a line for each change of the tables in their run. Returns the machine at
 /// the end of the run. Fails with the first fault, checked in this order: rope, script, limit, `--watch`, `--until`,
 /// addresses of the tables; or if memory runs out. Nothing is written in that case.
-pub fn watch_files<R: Read, S: Read, W: Write, P: Progress>(
+pub fn watch_files<R: Read, W: Write, P: Progress>(
     alloc: Global,
-    asked: &JobsArgs,
-    rope: &mut R,
-    script: &mut S,
+    args: &JobsArgs,
+    inputs: &mut RunInputs<R>,
     out: &mut W,
     progress: &mut P,
 ) -> Result<Machine, TraceError>
-    ensures watched { IfOk result (λ _. IsWatched asked.now
-        (R.remaining rope.old) (S.remaining script.old)
+    ensures watched { IfOk result (λ _. IsWatched args.now
+        (R.remaining inputs.old.rope) (R.remaining inputs.old.script)
         (W.contents out.old) (W.contents out.new)) }
-    ensures unwatched { IfErr result (IsUnwatched asked.now
-        (R.remaining rope.old) (S.remaining script.old)
+    ensures unwatched { IfErr result (IsUnwatched args.now
+        (R.remaining inputs.old.rope) (R.remaining inputs.old.script)
         (W.contents out.old) (W.contents out.new)) }
 {
-    let (form, limit) = (asked.form, asked.limit);
-    let watch = Some(&asked.watch);
-    let start = match read_start(alloc, form, limit, &asked.until, watch, rope, script) {
+    let start = match read_start(alloc, &args.options, Some(&args.watch), inputs) {
         Ok(start) => start,
         Err(refusal) => return Err(TraceError::Refused(refusal)),
     };
     let mut machine = start.machine;
     let spec = start.tables.unwrap();
-    match write_changes(alloc, &mut machine, asked.span, &spec, out, progress) {
+    match write_changes(alloc, &mut machine, args.span, &spec, out, progress) {
         Ok(()) => Ok(machine),
         Err(fault) => Err(TraceError::Cut(fault)),
     }

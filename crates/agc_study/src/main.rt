@@ -4,7 +4,7 @@
 //! diverge, and `film` renders the display over time.
 #![tactic(auto)]
 
-use agc_analysis::{answer, last_cycle};
+use agc_analysis::{Streams, answer, last_cycle};
 use agc_io::{Ticker, hold_closed_streams};
 use agc_study_args::NAME;
 use agc_study_cli::parse_env;
@@ -12,8 +12,12 @@ use std::process::ExitCode;
 
 fn main(rt: HostRuntime) -> ExitCode {
     let _stand_ins = hold_closed_streams(&rt);
-    let (mut out, mut err, mut remarks) = (rt.stdout(), rt.stderr(), rt.stderr());
-    let asked = parse_env(&rt);
-    let mut ticker = Ticker::new(&rt, rt.stderr(), NAME, last_cycle(&asked));
-    ExitCode::from(answer(&rt, asked, &mut out, &mut err, &mut remarks, &mut ticker))
+    let args = parse_env(&rt);
+    let mut io = Streams {
+        out: rt.stdout(),
+        err: rt.stderr(),
+        remarks: rt.stderr(),
+        progress: Ticker::new(&rt, rt.stderr(), NAME, last_cycle(&args)),
+    };
+    ExitCode::from(answer(&rt, args, &mut io))
 }

@@ -1,5 +1,5 @@
 use Rattle.std.specs.Prelude.{None}
-use Rattle.agc_analysis.proofs.Starts.{memory_refused}
+use Rattle.agc_study_args.proofs.Starts.{memory_refused}
 use Rattle.agc_analysis.proofs.counts.profile_files.Goals as goal
 
 pub returns-in-Ok-clause-counted : goal.returns-in-Ok-clause-counted
@@ -8,5 +8,5 @@ returns-in-Ok-clause-counted g c =
 
 pub returns-clause-refused : goal.returns-clause-refused
 returns-clause-refused g c =
-    let asked = c.args.asked.now in
-    memory_refused asked.form asked.until None asked.limit _ _
+    let args = c.args.args.now in
+    memory_refused args.options None _ _

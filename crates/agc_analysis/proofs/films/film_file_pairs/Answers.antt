@@ -1,7 +1,7 @@
 use Rattle.std.proofs.Common.{inl, inr}
 use Rattle.agc_load.specs.declared.fault.LoadFault.TheVariants as refusal
 use Rattle.agc_analysis.proofs.FilmedRuns.{filmed_accepted}
-use Rattle.agc_analysis.proofs.Starts.{memory_refused}
+use Rattle.agc_study_args.proofs.Starts.{memory_refused}
 use Rattle.agc_analysis.proofs.films.film_file_pairs.Goals as goal
 
 pub returns-in-Ok-push_film_pair-clause-film : goal.returns-in-Ok-push_film_pair-clause-film
@@ -15,10 +15,10 @@ returns-in-Ok-push_film_pair-clause-film g c = record {
 
 pub returns-clause-refused : goal.returns-clause-refused
 returns-clause-refused g c =
-    let asked = c.args.asked.now in
-    inl (refusal.Memory, cc, memory_refused asked.form asked.until asked.watch asked.limit _ _)
+    let args = c.args.args.now in
+    inl (refusal.Memory, cc, memory_refused args.options args.watch _ _)
 
 pub returns-in-Err-clause-refused : goal.returns-in-Err-clause-refused
 returns-in-Err-clause-refused g c =
-    let accepted = filmed_accepted c.args.asked.now _ _ c.in_ok-left.left c.in_ok-left.ensures.filmed in
+    let accepted = filmed_accepted c.args.args.now _ _ c.in_ok-left.left c.in_ok-left.ensures.filmed in
     inr (accepted, c.in-Err.refusal, c.of_other_run.ensures, c.in-Err.ensures.refused)

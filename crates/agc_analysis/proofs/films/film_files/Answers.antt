@@ -1,5 +1,5 @@
 use Rattle.std.proofs.lemmas.Result.{err_from_is_err_and}
-use Rattle.agc_analysis.proofs.Starts.{memory_refused}
+use Rattle.agc_study_args.proofs.Starts.{memory_refused}
 use Rattle.agc_analysis.proofs.films.film_files.Goals as goal
 
 pub returns-clause-film : goal.returns-clause-film
@@ -11,6 +11,6 @@ returns-clause-film g c = record {
 
 pub returns-in_err-push_film-clause-refused : goal.returns-in_err-push_film-clause-refused
 returns-in_err-push_film-clause-refused g c =
-    let asked = c.args.asked.now in
+    let args = c.args.args.now in
     let p = err_from_is_err_and c.from_residual-in_err-push_film.result c.from_residual-in_err-push_film.ensures.1 in
-    rw (p.1, p.2) (memory_refused asked.form asked.until asked.watch asked.limit _ _)
+    rw (p.1, p.2) (memory_refused args.options args.watch _ _)

@@ -1,0 +1,64 @@
+//! Runs `list`: writes the text of a rope.
+ghost use Rattle.std.specs.Prelude.{◌≡◌, ◌≢◌, ◌⊎◌};
+ghost use Rattle.std.specs.Io.KnownBytes.{Appends, Keeps};
+ghost use Rattle.agc_io.specs.Output.{IsBegun};
+ghost use Rattle.agc_analysis.specs.Ended.{EndsWith};
+ghost use Rattle.agc_analysis.specs.Listed.{IsListRefused, IsListWritten};
+ghost use Rattle.agc_analysis.specs.Fault.{IsReported};
+
+use crate::inputs::read_symbols;
+use crate::ropes::text_of_rope;
+use crate::streams::Streams;
+use agc_io::{OK, ROPE_BYTES, status_of, write_in_full};
+use agc_study_args::{ListArgs, open_file};
+use agc_symbols::SymbolTable;
+use std::alloc::Global;
+use std::io::{Read, Write};
+use std::rt::Files;
+
+/// Lists a rope file with the symbols of the symbol file.
+pub fn run_list<R, W: Write, E: Write, N: Write, P>(
+    rt: &R,
+    args: &ListArgs,
+    io: &mut Streams<W, E, N, P>,
+) -> u8
+where
+    R: Files + AllocGlobal,
+    ensures ended { EndsWith W.contents E.contents result io.old io.new }
+    ensures faulty { result ≢ 1 }
+{
+    let names = match read_symbols(rt, &args.names, io) {
+        Ok(names) => names,
+        Err(status) => return status,
+    };
+    let mut rope = open_file(rt, &args.rope, ROPE_BYTES);
+    let status = write_list(rt.alloc(), args, &names, &mut rope, io);
+    rope.remark_fault(rt.alloc(), &mut io.remarks);
+    status
+}
+
+/// Lists a rope and writes its text with these symbols. Writes nothing if memory runs out.
+fn write_list<R: Read, W: Write, E: Write, N: Write, P>(
+    alloc: Global,
+    args: &ListArgs,
+    names: &Option<SymbolTable>,
+    rope: &mut R,
+    io: &mut Streams<W, E, N, P>,
+) -> u8
+    ensures ended { EndsWith W.contents E.contents result io.old io.new }
+    ensures no_note { Keeps (N.contents io.old.remarks) (N.contents io.new.remarks) }
+    ensures faulty { result ≢ 1 }
+    ensures listed { result ≡ 0 → IsListWritten Appends args.now names.now
+        (R.remaining rope.old) (W.contents io.old.out) (W.contents io.new.out) }
+    ensures cut { result ≡ 3 → Keeps (W.contents io.old.out) (W.contents io.new.out)
+        ⊎ IsListWritten IsBegun args.now names.now
+        (R.remaining rope.old) (W.contents io.old.out) (W.contents io.new.out) }
+    ensures refused { result ≡ 2
+        → IsReported (IsListRefused args.now.form args.now.bank (R.remaining rope.old))
+        (E.contents io.old.err) (E.contents io.new.err) }
+{
+    match text_of_rope(alloc, args, names, rope) {
+        Ok(text) => status_of(OK, write_in_full(&mut io.out, text.as_slice())),
+        Err(fault) => fault.report_to(&mut io.err),
+    }
+}

@@ -1,0 +1,128 @@
+//! Runs `weave`: writes the rope of a text, and its symbol file.
+ghost use Rattle.std.specs.Prelude.{◌≡◌, ◌≢◌, ◌⊎◌};
+ghost use Rattle.std.specs.Io.KnownBytes.{Appends, Keeps};
+ghost use Rattle.agc_io.specs.Output.{IsBegun};
+ghost use Rattle.agc_analysis.specs.Ended.{EndsWith};
+ghost use Rattle.agc_analysis.specs.Listed.{IsWeaveRefused, IsWeaveWritten};
+ghost use Rattle.agc_analysis.specs.Fault.{IsReported};
+
+use crate::fault::FAULTY;
+use crate::ropes::{Woven, misnamed_line, weave_text};
+use crate::streams::Streams;
+use agc_asm::Misnamed;
+use agc_cli::{ArgsFault, exit_usage};
+use agc_io::{OK, TEXT_BYTES, WRITE_FAILED, status_of, write_in_full};
+use agc_study_args::{NAME, WeaveArgs, check_names_path, open_file, remark_on_file, write_names};
+use std::alloc::Global;
+use std::io::{Read, Write};
+use std::rt::Files;
+
+/// Assembles a text file and writes its symbols. A path of the symbols that may not be written is a command-line error.
+/// A remark warns about the first line with a mismatched mnemonic.
+pub fn run_weave<R, W: Write, E: Write, N: Write, P>(
+    rt: &R,
+    args: &WeaveArgs,
+    io: &mut Streams<W, E, N, P>,
+) -> u8
+where
+    R: Files + AllocGlobal,
+    ensures ended { EndsWith W.contents E.contents result io.old io.new }
+    ensures faulty { result ≢ 1 }
+{
+    if let Err(fault) = check_path(rt, args) {
+        return exit_usage(NAME, fault, FAULTY, &mut io.out, &mut io.err);
+    }
+    let mut text = open_file(rt, &args.text, TEXT_BYTES);
+    let status = write_weave(rt, args, &mut text, io);
+    text.remark_fault(rt.alloc(), &mut io.remarks);
+    status
+}
+
+/// Checks the path of `--write-names`, if there is one.
+fn check_path<R>(rt: &R, args: &WeaveArgs) -> Result<(), ArgsFault>
+where
+    R: Files + AllocGlobal,
+{
+    match &args.write_names {
+        Some(path) => check_names_path(rt, args, path.as_str()),
+        None => Ok(()),
+    }
+}
+
+/// Assembles a text, and writes first its symbols to a file, if there is one, and then the rope file. If the symbols
+/// cannot be written, a remark reports why, and the rope is not written.
+fn write_weave<R, T: Read, W: Write, E: Write, N: Write, P>(
+    rt: &R,
+    args: &WeaveArgs,
+    text: &mut T,
+    io: &mut Streams<W, E, N, P>,
+) -> u8
+where
+    R: Files + AllocGlobal,
+    ensures ended { EndsWith W.contents E.contents result io.old io.new }
+    ensures no_note { result ≡ 2 → Keeps (N.contents io.old.remarks) (N.contents io.new.remarks) }
+    ensures faulty { result ≢ 1 }
+    ensures woven { result ≡ 0 → IsWeaveWritten Appends args.now.form (T.remaining text.old)
+        (W.contents io.old.out) (W.contents io.new.out) }
+    ensures cut { result ≡ 3 → Keeps (W.contents io.old.out) (W.contents io.new.out)
+        ⊎ IsWeaveWritten IsBegun args.now.form (T.remaining text.old)
+        (W.contents io.old.out) (W.contents io.new.out) }
+    ensures refused { result ≡ 2 → IsReported (IsWeaveRefused (T.remaining text.old))
+        (E.contents io.old.err) (E.contents io.new.err) }
+{
+    match weave_text(rt.alloc(), args.form, text) {
+        Ok(woven) => write_woven(rt, args, &woven, io),
+        Err(fault) => fault.report_to(&mut io.err),
+    }
+}
+
+/// Writes the symbols of a text to the file of `--write-names`, if there is one, and then the rope file. Returns status
+/// 0, or 3 if one cannot be written.
+fn write_woven<R, W: Write, E: Write, N: Write, P>(
+    rt: &R,
+    args: &WeaveArgs,
+    woven: &Woven,
+    io: &mut Streams<W, E, N, P>,
+) -> u8
+where
+    R: Files + AllocGlobal,
+    ensures status { (result ≡ 0) ⊎ (result ≡ 3) }
+    ensures err { io.new.err ≡ io.old.err }
+    ensures whole { result ≡ 0
+        → Appends (W.contents io.old.out) (W.contents io.new.out) woven.now.bytes.items }
+    ensures cut { result ≡ 3
+        → IsBegun (W.contents io.old.out) (W.contents io.new.out) woven.now.bytes.items }
+{
+    if !has_written_names(rt, args, woven, &mut io.remarks) {
+        return WRITE_FAILED;
+    }
+    remark_misnamed(rt.alloc(), woven.misnamed, &mut io.remarks);
+    status_of(OK, write_in_full(&mut io.out, woven.bytes.as_slice()))
+}
+
+/// Writes the symbols of a text to the file of `--write-names`, if there is one. If that fails, a remark reports why.
+fn has_written_names<R, N: Write>(rt: &R, args: &WeaveArgs, woven: &Woven, remarks: &mut N) -> bool
+where
+    R: Files + AllocGlobal,
+{
+    let Some(path) = &args.write_names else {
+        return true;
+    };
+    match write_names(rt, path.as_str(), woven.text.as_slice()) {
+        Ok(()) => true,
+        Err(reason) => {
+            remark_on_file(rt.alloc(), path.as_str(), &reason, remarks);
+            false
+        }
+    }
+}
+
+/// Warns about a mnemonic that does not match its word. If the remark cannot be written, the rope is the same.
+fn remark_misnamed<N: Write>(alloc: Global, misnamed: Option<Misnamed>, remarks: &mut N) {
+    let Some(misnamed) = misnamed else {
+        return;
+    };
+    if let Ok(line) = misnamed_line(alloc, misnamed) {
+        let _written = remarks.write_all(line.as_bytes());
+    }
+}
