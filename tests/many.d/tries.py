@@ -99,7 +99,7 @@ def shown(writes, what):
             if list(display.lines()) != before:
                 things.append((cycle, " ".join(display.lines())))
         return things
-    return [(cycle, f"{channel} {word}") for cycle, channel, word in writes if what == "writes" or int(channel, 8) == int(what.split()[1], 8)]
+    return [(cycle, f"{channel} {word}") for cycle, channel, word in writes if what == "writes" or int(channel, 8) == int(what.removeprefix('channel='), 8)]
 
 
 def told(left, right, what):
@@ -151,12 +151,12 @@ def main():
         for place, writes in runs.items():
             if writes == whole:
                 continue
-            for what in ["writes", "panels", "channel 010", "channel 11", "channel 12"]:
+            for what in ["writes", "panels", "channel=010", "channel=11", "channel=12"]:
                 left, right = shown(writes, what), shown(whole, what)
                 report, line = told(left, right, what)
                 status = 0 if line == "same" else 1
                 for words, wanted in [([], report), (["--brief"], line + "\n")]:
-                    words = ["--by", *what.split(), *words]
+                    words = ["--by", what, *words]
                     if compare(Path(folder) / f"{place:04o}", ROPE, words) == (wanted, status):
                         passed += 1
                     else:

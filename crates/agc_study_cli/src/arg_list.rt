@@ -1,5 +1,5 @@
 //! Builders for the subcommands of a command line and for the positional arguments and options of each.
-use clap::{Arg, ArgAction, Command, value_parser};
+use clap::{Arg, ArgAction, Command};
 use std::alloc::{AllocError, Global};
 
 /// Builds the list of subcommands.
@@ -146,11 +146,6 @@ impl<'a> ArgList<'a> {
         self.with(arg)
     }
 
-    pub fn number(self, name: &'a str, shown: &'a str, help: &'a str) -> ArgList<'a> {
-        let arg = number(self.alloc, name, shown, help);
-        self.with(arg)
-    }
-
     pub fn repeated(self, name: &'a str, shown: &'a str, help: &'a str) -> ArgList<'a> {
         let arg = repeated(self.alloc, name, shown, help);
         self.with(arg)
@@ -169,11 +164,6 @@ fn named<'a>(alloc: Global, id: &'a str, shown: &'a str, help: &'a str) -> Arg<'
 /// Returns an option with a value.
 pub fn option<'a>(alloc: Global, name: &'a str, shown: &'a str, help: &'a str) -> Arg<'a> {
     named(alloc, name, shown, help).long(name)
-}
-
-/// Returns an option whose value is a number.
-pub fn number<'a>(alloc: Global, name: &'a str, shown: &'a str, help: &'a str) -> Arg<'a> {
-    option(alloc, name, shown, help).value_parser(value_parser!(u64))
 }
 
 /// Returns an option with a value that may be repeated.

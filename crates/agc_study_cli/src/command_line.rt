@@ -1,5 +1,5 @@
 //! The `clap` definition of the command line: the subcommands with their files and options.
-use crate::arg_list::{ArgList, Subcommands, flag, number, option, repeated};
+use crate::arg_list::{ArgList, Subcommands, flag, option, repeated};
 use agc_cli::FORMS;
 use clap::{ArgAction, Command};
 use std::alloc::{AllocError, Global};
@@ -227,7 +227,7 @@ impl<'a> ArgList<'a> {
         self.option(
             "by",
             "WHAT",
-            "Compare what shows, without cycles: writes, channel CCC (octal, 0 to 777), or panels",
+            "Compare what shows, without cycles: writes, channel=CCC (octal, 0 to 777), or panels",
         )
     }
 
@@ -269,7 +269,7 @@ impl<'a> ArgList<'a> {
     }
 
     fn limit_option(self) -> ArgList<'a> {
-        let arg = number(
+        let arg = option(
             self.alloc,
             "limit",
             "N",
@@ -297,7 +297,7 @@ impl<'a> ArgList<'a> {
     }
 
     fn cycle_option(self, name: &'a str, help: &'a str) -> ArgList<'a> {
-        self.number(name, "CYCLE", help)
+        self.option(name, "CYCLE", help)
     }
 
     fn only_option(self) -> ArgList<'a> {
@@ -344,7 +344,7 @@ impl<'a> ArgList<'a> {
     }
 
     fn last_option(self) -> ArgList<'a> {
-        self.number(
+        self.option(
             "last",
             "N",
             "Print only the last N of these lines, at the end of the run: decimal",

@@ -3,12 +3,12 @@
 
 mod arg_list;
 mod command_line;
+mod jobs;
 mod mistakes;
 mod profile;
-mod questions;
 mod runs;
 mod shown;
-mod watched;
+mod values;
 mod words;
 
 pub use command_line::command;

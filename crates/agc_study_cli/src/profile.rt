@@ -1,7 +1,7 @@
 //! Parses the arguments of `profile`.
-use crate::runs::run_of;
-use crate::words::span_of;
-use agc_cli::{ArgsFault, form_of};
+use crate::runs::{files_of, options_of};
+use crate::values::span_of;
+use agc_cli::ArgsFault;
 use agc_profile::Layout;
 use agc_study_args::{Args, ProfileArgs};
 use clap::ArgMatches;
@@ -9,13 +9,9 @@ use std::alloc::Global;
 
 /// Parses the arguments of `profile`.
 pub(crate) fn profile_args(alloc: Global, given: &ArgMatches<'_>) -> Result<Args, ArgsFault> {
-    let run = run_of(alloc, given)?;
-    Ok(Args::Count(ProfileArgs {
-        rope: run.files.rope,
-        script: run.files.script,
-        form: form_of(given),
-        limit: run.limit,
-        until: run.until,
+    Ok(Args::Profile(ProfileArgs {
+        files: files_of(alloc, given)?,
+        options: options_of(alloc, given)?,
         span: span_of(alloc, given)?,
         layout: if given.get_flag("csv") {
             Layout::Csv

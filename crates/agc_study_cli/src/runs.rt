@@ -1,28 +1,21 @@
 //! Parses the arguments that the subcommands share: the files of a run, and where it ends.
-use agc_cli::{number_of, path_of, text_of};
+use crate::values::limit_of;
+use agc_cli::{ArgsFault, form_of, path_of, text_of};
+use agc_study_args::RunOptions;
 use agc_timeline::RunFiles;
 use clap::ArgMatches;
 use std::alloc::{AllocError, Global};
 
-/// The files of a run, and where it ends at the latest.
-#[derive(Drop)]
-pub(crate) struct Run {
-    pub(crate) files: RunFiles,
-    pub(crate) limit: u64,
-    /// The value of `--until`.
-    pub(crate) until: Option<String>,
-}
-
-/// Parses the run of a subcommand; if there are two, the left one.
-pub(crate) fn run_of(alloc: Global, given: &ArgMatches<'_>) -> Result<Run, AllocError> {
-    Ok(Run {
-        files: files_of(alloc, given)?,
-        limit: number_of(given, "limit", 0),
+/// Parses how a run begins and where it stops.
+pub(crate) fn options_of(alloc: Global, given: &ArgMatches<'_>) -> Result<RunOptions, ArgsFault> {
+    Ok(RunOptions {
+        form: form_of(given),
+        limit: limit_of(alloc, given)?,
         until: text_of(alloc, given, "until")?,
     })
 }
 
-/// Parses the files of that run.
+/// Parses the files of a run; if there are two, of the left one.
 pub(crate) fn files_of(alloc: Global, given: &ArgMatches<'_>) -> Result<RunFiles, AllocError> {
     Ok(RunFiles {
         rope: path_of(alloc, given, "rope")?,

@@ -1,60 +1,17 @@
-//! Parses the options `--by` and `--brief` of `compare`; `--by channel NUMBER` takes two words.
-use crate::questions::{NO_CHANNEL, push, refused};
+//! Parses the options `--by` and `--brief` of `compare`.
+use crate::values::{NO_CHANNEL, refused};
 use agc_cli::ArgsFault;
 use agc_diff::DiffBy;
 use agc_study_args::ObservedArgs;
 use agc_word::read_octal;
 use clap::ArgMatches;
-use std::alloc::{AllocError, Global};
+use std::alloc::Global;
 
-/// What the next word of a command line may be.
-#[derive(Clone, Copy)]
-enum Reading {
-    /// A word of its own.
-    Word,
-    /// The value of `--by`.
-    Kind,
-    /// A channel number, to be joined to the word before it.
-    Number,
-}
+/// The option as command-line errors name it.
+const BY: &str = "--by <WHAT>";
 
-impl Reading {
-    /// Returns what may come after this word.
-    fn after(self, word: &str) -> Reading {
-        match (self, word) {
-            (Reading::Number, _) => Reading::Word,
-            (Reading::Kind, "channel") | (_, "--by=channel") => Reading::Number,
-            (_, "--by") => Reading::Kind,
-            _ => Reading::Word,
-        }
-    }
-}
-
-/// Returns the words with `channel` and the number after it joined into one word, if `--by` comes before them.
-pub(crate) fn with_channels_joined(
-    alloc: Global,
-    words: &[&str],
-) -> Result<Vec<String>, AllocError> {
-    let mut joined = Vec::new(alloc);
-    let mut reading = Reading::Word;
-    for word in words {
-        match reading {
-            Reading::Number => put_behind_last(&mut joined, word)?,
-            Reading::Word | Reading::Kind => push(&mut joined, String::from_str(alloc, word)?)?,
-        }
-        reading = reading.after(word);
-    }
-    Ok(joined)
-}
-
-/// Appends a space and a word to the last string of a list.
-fn put_behind_last(several: &mut Vec<String>, word: &str) -> Result<(), AllocError> {
-    if let Some(last) = several.last_mut() {
-        last.push(' ')?;
-        last.push_str(word)?;
-    }
-    Ok(())
-}
+/// How a channel is written.
+const CHANNEL_FORM: &str = "write --by channel=010, with the channel's octal number";
 
 /// Parses `--by` and `--brief`.
 pub(crate) fn shown_of(
@@ -69,7 +26,7 @@ pub(crate) fn shown_of(
             what,
             is_brief: given.get_flag("brief"),
         })),
-        Err(why) => Err(refused(alloc, text, "--by <WHAT>", why)),
+        Err(why) => Err(refused(alloc, text, BY, why)),
     }
 }
 
@@ -78,10 +35,10 @@ fn what_of(text: &str) -> Result<DiffBy, &'static str> {
     match text {
         "writes" => Ok(DiffBy::Writes),
         "panels" => Ok(DiffBy::Panels),
-        "channel" => Err("channel needs a number after it, as in --by channel 10"),
-        _ => match text.strip_prefix("channel ") {
+        "channel" => Err(CHANNEL_FORM),
+        _ => match text.strip_prefix("channel=") {
             Some(number) => channel_of(number),
-            None => Err("compare by writes, panels or channel CCC"),
+            None => Err("compare by writes, panels or channel=CCC"),
         },
     }
 }
@@ -92,4 +49,27 @@ fn channel_of(number: &str) -> Result<DiffBy, &'static str> {
         Some(channel) => Ok(DiffBy::Channel(channel as u16)),
         None => Err(NO_CHANNEL),
     }
+}
+
+/// Replaces the error for `compare .. --by channel 010`, in which the number is a word of its own, by one that says how
+/// to write it.
+pub(crate) fn with_channel_form(alloc: Global, words: &[&str], fault: ArgsFault) -> ArgsFault {
+    match (fault, words) {
+        (ArgsFault::Command(_), [_program, "compare", ..]) if separates_channel(words) => {
+            refused(alloc, "channel", BY, CHANNEL_FORM)
+        }
+        (fault, _) => fault,
+    }
+}
+
+/// Returns whether `channel` is the whole value of `--by`.
+fn separates_channel(words: &[&str]) -> bool {
+    let mut last = "";
+    for word in words {
+        if *word == "--by=channel" || (last == "--by" && *word == "channel") {
+            return true;
+        }
+        last = word;
+    }
+    false
 }

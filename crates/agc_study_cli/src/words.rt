@@ -1,16 +1,16 @@
 //! Parses the words of a command line into the arguments of a subcommand.
 use crate::command_line::command;
+use crate::jobs::jobs_args;
 use crate::mistakes::without_tip;
 use crate::profile::profile_args;
-use crate::questions::{channel_names_of, channels_of, orders_of, texts_of};
-use crate::runs::{files_of, other_files_of, run_of};
-use crate::shown::{shown_of, with_channels_joined};
-use crate::watched::watching_of;
+use crate::runs::{files_of, options_of, other_files_of};
+use crate::shown::{shown_of, with_channel_form};
+use crate::values::{channel_names_of, channels_of, last_of, orders_of, span_of, texts_of};
 use agc_cli::{
-    ArgsFault, WordsFault, answer_version, fault_of, form_of, number_of, path_of, text_of, words_of,
+    ArgsFault, WordsFault, answer_version, fault_of, form_of, path_of, text_of, words_of,
 };
 use agc_study_args::{
-    Args, CheckArgs, CheckedRunArgs, CompareArgs, FilmArgs, ListArgs, NAME, TraceArgs, WeaveArgs,
+    Args, CheckArgs, CompareArgs, FilmArgs, ListArgs, ListStyle, NAME, TraceArgs, WeaveArgs,
 };
 use agc_timeline::{Part, RunFiles};
 use agc_trace::{Only, Selection, Span};
@@ -48,38 +48,34 @@ fn not_text(alloc: Global, number: usize) -> ArgsFault {
 
 /// Parses the words of a command line; the first word is the program name.
 pub fn parse<'a>(alloc: Global, words: &'a [&'a str]) -> Result<Args, ArgsFault> {
-    let joined = with_channels_joined(alloc, words)?;
-    let words = texts_of_words(alloc, joined.as_slice())?;
-    asked_by_joined(alloc, words.as_slice())
-}
-
-/// Parses words in which each `channel` is already joined to its number.
-fn asked_by_joined(alloc: Global, words: &[&str]) -> Result<Args, ArgsFault> {
     let command = command(alloc)?;
     match command.try_get_matches_from(words) {
-        Ok(matches) => asked_in(alloc, &matches),
-        Err(error) => Err(without_tip(alloc, fault_of(alloc, &error))),
+        Ok(matches) => args_in(alloc, &matches),
+        Err(error) => {
+            let fault = without_tip(alloc, fault_of(alloc, &error));
+            Err(with_channel_form(alloc, words, fault))
+        }
     }
 }
 
-fn asked_in(alloc: Global, matches: &ArgMatches<'_>) -> Result<Args, ArgsFault> {
+fn args_in(alloc: Global, matches: &ArgMatches<'_>) -> Result<Args, ArgsFault> {
     match matches.subcommand() {
-        Some((name, given)) => asked_as(alloc, name, given),
+        Some((name, given)) => args_of(alloc, name, given),
         None => Err(mistake(alloc, "error: a subcommand is required: see --help\n")),
     }
 }
 
 /// Parses the arguments of the subcommand with this name.
-fn asked_as(alloc: Global, name: &str, given: &ArgMatches<'_>) -> Result<Args, ArgsFault> {
+fn args_of(alloc: Global, name: &str, given: &ArgMatches<'_>) -> Result<Args, ArgsFault> {
     match name {
-        "list" => listing_of(alloc, given),
-        "weave" => weaving_of(alloc, given),
-        "check" => checking_of(alloc, given),
-        "trace" => tracing_of(alloc, given),
+        "list" => list_args(alloc, given),
+        "weave" => weave_args(alloc, given),
+        "check" => check_args(alloc, given),
+        "trace" => trace_args(alloc, given),
         "profile" => profile_args(alloc, given),
-        "jobs" => watching_of(alloc, given),
-        "compare" => comparing_of(alloc, given),
-        "film" => filming_of(alloc, given),
+        "jobs" => jobs_args(alloc, given),
+        "compare" => compare_args(alloc, given),
+        "film" => film_args(alloc, given),
         _ => Err(mistake(alloc, "error: no such subcommand: see --help\n")),
     }
 }
@@ -92,18 +88,27 @@ fn mistake(alloc: Global, text: &str) -> ArgsFault {
     }
 }
 
-fn listing_of(alloc: Global, given: &ArgMatches<'_>) -> Result<Args, ArgsFault> {
+fn list_args(alloc: Global, given: &ArgMatches<'_>) -> Result<Args, ArgsFault> {
     Ok(Args::List(ListArgs {
         rope: path_of(alloc, given, "rope")?,
         form: form_of(given),
         bank: text_of(alloc, given, "bank")?,
         names: text_of(alloc, given, "names")?,
-        source: given.get_flag("source"),
-        yul: text_of(alloc, given, "style")?.is_some(),
+        style: style_of(given),
     }))
 }
 
-fn weaving_of(alloc: Global, given: &ArgMatches<'_>) -> Result<Args, ArgsFault> {
+fn style_of(given: &ArgMatches<'_>) -> ListStyle {
+    if given.get_str("style").is_some() {
+        ListStyle::Yul
+    } else if given.get_flag("source") {
+        ListStyle::Source
+    } else {
+        ListStyle::Lines
+    }
+}
+
+fn weave_args(alloc: Global, given: &ArgMatches<'_>) -> Result<Args, ArgsFault> {
     Ok(Args::Weave(WeaveArgs {
         text: path_of(alloc, given, "text")?,
         form: form_of(given),
@@ -112,7 +117,7 @@ fn weaving_of(alloc: Global, given: &ArgMatches<'_>) -> Result<Args, ArgsFault> 
     }))
 }
 
-fn checking_of(alloc: Global, given: &ArgMatches<'_>) -> Result<Args, ArgsFault> {
+fn check_args(alloc: Global, given: &ArgMatches<'_>) -> Result<Args, ArgsFault> {
     let run = checked_run_of(alloc, given)?;
     let keys = text_of(alloc, given, "keys")?;
     let listing = text_of(alloc, given, "listing")?;
@@ -131,15 +136,9 @@ fn checking_of(alloc: Global, given: &ArgMatches<'_>) -> Result<Args, ArgsFault>
 }
 
 /// Parses the rope and the script to check; both are present or neither is.
-fn checked_run_of(
-    alloc: Global,
-    given: &ArgMatches<'_>,
-) -> Result<Option<CheckedRunArgs>, ArgsFault> {
+fn checked_run_of(alloc: Global, given: &ArgMatches<'_>) -> Result<Option<RunFiles>, ArgsFault> {
     match (given.get_str("rope"), given.get_str("script")) {
-        (Some(_), Some(_)) => {
-            let RunFiles { rope, script } = files_of(alloc, given)?;
-            Ok(Some(CheckedRunArgs { rope, script }))
-        }
+        (Some(_), Some(_)) => Ok(Some(files_of(alloc, given)?)),
         (None, None) => Ok(None),
         (Some(_), None) | (None, Some(_)) => Err(mistake(
             alloc,
@@ -148,14 +147,10 @@ fn checked_run_of(
     }
 }
 
-fn tracing_of(alloc: Global, given: &ArgMatches<'_>) -> Result<Args, ArgsFault> {
-    let run = run_of(alloc, given)?;
+fn trace_args(alloc: Global, given: &ArgMatches<'_>) -> Result<Args, ArgsFault> {
     Ok(Args::Trace(TraceArgs {
-        rope: run.files.rope,
-        script: run.files.script,
-        form: form_of(given),
-        limit: run.limit,
-        until: run.until,
+        files: files_of(alloc, given)?,
+        options: options_of(alloc, given)?,
         selection: selection_of(alloc, given)?,
         at: texts_of(alloc, given, "at")?,
         cell: texts_of(alloc, given, "cell")?,
@@ -175,26 +170,18 @@ fn selection_of(alloc: Global, given: &ArgMatches<'_>) -> Result<Selection, Args
         orders: orders_of(alloc, given)?,
         channels: channels_of(alloc, given)?,
         cells: Vec::new(alloc),
-        last: given.get_one::<u64>("last"),
+        last: last_of(alloc, given)?,
     })
 }
 
-fn comparing_of(alloc: Global, given: &ArgMatches<'_>) -> Result<Args, ArgsFault> {
+fn compare_args(alloc: Global, given: &ArgMatches<'_>) -> Result<Args, ArgsFault> {
     let other_names = other_names_of(alloc, given)?;
-    let names = text_of(alloc, given, "names")?;
-    let other_files = other_files_of(alloc, given)?;
-    let run = run_of(alloc, given)?;
-    let shown = shown_of(alloc, given)?;
     Ok(Args::Compare(CompareArgs {
-        rope: run.files.rope,
-        script: run.files.script,
-        other_rope: other_files.rope,
-        other_script: other_files.script,
-        form: form_of(given),
-        limit: run.limit,
-        until: run.until,
-        shown,
-        names,
+        files: files_of(alloc, given)?,
+        other: other_files_of(alloc, given)?,
+        options: options_of(alloc, given)?,
+        shown: shown_of(alloc, given)?,
+        names: text_of(alloc, given, "names")?,
         other_names,
     }))
 }
@@ -211,14 +198,12 @@ fn other_names_of(alloc: Global, given: &ArgMatches<'_>) -> Result<Option<String
     }
 }
 
-fn filming_of(alloc: Global, given: &ArgMatches<'_>) -> Result<Args, ArgsFault> {
+fn film_args(alloc: Global, given: &ArgMatches<'_>) -> Result<Args, ArgsFault> {
     Ok(Args::Film(FilmArgs {
         files: files_of(alloc, given)?,
         other: other_run_of(alloc, given)?,
+        options: options_of(alloc, given)?,
         part: part_of(alloc, given)?,
-        form: form_of(given),
-        limit: number_of(given, "limit", 0),
-        until: text_of(alloc, given, "until")?,
         watch: text_of(alloc, given, "watch")?,
         names: text_of(alloc, given, "names")?,
     }))
@@ -240,17 +225,6 @@ fn other_run_of(alloc: Global, given: &ArgMatches<'_>) -> Result<Option<RunFiles
 fn part_of(alloc: Global, given: &ArgMatches<'_>) -> Result<Part, ArgsFault> {
     let Span { from, to } = span_of(alloc, given)?;
     Ok(Part { from, to })
-}
-
-/// Parses `--from` and `--to`; the range must contain a cycle.
-pub(crate) fn span_of(alloc: Global, given: &ArgMatches<'_>) -> Result<Span, ArgsFault> {
-    let from = number_of(given, "from", 0);
-    let to = number_of(given, "to", u64::MAX);
-    if to < from {
-        let text = format!(in alloc; "{NAME}: empty range: --to {to} is before --from {from}\n")?;
-        return Err(ArgsFault::Command(text));
-    }
-    Ok(Span { from, to })
 }
 
 fn only_of(given: &ArgMatches<'_>) -> Option<Only> {
