@@ -3,9 +3,9 @@ mod ends;
 
 use super::{holds, owned, same};
 use agc_analysis::{
-    AnalysisFault, DiffOutcome, FilmPage, TraceError, Woven, answer, check_files, check_key_file,
-    check_listing_file, check_with, compare_files, film_files, last_cycle, list_rope,
-    status_of_trace_error, watch_files, weave_text, write_outcome, write_report,
+    AnalysisFault, DiffOutcome, FilmPage, Streams, TraceError, Woven, answer, check_files,
+    check_key_file, check_listing_file, check_with, compare_files, film_files, last_cycle,
+    status_of_trace_error, text_of_rope, watch_files, weave_text, write_outcome, write_report,
 };
 use agc_asm::{AssemblyFault, SourceFault};
 use agc_check::Report;
@@ -15,10 +15,13 @@ use agc_io::NoProgress;
 use agc_listing::LineFault;
 use agc_load::LoadFault;
 use agc_store::{RopeFault, RopeForm};
-use agc_study_args::{Args, CompareArgs, FilmArgs, JobsArgs};
+use agc_study_args::{
+    Args, CompareArgs, FilmArgs, JobsArgs, ListArgs, ListStyle, ReadFile, RunInputs, RunOptions,
+};
 use agc_study_cli::parse;
 use agc_timeline::{Part, RunFiles};
 use agc_trace::Span;
+use std::io::{self, ErrorKind, Read};
 use std::process::Abort;
 use std::rt::Files;
 
@@ -32,7 +35,7 @@ struct Ended {
 }
 
 /// Parses a command line.
-fn asked(rt: &(impl AllocGlobal + Abort), line: &str) -> Result<Args, ArgsFault> {
+fn parsed(rt: &(impl AllocGlobal + Abort), line: &str) -> Result<Args, ArgsFault> {
     let mut words = Vec::new(rt.alloc());
     for word in line.split(' ') {
         words.push(word).expect(rt, "memory");
@@ -46,11 +49,20 @@ fn text(rt: &impl Abort, written: Vec<u8>) -> String {
 }
 
 fn program(rt: &(impl AllocGlobal + Files + Abort), line: &str) -> Ended {
-    let asked = asked(rt, line);
-    let mut out = Vec::new(rt.alloc());
-    let mut err = Vec::new(rt.alloc());
-    let mut remarks = Vec::new(rt.alloc());
-    let status = answer(rt, asked, &mut out, &mut err, &mut remarks, &mut NoProgress);
+    let args = parsed(rt, line);
+    let mut io = Streams {
+        out: Vec::new(rt.alloc()),
+        err: Vec::new(rt.alloc()),
+        remarks: Vec::new(rt.alloc()),
+        progress: NoProgress,
+    };
+    let status = answer(rt, args, &mut io);
+    let Streams {
+        out,
+        err,
+        remarks,
+        progress: _,
+    } = io;
     Ended {
         status,
         out: text(rt, out),
@@ -123,6 +135,10 @@ fn mistakes(rt: HostRuntime) {
         "agc-study trace rope script",
         "agc-study trace rope --limit 10",
         "agc-study trace rope script --limit ten",
+        "agc-study trace rope script --limit 1e6",
+        "agc-study trace rope script --limit=-1",
+        "agc-study trace rope script --limit 10 --from 1.5",
+        "agc-study trace rope script --limit 10 --last all",
         "agc-study trace rope script --limit 10 --only orders",
         "agc-study trace rope script --limit 10 --from 3 --to 2",
         "agc-study trace rope script --limit 10 --order ca",
@@ -135,12 +151,50 @@ fn mistakes(rt: HostRuntime) {
         "agc-study compare rope script rope script",
         "agc-study compare rope script rope script --limit 10 --by pictures",
         "agc-study compare rope script rope script --limit 10 --by channel",
-        "agc-study compare rope script rope script --limit 10 --by channel 8",
-        "agc-study compare rope script rope script --limit 10 --by channel 1000",
+        "agc-study compare rope script rope script --limit 10 --by channel 10",
+        "agc-study compare rope script rope script --limit 10 --by=channel 10",
+        "agc-study compare rope script rope script --limit 10 --by channel=8",
+        "agc-study compare rope script rope script --limit 10 --by channel=1000",
         "agc-study compare rope script rope script --limit 10 --by",
         "agc-study compare rope script rope script --limit 10 --brief",
     ] {
         is_mistaken(&rt, line);
+    }
+}
+
+/// Checks that a command line ends with this sentence.
+fn is_explained(rt: &(impl AllocGlobal + Files + Abort), line: &str, sentence: &str) {
+    let ended = program(rt, line);
+    same(rt, ended.status, 2, line);
+    holds(rt, ended.err.as_str().contains(sentence), line);
+}
+
+/// A number in another form, and a channel in a word of its own, are refused with the form that is right.
+#[test]
+fn mistakes_are_explained(rt: HostRuntime) {
+    for (line, sentence) in [
+        (
+            "agc-study profile rope script --limit 1e6",
+            "error: invalid value '1e6' for '--limit <N>': write a whole decimal number of cycles, 1 to 1000000000000\n",
+        ),
+        (
+            "agc-study profile rope script --limit 10 --to 99999999999999999999",
+            "error: invalid value '99999999999999999999' for '--to <CYCLE>': write a whole decimal number of cycles\n",
+        ),
+        (
+            "agc-study trace rope script --limit 10 --last 0x10",
+            "error: invalid value '0x10' for '--last <N>': write a whole decimal number of lines\n",
+        ),
+        (
+            "agc-study compare rope script rope script --limit 10 --by channel 010",
+            "error: invalid value 'channel' for '--by <WHAT>': write --by channel=010, with the channel's octal number\n",
+        ),
+        (
+            "agc-study compare rope script rope script --limit 10 --by channel",
+            "error: invalid value 'channel' for '--by <WHAT>': write --by channel=010, with the channel's octal number\n",
+        ),
+    ] {
+        is_explained(&rt, line, sentence);
     }
 }
 
@@ -154,7 +208,7 @@ fn lacks_nothing(rt: &(impl AllocGlobal + Files + Abort), line: &str, told: &str
     holds(rt, remark.starts_with("agc-study: nothing: "), line);
 }
 
-/// Files that do not exist, with a remark beside the error, and a bank that no rope has, which is checked first.
+/// Files that do not exist, with a remark beside the error.
 #[test]
 fn troubles(rt: HostRuntime) {
     for (line, told) in [
@@ -181,14 +235,6 @@ fn troubles(rt: HostRuntime) {
             "agc-study: cannot read rope\n",
         ),
         (
-            "agc-study list nothing --bank 44",
-            "agc-study: no such bank: --bank is one or two octal digits, 00 to 43\n",
-        ),
-        (
-            "agc-study list nothing --bank=8",
-            "agc-study: no such bank: --bank is one or two octal digits, 00 to 43\n",
-        ),
-        (
             "agc-study list nothing --names nothing",
             "agc-study: cannot read names\n",
         ),
@@ -201,21 +247,85 @@ fn troubles(rt: HostRuntime) {
     }
 }
 
-fn listed(rt: &impl AllocGlobal, rope: &[u8]) -> Result<String, AnalysisFault> {
+/// A bank that no rope has is reported before the rope is read, so nothing is remarked about a rope that does not exist.
+#[test]
+fn a_bank_is_checked_first(rt: HostRuntime) {
+    for line in [
+        "agc-study list nothing --bank 44",
+        "agc-study list nothing --bank=8",
+        "agc-study list nothing --source --bank 44",
+        "agc-study list nothing --style yul --bank 44",
+    ] {
+        let ended = program(&rt, line);
+        let told = "agc-study: no such bank: --bank is one or two octal digits, 00 to 43\n";
+        same(&rt, ended.status, 2, line);
+        same(&rt, ended.err.as_str(), told, line);
+        holds(&rt, ended.remarks.is_empty(), line);
+    }
+}
+
+/// Returns the text of a rope in a style.
+fn listed(rt: &impl AllocGlobal, rope: &[u8], style: ListStyle) -> Result<Vec<u8>, AnalysisFault> {
+    let args = ListArgs {
+        rope: String::new(rt.alloc()),
+        form: RopeForm::Classic,
+        bank: None,
+        names: None,
+        style,
+    };
     let mut rope = rope;
-    list_rope(rt.alloc(), RopeForm::Classic, &None, &mut rope)
+    text_of_rope(rt.alloc(), &args, &None, &mut rope)
 }
 
 /// A rope of two words, and one that ends within a word.
 #[test]
 fn a_rope_is_listed(rt: HostRuntime) {
-    let text = listed(&rt, &[0x70, 0x08, 0x00, 0x0C])
-        .ok()
-        .expect(&rt, "a text");
-    let lines = "02,4000 34004 CA 4004\n02,4001 00006 EXTEND\n";
-    same(&rt, text.as_str(), lines, "two words");
+    let words: [(ListStyle, &str); 2] = [
+        (
+            ListStyle::Lines,
+            "02,4000 34004 CA 4004\n02,4001 00006 EXTEND\n",
+        ),
+        (
+            ListStyle::Source,
+            "        SETLOC 02,4000\n        CA 4004\n        EXTEND\n",
+        ),
+    ];
+    for (style, lines) in words {
+        let text = listed(&rt, &[0x70, 0x08, 0x00, 0x0C], style)
+            .ok()
+            .expect(&rt, "a text");
+        same(&rt, text.as_slice(), lines.as_bytes(), lines);
+    }
     let odd = AnalysisFault::Refused(LoadFault::Rope(RopeFault::OddLength));
-    same(&rt, listed(&rt, &[0x70]).err(), Some(odd), "one byte");
+    let refused = listed(&rt, &[0x70], ListStyle::Lines).err();
+    same(&rt, refused, Some(odd), "one byte");
+}
+
+/// Returns the remark on a file of six bytes that may have this many, after it was read in part and then to its end.
+fn remark_on(rt: &(impl AllocGlobal + Abort), limit: usize, opened: io::Result<&[u8]>) -> String {
+    let mut file = ReadFile::new("the file", limit, opened);
+    let mut bytes = [0; 4];
+    for _ in 0..3 {
+        let _count = file.read(&mut bytes);
+    }
+    let mut remarks = Vec::new(rt.alloc());
+    file.remark_fault(rt.alloc(), &mut remarks);
+    text(rt, remarks)
+}
+
+/// A file that has as many bytes as it may have, one that is too long, and one that could not be opened.
+#[test]
+fn a_file_keeps_its_fault(rt: HostRuntime) {
+    let bytes: &[u8] = b"012345";
+    let denied = io::Error::from(ErrorKind::PermissionDenied);
+    for (limit, opened, remark) in [
+        (6, Ok(bytes), ""),
+        (5, Ok(bytes), "agc-study: the file: file too large\n"),
+        (6, Err(denied), "agc-study: the file: permission denied\n"),
+    ] {
+        let told = remark_on(&rt, limit, opened);
+        same(&rt, told.as_str(), remark, remark);
+    }
 }
 
 fn woven(rt: &impl AllocGlobal, text: &[u8]) -> Result<Woven, AnalysisFault> {
@@ -237,8 +347,8 @@ fn a_text_is_woven(rt: HostRuntime) {
 
 /// Checks a rope and a script.
 fn checked(rt: &impl AllocGlobal, rope: &[u8], script: &[u8]) -> Result<Report, AnalysisFault> {
-    let (mut rope, mut script) = (rope, script);
-    check_files(rt.alloc(), RopeForm::Classic, &mut rope, &mut script)
+    let mut inputs = RunInputs { rope, script };
+    check_files(rt.alloc(), RopeForm::Classic, &mut inputs)
 }
 
 /// Checks how a report is written, with this status.
@@ -309,8 +419,9 @@ fn keys_and_listings_are_checked(rt: HostRuntime) {
 /// Returns the report on a rope of one word, a script without events and these keys.
 fn report_with(rt: &(impl AllocGlobal + Abort), keys: &[u8]) -> Report {
     let more = Some(key_report(rt, keys));
-    let (mut rope, mut script): (&[u8], &[u8]) = (&[0x70, 0x08], b"");
-    check_with(rt.alloc(), RopeForm::Classic, &mut rope, &mut script, &more)
+    let (rope, script): (&[u8], &[u8]) = (&[0x70, 0x08], b"");
+    let mut inputs = RunInputs { rope, script };
+    check_with(rt.alloc(), RopeForm::Classic, &mut inputs, &more)
         .ok()
         .expect(rt, "a report")
 }
@@ -339,16 +450,29 @@ fn other_files_are_told_last(rt: HostRuntime) {
     }
 }
 
-/// Returns the arguments to compare two runs up to a limit.
-fn comparing(rt: &impl AllocGlobal, limit: u64) -> CompareArgs {
-    CompareArgs {
-        rope: String::new(rt.alloc()),
-        script: String::new(rt.alloc()),
-        other_rope: String::new(rt.alloc()),
-        other_script: String::new(rt.alloc()),
+/// Returns the options of a classic rope's run up to a limit.
+fn options(limit: u64) -> RunOptions {
+    RunOptions {
         form: RopeForm::Classic,
         limit,
         until: None,
+    }
+}
+
+/// Returns two files without a name.
+fn no_files(rt: &impl AllocGlobal) -> RunFiles {
+    RunFiles {
+        rope: String::new(rt.alloc()),
+        script: String::new(rt.alloc()),
+    }
+}
+
+/// Returns the arguments to compare two runs up to a limit.
+fn comparing(rt: &impl AllocGlobal, limit: u64) -> CompareArgs {
+    CompareArgs {
+        files: no_files(rt),
+        other: no_files(rt),
+        options: options(limit),
         shown: None,
         names: None,
         other_names: None,
@@ -362,20 +486,23 @@ fn compared(
     right: &[u8],
     limit: u64,
 ) -> Result<DiffOutcome, AnalysisFault> {
-    let (mut rope, mut script): (&[u8], &[u8]) = (left, b"");
-    let (mut other_rope, mut other_script): (&[u8], &[u8]) = (right, b"");
+    let script: &[u8] = b"";
+    let mut left = RunInputs { rope: left, script };
+    let mut right = RunInputs {
+        rope: right,
+        script,
+    };
     let names = SideNames {
         left: &None,
         right: &None,
     };
+    let args = comparing(rt, limit);
     compare_files(
         rt.alloc(),
-        &comparing(rt, limit),
+        &args,
         names,
-        &mut rope,
-        &mut script,
-        &mut other_rope,
-        &mut other_script,
+        &mut left,
+        &mut right,
         &mut NoProgress,
     )
 }
@@ -452,10 +579,8 @@ fn filming(files: RunFiles, part: Part, watch: Option<String>) -> FilmArgs {
     FilmArgs {
         files,
         other: None,
+        options: options(10),
         part,
-        form: RopeForm::Classic,
-        limit: 10,
-        until: None,
         watch,
         names: None,
     }
@@ -463,12 +588,12 @@ fn filming(files: RunFiles, part: Part, watch: Option<String>) -> FilmArgs {
 
 fn filmed(
     rt: &impl AllocGlobal,
-    asked: &FilmArgs,
+    args: &FilmArgs,
     rope: &[u8],
     script: &[u8],
 ) -> Result<FilmPage, LoadFault> {
-    let (mut rope, mut script) = (rope, script);
-    film_files(rt.alloc(), asked, &mut rope, &mut script, &mut NoProgress)
+    let mut inputs = RunInputs { rope, script };
+    film_files(rt.alloc(), args, &mut inputs, &mut NoProgress)
 }
 
 /// The order WRITE 10 after EXTEND, with PROG 12 in A: its film has one frame, at the cycle of the write.
@@ -478,9 +603,9 @@ fn runs_are_filmed(rt: HostRuntime) {
         rope: owned(&rt, "prog12"),
         script: owned(&rt, "pro"),
     };
-    let asked = filming(files, Part::whole(), None);
+    let args = filming(files, Part::whole(), None);
     let rope = [0x70, 0x08, 0x00, 0x0C, 0x04, 0x10, 0x30, 0x06, 0xB0, 0xF2];
-    let page = filmed(&rt, &asked, rope.as_slice(), b"7 pro down")
+    let page = filmed(&rt, &args, rope.as_slice(), b"7 pro down")
         .ok()
         .expect(&rt, "a page");
     same(&rt, page.frames, 1, "frames");
@@ -497,11 +622,8 @@ fn runs_are_filmed(rt: HostRuntime) {
 /// Returns the arguments to print the tables of a run at its tenth cycle.
 fn watching(rt: &(impl AllocGlobal + Abort), watch: &str) -> JobsArgs {
     JobsArgs {
-        rope: String::new(rt.alloc()),
-        script: String::new(rt.alloc()),
-        form: RopeForm::Classic,
-        limit: 10,
-        until: None,
+        files: no_files(rt),
+        options: options(10),
         watch: owned(rt, watch),
         span: Span { from: 10, to: 10 },
     }
@@ -510,19 +632,13 @@ fn watching(rt: &(impl AllocGlobal + Abort), watch: &str) -> JobsArgs {
 /// Returns the cycle at which a run stops whose tables are written.
 fn watched(
     rt: &impl AllocGlobal,
-    asked: &JobsArgs,
+    args: &JobsArgs,
     rope: &[u8],
     out: &mut Vec<u8>,
 ) -> Result<u64, TraceError> {
-    let (mut rope, mut script): (&[u8], &[u8]) = (rope, b"");
-    let machine = watch_files(
-        rt.alloc(),
-        asked,
-        &mut rope,
-        &mut script,
-        out,
-        &mut NoProgress,
-    )?;
+    let script: &[u8] = b"";
+    let mut inputs = RunInputs { rope, script };
+    let machine = watch_files(rt.alloc(), args, &mut inputs, out, &mut NoProgress)?;
     Ok(machine.cycle())
 }
 
@@ -534,9 +650,9 @@ fn is_told(rt: &(impl AllocGlobal + Abort), error: TraceError, status: u8, told:
 }
 
 /// Checks that no tables of a run are written, and the error line.
-fn is_not_watched(rt: &(impl AllocGlobal + Abort), asked: &JobsArgs, rope: &[u8], told: &str) {
+fn is_not_watched(rt: &(impl AllocGlobal + Abort), args: &JobsArgs, rope: &[u8], told: &str) {
     let mut out = Vec::new(rt.alloc());
-    let error = watched(rt, asked, rope, &mut out).err();
+    let error = watched(rt, args, rope, &mut out).err();
     is_told(rt, error.expect(rt, told), 2, told);
     holds(rt, out.is_empty(), told);
 }
@@ -564,8 +680,8 @@ fn tables_are_watched(rt: HostRuntime) {
         is_not_watched(&rt, &watching(&rt, watch), rope, told);
     }
     let mut out = Vec::new(rt.alloc());
-    let asked = watching(&rt, "7,0,0,7,0,7,0");
-    let cycle = watched(&rt, &asked, &[0x30, 0x00], &mut out).ok();
+    let args = watching(&rt, "7,0,0,7,0,7,0");
+    let cycle = watched(&rt, &args, &[0x30, 0x00], &mut out).ok();
     same(&rt, cycle, Some(10), "cycle");
     holds(&rt, out.as_slice().starts_with(b"10 LST1 00000 "), "tables");
 }
@@ -584,19 +700,19 @@ fn the_text_of_watch_is_told_before_that_of_until(rt: HostRuntime) {
             "agc-study: until: BadSpec; --until is BANK,ADDR in octal, or a name of --names\n",
         ),
     ] {
-        let mut asked = watching(&rt, watch);
-        asked.until = Some(owned(&rt, "7"));
-        is_not_watched(&rt, &asked, &[0x30, 0x00], told);
+        let mut args = watching(&rt, watch);
+        args.options.until = Some(owned(&rt, "7"));
+        is_not_watched(&rt, &args, &[0x30, 0x00], told);
     }
 }
 
 /// Returns the arguments to film the last two cycles of a run, with its tables.
 fn filming_tables(rt: &(impl AllocGlobal + Abort), watch: &str) -> FilmArgs {
-    let files = RunFiles {
-        rope: String::new(rt.alloc()),
-        script: String::new(rt.alloc()),
-    };
-    filming(files, Part { from: 9, to: 10 }, Some(owned(rt, watch)))
+    filming(
+        no_files(rt),
+        Part { from: 9, to: 10 },
+        Some(owned(rt, watch)),
+    )
 }
 
 /// Checks that a run is not filmed with these tables, and the error line.
@@ -631,8 +747,8 @@ fn tables_are_filmed(rt: HostRuntime) {
     ] {
         is_not_filmed(&rt, rope, watch, told);
     }
-    let asked = filming_tables(&rt, "7,0,0,7,0,7,0");
-    let page = filmed(&rt, &asked, &[0x30, 0x00], b"")
+    let args = filming_tables(&rt, "7,0,0,7,0,7,0");
+    let page = filmed(&rt, &args, &[0x30, 0x00], b"")
         .ok()
         .expect(&rt, "a page");
     assert!(rt; page.text.as_str().contains("-tables\">\n9 LST1 00000 "));
@@ -640,8 +756,8 @@ fn tables_are_filmed(rt: HostRuntime) {
 
 /// Returns the last cycle that a command line needs.
 fn last_of(rt: &(impl AllocGlobal + Abort), line: &str) -> u64 {
-    let asked = asked(rt, line);
-    last_cycle(&asked)
+    let args = parsed(rt, line);
+    last_cycle(&args)
 }
 
 /// Progress is relative to the cycle after which nothing is printed.

@@ -59,11 +59,8 @@ static SERVES: &str = "
 /// Returns the arguments to trace every line of a run, up to a limit.
 fn tracing(rt: &impl AllocGlobal, limit: u64) -> TraceArgs {
     TraceArgs {
-        rope: String::new(rt.alloc()),
-        script: String::new(rt.alloc()),
-        form: RopeForm::Classic,
-        limit,
-        until: None,
+        files: no_files(rt),
+        options: options(limit),
         selection: between(rt, 0, u64::MAX, None),
         at: Vec::new(rt.alloc()),
         cell: Vec::new(rt.alloc()),
@@ -85,16 +82,9 @@ fn service_of(
     limit: u64,
     out: &mut impl Write,
 ) -> Result<Option<Service>, TraceError> {
-    let (mut rope, mut script) = (rope, script);
-    let traced = trace_files(
-        rt.alloc(),
-        &tracing(rt, limit),
-        &None,
-        &mut rope,
-        &mut script,
-        out,
-        &mut NoProgress,
-    )?;
+    let mut inputs = RunInputs { rope, script };
+    let args = tracing(rt, limit);
+    let traced = trace_files(rt.alloc(), &args, &None, &mut inputs, out, &mut NoProgress)?;
     Ok(traced.service)
 }
 
