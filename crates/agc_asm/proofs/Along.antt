@@ -9,7 +9,7 @@ use Rattle.agc_store.specs.Memory.{fixed_at}
 use Rattle.agc_listing.specs.List.{starts_run, is_extracode_at}
 use Rattle.agc_listing.specs.Order.{next_is_extracode}
 use Rattle.agc_listing.proofs.RopeLines.{extracode_next}
-use Rattle.agc_asm.specs.LocationCounter.{after_cells, after_range, after_words, in_bank, location_at, moved_to, resumed, room_at}
+use Rattle.agc_asm.specs.LocationCounter.{after_cells, after_range, after_words, in_bank, location_at, moved_to, resumed, room_at, stretch_end}
 use Rattle.agc_asm.specs.OrderLines.{place_of}
 use Rattle.agc_asm.specs.declared.location_counter.At.{At}
 use Rattle.agc_asm.specs.declared.location_counter.At.TheVariants as at
@@ -130,7 +130,7 @@ after_cells_by words since left used cell leads false h more = tt
 pub after_cell_line : (words : List Number) (since : ℕ) (left used : List ℕ) (here : At) (leads : Bool) (count : ℕ) → Sound words since (record { left = left; used = used; at = here }) leads
     → IfOk (after_cells (record { left = left; used = used; at = here }) here count) (λ next. Sound words since next (leads && true))
 after_cell_line words since left used (at.Bank bank) leads count h = tt
-after_cell_line words since left used (at.Cell cell) leads count h = after_cells_by words since left used cell leads (nat_le (cell + count) 0o4000) h (cell + count)
+after_cell_line words since left used (at.Cell cell) leads count h = after_cells_by words since left used cell leads (nat_le (cell + count) 0o4000 && nat_le (cell + count) (stretch_end cell)) h (cell + count)
 
 pub after_name_line : (words : List Number) (since : ℕ) (counter : LocationCounter) (leads : Bool) → Sound words since counter leads → Sound words since counter (leads && true)
 after_name_line words since counter leads h = rw (and-true leads) h

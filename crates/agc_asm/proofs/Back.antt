@@ -1,5 +1,6 @@
 -- The source of a rope names the words of the rope, and so assembles to it.
-use Rattle.std.specs.Prelude.{◌≡◌, ℕ, ◌+◌, ◌^◌, ◌<◌, ◌≤◌, Bool, true, false, List, [], ◌∷◌, ◌++◌, length, Option, Some, None, Result, Ok, Err}
+use Rattle.agc_asm.specs.Body.{plain_line, has_odd_comment}
+use Rattle.std.specs.Prelude.{◌≡◌, ℕ, ◌+◌, ◌^◌, ◌<◌, ◌≤◌, Bool, true, false, List, [], ◌∷◌, ◌++◌, length, Option, Some, None, Result, Ok, Err, not}
 use Rattle.std.specs.List.{list_all}
 use Rattle.std.proofs.Common.{refl, ap, sym, ◌∙◌, arith, inl, inr}
 use Rattle.std.proofs.lemmas.Bool.{and_parts, both_ways, cases_lt}
@@ -28,22 +29,34 @@ use Rattle.agc_asm.proofs.Passes.{next_woven}
 use Rattle.agc_asm.specs.declared.pass2.Step.{Step}
 use Rattle.agc_listing.specs.declared.fault.LineFault.{LineFault}
 use Rattle.agc_listing.specs.declared.line.PlacedWord.{PlacedWord}
-use Rattle.agc_asm.specs.Source.{as_source, both_said, first_names, first_state, is_listing, line_woven, listed_woven, IsSourceWoven, names_in, source_in, words_from, words_in}
+use Rattle.agc_asm.specs.Source.{as_source, both_said, first_names, first_state, is_listing, line_woven, listed_woven, IsSourceWoven, names_in, source_in, words_from, words_in, is_listing_line}
 use Rattle.agc_asm.specs.declared.pass2.State.{State}
 use Rattle.agc_asm.specs.Name.{Naming}
 use Rattle.agc_listing.specs.Text.{are_listed, said_by}
+
+-- A line of a listing is read as it is.
+plain_by : (odd : Bool) (line : List ℕ) → has_odd_comment line ≡ odd → not odd ≡ true → plain_line line ≡ line
+unfolding plain_line
+plain_by true line e h = absurd cc
+plain_by false line e h = rw e refl
+
+pub plain_listed : (line : List ℕ) → is_listing_line line ≡ true → plain_line line ≡ line
+plain_listed line h = plain_by (has_odd_comment line) line refl (and_parts (are_listed (said_by line)) (not (has_odd_comment line)) h).1
+
+pub listed_is : (line : List ℕ) → is_listing_line line ≡ true → are_listed (said_by line) ≡ true
+listed_is line h = (and_parts (are_listed (said_by line)) (not (has_odd_comment line)) h).0
 
 -- In the second pass the lines of a listing mean what they mean in a listing.
 abbrev AgreeOn : Naming → State → List (List ℕ) → Type 0
 AgreeOn naming state lines = (n : ℕ) (said : List PlacedWord) → words_from n naming state said lines ≡ as_source (said_from n said lines)
 
 -- a faulty line, and a word whose place is taken
-faulty_line : (n : ℕ) (naming : Naming) (state : State) (said : List PlacedWord) (line : List ℕ) (lines : List (List ℕ)) (why : SourceFault) → line_woven naming state line ≡ Err why
+faulty_line : (n : ℕ) (naming : Naming) (state : State) (said : List PlacedWord) (line : List ℕ) (lines : List (List ℕ)) (why : SourceFault) → line_woven naming state (plain_line line) ≡ Err why
     → words_from n naming state said (line ∷ lines) ≡ Err (trouble.Line n why)
 unfolding words_from
 faulty_line n naming state said line lines why e = rw (e, words_from) refl
 
-wrong_word : (n : ℕ) (naming : Naming) (state : State) (said : List PlacedWord) (line : List ℕ) (lines : List (List ℕ)) (step : Step) (why : SourceFault) → line_woven naming state line ≡ Ok step
+wrong_word : (n : ℕ) (naming : Naming) (state : State) (said : List PlacedWord) (line : List ℕ) (lines : List (List ℕ)) (step : Step) (why : SourceFault) → line_woven naming state (plain_line line) ≡ Ok step
     → both_said said step.first step.second ≡ Err why → words_from n naming state said (line ∷ lines) ≡ Err (trouble.Line n why)
 unfolding words_from
 wrong_word n naming state said line lines step why e f = rw (e, words_from) (rw f refl)
@@ -52,16 +65,16 @@ faulty_said : (n : ℕ) (said : List PlacedWord) (line : List ℕ) (lines : List
 unfolding said_from
 faulty_said n said line lines why e = rw (e, said_from) refl
 
-listed_line : (naming : Naming) (state : State) (line : List ℕ) (says : Result (Option PlacedWord) LineFault) → are_listed (said_by line) ≡ true → line_named line ≡ says
-    → line_woven naming state line ≡ listed_woven state says
+listed_line : (naming : Naming) (state : State) (line : List ℕ) (says : Result (Option PlacedWord) LineFault) → is_listing_line line ≡ true → line_named line ≡ says
+    → line_woven naming state (plain_line line) ≡ listed_woven state says
 unfolding line_woven
-listed_line naming state line says listed is = rw (listed, is) refl
+listed_line naming state line says listed is = rw (plain_listed line listed, listed_is line listed, is) refl
 
 next_of : (said : List PlacedWord) (line : List ℕ) (says : Result (Option PlacedWord) LineFault) → line_named line ≡ says → said_next said line ≡ unless_named said says
 unfolding said_next
 next_of said line says is = rw is refl
 
-agree_word : (naming : Naming) (state : State) (line : List ℕ) (lines : List (List ℕ)) (n : ℕ) (said : List PlacedWord) (word : PlacedWord) (twice : Bool) → are_listed (said_by line) ≡ true
+agree_word : (naming : Naming) (state : State) (line : List ℕ) (lines : List (List ℕ)) (n : ℕ) (said : List PlacedWord) (word : PlacedWord) (twice : Bool) → is_listing_line line ≡ true
     → line_named line ≡ Ok (Some word) → is_named word.place said ≡ twice → AgreeOn naming state lines → words_from n naming state said (line ∷ lines) ≡ as_source (said_from n said (line ∷ lines))
 agree_word naming state line lines n said word true listed is named rest =
     let step : Step = record { state = state; first = Some word; second = None } in
@@ -77,7 +90,7 @@ agree_word naming state line lines n said word false listed is named rest =
     ∙ rest (n + 1) (said ++ word ∷ [])
     ∙ sym (ap as_source (next_said n said line lines (Some word) next))
 
-agree_line : (naming : Naming) (state : State) (line : List ℕ) (lines : List (List ℕ)) (n : ℕ) (said : List PlacedWord) (says : Result (Option PlacedWord) LineFault) → are_listed (said_by line) ≡ true
+agree_line : (naming : Naming) (state : State) (line : List ℕ) (lines : List (List ℕ)) (n : ℕ) (said : List PlacedWord) (says : Result (Option PlacedWord) LineFault) → is_listing_line line ≡ true
     → line_named line ≡ says → AgreeOn naming state lines → words_from n naming state said (line ∷ lines) ≡ as_source (said_from n said (line ∷ lines))
 agree_line naming state line lines n said (Err why) listed is rest =
     faulty_line n naming state said line lines (fault.Listed why) (listed_line naming state line (Err why) listed is)
@@ -89,11 +102,11 @@ agree_line naming state line lines n said (Ok None) listed is rest =
     ∙ sym (ap as_source (next_said n said line lines None (next_of said line (Ok None) is)))
 agree_line naming state line lines n said (Ok (Some word)) listed is rest = agree_word naming state line lines n said word (is_named word.place said) listed is refl rest
 
-pub agree_on : (naming : Naming) (state : State) (lines : List (List ℕ)) → list_all (λ line. are_listed (said_by line)) lines ≡ true → AgreeOn naming state lines
+pub agree_on : (naming : Naming) (state : State) (lines : List (List ℕ)) → list_all (λ line. is_listing_line line) lines ≡ true → AgreeOn naming state lines
 unfolding words_from said_from
 agree_on naming state [] h n said = refl
 agree_on naming state (line ∷ lines) h n said =
-    let parts = and_parts (are_listed (said_by line)) (list_all (λ other. are_listed (said_by other)) lines) h in
+    let parts = and_parts (is_listing_line line) (list_all (λ other. is_listing_line other) lines) h in
     agree_line naming state line lines n said (line_named line) parts.0 refl (agree_on naming state lines parts.1)
 
 -- So a text without faults in both passes names the words of the second pass.

@@ -1,4 +1,5 @@
 -- The fault that a pass over a source reports is the first in it.
+use Rattle.agc_asm.specs.Body.{plain_line}
 use Rattle.std.specs.Prelude.{◌≡◌, ℕ, suc, ◌+◌, ◌-◌, ◌<◌, true, false, List, [], ◌∷◌, length, take, Result, Ok, Err, IsOk}
 use Rattle.std.proofs.Common.{refl, ap, sym, ◌∙◌, arith, inl, inr}
 use Rattle.agc_word.specs.Text.{lines_of}
@@ -63,12 +64,12 @@ no_names n naming counter = refl
 abbrev NamesCut : List (List ℕ) → ℕ → SourceFault → Type 0
 NamesCut lines at why = (n : ℕ) (naming : Naming) (counter : LocationCounter) → names_from n naming counter lines ≡ Err (trouble.Line at why) → Cut (names_from n naming counter) n lines at why
 
-names_by : (at : ℕ) (why : SourceFault) (n : ℕ) (naming : Naming) (counter : LocationCounter) (line : List ℕ) (lines : List (List ℕ)) (next : Result Labelled SourceFault) → line_labelled naming counter line ≡ next
+names_by : (at : ℕ) (why : SourceFault) (n : ℕ) (naming : Naming) (counter : LocationCounter) (line : List ℕ) (lines : List (List ℕ)) (next : Result Labelled SourceFault) → line_labelled naming counter (plain_line line) ≡ next
     → NamesCut lines at why → names_from n naming counter (line ∷ lines) ≡ Err (trouble.Line at why) → Cut (names_from n naming counter) n (line ∷ lines) at why
 names_by at why n naming counter line lines (Err mine) e rest is =
     cut_here (names_from n naming counter) n line lines at why mine (no_names n naming counter) (faulty_name n naming counter line mine e) is
 names_by at why n naming counter line lines (Ok next) e rest is =
-    let later = naming_after naming (label_of line) next.place in
+    let later = naming_after naming (label_of (plain_line line)) next.place in
     let goes : (others : List (List ℕ)) → names_from n naming counter (line ∷ others) ≡ names_from (n + 1) later next.counter others
     = λ others. next_named n naming counter line others next e in
     cut_later (names_from n naming counter) (names_from (n + 1) later next.counter) n line lines at why goes
@@ -77,7 +78,7 @@ names_by at why n naming counter line lines (Ok next) e rest is =
 names_cut : (lines : List (List ℕ)) (at : ℕ) (why : SourceFault) → NamesCut lines at why
 unfolding names_from
 names_cut [] at why n naming counter is = absurd cc
-names_cut (line ∷ lines) at why n naming counter is = names_by at why n naming counter line lines (line_labelled naming counter line) refl (names_cut lines at why) is
+names_cut (line ∷ lines) at why n naming counter is = names_by at why n naming counter line lines (line_labelled naming counter (plain_line line)) refl (names_cut lines at why) is
 
 -- the pass for the words
 no_words : (n : ℕ) (naming : Naming) (state : State) (said : List PlacedWord) → IsOk (words_from n naming state said [])
@@ -88,7 +89,7 @@ abbrev WordsCut : Naming → List (List ℕ) → ℕ → SourceFault → Type 0
 WordsCut naming lines at why = (n : ℕ) (state : State) (said : List PlacedWord) → words_from n naming state said lines ≡ Err (trouble.Line at why) → Cut (words_from n naming state said) n lines at why
 
 words_both : (at : ℕ) (why : SourceFault) (n : ℕ) (naming : Naming) (state : State) (said : List PlacedWord) (line : List ℕ) (lines : List (List ℕ)) (step : Step) (both : Result (List PlacedWord) SourceFault)
-    → line_woven naming state line ≡ Ok step → both_said said step.first step.second ≡ both → WordsCut naming lines at why
+    → line_woven naming state (plain_line line) ≡ Ok step → both_said said step.first step.second ≡ both → WordsCut naming lines at why
     → words_from n naming state said (line ∷ lines) ≡ Err (trouble.Line at why) → Cut (words_from n naming state said) n (line ∷ lines) at why
 words_both at why n naming state said line lines step (Err mine) e f rest is =
     cut_here (words_from n naming state said) n line lines at why mine (no_words n naming state said) (wrong_word n naming state said line step mine e f) is
@@ -98,7 +99,7 @@ words_both at why n naming state said line lines step (Ok more) e f rest is =
     cut_later (words_from n naming state said) (words_from (n + 1) naming step.state more) n line lines at why goes
     (rest (n + 1) step.state more (sym (goes lines) ∙ is))
 
-words_by : (at : ℕ) (why : SourceFault) (n : ℕ) (naming : Naming) (state : State) (said : List PlacedWord) (line : List ℕ) (lines : List (List ℕ)) (woven : Result Step SourceFault) → line_woven naming state line ≡ woven
+words_by : (at : ℕ) (why : SourceFault) (n : ℕ) (naming : Naming) (state : State) (said : List PlacedWord) (line : List ℕ) (lines : List (List ℕ)) (woven : Result Step SourceFault) → line_woven naming state (plain_line line) ≡ woven
     → WordsCut naming lines at why → words_from n naming state said (line ∷ lines) ≡ Err (trouble.Line at why) → Cut (words_from n naming state said) n (line ∷ lines) at why
 words_by at why n naming state said line lines (Err mine) e rest is =
     cut_here (words_from n naming state said) n line lines at why mine (no_words n naming state said) (faulty_line n naming state said line mine e) is
@@ -108,7 +109,7 @@ words_by at why n naming state said line lines (Ok step) e rest is =
 words_cut : (naming : Naming) (lines : List (List ℕ)) (at : ℕ) (why : SourceFault) → WordsCut naming lines at why
 unfolding words_from
 words_cut naming [] at why n state said is = absurd cc
-words_cut naming (line ∷ lines) at why n state said is = words_by at why n naming state said line lines (line_woven naming state line) refl (words_cut naming lines at why) is
+words_cut naming (line ∷ lines) at why n state said is = words_by at why n naming state said line lines (line_woven naming state (plain_line line)) refl (words_cut naming lines at why) is
 
 -- with the first line's number 1
 from_one : {A : Type 0} (pass : Pass A) (lines : List (List ℕ)) (at : ℕ) (why : SourceFault) → Cut pass 1 lines at why → IsFirstOn pass lines at why

@@ -12,7 +12,7 @@ use Rattle.agc_listing.specs.Location.{complete_address}
 use Rattle.agc_asm.specs.Mnemonic.{basic_named, directive_named, extracode_named}
 use Rattle.agc_asm.specs.Name.{Naming}
 use Rattle.agc_listing.specs.Number.{begins_with_minus, octal_word, without_sign, word_of_pattern}
-use Rattle.agc_asm.specs.Row.{as_word, basic_word, extracode_word}
+use Rattle.agc_asm.specs.Row.{as_word, basic_word, extracode_word, meant, meant_operand}
 use Rattle.agc_listing.specs.Text.{only_of}
 use Rattle.agc_asm.specs.declared.fault.SourceFault.{SourceFault}
 use Rattle.agc_asm.specs.declared.mnemonic.Directive.{Directive}
@@ -25,7 +25,7 @@ use Rattle.agc_asm.specs.declared.alias.Alias.{Alias}
 use Rattle.agc_asm.specs.declared.encode.Banks.{Banks}
 use Rattle.agc_listing.specs.declared.location.Location.{Location}
 use Rattle.agc_listing.specs.List.{listed_address}
-use Rattle.agc_asm.specs.Operand.{location_in, operand_for, value_of}
+use Rattle.agc_asm.specs.Operand.{location_in, operand_for, value_of, location_for}
 use Rattle.agc_asm.specs.declared.encode.Pair.{Pair}
 
 abbrev pub Fits : Number → Type 0
@@ -54,7 +54,7 @@ as_word_fits (Ok bits) = pattern_fits bits
 as_word_fits (Err why) = tt
 
 basic_fits : (order : Basic) (given : Result Operand SourceFault) → IfOk (basic_with order given) Fits
-basic_fits order (Ok given) = as_word_fits (basic_word order given)
+basic_fits order (Ok given) = as_word_fits (basic_word (meant order given) (meant_operand order given))
 basic_fits order (Err why) = tt
 
 extracode_fits : (order : Extracode) (given : Result Operand SourceFault) → IfOk (extracode_with order given) Fits
@@ -127,36 +127,36 @@ mode_fits : (word : Option (List ℕ)) → IfOk (major_mode_in word) Fits
 mode_fits (Some word) = mode_number (decimal_number 2 word)
 mode_fits None = tt
 
-directive_fits : (naming : Naming) (banks : Banks) (d : Directive) (words : List (List ℕ)) → IfOk (directive_meaning naming banks d words) Fits
-directive_fits naming banks directive.SetLoc words = tt
-directive_fits naming banks directive.Bank words = tt
-directive_fits naming banks directive.Block words = tt
-directive_fits naming banks directive.Oct words = number_fits (octal_in (only_of words)) (octal_in_fits (only_of words))
-directive_fits naming banks directive.Octal words = number_fits (octal_in (only_of words)) (octal_in_fits (only_of words))
-directive_fits naming banks directive.Dec words = decimal_fits (number_in 14 false words)
-directive_fits naming banks directive.DecStarred words = decimal_fits (number_in 14 true words)
-directive_fits naming banks directive.PairOct words = tt
-directive_fits naming banks directive.PairDec words = tt
-directive_fits naming banks directive.PairDecStarred words = tt
-directive_fits naming banks directive.Adres words = adres_fits (location_in naming words)
-directive_fits naming banks directive.Remadr words = adres_fits (location_in naming words)
-directive_fits naming banks directive.Genadr words = adres_fits (location_in naming words)
-directive_fits naming banks directive.Cadr words = cadr_fits (place_in (location_in naming words))
-directive_fits naming banks directive.Fcadr words = cadr_fits (place_in (location_in naming words))
-directive_fits naming banks directive.Ecadr words = ecadr_fits (cell_in (location_in naming words))
-directive_fits naming banks directive.Bbcon words = bbcon_fits banks (place_in (location_in naming words))
-directive_fits naming banks directive.PairCadr words = tt
-directive_fits naming banks directive.VerbNoun words = verb_fits (only_of words)
-directive_fits naming banks directive.MajorMode words = mode_fits (only_of words)
-directive_fits naming banks directive.Is words = tt
-directive_fits naming banks directive.Equals words = tt
-directive_fits naming banks directive.Erase words = tt
-directive_fits naming banks directive.Ebank words = tt
-directive_fits naming banks directive.Sbank words = tt
-directive_fits naming banks directive.Count words = tt
-directive_fits naming banks directive.CountStarred words = tt
-directive_fits naming banks directive.Memory words = tt
-directive_fits naming banks directive.BankSum words = tt
+directive_fits : (naming : Naming) (here : ℕ) (banks : Banks) (d : Directive) (words : List (List ℕ)) → IfOk (directive_meaning naming here banks d words) Fits
+directive_fits naming here banks directive.SetLoc words = tt
+directive_fits naming here banks directive.Bank words = tt
+directive_fits naming here banks directive.Block words = tt
+directive_fits naming here banks directive.Oct words = number_fits (octal_in (only_of words)) (octal_in_fits (only_of words))
+directive_fits naming here banks directive.Octal words = number_fits (octal_in (only_of words)) (octal_in_fits (only_of words))
+directive_fits naming here banks directive.Dec words = decimal_fits (number_in 14 false words)
+directive_fits naming here banks directive.DecStarred words = decimal_fits (number_in 14 true words)
+directive_fits naming here banks directive.PairOct words = tt
+directive_fits naming here banks directive.PairDec words = tt
+directive_fits naming here banks directive.PairDecStarred words = tt
+directive_fits naming here banks directive.Adres words = adres_fits (location_for naming here words)
+directive_fits naming here banks directive.Remadr words = adres_fits (location_for naming here words)
+directive_fits naming here banks directive.Genadr words = adres_fits (location_for naming here words)
+directive_fits naming here banks directive.Cadr words = cadr_fits (place_in (location_for naming here words))
+directive_fits naming here banks directive.Fcadr words = cadr_fits (place_in (location_for naming here words))
+directive_fits naming here banks directive.Ecadr words = ecadr_fits (cell_in (location_for naming here words))
+directive_fits naming here banks directive.Bbcon words = bbcon_fits banks (place_in (location_for naming here words))
+directive_fits naming here banks directive.PairCadr words = tt
+directive_fits naming here banks directive.VerbNoun words = verb_fits (only_of words)
+directive_fits naming here banks directive.MajorMode words = mode_fits (only_of words)
+directive_fits naming here banks directive.Is words = tt
+directive_fits naming here banks directive.Equals words = tt
+directive_fits naming here banks directive.Erase words = tt
+directive_fits naming here banks directive.Ebank words = tt
+directive_fits naming here banks directive.Sbank words = tt
+directive_fits naming here banks directive.Count words = tt
+directive_fits naming here banks directive.CountStarred words = tt
+directive_fits naming here banks directive.Memory words = tt
+directive_fits naming here banks directive.BankSum words = tt
 
 lowered_fits : (less : ℕ) (word : Result Number SourceFault) → IfOk (lowered less word) Fits
 lowered_fits less (Ok word) = pattern_fits ((pattern_of 15 word + (2 ^ 17 - less)) % 2 ^ 15)
@@ -167,7 +167,7 @@ offset_fits naming here leads None word words = order_fits naming here leads wor
 offset_fits naming here leads (Some less) word words = lowered_fits less (order_meaning naming here leads word (codes "0" ∷ []))
 
 by_fits : (naming : Naming) (here : ℕ) (leads : Bool) (banks : Banks) (d : Option Directive) (word : List ℕ) (words : List (List ℕ)) → IfOk (word_by naming here leads banks d word words) Fits
-by_fits naming here leads banks (Some d) word words = directive_fits naming banks d words
+by_fits naming here leads banks (Some d) word words = directive_fits naming here banks d words
 by_fits naming here leads banks None word words = offset_fits naming here leads (less_than_zero words) word words
 
 misfit_fits : (why : Option SourceFault) (word : Result Number SourceFault) → IfOk word Fits → IfOk (unless_misfit why word) Fits
@@ -211,55 +211,55 @@ place_pair : (banks : Banks) (place : Result ℕ SourceFault) → IfOk (pair_of_
 place_pair banks (Ok place) = (pattern_fits (listed_address place), pattern_fits (bank_word banks place))
 place_pair banks (Err why) = tt
 
-pair_word_fits : (naming : Naming) (banks : Banks) (d : Directive) (words : List (List ℕ)) → IfOk (pair_by_word naming banks d words) BothFit
-pair_word_fits naming banks directive.SetLoc words = tt
-pair_word_fits naming banks directive.Bank words = tt
-pair_word_fits naming banks directive.Block words = tt
-pair_word_fits naming banks directive.Oct words = tt
-pair_word_fits naming banks directive.Octal words = tt
-pair_word_fits naming banks directive.Dec words = tt
-pair_word_fits naming banks directive.DecStarred words = tt
-pair_word_fits naming banks directive.PairOct words = octal_pair_word (only_of words)
-pair_word_fits naming banks directive.PairDec words = number_pair (number_in 28 false words)
-pair_word_fits naming banks directive.PairDecStarred words = number_pair (number_in 28 true words)
-pair_word_fits naming banks directive.Adres words = tt
-pair_word_fits naming banks directive.Remadr words = tt
-pair_word_fits naming banks directive.Genadr words = tt
-pair_word_fits naming banks directive.Cadr words = tt
-pair_word_fits naming banks directive.Fcadr words = tt
-pair_word_fits naming banks directive.Ecadr words = tt
-pair_word_fits naming banks directive.Bbcon words = tt
-pair_word_fits naming banks directive.PairCadr words = place_pair banks (place_in (location_in naming words))
-pair_word_fits naming banks directive.VerbNoun words = tt
-pair_word_fits naming banks directive.MajorMode words = tt
-pair_word_fits naming banks directive.Is words = tt
-pair_word_fits naming banks directive.Equals words = tt
-pair_word_fits naming banks directive.Erase words = tt
-pair_word_fits naming banks directive.Ebank words = tt
-pair_word_fits naming banks directive.Sbank words = tt
-pair_word_fits naming banks directive.Count words = tt
-pair_word_fits naming banks directive.CountStarred words = tt
-pair_word_fits naming banks directive.Memory words = tt
-pair_word_fits naming banks directive.BankSum words = tt
+pair_word_fits : (naming : Naming) (here : ℕ) (banks : Banks) (d : Directive) (words : List (List ℕ)) → IfOk (pair_by_word naming here banks d words) BothFit
+pair_word_fits naming here banks directive.SetLoc words = tt
+pair_word_fits naming here banks directive.Bank words = tt
+pair_word_fits naming here banks directive.Block words = tt
+pair_word_fits naming here banks directive.Oct words = tt
+pair_word_fits naming here banks directive.Octal words = tt
+pair_word_fits naming here banks directive.Dec words = tt
+pair_word_fits naming here banks directive.DecStarred words = tt
+pair_word_fits naming here banks directive.PairOct words = octal_pair_word (only_of words)
+pair_word_fits naming here banks directive.PairDec words = number_pair (number_in 28 false words)
+pair_word_fits naming here banks directive.PairDecStarred words = number_pair (number_in 28 true words)
+pair_word_fits naming here banks directive.Adres words = tt
+pair_word_fits naming here banks directive.Remadr words = tt
+pair_word_fits naming here banks directive.Genadr words = tt
+pair_word_fits naming here banks directive.Cadr words = tt
+pair_word_fits naming here banks directive.Fcadr words = tt
+pair_word_fits naming here banks directive.Ecadr words = tt
+pair_word_fits naming here banks directive.Bbcon words = tt
+pair_word_fits naming here banks directive.PairCadr words = place_pair banks (place_in (location_for naming here words))
+pair_word_fits naming here banks directive.VerbNoun words = tt
+pair_word_fits naming here banks directive.MajorMode words = tt
+pair_word_fits naming here banks directive.Is words = tt
+pair_word_fits naming here banks directive.Equals words = tt
+pair_word_fits naming here banks directive.Erase words = tt
+pair_word_fits naming here banks directive.Ebank words = tt
+pair_word_fits naming here banks directive.Sbank words = tt
+pair_word_fits naming here banks directive.Count words = tt
+pair_word_fits naming here banks directive.CountStarred words = tt
+pair_word_fits naming here banks directive.Memory words = tt
+pair_word_fits naming here banks directive.BankSum words = tt
 
-pair_by_fits : (naming : Naming) (banks : Banks) (d : Option Directive) (words : List (List ℕ)) → IfOk (pair_by naming banks d words) BothFit
-pair_by_fits naming banks (Some d) words = pair_word_fits naming banks d words
-pair_by_fits naming banks None words = tt
+pair_by_fits : (naming : Naming) (here : ℕ) (banks : Banks) (d : Option Directive) (words : List (List ℕ)) → IfOk (pair_by naming here banks d words) BothFit
+pair_by_fits naming here banks (Some d) words = pair_word_fits naming here banks d words
+pair_by_fits naming here banks None words = tt
 
-pair_spelled_fits : (naming : Naming) (banks : Banks) (words : List (List ℕ)) → IfOk (pair_spelled naming banks words) BothFit
-pair_spelled_fits naming banks [] = tt
-pair_spelled_fits naming banks (word ∷ words) = pair_by_fits naming banks (directive_named word) words
+pair_spelled_fits : (naming : Naming) (here : ℕ) (banks : Banks) (words : List (List ℕ)) → IfOk (pair_spelled naming here banks words) BothFit
+pair_spelled_fits naming here banks [] = tt
+pair_spelled_fits naming here banks (word ∷ words) = pair_by_fits naming here banks (directive_named word) words
 
 pair_minus_fits : (minus : Bool) (pair : Result Pair SourceFault) → IfOk pair BothFit → IfOk (complemented_pair minus pair) BothFit
 pair_minus_fits minus (Ok pair) h = (complemented_fits minus pair.upper h.0, complemented_fits minus pair.lower h.1)
 pair_minus_fits minus (Err why) h = tt
 
-pair_all_fit : (naming : Naming) (banks : Banks) (words : List (List ℕ)) → IfOk (pair_meaning naming banks words) BothFit
+pair_all_fit : (naming : Naming) (here : ℕ) (banks : Banks) (words : List (List ℕ)) → IfOk (pair_meaning naming here banks words) BothFit
 unfolding pair_meaning
-pair_all_fit naming banks words = pair_minus_fits (has_minus words) (pair_spelled naming banks (spelled words)) (pair_spelled_fits naming banks (spelled words))
+pair_all_fit naming here banks words = pair_minus_fits (has_minus words) (pair_spelled naming here banks (spelled words)) (pair_spelled_fits naming here banks (spelled words))
 
-pub pair_fits : (naming : Naming) (banks : Banks) (words : List (List ℕ)) (pair : Pair) → pair_meaning naming banks words ≡ Ok pair → (pattern_of 15 pair.upper < 2 ^ 15) × (pattern_of 15 pair.lower < 2 ^ 15)
-pair_fits naming banks words pair is =
-    let all = pair_all_fit naming banks words in
+pub pair_fits : (naming : Naming) (here : ℕ) (banks : Banks) (words : List (List ℕ)) (pair : Pair) → pair_meaning naming here banks words ≡ Ok pair → (pattern_of 15 pair.upper < 2 ^ 15) × (pattern_of 15 pair.lower < 2 ^ 15)
+pair_fits naming here banks words pair is =
+    let all = pair_all_fit naming here banks words in
     let both : BothFit pair = rw is at all in
     (fits_pattern pair.upper.minus pair.upper.magnitude both.0, fits_pattern pair.lower.minus pair.lower.magnitude both.1)

@@ -1,4 +1,5 @@
 -- The location counter is always in the rope or in erasable memory.
+use Rattle.agc_asm.specs.UnknownOperation.{unknown_operation}
 use Rattle.std.specs.Prelude.{◌≡◌, ℕ, ◌+◌, ◌<◌, ◌==◌, nat_le, nat_lt, Bool, true, false, ◌&&◌, ◌||◌, List, [], ◌∷◌, Option, Some, None, Result, Ok, Err, IfOk, if◌then◌else◌, position, take, drop}
 use Rattle.std.proofs.Common.{refl, arith}
 use Rattle.std.proofs.lemmas.Bool.Decides.{nat_tests}
@@ -119,12 +120,12 @@ cells_words (first ∷ dash ∷ []) = tt
 cells_words (first ∷ dash ∷ last ∷ []) = cells_dash (is_dash dash) (octal_number 6 first) (octal_number 6 last)
 cells_words (first ∷ dash ∷ last ∷ more ∷ words) = tt
 
-order_shape : (order : Bool) → IfOk (if order then Ok kind.Word else Err fault.UnknownOrder) GoesIntoRope
-order_shape true = tt
-order_shape false = tt
+order_shape : (order : Bool) (why : SourceFault) → IfOk (if order then Ok kind.Word else Err why) GoesIntoRope
+order_shape true why = tt
+order_shape false why = tt
 
 shape_by_inside : (naming : Naming) (d : Option Directive) (word : List ℕ) (words : List (List ℕ)) → IfOk (shape_by naming d word words) GoesIntoRope
-shape_by_inside naming None word words = order_shape (is_order word)
+shape_by_inside naming None word words = order_shape (is_order word) (unknown_operation word)
 shape_by_inside naming (Some directive.SetLoc) word words = moves_inside (location_in naming words) (value_inside (value_apart naming words))
 shape_by_inside naming (Some directive.Bank) word words = bank_words words
 shape_by_inside naming (Some directive.Block) word words = block_word (only_of words)

@@ -12,7 +12,7 @@ use Rattle.agc_listing.specs.declared.line.PlacedWord.{PlacedWord}
 use Rattle.agc_asm.specs.Name.{Naming}
 use Rattle.agc_listing.specs.Text.{after_first, are_listed, said_by}
 use Rattle.agc_listing.specs.Order.{next_is_extracode}
-use Rattle.agc_asm.specs.Body.{body_in, spelled}
+use Rattle.agc_asm.specs.Body.{body_in, spelled, plain_line}
 use Rattle.agc_asm.specs.Operand.{location_in}
 use Rattle.agc_asm.specs.declared.encode.Banks.{Banks}
 use Rattle.agc_asm.specs.declared.fault.SourceFault.{SourceFault}
@@ -107,7 +107,7 @@ two_done words naming since state line place (Ok pair) p room =
 pair_done : (words : List Number) (naming : Naming) (since : ℕ) (state : State) (line : List ℕ) (room : Result ℕ SourceFault) → Plain words naming since state line kind.Pair
     → room_at state.counter state.counter.at 2 ≡ room → IfOk (pair_placed naming state (body_in line) room) (LineDone words naming since state line)
 pair_done words naming since state line (Err why) p e = tt
-pair_done words naming since state line (Ok place) p e = two_done words naming since state line place (pair_meaning naming state.banks (body_in line)) p e
+pair_done words naming since state line (Ok place) p e = two_done words naming since state line place (pair_meaning naming place state.banks (body_in line)) p e
 
 -- that names banks
 banks_done : (words : List Number) (naming : Naming) (since : ℕ) (state : State) (line : List ℕ) (s : LineKind) (banks : Banks) → IsNoWord s → Plain words naming since state line s
@@ -194,8 +194,8 @@ line_done words naming since state line step e sound =
     rw e at all
 
 -- one line after the other
-pub orders_more : (naming : Naming) (since : ℕ) (state : State) (line : List ℕ) (lines : List (List ℕ)) (step : Step) → line_woven naming state line ≡ Ok step
-    → orders_from naming since state (line ∷ lines) ≡ order_of naming since state line ++ orders_from naming (since_after naming since line step.state.counter) step.state lines
+pub orders_more : (naming : Naming) (since : ℕ) (state : State) (line : List ℕ) (lines : List (List ℕ)) (step : Step) → line_woven naming state (plain_line line) ≡ Ok step
+    → orders_from naming since state (line ∷ lines) ≡ order_of naming since state (plain_line line) ++ orders_from naming (since_after naming since (plain_line line) step.state.counter) step.state lines
 unfolding orders_from
 orders_more naming since state line lines step e = rw (e, orders_from) refl
 
@@ -203,11 +203,11 @@ both_shown : (words : List Number) (first rest : List OrderLine) (name : List (L
 both_shown words first rest name names f r =
     record {
       shown = All-append (Shown words) first rest f.shown r.shown;
-      named = map-append (λ (line : OrderLine). line.mnemonic) first rest ∙ rw (f.named, r.named) refl;
+      named = map-append (λ (line : OrderLine). line.written) first rest ∙ rw (f.named, r.named) refl;
     }
 
 pub shown_from : (words : List Number) (lines : List (List ℕ)) (n : ℕ) (naming : Naming) (since : ℕ) (state : State) (said final : List PlacedWord) → words_from n naming state said lines ≡ Ok final
-    → All (HasWord words) final → Sound words since state.counter state.leads → AreShown words (orders_from naming since state lines) (flat_map mnemonic_of lines)
+    → All (HasWord words) final → Sound words since state.counter state.leads → AreShown words (orders_from naming since state lines) (flat_map (λ line. mnemonic_of (plain_line line)) lines)
 unfolding orders_from
 shown_from words [] n naming since state said final is has sound = none_shown words
 shown_from words (line ∷ lines) n naming since state said final is has sound =
@@ -216,8 +216,8 @@ shown_from words (line ∷ lines) n naming since state said final is has sound =
     let b = both said s.more s.step.first s.step.second s.both in
     let second = holds (HasWord words) b.between s.more s.step.second b.other more in
     let first = holds (HasWord words) said b.between s.step.first b.one second.before in
-    let done = line_done words naming since state line s.step s.woven sound first.here second.here in
-    let since_next = since_after naming since line s.step.state.counter in
+    let done = line_done words naming since state (plain_line line) s.step s.woven sound first.here second.here in
+    let since_next = since_after naming since (plain_line line) s.step.state.counter in
     let rest = shown_from words lines (n + 1) naming since_next s.step.state s.more final s.rest has done.sound in
     rw (orders_more naming since state line lines s.step s.woven)
-    (both_shown words (order_of naming since state line) (orders_from naming since_next s.step.state lines) (mnemonic_of line) (flat_map mnemonic_of lines) done.orders rest)
+    (both_shown words (order_of naming since state (plain_line line)) (orders_from naming since_next s.step.state lines) (mnemonic_of (plain_line line)) (flat_map (λ line. mnemonic_of (plain_line line)) lines) done.orders rest)

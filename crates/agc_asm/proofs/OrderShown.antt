@@ -34,11 +34,6 @@ found_passes : {X : Type 0} (test : X → Bool) (xs : List X) (found : X) → fi
 found_passes test [] found is = absurd cc
 found_passes test (x ∷ xs) found is = found_by test x found xs (test x) refl (λ other h. found_passes test xs other h) is
 
-basic_spelt : (name : List ℕ) (order : Basic) → basic_named name ≡ Some order → (basic_row order).mnemonic ≡ name
-unfolding basic_named
-basic_spelt name order is =
-    (bytes_eq-Decides (basic_row order).mnemonic name).0 (found_passes (λ (b : Basic). bytes_eq (basic_row b).mnemonic name) all_basics order is)
-
 extracode_spelt : (name : List ℕ) (order : Extracode) → extracode_named name ≡ Some order → (extracode_row order).mnemonic ≡ name
 unfolding extracode_named
 extracode_spelt name order is =
@@ -90,34 +85,35 @@ pub record Shown (words : List Number) (line : OrderLine) : Type 0 where
 shown : (words : List Number) (line : OrderLine) → HasOrder words line → IsReadAlong words line → Shown words line
 shown words line has along = record { has = has; listed = is_listed words line has.named; along = along }
 
-pub basic_shown : (words : List Number) (since place : ℕ) (name : List ℕ) (order : Basic) (given : Operand) (bits : ℕ) (word : Number) → basic_named name ≡ Some order → basic_word order given ≡ Ok bits
+pub basic_shown : (words : List Number) (since place : ℕ) (name : List ℕ) (order : Basic) (given : Operand) (bits : ℕ) (word : Number) → basic_word order given ≡ Ok bits
     → number_from_pattern 15 bits ≡ word → pattern_of 15 (fixed_at place words) ≡ pattern_of 15 word → (is_extracode_at words since ≡ false → is_extracode_at words place ≡ false)
-    → Shown words (record { place = place; since = since; extracode = false; mnemonic = name; operand = given })
-basic_shown words since place name order given bits word named is made same along =
+    → Shown words (record { place = place; since = since; extracode = false; written = name; mnemonic = (basic_row order).mnemonic; operand = given })
+basic_shown words since place name order given bits word is made same along =
+    let own = (basic_row order).mnemonic in
+    let named : basic_named own ≡ Some order = basic_by_name order in
     let fits = basic_fits order given bits is in
     let again : pattern_of 15 word ≡ bits = rw made at (pattern_again bits fits) in
     let there : pattern_of 15 (fixed_at place words) ≡ bits = same ∙ again in
     let names = basic_names order given bits is in
-    let spelt = basic_spelt name order named in
-    let line : OrderLine = record { place = place; since = since; extracode = false; mnemonic = name; operand = given } in
-    let all : Names line bits = record { mnemonic = rw names spelt; operand = rw names (basic_shows order given bits is) } in
+    let line : OrderLine = record { place = place; since = since; extracode = false; written = name; mnemonic = own; operand = given } in
+    let all : Names line bits = record { mnemonic = rw names refl; operand = rw names (basic_shows order given bits is) } in
     shown words line
     (record {
       named = rw there all;
-      only = λ other small read. basic_only name order given bits other named is small read.mnemonic read.operand ∙ sym there;
+      only = λ other small read. basic_only own order given bits other named is small read.mnemonic read.operand ∙ sym there;
     })
     along
 
 pub extracode_shown : (words : List Number) (since place : ℕ) (name : List ℕ) (order : Extracode) (given : Operand) (bits : ℕ) (word : Number) → extracode_named name ≡ Some order → extracode_word order given ≡ Ok bits
     → number_from_pattern 15 bits ≡ word → pattern_of 15 (fixed_at place words) ≡ pattern_of 15 word → (is_extracode_at words since ≡ false → is_extracode_at words place ≡ true)
-    → Shown words (record { place = place; since = since; extracode = true; mnemonic = name; operand = given })
+    → Shown words (record { place = place; since = since; extracode = true; written = name; mnemonic = name; operand = given })
 extracode_shown words since place name order given bits word named is made same along =
     let fits = extracode_fits order given bits is in
     let again : pattern_of 15 word ≡ bits = rw made at (pattern_again bits fits) in
     let there : pattern_of 15 (fixed_at place words) ≡ bits = same ∙ again in
     let names = extracode_names order given bits is in
     let spelt = extracode_spelt name order named in
-    let line : OrderLine = record { place = place; since = since; extracode = true; mnemonic = name; operand = given } in
+    let line : OrderLine = record { place = place; since = since; extracode = true; written = name; mnemonic = name; operand = given } in
     let all : Names line bits = record { mnemonic = rw names spelt; operand = rw names (extracode_shows order given bits is) } in
     shown words line
     (record {

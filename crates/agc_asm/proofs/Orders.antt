@@ -1,5 +1,6 @@
 -- The line of a word means the word, if it is read as it was written.
-use Rattle.std.specs.Prelude.{◌≡◌, ℕ, ◌+◌, ◌/◌, ◌%◌, ◌^◌, ◌<◌, ◌≤◌, ◌==◌, Bool, true, false, List, [], ◌∷◌, ◌++◌, codes, position, Some, None, Ok}
+use Rattle.agc_asm.specs.Row.{basic_word, is_of_another}
+use Rattle.std.specs.Prelude.{◌≡◌, ℕ, ◌+◌, ◌/◌, ◌%◌, ◌^◌, ◌<◌, ◌≤◌, ◌==◌, Bool, true, false, List, [], ◌∷◌, ◌++◌, codes, position, Some, None, Ok, Err}
 use Rattle.std.specs.List.{list_all}
 use Rattle.std.proofs.Common.{refl, arith, append-nil}
 use Rattle.std.proofs.lemmas.Bool.Decides.{nat_tests}
@@ -32,6 +33,7 @@ use Rattle.agc_listing.proofs.OrderPrints.{order_prints}
 use Rattle.agc_listing.proofs.PlaceBack.{place_back, place_is_no_comment, place_is_some}
 use Rattle.agc_asm.specs.declared.line_kind.LineKind.TheVariants as kind
 use Rattle.agc_asm.specs.Mnemonic.{all_directives, directive_name, directive_named, is_order}
+use Rattle.agc_asm.specs.declared.fault.SourceFault.TheVariants as fault
 use Rattle.agc_asm.specs.Name.{Naming}
 use Rattle.agc_listing.specs.Number.{begins_with_minus, is_sign, octal_word, offset_said, without_sign}
 use Rattle.agc_listing.specs.List.{listed_address}
@@ -174,6 +176,15 @@ pub record Says (wanted order : Bool) (word : Number) (said : List (List ℕ)) :
   pub writes : writes_order said ≡ order
   pub plain : IsPlain said
 
+-- an order with its word is no other order
+meant_by : (b : Basic) (o : Operand) (bits : ℕ) (other : Bool) → is_of_another b o ≡ other → basic_word b o ≡ Ok bits → is_of_another b o ≡ false
+unfolding basic_word
+meant_by b o bits true e is = let wrong : basic_word b o ≡ Err fault.OtherOrder = rw e refl in absurd cc
+meant_by b o bits false e is = e
+
+own_meant : (b : Basic) (o : Operand) (bits : ℕ) → basic_word b o ≡ Ok bits → is_of_another b o ≡ false
+own_meant b o bits is = meant_by b o bits (is_of_another b o) refl is
+
 basic_line : (b : Basic) (word : Number) → word.magnitude < 2 ^ 14 → basic_of (pattern_of 15 word) ≡ b
     → Says false true word (said_by (codes "        " ++ row_text (basic_row b) (pattern_of 15 word)))
 unfolding word_meaning
@@ -189,7 +200,7 @@ basic_line b word narrow is =
     (record {
       takes_up = λ naming. rw (spelt, m.no_directive, order) refl;
       means = λ naming here banks.
-          rw (m.no_minus, order_alias name (operand_words o) m, spelt, m.no_directive, not_less o, basic_by_name b, operand_back (basic_row b).takes p naming here, own, narrow_back word narrow) refl;
+          rw (m.no_minus, order_alias name (operand_words o) m, spelt, m.no_directive, not_less o, basic_by_name b, operand_back (basic_row b).takes p naming here, own_meant b o p own, own, narrow_back word narrow) refl;
       writes = order_writes name o m;
       plain = order_plain name o m;
     })

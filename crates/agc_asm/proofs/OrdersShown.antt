@@ -1,4 +1,5 @@
 -- The order that a line writes, when the word of the line is at its place.
+use Rattle.agc_asm.specs.UnknownOperation.{unknown_operation}
 use Rattle.std.specs.Prelude.{◌≡◌, ℕ, Bool, true, false, not, ◌&&◌, All, List, [], ◌∷◌, map, Option, Some, None, is_none, option_map, Result, Ok, Err, if◌then◌else◌}
 use Rattle.std.proofs.Common.{refl}
 use Rattle.std.proofs.lemmas.List.Elements.{All-cons, All-nil}
@@ -11,7 +12,7 @@ use Rattle.agc_listing.specs.List.{is_extracode_at}
 use Rattle.agc_listing.specs.declared.order.Operand.{Operand}
 use Rattle.agc_asm.specs.Mnemonic.{basic_named, directive_named, extracode_named, is_order}
 use Rattle.agc_asm.specs.Name.{Naming}
-use Rattle.agc_asm.specs.Row.{as_word, basic_word, extracode_word}
+use Rattle.agc_asm.specs.Row.{as_word, basic_word, extracode_word, meant, meant_operand}
 use Rattle.agc_asm.specs.declared.fault.SourceFault.{SourceFault}
 use Rattle.agc_asm.specs.declared.fault.SourceFault.TheVariants as fault
 use Rattle.agc_asm.specs.declared.mnemonic.Directive.{Directive}
@@ -29,12 +30,12 @@ use Rattle.agc_asm.proofs.OrderShown.{Shown, basic_shown, extracode_shown}
 -- the orders of a line, and their mnemonics
 pub record AreShown (words : List Number) (orders : List OrderLine) (names : List (List ℕ)) : Type 0 where
   pub shown : All (Shown words) orders
-  pub named : map (λ (line : OrderLine). line.mnemonic) orders ≡ names
+  pub named : map (λ (line : OrderLine). line.written) orders ≡ names
 
 pub none_shown : (words : List Number) → AreShown words [] []
 none_shown words = record { shown = All-nil (Shown words); named = refl }
 
-one_shown : (words : List Number) (line : OrderLine) → Shown words line → AreShown words (line ∷ []) (line.mnemonic ∷ [])
+one_shown : (words : List Number) (line : OrderLine) → Shown words line → AreShown words (line ∷ []) (line.written ∷ [])
 one_shown words line h = record { shown = All-cons (Shown words) line [] h (All-nil (Shown words)); named = refl }
 
 -- a word at its place, in consecutive lines
@@ -43,17 +44,25 @@ pub record At (words : List Number) (since : ℕ) (leads : Bool) (place : ℕ) (
   pub along : is_extracode_at words since ≡ false → is_extracode_at words place ≡ leads
 
 basic_bits : (words : List Number) (since place : ℕ) (name : List ℕ) (order : Basic) (given : Operand) (word : Number) (bits : Result ℕ SourceFault) → basic_named name ≡ Some order → At words since false place word
-    → basic_word order given ≡ bits → as_word bits ≡ Ok word → AreShown words (order_with since place false name (Ok given)) (name ∷ [])
+    → basic_word (meant order given) (meant_operand order given) ≡ bits → as_word bits ≡ Ok word → AreShown words (order_with since place false name (Ok given)) (name ∷ [])
 basic_bits words since place name order given word (Err why) named h e is = absurd cc
 basic_bits words since place name order given word (Ok bits) named h e is =
     let made : number_from_pattern 15 bits ≡ word = cc in
-    one_shown words (record { place = place; since = since; extracode = false; mnemonic = name; operand = given })
-    (basic_shown words since place name order given bits word named e made h.same h.along)
+    let line : OrderLine = record {
+      place = place;
+      since = since;
+      extracode = false;
+      written = name;
+      mnemonic = (basic_row (meant order given)).mnemonic;
+      operand = meant_operand order given;
+    } in
+    rw named (one_shown words line (basic_shown words since place name (meant order given) (meant_operand order given) bits word e made h.same h.along))
 
 basic_given : (words : List Number) (since place : ℕ) (name : List ℕ) (order : Basic) (given : Result Operand SourceFault) (word : Number) → basic_named name ≡ Some order → At words since false place word
     → basic_with order given ≡ Ok word → AreShown words (order_with since place false name given) (name ∷ [])
 basic_given words since place name order (Err why) word named h is = absurd cc
-basic_given words since place name order (Ok given) word named h is = basic_bits words since place name order given word (basic_word order given) named h refl is
+basic_given words since place name order (Ok given) word named h is =
+    basic_bits words since place name order given word (basic_word (meant order given) (meant_operand order given)) named h refl is
 
 basic_case : (words : List Number) (naming : Naming) (since place : ℕ) (name : List ℕ) (rest : List (List ℕ)) (word : Number) (order : Option Basic) → basic_named name ≡ order → At words since false place word
     → if_basic naming place order name rest ≡ Ok word → AreShown words (order_with since place false name (operand_read (option_map basic_row order) naming place rest)) (name ∷ [])
@@ -66,7 +75,7 @@ extracode_bits : (words : List Number) (since place : ℕ) (name : List ℕ) (or
 extracode_bits words since place name order given word (Err why) named h e is = absurd cc
 extracode_bits words since place name order given word (Ok bits) named h e is =
     let made : number_from_pattern 15 bits ≡ word = cc in
-    one_shown words (record { place = place; since = since; extracode = true; mnemonic = name; operand = given })
+    one_shown words (record { place = place; since = since; extracode = true; written = name; mnemonic = name; operand = given })
     (extracode_shown words since place name order given bits word named e made h.same h.along)
 
 extracode_given : (words : List Number) (since place : ℕ) (name : List ℕ) (order : Extracode) (given : Result Operand SourceFault) (word : Number) → extracode_named name ≡ Some order → At words since true place word
@@ -132,11 +141,11 @@ abbrev pub IsNoWord : LineKind → Type 0
 IsNoWord kind.Word = ⊥
 IsNoWord s = Unit {0}
 
-no_order_shape : (s : LineKind) (order : Bool) → IsNoWord s → (if order then Ok kind.Word else Err fault.UnknownOrder) ≡ Ok s → ⊥
-no_order_shape s true h is =
+no_order_shape : (s : LineKind) (order : Bool) (why : SourceFault) → IsNoWord s → (if order then Ok kind.Word else Err why) ≡ Ok s → ⊥
+no_order_shape s true why h is =
     let same : s ≡ kind.Word = cc in
     rw same at h
-no_order_shape s false h is = cc
+no_order_shape s false why h is = cc
 
 none_placed : (words : List Number) (naming : Naming) (since : ℕ) (leads : Bool) (room : Result ℕ SourceFault) → AreShown words (order_placed naming since leads room []) (mnemonic_in [])
 none_placed words naming since leads (Err why) = none_shown words
@@ -144,7 +153,7 @@ none_placed words naming since leads (Ok place) = none_shown words
 
 not_order_by : (naming : Naming) (s : LineKind) (d : Option Directive) (name : List ℕ) (rest : List (List ℕ)) → IsNoWord s → shape_by naming d name rest ≡ Ok s → is_order_by d rest ≡ false
 not_order_by naming s (Some d) name rest h is = refl
-not_order_by naming s None name rest h is = absurd (no_order_shape s (is_order name) h is)
+not_order_by naming s None name rest h is = absurd (no_order_shape s (is_order name) (unknown_operation name) h is)
 
 not_order : (naming : Naming) (s : LineKind) (spelt : List (List ℕ)) → IsNoWord s → shape_of naming spelt ≡ Ok s → is_order_spelled spelt ≡ false
 not_order naming s [] h is = refl

@@ -1,4 +1,5 @@
 -- Both passes over a source, line by line.
+use Rattle.agc_asm.specs.Body.{plain_line}
 use Rattle.std.proofs.Common.{◌≡◌, ℕ, ◌+◌, List, [], ◌∷◌, ◌∙◌, refl, sym}
 use Rattle.std.specs.Prelude.{Result, Ok, Err}
 use Rattle.agc_word.specs.Text.{lines_of}
@@ -16,14 +17,14 @@ use Rattle.agc_asm.specs.declared.pass2.State.{State}
 use Rattle.agc_asm.specs.declared.pass2.Step.{Step}
 
 -- a line without a fault
-pub next_named : (n : ℕ) (naming : Naming) (counter : LocationCounter) (line : List ℕ) (lines : List (List ℕ)) (next : Labelled) → line_labelled naming counter line ≡ Ok next
-    → names_from n naming counter (line ∷ lines) ≡ names_from (n + 1) (naming_after naming (label_of line) next.place) next.counter lines
+pub next_named : (n : ℕ) (naming : Naming) (counter : LocationCounter) (line : List ℕ) (lines : List (List ℕ)) (next : Labelled) → line_labelled naming counter (plain_line line) ≡ Ok next
+    → names_from n naming counter (line ∷ lines) ≡ names_from (n + 1) (naming_after naming (label_of (plain_line line)) next.place) next.counter lines
 unfolding names_from
 next_named n naming counter line lines next e = rw (e, names_from)
 
 -- a faulty line
 pub faulty_named : (text : List ℕ) (n : ℕ) (naming : Naming) (counter : LocationCounter) (line : List ℕ) (lines : List (List ℕ)) (why : SourceFault)
-    → names_from n naming counter (line ∷ lines) ≡ names_from 1 (first_names text) first_cursor (lines_of text) → line_labelled naming counter line ≡ Err why → names_in text ≡ Err (trouble.Line n why)
+    → names_from n naming counter (line ∷ lines) ≡ names_from 1 (first_names text) first_cursor (lines_of text) → line_labelled naming counter (plain_line line) ≡ Err why → names_in text ≡ Err (trouble.Line n why)
 unfolding names_from names_in
 faulty_named text n naming counter line lines why same e = rw (← same, e, names_from)
 
@@ -33,29 +34,29 @@ unfolding names_from names_in
 all_named text n naming counter same = sym same
 
 -- the same in the second pass
-pub next_woven : (n : ℕ) (naming : Naming) (state : State) (said more : List PlacedWord) (line : List ℕ) (lines : List (List ℕ)) (step : Step) → line_woven naming state line ≡ Ok step
+pub next_woven : (n : ℕ) (naming : Naming) (state : State) (said more : List PlacedWord) (line : List ℕ) (lines : List (List ℕ)) (step : Step) → line_woven naming state (plain_line line) ≡ Ok step
     → both_said said step.first step.second ≡ Ok more → words_from n naming state said (line ∷ lines) ≡ words_from (n + 1) naming step.state more lines
 unfolding words_from
 next_woven n naming state said more line lines step e f = rw (e, words_from) (rw f)
 
 pub faulty_line : (text : List ℕ) (n : ℕ) (naming : Naming) (state : State) (said : List PlacedWord) (line : List ℕ) (lines : List (List ℕ)) (why : SourceFault)
-    → words_from n naming state said (line ∷ lines) ≡ words_from 1 naming first_state [] (lines_of text) → line_woven naming state line ≡ Err why → words_in naming text ≡ Err (trouble.Line n why)
+    → words_from n naming state said (line ∷ lines) ≡ words_from 1 naming first_state [] (lines_of text) → line_woven naming state (plain_line line) ≡ Err why → words_in naming text ≡ Err (trouble.Line n why)
 unfolding words_from words_in
 faulty_line text n naming state said line lines why same e = rw (← same, e, words_from)
 
 -- words whose places are taken
 wrongly : (n : ℕ) (naming : Naming) (state : State) (said : List PlacedWord) (line : List ℕ) (lines : List (List ℕ)) (step : Step) (why : AssemblyFault) (both : Result (List PlacedWord) SourceFault)
-    → line_woven naming state line ≡ Ok step → both_said said step.first step.second ≡ both → told_at n both ≡ Err why → words_from n naming state said (line ∷ lines) ≡ Err why
+    → line_woven naming state (plain_line line) ≡ Ok step → both_said said step.first step.second ≡ both → told_at n both ≡ Err why → words_from n naming state said (line ∷ lines) ≡ Err why
 unfolding words_from
 wrongly n naming state said line lines step why (Ok more) e is f = absurd cc
 wrongly n naming state said line lines step why (Err fault) e is f = rw (e, words_from) (rw is f)
 
-said_wrongly : (n : ℕ) (naming : Naming) (state : State) (said : List PlacedWord) (line : List ℕ) (lines : List (List ℕ)) (step : Step) (why : AssemblyFault) → line_woven naming state line ≡ Ok step
+said_wrongly : (n : ℕ) (naming : Naming) (state : State) (said : List PlacedWord) (line : List ℕ) (lines : List (List ℕ)) (step : Step) (why : AssemblyFault) → line_woven naming state (plain_line line) ≡ Ok step
     → told_at n (both_said said step.first step.second) ≡ Err why → words_from n naming state said (line ∷ lines) ≡ Err why
 said_wrongly n naming state said line lines step why e f = wrongly n naming state said line lines step why (both_said said step.first step.second) e refl f
 
 pub faulty_words : (text : List ℕ) (n : ℕ) (naming : Naming) (state : State) (said : List PlacedWord) (line : List ℕ) (lines : List (List ℕ)) (step : Step) (why : AssemblyFault)
-    → words_from n naming state said (line ∷ lines) ≡ words_from 1 naming first_state [] (lines_of text) → line_woven naming state line ≡ Ok step → told_at n (both_said said step.first step.second) ≡ Err why
+    → words_from n naming state said (line ∷ lines) ≡ words_from 1 naming first_state [] (lines_of text) → line_woven naming state (plain_line line) ≡ Ok step → told_at n (both_said said step.first step.second) ≡ Err why
     → words_in naming text ≡ Err why
 unfolding words_in
 faulty_words text n naming state said line lines step why same e f = sym same ∙ said_wrongly n naming state said line lines step why e f
@@ -65,12 +66,12 @@ unfolding words_from words_in
 all_woven text n naming state said same = sym same
 
 -- an earlier reading
-pub next_found : (naming : Naming) (counter : LocationCounter) (line : List ℕ) (lines : List (List ℕ)) (next : Labelled) → line_labelled naming counter line ≡ Ok next
-    → found_from naming counter (line ∷ lines) ≡ found_from (naming_after naming (label_of line) next.place) next.counter lines
+pub next_found : (naming : Naming) (counter : LocationCounter) (line : List ℕ) (lines : List (List ℕ)) (next : Labelled) → line_labelled naming counter (plain_line line) ≡ Ok next
+    → found_from naming counter (line ∷ lines) ≡ found_from (naming_after naming (label_of (plain_line line)) next.place) next.counter lines
 unfolding found_from
 next_found naming counter line lines next e = rw (e, found_from) refl
 
-pub faulty_found : (naming : Naming) (counter : LocationCounter) (line : List ℕ) (lines : List (List ℕ)) (why : SourceFault) → line_labelled naming counter line ≡ Err why
+pub faulty_found : (naming : Naming) (counter : LocationCounter) (line : List ℕ) (lines : List (List ℕ)) (why : SourceFault) → line_labelled naming counter (plain_line line) ≡ Err why
     → found_from naming counter (line ∷ lines) ≡ found_from naming counter lines
 unfolding found_from
 faulty_found naming counter line lines why e = rw (e, found_from) refl

@@ -1,4 +1,6 @@
 -- The rope that a source assembles to, and its listing, have the orders that the source writes.
+use Rattle.agc_asm.proofs.Back.{plain_listed, listed_is}
+use Rattle.agc_asm.specs.Body.{plain_line}
 use Rattle.std.specs.Prelude.{◌≡◌, ℕ, Bool, true, false, All, List, [], ◌∷◌, map, Result, Ok, Err}
 use Rattle.std.specs.List.{flat_map, list_all}
 use Rattle.std.proofs.Common.{refl, ◌∙◌, arith}
@@ -16,7 +18,7 @@ use Rattle.agc_listing.specs.Text.{are_listed, said_by}
 use Rattle.agc_asm.specs.declared.fault.SourceFault.{SourceFault}
 use Rattle.agc_asm.specs.declared.fault.AssemblyFault.{AssemblyFault}
 use Rattle.agc_asm.specs.OrderLines.{HasOrder, IsListed, IsReadAlong, OrderLine, mnemonic_of, mnemonics_in, order_of, orders_by, orders_from, orders_in, since_after}
-use Rattle.agc_asm.specs.Source.{IsSourceWoven, first_state, is_listing, line_woven, names_in, source_in, words_after_names, words_in}
+use Rattle.agc_asm.specs.Source.{IsSourceWoven, first_state, is_listing, line_woven, names_in, source_in, words_after_names, words_in, is_listing_line}
 use Rattle.agc_asm.specs.declared.pass2.State.{State}
 use Rattle.agc_asm.specs.declared.pass2.Step.{Step}
 use Rattle.agc_asm.proofs.Along.{Sound}
@@ -31,7 +33,7 @@ at_first words = record { banks = length-replicate {A = ℕ} 36 0; bank = omega 
 
 -- a text whose second pass yields words
 way_shown : (form : RopeForm) (text file : List ℕ) (naming : Naming) (said : List PlacedWord) → words_in naming text ≡ Ok said → file ≡ woven_file form said
-    → AreShown (rope_words form file) (orders_from naming 0o4000 first_state (lines_of text)) (flat_map mnemonic_of (lines_of text))
+    → AreShown (rope_words form file) (orders_from naming 0o4000 first_state (lines_of text)) (flat_map (λ line. mnemonic_of (plain_line line)) (lines_of text))
 unfolding words_in
 way_shown form text file naming said is woven =
     let words = rope_words form file in
@@ -41,46 +43,46 @@ way_shown form text file naming said is woven =
     shown_from words (lines_of text) 1 naming 0o4000 first_state [] said is has (at_first words)
 
 named_shown : (form : RopeForm) (text file : List ℕ) (names : Result Naming AssemblyFault) (said : List PlacedWord) → words_after_names text names ≡ Ok said → file ≡ woven_file form said
-    → AreShown (rope_words form file) (orders_by names (lines_of text)) (flat_map mnemonic_of (lines_of text))
+    → AreShown (rope_words form file) (orders_by names (lines_of text)) (flat_map (λ line. mnemonic_of (plain_line line)) (lines_of text))
 named_shown form text file (Err why) said is woven = absurd cc
 named_shown form text file (Ok naming) said is woven = way_shown form text file naming said is woven
 
 -- a listing writes no orders
-no_order : (naming : Naming) (since : ℕ) (state : State) (line : List ℕ) → are_listed (said_by line) ≡ true → order_of naming since state line ≡ []
+no_order : (naming : Naming) (since : ℕ) (state : State) (line : List ℕ) → is_listing_line line ≡ true → order_of naming since state (plain_line line) ≡ []
 unfolding order_of
-no_order naming since state line listed = rw listed refl
+no_order naming since state line listed = rw (plain_listed line listed, listed_is line listed) refl
 
-no_mnemonic : (line : List ℕ) → are_listed (said_by line) ≡ true → mnemonic_of line ≡ []
+no_mnemonic : (line : List ℕ) → is_listing_line line ≡ true → mnemonic_of (plain_line line) ≡ []
 unfolding mnemonic_of
-no_mnemonic line listed = rw listed refl
+no_mnemonic line listed = rw (plain_listed line listed, listed_is line listed) refl
 
-no_mnemonics : (lines : List (List ℕ)) → list_all (λ line. are_listed (said_by line)) lines ≡ true → flat_map mnemonic_of lines ≡ []
+no_mnemonics : (lines : List (List ℕ)) → list_all (λ line. is_listing_line line) lines ≡ true → flat_map (λ line. mnemonic_of (plain_line line)) lines ≡ []
 no_mnemonics [] h = refl
 no_mnemonics (line ∷ lines) h =
-    let parts = and_parts (are_listed (said_by line)) (list_all (λ other. are_listed (said_by other)) lines) h in
+    let parts = and_parts (is_listing_line line) (list_all (λ other. is_listing_line other) lines) h in
     rw (no_mnemonic line parts.0, no_mnemonics lines parts.1) refl
 
 abbrev WriteNone : List (List ℕ) → Type 0
 WriteNone lines = (naming : Naming) (since : ℕ) (state : State) → orders_from naming since state lines ≡ []
 
-faulty_line : (naming : Naming) (since : ℕ) (state : State) (line : List ℕ) (lines : List (List ℕ)) (why : SourceFault) → line_woven naming state line ≡ Err why → orders_from naming since state (line ∷ lines) ≡ []
+faulty_line : (naming : Naming) (since : ℕ) (state : State) (line : List ℕ) (lines : List (List ℕ)) (why : SourceFault) → line_woven naming state (plain_line line) ≡ Err why → orders_from naming since state (line ∷ lines) ≡ []
 unfolding orders_from
 faulty_line naming since state line lines why e = rw (e, orders_from) refl
 
-no_orders_by : (naming : Naming) (since : ℕ) (state : State) (line : List ℕ) (lines : List (List ℕ)) (woven : Result Step SourceFault) → are_listed (said_by line) ≡ true → WriteNone lines → line_woven naming state line ≡ woven
+no_orders_by : (naming : Naming) (since : ℕ) (state : State) (line : List ℕ) (lines : List (List ℕ)) (woven : Result Step SourceFault) → is_listing_line line ≡ true → WriteNone lines → line_woven naming state (plain_line line) ≡ woven
     → orders_from naming since state (line ∷ lines) ≡ []
 no_orders_by naming since state line lines (Err why) listed rest e = faulty_line naming since state line lines why e
 no_orders_by naming since state line lines (Ok step) listed rest e =
-    orders_more naming since state line lines step e ∙ rw (no_order naming since state line listed) (rest naming (since_after naming since line step.state.counter) step.state)
+    orders_more naming since state line lines step e ∙ rw (no_order naming since state line listed) (rest naming (since_after naming since (plain_line line) step.state.counter) step.state)
 
-no_orders : (lines : List (List ℕ)) → list_all (λ line. are_listed (said_by line)) lines ≡ true → WriteNone lines
+no_orders : (lines : List (List ℕ)) → list_all (λ line. is_listing_line line) lines ≡ true → WriteNone lines
 unfolding orders_from
 no_orders [] h naming since state = refl
 no_orders (line ∷ lines) h naming since state =
-    let parts = and_parts (are_listed (said_by line)) (list_all (λ other. are_listed (said_by other)) lines) h in
-    no_orders_by naming since state line lines (line_woven naming state line) parts.0 (no_orders lines parts.1) refl
+    let parts = and_parts (is_listing_line line) (list_all (λ other. is_listing_line other) lines) h in
+    no_orders_by naming since state line lines (line_woven naming state (plain_line line)) parts.0 (no_orders lines parts.1) refl
 
-listing_shown : (words : List Number) (lines : List (List ℕ)) (names : Result Naming AssemblyFault) → list_all (λ line. are_listed (said_by line)) lines ≡ true → AreShown words (orders_by names lines) (flat_map mnemonic_of lines)
+listing_shown : (words : List Number) (lines : List (List ℕ)) (names : Result Naming AssemblyFault) → list_all (λ line. is_listing_line line) lines ≡ true → AreShown words (orders_by names lines) (flat_map (λ line. mnemonic_of (plain_line line)) lines)
 listing_shown words lines (Err why) h = rw (no_mnemonics lines h) (none_shown words)
 listing_shown words lines (Ok naming) h = rw (no_orders lines h naming 0o4000 first_state, no_mnemonics lines h) (none_shown words)
 
@@ -96,7 +98,7 @@ source_shown : (form : RopeForm) (text file : List ℕ) → IsSourceWoven form t
 source_shown form text file h = text_shown form text file h.0 (is_listing text) refl h.1 h.2
 
 -- the clauses of the law
-pub none_left_out : (form : RopeForm) (text file : List ℕ) → IsSourceWoven form text file → map (λ (line : OrderLine). line.mnemonic) (orders_in text) ≡ mnemonics_in text
+pub none_left_out : (form : RopeForm) (text file : List ℕ) → IsSourceWoven form text file → map (λ (line : OrderLine). line.written) (orders_in text) ≡ mnemonics_in text
 none_left_out form text file h = (source_shown form text file h).named
 
 pub words_have : (form : RopeForm) (text file : List ℕ) → IsSourceWoven form text file → All (HasOrder (rope_words form file)) (orders_in text)

@@ -1,4 +1,5 @@
 -- A text whose second pass yields words: each line adds its own, after those of the lines before it.
+use Rattle.agc_asm.specs.Body.{plain_line}
 use Rattle.std.specs.Prelude.{◌≡◌, ℕ, ◌+◌, Bool, true, false, All, List, [], ◌∷◌, ◌++◌, Option, Some, None, Result, Ok, Err, IfSome}
 use Rattle.std.proofs.Common.{refl, sym, ◌∙◌}
 use Rattle.std.proofs.lemmas.List.Elements.{All-cons, All-head, All-nil, All-tail}
@@ -18,12 +19,12 @@ use Rattle.agc_asm.proofs.Passes.{next_woven}
 pub record Stepped (n : ℕ) (naming : Naming) (state : State) (said final : List PlacedWord) (line : List ℕ) (lines : List (List ℕ)) : Type 0 where
   pub step : Step
   pub more : List PlacedWord
-  pub woven : line_woven naming state line ≡ Ok step
+  pub woven : line_woven naming state (plain_line line) ≡ Ok step
   pub both : both_said said step.first step.second ≡ Ok more
   pub rest : words_from (n + 1) naming step.state more lines ≡ Ok final
 
 stepped_both : (n : ℕ) (naming : Naming) (state : State) (said final : List PlacedWord) (line : List ℕ) (lines : List (List ℕ)) (step : Step) (both : Result (List PlacedWord) SourceFault)
-    → line_woven naming state line ≡ Ok step → both_said said step.first step.second ≡ both → words_from n naming state said (line ∷ lines) ≡ Ok final → Stepped n naming state said final line lines
+    → line_woven naming state (plain_line line) ≡ Ok step → both_said said step.first step.second ≡ both → words_from n naming state said (line ∷ lines) ≡ Ok final → Stepped n naming state said final line lines
 stepped_both n naming state said final line lines step (Err why) e f is =
     let faulty = wrong_word n naming state said line step why e f lines in
     absurd cc
@@ -31,7 +32,7 @@ stepped_both n naming state said final line lines step (Ok more) e f is =
     record { step = step; more = more; woven = e; both = f; rest = sym (next_woven n naming state said more line lines step e f) ∙ is }
 
 stepped_by : (n : ℕ) (naming : Naming) (state : State) (said final : List PlacedWord) (line : List ℕ) (lines : List (List ℕ)) (woven : Result Step SourceFault)
-    → line_woven naming state line ≡ woven → words_from n naming state said (line ∷ lines) ≡ Ok final → Stepped n naming state said final line lines
+    → line_woven naming state (plain_line line) ≡ woven → words_from n naming state said (line ∷ lines) ≡ Ok final → Stepped n naming state said final line lines
 stepped_by n naming state said final line lines (Err why) e is =
     let faulty = faulty_line n naming state said line why e lines in
     absurd cc
@@ -40,7 +41,7 @@ stepped_by n naming state said final line lines (Ok step) e is =
 
 pub stepped : (n : ℕ) (naming : Naming) (state : State) (said final : List PlacedWord) (line : List ℕ) (lines : List (List ℕ))
     → words_from n naming state said (line ∷ lines) ≡ Ok final → Stepped n naming state said final line lines
-stepped n naming state said final line lines is = stepped_by n naming state said final line lines (line_woven naming state line) refl is
+stepped n naming state said final line lines is = stepped_by n naming state said final line lines (line_woven naming state (plain_line line)) refl is
 
 pub none_left : (n : ℕ) (naming : Naming) (state : State) (said final : List PlacedWord) → words_from n naming state said [] ≡ Ok final → said ≡ final
 unfolding words_from

@@ -14,12 +14,12 @@ use Rattle.agc_symbols.proofs.NamesRead.{names_read}
 use Rattle.agc_asm.specs.LocationCounter.{first_cursor}
 use Rattle.agc_asm.specs.NameLines.{label_named, labels_from, labels_in, name_lines_in}
 use Rattle.agc_asm.specs.LineKind.{cursor_after, shape_of}
-use Rattle.agc_asm.specs.Source.{first_names, label_place, labelled, line_labelled, listed_labelled, naming_after, shape_labelled}
+use Rattle.agc_asm.specs.Source.{first_names, label_place, labelled, line_labelled, listed_labelled, naming_after, shape_labelled, is_include}
 use Rattle.agc_asm.specs.declared.location_counter.LocationCounter.{LocationCounter}
 use Rattle.agc_asm.specs.declared.pass1.Labelled.{Labelled}
 use Rattle.agc_asm.specs.declared.line_kind.LineKind.{LineKind}
 use Rattle.agc_listing.specs.Location.{IsWithin}
-use Rattle.agc_asm.specs.Body.{body_in, spelled}
+use Rattle.agc_asm.specs.Body.{body_in, spelled, plain_line}
 use Rattle.agc_asm.specs.Name.{Naming}
 use Rattle.agc_listing.specs.Text.{are_listed, is_name, label_of, said_by}
 use Rattle.agc_asm.specs.declared.fault.SourceFault.{SourceFault}
@@ -58,18 +58,19 @@ shape_by naming counter (Some given) name (Ok s) next place e l p =
     let same : given ≡ name = cc in
     subst (λ (word : List ℕ). is_name word ≡ true) same (name_by (is_name given) naming counter s given next place e p)
 
-line_by : (listed other : Bool) (naming : Naming) (counter : LocationCounter) (said : Result (Option Word) LineFault) (label : Option (List ℕ)) (name : List ℕ) (s : Result LineKind SourceFault) (next : Labelled) (place : Location)
-    → (if listed then listed_labelled counter said else (if other then Err (fault.Listed line_fault.NotText) else shape_labelled naming counter label s)) ≡ Ok next
+line_by : (listed other include : Bool) (naming : Naming) (counter : LocationCounter) (said : Result (Option Word) LineFault) (label : Option (List ℕ)) (name : List ℕ) (s : Result LineKind SourceFault) (next : Labelled) (place : Location)
+    → (if listed then listed_labelled counter said else (if other then Err (fault.Listed line_fault.NotText) else (if include then Err fault.Include else shape_labelled naming counter label s))) ≡ Ok next
     → label ≡ Some name → next.place ≡ Some place → (other ≡ false) × (is_name name ≡ true)
-line_by true other naming counter said label name s next place e l p = absurd (no_place (listed_labelled counter said) next place (none_listed counter said) e p)
-line_by false true naming counter said label name s next place e l p = absurd (no_place (Err (fault.Listed line_fault.NotText)) next place refl e p)
-line_by false false naming counter said label name s next place e l p = (refl, shape_by naming counter label name s next place e l p)
+line_by true other include naming counter said label name s next place e l p = absurd (no_place (listed_labelled counter said) next place (none_listed counter said) e p)
+line_by false true include naming counter said label name s next place e l p = absurd (no_place (Err (fault.Listed line_fault.NotText)) next place refl e p)
+line_by false false true naming counter said label name s next place e l p = absurd (no_place (Err fault.Include) next place refl e p)
+line_by false false false naming counter said label name s next place e l p = (refl, shape_by naming counter label name s next place e l p)
 
 name_is : (naming : Naming) (counter : LocationCounter) (line name : List ℕ) (next : Labelled) (place : Location) → line_labelled naming counter line ≡ Ok next → label_of line ≡ Some name
     → next.place ≡ Some place → (list_any is_no_text line ≡ false) × (is_name name ≡ true)
 unfolding line_labelled
 name_is naming counter line name next place e l p =
-    line_by (are_listed (said_by line)) (list_any is_no_text line) naming counter (line_named line) (label_of line) name (shape_of naming (spelled (body_in line))) next place e l p
+    line_by (are_listed (said_by line)) (list_any is_no_text line) (is_include line) naming counter (line_named line) (label_of line) name (shape_of naming (spelled (body_in line))) next place e l p
 
 -- So a symbol file can hold it.
 
@@ -104,17 +105,17 @@ unfolding labels_in names_text
 first_told text naming counter told n c none = record { named = []; same = rw (n, c) refl; written = none; sayable = tt }
 
 pub next_told : (text : List ℕ) (naming : Naming) (counter : LocationCounter) (line : List ℕ) (lines : List (List ℕ)) (told more : List ℕ) (next : Labelled)
-    → IsTold text naming counter (line ∷ lines) told → line_labelled naming counter line ≡ Ok next → IfSome next.place IsWithin
-    → more ≡ told ++ names_text (label_named (label_of line) next.place)
-    → IsTold text (naming_after naming (label_of line) next.place) next.counter lines more
+    → IsTold text naming counter (line ∷ lines) told → line_labelled naming counter (plain_line line) ≡ Ok next → IfSome next.place IsWithin
+    → more ≡ told ++ names_text (label_named (label_of (plain_line line)) next.place)
+    → IsTold text (naming_after naming (label_of (plain_line line)) next.place) next.counter lines more
 unfolding labels_from
 next_told text naming counter line lines told more next h e within is =
-    let here = label_named (label_of line) next.place in
+    let here = label_named (label_of (plain_line line)) next.place in
     record {
       named = h.named ++ here;
       same = rw (e, labels_from) at h.same;
       written = is ∙ ap (λ (t : List ℕ). t ++ names_text here) h.written ∙ sym (both_told h.named here);
-      sayable = both_sayable h.named here h.sayable (sayable_by naming counter line next (label_of line) next.place e within refl refl);
+      sayable = both_sayable h.named here h.sayable (sayable_by naming counter (plain_line line) next (label_of (plain_line line)) next.place e within refl refl);
     }
 
 -- what is written at the end, and what is read from it
@@ -131,6 +132,6 @@ unfolding labels_from
 all_told text naming counter told h = whole text told h.named h.same h.written h.sayable
 
 pub faulty_told : (text : List ℕ) (naming : Naming) (counter : LocationCounter) (line : List ℕ) (lines : List (List ℕ)) (told : List ℕ) (why : SourceFault) → IsTold text naming counter (line ∷ lines) told
-    → line_labelled naming counter line ≡ Err why → IsWhole text told
+    → line_labelled naming counter (plain_line line) ≡ Err why → IsWhole text told
 unfolding labels_from
 faulty_told text naming counter line lines told why h e = whole text told h.named (rw (e, labels_from) at h.same) h.written h.sayable

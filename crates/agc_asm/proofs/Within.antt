@@ -1,8 +1,8 @@
 -- A name on a line for which there is room has a location in memory.
-use Rattle.std.specs.Prelude.{◌≡◌, ℕ, ◌+◌, ◌*◌, ◌<◌, ◌≤◌, nat_le, Bool, true, false, Ok, Err, IsOk, if◌then◌else◌}
+use Rattle.std.specs.Prelude.{◌≡◌, ℕ, ◌+◌, ◌*◌, ◌<◌, ◌≤◌, nat_le, Bool, true, false, Ok, Err, IsOk, if◌then◌else◌, ◌&&◌}
 use Rattle.std.proofs.Common.{refl, arith}
 use Rattle.std.proofs.lemmas.Bool.Decides.{nat_tests}
-use Rattle.agc_asm.specs.LocationCounter.{IsAt, after_cells, left_in, location_at, room_at}
+use Rattle.agc_asm.specs.LocationCounter.{IsAt, after_cells, left_in, location_at, room_at, stretch_end}
 use Rattle.agc_asm.specs.LineKind.{after_room}
 use Rattle.agc_asm.specs.declared.location_counter.At.{At}
 use Rattle.agc_asm.specs.declared.location_counter.At.TheVariants as at
@@ -21,13 +21,13 @@ room_within counter (at.Bank bank) count h some ok =
     in_bank (nat_le (left_in counter bank + count) 0o2000) counter bank (left_in counter bank) count refl h some ok
 room_within counter (at.Cell cell) count h some ok = absurd cc
 
-in_erasable : (room : Bool) (counter next : LocationCounter) (cell count : ℕ) → nat_le (cell + count) 0o4000 ≡ room → 0 < count
-    → IsOk (if room then Ok next else Err fault.Full) → cell < 0o4000
-in_erasable true counter next cell count e some ok = let room : cell + count ≤ 0o4000 = grind (arith, nat_tests) in omega arith
-in_erasable false counter next cell count e some ok = absurd cc
+in_erasable : (room same : Bool) (counter next : LocationCounter) (cell count : ℕ) → nat_le (cell + count) 0o4000 ≡ room → 0 < count
+    → IsOk (if room && same then Ok next else Err fault.Full) → cell < 0o4000
+in_erasable true same counter next cell count e some ok = let room : cell + count ≤ 0o4000 = grind (arith, nat_tests) in omega arith
+in_erasable false same counter next cell count e some ok = absurd cc
 
 -- when cells have room
 pub cells_within : (counter : LocationCounter) (here : At) (count : ℕ) → 0 < count → IsOk (after_cells counter here count) → IsWithin (location_at counter here)
 cells_within counter (at.Cell cell) count some ok =
-    in_erasable (nat_le (cell + count) 0o4000) counter (record counter { at = at.Cell (cell + count) }) cell count refl some ok
+    in_erasable (nat_le (cell + count) 0o4000) (nat_le (cell + count) (stretch_end cell)) counter (record counter { at = at.Cell (cell + count) }) cell count refl some ok
 cells_within counter (at.Bank bank) count some ok = absurd cc

@@ -1,11 +1,16 @@
 -- What a line of a source does: its operation and operands, without its name and its comment.
-use Rattle.std.specs.Prelude.{◌≡◌, ℕ, ◌==◌, Bool, true, false, List, [], ◌∷◌, take, drop, position, find, codes}
+use Rattle.std.specs.Prelude.{◌≡◌, ℕ, ◌==◌, Bool, true, false, not, ◌&&◌, List, [], ◌∷◌, take, drop, position, find, codes}
 use Rattle.std.specs.Prelude.{Option, Some, None, is_some, if◌then◌else◌}
+use Rattle.std.specs.List.{list_any}
 use Rattle.std.specs.Str.{bytes_eq}
+use Rattle.agc_listing.specs.Line.{is_no_text}
 use Rattle.agc_listing.specs.Number.{begins_with_minus, offset_said}
 use Rattle.agc_listing.specs.Text.{body_of, label_of, said_by}
+use Rattle.agc_asm.specs.Mnemonic.{directive_named}
 use Rattle.agc_asm.specs.declared.alias.Alias.{Alias}
 use Rattle.agc_asm.specs.declared.alias.Alias.TheVariants as alias
+use Rattle.agc_asm.specs.declared.mnemonic.Directive.{Directive}
+use Rattle.agc_asm.specs.declared.mnemonic.Directive.TheVariants as directive
 
 -- a comment begins at `#`, also within a word
 abbrev pub is_hash_byte : ℕ → Bool
@@ -22,6 +27,20 @@ uncommented (word ∷ words) = comment_cut (position is_hash_byte word) word (un
 -- the words of a text before its comment
 unfoldable pub tokens : List ℕ → List (List ℕ)
 tokens text = uncommented (said_by text)
+
+-- Comments may have any bytes. A line whose comment has a byte that is not text is read without its comment.
+abbrev pub cut_at : Option ℕ → List ℕ → List ℕ
+cut_at (Some at) line = take at line
+cut_at None line = line
+
+unfoldable pub code_of : List ℕ → List ℕ
+code_of line = cut_at (position is_hash_byte line) line
+
+unfoldable pub has_odd_comment : List ℕ → Bool
+has_odd_comment line = list_any is_no_text line && not (list_any is_no_text (code_of line))
+
+unfoldable pub plain_line : List ℕ → List ℕ
+plain_line line = if has_odd_comment line then code_of line else line
 
 -- In a line without a name, a sign and digits before the operation mean nothing: they say how far the line is from a
 -- name.
@@ -115,10 +134,26 @@ alias_operand alias.Double = Some (codes "0")
 alias_operand alias.Ddoubl = Some (codes "0")
 alias_operand alias.Square = Some (codes "0")
 
--- a minus before an operation is no part of its name
+-- directives that write no word, so that there is nothing to complement
+abbrev pub writes_nothing : Option Directive → Bool
+writes_nothing (Some directive.SetLoc) = true
+writes_nothing (Some directive.Bank) = true
+writes_nothing (Some directive.Block) = true
+writes_nothing (Some directive.Is) = true
+writes_nothing (Some directive.Equals) = true
+writes_nothing (Some directive.Erase) = true
+writes_nothing (Some directive.Ebank) = true
+writes_nothing (Some directive.Sbank) = true
+writes_nothing (Some directive.Count) = true
+writes_nothing (Some directive.CountStarred) = true
+writes_nothing (Some directive.Memory) = true
+writes_nothing (Some directive.BankSum) = true
+writes_nothing d = false
+
+-- a minus before an operation that writes words is no part of its name
 abbrev pub without_minus : List ℕ → List ℕ
 without_minus [] = []
-without_minus (b ∷ bs) = if b == 0x2D then bs else b ∷ bs
+without_minus (b ∷ bs) = if b == 0x2D && not (writes_nothing (directive_named bs)) then bs else b ∷ bs
 
 abbrev pub has_minus : List (List ℕ) → Bool
 has_minus [] = false

@@ -17,8 +17,8 @@ use Rattle.agc_asm.specs.Mnemonic.{basic_named, directive_named, extracode_named
 use Rattle.agc_asm.specs.Name.{Naming}
 use Rattle.agc_listing.specs.Number.{begins_with_minus, octal_word, offset_said, without_sign}
 use Rattle.agc_asm.specs.Numeral.{number_in}
-use Rattle.agc_asm.specs.Operand.{location_in, operand_for, value_of}
-use Rattle.agc_asm.specs.Row.{as_word, basic_word, extracode_word}
+use Rattle.agc_asm.specs.Operand.{location_for, operand_for, value_of}
+use Rattle.agc_asm.specs.Row.{as_word, basic_word, extracode_word, meant, meant_operand}
 use Rattle.agc_listing.specs.Text.{only_of}
 use Rattle.agc_asm.specs.declared.alias.Alias.{Alias}
 use Rattle.agc_asm.specs.declared.alias.Alias.TheVariants as alias
@@ -34,7 +34,7 @@ use Rattle.agc_asm.specs.declared.operand.Value.TheVariants as value
 
 -- the word of an order with its operand, or the reason that there is none
 abbrev pub basic_with : Basic → Result Operand SourceFault → Result Number SourceFault
-basic_with order (Ok given) = as_word (basic_word order given)
+basic_with order (Ok given) = as_word (basic_word (meant order given) (meant_operand order given))
 basic_with order (Err why) = Err why
 
 abbrev pub extracode_with : Extracode → Result Operand SourceFault → Result Number SourceFault
@@ -154,22 +154,22 @@ major_mode_in (Some word) = major_mode (decimal_number 2 word)
 major_mode_in None = Err fault.BadNumber
 
 -- the word of a directive, with the words after it
-abbrev pub directive_meaning : Naming → Banks → Directive → List (List ℕ) → Result Number SourceFault
-directive_meaning naming banks directive.Oct words = or_bad_number (octal_in (only_of words))
-directive_meaning naming banks directive.Octal words = or_bad_number (octal_in (only_of words))
-directive_meaning naming banks directive.Dec words = number_word (number_in 14 false words)
-directive_meaning naming banks directive.DecStarred words = number_word (number_in 14 true words)
-directive_meaning naming banks directive.Adres words = adres_word (location_in naming words)
-directive_meaning naming banks directive.Remadr words = adres_word (location_in naming words)
-directive_meaning naming banks directive.Genadr words = adres_word (location_in naming words)
-directive_meaning naming banks directive.Cadr words = cadr_word (place_in (location_in naming words))
-directive_meaning naming banks directive.Fcadr words = cadr_word (place_in (location_in naming words))
-directive_meaning naming banks directive.Ecadr words = ecadr_word (cell_in (location_in naming words))
-directive_meaning naming banks directive.Bbcon words =
-    bbcon_word banks (place_in (location_in naming words))
-directive_meaning naming banks directive.VerbNoun words = verb_noun_in (only_of words)
-directive_meaning naming banks directive.MajorMode words = major_mode_in (only_of words)
-directive_meaning naming banks d words = Err fault.UnknownOrder
+abbrev pub directive_meaning : Naming → ℕ → Banks → Directive → List (List ℕ) → Result Number SourceFault
+directive_meaning naming here banks directive.Oct words = or_bad_number (octal_in (only_of words))
+directive_meaning naming here banks directive.Octal words = or_bad_number (octal_in (only_of words))
+directive_meaning naming here banks directive.Dec words = number_word (number_in 14 false words)
+directive_meaning naming here banks directive.DecStarred words = number_word (number_in 14 true words)
+directive_meaning naming here banks directive.Adres words = adres_word (location_for naming here words)
+directive_meaning naming here banks directive.Remadr words = adres_word (location_for naming here words)
+directive_meaning naming here banks directive.Genadr words = adres_word (location_for naming here words)
+directive_meaning naming here banks directive.Cadr words = cadr_word (place_in (location_for naming here words))
+directive_meaning naming here banks directive.Fcadr words = cadr_word (place_in (location_for naming here words))
+directive_meaning naming here banks directive.Ecadr words = ecadr_word (cell_in (location_for naming here words))
+directive_meaning naming here banks directive.Bbcon words =
+    bbcon_word banks (place_in (location_for naming here words))
+directive_meaning naming here banks directive.VerbNoun words = verb_noun_in (only_of words)
+directive_meaning naming here banks directive.MajorMode words = major_mode_in (only_of words)
+directive_meaning naming here banks d words = Err fault.UnknownOrder
 
 -- An offset that takes a number below zero is added to the order's word: `LXCH 0 -1` is one less than LXCH 0.
 abbrev pub less_by : Option ℕ → Option Signed → Option ℕ
@@ -192,7 +192,7 @@ order_by_offset naming here leads (Some less) word words =
     lowered less (order_meaning naming here leads word (codes "0" ∷ []))
 
 abbrev pub word_by : Naming → ℕ → Bool → Banks → Option Directive → List ℕ → List (List ℕ) → Result Number SourceFault
-word_by naming here leads banks (Some d) word words = directive_meaning naming banks d words
+word_by naming here leads banks (Some d) word words = directive_meaning naming here banks d words
 word_by naming here leads banks None word words =
     order_by_offset naming here leads (less_than_zero words) word words
 
@@ -292,21 +292,21 @@ pair_of_place banks (Ok place) =
     })
 pair_of_place banks (Err why) = Err why
 
-abbrev pub pair_by_word : Naming → Banks → Directive → List (List ℕ) → Result Pair SourceFault
-pair_by_word naming banks directive.PairDec words = pair_of_number (number_in 28 false words)
-pair_by_word naming banks directive.PairDecStarred words = pair_of_number (number_in 28 true words)
-pair_by_word naming banks directive.PairOct words = octal_pair_in (only_of words)
-pair_by_word naming banks directive.PairCadr words =
-    pair_of_place banks (place_in (location_in naming words))
-pair_by_word naming banks d words = Err fault.BadNumber
+abbrev pub pair_by_word : Naming → ℕ → Banks → Directive → List (List ℕ) → Result Pair SourceFault
+pair_by_word naming here banks directive.PairDec words = pair_of_number (number_in 28 false words)
+pair_by_word naming here banks directive.PairDecStarred words = pair_of_number (number_in 28 true words)
+pair_by_word naming here banks directive.PairOct words = octal_pair_in (only_of words)
+pair_by_word naming here banks directive.PairCadr words =
+    pair_of_place banks (place_in (location_for naming here words))
+pair_by_word naming here banks d words = Err fault.BadNumber
 
-abbrev pub pair_by : Naming → Banks → Option Directive → List (List ℕ) → Result Pair SourceFault
-pair_by naming banks (Some d) words = pair_by_word naming banks d words
-pair_by naming banks None words = Err fault.BadNumber
+abbrev pub pair_by : Naming → ℕ → Banks → Option Directive → List (List ℕ) → Result Pair SourceFault
+pair_by naming here banks (Some d) words = pair_by_word naming here banks d words
+pair_by naming here banks None words = Err fault.BadNumber
 
-abbrev pub pair_spelled : Naming → Banks → List (List ℕ) → Result Pair SourceFault
-pair_spelled naming banks [] = Err fault.BadNumber
-pair_spelled naming banks (word ∷ words) = pair_by naming banks (directive_named word) words
+abbrev pub pair_spelled : Naming → ℕ → Banks → List (List ℕ) → Result Pair SourceFault
+pair_spelled naming here banks [] = Err fault.BadNumber
+pair_spelled naming here banks (word ∷ words) = pair_by naming here banks (directive_named word) words
 
 abbrev pub complemented_pair : Bool → Result Pair SourceFault → Result Pair SourceFault
 complemented_pair minus (Ok pair) =
@@ -314,6 +314,6 @@ complemented_pair minus (Ok pair) =
 complemented_pair minus (Err why) = Err why
 
 -- the two words of a two-word line
-unfoldable pub pair_meaning : Naming → Banks → List (List ℕ) → Result Pair SourceFault
-pair_meaning naming banks words =
-    complemented_pair (has_minus words) (pair_spelled naming banks (spelled words))
+unfoldable pub pair_meaning : Naming → ℕ → Banks → List (List ℕ) → Result Pair SourceFault
+pair_meaning naming here banks words =
+    complemented_pair (has_minus words) (pair_spelled naming here banks (spelled words))

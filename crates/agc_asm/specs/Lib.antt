@@ -16,3 +16,5 @@ pub mod Disassemble
 pub mod Laws
 pub mod OrderLines
 pub mod FirstFault
+pub mod UnknownOperation
+pub mod FaultPlace

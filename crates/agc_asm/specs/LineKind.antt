@@ -9,6 +9,7 @@ use Rattle.agc_asm.specs.Name.{Naming}
 use Rattle.agc_asm.specs.Operand.{location_in}
 use Rattle.agc_listing.specs.Location.{IsWithin}
 use Rattle.agc_asm.specs.Mnemonic.{directive_named, is_order}
+use Rattle.agc_asm.specs.UnknownOperation.{unknown_operation}
 use Rattle.agc_listing.specs.Number.{offset_said}
 use Rattle.agc_listing.specs.Text.{only_of}
 use Rattle.agc_asm.specs.declared.location_counter.LocationCounter.{LocationCounter}
@@ -122,7 +123,7 @@ directive_shape naming d words = Ok kind.Word
 
 abbrev pub shape_by : Naming → Option Directive → List ℕ → List (List ℕ) → Result LineKind SourceFault
 shape_by naming (Some d) word words = directive_shape naming d words
-shape_by naming None word words = if is_order word then Ok kind.Word else Err fault.UnknownOrder
+shape_by naming None word words = if is_order word then Ok kind.Word else Err (unknown_operation word)
 
 -- the kind of a line, by its operation and operand
 abbrev pub shape_of : Naming → List (List ℕ) → Result LineKind SourceFault

@@ -1,5 +1,5 @@
 -- The location counter: where the next line of a source goes.
-use Rattle.std.specs.Prelude.{ℕ, ◌+◌, ◌*◌, ◌/◌, ◌%◌, ◌<◌, ◌≤◌, nat_le, get_or, set, replicate}
+use Rattle.std.specs.Prelude.{ℕ, ◌+◌, ◌*◌, ◌/◌, ◌%◌, ◌<◌, ◌≤◌, nat_le, get_or, set, replicate, nat_lt, ◌&&◌}
 use Rattle.std.specs.Prelude.{Result, Ok, Err, if◌then◌else◌}
 use Rattle.agc_store.specs.Places.{erasable_cells, fixed_bank_size, fixed_banks}
 use Rattle.agc_asm.specs.declared.location_counter.At.{At}
@@ -59,10 +59,14 @@ moved_to counter (location.Fixed place) =
     record counter { left = set counter.left bank (place % fixed_bank_size); at = at.Bank bank }
 moved_to counter (location.Erasable cell) = record counter { at = at.Cell cell }
 
--- after `count` cells
+-- The stretch of cells that a cell is in ends here: banks 0, 1 and 2 are one stretch, and each other bank is one.
+abbrev pub stretch_end : ℕ → ℕ
+stretch_end cell = if nat_lt cell 0o1400 then 0o1400 else (cell / 0o400 + 1) * 0o400
+
+-- after `count` cells of one stretch
 abbrev pub after_cells : LocationCounter → At → ℕ → Result LocationCounter SourceFault
 after_cells counter (at.Cell cell) count =
-    if nat_le (cell + count) erasable_cells
+    if nat_le (cell + count) erasable_cells && nat_le (cell + count) (stretch_end cell)
     then Ok (record counter { at = at.Cell (cell + count) })
     else Err fault.Full
 after_cells counter (at.Bank bank) count = Err fault.WrongMemory

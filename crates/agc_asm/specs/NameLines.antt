@@ -3,6 +3,7 @@ use Rattle.std.specs.Prelude.{ℕ, ◌++◌, List, [], ◌∷◌, Option, Some, 
 use Rattle.agc_word.specs.Text.{lines_of}
 use Rattle.agc_symbols.specs.Symbols.{Symbol}
 use Rattle.agc_symbols.specs.Writing.{names_text}
+use Rattle.agc_asm.specs.Body.{plain_line}
 use Rattle.agc_asm.specs.LocationCounter.{first_cursor}
 use Rattle.agc_asm.specs.Source.{first_names, line_labelled, naming_after}
 use Rattle.agc_asm.specs.Name.{Naming}
@@ -19,9 +20,9 @@ label_named label place = []
 unfoldable pub labels_from : Naming → LocationCounter → List Symbol → List (List ℕ) → List Symbol
 labels_from naming counter named [] = named
 labels_from naming counter named (line ∷ lines) =
-    elim (line_labelled naming counter line) [
-      | Ok next ↦ labels_from (naming_after naming (label_of line) next.place) next.counter
-          (named ++ label_named (label_of line) next.place) lines
+    elim (line_labelled naming counter (plain_line line)) [
+      | Ok next ↦ labels_from (naming_after naming (label_of (plain_line line)) next.place) next.counter
+          (named ++ label_named (label_of (plain_line line)) next.place) lines
       | Err why ↦ named
     ]
 

@@ -34,6 +34,10 @@ abbrev pub raised_more : Option ℕ → ℕ → ℕ → Option ℕ
 raised_more (Some n) base times = raised n base times
 raised_more None base times = None
 
+-- the power zero
+abbrev pub no_power : Signed
+no_power = record { minus = false; magnitude = 0 }
+
 -- The numeral: a sign, digits, and perhaps a point with digits before it, after it or both.
 
 abbrev pub is_point : ℕ → Bool
@@ -46,26 +50,53 @@ part_named most text = if length text == 0 then Some 0 else decimal_number most 
 abbrev pub fraction_of : Bool → ℕ → Option ℕ → Option ℕ → Option Numeral
 fraction_of minus places (Some whole) (Some part) =
     if nat_lt (whole + part) bound
-    then Some (record { minus = minus; digits = whole + part; places = places; whole = false })
+    then Some (record { minus = minus; digits = whole + part; places = places; whole = false; exponent = no_power })
     else None
 fraction_of minus places whole part = None
 
 abbrev pub integer_of : Bool → Option ℕ → Option Numeral
-integer_of minus (Some n) = Some (record { minus = minus; digits = n; places = 0; whole = true })
+integer_of minus (Some n) = Some (record { minus = minus; digits = n; places = 0; whole = true; exponent = no_power })
 integer_of minus None = None
 
 abbrev pub numeral_cut : Bool → Option ℕ → List ℕ → Option Numeral
-numeral_cut minus None text = integer_of minus (decimal_number 9 text)
+numeral_cut minus None text = integer_of minus (decimal_number 18 text)
 numeral_cut minus (Some at) text =
     if nat_le 2 (length text) && nat_le (length text - (at + 1)) 18
     then fraction_of minus (length text - (at + 1))
-    (raised_more (part_named 9 (take at text)) 10 (length text - (at + 1)))
+    (raised_more (part_named 18 (take at text)) 10 (length text - (at + 1)))
     (part_named 18 (drop (at + 1) text))
     else None
 
+-- the power of ten may stand right behind the digits: `1.5E-3`
+abbrev pub power_signed : Bool → Option ℕ → Option Signed
+power_signed minus (Some n) = Some (record { minus = minus; magnitude = n })
+power_signed minus None = None
+
+abbrev pub power_named : List ℕ → Option Signed
+power_named text = power_signed (begins_with_minus text) (decimal_number 2 (without_sign text))
+
+abbrev pub is_exponent : ℕ → Bool
+is_exponent b = b == 0x45
+
+abbrev pub with_exponent : Option Numeral → Option Signed → Option Numeral
+with_exponent (Some n) (Some power) = Some (record {
+  minus = n.minus;
+  digits = n.digits;
+  places = n.places;
+  whole = false;
+  exponent = power;
+})
+with_exponent n power = None
+
+abbrev pub numeral_split : Bool → Option ℕ → List ℕ → Option Numeral
+numeral_split minus None text = numeral_cut minus (position is_point text) text
+numeral_split minus (Some at) text =
+    with_exponent (numeral_cut minus (position is_point (take at text)) (take at text))
+    (power_named (drop (at + 1) text))
+
 unfoldable pub numeral_named : List ℕ → Option Numeral
 numeral_named text =
-    numeral_cut (begins_with_minus text) (position is_point (without_sign text)) (without_sign text)
+    numeral_split (begins_with_minus text) (position is_exponent (without_sign text)) (without_sign text)
 
 -- The scales after it: `E` with a power of ten, and `B` with a power of two; in DEC* and 2DEC* they may end in `*`.
 
@@ -76,13 +107,6 @@ tens None = None
 abbrev pub twos : Option Signed → Option Scale
 twos (Some n) = Some (scale.Two n)
 twos None = None
-
-abbrev pub power_signed : Bool → Option ℕ → Option Signed
-power_signed minus (Some n) = Some (record { minus = minus; magnitude = n })
-power_signed minus None = None
-
-abbrev pub power_named : List ℕ → Option Signed
-power_named text = power_signed (begins_with_minus text) (decimal_number 2 (without_sign text))
 
 abbrev pub scale_by : List ℕ → Option Scale
 scale_by [] = None
@@ -102,9 +126,6 @@ IsSmall (scale.Two n) = n.magnitude < 100
 
 abbrev pub AreSmall : Scales → Type 0
 AreSmall scales = (scales.ten.magnitude < 100) × (scales.two.magnitude < 100)
-
-abbrev pub no_power : Signed
-no_power = record { minus = false; magnitude = 0 }
 
 abbrev pub one_scale : Option Scale → Option Scales
 one_scale (Some (scale.Ten n)) = Some (record { ten = n; two = no_power })
@@ -128,10 +149,27 @@ abbrev pub ratio_of : Option ℕ → Option ℕ → Option Quotient
 ratio_of (Some over) (Some under) = Some (record { over = over; under = under })
 ratio_of over under = None
 
+-- Powers over and under the line are set off against each other.
+abbrev pub tens_over : Numeral → Scales → ℕ
+tens_over n scales = up n.exponent + up scales.ten
+
+abbrev pub tens_under : Numeral → Scales → ℕ
+tens_under n scales = n.places + down n.exponent + down scales.ten
+
+abbrev pub twos_over : ℕ → Scales → ℕ
+twos_over bits scales = bits + up scales.two
+
+abbrev pub twos_under : Scales → ℕ
+twos_under scales = down scales.two
+
 unfoldable pub ratio : ℕ → Numeral → Scales → Option Quotient
 ratio bits n scales =
-    ratio_of (raised_more (raised n.digits 10 (up scales.ten)) 2 (bits + up scales.two))
-    (raised_more (raised 1 10 (n.places + down scales.ten)) 2 (down scales.two))
+    let ten_up = tens_over n scales in
+    let ten_down = tens_under n scales in
+    let two_up = twos_over bits scales in
+    let two_down = twos_under scales in
+    ratio_of (raised_more (raised n.digits 10 (ten_up - ten_down)) 2 (two_up - two_down))
+    (raised_more (raised 1 10 (ten_down - ten_up)) 2 (two_down - two_up))
 
 -- The integer nearest to a ratio below `limit`; the largest one below the limit if the nearest is the limit itself.
 

@@ -134,6 +134,10 @@ value_apart naming words = Err fault.BadPlace
 abbrev pub location_in : Naming → List (List ℕ) → Result Location SourceFault
 location_in naming words = location_by (value_apart naming words)
 
+-- the same for an address that a line at a place writes: an offset alone is relative to the line itself
+abbrev pub location_for : Naming → ℕ → List (List ℕ) → Result Location SourceFault
+location_for naming here words = location_by (value_of naming here words)
+
 -- the address by which an order at a place names a value; a number below 10000 is an address
 abbrev pub address_of : ℕ → Location → Result ℕ SourceFault
 address_of here (location.Erasable cell) = Ok (cell_address cell)

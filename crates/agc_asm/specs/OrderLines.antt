@@ -1,4 +1,6 @@
 -- The orders that the lines of a source write, and how the assembled rope and its listing show them.
+use Rattle.agc_order.specs.declared.order.Basic.{Basic}
+use Rattle.agc_asm.specs.Row.{meant, meant_operand}
 use Rattle.std.specs.Prelude.{◌≡◌, ℕ, ◌^◌, ◌<◌, Bool, true, false, ◌||◌, List, [], ◌∷◌, ◌++◌, codes}
 use Rattle.std.specs.Prelude.{Option, Some, None, option_map, Result, Ok, Err, if◌then◌else◌}
 use Rattle.std.specs.List.{flat_map}
@@ -17,7 +19,7 @@ use Rattle.agc_listing.specs.declared.order.Operand.{Operand}
 use Rattle.agc_asm.specs.Mnemonic.{basic_named, extracode_named}
 use Rattle.agc_asm.specs.Name.{Naming}
 use Rattle.agc_listing.specs.Text.{are_listed, said_by}
-use Rattle.agc_asm.specs.Body.{body_in, spelled}
+use Rattle.agc_asm.specs.Body.{body_in, plain_line, spelled}
 use Rattle.agc_asm.specs.Encode.{writes_order}
 use Rattle.agc_asm.specs.declared.fault.SourceFault.{SourceFault}
 use Rattle.agc_asm.specs.declared.fault.SourceFault.TheVariants as fault
@@ -33,13 +35,15 @@ use Rattle.agc_asm.specs.declared.line_kind.LineKind.{LineKind}
 use Rattle.agc_asm.specs.declared.line_kind.LineKind.TheVariants as kind
 use Rattle.agc_asm.specs.declared.pass2.State.{State}
 
--- An order that a line writes: its place, its own mnemonic, also if the line has another name of it, the value of its
--- operand, and whether an extracode is expected there. From `since` on, the lines before it are consecutive orders: that
+-- An order that a line writes: its place, the mnemonic as the line has it, but the order's own one if the line has
+-- another name of it, and the order that this is with this operand, which for `TC 3` is RELINT: its mnemonic and its
+-- operand's value; and whether an extracode is expected there. From `since` on, the lines before it are consecutive orders: that
 -- is where the last line that moved to another place went, or the place behind the last data, or where the text began.
 pub record OrderLine : Type 0 where
   pub place : ℕ
   pub since : ℕ
   pub extracode : Bool
+  pub written : List ℕ
   pub mnemonic : List ℕ
   pub operand : Operand
 
@@ -52,10 +56,30 @@ abbrev pub operand_read : Option Row → Naming → ℕ → List (List ℕ) → 
 operand_read (Some row) naming place words = operand_for row.takes naming place words
 operand_read None naming place words = Err fault.UnknownOrder
 
+-- the mnemonic of the order that one with an operand is
+abbrev pub mnemonic_meant : Option Basic → List ℕ → Operand → List ℕ
+mnemonic_meant (Some order) name given = (basic_row (meant order given)).mnemonic
+mnemonic_meant None name given = name
+
+abbrev pub operand_meant : Option Basic → Operand → Operand
+operand_meant (Some order) given = meant_operand order given
+operand_meant None given = given
+
+-- only a basic order can be another one
+abbrev pub basic_read : Bool → List ℕ → Option Basic
+basic_read true name = None
+basic_read false name = basic_named name
+
 abbrev pub order_with : ℕ → ℕ → Bool → List ℕ → Result Operand SourceFault → List OrderLine
 order_with since place extracode name (Err why) = []
-order_with since place extracode name (Ok given) =
-    record { place = place; since = since; extracode = extracode; mnemonic = name; operand = given } ∷ []
+order_with since place extracode name (Ok given) = record {
+  place = place;
+  since = since;
+  extracode = extracode;
+  written = name;
+  mnemonic = mnemonic_meant (basic_read extracode name) name given;
+  operand = operand_meant (basic_read extracode name) given;
+} ∷ []
 
 -- the order that words write at a place
 abbrev pub order_at : Naming → ℕ → Bool → ℕ → List (List ℕ) → List OrderLine
@@ -106,9 +130,9 @@ since_after naming since line counter =
 unfoldable pub orders_from : Naming → ℕ → State → List (List ℕ) → List OrderLine
 orders_from naming since state [] = []
 orders_from naming since state (line ∷ lines) =
-    elim (line_woven naming state line) [
-      | Ok step ↦ order_of naming since state line
-          ++ orders_from naming (since_after naming since line step.state.counter) step.state lines
+    elim (line_woven naming state (plain_line line)) [
+      | Ok step ↦ order_of naming since state (plain_line line)
+          ++ orders_from naming (since_after naming since (plain_line line) step.state.counter) step.state lines
       | Err why ↦ []
     ]
 
@@ -130,7 +154,7 @@ mnemonic_of line = if are_listed (said_by line) then [] else mnemonic_in (order_
 
 -- the mnemonics of a source, in the order of its lines
 unfoldable pub mnemonics_in : List ℕ → List (List ℕ)
-mnemonics_in text = flat_map mnemonic_of (lines_of text)
+mnemonics_in text = flat_map (λ line. mnemonic_of (plain_line line)) (lines_of text)
 
 -- the row of the order that a word names
 abbrev pub row_of : Bool → ℕ → Row

@@ -52,6 +52,18 @@ is_of_another basic.Tc (operand.Address k) = (k == 3) || (k == 4) || (k == 6)
 is_of_another basic.Index (operand.Address k) = k == 0o17
 is_of_another order given = false
 
+-- With these addresses a line writes that other order: `TC 3` is RELINT, and `INDEX 17` is RESUME.
+abbrev pub other_order : Operand → Basic
+other_order (operand.Address k) =
+    if k == 3 then basic.Relint else if k == 4 then basic.Inhint else if k == 6 then basic.Extend else basic.Resume
+other_order given = basic.Resume
+
+abbrev pub meant : Basic → Operand → Basic
+meant order given = if is_of_another order given then other_order given else order
+
+abbrev pub meant_operand : Basic → Operand → Operand
+meant_operand order given = if is_of_another order given then operand.Nothing else given
+
 -- the word of a basic order with an operand
 unfoldable pub basic_word : Basic → Operand → Result ℕ SourceFault
 basic_word order given =

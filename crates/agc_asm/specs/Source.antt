@@ -1,5 +1,5 @@
 -- How a source is assembled: first its names, then its words.
-use Rattle.std.specs.Prelude.{◌≡◌, ◌<◌, ℕ, zero, suc, ◌+◌, ◌/◌, nat_lt, Bool, true, false, not, ◌&&◌, ◌∷◌, List, []}
+use Rattle.std.specs.Prelude.{◌≡◌, ◌<◌, ◌==◌, ℕ, zero, suc, ◌+◌, ◌/◌, nat_lt, Bool, true, false, not, ◌&&◌, ◌∷◌, List, []}
 use Rattle.std.specs.Prelude.{Option, Some, None, Result, Ok, Err, is_some, if◌then◌else◌, IfSome}
 use Rattle.std.specs.List.{list_all, list_any}
 use Rattle.agc_word.specs.Number.{Number}
@@ -15,7 +15,7 @@ use Rattle.agc_listing.specs.declared.fault.WeaveFault.{WeaveFault}
 use Rattle.agc_listing.specs.declared.fault.WeaveFault.TheVariants as weave
 use Rattle.agc_listing.specs.declared.line.PlacedWord.{PlacedWord}
 use Rattle.agc_store.specs.Places.{erasable_bank_size, erasable_cells, fixed_bank_size}
-use Rattle.agc_asm.specs.Body.{body_in, spelled}
+use Rattle.agc_asm.specs.Body.{body_in, has_odd_comment, plain_line, spelled}
 use Rattle.agc_asm.specs.LocationCounter.{IsAt, after_words, first_cursor, location_at, room_at}
 use Rattle.agc_asm.specs.Encode.{banks_after, cell_in, is_banked, pair_meaning, place_in, superbank, word_meaning, writes_order}
 use Rattle.agc_asm.specs.Name.{Naming, guessing, no_name, own_names, with_name}
@@ -90,6 +90,11 @@ abbrev pub listed_labelled : LocationCounter → Result (Option PlacedWord) Line
 listed_labelled counter (Ok said) = Ok (record { counter = counter; place = None })
 listed_labelled counter (Err why) = Err (fault.Listed why)
 
+-- `$FILE` in the first column reads another file
+abbrev pub is_include : List ℕ → Bool
+is_include [] = false
+is_include (b ∷ bs) = b == 0x24
+
 -- the location of a line's name, if it has one, and where the next line goes
 unfoldable pub line_labelled : Naming → LocationCounter → List ℕ → Result Labelled SourceFault
 line_labelled naming counter line =
@@ -97,7 +102,9 @@ line_labelled naming counter line =
     then listed_labelled counter (line_named line)
     else (if list_any is_no_text line
     then Err (fault.Listed line_fault.NotText)
-    else shape_labelled naming counter (label_of line) (shape_of naming (spelled (body_in line))))
+    else (if is_include line
+    then Err fault.Include
+    else shape_labelled naming counter (label_of line) (shape_of naming (spelled (body_in line)))))
 
 abbrev pub naming_after : Naming → Option (List ℕ) → Option Location → Naming
 naming_after naming (Some label) (Some place) = with_name naming label place
@@ -107,8 +114,8 @@ naming_after naming _ _ = naming
 unfoldable pub names_from : ℕ → Naming → LocationCounter → List (List ℕ) → Result Naming AssemblyFault
 names_from n naming counter [] = Ok naming
 names_from n naming counter (line ∷ lines) =
-    elim (line_labelled naming counter line) [
-      | Ok next ↦ names_from (n + 1) (naming_after naming (label_of line) next.place) next.counter lines
+    elim (line_labelled naming counter (plain_line line)) [
+      | Ok next ↦ names_from (n + 1) (naming_after naming (label_of (plain_line line)) next.place) next.counter lines
       | Err why ↦ Err (trouble.Line n why)
     ]
 
@@ -117,8 +124,8 @@ names_from n naming counter (line ∷ lines) =
 unfoldable pub found_from : Naming → LocationCounter → List (List ℕ) → List ℕ → Option Location
 found_from naming counter [] = naming.given
 found_from naming counter (line ∷ lines) =
-    elim (line_labelled naming counter line) [
-      | Ok next ↦ found_from (naming_after naming (label_of line) next.place) next.counter lines
+    elim (line_labelled naming counter (plain_line line)) [
+      | Ok next ↦ found_from (naming_after naming (label_of (plain_line line)) next.place) next.counter lines
       | Err why ↦ found_from naming counter lines
     ]
 
@@ -200,7 +207,7 @@ word_placed naming state body (Ok place) =
 abbrev pub pair_placed : Naming → State → List (List ℕ) → Result ℕ SourceFault → Result Step SourceFault
 pair_placed naming state body (Err why) = Err why
 pair_placed naming state body (Ok place) =
-    two_words state place body (pair_meaning naming state.banks body)
+    two_words state place body (pair_meaning naming place state.banks body)
 
 -- EBANK= names the bank of a cell, and SBANK= the superbank of a place
 abbrev pub with_banks : State → Banks → Step
@@ -272,7 +279,7 @@ told_at n (Err why) = Err (trouble.Line n why)
 unfoldable pub words_from : ℕ → Naming → State → List PlacedWord → List (List ℕ) → Result (List PlacedWord) AssemblyFault
 words_from n naming state said [] = Ok said
 words_from n naming state said (line ∷ lines) =
-    elim (line_woven naming state line) [
+    elim (line_woven naming state (plain_line line)) [
       | Ok step ↦ elim (both_said said step.first step.second) [
         | Ok more ↦ words_from (n + 1) naming step.state more lines
         | Err why ↦ Err (trouble.Line n why)
@@ -288,9 +295,12 @@ abbrev pub words_after_names : List ℕ → Result Naming AssemblyFault → Resu
 words_after_names text (Ok naming) = words_in naming text
 words_after_names text (Err why) = Err why
 
--- a text with only places and words is a listing
+-- a text with only places and words, and with comments that are text, is a listing
+abbrev pub is_listing_line : List ℕ → Bool
+is_listing_line line = are_listed (said_by line) && not (has_odd_comment line)
+
 unfoldable pub is_listing : List ℕ → Bool
-is_listing text = list_all (λ line. are_listed (said_by line)) (lines_of text)
+is_listing text = list_all (λ line. is_listing_line line) (lines_of text)
 
 abbrev pub as_source : Result (List PlacedWord) WeaveFault → Result (List PlacedWord) AssemblyFault
 as_source (Ok said) = Ok said

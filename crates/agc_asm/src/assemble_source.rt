@@ -4,6 +4,7 @@ ghost use Rattle.agc_listing.specs.Weave.{IsWovenOf};
 ghost use Rattle.agc_asm.specs.Source.{IsSourceWoven, is_listing, source_in};
 ghost use Rattle.agc_asm.specs.declared.fault.AssemblyFault.TheVariants.{Memory};
 
+use crate::body::has_odd_comment;
 use crate::fault::{AssemblyFault, SourceFault};
 use crate::pass1::read_names;
 use crate::pass2::read_words;
@@ -13,7 +14,7 @@ use agc_word::next_line;
 use std::alloc::Global;
 
 /// Assembles a source into a rope file of the given form, as long as its words need, and at least one word long. A text
-/// whose lines all begin with places is built as `weave` of agc_listing does. Any other text is read in two passes,
+/// whose lines all begin with places, and whose comments are text, is built as `weave` of agc_listing does. Any other text is read in two passes,
 /// first for its names and then for its words: the fault is that of the first faulty line in the first pass that has
 /// one, or `Memory`.
 #[tactic(auto, unfolding(crate::specs::Source::source_in))]
@@ -37,14 +38,14 @@ pub fn assemble(alloc: Global, form: RopeForm, text: &[u8]) -> Result<Vec<u8>, A
     Ok(file_of(alloc, form, builder.words())?)
 }
 
-/// Returns whether a text has only places and words.
+/// Returns whether a text has only places and words, and only comments that are text.
 #[tactic(auto, unfolding(crate::specs::Source::is_listing))]
 fn is_listing(text: &[u8]) -> bool
     ensures { result ≡ is_listing text.now }
 {
     let mut rest = text;
     while let Some((line, after)) = next_line(rest) {
-        if !is_listed(line) {
+        if !is_listed(line) || has_odd_comment(line) {
             return false;
         }
         rest = after;

@@ -7,19 +7,26 @@ ghost use Rattle.agc_asm.specs.Body.{
   alias_named,
   alias_operand,
   body_in,
+  code_of,
   has_minus,
+  has_odd_comment,
   is_hash_byte,
   operand_spelled,
+  plain_line,
   spelled,
   spelled_by,
   tokens,
   uncommented,
   without_adornment,
   without_minus,
+  writes_nothing,
 };
+ghost use Rattle.agc_asm.specs.Mnemonic.{directive_named};
+ghost use Rattle.agc_listing.specs.Line.{is_no_text};
 
 use crate::alias::Alias;
-use agc_listing::{cut_label, next_said, offset_said};
+use crate::mnemonic::Directive;
+use agc_listing::{cut_label, has_other_byte, next_said, offset_said};
 
 /// The operation of a line and what follows it.
 #[derive(Clone, Copy)]
@@ -45,6 +52,37 @@ pub(crate) fn next_token(text: &[u8]) -> Option<(&[u8], &[u8])>
         None => Some((word, rest)),
         Some(0) => None,
         Some(at) => Some((&word[..at], &[])),
+    }
+}
+
+/// Returns a line as it is read: without its comment, if only the comment has bytes that are not text.
+#[tactic(auto, unfolding(crate::specs::Body::plain_line))]
+pub(crate) fn plain_line(line: &[u8]) -> &[u8]
+    ensures { result.now ≡ plain_line line.now }
+{
+    if has_odd_comment(line) {
+        code_of(line)
+    } else {
+        line
+    }
+}
+
+/// Returns whether a line has bytes that are not text, all of them in its comment.
+#[tactic(auto, unfolding(crate::specs::Body::has_odd_comment))]
+pub(crate) fn has_odd_comment(line: &[u8]) -> bool
+    ensures { result ≡ has_odd_comment line.now }
+{
+    has_other_byte(line) && !has_other_byte(code_of(line))
+}
+
+/// Returns a line without its comment.
+#[tactic(auto, unfolding(crate::specs::Body::code_of))]
+pub fn code_of(line: &[u8]) -> &[u8]
+    ensures { result.now ≡ code_of line.now }
+{
+    match first_hash(line) {
+        Some(at) => &line[..at],
+        None => line,
     }
 }
 
@@ -121,9 +159,32 @@ fn without_minus(word: &[u8]) -> &[u8]
     ensures { result.now ≡ without_minus word.now }
 {
     match word {
-        [b'-', name @ ..] => name,
+        [b'-', name @ ..] if !writes_nothing(Directive::from_name(name)) => name,
         _ => word,
     }
+}
+
+/// Returns whether a directive writes no word, so that a minus before it means nothing.
+fn writes_nothing(directive: Option<Directive>) -> bool
+    ensures { result ≡ writes_nothing directive }
+{
+    matches!(
+        directive,
+        Some(
+            Directive::SetLoc
+                | Directive::Bank
+                | Directive::Block
+                | Directive::Is
+                | Directive::Equals
+                | Directive::Erase
+                | Directive::Ebank
+                | Directive::Sbank
+                | Directive::Count
+                | Directive::CountStarred
+                | Directive::Memory
+                | Directive::BankSum
+        )
+    )
 }
 
 /// Returns the operand of an alias.

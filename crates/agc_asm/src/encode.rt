@@ -36,7 +36,7 @@ ghost use Rattle.agc_asm.specs.Encode.{
 };
 ghost use Rattle.agc_asm.specs.Mnemonic.{directive_named};
 ghost use Rattle.agc_asm.specs.Name.{naming_of};
-ghost use Rattle.agc_asm.specs.Operand.{location_in, value_of};
+ghost use Rattle.agc_asm.specs.Operand.{location_for, location_in, value_of};
 ghost use Rattle.agc_listing.specs.Location.{IsWithin};
 ghost use Rattle.agc_listing.specs.Number.{without_sign};
 ghost use Rattle.agc_listing.specs.Text.{only_of};
@@ -47,8 +47,8 @@ use crate::fault::SourceFault;
 use crate::mnemonic::{Directive, basic_named, extracode_named};
 use crate::names::Names;
 use crate::numeral::number_in;
-use crate::operand::{Value, location_in, operand_for, value_of};
-use crate::row::{basic_word, extracode_word};
+use crate::operand::{Value, location_for, location_in, operand_for, value_of};
+use crate::row::{basic_word, extracode_word, meant, meant_operand};
 use agc_listing::{
     Location, cell_address, complete_address, listed_address, octal_word, offset_said,
 };
@@ -132,7 +132,7 @@ fn word_by(names: &Names, site: Site, word: &[u8], rest: &[u8]) -> Result<Narrow
         (directive_named word.now) word.now (tokens rest.now) }
 {
     match Directive::from_name(word) {
-        Some(directive) => directive_meaning(names, site.banks, directive, rest),
+        Some(directive) => directive_meaning(names, site, directive, rest),
         None => order_by_offset(names, site, word, rest),
     }
 }
@@ -212,7 +212,7 @@ fn basic_meaning(names: &Names, here: u32, order: Basic, rest: &[u8]) -> Result<
     ensures { result ≡ basic_meaning (naming_of names.now) here order (tokens rest.now) }
 {
     let given = operand_for(order.row().takes, names, here, rest)?;
-    basic_word(order, given)
+    basic_word(meant(order, given), meant_operand(order, given))
 }
 
 fn extracode_meaning(
@@ -229,33 +229,33 @@ fn extracode_meaning(
 
 fn directive_meaning(
     names: &Names,
-    banks: Banks,
+    site: Site,
     directive: Directive,
     rest: &[u8],
 ) -> Result<Narrow, SourceFault>
-    requires erasable { banks.erasable < 8 }
-    requires superbank { banks.superbank < 8 }
-    ensures { result ≡ directive_meaning (naming_of names.now) banks directive (tokens rest.now) }
+    requires erasable { site.banks.erasable < 8 }
+    requires superbank { site.banks.superbank < 8 }
+    ensures { result ≡ directive_meaning (naming_of names.now) site.here site.banks directive (tokens rest.now) }
 {
     match directive {
         Directive::Oct | Directive::Octal => octal_in(rest).ok_or(SourceFault::BadNumber),
         Directive::Dec => number_word(false, rest),
         Directive::DecStarred => number_word(true, rest),
         Directive::Adres | Directive::Remadr | Directive::Genadr => {
-            let place = location_in(names, rest)?;
+            let place = location_for(names, site.here, rest)?;
             Ok(Narrow::with_bits(any_address(place)))
         }
         Directive::Cadr | Directive::Fcadr => {
-            let place = place_in(names, rest)?;
+            let place = place_at(names, site.here, rest)?;
             Ok(Narrow::with_bits(complete_address(place)))
         }
         Directive::Ecadr => {
-            let cell = cell_in(names, rest)?;
+            let cell = cell_at(names, site.here, rest)?;
             Ok(Narrow::with_bits(cell as u16))
         }
         Directive::Bbcon => {
-            let place = place_in(names, rest)?;
-            Ok(Narrow::with_bits(bank_word(banks, place)))
+            let place = place_at(names, site.here, rest)?;
+            Ok(Narrow::with_bits(bank_word(site.banks, place)))
         }
         Directive::VerbNoun => verb_noun_in(rest),
         Directive::MajorMode => major_mode_in(rest),
@@ -301,7 +301,29 @@ fn any_address(location: Location) -> u16
     }
 }
 
-/// Returns the place in fixed memory that an operand names.
+/// Returns the place in fixed memory that the operand of a word at a place names.
+fn place_at(names: &Names, here: u32, rest: &[u8]) -> Result<u32, SourceFault>
+    ensures place { result ≡ place_in (location_for (naming_of names.now) here (tokens rest.now)) }
+    ensures range { IfOk result (λ place. place < fixed_words) }
+{
+    match location_for(names, here, rest)? {
+        Location::Fixed(place) => Ok(place),
+        Location::Erasable(_) => Err(SourceFault::FixedWanted),
+    }
+}
+
+/// Returns the cell that the operand of a word at a place names.
+fn cell_at(names: &Names, here: u32, rest: &[u8]) -> Result<u32, SourceFault>
+    ensures cell { result ≡ cell_in (location_for (naming_of names.now) here (tokens rest.now)) }
+    ensures range { IfOk result (λ cell. cell < erasable_cells) }
+{
+    match location_for(names, here, rest)? {
+        Location::Erasable(cell) => Ok(cell),
+        Location::Fixed(_) => Err(SourceFault::ErasableWanted),
+    }
+}
+
+/// Returns the place in fixed memory that the operand of a directive names.
 pub(crate) fn place_in(names: &Names, rest: &[u8]) -> Result<u32, SourceFault>
     ensures place { result ≡ place_in (location_in (naming_of names.now) (tokens rest.now)) }
     ensures range { IfOk result (λ place. place < fixed_words) }
@@ -312,7 +334,7 @@ pub(crate) fn place_in(names: &Names, rest: &[u8]) -> Result<u32, SourceFault>
     }
 }
 
-/// Returns the cell that an operand names.
+/// Returns the cell that the operand of a directive names.
 pub(crate) fn cell_in(names: &Names, rest: &[u8]) -> Result<u32, SourceFault>
     ensures cell { result ≡ cell_in (location_in (naming_of names.now) (tokens rest.now)) }
     ensures range { IfOk result (λ cell. cell < erasable_cells) }
@@ -434,16 +456,16 @@ pub(crate) fn banks_after(banked: bool, banks: Banks) -> Banks
 
 /// Encodes a two-word line.
 #[tactic(auto, unfolding(crate::specs::Encode::pair_meaning))]
-pub(crate) fn pair_meaning(names: &Names, banks: Banks, body: &[u8]) -> Result<Pair, SourceFault>
-    requires erasable { banks.erasable < 8 }
-    requires superbank { banks.superbank < 8 }
-    ensures { result ≡ pair_meaning (naming_of names.now) banks (tokens body.now) }
+pub(crate) fn pair_meaning(names: &Names, site: Site, body: &[u8]) -> Result<Pair, SourceFault>
+    requires erasable { site.banks.erasable < 8 }
+    requires superbank { site.banks.superbank < 8 }
+    ensures { result ≡ pair_meaning (naming_of names.now) site.here site.banks (tokens body.now) }
 {
     let Some(operation) = operation_in(body) else {
         return Err(SourceFault::BadNumber);
     };
     let pair = match Directive::from_name(operation.word) {
-        Some(directive) => pair_by_word(names, banks, directive, operation.rest)?,
+        Some(directive) => pair_by_word(names, site, directive, operation.rest)?,
         None => return Err(SourceFault::BadNumber),
     };
     Ok(Pair {
@@ -454,23 +476,23 @@ pub(crate) fn pair_meaning(names: &Names, banks: Banks, body: &[u8]) -> Result<P
 
 fn pair_by_word(
     names: &Names,
-    banks: Banks,
+    site: Site,
     directive: Directive,
     rest: &[u8],
 ) -> Result<Pair, SourceFault>
-    requires erasable { banks.erasable < 8 }
-    requires superbank { banks.superbank < 8 }
-    ensures { result ≡ pair_by_word (naming_of names.now) banks directive (tokens rest.now) }
+    requires erasable { site.banks.erasable < 8 }
+    requires superbank { site.banks.superbank < 8 }
+    ensures { result ≡ pair_by_word (naming_of names.now) site.here site.banks directive (tokens rest.now) }
 {
     match directive {
         Directive::PairDec => pair_of_number(false, rest),
         Directive::PairDecStarred => pair_of_number(true, rest),
         Directive::PairOct => octal_pair_in(rest),
         Directive::PairCadr => {
-            let place = place_in(names, rest)?;
+            let place = place_at(names, site.here, rest)?;
             Ok(Pair {
                 upper: Narrow::with_bits(listed_address(place as usize)),
-                lower: Narrow::with_bits(bank_word(banks, place)),
+                lower: Narrow::with_bits(bank_word(site.banks, place)),
             })
         }
         _ => Err(SourceFault::BadNumber),

@@ -16,29 +16,35 @@ pub enum SourceFault {
     BadName,
     /// The name is one of the computer's own, or an earlier line has it.
     NameTwice,
-    /// SETLOC or BANK with a name, or `=` or EQUALS without one.
+    /// SETLOC, BANK, EBANK= or SBANK= with a name, or `=` or EQUALS without one.
     MisplacedName,
     /// The line has no known order or directive after its first column.
     UnknownOrder,
-    /// The operand is missing, not allowed, or in an unknown form.
+    /// `$FILE`: other files are not included.
+    Include,
+    /// An operation of the interpreter's language, which is not read.
+    Interpretive,
+    /// A directive of the listings that is not supported.
+    NotSupported,
+    /// The operand is missing, superfluous or malformed.
     BadOperand,
     /// No line has this name.
     UnknownName,
     /// Outside memory, or outside an order's twelve-bit address.
     NoSuchPlace,
-    /// The order takes an erasable address of ten bits.
+    /// An address in erasable memory is expected: the order takes ten bits, or the directive names a cell.
     ErasableWanted,
-    /// A jump, or a directive that names a bank, needs a place in fixed memory.
+    /// A place in fixed memory is expected: by a jump, or by a directive that names a bank.
     FixedWanted,
     /// Not a channel of nine bits.
     ChannelWanted,
     /// The place is in a fixed bank that this line cannot address.
     AnotherBank,
-    /// TC of 3, 4 or 6, and INDEX of 17: their words are other orders.
+    /// TC of 3, 4 or 6, and INDEX of 17: their words are other orders. In a source they are these orders.
     OtherOrder,
     /// An extracode without EXTEND before it.
     ExtracodeAlone,
-    /// A basic order, but an extracode is expected.
+    /// A basic order after EXTEND or the extracode INDEX.
     BasicAfterExtend,
     /// No room is left in the bank, or in erasable memory.
     Full,
@@ -63,26 +69,29 @@ impl SourceFault {
                 "a name is 1 to 8 characters, without a comma and not only digits and signs",
             SourceFault::NameTwice => "an earlier line has this name",
             SourceFault::MisplacedName =>
-                "= and EQUALS want a name in the first column, SETLOC and BANK want none",
+                "= and EQUALS need a name in the first column; SETLOC, BANK, EBANK= and SBANK= take none",
             SourceFault::UnknownOrder =>
-                "no order or directive has this name; it stands after the first column",
-            SourceFault::BadOperand => "the operand is missing, not wanted, or of another form",
+                "no order or directive has this name (they come after the first column)",
+            SourceFault::Include => "other files are not included: put their lines into this file",
+            SourceFault::Interpretive => "the interpreter's language is not read",
+            SourceFault::NotSupported => "this directive is not supported",
+            SourceFault::BadOperand => "the operand is missing, superfluous or malformed",
             SourceFault::UnknownName => "no line has this name",
-            SourceFault::NoSuchPlace => "there is no such place",
-            SourceFault::ErasableWanted =>
-                "this order takes an address of erasable memory, 0 to 1777",
-            SourceFault::FixedWanted => "a place of fixed memory is wanted",
+            SourceFault::NoSuchPlace => "there is no such place in memory",
+            SourceFault::ErasableWanted => "an address in erasable memory is expected here",
+            SourceFault::FixedWanted => "a place in fixed memory is expected here",
             SourceFault::ChannelWanted => "this order takes a channel, 0 to 777",
             SourceFault::AnotherBank => "this place is in another bank",
-            SourceFault::OtherOrder => "the word of this order with this address is another order",
-            SourceFault::ExtracodeAlone => "this order is an extracode: EXTEND is wanted before it",
+            SourceFault::OtherOrder => "with this address the word would be another order",
+            SourceFault::ExtracodeAlone => "this order is an extracode: write EXTEND before it",
             SourceFault::BasicAfterExtend =>
-                "after EXTEND, or INDEX as an extracode, this order is none",
-            SourceFault::Full => "no room is left here",
-            SourceFault::WrongMemory => "words stand in fixed memory, and ERASE in erasable memory",
+                "basic order after EXTEND (or the extracode INDEX): an extracode is expected here",
+            SourceFault::Full => "no room is left in this bank",
+            SourceFault::WrongMemory =>
+                "words go into fixed memory, and ERASE reserves cells of erasable memory",
             SourceFault::BadPlace =>
-                "this is no place or bank: a name, bb,oooo, En,oooo or a number is expected",
-            SourceFault::BadNumber => "this is no number of the form that is wanted here",
+                "not a place or a bank: expected a name, bb,oooo, En,oooo or a number",
+            SourceFault::BadNumber => "not a number of the form that this directive takes",
             SourceFault::OutOfRange =>
                 "the number is too large: DEC takes integers up to 16383 and fractions below 1",
         }

@@ -2,23 +2,59 @@
 ghost use Rattle.agc_asm.specs.LocationCounter.{IsAt};
 ghost use Rattle.agc_asm.specs.Source.{IsState};
 
-use crate::body::cut_line;
+use crate::body::{cut_line, plain_line};
 use crate::encode::Banks;
 use crate::fault::SourceFault;
+use crate::fault_place::word_at_fault;
 use crate::line_kind::{cursor_after, shape_of};
 use crate::location_counter::LocationCounter;
 use crate::names::Names;
 use crate::pass1::{first_names, line_labelled, note_label};
 use crate::pass2::{State, line_woven};
+use agc_listing::is_no_text;
 use agc_word::next_line;
 use std::alloc::{AllocError, Global};
 
-/// A faulty line.
+/// A faulty line, and the word of it that is at fault.
 #[derive(Clone, Copy, Debug, PartialEq, Eq)]
-pub struct FaultyLine {
+pub struct FaultyLine<'a> {
     /// The line's number, counted from 1.
     pub line: usize,
+    /// The byte column at which the word begins, counted from 1; a tab counts as one.
+    pub column: usize,
+    pub word: &'a [u8],
     pub fault: SourceFault,
+}
+
+impl<'a> FaultyLine<'a> {
+    /// Finds the word of a line that is at fault.
+    pub fn new(number: usize, line: &'a [u8], fault: SourceFault) -> FaultyLine<'a> {
+        let spot = word_at_fault(line, fault);
+        FaultyLine {
+            line: number,
+            column: spot.column,
+            word: spot.word,
+            fault,
+        }
+    }
+
+    /// Appends the fault with its place and word: ``line 3, column 9: no line has this name: `FOO` ``. A byte that is
+    /// not printable ASCII is printed as `?`.
+    pub fn push(&self, text: &mut String) -> Result<(), AllocError> {
+        write!(
+            text,
+            "line {}, column {}: {}: `",
+            self.line, self.column, self.fault
+        )?;
+        for byte in self.word {
+            text.push(if is_no_text(*byte) {
+                '?'
+            } else {
+                char::from(*byte)
+            })?;
+        }
+        text.push_str("`")
+    }
 }
 
 /// Returns the faulty lines of a source, at most `most`: those of the first pass, or of the second if the first has
@@ -28,7 +64,7 @@ pub fn faulty_lines(
     alloc: Global,
     text: &[u8],
     most: usize,
-) -> Result<Vec<FaultyLine>, AllocError> {
+) -> Result<Vec<FaultyLine<'_>>, AllocError> {
     let mut names = first_names(alloc, text)?;
     let named = faulty_labels(alloc, &mut names, text, most)?;
     if named.is_empty() {
@@ -44,20 +80,21 @@ fn faulty_labels<'a>(
     names: &mut Names<'a>,
     text: &'a [u8],
     most: usize,
-) -> Result<Vec<FaultyLine>, AllocError> {
+) -> Result<Vec<FaultyLine<'a>>, AllocError> {
     let mut found = Vec::new(alloc);
     let mut counter = LocationCounter::new();
     let mut lines = 0;
     let mut rest = text;
     while let Some((line, after)) = next_line(rest) {
         lines += 1;
+        let line = plain_line(line);
         match line_labelled(names, counter, line) {
             Ok(next) => {
                 note_label(names, line, next.place)?;
                 counter = next.counter;
             }
             Err(fault) => {
-                push_faulty(&mut found, lines, fault, most)?;
+                push_faulty(&mut found, FaultyLine::new(lines, line, fault), most)?;
                 counter = moved_past(names, counter, line);
             }
         }
@@ -67,22 +104,23 @@ fn faulty_labels<'a>(
 }
 
 /// Returns the faulty lines of the second pass.
-fn faulty_words(
+fn faulty_words<'a>(
     alloc: Global,
     names: &Names,
-    text: &[u8],
+    text: &'a [u8],
     most: usize,
-) -> Result<Vec<FaultyLine>, AllocError> {
+) -> Result<Vec<FaultyLine<'a>>, AllocError> {
     let mut found = Vec::new(alloc);
     let mut state = first_state();
     let mut lines = 0;
     let mut rest = text;
     while let Some((line, after)) = next_line(rest) {
         lines += 1;
+        let line = plain_line(line);
         match line_woven(names, state, line) {
             Ok(step) => state = step.state,
             Err(fault) => {
-                push_faulty(&mut found, lines, fault, most)?;
+                push_faulty(&mut found, FaultyLine::new(lines, line, fault), most)?;
                 state.counter = moved_past(names, state.counter, line);
                 state.leads = false;
             }
@@ -108,14 +146,13 @@ fn first_state() -> State
 }
 
 /// Adds a faulty line, if there are fewer than `most`.
-fn push_faulty(
-    found: &mut Vec<FaultyLine>,
-    line: usize,
-    fault: SourceFault,
+fn push_faulty<'a>(
+    found: &mut Vec<FaultyLine<'a>>,
+    faulty: FaultyLine<'a>,
     most: usize,
 ) -> Result<(), AllocError> {
     if found.len() < most {
-        found.push(FaultyLine { line, fault })?;
+        found.push(faulty)?;
     }
     Ok(())
 }

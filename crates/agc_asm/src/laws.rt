@@ -35,7 +35,7 @@ ghost use Rattle.agc_asm.specs.declared.fault.AssemblyFault.TheVariants.{Line};
 pub fn a_listing_shows_the_orders_of_a_source()
     // Every line that writes an order is covered.
     ensures all { (form : RopeForm) (text file : List ℕ) → IsSourceWoven form text file
-        → map (λ (line : OrderLine). line.mnemonic) (orders_in text) ≡ mnemonics_in text }
+        → map (λ (line : OrderLine). line.written) (orders_in text) ≡ mnemonics_in text }
     ensures words { (form : RopeForm) (text file : List ℕ) → IsSourceWoven form text file
         → All (HasOrder (rope_words form file)) (orders_in text) }
     ensures listed { (form : RopeForm) (text file : List ℕ) → IsSourceWoven form text file

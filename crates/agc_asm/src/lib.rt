@@ -7,6 +7,7 @@ mod body;
 mod disassemble;
 mod encode;
 mod fault;
+mod fault_place;
 mod faulty;
 mod laws;
 mod line_kind;
@@ -22,12 +23,15 @@ mod pass2;
 mod register;
 mod row;
 mod symbol_file;
+mod unknown_operation;
 
 pub use agc_listing::Location;
 pub use alias::Alias;
 pub use assemble_source::assemble;
+pub use body::code_of;
 pub use disassemble::rope_source;
 pub use fault::{AssemblyFault, SourceFault};
+pub use fault_place::{Spot, word_at_fault};
 pub use faulty::{FaultyLine, faulty_lines};
 pub use laws::{
     a_fraction_is_the_nearest_number, a_listing_shows_the_orders_of_a_source,

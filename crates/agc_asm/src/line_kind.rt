@@ -29,6 +29,7 @@ use crate::location_counter::LocationCounter;
 use crate::mnemonic::{Directive, is_order};
 use crate::names::Names;
 use crate::operand::location_in;
+use crate::unknown_operation::unknown_operation;
 use agc_listing::{Location, offset_said};
 use agc_store::place::ERASABLE_CELLS;
 use agc_word::read_octal;
@@ -73,7 +74,7 @@ pub(crate) fn shape_of(names: &Names, body: &[u8]) -> Result<LineKind, SourceFau
     match Directive::from_name(operation.word) {
         Some(directive) => directive_shape(names, directive, operation.rest),
         None if is_order(operation.word) => Ok(LineKind::Word),
-        None => Err(SourceFault::UnknownOrder),
+        None => Err(unknown_operation(operation.word)),
     }
 }
 

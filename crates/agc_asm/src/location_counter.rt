@@ -12,13 +12,17 @@ ghost use Rattle.agc_asm.specs.LocationCounter.{
   moved_to,
   resumed,
   room_at,
+  stretch_end,
 };
 ghost use Rattle.agc_listing.specs.Location.{IsWithin};
 ghost use Rattle.agc_asm.specs.declared.location_counter.At.TheVariants as at;
 
 use crate::fault::SourceFault;
 use agc_listing::Location;
-use agc_store::place::{ERASABLE_CELLS, FIXED_BANK_SIZE, bank_of, offset_of, place_of};
+use agc_store::place::{
+    ERASABLE_BANK_SIZE, ERASABLE_CELLS, ERASABLE_WINDOW, FIXED_BANK_SIZE, bank_of, offset_of,
+    place_of,
+};
 
 /// Which memory the lines go into.
 #[derive(Clone, Copy, Debug, PartialEq, Eq)]
@@ -164,7 +168,7 @@ impl LocationCounter {
         }
     }
 
-    /// Moves past `count` cells.
+    /// Moves past `count` cells, which may not go past the end of a bank. Banks 0, 1 and 2 count as one.
     pub fn after_cells(self, count: u32) -> Result<LocationCounter, SourceFault>
         requires at { IsAt self.at }
         requires bound { count ≤ 100000 }
@@ -174,12 +178,24 @@ impl LocationCounter {
         let At::Cell(cell) = self.at else {
             return Err(SourceFault::WrongMemory);
         };
-        if cell + count <= u32::from(ERASABLE_CELLS) {
+        if cell + count <= u32::from(ERASABLE_CELLS) && cell + count <= stretch_end(cell) {
             let mut next = self;
             next.at = At::Cell(cell + count);
             Ok(next)
         } else {
             Err(SourceFault::Full)
         }
+    }
+}
+
+/// Returns the cell after the last one that ERASE can reserve together with this one.
+fn stretch_end(cell: u32) -> u32
+    requires { cell ≤ erasable_cells }
+    ensures end { result ≡ stretch_end cell }
+{
+    if cell < u32::from(ERASABLE_WINDOW) {
+        u32::from(ERASABLE_WINDOW)
+    } else {
+        (cell / u32::from(ERASABLE_BANK_SIZE) + 1) * u32::from(ERASABLE_BANK_SIZE)
     }
 }

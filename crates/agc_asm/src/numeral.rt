@@ -10,6 +10,7 @@ ghost use Rattle.agc_asm.specs.Numeral.{
   bound,
   down,
   fraction_of,
+  is_exponent,
   is_point,
   magnitude_in,
   magnitude_plain,
@@ -18,6 +19,7 @@ ghost use Rattle.agc_asm.specs.Numeral.{
   number_in,
   numeral_cut,
   numeral_named,
+  numeral_split,
   one_scale,
   part_named,
   power_named,
@@ -30,6 +32,7 @@ ghost use Rattle.agc_asm.specs.Numeral.{
   times_below,
   two_scales,
   up,
+  with_exponent,
 };
 
 use crate::body::next_token;
@@ -43,8 +46,10 @@ pub(crate) struct Numeral {
     pub minus: bool,
     pub digits: u128,
     pub places: u32,
-    /// It has no point.
+    /// It has no point and no exponent.
     pub whole: bool,
+    /// The power of ten right behind the digits.
+    pub exponent: Signed,
 }
 
 /// A factor: a power of ten or of two.
@@ -98,10 +103,21 @@ pub(crate) fn number_in(bits: u32, starred: bool, text: &[u8]) -> Result<Signed,
     })
 }
 
+/// Returns whether a word is a numeral.
+pub(crate) fn is_numeral(word: &[u8]) -> bool {
+    numeral_named(word).is_some()
+}
+
+/// Returns whether a word is a scale.
+pub(crate) fn is_scale(starred: bool, word: &[u8]) -> bool {
+    scale_named(starred, word).is_some()
+}
+
 fn magnitude_in(bits: u32, starred: bool, numeral: Numeral, text: &[u8]) -> Result<u64, SourceFault>
     requires bits { bits ≤ 28 }
     requires places { numeral.places ≤ 18 }
     requires digits { numeral.digits < bound }
+    requires exponent { numeral.exponent.magnitude < 100 }
     ensures magnitude { result ≡ magnitude_in bits starred numeral (tokens text.now) }
     ensures range { IfOk result (λ n. n < 2 ^ bits) }
 {
@@ -123,6 +139,7 @@ fn magnitude_plain(bits: u32, numeral: Numeral) -> Result<u64, SourceFault>
     requires bits { bits ≤ 28 }
     requires places { numeral.places ≤ 18 }
     requires digits { numeral.digits < bound }
+    requires exponent { numeral.exponent.magnitude < 100 }
     ensures magnitude { result ≡ magnitude_plain bits numeral }
     ensures range { IfOk result (λ n. n < 2 ^ bits) }
 {
@@ -148,6 +165,7 @@ fn magnitude_scaled(bits: u32, numeral: Numeral, scales: Option<Scales>) -> Resu
     requires bits { bits ≤ 28 }
     requires places { numeral.places ≤ 18 }
     requires digits { numeral.digits < bound }
+    requires exponent { numeral.exponent.magnitude < 100 }
     requires scales { IfSome scales AreSmall }
     ensures magnitude { result ≡ magnitude_scaled bits numeral scales }
     ensures range { IfOk result (λ n. n < 2 ^ bits) }
@@ -163,6 +181,7 @@ fn scaled(bits: u32, numeral: Numeral, scales: Scales) -> Result<u64, SourceFaul
     requires bits { bits ≤ 28 }
     requires places { numeral.places ≤ 18 }
     requires digits { numeral.digits < bound }
+    requires exponent { numeral.exponent.magnitude < 100 }
     requires ten { scales.ten.magnitude < 100 }
     requires two { scales.two.magnitude < 100 }
     ensures magnitude { result ≡ scaled bits (ratio bits numeral scales) }
@@ -188,21 +207,52 @@ fn limit_of(bits: u32) -> u128
     1 << bits
 }
 
-/// Parses a numeral: a sign, digits, and perhaps a point with digits before it, after it or both.
+/// Parses a numeral: a sign, digits, and perhaps a point with digits before it, after it or both; and perhaps a power
+/// of ten right behind them.
 #[tactic(auto, unfolding(crate::specs::Numeral::numeral_named))]
 fn numeral_named(text: &[u8]) -> Option<Numeral>
     ensures numeral { result ≡ numeral_named text.now }
     ensures places { IfSome result (λ n. n.places ≤ 18) }
     ensures digits { IfSome result (λ n. n.digits < bound) }
+    ensures exponent { IfSome result (λ n. n.exponent.magnitude < 100) }
 {
     let minus = matches!(text, [b'-', ..]);
     let digits = without_sign(text);
+    let Some(at) = first_exponent(digits) else {
+        return digits_named(minus, digits);
+    };
+    let numeral = digits_named(minus, &digits[..at])?;
+    let exponent = power_named(&digits[at + 1..])?;
+    Some(Numeral {
+        minus: numeral.minus,
+        digits: numeral.digits,
+        places: numeral.places,
+        whole: false,
+        exponent,
+    })
+}
+
+fn first_exponent(text: &[u8]) -> Option<usize>
+    ensures exponent { result ≡ position is_exponent text.now }
+    ensures bound { IfSome result (λ at. at < length text.now) }
+{
+    text.iter().position(|b| *b == b'E')
+}
+
+/// Parses digits, perhaps with a point.
+fn digits_named(minus: bool, digits: &[u8]) -> Option<Numeral>
+    ensures numeral { result ≡ numeral_cut minus (position is_point digits.now) digits.now }
+    ensures places { IfSome result (λ n. n.places ≤ 18) }
+    ensures digits { IfSome result (λ n. n.digits < bound) }
+    ensures exponent { IfSome result (λ n. n.exponent.magnitude < 100) }
+{
     match first_point(digits) {
         None => Some(Numeral {
             minus,
-            digits: u128::from(read_decimal(9, digits)?),
+            digits: u128::from(read_decimal(18, digits)?),
             places: 0,
             whole: true,
+            exponent: NO_POWER,
         }),
         Some(at) => fraction_named(minus, at, digits),
     }
@@ -214,12 +264,13 @@ fn fraction_named(minus: bool, at: usize, text: &[u8]) -> Option<Numeral>
     ensures numeral { result ≡ numeral_cut minus (Some at) text.now }
     ensures places { IfSome result (λ n. n.places ≤ 18) }
     ensures digits { IfSome result (λ n. n.digits < bound) }
+    ensures exponent { IfSome result (λ n. n.exponent.magnitude < 100) }
 {
     let places = text.len() - (at + 1);
     if text.len() < 2 || places > 18 {
         return None;
     }
-    let whole = raised(u128::from(part_named(9, &text[..at])?), 10, places as u32)?;
+    let whole = raised(u128::from(part_named(18, &text[..at])?), 10, places as u32)?;
     let part = u128::from(part_named(18, &text[at + 1..])?);
     let digits = whole + part;
     if digits >= BOUND {
@@ -230,6 +281,7 @@ fn fraction_named(minus: bool, at: usize, text: &[u8]) -> Option<Numeral>
         digits,
         places: places as u32,
         whole: false,
+        exponent: NO_POWER,
     })
 }
 
@@ -319,12 +371,14 @@ fn two_scales(first: Option<Scale>, second: Option<Scale>) -> Option<Scales>
     }
 }
 
-/// Returns a number with its scales as a quotient, in units of the last of `bits` bits.
+/// Returns a number with its scales as a quotient, in units of the last of `bits` bits. Powers over and under the line
+/// are set off against each other, so that products stay small.
 #[tactic(auto, unfolding(crate::specs::Numeral::ratio))]
 fn ratio(bits: u32, numeral: Numeral, scales: Scales) -> Option<Quotient>
     requires bits { bits ≤ 28 }
     requires places { numeral.places ≤ 18 }
     requires digits { numeral.digits < bound }
+    requires exponent { numeral.exponent.magnitude < 100 }
     requires ten { scales.ten.magnitude < 100 }
     requires two { scales.two.magnitude < 100 }
     ensures ratio { result ≡ ratio bits numeral scales }
@@ -332,10 +386,14 @@ fn ratio(bits: u32, numeral: Numeral, scales: Scales) -> Option<Quotient>
     ensures under { IfSome result (λ r. r.under < bound) }
     ensures positive { IfSome result (λ r. 0 < r.under) }
 {
-    let over = raised(numeral.digits, 10, up(scales.ten))?;
-    let over = raised(over, 2, bits + up(scales.two))?;
-    let under = raised(1, 10, numeral.places + down(scales.ten))?;
-    let under = raised(under, 2, down(scales.two))?;
+    let ten_up = up(numeral.exponent) + up(scales.ten);
+    let ten_down = numeral.places + down(numeral.exponent) + down(scales.ten);
+    let two_up = bits + up(scales.two);
+    let two_down = down(scales.two);
+    let over = raised(numeral.digits, 10, ten_up.saturating_sub(ten_down))?;
+    let over = raised(over, 2, two_up.saturating_sub(two_down))?;
+    let under = raised(1, 10, ten_down.saturating_sub(ten_up))?;
+    let under = raised(under, 2, two_down.saturating_sub(two_up))?;
     Some(Quotient { over, under })
 }
 

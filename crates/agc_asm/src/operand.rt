@@ -8,6 +8,7 @@ ghost use Rattle.agc_asm.specs.Operand.{
   begins_offset,
   channel_at,
   located,
+  location_for,
   location_in,
   location_of,
   moved,
@@ -225,6 +226,14 @@ pub(crate) fn location_in(names: &Names, text: &[u8]) -> Result<Location, Source
     ensures range { IfOk result IsWithin }
 {
     located(location_of(value_apart(names, text)?))
+}
+
+/// Returns the location that the operand of a word at a place names; an offset alone is relative to that place.
+pub(crate) fn location_for(names: &Names, here: u32, text: &[u8]) -> Result<Location, SourceFault>
+    ensures location { result ≡ location_for (naming_of names.now) here (tokens text.now) }
+    ensures range { IfOk result IsWithin }
+{
+    located(location_of(value_of(names, here, text)?))
 }
 
 fn value_apart(names: &Names, text: &[u8]) -> Result<Value, SourceFault>

@@ -10,6 +10,7 @@ ghost use Rattle.agc_asm.specs.Source.{
   found_after,
   found_from,
   here_place,
+  is_include,
   label_place,
   line_labelled,
   listed_labelled,
@@ -23,7 +24,7 @@ ghost use Rattle.agc_listing.specs.Text.{label_of, said_by};
 ghost use Rattle.agc_listing.specs.Line.{line_named};
 ghost use Rattle.agc_asm.specs.declared.fault.AssemblyFault.TheVariants.{Memory};
 
-use crate::body::cut_line;
+use crate::body::{cut_line, plain_line};
 use crate::fault::{AssemblyFault, SourceFault};
 use crate::line_kind::{LineKind, cursor_after, shape_of};
 use crate::location_counter::{At, LocationCounter};
@@ -51,6 +52,7 @@ pub(crate) fn read_names(alloc: Global, text: &[u8]) -> Result<Names<'_>, Assemb
     let mut rest = text;
     while let Some((line, after)) = next_line(rest) {
         lines += 1;
+        let line = plain_line(line);
         match line_labelled(&names, counter, line) {
             Ok(next) => {
                 note_label(&mut names, line, next.place)?;
@@ -91,6 +93,7 @@ fn found_again<'a>(known: Names<'a>, text: &'a [u8]) -> Result<Names<'a>, AllocE
     let mut counter = LocationCounter::new();
     let mut rest = text;
     while let Some((line, after)) = next_line(rest) {
+        let line = plain_line(line);
         match line_labelled(&names, counter, line) {
             Ok(next) => {
                 note_label(&mut names, line, next.place)?;
@@ -135,6 +138,9 @@ pub(crate) fn line_labelled(
     if has_other_byte(line) {
         return Err(SourceFault::Listed(LineFault::NotText));
     }
+    if is_include(line) {
+        return Err(SourceFault::Include);
+    }
     let (label, body) = cut_line(line);
     let kind = shape_of(names, body)?;
     let next = cursor_after(counter, kind)?;
@@ -143,6 +149,13 @@ pub(crate) fn line_labelled(
         counter: next,
         place,
     })
+}
+
+/// Returns whether a line names another file to read.
+fn is_include(line: &[u8]) -> bool
+    ensures { result ≡ is_include line.now }
+{
+    matches!(line, [b'$', ..])
 }
 
 /// Reads a listing line, which has no name.

@@ -31,7 +31,7 @@ ghost use Rattle.agc_listing.specs.Text.{after_first, said_by};
 ghost use Rattle.agc_listing.specs.Line.{line_named};
 ghost use Rattle.agc_asm.specs.declared.fault.AssemblyFault.TheVariants.{Memory};
 
-use crate::body::{cut_line, operation_in};
+use crate::body::{cut_line, operation_in, plain_line};
 use crate::encode::{
     Banks, Site, banks_after, cell_in, is_banked, pair_meaning, place_in, superbank, word_meaning,
     writes_order,
@@ -86,7 +86,7 @@ pub(crate) fn read_words(
     let mut rest = text;
     while let Some((line, after)) = next_line(rest) {
         lines += 1;
-        match line_woven(names, state, line) {
+        match line_woven(names, state, plain_line(line)) {
             Ok(step) => {
                 state = step.state;
                 add_words(&mut builder, lines, step)?;
@@ -265,7 +265,12 @@ fn pair_placed(names: &Names, state: State, body: &[u8]) -> Result<Step, SourceF
     ensures placed { IfOk result IsPlaced }
 {
     let place = state.counter.room(2)?;
-    let pair = pair_meaning(names, state.banks, body)?;
+    let site = Site {
+        here: place,
+        leads: state.leads,
+        banks: state.banks,
+    };
+    let pair = pair_meaning(names, site, body)?;
     Ok(Step {
         state: State {
             counter: state.counter.after_words(2),

@@ -9,6 +9,9 @@ ghost use Rattle.agc_asm.specs.Row.{
   basic_word,
   extracode_word,
   is_of_another,
+  meant,
+  meant_operand,
+  other_order,
   refusal,
   row_word,
 };
@@ -84,6 +87,40 @@ fn is_of_another(order: Basic, given: Operand) -> bool
         (Basic::Tc, Operand::Address(k)) => k == 3 || k == 4 || k == 6,
         (Basic::Index, Operand::Address(k)) => k == 0o17,
         _ => false,
+    }
+}
+
+/// Returns the order that a line writes: `TC 3` is RELINT, and `INDEX 17` is RESUME.
+pub(crate) fn meant(order: Basic, given: Operand) -> Basic
+    ensures { result ≡ meant order given }
+{
+    if is_of_another(order, given) {
+        other_order(given)
+    } else {
+        order
+    }
+}
+
+/// Returns the order whose word TC or INDEX has with this address.
+fn other_order(given: Operand) -> Basic
+    ensures { result ≡ other_order given }
+{
+    match given {
+        Operand::Address(3) => Basic::Relint,
+        Operand::Address(4) => Basic::Inhint,
+        Operand::Address(6) => Basic::Extend,
+        _ => Basic::Resume,
+    }
+}
+
+/// Returns the operand of the order that a line writes.
+pub(crate) fn meant_operand(order: Basic, given: Operand) -> Operand
+    ensures { result ≡ meant_operand order given }
+{
+    if is_of_another(order, given) {
+        Operand::Nothing
+    } else {
+        given
     }
 }
 

@@ -5,6 +5,7 @@ ghost use Rattle.agc_symbols.specs.Writing.{names_text};
 ghost use Rattle.agc_asm.specs.NameLines.{label_named, labels_in, name_lines_in};
 ghost use Rattle.agc_listing.specs.Text.{label_of};
 
+use crate::body::plain_line;
 use crate::location_counter::LocationCounter;
 use crate::pass1::{first_names, line_labelled, note_label};
 use agc_listing::{Location, cut_label};
@@ -24,6 +25,7 @@ pub fn name_lines(alloc: Global, text: &[u8]) -> Result<Vec<u8>, AllocError>
     let mut counter = LocationCounter::new();
     let mut rest = text;
     while let Some((line, after)) = next_line(rest) {
+        let line = plain_line(line);
         match line_labelled(&names, counter, line) {
             Ok(next) => {
                 tell_label(alloc, &mut told, line, next.place)?;

@@ -8,7 +8,7 @@ use crate::remarks::{push_quoted, push_quoted_then, words_of};
 use crate::reports::Report;
 use crate::shown::push_line;
 use crate::source_remark::push_source_why;
-use agc_asm::{AssemblyFault, SourceFault, assemble, faulty_lines};
+use agc_asm::{AssemblyFault, SourceFault, assemble, code_of, faulty_lines, word_at_fault};
 use agc_listing::{LineFault, is_listed};
 use agc_store::RopeForm;
 use agc_word::without_return;
@@ -79,7 +79,7 @@ fn remarks(
     Ok(text)
 }
 
-/// Returns the faulty line, and below it the word that is wrong and what is expected.
+/// Returns the faulty line, and below it the word that is wrong, with its column, and what is expected.
 fn remark(
     alloc: Global,
     file: &[u8],
@@ -91,6 +91,7 @@ fn remark(
     text.push_str("    ")?;
     push_line(&mut text, line)?;
     text.push_str("\n    ")?;
+    write!(text, "column {}: ", word_at_fault(line, fault).column)?;
     push_line_why(alloc, &mut text, file, line, fault)?;
     Ok(text)
 }
@@ -113,7 +114,7 @@ fn push_line_why(
 ) -> Result<(), AllocError> {
     match fault {
         SourceFault::Listed(fault) if fault != LineFault::NamedTwice || is_listed(line) => {
-            let words = words_of(alloc, line)?;
+            let words = words_of(alloc, code_of(line))?;
             push_why(text, fault, words.as_slice())
         }
         fault => push_source_why(alloc, text, file, line, fault),

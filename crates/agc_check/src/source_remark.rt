@@ -2,8 +2,8 @@
 use crate::names::nearest;
 use crate::remarks::{push_nearest, push_quoted, push_quoted_then, push_subject};
 use crate::shown::push_bytes;
-use agc_asm::{Alias, Directive, SourceFault, is_order};
-use agc_listing::{cut_label, is_listed, is_name, next_said};
+use agc_asm::{Alias, Directive, SourceFault, code_of, is_order, word_at_fault};
+use agc_listing::{cut_label, is_listed, is_name, next_said, offset_said};
 use agc_order::{Basic, Extracode};
 use agc_word::without_return;
 use std::alloc::{AllocError, Global};
@@ -16,15 +16,19 @@ pub(crate) fn push_source_why(
     line: &[u8],
     fault: SourceFault,
 ) -> Result<(), AllocError> {
-    let (label, body) = cut_label(line);
-    let Some((order, operand)) = next_said(body) else {
+    let (label, body) = cut_label(code_of(line));
+    let Some((order, operand)) = operation_in(label, body) else {
         return push_missing(text, label);
     };
+    let word = word_at_fault(line, fault).word;
     match fault {
-        SourceFault::NameTwice => push_taken(text, file, label.unwrap_or(order)),
+        SourceFault::NameTwice => push_taken(text, file, word),
         SourceFault::BadName | SourceFault::MisplacedName => push_label(text, label, order),
         SourceFault::UnknownOrder => push_no_order(alloc, text, label, order),
-        SourceFault::UnknownName => push_no_name(alloc, text, file, operand),
+        SourceFault::Include => push_order(text, word, "the name of another file"),
+        SourceFault::Interpretive => push_order(text, word, "an operation of the interpreter"),
+        SourceFault::NotSupported => push_order(text, word, "a directive of the flight listings"),
+        SourceFault::UnknownName => push_no_name(alloc, text, file, word),
         SourceFault::ExtracodeAlone => push_order(text, order, "an extracode"),
         SourceFault::BasicAfterExtend => push_order(text, order, "a basic order"),
         SourceFault::Full => push_order(text, order, "past the last place"),
@@ -39,14 +43,24 @@ pub(crate) fn push_source_why(
         | SourceFault::OtherOrder
         | SourceFault::BadPlace
         | SourceFault::BadNumber
-        | SourceFault::OutOfRange => push_operand(text, order, operand),
+        | SourceFault::OutOfRange => push_operand(text, order, operand, word),
+    }
+}
+
+/// Returns the order or directive of a line, and what follows it.
+fn operation_in<'a>(label: Option<&[u8]>, body: &'a [u8]) -> Option<(&'a [u8], &'a [u8])> {
+    let (first, rest) = next_said(body)?;
+    if label.is_none() && offset_said(first).is_some() {
+        next_said(rest)
+    } else {
+        Some((first, rest))
     }
 }
 
 /// Appends the word in the first column, before the order or directive.
 fn push_label(text: &mut String, label: Option<&[u8]>, order: &[u8]) -> Result<(), AllocError> {
     push_subject(text, label, "no name")?;
-    text.push_str(" stands before ")?;
+    text.push_str(" is in the first column before ")?;
     push_quoted_then(text, order, "\n")
 }
 
@@ -123,14 +137,13 @@ pub fn nearest_order(alloc: Global, word: &[u8]) -> Result<String, AllocError> {
     Ok(text)
 }
 
-/// Appends that no line has an operand's name, and the nearest name.
+/// Appends that no line has a name, and the nearest name.
 fn push_no_name(
     alloc: Global,
     text: &mut String,
     file: &[u8],
-    operand: &[u8],
+    name: &[u8],
 ) -> Result<(), AllocError> {
-    let (name, _) = next_said(operand).unwrap_or((operand, operand));
     let names = names_of(alloc, file)?;
     push_nearest(alloc, text, name, "name", names.as_slice())
 }
@@ -144,7 +157,7 @@ fn names_of(alloc: Global, file: &[u8]) -> Result<Vec<&[u8]>, AllocError> {
 
 /// Returns the name in the first column of a source line.
 fn name_of(line: &[u8]) -> Option<&[u8]> {
-    let line = without_return(line);
+    let line = code_of(without_return(line));
     if is_listed(line) {
         return None;
     }
@@ -158,24 +171,17 @@ fn push_order(text: &mut String, order: &[u8], what: &str) -> Result<(), AllocEr
     writeln!(text, " is {what}")
 }
 
-/// Appends the words after an order or directive.
-fn push_operand(text: &mut String, order: &[u8], operand: &[u8]) -> Result<(), AllocError> {
-    push_words(text, operand)?;
-    text.push_str(" stands after ")?;
-    push_quoted_then(text, order, "\n")
-}
-
-/// Appends the words of an operand before its comment, separated by spaces.
-fn push_words(text: &mut String, operand: &[u8]) -> Result<(), AllocError> {
-    let Some((first, mut rest)) = next_said(operand) else {
-        return text.push_str("no operand");
-    };
-    text.push_str("`")?;
-    push_bytes(text, first)?;
-    while let Some((word, after)) = next_said(rest) {
-        text.push_str(" ")?;
-        push_bytes(text, word)?;
-        rest = after;
+/// Appends that a word is in the operand of an order or directive, or that the operand is missing.
+fn push_operand(
+    text: &mut String,
+    order: &[u8],
+    operand: &[u8],
+    word: &[u8],
+) -> Result<(), AllocError> {
+    if next_said(operand).is_none() {
+        return push_quoted_then(text, order, " has no operand\n");
     }
-    text.push_str("`")
+    push_quoted(text, word)?;
+    text.push_str(" is in the operand of ")?;
+    push_quoted_then(text, order, "\n")
 }
