@@ -1,5 +1,5 @@
 -- The words of the names that stand for an order with its operand.
-use Rattle.std.specs.Prelude.{◌≡◌, ℕ, List, [], ◌∷◌, Some, Ok}
+use Rattle.std.specs.Prelude.{◌≡◌, ℕ, [], ◌∷◌, Some, Ok}
 use Rattle.std.proofs.Common.{refl}
 use Rattle.agc_word.specs.Number.{number_from_pattern}
 use Rattle.agc_word.specs.Numeral.{number_of}

@@ -127,6 +127,17 @@ after_cells_by : (words : List Number) (since : ℕ) (left used : List ℕ) (cel
 after_cells_by words since left used cell leads true h more = record { banks = h.banks; bank = tt; along = λ none. tt }
 after_cells_by words since left used cell leads false h more = tt
 
+-- after words in erasable memory
+cells_any_by : (words : List Number) (left used : List ℕ) (other : LocationCounter → ℕ) (more : ℕ) (leads room : Bool) → length left ≡ 36
+    → IfOk (if room then Ok (at_cell left used more) else Err fault.Full) (λ next. Sound words (other next) next leads)
+cells_any_by words left used other more leads true h = record { banks = h; bank = tt; along = λ none. tt }
+cells_any_by words left used other more leads false h = tt
+
+pub after_cells_any : (words : List Number) (left used : List ℕ) (here : At) (other : LocationCounter → ℕ) (cell count : ℕ) (leads : Bool) → length left ≡ 36
+    → IfOk (after_cells (record { left = left; used = used; at = here }) (at.Cell cell) count) (λ next. Sound words (other next) next leads)
+after_cells_any words left used here other cell count leads h =
+    cells_any_by words left used other (cell + count) leads (nat_le (cell + count) 0o4000 && nat_le (cell + count) (stretch_end cell)) h
+
 pub after_cell_line : (words : List Number) (since : ℕ) (left used : List ℕ) (here : At) (leads : Bool) (count : ℕ) → Sound words since (record { left = left; used = used; at = here }) leads
     → IfOk (after_cells (record { left = left; used = used; at = here }) here count) (λ next. Sound words since next (leads && true))
 after_cell_line words since left used (at.Bank bank) leads count h = tt

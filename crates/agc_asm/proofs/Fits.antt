@@ -1,6 +1,6 @@
 -- The words of a source have fifteen bits.
 use Rattle.std.specs.Prelude.{◌≡◌, ℕ, ◌+◌, ◌-◌, ◌/◌, ◌%◌, ◌^◌, ◌<◌, Bool, true, false, List, [], ◌∷◌, codes, Option, Some, None, Result, Ok, Err, IfOk, IfSome}
-use Rattle.std.proofs.Common.{refl, arith}
+use Rattle.std.proofs.Common.{arith}
 use Rattle.std.proofs.lemmas.Bool.Decides.{nat_tests}
 use Rattle.agc_word.specs.Number.{Number, number_from_pattern, pattern_of}
 use Rattle.agc_word.specs.Numeral.{decimal_number, octal_number}
@@ -25,7 +25,7 @@ use Rattle.agc_asm.specs.declared.alias.Alias.{Alias}
 use Rattle.agc_asm.specs.declared.encode.Banks.{Banks}
 use Rattle.agc_listing.specs.declared.location.Location.{Location}
 use Rattle.agc_listing.specs.List.{listed_address}
-use Rattle.agc_asm.specs.Operand.{location_in, operand_for, value_of, location_for}
+use Rattle.agc_asm.specs.Operand.{operand_for, value_of, location_for}
 use Rattle.agc_asm.specs.declared.encode.Pair.{Pair}
 
 abbrev pub Fits : Number → Type 0

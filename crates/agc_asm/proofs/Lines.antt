@@ -14,7 +14,7 @@ use Rattle.agc_asm.specs.Disassemble.{follows_word}
 use Rattle.agc_listing.proofs.Prints.{all_text, prints}
 use Rattle.agc_listing.specs.Weave.{is_named}
 use Rattle.agc_listing.specs.declared.line.PlacedWord.{PlacedWord}
-use Rattle.agc_asm.specs.LineKind.{shape_of}
+use Rattle.agc_asm.specs.LineKind.{shape_of, after_line_words}
 use Rattle.agc_asm.specs.Source.{both_said, line_labelled, line_woven, names_from, naming_after, word_at, words_from, is_include}
 use Rattle.agc_asm.specs.declared.line_kind.LineKind.TheVariants as kind
 use Rattle.agc_asm.specs.declared.pass2.State.{State}
@@ -38,8 +38,11 @@ pub record Stands (words : List Number) (place : ℕ) (counter : LocationCounter
   pub banks : length counter.left ≡ 36
   pub here : follows_word words place ≡ true → IsHere place counter
 
-pub has_room : (place : ℕ) (counter : LocationCounter) → IsHere place counter → room_at counter counter.at 1 ≡ Ok place
-has_room place counter h = rw (h.bank, h.left) (grind (arith, nat_tests))
+pub has_room : (place : ℕ) (counter : LocationCounter) → IsHere place counter → room_at counter (at.Bank (place / 0o2000)) 1 ≡ Ok place
+has_room place counter h = rw (h.left) (grind (arith, nat_tests))
+
+words_here : (place : ℕ) (counter : LocationCounter) → IsHere place counter → after_line_words counter counter.at 1 ≡ Ok (after_words counter counter.at 1)
+words_here place counter h = rw (h.bank, has_room place counter h) refl
 
 -- after a word
 next_here : (place : ℕ) (counter : LocationCounter) → IsHere place counter → length counter.left ≡ 36 → place < 0o110000 → not ((place + 1) % 0o2000 == 0) ≡ true
@@ -108,7 +111,7 @@ plain_is line h = rw h.text refl
 labelled_word : (naming : Naming) (counter : LocationCounter) (place : ℕ) (line : List ℕ) → IsLine line → shape_of naming (spelled (said_by line)) ≡ Ok kind.Word → IsHere place counter
     → line_labelled naming counter line ≡ Ok (record { counter = after_words counter counter.at 1; place = None })
 unfolding line_labelled
-labelled_word naming counter place line h takes here = rw (h.unlisted, h.text, h.own, h.label, h.body, takes, has_room place counter here) refl
+labelled_word naming counter place line h takes here = rw (h.unlisted, h.text, h.own, h.label, h.body, takes, words_here place counter here) refl
 
 labelled_move : (naming : Naming) (counter : LocationCounter) (place : ℕ) (line : List ℕ) → IsLine line → shape_of naming (spelled (said_by line)) ≡ Ok (kind.Moves (location.Fixed place))
     → line_labelled naming counter line ≡ Ok (record { counter = moved_to counter (location.Fixed place); place = None })
@@ -147,7 +150,7 @@ woven_word : (naming : Naming) (state : State) (place : ℕ) (order : Bool) (wor
     → line_woven naming state line ≡ Ok (record { state = state_after state order word (said_by line); first = word_at place word; second = None })
 unfolding line_woven
 woven_word naming state place order word line h says here =
-    rw (h.unlisted, h.body, says.takes_up naming, has_room place state.counter here, says.means naming place state.banks, says.writes) refl
+    rw (h.unlisted, h.body, says.takes_up naming, here.bank, has_room place state.counter here, says.means naming place state.banks, says.writes) refl
 
 woven_move : (naming : Naming) (state : State) (place : ℕ) (line : List ℕ) → IsLine line → shape_of naming (spelled (said_by line)) ≡ Ok (kind.Moves (location.Fixed place))
     → line_woven naming state line ≡ Ok (record { state = state_moved state place; first = None; second = None })

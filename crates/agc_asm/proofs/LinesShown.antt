@@ -1,6 +1,5 @@
 -- The rope and its listing have the orders that lines write, line by line.
 use Rattle.std.specs.Prelude.{◌≡◌, ℕ, ◌+◌, Bool, true, false, ◌&&◌, All, List, [], ◌∷◌, ◌++◌, Option, Result, Ok, Err, IfOk, IfSome}
-use Rattle.std.specs.List.{flat_map}
 use Rattle.std.proofs.Common.{refl, ◌∙◌, arith}
 use Rattle.std.proofs.lemmas.List.{map-append}
 use Rattle.std.proofs.lemmas.List.Elements.{All-append}
@@ -16,18 +15,20 @@ use Rattle.agc_asm.specs.Body.{body_in, spelled, plain_line}
 use Rattle.agc_asm.specs.Operand.{location_in}
 use Rattle.agc_asm.specs.declared.encode.Banks.{Banks}
 use Rattle.agc_asm.specs.declared.fault.SourceFault.{SourceFault}
-use Rattle.agc_asm.specs.LocationCounter.{after_words, room_at}
+use Rattle.agc_asm.specs.LocationCounter.{after_words, room_at, after_cells}
 use Rattle.agc_asm.specs.Encode.{cell_in, pair_meaning, place_in, word_meaning, writes_order}
-use Rattle.agc_asm.specs.OrderLines.{OrderLine, mnemonic_in, mnemonic_of, order_of, order_placed, order_words, orders_from, since_after}
+use Rattle.agc_asm.specs.OrderLines.{OrderLine, mnemonic_in, mnemonic_of, order_of, order_placed, order_words, orders_from, since_after, mnemonic_at, mnemonics_from}
 use Rattle.agc_asm.specs.LineKind.{cursor_after, shape_of}
-use Rattle.agc_asm.specs.Source.{ebank_said, line_woven, listed_woven, no_word, one_word, pair_placed, sbank_said, shape_woven, stays_put, two_words, with_banks, word_placed, words_from}
+use Rattle.agc_asm.specs.Source.{ebank_said, line_woven, listed_woven, no_word, one_word, pair_placed, sbank_said, shape_woven, stays_put, two_words, with_banks, word_placed, words_from, in_cells, word_at_counter, pair_at_counter, word_in_cell, pair_in_cells}
+use Rattle.agc_asm.specs.declared.location_counter.At.{At as Where}
+use Rattle.agc_asm.specs.declared.location_counter.At.TheVariants as at
 use Rattle.agc_asm.specs.declared.location_counter.LocationCounter.{LocationCounter}
 use Rattle.agc_asm.specs.declared.encode.Pair.{Pair}
 use Rattle.agc_asm.specs.declared.line_kind.LineKind.{LineKind}
 use Rattle.agc_asm.specs.declared.line_kind.LineKind.TheVariants as kind
 use Rattle.agc_asm.specs.declared.pass2.State.{State}
 use Rattle.agc_asm.specs.declared.pass2.Step.{Step}
-use Rattle.agc_asm.proofs.Along.{Sound, after_bank, after_cell_line, after_data, after_move, after_name_line, after_one, after_range_line, after_resumed, place_inside, read_here}
+use Rattle.agc_asm.proofs.Along.{Sound, after_bank, after_cell_line, after_data, after_move, after_name_line, after_one, after_range_line, after_resumed, place_inside, read_here, after_cells_any}
 use Rattle.agc_asm.proofs.FileHolds.{HasWord}
 use Rattle.agc_asm.proofs.Fits.{word_fits}
 use Rattle.agc_asm.proofs.Held.{GoesIntoRope, goes_into_rope}
@@ -38,7 +39,7 @@ use Rattle.agc_asm.proofs.OrderShown.{Shown}
 -- the state after a line
 pub record Done (words : List Number) (naming : Naming) (since : ℕ) (state : State) (line : List ℕ) (step : Step) : Type 0 where
   pub sound : Sound words (since_after naming since line step.state.counter) step.state.counter step.state.leads
-  pub orders : AreShown words (order_of naming since state line) (mnemonic_of line)
+  pub orders : AreShown words (order_of naming since state line) (mnemonic_at state.counter.at line)
 
 abbrev LineDone : List Number → Naming → ℕ → State → List ℕ → Step → Type 0
 LineDone words naming since state line step = IfSome step.first (HasWord words) → IfSome step.second (HasWord words) → Done words naming since state line step
@@ -49,13 +50,28 @@ record Plain (words : List Number) (naming : Naming) (since : ℕ) (state : Stat
   takes : shape_of naming (spelled (body_in line)) ≡ Ok s
   sound : Sound words since state.counter state.leads
 
-orders_placed : (words : List Number) (naming : Naming) (since : ℕ) (state : State) (line : List ℕ) (room : Result ℕ SourceFault) → are_listed (said_by line) ≡ false → room_at state.counter state.counter.at 1 ≡ room
+-- words in erasable memory are no orders of the rope
+no_order_in_cell : (naming : Naming) (since cell : ℕ) (state : State) (line : List ℕ) → are_listed (said_by line) ≡ false → state.counter.at ≡ at.Cell cell → order_of naming since state line ≡ []
+unfolding order_of
+no_order_in_cell naming since cell state line unlisted e = rw (unlisted, e) refl
+
+orders_at : (words : List Number) (naming : Naming) (since : ℕ) (state : State) (line : List ℕ) (here : Where) → are_listed (said_by line) ≡ false → state.counter.at ≡ here
+    → AreShown words (order_of naming since state line) (mnemonic_of line) → AreShown words (order_of naming since state line) (mnemonic_at here line)
+orders_at words naming since state line (at.Bank bank) unlisted e h = h
+orders_at words naming since state line (at.Cell cell) unlisted e h = rw (no_order_in_cell naming since cell state line unlisted e) (none_shown words)
+
+orders_read : (words : List Number) (naming : Naming) (since : ℕ) (state : State) (line : List ℕ) (room : Result ℕ SourceFault) → are_listed (said_by line) ≡ false → room_at state.counter state.counter.at 1 ≡ room
     → AreShown words (order_placed naming since state.leads room (order_words (body_in line))) (mnemonic_in (order_words (body_in line))) → AreShown words (order_of naming since state line) (mnemonic_of line)
 unfolding order_of mnemonic_of
-orders_placed words naming since state line room unlisted e h = rw (unlisted, e) h
+orders_read words naming since state line room unlisted e h = rw (unlisted, e) h
+
+orders_placed : (words : List Number) (naming : Naming) (since : ℕ) (state : State) (line : List ℕ) (room : Result ℕ SourceFault) → are_listed (said_by line) ≡ false → room_at state.counter state.counter.at 1 ≡ room
+    → AreShown words (order_placed naming since state.leads room (order_words (body_in line))) (mnemonic_in (order_words (body_in line))) → AreShown words (order_of naming since state line) (mnemonic_at state.counter.at line)
+orders_placed words naming since state line room unlisted e h =
+    orders_at words naming since state line state.counter.at unlisted refl (orders_read words naming since state line room unlisted e h)
 
 no_orders : (words : List Number) (naming : Naming) (since : ℕ) (state : State) (line : List ℕ) (s : LineKind) → IsNoWord s → Plain words naming since state line s
-    → AreShown words (order_of naming since state line) (mnemonic_of line)
+    → AreShown words (order_of naming since state line) (mnemonic_at state.counter.at line)
 no_orders words naming since state line s none p =
     orders_placed words naming since state line (room_at state.counter state.counter.at 1) p.unlisted refl
     (no_order words naming since state.leads (room_at state.counter state.counter.at 1) s (body_in line) none p.takes)
@@ -109,6 +125,46 @@ pair_done : (words : List Number) (naming : Naming) (since : ℕ) (state : State
 pair_done words naming since state line (Err why) p e = tt
 pair_done words naming since state line (Ok place) p e = two_done words naming since state line place (pair_meaning naming place state.banks (body_in line)) p e
 
+-- of words in erasable memory
+cells_done : (words : List Number) (naming : Naming) (since : ℕ) (state : State) (line : List ℕ) (leads : Bool) (next : Result LocationCounter SourceFault)
+    → AreShown words (order_of naming since state line) (mnemonic_at state.counter.at line) → IfOk next (λ counter. Sound words (since_after naming since line counter) counter leads)
+    → IfOk (in_cells state (body_in line) leads next) (LineDone words naming since state line)
+cells_done words naming since state line leads (Err why) orders h = tt
+cells_done words naming since state line leads (Ok counter) orders h = λ first second. record { sound = h; orders = orders }
+
+none_in_cell : (words : List Number) (naming : Naming) (since cell : ℕ) (state : State) (line : List ℕ) → are_listed (said_by line) ≡ false → state.counter.at ≡ at.Cell cell
+    → AreShown words (order_of naming since state line) (mnemonic_at state.counter.at line)
+none_in_cell words naming since cell state line unlisted e =
+    let none = no_order_in_cell naming since cell state line unlisted e in
+    rw (none, e) (none_shown words)
+
+word_cell_done : (words : List Number) (naming : Naming) (since cell : ℕ) (state : State) (line : List ℕ) (meaning : Result Number SourceFault) → Plain words naming since state line kind.Word
+    → state.counter.at ≡ at.Cell cell → IfOk (word_in_cell state (body_in line) (after_cells state.counter (at.Cell cell) 1) meaning) (LineDone words naming since state line)
+word_cell_done words naming since cell state line (Err why) p e = tt
+word_cell_done words naming since cell state line (Ok word) p e =
+    let leads = writes_order (body_in line) && next_is_extracode state.leads word in
+    cells_done words naming since state line leads (after_cells state.counter (at.Cell cell) 1) (none_in_cell words naming since cell state line p.unlisted e)
+    (after_cells_any words state.counter.left state.counter.used state.counter.at (since_after naming since line) cell 1 leads p.sound.banks)
+
+word_at_done : (words : List Number) (naming : Naming) (since : ℕ) (state : State) (line : List ℕ) (here : Where) → Plain words naming since state line kind.Word → state.counter.at ≡ here
+    → IfOk (word_at_counter naming state (body_in line) here) (LineDone words naming since state line)
+word_at_done words naming since state line (at.Bank bank) p e = word_done words naming since state line (room_at state.counter (at.Bank bank) 1) p (rw e refl)
+word_at_done words naming since state line (at.Cell cell) p e =
+    word_cell_done words naming since cell state line (word_meaning naming 0o4000 state.leads state.banks (body_in line)) p e
+
+pair_cell_done : (words : List Number) (naming : Naming) (since cell : ℕ) (state : State) (line : List ℕ) (pair : Result Pair SourceFault) → Plain words naming since state line kind.Pair
+    → state.counter.at ≡ at.Cell cell → IfOk (pair_in_cells state (body_in line) (after_cells state.counter (at.Cell cell) 2) pair) (LineDone words naming since state line)
+pair_cell_done words naming since cell state line (Err why) p e = tt
+pair_cell_done words naming since cell state line (Ok pair) p e =
+    cells_done words naming since state line false (after_cells state.counter (at.Cell cell) 2) (none_in_cell words naming since cell state line p.unlisted e)
+    (after_cells_any words state.counter.left state.counter.used state.counter.at (since_after naming since line) cell 2 false p.sound.banks)
+
+pair_at_done : (words : List Number) (naming : Naming) (since : ℕ) (state : State) (line : List ℕ) (here : Where) → Plain words naming since state line kind.Pair → state.counter.at ≡ here
+    → IfOk (pair_at_counter naming state (body_in line) here) (LineDone words naming since state line)
+pair_at_done words naming since state line (at.Bank bank) p e = pair_done words naming since state line (room_at state.counter (at.Bank bank) 2) p (rw e refl)
+pair_at_done words naming since state line (at.Cell cell) p e =
+    pair_cell_done words naming since cell state line (pair_meaning naming 0o4000 state.banks (body_in line)) p e
+
 -- that names banks
 banks_done : (words : List Number) (naming : Naming) (since : ℕ) (state : State) (line : List ℕ) (s : LineKind) (banks : Banks) → IsNoWord s → Plain words naming since state line s
     → since_after naming since line state.counter ≡ since → LineDone words naming since state line (with_banks state banks)
@@ -133,8 +189,8 @@ next_done words naming since state line s (Ok counter) none p h = λ first secon
 
 shape_done : (words : List Number) (naming : Naming) (since : ℕ) (state : State) (line : List ℕ) (s : LineKind) → Plain words naming since state line s → GoesIntoRope s
     → IfOk (shape_woven naming state (body_in line) (Ok s)) (LineDone words naming since state line)
-shape_done words naming since state line kind.Word p goes = word_done words naming since state line (room_at state.counter state.counter.at 1) p refl
-shape_done words naming since state line kind.Pair p goes = pair_done words naming since state line (room_at state.counter state.counter.at 2) p refl
+shape_done words naming since state line kind.Word p goes = word_at_done words naming since state line state.counter.at p refl
+shape_done words naming since state line kind.Pair p goes = pair_at_done words naming since state line state.counter.at p refl
 shape_done words naming since state line (kind.Cells count) p goes =
     next_done words naming since state line (kind.Cells count) (cursor_after state.counter (kind.Cells count)) tt p
     (rw (p.unlisted, p.takes) (after_cell_line words since state.counter.left state.counter.used state.counter.at state.leads count p.sound))
@@ -171,9 +227,17 @@ plain_done words naming since state line (Ok s) unlisted e sound =
     shape_done words naming since state line s (record { unlisted = unlisted; takes = e; sound = sound }) (goes_into_rope naming (spelled (body_in line)) s e)
 
 -- a listing line
-listed_orders : (words : List Number) (naming : Naming) (since : ℕ) (state : State) (line : List ℕ) → are_listed (said_by line) ≡ true → AreShown words (order_of naming since state line) (mnemonic_of line)
-unfolding order_of mnemonic_of
-listed_orders words naming since state line listed = rw listed (none_shown words)
+pub listed_none : (line : List ℕ) (here : Where) → are_listed (said_by line) ≡ true → mnemonic_at here line ≡ []
+unfolding mnemonic_of
+listed_none line (at.Bank bank) listed = rw listed refl
+listed_none line (at.Cell cell) listed = refl
+
+no_order_listed : (naming : Naming) (since : ℕ) (state : State) (line : List ℕ) → are_listed (said_by line) ≡ true → order_of naming since state line ≡ []
+unfolding order_of
+no_order_listed naming since state line listed = rw listed refl
+
+listed_orders : (words : List Number) (naming : Naming) (since : ℕ) (state : State) (line : List ℕ) → are_listed (said_by line) ≡ true → AreShown words (order_of naming since state line) (mnemonic_at state.counter.at line)
+listed_orders words naming since state line listed = rw (no_order_listed naming since state line listed, listed_none line state.counter.at listed) (none_shown words)
 
 listed_done : (words : List Number) (naming : Naming) (since : ℕ) (state : State) (line : List ℕ) (said : Result (Option PlacedWord) LineFault) → are_listed (said_by line) ≡ true
     → Sound words since state.counter state.leads → IfOk (listed_woven state said) (LineDone words naming since state line)
@@ -206,9 +270,14 @@ both_shown words first rest name names f r =
       named = map-append (λ (line : OrderLine). line.written) first rest ∙ rw (f.named, r.named) refl;
     }
 
+pub mnemonics_more : (naming : Naming) (state : State) (line : List ℕ) (lines : List (List ℕ)) (step : Step) → line_woven naming state (plain_line line) ≡ Ok step
+    → mnemonics_from naming state (line ∷ lines) ≡ mnemonic_at state.counter.at (plain_line line) ++ mnemonics_from naming step.state lines
+unfolding mnemonics_from
+mnemonics_more naming state line lines step e = rw (e, mnemonics_from) refl
+
 pub shown_from : (words : List Number) (lines : List (List ℕ)) (n : ℕ) (naming : Naming) (since : ℕ) (state : State) (said final : List PlacedWord) → words_from n naming state said lines ≡ Ok final
-    → All (HasWord words) final → Sound words since state.counter state.leads → AreShown words (orders_from naming since state lines) (flat_map (λ line. mnemonic_of (plain_line line)) lines)
-unfolding orders_from
+    → All (HasWord words) final → Sound words since state.counter state.leads → AreShown words (orders_from naming since state lines) (mnemonics_from naming state lines)
+unfolding orders_from mnemonics_from
 shown_from words [] n naming since state said final is has sound = none_shown words
 shown_from words (line ∷ lines) n naming since state said final is has sound =
     let s = stepped n naming state said final line lines is in
@@ -219,5 +288,5 @@ shown_from words (line ∷ lines) n naming since state said final is has sound =
     let done = line_done words naming since state (plain_line line) s.step s.woven sound first.here second.here in
     let since_next = since_after naming since (plain_line line) s.step.state.counter in
     let rest = shown_from words lines (n + 1) naming since_next s.step.state s.more final s.rest has done.sound in
-    rw (orders_more naming since state line lines s.step s.woven)
-    (both_shown words (order_of naming since state (plain_line line)) (orders_from naming since_next s.step.state lines) (mnemonic_of (plain_line line)) (flat_map (λ line. mnemonic_of (plain_line line)) lines) done.orders rest)
+    rw (orders_more naming since state line lines s.step s.woven, mnemonics_more naming state line lines s.step s.woven)
+    (both_shown words (order_of naming since state (plain_line line)) (orders_from naming since_next s.step.state lines) (mnemonic_at state.counter.at (plain_line line)) (mnemonics_from naming s.step.state lines) done.orders rest)

@@ -1,5 +1,5 @@
 -- The rounded quotient is nearest; if it rounds to a limit, the largest integer below the limit is.
-use Rattle.std.specs.Prelude.{◌≡◌, ℕ, ◌+◌, ◌-◌, ◌*◌, ◌/◌, ◌%◌, ◌^◌, ◌<◌, ◌≤◌, nat_lt, zero, suc, Bool, true, false, Option, Some, None, if◌then◌else◌}
+use Rattle.std.specs.Prelude.{◌≡◌, ℕ, ◌+◌, ◌-◌, ◌*◌, ◌/◌, ◌%◌, ◌^◌, ◌<◌, ◌≤◌, nat_lt, zero, suc, Bool, true, false, Some, None, if◌then◌else◌}
 use Rattle.std.proofs.Common.{refl, ap, sym, arith, ◌∙◌}
 use Rattle.std.proofs.lemmas.Bool.Decides.{nat_tests}
 use Rattle.std.proofs.Math.Nat.{mul-one, mul_assoc, mul_comm, one-le-pow, pow-le-pow_right, pow-suc, pow-zero}

@@ -6,7 +6,7 @@ use Rattle.std.proofs.lemmas.Bool.Decides.{nat_tests}
 use Rattle.std.proofs.lemmas.Slice.Eq.{bytes_eq-Decides}
 use Rattle.agc_word.specs.Number.{Number, number_from_pattern, pattern_of}
 use Rattle.agc_order.specs.Order.{basic_of, extracode_of}
-use Rattle.agc_order.specs.Row.{all_basics, all_extracodes, basic_row, extracode_row}
+use Rattle.agc_order.specs.Row.{all_extracodes, basic_row, extracode_row}
 use Rattle.agc_order.specs.declared.order.Basic.{Basic}
 use Rattle.agc_order.specs.declared.order.Extracode.{Extracode}
 use Rattle.agc_store.specs.Memory.{fixed_at}

@@ -14,7 +14,6 @@ use Rattle.agc_asm.specs.Mnemonic.{basic_named, directive_named, extracode_named
 use Rattle.agc_asm.specs.Name.{Naming}
 use Rattle.agc_asm.specs.Row.{as_word, basic_word, extracode_word, meant, meant_operand}
 use Rattle.agc_asm.specs.declared.fault.SourceFault.{SourceFault}
-use Rattle.agc_asm.specs.declared.fault.SourceFault.TheVariants as fault
 use Rattle.agc_asm.specs.declared.mnemonic.Directive.{Directive}
 use Rattle.agc_asm.specs.Body.{alias_in, has_minus, spelled}
 use Rattle.agc_asm.specs.Encode.{basic_with, complemented_word, extracode_with, if_basic, if_extracode, is_order_by, is_order_spelled, less_than_zero, misfit, order_by_offset, order_meaning, plain_meaning, unless_misfit, word_by, word_meaning, writes_order}

@@ -2,7 +2,7 @@
 use Rattle.agc_asm.proofs.Back.{plain_listed, listed_is}
 use Rattle.agc_asm.specs.Body.{plain_line}
 use Rattle.std.specs.Prelude.{◌≡◌, ℕ, Bool, true, false, All, List, [], ◌∷◌, map, Result, Ok, Err}
-use Rattle.std.specs.List.{flat_map, list_all}
+use Rattle.std.specs.List.{list_all}
 use Rattle.std.proofs.Common.{refl, ◌∙◌, arith}
 use Rattle.std.proofs.lemmas.Bool.{and_parts}
 use Rattle.std.proofs.lemmas.List.{length-replicate}
@@ -14,16 +14,16 @@ use Rattle.agc_word.specs.Text.{lines_of}
 use Rattle.agc_listing.specs.Weave.{woven_file}
 use Rattle.agc_listing.specs.declared.line.PlacedWord.{PlacedWord}
 use Rattle.agc_asm.specs.Name.{Naming}
-use Rattle.agc_listing.specs.Text.{are_listed, said_by}
+use Rattle.agc_asm.specs.declared.location_counter.At.{At}
 use Rattle.agc_asm.specs.declared.fault.SourceFault.{SourceFault}
 use Rattle.agc_asm.specs.declared.fault.AssemblyFault.{AssemblyFault}
-use Rattle.agc_asm.specs.OrderLines.{HasOrder, IsListed, IsReadAlong, OrderLine, mnemonic_of, mnemonics_in, order_of, orders_by, orders_from, orders_in, since_after}
+use Rattle.agc_asm.specs.OrderLines.{HasOrder, IsListed, IsReadAlong, OrderLine, mnemonics_in, order_of, orders_by, orders_from, orders_in, since_after, mnemonic_at, mnemonics_from, mnemonics_by}
 use Rattle.agc_asm.specs.Source.{IsSourceWoven, first_state, is_listing, line_woven, names_in, source_in, words_after_names, words_in, is_listing_line}
 use Rattle.agc_asm.specs.declared.pass2.State.{State}
 use Rattle.agc_asm.specs.declared.pass2.Step.{Step}
 use Rattle.agc_asm.proofs.Along.{Sound}
 use Rattle.agc_asm.proofs.FileHolds.{HasWord, Kept, StandsIn, has_word, kept_from}
-use Rattle.agc_asm.proofs.LinesShown.{orders_more, shown_from}
+use Rattle.agc_asm.proofs.LinesShown.{orders_more, shown_from, listed_none, mnemonics_more}
 use Rattle.agc_asm.proofs.OrderShown.{Shown}
 use Rattle.agc_asm.proofs.OrdersShown.{AreShown, none_shown}
 
@@ -33,7 +33,7 @@ at_first words = record { banks = length-replicate {A = ℕ} 36 0; bank = omega 
 
 -- a text whose second pass yields words
 way_shown : (form : RopeForm) (text file : List ℕ) (naming : Naming) (said : List PlacedWord) → words_in naming text ≡ Ok said → file ≡ woven_file form said
-    → AreShown (rope_words form file) (orders_from naming 0o4000 first_state (lines_of text)) (flat_map (λ line. mnemonic_of (plain_line line)) (lines_of text))
+    → AreShown (rope_words form file) (orders_from naming 0o4000 first_state (lines_of text)) (mnemonics_from naming first_state (lines_of text))
 unfolding words_in
 way_shown form text file naming said is woven =
     let words = rope_words form file in
@@ -43,7 +43,7 @@ way_shown form text file naming said is woven =
     shown_from words (lines_of text) 1 naming 0o4000 first_state [] said is has (at_first words)
 
 named_shown : (form : RopeForm) (text file : List ℕ) (names : Result Naming AssemblyFault) (said : List PlacedWord) → words_after_names text names ≡ Ok said → file ≡ woven_file form said
-    → AreShown (rope_words form file) (orders_by names (lines_of text)) (flat_map (λ line. mnemonic_of (plain_line line)) (lines_of text))
+    → AreShown (rope_words form file) (orders_by names (lines_of text)) (mnemonics_by names (lines_of text))
 named_shown form text file (Err why) said is woven = absurd cc
 named_shown form text file (Ok naming) said is woven = way_shown form text file naming said is woven
 
@@ -51,16 +51,6 @@ named_shown form text file (Ok naming) said is woven = way_shown form text file 
 no_order : (naming : Naming) (since : ℕ) (state : State) (line : List ℕ) → is_listing_line line ≡ true → order_of naming since state (plain_line line) ≡ []
 unfolding order_of
 no_order naming since state line listed = rw (plain_listed line listed, listed_is line listed) refl
-
-no_mnemonic : (line : List ℕ) → is_listing_line line ≡ true → mnemonic_of (plain_line line) ≡ []
-unfolding mnemonic_of
-no_mnemonic line listed = rw (plain_listed line listed, listed_is line listed) refl
-
-no_mnemonics : (lines : List (List ℕ)) → list_all (λ line. is_listing_line line) lines ≡ true → flat_map (λ line. mnemonic_of (plain_line line)) lines ≡ []
-no_mnemonics [] h = refl
-no_mnemonics (line ∷ lines) h =
-    let parts = and_parts (is_listing_line line) (list_all (λ other. is_listing_line other) lines) h in
-    rw (no_mnemonic line parts.0, no_mnemonics lines parts.1) refl
 
 abbrev WriteNone : List (List ℕ) → Type 0
 WriteNone lines = (naming : Naming) (since : ℕ) (state : State) → orders_from naming since state lines ≡ []
@@ -82,9 +72,32 @@ no_orders (line ∷ lines) h naming since state =
     let parts = and_parts (is_listing_line line) (list_all (λ other. is_listing_line other) lines) h in
     no_orders_by naming since state line lines (line_woven naming state (plain_line line)) parts.0 (no_orders lines parts.1) refl
 
-listing_shown : (words : List Number) (lines : List (List ℕ)) (names : Result Naming AssemblyFault) → list_all (λ line. is_listing_line line) lines ≡ true → AreShown words (orders_by names lines) (flat_map (λ line. mnemonic_of (plain_line line)) lines)
-listing_shown words lines (Err why) h = rw (no_mnemonics lines h) (none_shown words)
-listing_shown words lines (Ok naming) h = rw (no_orders lines h naming 0o4000 first_state, no_mnemonics lines h) (none_shown words)
+abbrev NameNone : List (List ℕ) → Type 0
+NameNone lines = (naming : Naming) (state : State) → mnemonics_from naming state lines ≡ []
+
+faulty_name : (naming : Naming) (state : State) (line : List ℕ) (lines : List (List ℕ)) (why : SourceFault) → line_woven naming state (plain_line line) ≡ Err why → mnemonics_from naming state (line ∷ lines) ≡ []
+unfolding mnemonics_from
+faulty_name naming state line lines why e = rw (e, mnemonics_from) refl
+
+no_mnemonic : (line : List ℕ) (here : At) → is_listing_line line ≡ true → mnemonic_at here (plain_line line) ≡ []
+no_mnemonic line here listed = rw (plain_listed line listed) (listed_none line here (listed_is line listed))
+
+no_mnemonics_by : (naming : Naming) (state : State) (line : List ℕ) (lines : List (List ℕ)) (woven : Result Step SourceFault) → is_listing_line line ≡ true → NameNone lines → line_woven naming state (plain_line line) ≡ woven
+    → mnemonics_from naming state (line ∷ lines) ≡ []
+no_mnemonics_by naming state line lines (Err why) listed rest e = faulty_name naming state line lines why e
+no_mnemonics_by naming state line lines (Ok step) listed rest e =
+    mnemonics_more naming state line lines step e ∙ rw (no_mnemonic line state.counter.at listed) (rest naming step.state)
+
+no_mnemonics : (lines : List (List ℕ)) → list_all (λ line. is_listing_line line) lines ≡ true → NameNone lines
+unfolding mnemonics_from
+no_mnemonics [] h naming state = refl
+no_mnemonics (line ∷ lines) h naming state =
+    let parts = and_parts (is_listing_line line) (list_all (λ other. is_listing_line other) lines) h in
+    no_mnemonics_by naming state line lines (line_woven naming state (plain_line line)) parts.0 (no_mnemonics lines parts.1) refl
+
+listing_shown : (words : List Number) (lines : List (List ℕ)) (names : Result Naming AssemblyFault) → list_all (λ line. is_listing_line line) lines ≡ true → AreShown words (orders_by names lines) (mnemonics_by names lines)
+listing_shown words lines (Err why) h = none_shown words
+listing_shown words lines (Ok naming) h = rw (no_orders lines h naming 0o4000 first_state, no_mnemonics lines h naming first_state) (none_shown words)
 
 text_shown : (form : RopeForm) (text file : List ℕ) (said : List PlacedWord) (listing : Bool) → is_listing text ≡ listing → source_in text ≡ Ok said → file ≡ woven_file form said
     → AreShown (rope_words form file) (orders_in text) (mnemonics_in text)

@@ -1,12 +1,12 @@
 -- The words of short texts.
-use Rattle.std.specs.Prelude.{◌≡◌, ℕ, ◌==◌, false, List, [], ◌∷◌, codes, position, take}
+use Rattle.std.specs.Prelude.{◌≡◌, ℕ, List, [], ◌∷◌, codes, position, take}
 use Rattle.std.proofs.Common.{refl, sym, ne_eqb}
-use Rattle.agc_word.specs.Text.{is_empty_part, words_of}
+use Rattle.agc_word.specs.Text.{words_of}
 use Rattle.agc_listing.specs.Text.{said_by}
 use Rattle.agc_asm.specs.Body.{alias_operand, is_hash_byte, operand_spelled, tokens, uncommented}
 use Rattle.agc_asm.specs.declared.alias.Alias.{Alias}
 use Rattle.agc_asm.specs.declared.alias.Alias.TheVariants as alias
-use Rattle.std.specs.Prelude.{Option, Some, None}
+use Rattle.std.specs.Prelude.{Some}
 
 pub no_tokens : tokens [] ≡ []
 unfolding tokens uncommented said_by words_of

@@ -2,8 +2,8 @@
 use Rattle.std.specs.Prelude.{◌≡◌, ℕ, ◌+◌, ◌*◌, ◌<◌, ◌≤◌, nat_le, Bool, true, false, Ok, Err, IsOk, if◌then◌else◌, ◌&&◌}
 use Rattle.std.proofs.Common.{refl, arith}
 use Rattle.std.proofs.lemmas.Bool.Decides.{nat_tests}
-use Rattle.agc_asm.specs.LocationCounter.{IsAt, after_cells, left_in, location_at, room_at, stretch_end}
-use Rattle.agc_asm.specs.LineKind.{after_room}
+use Rattle.agc_asm.specs.LocationCounter.{IsAt, after_cells, left_in, location_at, stretch_end}
+use Rattle.agc_asm.specs.LineKind.{after_line_words, after_room}
 use Rattle.agc_asm.specs.declared.location_counter.At.{At}
 use Rattle.agc_asm.specs.declared.location_counter.At.TheVariants as at
 use Rattle.agc_asm.specs.declared.location_counter.LocationCounter.{LocationCounter}
@@ -15,12 +15,6 @@ in_bank : (room : Bool) (counter : LocationCounter) (bank left count : ℕ) → 
 in_bank true counter bank left count e h some ok = let room : left + count ≤ 0o2000 = grind (arith, nat_tests) in omega arith
 in_bank false counter bank left count e h some ok = absurd cc
 
--- when words have room
-pub room_within : (counter : LocationCounter) (here : At) (count : ℕ) → IsAt here → 0 < count → IsOk (after_room counter count (room_at counter here count)) → IsWithin (location_at counter here)
-room_within counter (at.Bank bank) count h some ok =
-    in_bank (nat_le (left_in counter bank + count) 0o2000) counter bank (left_in counter bank) count refl h some ok
-room_within counter (at.Cell cell) count h some ok = absurd cc
-
 in_erasable : (room same : Bool) (counter next : LocationCounter) (cell count : ℕ) → nat_le (cell + count) 0o4000 ≡ room → 0 < count
     → IsOk (if room && same then Ok next else Err fault.Full) → cell < 0o4000
 in_erasable true same counter next cell count e some ok = let room : cell + count ≤ 0o4000 = grind (arith, nat_tests) in omega arith
@@ -31,3 +25,9 @@ pub cells_within : (counter : LocationCounter) (here : At) (count : ℕ) → 0 <
 cells_within counter (at.Cell cell) count some ok =
     in_erasable (nat_le (cell + count) 0o4000) (nat_le (cell + count) (stretch_end cell)) counter (record counter { at = at.Cell (cell + count) }) cell count refl some ok
 cells_within counter (at.Bank bank) count some ok = absurd cc
+
+-- when words have room
+pub room_within : (counter : LocationCounter) (here : At) (count : ℕ) → IsAt here → 0 < count → IsOk (after_line_words counter here count) → IsWithin (location_at counter here)
+room_within counter (at.Bank bank) count h some ok =
+    in_bank (nat_le (left_in counter bank + count) 0o2000) counter bank (left_in counter bank) count refl h some ok
+room_within counter (at.Cell cell) count h some ok = cells_within counter (at.Cell cell) count some ok

@@ -1,12 +1,12 @@
 -- How a line is encoded into its words.
-use Rattle.std.specs.Prelude.{ℕ, ◌+◌, ◌-◌, ◌*◌, ◌/◌, ◌%◌, ◌^◌, nat_lt, nat_le, Bool, true, false, not, ◌&&◌, List, [], ◌∷◌, codes}
+use Rattle.std.specs.Prelude.{ℕ, ◌+◌, ◌-◌, ◌*◌, ◌/◌, ◌%◌, ◌^◌, nat_lt, Bool, true, false, not, ◌&&◌, List, [], ◌∷◌, codes}
 use Rattle.std.specs.Prelude.{Option, Some, None, Result, Ok, Err, is_some, is_none, if◌then◌else◌}
 use Rattle.agc_word.specs.Number.{Number, number_from_pattern, pattern_of}
 use Rattle.agc_word.specs.Numeral.{decimal_number, octal_number}
 use Rattle.agc_order.specs.Row.{basic_row, extracode_row}
 use Rattle.agc_order.specs.declared.order.Basic.{Basic}
 use Rattle.agc_order.specs.declared.order.Extracode.{Extracode}
-use Rattle.agc_store.specs.Places.{erasable_bank_size, fixed_bank_size}
+use Rattle.agc_store.specs.Places.{fixed_bank_size}
 use Rattle.agc_listing.specs.List.{listed_address}
 use Rattle.agc_listing.specs.declared.order.Operand.{Operand}
 use Rattle.agc_listing.specs.Location.{bank_register, cell_address, complete_address}

@@ -12,6 +12,8 @@ use Rattle.agc_asm.specs.Mnemonic.{directive_named, is_order}
 use Rattle.agc_asm.specs.UnknownOperation.{unknown_operation}
 use Rattle.agc_listing.specs.Number.{offset_said}
 use Rattle.agc_listing.specs.Text.{only_of}
+use Rattle.agc_asm.specs.declared.location_counter.At.{At}
+use Rattle.agc_asm.specs.declared.location_counter.At.TheVariants as at
 use Rattle.agc_asm.specs.declared.location_counter.LocationCounter.{LocationCounter}
 use Rattle.agc_asm.specs.declared.fault.SourceFault.{SourceFault}
 use Rattle.agc_asm.specs.declared.fault.SourceFault.TheVariants as fault
@@ -135,10 +137,15 @@ abbrev pub after_room : LocationCounter → ℕ → Result ℕ SourceFault → R
 after_room counter count (Ok place) = Ok (after_words counter counter.at count)
 after_room counter count (Err why) = Err why
 
+-- words take places of the rope, or cells
+abbrev pub after_line_words : LocationCounter → At → ℕ → Result LocationCounter SourceFault
+after_line_words counter (at.Bank bank) count = after_room counter count (room_at counter (at.Bank bank) count)
+after_line_words counter (at.Cell cell) count = after_cells counter (at.Cell cell) count
+
 -- the location counter after a line of a kind
 abbrev pub cursor_after : LocationCounter → LineKind → Result LocationCounter SourceFault
-cursor_after counter kind.Word = after_room counter 1 (room_at counter counter.at 1)
-cursor_after counter kind.Pair = after_room counter 2 (room_at counter counter.at 2)
+cursor_after counter kind.Word = after_line_words counter counter.at 1
+cursor_after counter kind.Pair = after_line_words counter counter.at 2
 cursor_after counter (kind.Cells count) = after_cells counter counter.at count
 cursor_after counter (kind.Moves place) = Ok (moved_to counter place)
 cursor_after counter (kind.Bank bank) = Ok (in_bank counter bank)

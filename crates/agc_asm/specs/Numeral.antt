@@ -1,9 +1,9 @@
 -- The numbers of DEC and 2DEC: integers, and fractions with a point, a decimal exponent and a binary scale.
-use Rattle.std.specs.Prelude.{ℕ, zero, suc, ◌+◌, ◌-◌, ◌*◌, ◌/◌, ◌%◌, ◌^◌, ◌<◌, ◌≤◌, ◌==◌, nat_le, nat_lt, Bool, true, false, ◌&&◌}
+use Rattle.std.specs.Prelude.{ℕ, zero, suc, ◌+◌, ◌-◌, ◌*◌, ◌/◌, ◌^◌, ◌<◌, ◌≤◌, ◌==◌, nat_le, nat_lt, Bool, true, false, ◌&&◌}
 use Rattle.std.specs.Prelude.{List, [], ◌∷◌, length, take, drop, position, get_or, Option, Some, None, Result, Ok, Err}
 use Rattle.std.specs.Prelude.{if◌then◌else◌}
 use Rattle.agc_word.specs.Numeral.{decimal_number}
-use Rattle.agc_listing.specs.Number.{begins_with_minus, begins_with_sign, is_sign, without_sign}
+use Rattle.agc_listing.specs.Number.{begins_with_minus, without_sign}
 use Rattle.agc_listing.specs.declared.number.Signed.{Signed}
 use Rattle.agc_asm.specs.declared.fault.SourceFault.{SourceFault}
 use Rattle.agc_asm.specs.declared.fault.SourceFault.TheVariants as fault

@@ -3,7 +3,6 @@ use Rattle.agc_order.specs.declared.order.Basic.{Basic}
 use Rattle.agc_asm.specs.Row.{meant, meant_operand}
 use Rattle.std.specs.Prelude.{◌≡◌, ℕ, ◌^◌, ◌<◌, Bool, true, false, ◌||◌, List, [], ◌∷◌, ◌++◌, codes}
 use Rattle.std.specs.Prelude.{Option, Some, None, option_map, Result, Ok, Err, if◌then◌else◌}
-use Rattle.std.specs.List.{flat_map}
 use Rattle.agc_word.specs.Number.{Number, pattern_of}
 use Rattle.agc_word.specs.Octal.{word_digits}
 use Rattle.agc_order.specs.Order.{basic_of, extracode_of}
@@ -30,6 +29,8 @@ use Rattle.agc_asm.specs.LocationCounter.{location_at, room_at}
 use Rattle.agc_asm.specs.Operand.{operand_for}
 use Rattle.agc_asm.specs.LineKind.{shape_of}
 use Rattle.agc_asm.specs.Source.{first_state, line_woven, names_in, stays_put}
+use Rattle.agc_asm.specs.declared.location_counter.At.{At}
+use Rattle.agc_asm.specs.declared.location_counter.At.TheVariants as at
 use Rattle.agc_asm.specs.declared.location_counter.LocationCounter.{LocationCounter}
 use Rattle.agc_asm.specs.declared.line_kind.LineKind.{LineKind}
 use Rattle.agc_asm.specs.declared.line_kind.LineKind.TheVariants as kind
@@ -152,9 +153,26 @@ mnemonic_in (word ∷ words) = word ∷ []
 unfoldable pub mnemonic_of : List ℕ → List (List ℕ)
 mnemonic_of line = if are_listed (said_by line) then [] else mnemonic_in (order_words (body_in line))
 
+-- the mnemonics of lines in fixed memory; orders in erasable memory are not in the rope
+abbrev pub mnemonic_at : At → List ℕ → List (List ℕ)
+mnemonic_at (at.Bank bank) line = mnemonic_of line
+mnemonic_at (at.Cell cell) line = []
+
+unfoldable pub mnemonics_from : Naming → State → List (List ℕ) → List (List ℕ)
+mnemonics_from naming state [] = []
+mnemonics_from naming state (line ∷ lines) =
+    elim (line_woven naming state (plain_line line)) [
+      | Ok step ↦ mnemonic_at state.counter.at (plain_line line) ++ mnemonics_from naming step.state lines
+      | Err why ↦ []
+    ]
+
+abbrev pub mnemonics_by : Result Naming AssemblyFault → List (List ℕ) → List (List ℕ)
+mnemonics_by (Ok naming) lines = mnemonics_from naming first_state lines
+mnemonics_by (Err why) lines = []
+
 -- the mnemonics of a source, in the order of its lines
 unfoldable pub mnemonics_in : List ℕ → List (List ℕ)
-mnemonics_in text = flat_map (λ line. mnemonic_of (plain_line line)) (lines_of text)
+mnemonics_in text = mnemonics_by (names_in text) (lines_of text)
 
 -- the row of the order that a word names
 abbrev pub row_of : Bool → ℕ → Row

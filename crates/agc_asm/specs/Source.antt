@@ -14,11 +14,11 @@ use Rattle.agc_listing.specs.declared.fault.LineFault.TheVariants as line_fault
 use Rattle.agc_listing.specs.declared.fault.WeaveFault.{WeaveFault}
 use Rattle.agc_listing.specs.declared.fault.WeaveFault.TheVariants as weave
 use Rattle.agc_listing.specs.declared.line.PlacedWord.{PlacedWord}
-use Rattle.agc_store.specs.Places.{erasable_bank_size, erasable_cells, fixed_bank_size}
+use Rattle.agc_store.specs.Places.{erasable_bank_size, erasable_cells, fixed_fixed}
 use Rattle.agc_asm.specs.Body.{body_in, has_odd_comment, plain_line, spelled}
-use Rattle.agc_asm.specs.LocationCounter.{IsAt, after_words, first_cursor, location_at, room_at}
+use Rattle.agc_asm.specs.LocationCounter.{IsAt, after_cells, after_words, first_cursor, location_at, room_at}
 use Rattle.agc_asm.specs.Encode.{banks_after, cell_in, is_banked, pair_meaning, place_in, superbank, word_meaning, writes_order}
-use Rattle.agc_asm.specs.Name.{Naming, guessing, no_name, own_names, with_name}
+use Rattle.agc_asm.specs.Name.{Naming, guessing, no_name, with_name}
 use Rattle.agc_asm.specs.Operand.{location_in}
 use Rattle.agc_asm.specs.LineKind.{cursor_after, shape_of}
 use Rattle.agc_listing.specs.Text.{after_first, are_listed, is_name, label_of, said_by}
@@ -209,6 +209,37 @@ pair_placed naming state body (Err why) = Err why
 pair_placed naming state body (Ok place) =
     two_words state place body (pair_meaning naming place state.banks body)
 
+-- Words in erasable memory take cells. They are not in the rope, but their faults count: they are read as in bank 02,
+-- which may name places in any bank.
+abbrev pub in_cells : State → List (List ℕ) → Bool → Result LocationCounter SourceFault → Result Step SourceFault
+in_cells state body leads (Err why) = Err why
+in_cells state body leads (Ok next) =
+    Ok (record {
+      state = record { counter = next; leads = leads; banks = banks_after (is_banked body) state.banks };
+      first = None;
+      second = None;
+    })
+
+abbrev pub word_in_cell : State → List (List ℕ) → Result LocationCounter SourceFault → Result Number SourceFault → Result Step SourceFault
+word_in_cell state body next (Err why) = Err why
+word_in_cell state body next (Ok word) = in_cells state body (writes_order body && next_is_extracode state.leads word) next
+
+abbrev pub pair_in_cells : State → List (List ℕ) → Result LocationCounter SourceFault → Result Pair SourceFault → Result Step SourceFault
+pair_in_cells state body next (Err why) = Err why
+pair_in_cells state body next (Ok pair) = in_cells state body false next
+
+abbrev pub word_at_counter : Naming → State → List (List ℕ) → At → Result Step SourceFault
+word_at_counter naming state body (at.Bank bank) = word_placed naming state body (room_at state.counter (at.Bank bank) 1)
+word_at_counter naming state body (at.Cell cell) =
+    word_in_cell state body (after_cells state.counter (at.Cell cell) 1)
+    (word_meaning naming fixed_fixed state.leads state.banks body)
+
+abbrev pub pair_at_counter : Naming → State → List (List ℕ) → At → Result Step SourceFault
+pair_at_counter naming state body (at.Bank bank) = pair_placed naming state body (room_at state.counter (at.Bank bank) 2)
+pair_at_counter naming state body (at.Cell cell) =
+    pair_in_cells state body (after_cells state.counter (at.Cell cell) 2)
+    (pair_meaning naming fixed_fixed state.banks body)
+
 -- EBANK= names the bank of a cell, and SBANK= the superbank of a place
 abbrev pub with_banks : State → Banks → Step
 with_banks state banks = record { state = record state { banks = banks }; first = None; second = None }
@@ -234,9 +265,9 @@ sbank_said state (Err why) = Err why
 abbrev pub shape_woven : Naming → State → List (List ℕ) → Result LineKind SourceFault → Result Step SourceFault
 shape_woven naming state body (Err why) = Err why
 shape_woven naming state body (Ok kind.Word) =
-    word_placed naming state body (room_at state.counter state.counter.at 1)
+    word_at_counter naming state body state.counter.at
 shape_woven naming state body (Ok kind.Pair) =
-    pair_placed naming state body (room_at state.counter state.counter.at 2)
+    pair_at_counter naming state body state.counter.at
 shape_woven naming state body (Ok kind.Ebank) =
     ebank_said state (cell_in (location_in naming (after_first (spelled body))))
 shape_woven naming state body (Ok kind.Sbank) =

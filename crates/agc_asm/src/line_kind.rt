@@ -220,14 +220,8 @@ pub(crate) fn cursor_after(
     ensures range { IfOk result (λ next. IsAt next.at) }
 {
     match kind {
-        LineKind::Word => {
-            counter.room(1)?;
-            Ok(counter.after_words(1))
-        }
-        LineKind::Pair => {
-            counter.room(2)?;
-            Ok(counter.after_words(2))
-        }
+        LineKind::Word => counter.after_line_words(1),
+        LineKind::Pair => counter.after_line_words(2),
         LineKind::Cells(count) => counter.after_cells(count),
         LineKind::Range(_, end) => counter.after_range(end),
         LineKind::Moves(place) => Ok(counter.moved_to(place)),

@@ -1,4 +1,5 @@
 //! The location counter: where the next line of a source goes.
+ghost use Rattle.agc_asm.specs.LineKind.{after_line_words};
 ghost use Rattle.std.specs.Prelude.{◌≡◌, ◌+◌, ◌*◌, ◌<◌, ◌≤◌, get_or, IfOk, IsOk};
 ghost use Rattle.agc_store.specs.Places.{erasable_cells, fixed_bank_size, fixed_banks, fixed_words};
 ghost use Rattle.agc_asm.specs.LocationCounter.{
@@ -108,6 +109,22 @@ impl LocationCounter {
             next.used[usize::from(bank)] = if end <= used { used } else { end };
         }
         next
+    }
+
+    /// Moves past a line of `count` words: in the rope, or in erasable memory, where they take cells.
+    pub fn after_line_words(self, count: u16) -> Result<LocationCounter, SourceFault>
+        requires at { IsAt self.at }
+        requires bound { count ≤ 2 }
+        ensures after { result ≡ after_line_words self self.at count }
+        ensures range { IfOk result (λ counter. IsAt counter.at) }
+    {
+        match self.at {
+            At::Bank(_) => {
+                self.room(count)?;
+                Ok(self.after_words(count))
+            }
+            At::Cell(_) => self.after_cells(u32::from(count)),
+        }
     }
 
     /// Moves to a location.

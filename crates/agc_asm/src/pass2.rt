@@ -1,6 +1,6 @@
 //! The second pass over a source: assembles the words of its lines.
 ghost use Rattle.std.specs.Prelude.{◌≡◌, ◌≢◌, ◌<◌, Ok, Err, IfOk, IfErr, IfSome, OnOk};
-ghost use Rattle.agc_store.specs.Places.{fixed_words};
+ghost use Rattle.agc_store.specs.Places.{fixed_words, fixed_fixed};
 ghost use Rattle.agc_asm.specs.Name.{naming_of};
 ghost use Rattle.agc_asm.specs.LineKind.{IsShape, shape_of};
 ghost use Rattle.agc_asm.specs.Source.{
@@ -21,9 +21,14 @@ ghost use Rattle.agc_asm.specs.Source.{
   told_at,
   word_placed,
   words_in,
+  in_cells,
+  word_at_counter,
+  pair_at_counter,
+  word_in_cell,
+  pair_in_cells,
 };
 ghost use Rattle.agc_asm.specs.LineKind.{cursor_after};
-ghost use Rattle.agc_asm.specs.LocationCounter.{room_at};
+ghost use Rattle.agc_asm.specs.LocationCounter.{room_at, IsAt, after_cells};
 ghost use Rattle.agc_asm.specs.Body.{body_in, spelled, tokens};
 ghost use Rattle.agc_asm.specs.Encode.{cell_in, place_in};
 ghost use Rattle.agc_asm.specs.Operand.{location_in};
@@ -38,10 +43,10 @@ use crate::encode::{
 };
 use crate::fault::{AssemblyFault, SourceFault};
 use crate::line_kind::{LineKind, cursor_after, shape_of};
-use crate::location_counter::LocationCounter;
+use crate::location_counter::{At, LocationCounter};
 use crate::names::Names;
 use agc_listing::{PlacedWord, RopeBuilder, is_listed, next_is_extracode, read_line};
-use agc_store::place::ERASABLE_BANK_SIZE;
+use agc_store::place::{ERASABLE_BANK_SIZE, FIXED_FIXED};
 use agc_word::next_line;
 use std::alloc::Global;
 
@@ -141,8 +146,8 @@ pub(crate) fn line_woven(names: &Names, state: State, line: &[u8]) -> Result<Ste
     }
     let (_, body) = cut_line(line);
     match shape_of(names, body)? {
-        LineKind::Word => word_placed(names, state, body),
-        LineKind::Pair => pair_placed(names, state, body),
+        LineKind::Word => word_at_counter(names, state, body),
+        LineKind::Pair => pair_at_counter(names, state, body),
         LineKind::Ebank => ebank_said(names, state, operand_in(body)),
         LineKind::Sbank => sbank_said(names, state, operand_in(body)),
         kind => no_word(state, kind),
@@ -227,7 +232,77 @@ fn listed_woven(state: State, line: &[u8]) -> Result<Step, SourceFault>
     }
 }
 
-/// Assembles a line of one word.
+/// Assembles a line of one word, in the rope or in erasable memory.
+fn word_at_counter(names: &Names, state: State, body: &[u8]) -> Result<Step, SourceFault>
+    requires { IsState state }
+    ensures woven { result ≡ word_at_counter (naming_of names.now) state (tokens body.now) state.counter.at }
+    ensures range { IfOk result (λ step. IsState step.state) }
+    ensures placed { IfOk result IsPlaced }
+{
+    match state.counter.at {
+        At::Bank(_) => word_placed(names, state, body),
+        At::Cell(_) => {
+            let word = word_meaning(names, site_in_cells(state), body)?;
+            let leads = writes_order(body) && next_is_extracode(state.leads, word);
+            in_cells(state, body, leads, state.counter.after_cells(1))
+        }
+    }
+}
+
+/// Assembles a line of two words, in the rope or in erasable memory.
+fn pair_at_counter(names: &Names, state: State, body: &[u8]) -> Result<Step, SourceFault>
+    requires { IsState state }
+    ensures woven { result ≡ pair_at_counter (naming_of names.now) state (tokens body.now) state.counter.at }
+    ensures range { IfOk result (λ step. IsState step.state) }
+    ensures placed { IfOk result IsPlaced }
+{
+    match state.counter.at {
+        At::Bank(_) => pair_placed(names, state, body),
+        At::Cell(_) => {
+            pair_meaning(names, site_in_cells(state), body)?;
+            in_cells(state, body, false, state.counter.after_cells(2))
+        }
+    }
+}
+
+/// Returns where words in erasable memory are read: as in bank 02, which may name places in any bank.
+fn site_in_cells(state: State) -> Site
+    ensures here { result.here ≡ fixed_fixed }
+    ensures leads { result.leads ≡ state.leads }
+    ensures banks { result.banks ≡ state.banks }
+{
+    Site {
+        here: u32::from(FIXED_FIXED),
+        leads: state.leads,
+        banks: state.banks,
+    }
+}
+
+/// Returns the step of words in erasable memory, which take cells but are not in the rope.
+fn in_cells(
+    state: State,
+    body: &[u8],
+    leads: bool,
+    next: Result<LocationCounter, SourceFault>,
+) -> Result<Step, SourceFault>
+    requires state { IsState state }
+    requires next { IfOk next (λ counter. IsAt counter.at) }
+    ensures woven { result ≡ in_cells state (tokens body.now) leads next }
+    ensures range { IfOk result (λ step. IsState step.state) }
+    ensures placed { IfOk result IsPlaced }
+{
+    Ok(Step {
+        state: State {
+            counter: next?,
+            leads,
+            banks: banks_after(is_banked(body), state.banks),
+        },
+        first: None,
+        second: None,
+    })
+}
+
+/// Assembles a line of one word in the rope.
 fn word_placed(names: &Names, state: State, body: &[u8]) -> Result<Step, SourceFault>
     requires { IsState state }
     ensures woven { result ≡ word_placed (naming_of names.now) state (tokens body.now)
@@ -256,7 +331,7 @@ fn word_placed(names: &Names, state: State, body: &[u8]) -> Result<Step, SourceF
     })
 }
 
-/// Assembles a line of two words.
+/// Assembles a line of two words in the rope.
 fn pair_placed(names: &Names, state: State, body: &[u8]) -> Result<Step, SourceFault>
     requires { IsState state }
     ensures woven { result ≡ pair_placed (naming_of names.now) state (tokens body.now)

@@ -10,21 +10,26 @@ loop-line-init c = record {
 
 pub returns-in-Err-clause-written : goal.returns-in-Err-clause-written
 returns-in-Err-clause-written c =
+    let faulty = rw c.plain_line-line.ensures at c.in-Err.ensures.labelled in
     let told = rw c.in-Some.ensures.lines at c.loop-line.invariant.told in
-    (faulty_told _ _ _ _ _ _ _ told (sym c.in-Err.ensures.labelled)).0
+    (faulty_told _ _ _ _ _ _ _ told (sym faulty)).0
 
 pub returns-in-Err-clause-read : goal.returns-in-Err-clause-read
 returns-in-Err-clause-read c =
+    let faulty = rw c.plain_line-line.ensures at c.in-Err.ensures.labelled in
     let told = rw c.in-Some.ensures.lines at c.loop-line.invariant.told in
-    (faulty_told _ _ _ _ _ _ _ told (sym c.in-Err.ensures.labelled)).1
+    (faulty_told _ _ _ _ _ _ _ told (sym faulty)).1
 
 pub loop-line-preserved : goal.loop-line-preserved
 loop-line-preserved c =
+    let labelled = rw c.plain_line-line.ensures at c.in-Ok.ensures.labelled in
+    let noted = rw c.plain_line-line.ensures at c.in_ok-note_label-in-Ok.ensures in
+    let listed = rw c.plain_line-line.ensures at c.in_ok-tell_label-in-Ok.ensures in
     let told = rw c.in-Some.ensures.lines at c.loop-line.invariant.told in
     record {
       told =
-          rw c.in_ok-note_label-in-Ok.ensures
-          (next_told _ _ _ _ _ _ _ c.in-Ok.next told (sym c.in-Ok.ensures.labelled) c.in-Ok.ensures.within c.in_ok-tell_label-in-Ok.ensures);
+          rw noted
+          (next_told _ _ _ _ _ _ _ c.in-Ok.next told (sym labelled) c.in-Ok.ensures.within listed);
       at = c.in-Ok.ensures.range;
     }
 
