@@ -48,7 +48,7 @@ pub enum SourceFault {
     BasicAfterExtend,
     /// No room is left in the bank, or in erasable memory.
     Full,
-    /// A word in erasable memory, or ERASE in fixed memory.
+    /// ERASE in fixed memory, or BANK without a number in erasable memory.
     WrongMemory,
     /// A bad operand of SETLOC, BANK, `=` or EQUALS.
     BadPlace,
@@ -88,7 +88,7 @@ impl SourceFault {
                 "basic order after EXTEND (or the extracode INDEX): an extracode is expected here",
             SourceFault::Full => "no room is left in this bank",
             SourceFault::WrongMemory =>
-                "words go into fixed memory, and ERASE reserves cells of erasable memory",
+                "ERASE belongs in erasable memory, and BANK without a number in fixed memory",
             SourceFault::BadPlace =>
                 "not a place or a bank: expected a name, bb,oooo, En,oooo or a number",
             SourceFault::BadNumber => "not a number of the form that this directive takes",

@@ -2,8 +2,9 @@
 ghost use Rattle.std.specs.Prelude.{◌≡◌, ◌+◌, ◌≤◌, length, take, drop, IfSome};
 ghost use Rattle.agc_asm.specs.FaultPlace.{IsWordOf};
 
+use crate::alias::Alias;
 use crate::fault::SourceFault;
-use crate::mnemonic::Directive;
+use crate::mnemonic::{Directive, is_order};
 use crate::numeral::{is_numeral, is_scale};
 use agc_listing::{LineFault, has_other_byte, is_listed, offset_said};
 
@@ -26,6 +27,7 @@ pub fn word_at_fault(line: &[u8], fault: SourceFault) -> Spot<'_>
         SourceFault::Listed(LineFault::NamedTwice) if is_listed(line) => 0,
         SourceFault::BadName | SourceFault::NameTwice | SourceFault::Include => 0,
         SourceFault::MisplacedName if !is_indented(line) => 0,
+        SourceFault::UnknownOrder if has_operation_first(line) => 0,
         SourceFault::MisplacedName
         | SourceFault::Listed(_)
         | SourceFault::UnknownOrder
@@ -55,6 +57,19 @@ pub fn word_at_fault(line: &[u8], fault: SourceFault) -> Spot<'_>
 /// Returns whether a line begins with a blank, so that it has no name.
 fn is_indented(line: &[u8]) -> bool {
     matches!(line, [b' ' | b'\t', ..])
+}
+
+/// Returns whether a line has an order or directive in its first column, where names are.
+fn has_operation_first(line: &[u8]) -> bool {
+    match word_of(line, 0) {
+        Some(first) => !is_indented(line) && is_operation(first),
+        None => false,
+    }
+}
+
+/// Returns whether a word is an order or a directive.
+pub fn is_operation(word: &[u8]) -> bool {
+    is_order(word) || Alias::from_name(word).is_some() || Directive::from_name(word).is_some()
 }
 
 /// Returns the index of a line's operation among its words.

@@ -31,7 +31,7 @@ pub use assemble_source::assemble;
 pub use body::code_of;
 pub use disassemble::rope_source;
 pub use fault::{AssemblyFault, SourceFault};
-pub use fault_place::{Spot, word_at_fault};
+pub use fault_place::{Spot, is_operation, word_at_fault};
 pub use faulty::{FaultyLine, faulty_lines};
 pub use laws::{
     a_fraction_is_the_nearest_number, a_listing_shows_the_orders_of_a_source,

@@ -2,7 +2,7 @@
 use crate::names::nearest;
 use crate::remarks::{push_nearest, push_quoted, push_quoted_then, push_subject};
 use crate::shown::push_bytes;
-use agc_asm::{Alias, Directive, SourceFault, code_of, is_order, word_at_fault};
+use agc_asm::{Alias, Directive, SourceFault, code_of, is_operation, word_at_fault};
 use agc_listing::{cut_label, is_listed, is_name, next_said, offset_said};
 use agc_order::{Basic, Extracode};
 use agc_word::without_return;
@@ -16,19 +16,21 @@ pub(crate) fn push_source_why(
     line: &[u8],
     fault: SourceFault,
 ) -> Result<(), AllocError> {
+    let word = word_at_fault(line, fault).word;
+    if fault == SourceFault::Include {
+        return push_order(text, word, "the name of another file");
+    }
     let (label, body) = cut_label(code_of(line));
     let Some((order, operand)) = operation_in(label, body) else {
         return push_missing(text, label);
     };
-    let word = word_at_fault(line, fault).word;
     match fault {
         SourceFault::NameTwice => push_taken(text, file, word),
         SourceFault::BadName | SourceFault::MisplacedName => push_label(text, label, order),
         SourceFault::UnknownOrder => push_no_order(alloc, text, label, order),
-        SourceFault::Include => push_order(text, word, "the name of another file"),
         SourceFault::Interpretive => push_order(text, word, "an operation of the interpreter"),
         SourceFault::NotSupported => push_order(text, word, "a directive of the flight listings"),
-        SourceFault::UnknownName => push_no_name(alloc, text, file, word),
+        SourceFault::Include | SourceFault::UnknownName => push_no_name(alloc, text, file, word),
         SourceFault::ExtracodeAlone => push_order(text, order, "an extracode"),
         SourceFault::BasicAfterExtend => push_order(text, order, "a basic order"),
         SourceFault::Full => push_order(text, order, "past the last place"),
@@ -84,11 +86,6 @@ fn push_missing(text: &mut String, label: Option<&[u8]>) -> Result<(), AllocErro
 fn push_first_column(text: &mut String, label: &[u8]) -> Result<(), AllocError> {
     push_quoted(text, label)?;
     text.push_str(" is in the first column, where names are: begin the line with a blank\n")
-}
-
-/// Returns whether a word is an order or a directive.
-fn is_operation(word: &[u8]) -> bool {
-    is_order(word) || Alias::from_name(word).is_some() || Directive::from_name(word).is_some()
 }
 
 /// Appends that the order of a line is unknown, and the nearest order or directive, or that it is in the first column.

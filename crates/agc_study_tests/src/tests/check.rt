@@ -428,49 +428,46 @@ fn listings(rt: HostRuntime) {
         (b"START CA PROG\nPROG OCT 54171", "text: no fault\n"),
         (
             b"START CA PROG\n",
-            "text line 1: no line has this name\n    START CA PROG\n    unknown name `PROG`; did you mean `START`?\n",
+            "text line 1: no line has this name\n    START CA PROG\n    column 10: unknown name `PROG`; did you mean `START`?\n",
         ),
         (
             b"START CAA 4000 # one\n",
-            "text line 1: no order or directive has this name; it stands after the first column\n    START CAA 4000 # one\n    unknown order or directive `CAA`; did you mean `CA`?\n",
+            "text line 1: no order or directive has this name (they come after the first column)\n    START CAA 4000 # one\n    column 7: unknown order or directive `CAA`; did you mean `CA`?\n",
         ),
         (
             b"# here\nSTART # alone\n",
-            "text line 2: no order or directive has this name; it stands after the first column\n    START # alone\n    the order is missing: write it after the name\n",
+            "text line 2: no order or directive has this name (they come after the first column)\n    START # alone\n    column 1: the order is missing: write it after the name\n",
         ),
         (
             b"SETLOC 4000\n",
-            "text line 1: no order or directive has this name; it stands after the first column\n    SETLOC 4000\n    `SETLOC` is in the first column, where names are: begin the line with a blank\n",
+            "text line 1: no order or directive has this name (they come after the first column)\n    SETLOC 4000\n    column 1: `SETLOC` is in the first column, where names are: begin the line with a blank\n",
         ),
         (
             b" CA ONE\n CA 1\n CA TWO\n",
-            "text line 1: no line has this name\n     CA ONE\n    unknown name `ONE`\ntext line 3: no line has this name\n     CA TWO\n    unknown name `TWO`\n",
+            "text line 1: no line has this name\n     CA ONE\n    column 5: unknown name `ONE`\ntext line 3: no line has this name\n     CA TWO\n    column 5: unknown name `TWO`\n",
         ),
         (b"# a rope\n4000 14000 TCF 4000", "text: no fault\n"),
         (
             b"4000 14000\n3777 00001 here\n",
-            "text line 2: BadAddress\n    3777 00001 here\n    `3777` is not a place of a rope: 4000 to 7777, or a bank from 00 to 43 and an address, as 04,2000; start comments with #\n",
+            "text line 2: BadAddress\n    3777 00001 here\n    column 1: `3777` is not a place of a rope: 4000 to 7777, or a bank from 00 to 43 and an address, as 04,2000; start comments with #\n",
         ),
         (
             b"4000\t1010 WRITE\r\n",
-            "text line 1: BadWord\n    4000\t1010 WRITE\n    `1010` is not a word: five octal digits\n",
+            "text line 1: BadWord\n    4000\t1010 WRITE\n    column 6: `1010` is not a word: five octal digits\n",
         ),
         (
             b"\n4000",
-            "text line 2: BadWord\n    4000\n    the word is missing: five octal digits after the place\n",
+            "text line 2: BadWord\n    4000\n    column 1: the word is missing: five octal digits after the place\n",
         ),
         (
             b"4000 00001\n# again\n02,4000 00001",
-            "text line 3: NamedTwice\n    02,4000 00001\n    `02,4000` has a word from an earlier line: write each place once\n",
+            "text line 3: NamedTwice\n    02,4000 00001\n    column 1: `02,4000` has a word from an earlier line: write each place once\n",
         ),
         (
             b"4000 00001 caf\xC3\xA9",
-            "text line 1: NotText\n    4000 00001 caf\\303\\251\n    `caf\\303\\251` has a byte that is neither a tab nor printable ASCII\n",
+            "text line 1: NotText\n    4000 00001 caf\\303\\251\n    column 12: `caf\\303\\251` has a byte that is neither a tab nor printable ASCII\n",
         ),
-        (
-            b"# ~ \x7F",
-            "text line 1: NotText\n    # ~ \\177\n    `\\177` has a byte that is neither a tab nor printable ASCII\n",
-        ),
+        (b"# ~ \x7F", "text: no fault\n"),
     ];
     for (text, told) in texts {
         listing_tells(&rt, text, told);
@@ -478,18 +475,25 @@ fn listings(rt: HostRuntime) {
 }
 
 /// Returns the report on the last line of a source: a sentence, and the faulty word.
-fn pointing(rt: &(impl AllocGlobal + Abort), source: &str, sentence: &str, word: &str) -> String {
+fn pointing(
+    rt: &(impl AllocGlobal + Abort),
+    source: &str,
+    sentence: &str,
+    column: usize,
+    word: &str,
+) -> String {
     let line = source.lines().last().unwrap_or("");
     let number = source.lines().count();
-    format!(in rt.alloc(); "text line {number}: {sentence}\n    {line}\n    {word}\n")
-        .ok()
+    format!(in rt.alloc();
+        "text line {number}: {sentence}\n    {line}\n    column {column}: {word}\n"
+    ).ok()
         .expect(rt, "memory")
 }
 
 /// Checks the report on the last line of each of these sources.
-fn points(rt: &(impl AllocGlobal + Abort), sources: &[(&str, &str, &str)]) {
-    for (source, sentence, word) in sources {
-        let wanted = pointing(rt, source, sentence, word);
+fn points(rt: &(impl AllocGlobal + Abort), sources: &[(&str, &str, usize, &str)]) {
+    for (source, sentence, column, word) in sources {
+        let wanted = pointing(rt, source, sentence, *column, word);
         listing_tells(rt, source.as_bytes(), wanted.as_str());
     }
 }
@@ -502,29 +506,39 @@ fn names_of_sources_at_fault(rt: HostRuntime) {
             (
                 "+1 OCT 1",
                 "a name is 1 to 8 characters, without a comma and not only digits and signs",
-                "`+1` stands before `OCT`",
+                1,
+                "`+1` is in the first column before `OCT`",
             ),
             (
                 "# x\nX OCT 1\n OCT 2\nX OCT 3",
                 "an earlier line has this name",
+                1,
                 "`X` is the name of line 2",
             ),
             (
                 " = 4000",
-                "= and EQUALS want a name in the first column, SETLOC and BANK want none",
-                "no name stands before `=`",
+                "= and EQUALS need a name in the first column; SETLOC, BANK, EBANK= and SBANK= take none",
+                2,
+                "no name is in the first column before `=`",
             ),
             (
                 "X BANK 4",
-                "= and EQUALS want a name in the first column, SETLOC and BANK want none",
-                "`X` stands before `BANK`",
+                "= and EQUALS need a name in the first column; SETLOC, BANK, EBANK= and SBANK= take none",
+                1,
+                "`X` is in the first column before `BANK`",
             ),
             (
                 "KEYIN OCT 1\n CA KEYNI # a key",
                 "no line has this name",
+                5,
                 "unknown name `KEYNI`; did you mean `KEYIN`?",
             ),
-            (" CA KEYIN", "no line has this name", "unknown name `KEYIN`"),
+            (
+                " CA KEYIN",
+                "no line has this name",
+                5,
+                "unknown name `KEYIN`",
+            ),
         ],
     );
 }
@@ -536,28 +550,91 @@ fn orders_of_sources_at_fault(rt: HostRuntime) {
         &[
             (
                 " MP 0",
-                "this order is an extracode: EXTEND is wanted before it",
+                "this order is an extracode: write EXTEND before it",
+                2,
                 "`MP` is an extracode",
             ),
             (
                 " EXTEND\nX TCF 4000",
-                "after EXTEND, or INDEX as an extracode, this order is none",
+                "basic order after EXTEND (or the extracode INDEX): an extracode is expected here",
+                3,
                 "`TCF` is a basic order",
             ),
             (
                 " SETLOC 7777\n OCT 1\nX OCT 2",
-                "no room is left here",
+                "no room is left in this bank",
+                3,
                 "`OCT` is past the last place",
             ),
             (
-                " SETLOC E0,0100\n OCT 1",
-                "words stand in fixed memory, and ERASE in erasable memory",
-                "`OCT` is in the other memory",
+                " SETLOC 4000\nX ERASE +1",
+                "ERASE belongs in erasable memory, and BANK without a number in fixed memory",
+                3,
+                "`ERASE` is in the other memory",
             ),
             (
                 "4000 00001\n CA 0",
                 "NamedTwice",
+                2,
                 "`CA` is at a place that has a word already",
+            ),
+        ],
+    );
+}
+
+/// What the listings have beside the basic language is refused by name, with its column.
+#[test]
+fn other_languages_are_named(rt: HostRuntime) {
+    points(
+        &rt,
+        &[
+            (
+                "X\tDLOAD\tDMP",
+                "the interpreter's language is not read",
+                3,
+                "`DLOAD` is an operation of the interpreter",
+            ),
+            (
+                "\t\tVXSC*\tX # by a number",
+                "the interpreter's language is not read",
+                3,
+                "`VXSC*` is an operation of the interpreter",
+            ),
+            (
+                " +2 AXT,1 6",
+                "the interpreter's language is not read",
+                5,
+                "`AXT,1` is an operation of the interpreter",
+            ),
+            (
+                " 2FCADR X",
+                "this directive is not supported",
+                2,
+                "`2FCADR` is a directive of the flight listings",
+            ),
+            (
+                "X =MINUS 3",
+                "this directive is not supported",
+                3,
+                "`=MINUS` is a directive of the flight listings",
+            ),
+            (
+                "# caf\u{e9}\n OCT 1 # \u{e9}\n$PAGE.agc",
+                "other files are not included: put their lines into this file",
+                1,
+                "`$PAGE.agc` is the name of another file",
+            ),
+            (
+                " DEC 1.5 E-3 X5",
+                "not a number of the form that this directive takes",
+                14,
+                "`X5` is in the operand of `DEC`",
+            ),
+            (
+                " CA 1 2",
+                "the operand is missing, superfluous or malformed",
+                7,
+                "`2` is in the operand of `CA`",
             ),
         ],
     );
@@ -570,53 +647,57 @@ fn operands_of_sources_at_fault(rt: HostRuntime) {
         &[
             (
                 " CA # nothing",
-                "the operand is missing, not wanted, or of another form",
-                "no operand stands after `CA`",
+                "the operand is missing, superfluous or malformed",
+                2,
+                "`CA` has no operand",
             ),
             (
                 "X CA 0 +1 2 # three",
-                "the operand is missing, not wanted, or of another form",
-                "`0 +1 2` stands after `CA`",
+                "the operand is missing, superfluous or malformed",
+                11,
+                "`2` is in the operand of `CA`",
             ),
             (
                 " CA 117000 +5000",
-                "there is no such place",
-                "`117000 +5000` stands after `CA`",
+                "there is no such place in memory",
+                5,
+                "`117000` is in the operand of `CA`",
             ),
             (
                 " TS 4000",
-                "this order takes an address of erasable memory, 0 to 1777",
-                "`4000` stands after `TS`",
+                "an address in erasable memory is expected here",
+                5,
+                "`4000` is in the operand of `TS`",
             ),
             (
                 " TCF 100",
-                "a place of fixed memory is wanted",
-                "`100` stands after `TCF`",
+                "a place in fixed memory is expected here",
+                6,
+                "`100` is in the operand of `TCF`",
             ),
             (
                 " EXTEND\n READ 1000",
                 "this order takes a channel, 0 to 777",
-                "`1000` stands after `READ`",
+                7,
+                "`1000` is in the operand of `READ`",
             ),
             (
                 " SETLOC 04,2000\nX OCT 1\n SETLOC 05,2000\n CA X",
                 "this place is in another bank",
-                "`X` stands after `CA`",
-            ),
-            (
-                " TC 3",
-                "the word of this order with this address is another order",
-                "`3` stands after `TC`",
+                5,
+                "`X` is in the operand of `CA`",
             ),
             (
                 " SETLOC 9",
-                "the operand is missing, not wanted, or of another form",
-                "`9` stands after `SETLOC`",
+                "the operand is missing, superfluous or malformed",
+                9,
+                "`9` is in the operand of `SETLOC`",
             ),
             (
                 " DEC 16384",
                 "the number is too large: DEC takes integers up to 16383 and fractions below 1",
-                "`16384` stands after `DEC`",
+                6,
+                "`16384` is in the operand of `DEC`",
             ),
         ],
     );

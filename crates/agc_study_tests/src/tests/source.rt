@@ -1,5 +1,5 @@
 //! Tests sources of ropes; each line's word was worked out by hand from the tables of orders. The numbers are octal.
-use super::same;
+use super::{joined, same};
 use agc_asm::{AssemblyFault, SourceFault, assemble, rope_source, yul_source};
 use agc_listing::{LineFault, list};
 use agc_store::{Rope, RopeForm, Store};
@@ -209,6 +209,83 @@ fn faults_of_form(rt: HostRuntime) {
     );
 }
 
+/// Lines of flight listings, each at 05,2100, with their words.
+#[test]
+fn lines_of_listings(rt: HostRuntime) {
+    let rows = [
+        (" TC 1 +2\n", "05,2100 00003\n"),
+        (" TC 4\n", "05,2100 00004\n"),
+        (" NDX 17\n", "05,2100 50017\n"),
+        (" TC 6\n WRITE 10\n", "05,2100 00006\n05,2101 01010\n"),
+        (" ADRES +1\n", "05,2100 02101\n"),
+        (" GENADR -2\n", "05,2100 02076\n"),
+        (" CADR -1\n", "05,2100 12077\n"),
+        (" BBCON +0\n", "05,2100 12000\n"),
+        (" 2CADR +2\n", "05,2100 02102\n05,2101 12000\n"),
+        (" DEC -0\n", "05,2100 77777\n"),
+        (" 2DEC -0\n", "05,2100 77777\n05,2101 77777\n"),
+        (" DEC 1.5E-3 B5\n", "05,2100 01422\n"),
+        (" DEC 15E-1 B-1\n", "05,2100 30000\n"),
+        (
+            " 2DEC* 1.75501139 E21 B-72*\n",
+            "05,2100 13710\n05,2101 35320\n",
+        ),
+        (" 2DEC 12345678901 B-40\n", "05,2100 00267\n05,2101 36702\n"),
+        (
+            "# \u{e9}\n OCT 7 # \u{e9}\n OCT 1#\u{e9}\n",
+            "05,2100 00007\n05,2101 00001\n",
+        ),
+    ];
+    for (lines, words) in rows {
+        let source = joined(&rt, &[" SETLOC 22100\n", lines]);
+        weaves(&rt, source.as_str(), words);
+    }
+}
+
+/// Words in erasable memory take cells, and are not in the rope. ERASE fills a bank to its end.
+#[test]
+fn words_in_erasable_memory(rt: HostRuntime) {
+    weaves(
+        &rt,
+        " SETLOC 1400
+X NOOP
+Y 2DEC 1
+Z TC Q
+ SETLOC 1375
+W ERASE +2
+ SETLOC 22100
+ ADRES Y
+ ADRES Z
+ ADRES W
+",
+        "05,2100 01401\n05,2101 01403\n05,2102 01375\n",
+    );
+    refuses(
+        &rt,
+        2,
+        SourceFault::UnknownName,
+        " SETLOC 1400\n CA NOWHERE\n",
+    );
+}
+
+/// A minus complements words, so it means nothing before a directive that writes none.
+#[test]
+fn a_minus_before_a_directive(rt: HostRuntime) {
+    weaves(
+        &rt,
+        " -OCT 7\n -CCS 100\n -2CADR 4000\n",
+        "4000 77770\n4001 67677\n4002 73777\n4003 73777\n",
+    );
+    for line in [
+        " -SETLOC 4000\n",
+        " -ERASE\n",
+        "X -EQUALS 4\n",
+        " -COUNT A\n",
+    ] {
+        refuses(&rt, 1, SourceFault::UnknownOrder, line);
+    }
+}
+
 #[test]
 fn faults_of_operands(rt: HostRuntime) {
     refuses(&rt, 1, SourceFault::UnknownName, " CA NOWHERE\n");
@@ -228,14 +305,14 @@ fn faults_of_places(rt: HostRuntime) {
         SourceFault::AnotherBank,
         " BANK 5\nHERE CA 1\n BANK 6\n CA HERE\n",
     );
-    refuses(&rt, 1, SourceFault::OtherOrder, " TC 6\n");
-    refuses(&rt, 1, SourceFault::OtherOrder, " INDEX 17\n");
     refuses(&rt, 1, SourceFault::ExtracodeAlone, " WRITE 10\n");
     refuses(&rt, 2, SourceFault::BasicAfterExtend, " EXTEND\n CA 1\n");
     refuses(&rt, 3, SourceFault::Full, " SETLOC 02,5777\n CA 1\n CA 1\n");
     refuses(&rt, 2, SourceFault::Full, " SETLOC E7,1777\n ERASE +1\n");
-    refuses(&rt, 2, SourceFault::WrongMemory, " SETLOC 100\n CA 1\n");
+    refuses(&rt, 2, SourceFault::Full, " SETLOC 1377\n ERASE +1\n");
+    refuses(&rt, 2, SourceFault::Full, " SETLOC 3777\n 2DEC 1\n");
     refuses(&rt, 1, SourceFault::WrongMemory, " ERASE\n");
+    refuses(&rt, 2, SourceFault::WrongMemory, " SETLOC 100\n BANK\n");
     refuses(
         &rt,
         2,

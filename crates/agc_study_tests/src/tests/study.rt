@@ -405,7 +405,7 @@ fn keys_and_listings_are_checked(rt: HostRuntime) {
             b"VERB 33",
             b"4000 1400",
             "keys: BadKey\n    word 2: unknown key `33`; did you mean `3`?\n",
-            "text line 1: BadWord\n    4000 1400\n    `1400` is not a word: five octal digits\n",
+            "text line 1: BadWord\n    4000 1400\n    column 6: `1400` is not a word: five octal digits\n",
         ),
     ];
     for (keys, listing, keys_told, listing_told) in texts {
