@@ -28,3 +28,5 @@ mod LinesShown
 mod SourceOrders
 mod FaultsStay
 mod FirstFaults
+mod SameRope
+mod Complements

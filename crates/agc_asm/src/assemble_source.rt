@@ -40,7 +40,7 @@ pub fn assemble(alloc: Global, form: RopeForm, text: &[u8]) -> Result<Vec<u8>, A
 
 /// Returns whether a text has only places and words, and only comments that are text.
 #[tactic(auto, unfolding(crate::specs::Source::is_listing))]
-fn is_listing(text: &[u8]) -> bool
+pub(crate) fn is_listing(text: &[u8]) -> bool
     ensures { result ≡ is_listing text.now }
 {
     let mut rest = text;

@@ -1,10 +1,13 @@
 //! Laws of sources, each the contract of a function with an empty body. `assemble`, and `list` of agc_listing, are
 //! proved equal to the definitions that these laws are about.
-ghost use Rattle.std.specs.Prelude.{◌≡◌, ℕ, ◌*◌, ◌^◌, ◌<◌, true, false, All, List, [], ◌∷◌, Some, Ok, Err, map};
-ghost use Rattle.agc_word.specs.Number.{number_from_pattern};
+ghost use Rattle.std.specs.Prelude.{◌≡◌, ℕ, ◌*◌, ◌^◌, ◌<◌, Bool, true, false, All, List, [], ◌∷◌, None, Some, Ok, Err, map, codes};
 ghost use Rattle.agc_asm.specs.Alias.{alias_word, is_extracode_alias};
-ghost use Rattle.agc_asm.specs.Body.{alias_name};
-ghost use Rattle.agc_asm.specs.Encode.{word_meaning};
+ghost use Rattle.agc_asm.specs.Body.{alias_name, alias_named, writes_nothing};
+ghost use Rattle.agc_asm.specs.Mnemonic.{directive_named};
+ghost use Rattle.agc_listing.specs.Number.{begins_with_minus};
+ghost use Rattle.agc_word.specs.Number.{Number, number_from_pattern};
+ghost use Rattle.agc_asm.specs.declared.encode.Pair.{Pair};
+ghost use Rattle.agc_asm.specs.Encode.{complemented, less_than_zero, lowered, order_meaning, pair_meaning, word_meaning};
 ghost use Rattle.agc_asm.specs.Numeral.{IsNearest, nearest, raised};
 ghost use Rattle.agc_asm.specs.declared.alias.Alias.{Alias};
 ghost use Rattle.agc_asm.specs.declared.encode.Banks.{Banks};
@@ -64,6 +67,30 @@ pub fn aliases_are_the_words_of_their_table()
         → (naming : Naming) (here : ℕ) (banks : Banks)
         → word_meaning naming here (is_extracode_alias a) banks (alias_name a ∷ [])
         ≡ Ok (number_from_pattern 15 bits) }
+{}
+
+/// A minus before an order or a constant complements its word, or both words of a pair. Before a directive that writes
+/// no word it means nothing, and such a line is refused.
+pub fn a_minus_complements_the_words()
+    ensures word { (naming : Naming) (here : ℕ) (leads : Bool) (banks : Banks) (name : List ℕ) (rest : List (List ℕ)) (word : Number)
+        → begins_with_minus name ≡ false → writes_nothing (directive_named name) ≡ false
+        → word_meaning naming here leads banks (name ∷ rest) ≡ Ok word
+        → word_meaning naming here leads banks ((0x2D ∷ name) ∷ rest) ≡ Ok (complemented true word) }
+    ensures pair { (naming : Naming) (here : ℕ) (banks : Banks) (name : List ℕ) (rest : List (List ℕ)) (pair : Pair)
+        → begins_with_minus name ≡ false → writes_nothing (directive_named name) ≡ false
+        → pair_meaning naming here banks (name ∷ rest) ≡ Ok pair
+        → pair_meaning naming here banks ((0x2D ∷ name) ∷ rest)
+        ≡ Ok (record { upper = complemented true pair.upper; lower = complemented true pair.lower }) }
+{}
+
+/// An offset that takes the number of an order's operand below zero is added to the word that the order has with the
+/// operand 0: `LXCH 0 -1` is one less than `LXCH 0`.
+pub fn an_offset_is_added_to_the_word()
+    ensures { (naming : Naming) (here : ℕ) (leads : Bool) (banks : Banks) (name : List ℕ) (rest : List (List ℕ)) (less : ℕ)
+        → begins_with_minus name ≡ false → alias_named name ≡ None → directive_named name ≡ None
+        → less_than_zero rest ≡ Some less
+        → word_meaning naming here leads banks (name ∷ rest)
+        ≡ lowered less (order_meaning naming here leads name (codes "0" ∷ [])) }
 {}
 
 /// A fraction's word or pair is the nearest one: no integer below the limit is nearer to the quotient of the number in

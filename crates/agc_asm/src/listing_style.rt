@@ -1,13 +1,23 @@
 //! Prints the source of a rope as the listings write it: with names in the first column, and the other names of orders.
-ghost use Rattle.std.specs.Prelude.{◌<◌};
+ghost use Rattle.std.specs.Prelude.{◌≡◌, ℕ, ◌<◌, true, None, IfOk, string_bytes};
+ghost use Rattle.agc_store.specs.Memory.{fixed_at};
+ghost use Rattle.agc_listing.specs.Laws.{AreRopeWords, IsRopeOf};
+ghost use Rattle.agc_listing.specs.Weave.{ArePlaces, woven_file};
+ghost use Rattle.agc_asm.specs.Laws.{WeavesTo};
 ghost use Rattle.agc_store.specs.Places.{fixed_words};
 
 use crate::alias::Alias;
-use crate::disassemble::{Read, read_next};
-use agc_listing::{Location, Operand, is_asked_for, listed_address, operand_in};
+use crate::assemble_source::is_listing;
+use crate::disassemble::{Read, read_next, rope_source};
+use crate::fault::AssemblyFault;
+use crate::pass1::read_names;
+use crate::pass2::read_words;
+use agc_listing::{
+    Location, Operand, PlacedWord, file_of, is_asked_for, listed_address, operand_in,
+};
 use agc_order::{Basic, Extracode, Row, Takes};
-use agc_store::Store;
 use agc_store::place::{FIXED_FIXED, FIXED_WORDS};
+use agc_store::{Rope, RopeFault, RopeForm, Store};
 use agc_symbols::SymbolTable;
 use agc_word::Narrow;
 use std::alloc::{AllocError, Global};
@@ -15,9 +25,88 @@ use std::alloc::{AllocError, Global};
 /// Prints the source of the rope in a store as the listings write it: a line for each word that is not +0 or that an
 /// EXTEND makes an extracode, with the name of its place, if it has one there, and a SETLOC line before each word that
 /// does not follow another. A word that would be read as another order is printed in octal, and so is a double order
-/// whose upper address wraps round, which listings do not have. With a bank, 00 to 43 octal, only its words. Fails if
-/// out of memory.
+/// whose upper address wraps round, which listings do not have. The source of a whole rope is assembled and compared
+/// with the rope; if it differs, for example because of a name that is there twice, the result is that of
+/// `rope_source`. With a bank, 00 to 43 octal, only its words. Fails if out of memory.
 pub fn yul_source(
+    alloc: Global,
+    store: &Store,
+    bank: Option<u8>,
+    names: &Option<SymbolTable>,
+) -> Result<String, AllocError>
+    // In both forms the source of a whole rope assembles to a rope with the same words.
+    ensures weaves { bank ≡ None → AreRopeWords store.now.fixed
+        → IfOk result (λ text. WeavesTo store.now.fixed (string_bytes text)) }
+{
+    let text = yul_text(alloc, store, bank, names)?;
+    if bank.is_some() {
+        return Ok(text);
+    }
+    if is_source_of(alloc, text.as_bytes(), store)? {
+        return Ok(text);
+    }
+    rope_source(alloc, store, bank)
+}
+
+/// Returns whether a text assembles to the rope in a store. A text with only places and words does not count.
+fn is_source_of(alloc: Global, text: &[u8], store: &Store) -> Result<bool, AllocError>
+    ensures { IfOk result (λ same. same ≡ true → AreRopeWords store.now.fixed → WeavesTo store.now.fixed text.now) }
+{
+    if is_listing(text) {
+        return Ok(false);
+    }
+    let names = match read_names(alloc, text) {
+        Ok(names) => names,
+        Err(AssemblyFault::Line(_, _)) => return Ok(false),
+        Err(AssemblyFault::Memory) => return Err(AllocError),
+    };
+    let builder = match read_words(alloc, &names, text) {
+        Ok(builder) => builder,
+        Err(AssemblyFault::Line(_, _)) => return Ok(false),
+        Err(AssemblyFault::Memory) => return Err(AllocError),
+    };
+    let words = builder.words();
+    if !makes_rope(alloc, RopeForm::Classic, words, store)? {
+        return Ok(false);
+    }
+    let parity = makes_rope(alloc, RopeForm::Parity, words, store)?;
+    Ok(parity)
+}
+
+/// Returns whether the file of these words holds the rope in a store.
+fn makes_rope(
+    alloc: Global,
+    form: RopeForm,
+    words: &[PlacedWord],
+    store: &Store,
+) -> Result<bool, AllocError>
+    requires { ArePlaces words.now }
+    ensures { IfOk result (λ same. same ≡ true → AreRopeWords store.now.fixed
+        → IsRopeOf form store.now.fixed (woven_file form words.now)) }
+{
+    let file = file_of(alloc, form, words)?;
+    match Rope::read_as(alloc, form, file.as_slice()) {
+        Ok(rope) => Ok(has_same_words(&Store::new(rope), store)),
+        Err(RopeFault::Memory) => Err(AllocError),
+        Err(_) => Ok(false),
+    }
+}
+
+/// Returns whether two stores have the same fixed words.
+fn has_same_words(first: &Store, second: &Store) -> bool
+    ensures { result ≡ true → (place : ℕ) → place < fixed_words
+        → fixed_at place first.now.fixed ≡ fixed_at place second.now.fixed }
+{
+    for place in 0..FIXED_WORDS as usize {
+        if first.fixed_at(place) != second.fixed_at(place) {
+            return false;
+        }
+    }
+    true
+}
+
+/// Prints the source of a rope as the listings write it.
+fn yul_text(
     alloc: Global,
     store: &Store,
     bank: Option<u8>,
