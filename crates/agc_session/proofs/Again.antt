@@ -14,7 +14,7 @@ use Rattle.agc_session.specs.Session.{SessionState, IsSession, discarded, since,
 use Rattle.agc_session.proofs.Joins.{front, injected_next, in_parts, joined_assoc, joined_to_none}
 
 -- a script cut at a cycle
-before_is_early : (c : ℕ) (events : List Event) → All (λ e. e.cycle < c) (before c events)
+pub before_is_early : (c : ℕ) (events : List Event) → All (λ e. e.cycle < c) (before c events)
 before_is_early c events i d l =
     let count : ℕ = position_or_len (λ (event : Event). nat_le c event.cycle) events in
     let bound : count ≤ length events = prefix_len-le-length _ events in
@@ -23,7 +23,7 @@ before_is_early c events i d l =
     let low : (get_or events i d).cycle < c = leb-false c (get_or events i d).cycle fails in
     rw (get_or-take count events i d near) low
 
-since_is_late : (c : ℕ) (events : List Event) → IsInOrder events → All (λ e. c ≤ e.cycle) (since c events)
+pub since_is_late : (c : ℕ) (events : List Event) → IsInOrder events → All (λ e. c ≤ e.cycle) (since c events)
 unfolding IsInOrder
 since_is_late c [] h = All-nil (λ e. c ≤ e.cycle)
 since_is_late c (event ∷ events) h =
@@ -32,7 +32,7 @@ since_is_late c (event ∷ events) h =
       | inr w ↦ rw (w.0, one-add) (since_is_late c events h.1)
     ]
 
-both_parts : (c : ℕ) (events : List Event) → before c events ++ since c events ≡ events
+pub both_parts : (c : ℕ) (events : List Event) → before c events ++ since c events ≡ events
 both_parts c events = take-append-drop (position_or_len (λ (event : Event). nat_le c event.cycle) events) events
 
 weakly : (c : ℕ) (events : List Event) → All (λ e. e.cycle < c) events → All (λ e. e.cycle ≤ c) events
@@ -47,12 +47,12 @@ early_given c (one ∷ early) late h k =
     injected_next one late early (λ i d l. omega (arith, near, k i d l))
     ∙ ap (λ (rest : List Event). one ∷ rest) (early_given c early late (All-tail (λ e. e.cycle < c) one early h) k)
 
-late_given : (c : ℕ) (early late : List Event) → All (λ e. e.cycle < c) early → All (λ e. c ≤ e.cycle) late → joined early late ≡ early ++ late
+pub late_given : (c : ℕ) (early late : List Event) → All (λ e. e.cycle < c) early → All (λ e. c ≤ e.cycle) late → joined early late ≡ early ++ late
 late_given c early late h k =
     ap (λ (events : List Event). joined events late) (sym (append-nil early)) ∙ front c early [] late (weakly c early h) k
     ∙ ap (λ (rest : List Event). early ++ rest) (joined_to_none late)
 
-either_first : (c : ℕ) (events early late : List Event) → All (λ e. e.cycle < c) early → All (λ e. c ≤ e.cycle) late
+pub either_first : (c : ℕ) (events early late : List Event) → All (λ e. e.cycle < c) early → All (λ e. c ≤ e.cycle) late
     → joined (joined events early) late ≡ joined (joined events late) early
 either_first c events early late h k =
     joined_assoc events early late ∙ ap (joined events) (late_given c early late h k ∙ sym (early_given c early late h k)) ∙ sym (joined_assoc events late early)

@@ -1,5 +1,5 @@
 -- A session at its start, and the run of its script.
-use Rattle.std.specs.Prelude.{◌≡◌, ℕ, List, [], length, replicate, Option, None, Result, Ok, Err, IfOk, IfSome}
+use Rattle.std.specs.Prelude.{◌≡◌, ℕ, List, [], length, replicate, unwrap_or, Option, Some, None, Result, Ok, Err, IfOk, IfSome}
 use Rattle.std.specs.Result.{result_ok}
 use Rattle.std.proofs.Common.{refl, ap, sym, subst, ◌∙◌}
 use Rattle.agc_word.specs.Number.{Number}
@@ -83,3 +83,8 @@ pub when_copied : (joined_or : Result (List Event) ScriptFault) (scripts : Optio
     → IfOk joined_or (λ copy. copy ≡ joined script none) → none ≡ [] → IfSome scripts (λ copy. copy ≡ script)
 when_copied (Ok copy) scripts script none e h n = rw e (h ∙ ap (joined script) n ∙ joined_none script)
 when_copied (Err fault) scripts script none e h n = rw e tt
+
+-- what is true of a success is true of its value
+pub of_value : {T E : Type 0} (result : Result T E) (value : T) (P : T → Type 0) → Some value ≡ result_ok result → IfOk result P → P value
+of_value (Ok given) value P e h = subst P (sym (ap (λ o. unwrap_or o value) e)) h
+of_value (Err fault) value P e h = cc

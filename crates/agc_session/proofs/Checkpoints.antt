@@ -1,28 +1,31 @@
 -- A copy of the machine is a state of the session's run, and the run of a script that fits it goes on from there.
 use Rattle.std.specs.Prelude.{◌≡◌, ℕ, zero, suc, ◌+◌, ◌-◌, ◌<◌, ◌≤◌, List, [], ◌++◌, length, take, drop, replicate, All, None}
-use Rattle.std.proofs.Common.{refl, ap, sym, subst, ◌∙◌, arith}
+use Rattle.std.proofs.Common.{refl, ap, sym, subst, ◌∙◌, arith, append-nil, ◌∷◌}
 use Rattle.std.proofs.Math.Seq.{drop-append_seam}
 use Rattle.std.proofs.lemmas.List.{length-append, take-append-drop}
-use Rattle.std.proofs.lemmas.List.Elements.{All-nil}
+use Rattle.std.proofs.lemmas.List.Elements.{All-append, All-cons, All-drop, All-head, All-nil, All-tail, All-take}
 use Rattle.agc_word.specs.Number.{Number}
 use Rattle.agc_word.specs.declared.channel_write.ChannelWrite.{ChannelWrite}
 use Rattle.agc_script.specs.Event.{most_events}
-use Rattle.agc_script.specs.Merge.{joined}
+use Rattle.agc_script.specs.Merge.{due_at, joined}
+use Rattle.agc_script.specs.Script.{IsInOrder, before}
 use Rattle.agc_script.specs.declared.event.Event.{Event}
 use Rattle.agc_machine.specs.Boundary.{IsBefore, boundary}
 use Rattle.agc_machine.specs.Laws.{LeavesEvents}
 use Rattle.agc_machine.specs.Live.{IsLive}
 use Rattle.agc_machine.specs.Replay.{Chain, chain, writes_in}
 use Rattle.agc_machine.specs.State.{State, start_state}
+use Rattle.agc_machine.specs.declared.answer.Stepped.{Stepped}
 use Rattle.agc_machine.proofs.Live.{goes_on, live_starts, none_live, no_tape}
-use Rattle.agc_machine.proofs.LiveTime.{live_is_same}
+use Rattle.agc_machine.proofs.LiveTime.{live_is_not_before, live_is_same}
 use Rattle.agc_machine.proofs.Taking.{IsLeft, chain_later, chain_left, takes_same}
 use Rattle.agc_panel.specs.Face.{panel_of}
 use Rattle.agc_panel.specs.declared.face.Face.{Face}
 use Rattle.agc_session.specs.Checkpoints.{Fits, IsCheckpoint, IsKept, IsOnWay, counted}
-use Rattle.agc_session.specs.Session.{BeginBefore, HasReached, IsSession, SessionState, script_of, start_with}
+use Rattle.agc_session.specs.Session.{BeginBefore, HasReached, IsSession, SessionState, script_of, since, start_with}
 use Rattle.agc_session.specs.declared.checkpoint.Checkpoint.{Checkpoint}
 use Rattle.agc_session.proofs.Reached.{Way, then_way}
+use Rattle.agc_session.proofs.Again.{before_is_early, both_parts, either_first, late_given, since_is_late}
 use Rattle.agc_session.proofs.Begun.{limit_at_start, replayed, same_start, starts_live, words_at_start}
 
 -- a later state of a run has the same words and limit, so copies of the run stay right
@@ -74,26 +77,25 @@ begin_before (suc n) cycle s l = (omega (arith, l, chain_later (suc n) s), begin
 -- the run of a script that fits a copy comes to it
 pub goes_on_from : (words : List Number) (limit before : ℕ) (script : List Event) (copy : Checkpoint) → IsCheckpoint words limit copy → Fits script copy
     → copy.machine.cycle < before
-    → IsOnWay before (start_state words script limit None) (record copy.machine { events = drop copy.taken script }) copy.panel copy.writes
+    → IsOnWay before (start_state words script limit None) (record copy.machine { events = drop (length copy.taken) script }) copy.panel copy.writes
 goes_on_from words limit before script copy h fits l =
     let n = h.on_run.boundaries in
-    let start : State = start_state words copy.script limit None in
-    let first = take copy.taken copy.script in
-    let rest = drop copy.taken copy.script in
-    let other = drop copy.taken script in
-    let at : (chain (replicate n None) start).last ≡ record copy.machine { events = rest } = h.on_run.state in
-    let had : start.events ≡ first ++ rest = events_at_start words copy.script limit ∙ sym (take-append-drop copy.taken copy.script) in
-    let leaves : LeavesEvents n rest other start = record {
-      left = ap (λ (s : State). s.events) at;
+    let start : State = start_state words copy.taken limit None in
+    let other = drop (length copy.taken) script in
+    let at : (chain (replicate n None) start).last ≡ copy.machine = h.on_run.state in
+    let had : start.events ≡ copy.taken ++ [] = events_at_start words copy.taken limit ∙ sym (append-nil copy.taken) in
+    let leaves : LeavesEvents n [] other start = record {
+      left = ap (λ (s : State). s.events) at ∙ h.none_left;
       runs = ap (λ (s : State). s.stopped) at ∙ h.runs;
       later = subst (λ (c : ℕ). IsBefore c other) (sym (ap (λ (s : State). s.cycle) at)) fits.later;
     } in
-    let again : record start { events = first ++ other } ≡ start_state words script limit None =
-    with_events words copy.script (first ++ other) limit
-    ∙ ap (λ (events : List Event). start_state words events limit None) (ap (λ (taken : List Event). taken ++ other) (sym fits.same) ∙ take-append-drop copy.taken script) in
+    let again : record start { events = copy.taken ++ other } ≡ start_state words script limit None =
+    with_events words copy.taken (copy.taken ++ other) limit
+    ∙ ap (λ (events : List Event). start_state words events limit None)
+    (ap (λ (taken : List Event). taken ++ other) (sym fits.same) ∙ take-append-drop (length copy.taken) script) in
     let same : chain (replicate n None) (start_state words script limit None)
     ≡ record { answers = (chain (replicate n None) start).answers; last = record (chain (replicate n None) start).last { events = other } } =
-    ap (λ (s : State). chain (replicate n None) s) (sym again) ∙ takes_same n start first rest other had leaves in
+    ap (λ (s : State). chain (replicate n None) s) (sym again) ∙ takes_same n start copy.taken [] other had leaves in
     let last : (chain (replicate n None) (start_state words script limit None)).last ≡ record copy.machine { events = other } =
     ap (λ (c : Chain). c.last) same ∙ ap (λ (s : State). record s { events = other }) at in
     record {
@@ -150,26 +152,79 @@ session_left s h =
     left_in (script_of s) s.now.events
     (subst (λ (events : List Event). IsLeft events s.now.events) (events_at_start s.now.processor.store.fixed (script_of s) s.now.limit) left)
 
+-- what is true of the events of two scripts is true of their merge
+all_joined : (P : Event → Type 0) (events given : List Event) → All P events → All P given → All P (joined events given)
+unfolding joined
+all_joined P events [] h k = h
+all_joined P events (one ∷ given) h k =
+    let due = due_at one.cycle events in
+    All-append P (take due events) (one ∷ joined (drop due events) given) (All-take P due events h)
+    (All-cons P one (joined (drop due events) given) (All-head P one given k) (all_joined P (drop due events) given (All-drop P due events h) (All-tail P one given k)))
+
+-- if all injected events come before a cycle, those of the script from the cycle on are the last ones
+late_last : (c : ℕ) (script given : List Event) → IsInOrder script → All (λ e. e.cycle < c) given
+    → joined script given ≡ joined (before c script) given ++ since c script
+late_last c script given order early =
+    let late = since_is_late c script order in
+    let known = before_is_early c script in
+    ap (λ (events : List Event). joined events given) (sym (both_parts c script))
+    ∙ ap (λ (events : List Event). joined events given) (sym (late_given c (before c script) (since c script) known late))
+    ∙ sym (either_first c (before c script) given (since c script) early late)
+    ∙ late_given c (joined (before c script) given) (since c script) (all_joined (λ e. e.cycle < c) (before c script) given known early) late
+
+injected_before : (s : SessionState) → IsSession s → All (λ e. e.cycle < s.now.cycle + 1) s.injected
+injected_before s h =
+    let not_later = live_is_not_before (start_with s.script s.now) s.now s.injected h.writes h.live in
+    λ i d l. omega (arith, not_later i d l)
+
+-- the events taken and those left are the session's script
+taken_then_left : (s : SessionState) → IsSession s → IsInOrder s.script → length s.script - length (before (s.now.cycle + 1) s.script) ≡ length s.now.events
+    → script_of s ≡ joined (before (s.now.cycle + 1) s.script) s.injected ++ s.now.events
+taken_then_left s h order count =
+    let c : ℕ = s.now.cycle + 1 in
+    let taken : List Event = joined (before c s.script) s.injected in
+    let late : List Event = since c s.script in
+    let whole : script_of s ≡ taken ++ late = late_last c s.script s.injected order (injected_before s h) in
+    let parts : length s.script ≡ length (before c s.script) + length late = ap length (sym (both_parts c s.script)) ∙ length-append (before c s.script) late in
+    let all : length (script_of s) ≡ length taken + length late = ap length whole ∙ length-append taken late in
+    let from : length (script_of s) - length s.now.events ≡ length taken = omega (arith, count, parts, all) in
+    let same : s.now.events ≡ late =
+    sym (session_left s h).1 ∙ ap (λ (n : ℕ). drop n (script_of s)) from ∙ ap (drop (length taken)) whole ∙ drop-append_seam taken late in
+    whole ∙ ap (λ (left : List Event). taken ++ left) (sym same)
+
 -- a copy of the present state of a session
-pub copies_now : (s : SessionState) (writes : ℕ) (all : List Checkpoint) (machine : State) (script : List Event) (taken : ℕ) → IsKept s writes all
-    → s.now.stopped ≡ None → script ≡ script_of s → taken ≡ length script - length s.now.events → machine ≡ record s.now { events = [] }
-    → IsCheckpoint s.now.processor.store.fixed s.now.limit (record { machine = machine; panel = s.panel; writes = writes; script = script; taken = taken })
-copies_now s writes all machine script taken h runs known count copied =
+pub copies_now : (s : SessionState) (writes : ℕ) (all : List Checkpoint) (machine : State) (taken : List Event) → IsKept s writes all
+    → s.now.stopped ≡ None → IsInOrder s.script → length s.script - length (before (s.now.cycle + 1) s.script) ≡ length s.now.events
+    → taken ≡ joined (before (s.now.cycle + 1) s.script) s.injected → machine ≡ record s.now { events = [] }
+    → IsCheckpoint s.now.processor.store.fixed s.now.limit (record { machine = machine; panel = s.panel; writes = writes; taken = taken })
+copies_now s writes all machine taken h runs order count known copied =
+    let n = length h.session.live.lives in
+    let words = s.now.processor.store.fixed in
+    let start : State = start_with (script_of s) s.now in
     let same = replayed s h.session in
-    let rest : drop taken script ≡ s.now.events =
-    ap (λ (n : ℕ). drop n script) count ∙ ap (λ (events : List Event). drop (length events - length s.now.events) events) known ∙ (session_left s h.session).1 in
-    let there : chain (replicate (length h.session.live.lives) None) (start_state s.now.processor.store.fixed script s.now.limit None)
-    ≡ chain h.session.live.lives (start_with s.script s.now) =
-    ap (λ (events : List Event). chain (replicate (length h.session.live.lives) None) (start_with events s.now)) known ∙ same in
+    let at : (chain (replicate n None) start).last ≡ s.now = ap (λ (c : Chain). c.last) same ∙ sym h.session.live.last in
+    let had : start.events ≡ taken ++ s.now.events =
+    events_at_start words (script_of s) s.now.limit ∙ taken_then_left s h.session order count ∙ ap (λ (first : List Event). first ++ s.now.events) (sym known) in
+    let leaves : LeavesEvents n s.now.events [] start = record {
+      left = ap (λ (t : State). t.events) at;
+      runs = ap (λ (t : State). t.stopped) at ∙ runs;
+      later = tt;
+    } in
+    let again : record start { events = taken ++ [] } ≡ start_state words taken s.now.limit None =
+    with_events words (script_of s) (taken ++ []) s.now.limit ∙ ap (λ (events : List Event). start_state words events s.now.limit None) (append-nil taken) in
+    let there : chain (replicate n None) (start_state words taken s.now.limit None)
+    ≡ record { answers = (chain (replicate n None) start).answers; last = record (chain (replicate n None) start).last { events = [] } } =
+    ap (λ (t : State). chain (replicate n None) t) (sym again) ∙ takes_same n start taken s.now.events [] had leaves in
+    let answers : (chain (replicate n None) (start_state words taken s.now.limit None)).answers ≡ (chain h.session.live.lives (start_with s.script s.now)).answers =
+    ap (λ (c : Chain). c.answers) there ∙ ap (λ (c : Chain). c.answers) same in
     record {
       on_run = record {
-        boundaries = length h.session.live.lives;
-        state = ap (λ (c : Chain). c.last) there ∙ sym h.session.live.last
-            ∙ ap (λ (events : List Event). record s.now { events = events }) (sym rest)
-            ∙ ap (λ (m : State). record m { events = drop taken script }) (sym copied);
-        shown = h.session.panel ∙ ap panel_of h.session.live.written ∙ ap (λ (c : Chain). panel_of (writes_in c.answers)) (sym there);
-        count = h.count ∙ ap counted h.session.live.written ∙ ap (λ (c : Chain). counted (writes_in c.answers)) (sym there);
+        boundaries = n;
+        state = ap (λ (c : Chain). c.last) there ∙ ap (λ (t : State). record t { events = [] }) at ∙ sym copied;
+        shown = h.session.panel ∙ ap panel_of h.session.live.written ∙ ap (λ (a : List Stepped). panel_of (writes_in a)) (sym answers);
+        count = h.count ∙ ap counted h.session.live.written ∙ ap (λ (a : List Stepped). counted (writes_in a)) (sym answers);
       };
+      none_left = ap (λ (m : State). m.events) copied;
       runs = ap (λ (m : State). m.stopped) copied ∙ runs;
     }
 

@@ -23,10 +23,8 @@ pub(crate) struct Checkpoint {
     pub(crate) panel: Panel,
     /// The number of channel writes from the start to here.
     pub(crate) writes: usize,
-    /// A script whose plain run comes here.
-    pub(crate) script: Script,
-    /// The number of its events that the run has taken.
-    pub(crate) taken: usize,
+    /// The events that the run has taken. The plain run of these alone comes here.
+    pub(crate) taken: Script,
 }
 
 /// The copies of a run, older ones first.
@@ -104,8 +102,8 @@ impl Checkpoint {
     fn is_on_run_of(&self, script: &Script) -> bool
         ensures { IsTrue result → Fits script.now self.now }
     {
-        begin_alike(script, &self.script, self.taken)
-            && is_after(script, self.taken, self.machine.cycle())
+        let taken = self.taken.len();
+        begin_alike(script, &self.taken, taken) && is_after(script, taken, self.machine.cycle())
     }
 }
 

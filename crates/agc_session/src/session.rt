@@ -372,22 +372,26 @@ impl Session {
         self.script.join(alloc, &self.injected).ok()
     }
 
-    /// Returns a copy of the present state, or `None` if memory runs out or the machine has stopped.
+    /// Returns a copy of the present state. Returns `None` if memory runs out, the machine has stopped, or an event of the
+    /// script is due.
     fn checkpoint(&self) -> Option<Checkpoint>
         ensures { IfSome result (IsCheckpoint self.now.now.processor.store.fixed self.now.now.limit) }
     {
-        if self.machine.stopped().is_some() {
+        if !self.machine.wants_key() {
             return None;
         }
+        rises(&self.script);
         let alloc = *self.checkpoints.copies.allocator();
-        let script = self.script(alloc)?;
+        let known = self.script.before(alloc, self.machine.cycle() + 1).ok()?;
+        if self.script.len() - known.len() != self.machine.events_left().len() {
+            return None;
+        }
+        let taken = known.join(alloc, &self.injected).ok()?;
         let machine = self.machine.copy_with(alloc, Script::empty(alloc))?;
-        let taken = script.len() - self.machine.events_left().len();
         Some(Checkpoint {
             machine,
             panel: self.panel,
             writes: self.writes,
-            script,
             taken,
         })
     }
@@ -444,10 +448,9 @@ fn resume(machine: Machine, checkpoints: &mut Checkpoints, events: Script, befor
         panel,
         writes,
         taken,
-        ..
     } = copy;
     Resumed {
-        machine: machine.resume_with(events, taken),
+        machine: machine.resume_with(events, taken.len()),
         panel,
         writes,
     }

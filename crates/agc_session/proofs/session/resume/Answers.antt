@@ -1,4 +1,5 @@
-use Rattle.std.proofs.Common.{subst, sym}
+use Rattle.std.specs.Prelude.{ℕ, drop}
+use Rattle.std.proofs.Common.{ap, subst, sym, ◌∙◌}
 use Rattle.agc_machine.specs.State.{State}
 use Rattle.agc_session.specs.Checkpoints.{IsOnWay}
 use Rattle.agc_session.specs.Session.{start_with}
@@ -17,7 +18,7 @@ pub returns-clause-way : goal.returns-clause-way
 returns-clause-way c =
     let words = c.args.machine.processor.store.fixed in
     let limit = c.args.machine.limit in
-    subst (λ (now : State). IsOnWay c.args.before (start_with c.args.events c.args.machine) now c.in-Some.copy.panel c.in-Some.copy.writes) (sym c.resume_with.ensures)
+    subst (λ (now : State). IsOnWay c.args.before (start_with c.args.events c.args.machine) now c.in-Some.copy.panel c.in-Some.copy.writes) (sym (c.resume_with.ensures ∙ ap (λ (n : ℕ). record c.in-Some.copy.machine { events = drop n c.args.events }) c.len.ensures.count))
     (goes_on_from words limit c.args.before c.args.events c.in-Some.copy (c.in-Some.ensures.copy words limit c.requires) c.in-Some.ensures.fits c.in-Some.ensures.before)
 
 pub returns-clause-right : goal.returns-clause-right
