@@ -1,4 +1,4 @@
--- The copies of its machine that a session keeps, to go on from the newest one when it goes back.
+-- The copies of its machine that a session keeps, to continue from the newest one when it goes back.
 use Rattle.std.specs.Prelude.{◌≡◌, ℕ, ◌-◌, ◌^◌, ◌≤◌, List, [], length, min, take, drop, replicate, All, None}
 use Rattle.agc_word.specs.Number.{Number}
 use Rattle.agc_word.specs.declared.channel_write.ChannelWrite.{ChannelWrite}
@@ -28,15 +28,15 @@ pub record IsOnWay (cycle : ℕ) (start now : State) (panel : Face) (writes : �
   pub on_run : IsOnRun start now panel writes
   pub before : BeginBefore on_run.boundaries cycle start
 
--- A copy is a state of a run of this rope up to this limit: the plain run of the events taken comes to it, none is left,
--- and the machine has not stopped.
+-- A copy is a state of a run of this rope up to this limit: the plain run of the events taken leads to it, no event is
+-- left, and the machine has not stopped.
 pub record IsCheckpoint (words : List Number) (limit : ℕ) (copy : Checkpoint) : Type 0 where
   pub on_run : IsOnRun (start_state words copy.taken limit None) copy.machine copy.panel copy.writes
   pub none_left : copy.machine.events ≡ []
   pub runs : copy.machine.stopped ≡ None
 
--- The run of a script comes to a copy too: it begins with the events that the copy has taken, and the others come after
--- the copy's cycle.
+-- The run of a script leads to a copy too: the script begins with the events that the copy has taken, and its other
+-- events are later than the copy's cycle.
 pub record Fits (script : List Event) (copy : Checkpoint) : Type 0 where
   pub some : length copy.taken ≤ length script
   pub same : take (length copy.taken) script ≡ copy.taken

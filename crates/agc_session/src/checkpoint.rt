@@ -23,7 +23,7 @@ pub(crate) struct Checkpoint {
     pub(crate) panel: Panel,
     /// The number of channel writes from the start to here.
     pub(crate) writes: usize,
-    /// The events that the run has taken. The plain run of these alone comes here.
+    /// The events that the run has taken. The plain run of these alone leads here.
     pub(crate) taken: Script,
 }
 
@@ -46,7 +46,7 @@ impl Checkpoints {
         }
     }
 
-    /// Sets when the next copy is due, after a machine has come to this cycle.
+    /// Sets when the next copy is due for a machine that is at this cycle.
     pub(crate) fn wait(&mut self, cycle: u64)
         ensures { self.new.copies.items ≡ self.old.copies.items }
     {
@@ -78,7 +78,7 @@ impl Checkpoints {
         None
     }
 
-    /// Takes out the newest copy at a cycle below `before` that the run of a script comes to. Drops all later ones.
+    /// Takes out the newest copy at a cycle below `before` that the run of a script leads to. Drops all later ones.
     pub(crate) fn take_newest(&mut self, script: &Script, before: u64) -> Option<Checkpoint>
         ensures right { (words : List Number) (limit : ℕ) → All (IsCheckpoint words limit) self.old.copies.items
             → All (IsCheckpoint words limit) self.new.copies.items }
@@ -98,7 +98,7 @@ impl Checkpoints {
 }
 
 impl Checkpoint {
-    /// Returns whether the run of a script comes to this copy.
+    /// Returns whether the run of a script leads to this copy.
     fn is_on_run_of(&self, script: &Script) -> bool
         ensures { IsTrue result → Fits script.now self.now }
     {

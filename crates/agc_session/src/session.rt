@@ -66,7 +66,7 @@ pub struct Rewound {
     pub writes: usize,
 }
 
-/// A state from which a run goes on.
+/// A state from which a run continues.
 struct Resumed {
     machine: Machine,
     panel: Panel,
@@ -167,8 +167,8 @@ impl Session {
         }
     }
 
-    /// Makes a copy of the machine, if there is memory for it. It stands apart because a call costs as much time as its
-    /// variables have room.
+    /// Makes a copy of the machine, if there is memory for it. This is a function of its own because each call clears the
+    /// room of all its variables.
     #[cold]
     #[inline(never)]
     fn make_copy(&mut self)
@@ -233,7 +233,7 @@ impl Session {
     }
 
     /// Discards the events that [`rewind`](Session::rewind) discards, and goes back to the newest copy of the machine
-    /// below `before`, or to the start of time if there is none. If memory runs out, returns the session unchanged.
+    /// below `before`, otherwise to the start of time. If memory runs out, returns the session unchanged.
     pub fn rewind_near(
         self,
         alloc: Global,
@@ -429,8 +429,8 @@ impl Session {
     }
 }
 
-/// Returns the state from which the run of these events goes on: the newest copy below `before` that it comes to, or
-/// its start.
+/// Returns the state from which the run of these events continues: the newest copy below `before` that it leads to,
+/// or its start.
 fn resume(machine: Machine, checkpoints: &mut Checkpoints, events: Script, before: u64) -> Resumed
     requires { All (IsCheckpoint machine.processor.store.fixed machine.limit) checkpoints.old.copies.items }
     ensures way { IsOnWay before (start_with events machine) result.machine result.panel result.writes }
