@@ -12,8 +12,8 @@ use std::alloc::Global;
 /// The cycles between two copies: about three seconds of machine time.
 const SPACING: u64 = 262_144;
 
-/// The most copies kept.
-const MOST_COPIES: u32 = 20;
+/// The most copies kept: enough for the largest limit of a machine.
+const MOST_COPIES: u32 = 22;
 
 /// A copy of the machine and the panel at one point of a run.
 #[derive(Drop)]
@@ -107,7 +107,7 @@ impl Checkpoint {
     }
 }
 
-/// Returns how often 2 divides the number of a copy's interval, at most 19.
+/// Returns how often 2 divides the number of a copy's interval, at most 21.
 fn rank_at(cycle: u64) -> u32 {
     (cycle / SPACING).trailing_zeros().min(MOST_COPIES - 1)
 }
