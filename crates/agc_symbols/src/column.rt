@@ -1,8 +1,9 @@
 //! Prints the name of a place, and the column in which lines show it.
-ghost use Rattle.std.specs.Prelude.{◌≡◌, ◌++◌, OnOk, replicate, string_bytes};
-ghost use Rattle.agc_symbols.specs.Column.{name_column, name_text, offset_text};
+ghost use Rattle.std.specs.Prelude.{◌≡◌, ◌++◌, OnOk, Some, replicate, string_bytes};
+ghost use Rattle.agc_symbols.specs.Column.{name_column, name_text, nearby_text, offset_text};
+ghost use Rattle.agc_symbols.specs.Nearest.{as_nearby};
 
-use crate::symbol_table::SymbolTable;
+use crate::symbol_table::{Nearest, SymbolTable};
 use agc_listing::Location;
 use std::alloc::AllocError;
 
@@ -17,12 +18,18 @@ pub fn push_named(text: &mut String, names: &SymbolTable, at: Location) -> Resul
         (string_bytes text.new ≡ string_bytes text.old ++ name_text names.now at) }
 {
     match names.named_at(at) {
-        Some(near) => {
-            text.push_str(near.name)?;
-            push_offset(text, near.offset)
-        }
+        Some(near) => push_nearby(text, near),
         None => Ok(()),
     }
+}
+
+/// Appends a name and how many words a place is beyond it: `LOOP`, or `LOOP +2`. Fails if out of memory.
+pub fn push_nearby(text: &mut String, near: Nearest<'_>) -> Result<(), AllocError>
+    ensures { OnOk result
+        (string_bytes text.new ≡ string_bytes text.old ++ nearby_text (Some (as_nearby near.entry))) }
+{
+    text.push_str(near.name)?;
+    push_offset(text, near.offset)
 }
 
 /// Appends an offset, in decimal as in listings.

@@ -1,6 +1,7 @@
 //! Symbols: names of places, the file that holds them, and the lookup in both directions.
 #![tactic(auto)]
 
+mod channel_table;
 mod column;
 mod fault;
 mod index;
@@ -15,7 +16,8 @@ mod ranges;
 mod symbol_table;
 mod writing;
 
-pub use column::{push_column, push_named};
+pub use channel_table::ChannelTable;
+pub use column::{push_column, push_named, push_nearby};
 pub use fault::{NameFault, SymbolTableFault};
 pub use laws::{the_nearest_name_is_told, written_names_are_read};
 pub use listing::text_with_names;

@@ -1,5 +1,6 @@
 //! Parses a line of a symbol file: a place and its name, a channel and its name, or nothing.
-ghost use Rattle.std.specs.Prelude.{◌≡◌, option_map, Some, None, if◌then◌else◌};
+ghost use Rattle.std.specs.Prelude.{◌≡◌, ◌<◌, option_map, IfSome, Some, None, if◌then◌else◌};
+ghost use Rattle.agc_symbols.specs.Channels.{channel_on, channel_said};
 ghost use Rattle.agc_symbols.specs.Symbols.{as_named, channel_named, is_place_name, line_named};
 ghost use Rattle.agc_symbols.specs.Symbols.{name_after, name_after_channel};
 ghost use Rattle.agc_listing.specs.Text.{said_by};
@@ -61,7 +62,8 @@ fn no_place<'a>(first: &[u8], rest: &'a [u8]) -> Result<Option<Said<'a>>, NameFa
 /// Parses a channel: `C` and one to three octal digits.
 #[tactic(auto, unfolding(crate::specs::Symbols::channel_named))]
 fn channel_named(word: &[u8]) -> Option<u64>
-    ensures { result ≡ channel_named word.now }
+    ensures channel { result ≡ channel_named word.now }
+    ensures range { IfSome result (λ channel. channel < 512) }
 {
     match word {
         [b'C', digits @ ..] => read_octal(3, digits),
@@ -70,13 +72,16 @@ fn channel_named(word: &[u8]) -> Option<u64>
 }
 
 /// Returns the channel of a line and its name, if it is such a line.
-pub(crate) fn channel_on(line: &[u8]) -> Option<SaidChannel<'_>> {
+#[tactic(auto, unfolding(crate::specs::Channels::channel_on))]
+pub(crate) fn channel_on(line: &[u8]) -> Option<SaidChannel<'_>>
+    ensures { option_map channel_said result ≡ channel_on line.now }
+{
     let (first, rest) = next_said(line)?;
     let channel = channel_named(first)?;
     let (word, _) = next_said(rest)?;
     let name = name_in(word)?;
     Some(SaidChannel {
-        channel: channel.min(0o777) as u16,
+        channel: channel as u16,
         name,
     })
 }

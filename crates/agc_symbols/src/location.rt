@@ -1,6 +1,7 @@
 //! Numbers that order places and cells in one sequence.
 ghost use Rattle.std.specs.Prelude.{◌≡◌, ◌*◌, ◌≤◌, ◌<◌, ◌^◌};
 ghost use Rattle.agc_symbols.specs.Index.{number_of, room_below};
+ghost use Rattle.agc_symbols.specs.Operand.{is_single};
 
 use agc_listing::Location;
 use agc_store::place::{ERASABLE_BANK_SIZE, FIXED_BANK_SIZE};
@@ -26,4 +27,17 @@ pub(crate) fn room_below(at: Location) -> usize
         Location::Erasable(cell) => cell % u32::from(ERASABLE_BANK_SIZE),
     };
     below.min(0o100) as usize
+}
+
+/// The first cell of erasable memory that is neither a register nor a counter.
+const FIRST_GENERAL: u32 = 0o61;
+
+/// Returns whether a location is a register or a counter, which is a single word.
+pub(crate) fn is_single(at: Location) -> bool
+    ensures { result ≡ is_single at }
+{
+    match at {
+        Location::Erasable(cell) => cell < FIRST_GENERAL,
+        Location::Fixed(_) => false,
+    }
 }

@@ -3,30 +3,25 @@ ghost use Rattle.std.specs.Prelude.{◌≡◌, ◌≢◌, ◌<◌, find, get_or,
 ghost use Rattle.agc_symbols.specs.Index.{stands_at};
 ghost use Rattle.agc_symbols.specs.Symbols.{names_in, names_with, option_named};
 ghost use Rattle.agc_symbols.specs.Nearest.{as_nearby, nearest};
+ghost use Rattle.agc_symbols.specs.Operand.{operand_named};
 ghost use Rattle.agc_symbols.specs.declared.fault.SymbolTableFault.TheVariants.{Memory};
 
+use crate::channel_table::ChannelTable;
 use crate::fault::SymbolTableFault;
 use crate::index::first_names;
-use crate::line::{Said, SaidChannel, channel_on, read_line};
-use crate::location::{number_of, room_below};
+use crate::line::{Said, read_line};
+use crate::location::{is_single, number_of, room_below};
 use crate::place_name::PlaceName;
 use agc_listing::Location;
-use agc_word::{next_line, without_return};
+use agc_word::next_line;
 use std::alloc::{AllocError, Global};
 use std::marker::Model;
-
-/// A name of a channel.
-#[derive(Drop)]
-struct ChannelName {
-    channel: u16,
-    name: String,
-}
 
 /// The names of a symbol file, in its order.
 #[derive(Drop)]
 pub struct SymbolTable {
     names: Vec<PlaceName>,
-    channels: Vec<ChannelName>,
+    channels: ChannelTable,
     /// For each number of a location, the index of the first name at it.
     first: Vec<Option<usize>>,
 }
@@ -60,7 +55,7 @@ impl SymbolTable {
     {
         let names = read_names(alloc, text)?;
         let first = first_names(alloc, names.as_slice())?;
-        let channels = read_channels(alloc, text)?;
+        let channels = ChannelTable::read(alloc, text)?;
         Ok(SymbolTable {
             names,
             channels,
@@ -72,11 +67,24 @@ impl SymbolTable {
     pub fn channel(&self, name: &[u8]) -> Option<u16>
         ensures range { IfSome result (λ channel. channel < 512) }
     {
-        let named = self
-            .channels
-            .iter()
-            .find(|named| named.name.as_bytes() == name)?;
-        Some(named.channel.min(0o777))
+        self.channels.channel(name)
+    }
+
+    /// Returns the names of places and those of channels apart.
+    pub fn split(self, alloc: Global) -> (SymbolTable, ChannelTable)
+        ensures { result.0 ≡ self }
+    {
+        let SymbolTable {
+            names,
+            channels,
+            first,
+        } = self;
+        let places = SymbolTable {
+            names,
+            channels: ChannelTable::new(alloc),
+            first,
+        };
+        (places, channels)
     }
 
     /// Returns the names of places, in the order of the text.
@@ -98,6 +106,19 @@ impl SymbolTable {
             }
         }
         None
+    }
+
+    /// Returns the name of a place as the operand of an order: the nearest one, but for a register or a counter only a
+    /// name of its own.
+    #[tactic(auto, unfolding(crate::specs::Operand::operand_named))]
+    pub fn operand_at(&self, at: Location) -> Option<Nearest<'_>>
+        ensures { option_map as_nearby result ≡ operand_named self.now at }
+    {
+        let near = self.named_at(at)?;
+        if is_single(at) && near.offset != 0 {
+            return None;
+        }
+        Some(near)
     }
 
     /// Returns the first of the names at a number.
@@ -140,18 +161,6 @@ fn read_names(alloc: Global, text: &[u8]) -> Result<Vec<PlaceName>, SymbolTableF
         rest = after;
     }
     Ok(names)
-}
-
-/// Returns the names of channels of a text without a faulty line.
-fn read_channels(alloc: Global, text: &[u8]) -> Result<Vec<ChannelName>, AllocError> {
-    let mut channels = Vec::new(alloc);
-    for line in text.split(|b| *b == b'\n') {
-        if let Some(SaidChannel { channel, name }) = channel_on(without_return(line)) {
-            let name = String::from_str(alloc, name)?;
-            channels.push(ChannelName { channel, name })?;
-        }
-    }
-    Ok(channels)
 }
 
 /// Adds the name of a line, if it has one.
