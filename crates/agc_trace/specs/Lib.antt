@@ -1,6 +1,7 @@
 pub mod Entry
 pub mod Line
 pub mod NamedLine
+pub mod Operand
 pub mod Trace
 pub mod Change
 pub mod Touched
