@@ -50,6 +50,8 @@ use Rattle.agc_trace.specs.declared.touched.Touched.TheVariants as touched
 use Rattle.agc_trace.specs.Entry.{entry_of}
 use Rattle.agc_trace.specs.Watch.{watched_of}
 use Rattle.agc_trace.specs.declared.entry.Entry.{Entry}
+use Rattle.agc_trace.specs.Operand.{operand_of}
+use Rattle.agc_trace.specs.declared.operand.Operand.{Operand}
 use Rattle.agc_listing.proofs.SameWord.{same_word-refl}
 use Rattle.agc_trace.proofs.Changes.{seen_after, watched_is}
 
@@ -304,11 +306,11 @@ none_found several s t m entry seen bank b h k e f n a holds =
     ∙ none_touched several s seen h
     (ap (λ (x : ℕ). is_away several (touched_by x (upcoming_of s))) (sym k) ∙ ap (λ (x : Entry). is_away several (touched_by bank x.happening)) (sym e) ∙ sym a ∙ holds)
 
-pub watched_found : (cells : List ℕ) (s t : State) (m : Memory) (entry : Entry) (seen : List Seen) (changes : List Change)
-    → entry ≡ entry_of s → t ≡ (boundary None s).0 → seen ≡ map (seen_in s.processor.store) cells → changes ≡ changes_since seen m → m ≡ t.processor.store
-    → record { entry = entry; changes = changes } ≡ watched_of cells s
-watched_found cells s t m entry seen changes e f h k n =
-    watched_is cells s t entry seen changes e f h (k ∙ ap (changes_since seen) n)
+pub watched_found : (cells : List ℕ) (s t : State) (m : Memory) (entry : Entry) (used : Operand) (seen : List Seen) (changes : List Change)
+    → entry ≡ entry_of s → used ≡ operand_of s → t ≡ (boundary None s).0 → seen ≡ map (seen_in s.processor.store) cells → changes ≡ changes_since seen m → m ≡ t.processor.store
+    → record { entry = entry; operand = used; changes = changes } ≡ watched_of cells s
+watched_found cells s t m entry used seen changes e o f h k n =
+    watched_is cells s t entry used seen changes e o f h (k ∙ ap (changes_since seen) n)
 
 pub seen_found : (cells : List ℕ) (before after m : Memory) (seen again : List Seen) → seen ≡ map (seen_in before) cells
     → again ≡ map (λ x. seen_in m x.cell) seen → m ≡ after → again ≡ map (seen_in after) cells

@@ -1,14 +1,13 @@
 -- The watched cells, read boundary by boundary.
 use Rattle.std.proofs.Common.{◌≡◌, ℕ, ◌+◌, List, [], ◌∷◌, ◌++◌, Bool, true, false, None, refl, ap, sym, ◌∙◌, zero-add, add-one}
-use Rattle.std.specs.Prelude.{◌==◌, ◌&&◌, ◌||◌, not, filter, map, IsTrue, if◌then◌else◌}
+use Rattle.std.specs.Prelude.{◌||◌, not, filter, map, if◌then◌else◌}
 use Rattle.std.specs.List.{list_any, range_with_len}
-use Rattle.std.proofs.lemmas.Bool.{eq-eqb, eqb-true}
 use Rattle.std.proofs.lemmas.List.Elements.{filter-append}
 use Rattle.std.proofs.lemmas.List.{map-append}
 use Rattle.agc_word.specs.Number.{Number}
 use Rattle.agc_store.specs.Memory.{Memory, cell_at}
 use Rattle.agc_listing.proofs.RopeLines.{range_more}
-use Rattle.agc_listing.proofs.SameWord.{same_word-refl, same_word-same}
+use Rattle.agc_listing.proofs.SameWord.{same_word-same}
 use Rattle.agc_listing.specs.Cell.{same_word}
 use Rattle.agc_trace.specs.Change.{change_of, changes_between, changes_since, is_changed, is_named, named_below, seen_in}
 use Rattle.agc_machine.specs.Boundary.{boundary}
@@ -16,6 +15,8 @@ use Rattle.agc_machine.specs.State.{State}
 use Rattle.agc_trace.specs.Entry.{entry_of}
 use Rattle.agc_trace.specs.Watch.{Watched, watched_of}
 use Rattle.agc_trace.specs.declared.entry.Entry.{Entry}
+use Rattle.agc_trace.specs.Operand.{operand_of}
+use Rattle.agc_trace.specs.declared.operand.Operand.{Operand}
 use Rattle.agc_trace.specs.declared.change.Change.{Change}
 use Rattle.agc_trace.specs.declared.change.Seen.{Seen}
 use Rattle.agc_listing.specs.declared.location_range.LocationRange.{LocationRange}
@@ -90,13 +91,14 @@ again_in before after [] = refl
 again_in before after (cell ∷ cells) = ap (λ (xs : List Seen). seen_in after cell ∷ xs) (again_in before after cells)
 
 -- The watched cells were read before a boundary: what has changed after it makes its entry, and they are read again.
-pub watched_is : (cells : List ℕ) (s t : State) (entry : Entry) (seen : List Seen) (changes : List Change) →
-    entry ≡ entry_of s → t ≡ (boundary None s).0 → seen ≡ map (seen_in s.processor.store) cells → changes ≡ changes_since seen t.processor.store →
-    record { entry = entry; changes = changes } ≡ watched_of cells s
+pub watched_is : (cells : List ℕ) (s t : State) (entry : Entry) (used : Operand) (seen : List Seen) (changes : List Change) →
+    entry ≡ entry_of s → used ≡ operand_of s → t ≡ (boundary None s).0 → seen ≡ map (seen_in s.processor.store) cells → changes ≡ changes_since seen t.processor.store →
+    record { entry = entry; operand = used; changes = changes } ≡ watched_of cells s
 unfolding watched_of changes_between
-watched_is cells s t entry seen changes e f h k =
-    ap (λ (x : Entry). record { entry = x; changes = changes }) e
-    ∙ ap (λ (xs : List Change). record { entry = entry_of s; changes = xs })
+watched_is cells s t entry used seen changes e o f h k =
+    ap (λ (x : Entry). record { entry = x; operand = used; changes = changes }) e
+    ∙ ap (λ (x : Operand). record { entry = entry_of s; operand = x; changes = changes }) o
+    ∙ ap (λ (xs : List Change). record { entry = entry_of s; operand = operand_of s; changes = xs })
     (k ∙ ap (λ (xs : List Seen). changes_since xs t.processor.store) h ∙ ap (λ (u : State). changes_since (map (seen_in s.processor.store) cells) u.processor.store) f)
 
 pub seen_after : (cells : List ℕ) (before after : Memory) (seen again : List Seen) → seen ≡ map (seen_in before) cells →
@@ -105,6 +107,6 @@ seen_after cells before after seen again h k =
     k ∙ ap (λ (xs : List Seen). map (λ x. seen_in after x.cell) xs) h ∙ again_in before after cells
 
 -- the same, in terms of the changes as printed
-pub shown_is : (watched : Watched) (entry : Entry) (changes shown : List Change) → shown ≡ changes →
-    record { entry = entry; changes = changes } ≡ watched → record { entry = entry; changes = shown } ≡ watched
-shown_is watched entry changes shown e h = ap (λ (xs : List Change). record { entry = entry; changes = xs }) e ∙ h
+pub shown_is : (watched : Watched) (entry : Entry) (used : Operand) (changes shown : List Change) → shown ≡ changes →
+    record { entry = entry; operand = used; changes = changes } ≡ watched → record { entry = entry; operand = used; changes = shown } ≡ watched
+shown_is watched entry used changes shown e h = ap (λ (xs : List Change). record { entry = entry; operand = used; changes = xs }) e ∙ h

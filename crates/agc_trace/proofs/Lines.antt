@@ -7,13 +7,14 @@ use Rattle.agc_io.specs.Output.{IsBegun}
 use Rattle.agc_io.proofs.Begun.{begun_as, first_begun, more_begun}
 use Rattle.agc_machine.specs.Boundary.{boundary, upcoming_of}
 use Rattle.agc_machine.specs.State.{State}
-use Rattle.agc_symbols.specs.Symbols.{Symbol}
-use Rattle.agc_trace.specs.NamedLine.{watched_line}
+use Rattle.agc_trace.specs.OperandLine.{watched_line}
 use Rattle.agc_trace.specs.Selection.{is_selected, kept, last_of, lines_of, selected, selected_lines}
 use Rattle.agc_trace.specs.Trace.{is_stop}
 use Rattle.agc_trace.specs.Watch.{Watched, watch_of, watched_of}
 use Rattle.agc_trace.specs.declared.change.Change.{Change}
 use Rattle.agc_trace.specs.declared.entry.Entry.{Entry}
+use Rattle.agc_trace.specs.declared.line_form.LineForm.{LineForm}
+use Rattle.agc_trace.specs.declared.operand.Operand.{Operand}
 use Rattle.agc_trace.specs.declared.selection.Selection.{Selection}
 use Rattle.agc_trace.proofs.Watches.{watch_by_entry, watch_ends, watch_goes_on, watched_by}
 
@@ -26,17 +27,17 @@ no_entry_by true entry rest e = cc
 no_entry_by false entry rest e = refl
 
 -- the lines of two lists, one after the other
-pub lines_of-append : (names : Option (List Symbol)) (xs ys : List Watched) → lines_of names (xs ++ ys) ≡ lines_of names xs ++ lines_of names ys
+pub lines_of-append : (form : LineForm) (xs ys : List Watched) → lines_of form (xs ++ ys) ≡ lines_of form xs ++ lines_of form ys
 unfolding lines_of
-lines_of-append names xs ys = flat_map-append (watched_line names) xs ys
+lines_of-append form xs ys = flat_map-append (watched_line form) xs ys
 
-pub lines_of-none : (names : Option (List Symbol)) → lines_of names [] ≡ []
+pub lines_of-none : (form : LineForm) → lines_of form [] ≡ []
 unfolding lines_of
-lines_of-none names = refl
+lines_of-none form = refl
 
-pub lines_of-cons : (names : Option (List Symbol)) (entry : Watched) (entries : List Watched) → lines_of names (entry ∷ entries) ≡ watched_line names entry ++ lines_of names entries
+pub lines_of-cons : (form : LineForm) (entry : Watched) (entries : List Watched) → lines_of form (entry ∷ entries) ≡ watched_line form entry ++ lines_of form entries
 unfolding lines_of
-lines_of-cons names entry entries = refl
+lines_of-cons form entry entries = refl
 
 module _ (w : Selection) where
   split_entry : (entry : Watched) (entries : List Watched) → selected w (entry ∷ entries) ≡ selected w (entry ∷ []) ++ selected w entries
@@ -48,16 +49,16 @@ module _ (w : Selection) where
   no_entry entry entries e = no_entry_by (is_selected w entry) entry (filter (is_selected w) entries) e
 
   -- without a number of last lines, every selected entry has its line
-  pub all_lines : (names : Option (List Symbol)) (xs ys : List Watched) → w.last ≡ None → selected w xs ≡ selected w ys → lines_of names (selected w xs) ≡ selected_lines names w ys
+  pub all_lines : (form : LineForm) (xs ys : List Watched) → w.last ≡ None → selected w xs ≡ selected w ys → lines_of form (selected w xs) ≡ selected_lines form w ys
   unfolding selected_lines
-  all_lines names xs ys e f =
-      ap (λ (zs : List Watched). lines_of names zs) (f ∙ ap (λ (o : Option ℕ). kept o (selected w ys)) (sym e))
+  all_lines form xs ys e f =
+      ap (λ (zs : List Watched). lines_of form zs) (f ∙ ap (λ (o : Option ℕ). kept o (selected w ys)) (sym e))
 
-  pub last_lines : (names : Option (List Symbol)) (most : ℕ) (xs ys : List Watched) → w.last ≡ Some most → selected w xs ≡ selected w ys →
-      lines_of names (last_of most (selected w xs)) ≡ selected_lines names w ys
+  pub last_lines : (form : LineForm) (most : ℕ) (xs ys : List Watched) → w.last ≡ Some most → selected w xs ≡ selected w ys →
+      lines_of form (last_of most (selected w xs)) ≡ selected_lines form w ys
   unfolding selected_lines
-  last_lines names most xs ys e f =
-      ap (λ (zs : List Watched). lines_of names zs) (ap (λ (zs : List Watched). last_of most zs) f ∙ ap (λ (o : Option ℕ). kept o (selected w ys)) (sym e))
+  last_lines form most xs ys e f =
+      ap (λ (zs : List Watched). lines_of form zs) (ap (λ (zs : List Watched). last_of most zs) f ∙ ap (λ (o : Option ℕ). kept o (selected w ys)) (sym e))
 
   module _ (cells : List ℕ) where
     -- the selected entries of a watch begin with that of its first boundary
@@ -122,46 +123,46 @@ begun_next start now new line left whole h k =
     more_begun start now new h.0 (line ++ left) whole h.2 h.1 (first_begun now new line left (line ++ left) refl k)
 
 -- a line depends only on its entry and changes, however they were obtained
-pub line_as : (names : Option (List Symbol)) (now new : Option (List ℕ)) (x : Watched) (entry : Entry) (changes items : List Change) → changes ≡ items →
-    record { entry = entry; changes = items } ≡ x → Appends now new (watched_line names (record { entry = entry; changes = changes })) → Appends now new (watched_line names x)
-line_as names now new x entry changes items e f h =
-    subst (λ (y : Watched). Appends now new (watched_line names y)) (ap (λ (cs : List Change). record { entry = entry; changes = cs }) e ∙ f) h
+pub line_as : (form : LineForm) (now new : Option (List ℕ)) (x : Watched) (entry : Entry) (used : Operand) (changes items : List Change) → changes ≡ items →
+    record { entry = entry; operand = used; changes = items } ≡ x → Appends now new (watched_line form (record { entry = entry; operand = used; changes = changes })) → Appends now new (watched_line form x)
+line_as form now new x entry used changes items e f h =
+    subst (λ (y : Watched). Appends now new (watched_line form y)) (ap (λ (cs : List Change). record { entry = entry; operand = used; changes = cs }) e ∙ f) h
 
-pub begun_line_as : (names : Option (List Symbol)) (now new : Option (List ℕ)) (x : Watched) (entry : Entry) (changes items : List Change) → changes ≡ items →
-    record { entry = entry; changes = items } ≡ x → IsBegun now new (watched_line names (record { entry = entry; changes = changes })) → IsBegun now new (watched_line names x)
-begun_line_as names now new x entry changes items e f h =
-    begun_as now new _ (watched_line names x) (ap (watched_line names) (ap (λ (cs : List Change). record { entry = entry; changes = cs }) e ∙ f)) h
+pub begun_line_as : (form : LineForm) (now new : Option (List ℕ)) (x : Watched) (entry : Entry) (used : Operand) (changes items : List Change) → changes ≡ items →
+    record { entry = entry; operand = used; changes = items } ≡ x → IsBegun now new (watched_line form (record { entry = entry; operand = used; changes = changes })) → IsBegun now new (watched_line form x)
+begun_line_as form now new x entry used changes items e f h =
+    begun_as now new _ (watched_line form x) (ap (watched_line form) (ap (λ (cs : List Change). record { entry = entry; operand = used; changes = cs }) e ∙ f)) h
 
-module _ (names : Option (List Symbol)) (w : Selection) (cells : List ℕ) where
+module _ (form : LineForm) (w : Selection) (cells : List ℕ) where
   -- a beginning of the next line is written
   pub line_begun : (start now new : Option (List ℕ)) (s : State) (entry : Watched) (whole : List ℕ) → entry ≡ watched_of cells s →
-      IsWritten start now (lines_of names (selected w (watch_of cells s))) whole → IsBegun now new (lines_of names (selected w (entry ∷ []))) →
+      IsWritten start now (lines_of form (selected w (watch_of cells s))) whole → IsBegun now new (lines_of form (selected w (entry ∷ []))) →
       IsBegun start new whole
   line_begun start now new s entry whole e h k =
       let rest : List Watched = if is_stop (upcoming_of s) then [] else watch_of cells (boundary None s).0 in
-      let split : lines_of names (selected w (watch_of cells s)) ≡ lines_of names (selected w (entry ∷ [])) ++ lines_of names (selected w rest) =
-      ap (λ (xs : List Watched). lines_of names (selected w xs)) (watch_by_entry cells s ∙ ap (λ (x : Watched). x ∷ rest) (sym e))
-      ∙ ap (λ (xs : List Watched). lines_of names xs) (split_entry w entry rest)
-      ∙ lines_of-append names (selected w (entry ∷ [])) (selected w rest) in
-      begun_next start now new (lines_of names (selected w (entry ∷ []))) (lines_of names (selected w rest)) whole
+      let split : lines_of form (selected w (watch_of cells s)) ≡ lines_of form (selected w (entry ∷ [])) ++ lines_of form (selected w rest) =
+      ap (λ (xs : List Watched). lines_of form (selected w xs)) (watch_by_entry cells s ∙ ap (λ (x : Watched). x ∷ rest) (sym e))
+      ∙ ap (λ (xs : List Watched). lines_of form xs) (split_entry w entry rest)
+      ∙ lines_of-append form (selected w (entry ∷ [])) (selected w rest) in
+      begun_next start now new (lines_of form (selected w (entry ∷ []))) (lines_of form (selected w rest)) whole
       (subst (λ (xs : List ℕ). IsWritten start now xs whole) split h) k
 
   -- one more line is written, and what is left belongs to the next boundary's watch
   pub line_written : (start now new : Option (List ℕ)) (s t : State) (entry : Watched) (whole : List ℕ) →
       entry ≡ watched_of cells s → t ≡ (boundary None s).0 → is_stop entry.entry.happening ≡ false →
-      IsWritten start now (lines_of names (selected w (watch_of cells s))) whole → Appends now new (lines_of names (selected w (entry ∷ []))) →
-      IsWritten start new (lines_of names (selected w (watch_of cells t))) whole
+      IsWritten start now (lines_of form (selected w (watch_of cells s))) whole → Appends now new (lines_of form (selected w (entry ∷ []))) →
+      IsWritten start new (lines_of form (selected w (watch_of cells t))) whole
   line_written start now new s t entry whole e f stop h k =
-      let next = ap (λ (xs : List Watched). lines_of names xs) (entries_after w cells s t entry e f stop) ∙ lines_of-append names (selected w (entry ∷ [])) (selected w (watch_of cells t)) in
-      written_more start now new (lines_of names (selected w (entry ∷ []))) (lines_of names (selected w (watch_of cells t))) whole
+      let next = ap (λ (xs : List Watched). lines_of form xs) (entries_after w cells s t entry e f stop) ∙ lines_of-append form (selected w (entry ∷ [])) (selected w (watch_of cells t)) in
+      written_more start now new (lines_of form (selected w (entry ∷ []))) (lines_of form (selected w (watch_of cells t))) whole
       (subst (λ (xs : List ℕ). IsWritten start now xs whole) next h) k
 
   -- the last line is written
   pub all_written : (start now new : Option (List ℕ)) (s : State) (entry : Watched) (whole : List ℕ) →
       entry ≡ watched_of cells s → is_stop entry.entry.happening ≡ true →
-      IsWritten start now (lines_of names (selected w (watch_of cells s))) whole → Appends now new (lines_of names (selected w (entry ∷ []))) →
+      IsWritten start now (lines_of form (selected w (watch_of cells s))) whole → Appends now new (lines_of form (selected w (entry ∷ []))) →
       Appends start new whole
   all_written start now new s entry whole e stop h k =
-      let line = lines_of names (selected w (entry ∷ [])) in
-      let last : lines_of names (selected w (watch_of cells s)) ≡ line = ap (λ (xs : List Watched). lines_of names xs) (entries_of_stop w cells s entry e stop) in
+      let line = lines_of form (selected w (entry ∷ [])) in
+      let last : lines_of form (selected w (watch_of cells s)) ≡ line = ap (λ (xs : List Watched). lines_of form xs) (entries_of_stop w cells s entry e stop) in
       subst (λ (xs : List ℕ). Appends start new xs) (ap (λ (xs : List ℕ). h.0 ++ xs) (sym last) ∙ h.2) (appends_more start now new h.0 line h.1 k)

@@ -1,7 +1,7 @@
 -- Boundaries that are passed over have no line, and do not change the watched cells.
 use Rattle.std.proofs.Common.{◌≡◌, ℕ, ◌≤◌, ◌<◌, List, [], ◌∷◌, length, Option, None, Bool, true, false, refl, ap, sym, ◌∙◌, subst, arith}
 use Rattle.std.specs.Prelude.{◌==◌, ◌&&◌, ◌||◌, not, nat_le, filter, map, string_bytes, if◌then◌else◌}
-use Rattle.std.specs.List.{list_any, range_with_len}
+use Rattle.std.specs.List.{range_with_len}
 use Rattle.std.proofs.lemmas.Bool.Decides.{nat_tests}
 use Rattle.agc_store.specs.Memory.{erasable_bank}
 use Rattle.agc_machine.specs.Boundary.{boundary, upcoming_of}
@@ -9,17 +9,16 @@ use Rattle.agc_machine.specs.State.{State}
 use Rattle.agc_machine.specs.declared.upcoming.Upcoming.{Upcoming}
 use Rattle.agc_machine.specs.declared.upcoming.Upcoming.TheVariants as upcoming
 use Rattle.agc_listing.specs.declared.location_range.LocationRange.{LocationRange}
-use Rattle.agc_trace.specs.Change.{changes_between, changes_since, is_changed, is_named, named_below, named_cells, seen_in}
+use Rattle.agc_trace.specs.Change.{changes_between, is_named, named_below, named_cells, seen_in}
 use Rattle.agc_trace.specs.Entry.{entry_of}
 use Rattle.agc_trace.specs.Passing.{is_met_by, is_passed}
 use Rattle.agc_trace.specs.Selection.{changes_one, is_answer, is_asked, is_between, is_called, is_of_kinds, is_selected, runs_at, selected, touches}
-use Rattle.agc_trace.specs.Service.{service_after, service_at_stop, served}
+use Rattle.agc_trace.specs.Service.{service_at_stop, served}
 use Rattle.agc_trace.specs.Touched.{is_away, touched_by}
 use Rattle.agc_store.specs.Places.{erasable_cells}
 use Rattle.agc_trace.specs.Trace.{entries_left, is_stop, trace_of}
 use Rattle.agc_trace.specs.Watch.{Watched, watch_of, watched_of}
 use Rattle.agc_trace.specs.declared.change.Change.{Change}
-use Rattle.agc_trace.specs.declared.change.Seen.{Seen}
 use Rattle.agc_trace.specs.declared.entry.Entry.{Entry}
 use Rattle.agc_trace.specs.declared.selection.Selection.{Selection}
 use Rattle.agc_trace.specs.declared.service.Service.{Service}

@@ -6,6 +6,7 @@ pub mod Trace
 pub mod Change
 pub mod Touched
 pub mod Watch
+pub mod OperandLine
 pub mod Selection
 pub mod Service
 pub mod TraceLaws

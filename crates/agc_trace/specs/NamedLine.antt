@@ -1,4 +1,4 @@
--- An entry's line with symbols: the name of an order's place next to it, and the changes of cells.
+-- An entry's line with symbols: the name of an order's place next to it.
 use Rattle.std.specs.Prelude.{List, ℕ, ◌++◌, codes, Option, Some, None}
 use Rattle.std.specs.Fmt.{decimal}
 use Rattle.agc_machine.specs.declared.upcoming.InHand.{InHand}
@@ -9,9 +9,7 @@ use Rattle.agc_listing.specs.Place.{place_text}
 use Rattle.agc_listing.specs.Location.{location_at}
 use Rattle.agc_symbols.specs.Column.{name_column}
 use Rattle.agc_symbols.specs.Symbols.{Symbol}
-use Rattle.agc_trace.specs.Change.{changes_text}
 use Rattle.agc_trace.specs.Line.{entry_text, happening_text, order_place, registers_text, shown_text}
-use Rattle.agc_trace.specs.Watch.{Watched}
 use Rattle.agc_trace.specs.declared.entry.Entry.{Entry}
 use Rattle.agc_word.specs.Octal.{word_digits}
 
@@ -43,8 +41,3 @@ text_with None entry = entry_text entry
 -- the line of an entry, with symbols if there are any
 unfoldable pub line_with : Option (List Symbol) → Entry → List ℕ
 line_with names entry = text_with names entry ++ codes "\n"
-
--- the line of an entry, with the changes of cells after the registers
-unfoldable pub watched_line : Option (List Symbol) → Watched → List ℕ
-watched_line names watched =
-    text_with names watched.entry ++ changes_text watched.changes ++ codes "\n"

@@ -1,6 +1,6 @@
 -- The operand of the order in hand: the place that it addresses while the banks are as they are, and what that place
 -- holds before and after the boundary.
-use Rattle.std.specs.Prelude.{ℕ, ◌+◌, ◌%◌, ◌<◌, nat_lt, Bool, true, false, None, if◌then◌else◌}
+use Rattle.std.specs.Prelude.{ℕ, ◌+◌, ◌%◌, ◌<◌, nat_lt, Bool, true, false, List, None, if◌then◌else◌}
 use Rattle.agc_word.specs.Arithmetic.{narrow_of}
 use Rattle.agc_word.specs.Number.{Number, pattern_of}
 use Rattle.agc_store.specs.Memory.{Memory, cell_at, erasable_place, fixed_at, fixed_place, is_erasable, nothing}
@@ -16,6 +16,7 @@ use Rattle.agc_order.specs.declared.row.Takes.TheVariants as takes
 use Rattle.agc_processor.specs.Channel.{channel_word}
 use Rattle.agc_machine.specs.Boundary.{boundary, upcoming_of}
 use Rattle.agc_machine.specs.State.{State}
+use Rattle.agc_machine.specs.declared.upcoming.InHand.{InHand}
 use Rattle.agc_machine.specs.declared.upcoming.Upcoming.{Upcoming}
 use Rattle.agc_machine.specs.declared.upcoming.Upcoming.TheVariants as upcoming
 use Rattle.agc_listing.specs.declared.location.Location.{Location}
@@ -26,6 +27,20 @@ use Rattle.agc_trace.specs.declared.operand.HeldChannel.{HeldChannel}
 use Rattle.agc_trace.specs.declared.operand.HeldWord.{HeldWord}
 use Rattle.agc_trace.specs.declared.operand.Operand.{Operand}
 use Rattle.agc_trace.specs.declared.operand.Operand.TheVariants as operand
+
+-- the mnemonic by which a line names an order
+abbrev pub mnemonic_of : InHand → List ℕ
+mnemonic_of order =
+    if order.extracode
+    then (extracode_row (extracode_of (pattern_of 15 order.word))).mnemonic
+    else (basic_row (basic_of (pattern_of 15 order.word))).mnemonic
+
+-- the operand field of an order
+abbrev pub takes_of : InHand → Takes
+takes_of order =
+    if order.extracode
+    then (extracode_row (extracode_of (pattern_of 15 order.word))).takes
+    else (basic_row (basic_of (pattern_of 15 order.word))).takes
 
 -- the place that an address names in a memory: EB, FB and the superbank select the banks in the two windows
 unfoldable pub place_named : Memory → ℕ → Location

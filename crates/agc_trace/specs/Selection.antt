@@ -2,12 +2,11 @@
 -- condition, and the stop; of these all, or only the last ones.
 use Rattle.std.specs.Prelude.{ℕ, ◌+◌, ◌-◌, ◌%◌, ◌==◌, ◌&&◌, ◌||◌, not, Bool, true, false, nat_le}
 use Rattle.std.specs.Prelude.{List, drop, length, filter, flat_map, string_bytes}
-use Rattle.std.specs.Prelude.{Option, Some, None, is_some, if◌then◌else◌}
+use Rattle.std.specs.Prelude.{Option, Some, None, is_some}
 use Rattle.std.specs.List.{list_any}
 use Rattle.std.specs.Str.{bytes_eq}
 use Rattle.agc_word.specs.Number.{pattern_of}
 use Rattle.agc_order.specs.Order.{basic_of, extracode_of}
-use Rattle.agc_order.specs.Row.{basic_row, extracode_row}
 use Rattle.agc_order.specs.declared.order.Basic.{Basic}
 use Rattle.agc_order.specs.declared.order.Basic.TheVariants as basic
 use Rattle.agc_order.specs.declared.order.Extracode.{Extracode}
@@ -17,15 +16,16 @@ use Rattle.agc_machine.specs.State.{State}
 use Rattle.agc_machine.specs.declared.upcoming.InHand.{InHand}
 use Rattle.agc_machine.specs.declared.upcoming.Upcoming.{Upcoming}
 use Rattle.agc_machine.specs.declared.upcoming.Upcoming.TheVariants as upcoming
-use Rattle.agc_symbols.specs.Symbols.{Symbol}
 use Rattle.agc_trace.specs.Change.{named_cells}
-use Rattle.agc_trace.specs.NamedLine.{watched_line}
+use Rattle.agc_trace.specs.Operand.{mnemonic_of}
+use Rattle.agc_trace.specs.OperandLine.{watched_line}
 use Rattle.agc_listing.specs.Ranges.{has_place}
 use Rattle.agc_trace.specs.Trace.{is_stop}
 use Rattle.agc_trace.specs.Watch.{Watched, watch_of}
 use Rattle.agc_trace.specs.declared.change.Change.{Change}
 use Rattle.agc_trace.specs.declared.entry.Entry.{Entry}
 use Rattle.agc_trace.specs.declared.entry.Registers.{Registers}
+use Rattle.agc_trace.specs.declared.line_form.LineForm.{LineForm}
 use Rattle.agc_listing.specs.declared.location_range.LocationRange.{LocationRange}
 use Rattle.agc_trace.specs.declared.selection.Only.{Only}
 use Rattle.agc_trace.specs.declared.selection.Only.TheVariants as only
@@ -78,13 +78,6 @@ runs_at places (upcoming.Stop why) = false
 runs_at places (upcoming.Event what) = false
 runs_at places (upcoming.Timer t) = false
 runs_at places (upcoming.Interrupt r) = false
-
--- the mnemonic by which a line names an order
-abbrev pub mnemonic_of : InHand → List ℕ
-mnemonic_of order =
-    if order.extracode
-    then (extracode_row (extracode_of (pattern_of 15 order.word))).mnemonic
-    else (basic_row (basic_of (pattern_of 15 order.word))).mnemonic
 
 -- an order of this mnemonic
 abbrev pub is_called : List ℕ → Upcoming → Bool
@@ -159,10 +152,10 @@ abbrev pub kept : Option ℕ → List Watched → List Watched
 kept None entries = entries
 kept (Some most) entries = last_of most entries
 
--- the lines of entries, with symbols if there are any
-unfoldable pub lines_of : Option (List Symbol) → List Watched → List ℕ
-lines_of names entries = flat_map (watched_line names) entries
+-- the lines of entries in a form
+unfoldable pub lines_of : LineForm → List Watched → List ℕ
+lines_of form entries = flat_map (watched_line form) entries
 
 -- the lines of the selected entries, or of the last of them
-unfoldable pub selected_lines : Option (List Symbol) → Selection → List Watched → List ℕ
-selected_lines names s entries = lines_of names (kept s.last (selected s entries))
+unfoldable pub selected_lines : LineForm → Selection → List Watched → List ℕ
+selected_lines form s entries = lines_of form (kept s.last (selected s entries))

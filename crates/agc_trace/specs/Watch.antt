@@ -1,16 +1,19 @@
--- The watch of a run: its trace, with the changes of some cells at each boundary.
+-- The watch of a run: its trace, with the operand of each order and the changes of some cells at each boundary.
 use Rattle.std.specs.Prelude.{ℕ, zero, suc, List, [], ◌∷◌, None, if◌then◌else◌}
 use Rattle.agc_machine.specs.Boundary.{boundary, upcoming_of}
 use Rattle.agc_machine.specs.State.{State}
 use Rattle.agc_trace.specs.Change.{changes_between}
 use Rattle.agc_trace.specs.Entry.{FitsLine, entry_of}
+use Rattle.agc_trace.specs.Operand.{operand_of}
 use Rattle.agc_trace.specs.Trace.{entries_left, is_stop}
 use Rattle.agc_trace.specs.declared.change.Change.{Change}
 use Rattle.agc_trace.specs.declared.entry.Entry.{Entry}
+use Rattle.agc_trace.specs.declared.operand.Operand.{Operand}
 
--- a boundary, and its changes of the watched cells
+-- a boundary, the operand of its order, and its changes of the watched cells
 pub record Watched : Type 0 where
   pub entry : Entry
+  pub operand : Operand
   pub changes : List Change
 
 -- the boundary that begins in a state: its changes follow from the states before and after it
@@ -18,6 +21,7 @@ unfoldable pub watched_of : List ℕ → State → Watched
 watched_of cells s =
     record {
       entry = entry_of s;
+      operand = operand_of s;
       changes = changes_between cells s.processor.store (boundary None s).0.processor.store;
     }
 

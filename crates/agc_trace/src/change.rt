@@ -15,7 +15,7 @@ ghost use Rattle.agc_trace.specs.Change.{
 ghost use Rattle.agc_trace.specs.Entry.{FitsLine, entry_of};
 ghost use Rattle.agc_trace.specs.Watch.{watched_of};
 
-use crate::entry::{Entry, next_entry};
+use crate::recorded::{Recorded, next_recorded};
 use crate::selection::Selection;
 use crate::touched::is_away;
 use agc_listing::{Cell, Location, LocationRange, is_same_word, push_cell_word, push_place};
@@ -88,7 +88,7 @@ fn see(cell: Cell, store: &Store) -> Seen
     }
 }
 
-/// Steps a machine over one boundary, and returns its entry and what it changed in the watched cells, which were read
+/// Steps a machine over one boundary, and returns it with its operand, and what it changed in the watched cells, which were read
 /// before it. They are read again only if it may have changed one. Without watched cells this costs next to nothing.
 #[inline]
 pub(crate) fn next_watched(
@@ -97,22 +97,23 @@ pub(crate) fn next_watched(
     selection: &Selection,
     seen: &mut Vec<Seen>,
     changes: &mut Vec<Change>,
-) -> Result<Entry, AllocError>
+) -> Result<Recorded, AllocError>
     requires { seen.old.items
         ≡ map (seen_in machine.old.processor.store) (named_cells selection.now.cells.items) }
-    ensures watched { IfOk result (λ entry. record { entry = entry; changes = changes.new.items }
+    ensures watched { IfOk result (λ recorded.
+        record { entry = recorded.entry; operand = recorded.operand; changes = changes.new.items }
         ≡ watched_of (named_cells selection.now.cells.items) machine.old) }
-    ensures entry { IfOk result (λ entry. entry ≡ entry_of machine.old) }
-    ensures fits { IfOk result FitsLine }
+    ensures entry { IfOk result (λ recorded. recorded.entry ≡ entry_of machine.old) }
+    ensures fits { IfOk result (λ recorded. FitsLine recorded.entry) }
     ensures after { machine.new ≡ (boundary None machine.old).0 }
     ensures seen { OnOk result (seen.new.items
         ≡ map (seen_in machine.new.processor.store) (named_cells selection.now.cells.items)) }
 {
     let bank = machine.store().erasable_bank();
-    let entry = next_entry(machine);
+    let Recorded { entry, operand } = next_recorded(machine);
     let stays = is_away(selection.cells.as_slice(), bank, entry.happening);
     look(alloc, machine.store(), stays, seen, changes)?;
-    Ok(entry)
+    Ok(Recorded { entry, operand })
 }
 
 /// Reads the cells again after a boundary, unless it is known not to change them. Sets the changes, and keeps the cells

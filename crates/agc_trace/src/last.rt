@@ -9,14 +9,14 @@ ghost use Rattle.agc_trace.specs.Trace.{trace_of};
 ghost use Rattle.agc_trace.specs.Watch.{FitsWatched};
 
 use crate::change::{Change, next_watched, see_named};
-use crate::entry::Entry;
+use crate::line_form::LineForm;
 use crate::passing::pass_unasked;
+use crate::recorded::Recorded;
 use crate::selection::Selection;
 use crate::service::{Service, service_after};
 use crate::tracing::{TraceFault, write_line};
 use agc_io::{Progress, report_at};
 use agc_machine::Machine;
-use agc_symbols::SymbolTable;
 use std::alloc::Global;
 use std::collections::VecDeque;
 use std::io::Write;
@@ -25,7 +25,7 @@ use std::marker::Model;
 /// A kept entry, with what its boundary changed in the watched cells.
 #[derive(Drop)]
 struct Kept {
-    entry: Entry,
+    recorded: Recorded,
     changes: Vec<Change>,
 }
 
@@ -34,7 +34,7 @@ impl Model for Kept {
 
     ghost Value = { Watched };
 
-    ghost view = { λ k. record { entry = k.entry; changes = k.changes.items } };
+    ghost view = { λ k. record { entry = k.recorded.entry; operand = k.recorded.operand; changes = k.changes.items } };
 }
 
 /// Runs a machine to its stop, or past the last selected cycle, and writes the lines of the last
@@ -43,20 +43,20 @@ pub(crate) fn write_last<W: Write, P: Progress>(
     alloc: Global,
     machine: &mut Machine,
     selection: &Selection,
-    names: &Option<SymbolTable>,
+    form: &LineForm,
     most: u64,
     out: &mut W,
     progress: &mut P,
 ) -> Result<Option<Service>, TraceFault>
     ensures lines { OnOk result (Appends (W.contents out.old) (W.contents out.new)
-        (lines_of names.now (last_of most (selected selection.now (watch_for selection.now machine.old))))) }
+        (lines_of form.now (last_of most (selected selection.now (watch_for selection.now machine.old))))) }
     ensures service { IfOk result (λ left. left ≡ service_left selection.now (trace_of machine.old)) }
     ensures cut { OnErr result (IsBegun (W.contents out.old) (W.contents out.new)
-        (lines_of names.now (last_of most (selected selection.now (watch_for selection.now machine.old))))) }
+        (lines_of form.now (last_of most (selected selection.now (watch_for selection.now machine.old))))) }
 {
     let mut last = VecDeque::new(alloc);
     let service = keep_last(alloc, machine, selection, most, &mut last, progress)?;
-    write_kept(alloc, names, &mut last, out)?;
+    write_kept(alloc, form, &mut last, out)?;
     Ok(service)
 }
 
@@ -81,13 +81,13 @@ fn keep_last<P: Progress>(
     let mut mark = 0;
     let mut service = None;
     while machine.cycle() <= selection.to {
-        let entry = next_watched(alloc, machine, selection, &mut seen, &mut changes)?;
-        keep_selected(alloc, selection, last, most, &entry, changes.as_slice())?;
-        if entry.is_stop() {
+        let recorded = next_watched(alloc, machine, selection, &mut seen, &mut changes)?;
+        keep_selected(alloc, selection, last, most, &recorded, changes.as_slice())?;
+        if recorded.entry.is_stop() {
             return Ok(service);
         }
-        service = service_after(selection, service, &entry);
-        mark = report_at(mark, entry.cycle, progress);
+        service = service_after(selection, service, &recorded.entry);
+        mark = report_at(mark, recorded.entry.cycle, progress);
         service = pass_unasked(machine, selection, service, &mut mark, progress);
     }
     Ok(None)
@@ -100,23 +100,23 @@ fn keep_selected(
     selection: &Selection,
     last: &mut VecDeque<Kept>,
     most: u64,
-    entry: &Entry,
+    recorded: &Recorded,
     changes: &[Change],
 ) -> Result<(), TraceFault>
     requires bound { length last.old.items ≤ most }
     requires fits { All FitsWatched last.old.items }
-    requires digits { FitsLine entry.now }
+    requires digits { FitsLine recorded.now.entry }
     ensures kept { OnOk result (last.new.items ≡ last_of most (last.old.items
-        ++ selected selection.now (record { entry = entry.now; changes = changes.now } ∷ []))) }
+        ++ selected selection.now (record { entry = recorded.now.entry; operand = recorded.now.operand; changes = changes.now } ∷ []))) }
     ensures fits { OnOk result (All FitsWatched last.new.items) }
     ensures fault { IfErr result (λ why. why ≡ TraceFault.Memory) }
 {
-    if !selection.takes(entry, changes) {
+    if !selection.takes(&recorded.entry, changes) {
         return Ok(());
     }
     let changes = Vec::from_slice(alloc, changes)?;
-    let entry = *entry;
-    push_last(last, most, Kept { entry, changes })
+    let recorded = *recorded;
+    push_last(last, most, Kept { recorded, changes })
 }
 
 /// Appends a value, and drops the first one if there are more than `most`.
@@ -137,18 +137,18 @@ fn push_last<T: Drop>(last: &mut VecDeque<T>, most: u64, value: T) -> Result<(),
 /// Writes the lines of the kept entries.
 fn write_kept<W: Write>(
     alloc: Global,
-    names: &Option<SymbolTable>,
+    form: &LineForm,
     last: &mut VecDeque<Kept>,
     out: &mut W,
 ) -> Result<(), TraceFault>
     requires { All FitsWatched last.old.items }
     ensures lines { OnOk result
-        (Appends (W.contents out.old) (W.contents out.new) (lines_of names.now last.old.items)) }
+        (Appends (W.contents out.old) (W.contents out.new) (lines_of form.now last.old.items)) }
     ensures cut { OnErr result (IsBegun (W.contents out.old) (W.contents out.new)
-        (lines_of names.now last.old.items)) }
+        (lines_of form.now last.old.items)) }
 {
     while let Some(kept) = last.pop_front() {
-        write_line(alloc, names, &kept.entry, kept.changes.as_slice(), out)?;
+        write_line(alloc, form, &kept.recorded, kept.changes.as_slice(), out)?;
     }
     Ok(())
 }

@@ -1,4 +1,4 @@
-//! Prints an entry of the trace as a line, with the name of an order's place and the changed cells.
+//! Prints an entry of the trace as a line, with the name of an order's place.
 ghost use Rattle.std.specs.Prelude.{◌≡◌, ◌++◌, OnOk, codes, string_bytes};
 ghost use Rattle.agc_machine.specs.Boundary.{HasPlace};
 ghost use Rattle.agc_machine.specs.declared.upcoming.Upcoming.TheVariants as upcoming;
@@ -10,10 +10,8 @@ ghost use Rattle.agc_trace.specs.NamedLine.{
   named_order,
   named_text,
   text_with,
-  watched_line,
 };
 
-use crate::change::{Change, push_changes};
 use crate::entry::Entry;
 use crate::line::{order_place, push_entry, push_happening, push_registers, push_write};
 use agc_listing::{location_at, push_order, push_place};
@@ -35,23 +33,6 @@ pub fn push_line_with(
         (string_bytes text.new ≡ string_bytes text.old ++ line_with names.now entry.now) }
 {
     push_entry_with(text, names, entry)?;
-    text.push_str("\n")
-}
-
-/// Appends that line, with the changes of watched cells after the registers: ` | PLACE WORD to WORD` for each.
-#[tactic(auto, unfolding(crate::specs::NamedLine::watched_line))]
-pub(crate) fn push_watched_line(
-    text: &mut String,
-    names: &Option<SymbolTable>,
-    entry: &Entry,
-    changes: &[Change],
-) -> Result<(), AllocError>
-    requires { FitsLine entry.now }
-    ensures { OnOk result (string_bytes text.new ≡ string_bytes text.old
-        ++ watched_line names.now (record { entry = entry.now; changes = changes.now })) }
-{
-    push_entry_with(text, names, entry)?;
-    push_changes(text, changes)?;
     text.push_str("\n")
 }
 
@@ -125,7 +106,7 @@ fn push_named_order(text: &mut String, names: &SymbolTable, order: InHand) -> Re
 }
 
 /// Appends a word and a space.
-fn push_digits(text: &mut String, word: Narrow) -> Result<(), AllocError>
+pub(crate) fn push_digits(text: &mut String, word: Narrow) -> Result<(), AllocError>
     ensures { OnOk result
         (string_bytes text.new ≡ string_bytes text.old ++ word_digits word ++ codes " ") }
 {

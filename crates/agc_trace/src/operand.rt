@@ -18,12 +18,13 @@ ghost use Rattle.agc_trace.specs.Operand.{
   operand_again,
   operand_between,
   place_named,
+  takes_of,
   word_again,
   word_at,
 };
 
 use agc_listing::{Cell, Location};
-use agc_machine::{Machine, Upcoming};
+use agc_machine::{InHand, Machine, Upcoming};
 use agc_order::{Basic, Extracode, Takes};
 use agc_store::place::{
     ERASABLE_BANK_SIZE, ERASABLE_WINDOW, FIXED_FIXED, FIXED_WINDOW, FIXED_WORDS, place_of,
@@ -95,6 +96,17 @@ pub(crate) fn addressed_by(happening: Upcoming, store: &Store) -> Addressed
         Upcoming::Stop(_) | Upcoming::Event(_) | Upcoming::Timer(_) | Upcoming::Interrupt(_) => {
             Addressed::Nothing
         }
+    }
+}
+
+/// Returns the operand field of an order.
+pub(crate) fn takes_of(order: InHand) -> Takes
+    ensures { result ≡ takes_of order }
+{
+    if order.extracode {
+        Extracode::named_by(order.word).row().takes
+    } else {
+        Basic::named_by(order.word).row().takes
     }
 }
 

@@ -1,6 +1,7 @@
 //! Selects the boundaries of a run that have a line.
 ghost use Rattle.std.specs.Prelude.{◌≡◌, string_bytes};
 ghost use Rattle.std.specs.List.{list_any};
+ghost use Rattle.agc_trace.specs.Operand.{mnemonic_of};
 ghost use Rattle.agc_trace.specs.Selection.{
   ends_service,
   is_asked,
@@ -10,7 +11,6 @@ ghost use Rattle.agc_trace.specs.Selection.{
   is_jump,
   is_of_kind,
   is_of_kinds,
-  mnemonic_of,
   runs_at,
   touches,
 };
@@ -57,12 +57,13 @@ impl Selection {
     ghost use Rattle.std.specs.Prelude.{◌≡◌};
     ghost use Rattle.agc_trace.specs.Passing.{is_met_by};
     ghost use Rattle.agc_trace.specs.Selection.{is_answer, is_selected};
+    ghost use Rattle.agc_trace.specs.declared.operand.Operand.{Operand};
 
     /// Returns whether the boundary of an entry, with its changes of watched cells, has a line.
     #[tactic(auto, unfolding(crate::specs::Selection::is_selected))]
     pub fn takes(&self, entry: &Entry, changes: &[Change]) -> bool
-        ensures { result
-            ≡ is_selected self.now (record { entry = entry.now; changes = changes.now }) }
+        ensures { (operand : Operand) → result ≡ is_selected self.now
+            (record { entry = entry.now; operand = operand; changes = changes.now }) }
     {
         self.from <= entry.cycle
             && entry.cycle <= self.to
@@ -152,7 +153,7 @@ fn is_called(name: &[u8], happening: Upcoming) -> bool
 }
 
 /// Returns the mnemonic by which a line names an order.
-fn mnemonic_of(order: InHand) -> &'static str
+pub(crate) fn mnemonic_of(order: InHand) -> &'static str
     ensures { result.now ≡ mnemonic_of order }
 {
     if order.extracode {

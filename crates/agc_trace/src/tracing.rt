@@ -3,21 +3,21 @@ ghost use Rattle.std.specs.Prelude.{◌≡◌, [], ◌∷◌, IfErr, IfOk, OnErr
 ghost use Rattle.std.specs.Io.KnownBytes.{Appends, Keeps};
 ghost use Rattle.agc_io.specs.Output.{IsBegun};
 ghost use Rattle.agc_trace.specs.Entry.{FitsLine};
-ghost use Rattle.agc_trace.specs.NamedLine.{watched_line};
+ghost use Rattle.agc_trace.specs.OperandLine.{watched_line};
 ghost use Rattle.agc_trace.specs.Selection.{last_of, lines_of, selected, selected_lines, watch_for};
 ghost use Rattle.agc_trace.specs.Service.{service_left};
 ghost use Rattle.agc_trace.specs.Trace.{trace_of};
 
 use crate::change::{Change, next_watched, see_named};
-use crate::entry::Entry;
 use crate::last::write_last;
-use crate::named_line::push_watched_line;
+use crate::line_form::LineForm;
+use crate::operand_line::push_watched_line;
 use crate::passing::pass_unasked;
+use crate::recorded::Recorded;
 use crate::selection::Selection;
 use crate::service::{Service, service_after};
 use agc_io::{Progress, report_at, write_in_full};
 use agc_machine::{Machine, Stepped};
-use agc_symbols::SymbolTable;
 use std::alloc::{AllocError, Global};
 use std::io::Write;
 use thiserror::Error;
@@ -42,27 +42,27 @@ impl From<AllocError> for TraceFault {
     }
 }
 
-/// Runs a machine, and writes the line of each selected boundary, with symbols if there is a table. Runs to the stop,
+/// Runs a machine, and writes the line of each selected boundary, in a form. Runs to the stop,
 /// or past the last selected cycle, because no boundary is selected after it. At the stop, returns the interrupt
 /// service that began in the range of cycles and that no RESUME has ended.
 pub fn trace<W: Write, P: Progress>(
     alloc: Global,
     machine: &mut Machine,
     selection: &Selection,
-    names: &Option<SymbolTable>,
+    form: &LineForm,
     out: &mut W,
     progress: &mut P,
 ) -> Result<Option<Service>, TraceFault>
     ensures lines { OnOk result (Appends (W.contents out.old) (W.contents out.new)
-        (selected_lines names.now selection.now (watch_for selection.now machine.old))) }
+        (selected_lines form.now selection.now (watch_for selection.now machine.old))) }
     ensures service { IfOk result (λ left. left ≡ service_left selection.now (trace_of machine.old)) }
     ensures cut { OnErr result (IsBegun (W.contents out.old) (W.contents out.new)
-        (selected_lines names.now selection.now (watch_for selection.now machine.old))) }
+        (selected_lines form.now selection.now (watch_for selection.now machine.old))) }
 {
     go_to_first(machine, selection, progress);
     match selection.last {
-        None => write_lines(alloc, machine, selection, names, out, progress),
-        Some(most) => write_last(alloc, machine, selection, names, most, out, progress),
+        None => write_lines(alloc, machine, selection, form, out, progress),
+        Some(most) => write_last(alloc, machine, selection, form, most, out, progress),
     }
 }
 
@@ -88,28 +88,28 @@ fn write_lines<W: Write, P: Progress>(
     alloc: Global,
     machine: &mut Machine,
     selection: &Selection,
-    names: &Option<SymbolTable>,
+    form: &LineForm,
     out: &mut W,
     progress: &mut P,
 ) -> Result<Option<Service>, TraceFault>
     ensures lines { OnOk result (Appends (W.contents out.old) (W.contents out.new)
-        (lines_of names.now (selected selection.now (watch_for selection.now machine.old)))) }
+        (lines_of form.now (selected selection.now (watch_for selection.now machine.old)))) }
     ensures service { IfOk result (λ left. left ≡ service_left selection.now (trace_of machine.old)) }
     ensures cut { OnErr result (IsBegun (W.contents out.old) (W.contents out.new)
-        (lines_of names.now (selected selection.now (watch_for selection.now machine.old)))) }
+        (lines_of form.now (selected selection.now (watch_for selection.now machine.old)))) }
 {
     let mut seen = see_named(alloc, selection.cells.as_slice(), machine.store())?;
     let mut changes = Vec::new(alloc);
     let mut mark = 0;
     let mut service = None;
     while machine.cycle() <= selection.to {
-        let entry = next_watched(alloc, machine, selection, &mut seen, &mut changes)?;
-        write_selected(alloc, selection, names, &entry, changes.as_slice(), out)?;
-        if entry.is_stop() {
+        let recorded = next_watched(alloc, machine, selection, &mut seen, &mut changes)?;
+        write_selected(alloc, selection, form, &recorded, changes.as_slice(), out)?;
+        if recorded.entry.is_stop() {
             return Ok(service);
         }
-        service = service_after(selection, service, &entry);
-        mark = report_at(mark, entry.cycle, progress);
+        service = service_after(selection, service, &recorded.entry);
+        mark = report_at(mark, recorded.entry.cycle, progress);
         service = pass_unasked(machine, selection, service, &mut mark, progress);
     }
     Ok(None)
@@ -120,21 +120,21 @@ fn write_lines<W: Write, P: Progress>(
 fn write_selected<W: Write>(
     alloc: Global,
     selection: &Selection,
-    names: &Option<SymbolTable>,
-    entry: &Entry,
+    form: &LineForm,
+    recorded: &Recorded,
     changes: &[Change],
     out: &mut W,
 ) -> Result<(), TraceFault>
-    requires { FitsLine entry.now }
-    ensures line { OnOk result (Appends (W.contents out.old) (W.contents out.new) (lines_of names.now
-        (selected selection.now (record { entry = entry.now; changes = changes.now } ∷ [])))) }
-    ensures cut { OnErr result (IsBegun (W.contents out.old) (W.contents out.new) (lines_of names.now
-        (selected selection.now (record { entry = entry.now; changes = changes.now } ∷ [])))) }
+    requires { FitsLine recorded.now.entry }
+    ensures line { OnOk result (Appends (W.contents out.old) (W.contents out.new) (lines_of form.now
+        (selected selection.now (record { entry = recorded.now.entry; operand = recorded.now.operand; changes = changes.now } ∷ [])))) }
+    ensures cut { OnErr result (IsBegun (W.contents out.old) (W.contents out.new) (lines_of form.now
+        (selected selection.now (record { entry = recorded.now.entry; operand = recorded.now.operand; changes = changes.now } ∷ [])))) }
     ensures kept { IfErr result (λ why. why ≡ TraceFault.Memory
         → Keeps (W.contents out.old) (W.contents out.new)) }
 {
-    if selection.takes(entry, changes) {
-        write_line(alloc, names, entry, changes, out)
+    if selection.takes(&recorded.entry, changes) {
+        write_line(alloc, form, recorded, changes, out)
     } else {
         Ok(())
     }
@@ -143,21 +143,21 @@ fn write_selected<W: Write>(
 /// Writes the line of an entry.
 pub(crate) fn write_line<W: Write>(
     alloc: Global,
-    names: &Option<SymbolTable>,
-    entry: &Entry,
+    form: &LineForm,
+    recorded: &Recorded,
     changes: &[Change],
     out: &mut W,
 ) -> Result<(), TraceFault>
-    requires { FitsLine entry.now }
+    requires { FitsLine recorded.now.entry }
     ensures line { OnOk result (Appends (W.contents out.old) (W.contents out.new)
-        (watched_line names.now (record { entry = entry.now; changes = changes.now }))) }
+        (watched_line form.now (record { entry = recorded.now.entry; operand = recorded.now.operand; changes = changes.now }))) }
     ensures cut { OnErr result (IsBegun (W.contents out.old) (W.contents out.new)
-        (watched_line names.now (record { entry = entry.now; changes = changes.now }))) }
+        (watched_line form.now (record { entry = recorded.now.entry; operand = recorded.now.operand; changes = changes.now }))) }
     ensures kept { IfErr result (λ why. why ≡ TraceFault.Memory
         → Keeps (W.contents out.old) (W.contents out.new)) }
 {
     let mut line = String::new(alloc);
-    if push_watched_line(&mut line, names, entry, changes).is_err() {
+    if push_watched_line(&mut line, form, recorded, changes).is_err() {
         return Err(TraceFault::Memory);
     }
     match write_in_full(out, line.as_bytes()) {

@@ -11,12 +11,12 @@ keep_selected-requires-clause-bound g c = few_kept _ _ _ _ c.loop-alloc.invarian
 
 pub returns-then-is_stop-clause-entries : goal.returns-then-is_stop-clause-entries
 returns-then-is_stop-clause-entries g c =
-    all_kept c.args.selection.now _ _ _ _ _ _ _ (shown_is _ _ _ _ c.as_slice-in-loop-alloc.ensures.value c.in_ok-entry.ensures.watched)
+    all_kept c.args.selection.now _ _ _ _ _ _ _ (shown_is _ _ _ _ _ c.as_slice-in-loop-alloc.ensures.value c.in_ok-recorded.ensures.watched)
     (sym c.is_stop.ensures ∙ c.if-is_stop.true) c.loop-alloc.invariant.kept c.in_ok-keep_selected.ensures.kept
 
 pub returns-then-is_stop-clause-service : goal.returns-then-is_stop-clause-service
 returns-then-is_stop-clause-service g c =
-    sym (left_at_stop c.args.selection.now _ _ c.in_ok-entry.entry c.in_ok-entry.ensures.entry
+    sym (left_at_stop c.args.selection.now _ _ c.in_ok-recorded.recorded.entry c.in_ok-recorded.ensures.entry
     (omega (arith, c.cycle.ensures.cycle, c.loop-alloc-test.true)) (sym c.is_stop.ensures ∙ c.if-is_stop.true))
     ∙ c.loop-alloc.invariant.service
 
@@ -25,19 +25,19 @@ loop-alloc-init g c = record { kept = nothing_kept _ _ _ c.requires; fits = sear
 
 pub loop-alloc-smaller : goal.loop-alloc-smaller
 loop-alloc-smaller g c =
-    let fewer = fewer_after_entry _ _ c.in_ok-entry.entry c.in_ok-entry.ensures.entry c.next_watched.ensures.after (sym c.is_stop.ensures ∙ c.if-is_stop.false) in
+    let fewer = fewer_after_entry _ _ c.in_ok-recorded.recorded.entry c.in_ok-recorded.ensures.entry c.next_watched.ensures.after (sym c.is_stop.ensures ∙ c.if-is_stop.false) in
     omega (arith, c.pass_unasked-service.ensures.fewer, fewer)
 
 pub loop-alloc-preserved : goal.loop-alloc-preserved
 loop-alloc-preserved g c = record {
-  kept = rw c.pass_unasked-service.ensures.entries (entry_kept c.args.selection.now _ _ _ _ _ _ _ _ (shown_is _ _ _ _ c.as_slice-in-loop-alloc.ensures.value c.in_ok-entry.ensures.watched) c.next_watched.ensures.after
+  kept = rw c.pass_unasked-service.ensures.entries (entry_kept c.args.selection.now _ _ _ _ _ _ _ _ (shown_is _ _ _ _ _ c.as_slice-in-loop-alloc.ensures.value c.in_ok-recorded.ensures.watched) c.next_watched.ensures.after
       (sym c.is_stop.ensures ∙ c.if-is_stop.false) c.loop-alloc.invariant.kept c.in_ok-keep_selected.ensures.kept);
   fits = c.in_ok-keep_selected.ensures.fits;
   service = c.pass_unasked-service.ensures.service ∙ rw c.service_after-service.ensures
-      (left_after c.args.selection.now _ _ _ c.in_ok-entry.entry c.in_ok-entry.ensures.entry c.next_watched.ensures.after
+      (left_after c.args.selection.now _ _ _ c.in_ok-recorded.recorded.entry c.in_ok-recorded.ensures.entry c.next_watched.ensures.after
       (omega (arith, c.cycle.ensures.cycle, c.loop-alloc-test.true)) (sym c.is_stop.ensures ∙ c.if-is_stop.false)
       ∙ c.loop-alloc.invariant.service);
-  seen = c.in_ok-entry.ensures.seen ∙ sym c.pass_unasked-service.ensures.seen;
+  seen = c.in_ok-recorded.ensures.seen ∙ sym c.pass_unasked-service.ensures.seen;
 }
 
 pub returns-clause-entries : goal.returns-clause-entries

@@ -8,7 +8,7 @@ use Rattle.agc_trace.proofs.last.write_kept.Given as goal
 -- what is written so far and the lines that are left are those of the whole
 abbrev pub invariant-loop-kept : goal.invariant-loop-kept
 invariant-loop-kept g l = record {
-  written : IsWritten (g.W.Write.contents l.initial.out) (g.W.Write.contents l.out) (lines_of l.names l.last.items) (lines_of l.names l.initial.last.items);
+  written : IsWritten (g.W.Write.contents l.initial.out) (g.W.Write.contents l.out) (lines_of l.form l.last.items) (lines_of l.form l.initial.last.items);
   fits : All FitsWatched l.last.items;
 }
 

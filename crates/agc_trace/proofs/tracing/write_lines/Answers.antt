@@ -11,35 +11,35 @@ use Rattle.agc_trace.proofs.tracing.write_lines.Goals as goal
 
 pub returns-then-is_stop-clause-lines : goal.returns-then-is_stop-clause-lines
 returns-then-is_stop-clause-lines g c =
-    all_written c.args.names.now c.args.selection.now _ _ _ _ _ _ _ (shown_is _ _ _ _ c.as_slice-in-loop-alloc.ensures.value c.in_ok-entry.ensures.watched)
+    all_written c.args.form.now c.args.selection.now _ _ _ _ _ _ _ (shown_is _ _ _ _ _ c.as_slice-in-loop-alloc.ensures.value c.in_ok-recorded.ensures.watched)
     (sym c.is_stop.ensures ∙ c.if-is_stop.true) c.loop-alloc.invariant.written c.in_ok-write_selected.ensures.line
 
 pub returns-then-is_stop-clause-service : goal.returns-then-is_stop-clause-service
 returns-then-is_stop-clause-service g c =
-    sym (left_at_stop c.args.selection.now _ _ c.in_ok-entry.entry c.in_ok-entry.ensures.entry
+    sym (left_at_stop c.args.selection.now _ _ c.in_ok-recorded.recorded.entry c.in_ok-recorded.ensures.entry
     (omega (arith, c.cycle.ensures.cycle, c.loop-alloc-test.true)) (sym c.is_stop.ensures ∙ c.if-is_stop.true))
     ∙ c.loop-alloc.invariant.service
 
 pub loop-alloc-smaller : goal.loop-alloc-smaller
 loop-alloc-smaller g c =
-    let fewer = fewer_after_entry _ _ c.in_ok-entry.entry c.in_ok-entry.ensures.entry c.next_watched.ensures.after (sym c.is_stop.ensures ∙ c.if-is_stop.false) in
+    let fewer = fewer_after_entry _ _ c.in_ok-recorded.recorded.entry c.in_ok-recorded.ensures.entry c.next_watched.ensures.after (sym c.is_stop.ensures ∙ c.if-is_stop.false) in
     omega (arith, c.pass_unasked-service.ensures.fewer, fewer)
 
 pub loop-alloc-preserved : goal.loop-alloc-preserved
 loop-alloc-preserved g c = record {
-  written = rw c.pass_unasked-service.ensures.entries (line_written c.args.names.now c.args.selection.now _ _ _ _ _ _ _ _ (shown_is _ _ _ _ c.as_slice-in-loop-alloc.ensures.value c.in_ok-entry.ensures.watched) c.next_watched.ensures.after
+  written = rw c.pass_unasked-service.ensures.entries (line_written c.args.form.now c.args.selection.now _ _ _ _ _ _ _ _ (shown_is _ _ _ _ _ c.as_slice-in-loop-alloc.ensures.value c.in_ok-recorded.ensures.watched) c.next_watched.ensures.after
       (sym c.is_stop.ensures ∙ c.if-is_stop.false) c.loop-alloc.invariant.written c.in_ok-write_selected.ensures.line);
   service = c.pass_unasked-service.ensures.service ∙ rw c.service_after-service.ensures
-      (left_after c.args.selection.now _ _ _ c.in_ok-entry.entry c.in_ok-entry.ensures.entry c.next_watched.ensures.after
+      (left_after c.args.selection.now _ _ _ c.in_ok-recorded.recorded.entry c.in_ok-recorded.ensures.entry c.next_watched.ensures.after
       (omega (arith, c.cycle.ensures.cycle, c.loop-alloc-test.true)) (sym c.is_stop.ensures ∙ c.if-is_stop.false)
       ∙ c.loop-alloc.invariant.service);
-  seen = c.in_ok-entry.ensures.seen ∙ sym c.pass_unasked-service.ensures.seen;
+  seen = c.in_ok-recorded.ensures.seen ∙ sym c.pass_unasked-service.ensures.seen;
 }
 
 pub returns-clause-lines : goal.returns-clause-lines
 returns-clause-lines g c =
     written_whole _ _ _ _
-    (ap (λ (xs : List Watched). lines_of c.args.names.now xs) (no_late_entries c.args.selection.now _ _ (omega (arith, c.cycle.ensures.cycle, c.loop-alloc-test.false))) ∙ lines_of-none c.args.names.now)
+    (ap (λ (xs : List Watched). lines_of c.args.form.now xs) (no_late_entries c.args.selection.now _ _ (omega (arith, c.cycle.ensures.cycle, c.loop-alloc-test.false))) ∙ lines_of-none c.args.form.now)
     c.loop-alloc.invariant.written
 
 pub returns-clause-service : goal.returns-clause-service
@@ -49,5 +49,5 @@ returns-clause-service g c =
 
 pub returns-in_err-write_selected-clause-cut : goal.returns-in_err-write_selected-clause-cut
 returns-in_err-write_selected-clause-cut g c =
-    any_err _ (line_begun c.args.names.now c.args.selection.now _ _ _ _ _ _ _ (shown_is _ _ _ _ c.as_slice-in-loop-alloc.ensures.value c.in_ok-entry.ensures.watched)
+    any_err _ (line_begun c.args.form.now c.args.selection.now _ _ _ _ _ _ _ (shown_is _ _ _ _ _ c.as_slice-in-loop-alloc.ensures.value c.in_ok-recorded.ensures.watched)
     c.loop-alloc.invariant.written c.in_err-write_selected.ensures.cut)

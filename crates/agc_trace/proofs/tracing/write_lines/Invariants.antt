@@ -11,8 +11,8 @@ use Rattle.agc_trace.proofs.tracing.write_lines.Given as goal
 -- there after the service in hand, and the cells that are named have been seen after the last boundary
 abbrev pub invariant-loop-alloc : goal.invariant-loop-alloc
 invariant-loop-alloc g l = record {
-  written : IsWritten (g.W.Write.contents l.initial.out) (g.W.Write.contents l.out) (lines_of l.names (selected l.selection (watch_for l.selection l.machine)))
-      (lines_of l.names (selected l.selection (watch_for l.selection l.initial.machine)));
+  written : IsWritten (g.W.Write.contents l.initial.out) (g.W.Write.contents l.out) (lines_of l.form (selected l.selection (watch_for l.selection l.machine)))
+      (lines_of l.form (selected l.selection (watch_for l.selection l.initial.machine)));
   service : service_at_stop l.selection l.service (trace_of l.machine) ≡ service_left l.selection (trace_of l.initial.machine);
   seen : l.seen.items ≡ map (seen_in l.machine.processor.store) (named_cells l.selection.cells.items);
 }
