@@ -7,6 +7,7 @@ pub mod Change
 pub mod Touched
 pub mod Watch
 pub mod OperandLine
+pub mod OperandLaws
 pub mod Selection
 pub mod Service
 pub mod TraceLaws

@@ -1,12 +1,19 @@
 //! Laws of every trace, each the contract of a function with an empty body.
-ghost use Rattle.std.specs.Prelude.{◌≡◌, ℕ, ◌<◌, List, length, map, slice_get, Some};
+ghost use Rattle.std.specs.Prelude.{◌≡◌, ℕ, ◌<◌, List, ◌++◌, codes, length, map, slice_get, Some};
 ghost use Rattle.agc_machine.specs.Laws.{after};
 ghost use Rattle.agc_machine.specs.Run.{run_of};
 ghost use Rattle.agc_machine.specs.State.{State};
+ghost use Rattle.agc_store.specs.Memory.{Memory, read_of};
+ghost use Rattle.agc_trace.specs.Change.{changes_text};
 ghost use Rattle.agc_trace.specs.Entry.{entry_of};
+ghost use Rattle.agc_trace.specs.Line.{entry_text};
+ghost use Rattle.agc_trace.specs.Operand.{place_named, word_at};
+ghost use Rattle.agc_trace.specs.OperandLaws.{IsBare, IsInRope};
+ghost use Rattle.agc_trace.specs.OperandLine.{watched_line};
 ghost use Rattle.agc_trace.specs.Trace.{trace_of};
 ghost use Rattle.agc_trace.specs.TraceLaws.{EndsWithStop, NeverGoBack};
-ghost use Rattle.agc_trace.specs.Watch.{watch_of};
+ghost use Rattle.agc_trace.specs.Watch.{Watched, watch_of};
+ghost use Rattle.agc_trace.specs.declared.line_form.LineForm.{LineForm};
 
 /// Entry n of a trace, counted from 0, is the boundary that comes after n others.
 pub fn an_entry_tells_its_boundary()
@@ -28,4 +35,18 @@ pub fn a_trace_never_goes_back()
 /// The entries of a watch are those of the trace, each once and in order, whatever cells are watched.
 pub fn a_watch_tells_the_trace()
     ensures { (cells : List ℕ) (s : State) → map (λ watched. watched.entry) (watch_of cells s) ≡ trace_of s }
+{}
+
+/// Without names, and if a form does not print what operands held, the line of a boundary is that of `push_line` with
+/// the changed cells at its end.
+pub fn a_form_without_names_changes_no_line()
+    ensures { (form : LineForm) (watched : Watched) → IsBare form
+        → watched_line form watched ≡ entry_text watched.entry ++ changes_text watched.changes ++ codes "\n" }
+{}
+
+/// The place of an operand is the one that its address reads: what the operand held is the word that the order finds at
+/// its address. Banks above 43 octal are left out.
+pub fn an_address_reads_its_place()
+    ensures { (m : Memory) (address : ℕ) → IsInRope (place_named m address)
+        → word_at m (place_named m address) ≡ read_of m address }
 {}
