@@ -7,6 +7,7 @@ pub mod Column
 pub mod Listing
 pub mod Writing
 pub mod FaultText
+pub mod Register
 pub mod Lookup
 pub mod NamesFile
 pub mod Resolve

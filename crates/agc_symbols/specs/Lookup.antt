@@ -9,6 +9,7 @@ use Rattle.agc_listing.specs.Number.{is_sign, offset_named}
 use Rattle.agc_listing.specs.declared.location.Location.{Location}
 use Rattle.agc_listing.specs.declared.location.Location.TheVariants as location
 use Rattle.agc_listing.specs.declared.number.Signed.{Signed}
+use Rattle.agc_symbols.specs.Register.{own_location}
 use Rattle.agc_symbols.specs.Symbols.{Symbol}
 
 -- the location of the first symbol with this name
@@ -57,10 +58,11 @@ place_called names word =
     option_or (moved (Some no_step) (place_of_name names word))
     (place_cut names (position is_sign word) word)
 
--- the location that a word writes, or else the one that it names
+-- the location that a word writes, or else the one that it names: by a symbol, or by a name of the computer's own
 abbrev pub called_in : Option (List Symbol) → List ℕ → Option Location
 called_in (Some names) word = place_called names word
 called_in None word = None
 
 unfoldable pub resolve : Option (List Symbol) → List ℕ → Option Location
-resolve names word = option_or (location_named word) (called_in names word)
+resolve names word =
+    option_or (location_named word) (option_or (called_in names word) (own_location word))

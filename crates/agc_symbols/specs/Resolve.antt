@@ -33,14 +33,13 @@ unfoldable pub places_called : Option (List Symbol) → RangeFault → List ℕ 
 places_called names why text = one_or_two names why text (resolve names text)
 
 -- what a text names without names, it names with them; if it names nothing either way, the fault is the same
-abbrev pub named_or_called : List Symbol → List ℕ → Result LocationRange RangeFault → Result LocationRange RangeFault
+abbrev pub named_or_called : Option (List Symbol) → List ℕ → Result LocationRange RangeFault → Result LocationRange RangeFault
 named_or_called names text (Ok places) = Ok places
-named_or_called names text (Err why) = places_called (Some names) why text
+named_or_called names text (Err why) = places_called names why text
 
 -- the range that a text names
 unfoldable pub resolve_range : Option (List Symbol) → List ℕ → Result LocationRange RangeFault
-resolve_range None text = places_named text
-resolve_range (Some names) text = named_or_called names text (places_named text)
+resolve_range names text = named_or_called names text (places_named text)
 
 -- the cells that a text names
 unfoldable pub resolve_cells : Option (List Symbol) → List ℕ → Result LocationRange RangeFault

@@ -13,6 +13,7 @@ mod lookup;
 mod names_file;
 mod place_name;
 mod ranges;
+mod register;
 mod symbol_table;
 mod writing;
 

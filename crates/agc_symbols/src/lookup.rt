@@ -1,6 +1,8 @@
 //! Resolves a word to a location, by symbols too.
 ghost use Rattle.std.specs.Prelude.{◌≡◌, ◌<◌, ◌≤◌, IfSome, length, position};
+ghost use Rattle.agc_symbols.specs.Register.{own_location};
 ghost use Rattle.agc_symbols.specs.Lookup.{
+  called_in,
   location_by,
   moved,
   number_by,
@@ -12,6 +14,7 @@ ghost use Rattle.agc_listing.specs.Location.{IsWithin};
 ghost use Rattle.agc_listing.specs.Number.{is_sign};
 
 use crate::place_name::PlaceName;
+use crate::register::Register;
 use crate::symbol_table::SymbolTable;
 use agc_listing::{Location, Signed, location_named, offset_named};
 use agc_store::place::{ERASABLE_CELLS, FIXED_WORDS};
@@ -23,8 +26,9 @@ const NO_STEP: Signed = Signed {
 };
 
 /// Resolves a word to a location: as `location_named` reads it or, if it does not and there is a symbol table, as the
-/// first symbol with this name, or as a decimal number of words after or before one: `LOOP`, `LOOP+3`, `LOOP-3`. `None`
-/// if the word is none of these, or the location is not in memory.
+/// first symbol with this name, or as a decimal number of words after or before one: `LOOP`, `LOOP+3`, `LOOP-3`; or else
+/// as a name of the computer's own, such as `TIME4`. `None` if the word is none of these, or the location is not in
+/// memory.
 #[tactic(auto, unfolding(crate::specs::Lookup::resolve))]
 pub fn resolve(names: &Option<SymbolTable>, word: &[u8]) -> Option<Location>
     ensures place { result ≡ resolve names.now word.now }
@@ -32,11 +36,32 @@ pub fn resolve(names: &Option<SymbolTable>, word: &[u8]) -> Option<Location>
 {
     match location_named(word) {
         Some(at) => Some(at),
-        None => match names {
-            Some(names) => place_called(names, word),
-            None => None,
+        None => match called_in(names, word) {
+            Some(at) => Some(at),
+            None => own_location(word),
         },
     }
+}
+
+/// Resolves a word by the symbols, if there are any.
+fn called_in(names: &Option<SymbolTable>, word: &[u8]) -> Option<Location>
+    ensures place { result ≡ called_in names.now word.now }
+    ensures range { IfSome result IsWithin }
+{
+    match names {
+        Some(names) => place_called(names, word),
+        None => None,
+    }
+}
+
+/// Returns the cell with this name of the computer's own.
+#[tactic(auto, unfolding(crate::specs::Register::own_location))]
+fn own_location(word: &[u8]) -> Option<Location>
+    ensures place { result ≡ own_location word.now }
+    ensures range { IfSome result IsWithin }
+{
+    let register = Register::from_name(word)?;
+    Some(Location::Erasable(register.cell()))
 }
 
 /// Resolves a name, or a name followed by a number.

@@ -6,17 +6,16 @@ use crate::lookup::resolve;
 use crate::symbol_table::SymbolTable;
 use agc_listing::{LocationRange, RangeFault, one_place, only_cells, two_places};
 
-/// Resolves a text to a range: as `LocationRange::named` reads it or, if it does not and there is a symbol table, as
-/// one location that `resolve` reads, or as two of one bank separated by a dash, at the first dash with a location on
-/// either side. If it is neither, the fault is the one without names.
+/// Resolves a text to a range: as `LocationRange::named` reads it or, if it does not, as one location that `resolve`
+/// reads, or as two of one bank separated by a dash, at the first dash with a location on either side. If it is neither,
+/// the fault is that of `LocationRange::named`.
 #[tactic(auto, unfolding(crate::specs::Resolve::resolve_range))]
 pub fn resolve_range(names: &Option<SymbolTable>, text: &[u8]) -> Result<LocationRange, RangeFault>
     ensures { result ≡ resolve_range names.now text.now }
 {
-    match (LocationRange::named(text), names) {
-        (Ok(places), _) => Ok(places),
-        (Err(why), None) => Err(why),
-        (Err(why), Some(_)) => places_called(names, why, text),
+    match LocationRange::named(text) {
+        Ok(places) => Ok(places),
+        Err(why) => places_called(names, why, text),
     }
 }
 
