@@ -6,10 +6,10 @@ use Rattle.agc_io.specs.Output.{IsBegun}
 use Rattle.agc_processor.specs.Interrupt.{rupt_name}
 use Rattle.agc_machine.specs.State.{State}
 use Rattle.agc_study_args.specs.declared.args.TraceArgs.{TraceArgs}
-use Rattle.agc_symbols.specs.Symbols.{Symbol}
 use Rattle.agc_trace.specs.Selection.{selected_lines, watch_for}
 use Rattle.agc_trace.specs.Service.{service_left}
 use Rattle.agc_trace.specs.Trace.{trace_of}
+use Rattle.agc_trace.specs.declared.line_form.LineForm.{LineForm}
 use Rattle.agc_trace.specs.declared.service.Service.{Service}
 use Rattle.agc_trace.specs.declared.tracing.TraceFault.TheVariants as fault
 use Rattle.agc_study_args.specs.Started.{IsRefused, IsStarted}
@@ -18,34 +18,34 @@ use Rattle.agc_analysis.specs.declared.traces.TraceError.{TraceError}
 use Rattle.agc_analysis.specs.declared.traces.TraceError.TheVariants as error
 use Rattle.agc_analysis.specs.declared.fault.AnalysisFault.TheVariants as analysis
 
--- the lines of the run of two files were written with these symbols, and this service is in progress at its stop
-pub record IsTraced (args : TraceArgs) (names : Option (List Symbol))
+-- the lines of the run of two files were written in this form, and this service is in progress at its stop
+pub record IsTraced (args : TraceArgs) (form : LineForm)
     (rope script before after : Option (List ℕ)) (service : Option Service) : Type 0 where
   pub machine : State
   pub start : IsStarted args.options None rope script machine
-  pub lines : Appends before after (selected_lines names args.selection (watch_for args.selection machine))
+  pub lines : Appends before after (selected_lines form args.selection (watch_for args.selection machine))
   pub left : service ≡ service_left args.selection (trace_of machine)
 
 -- the same, without a claim about the service
-pub record IsTraceWritten (args : TraceArgs) (names : Option (List Symbol))
+pub record IsTraceWritten (args : TraceArgs) (form : LineForm)
     (rope script before after : Option (List ℕ)) : Type 0 where
   pub service : Option Service
-  pub traced : IsTraced args names rope script before after service
+  pub traced : IsTraced args form rope script before after service
 
 -- the lines of the run of two files were cut off: a beginning of them was written
-pub record IsCutOff (args : TraceArgs) (names : Option (List Symbol))
+pub record IsCutOff (args : TraceArgs) (form : LineForm)
     (rope script before after : Option (List ℕ)) : Type 0 where
   pub machine : State
   pub start : IsStarted args.options None rope script machine
-  pub cut : IsBegun before after (selected_lines names args.selection (watch_for args.selection machine))
+  pub cut : IsBegun before after (selected_lines form args.selection (watch_for args.selection machine))
 
 -- why the trace is incomplete: a fault before anything was written, or the lines were cut off
-abbrev pub IsUntraced : TraceArgs → Option (List Symbol) → Option (List ℕ) → Option (List ℕ)
+abbrev pub IsUntraced : TraceArgs → LineForm → Option (List ℕ) → Option (List ℕ)
     → Option (List ℕ) → Option (List ℕ) → TraceError → Type 0
-IsUntraced args names rope script before after (error.Refused r) =
+IsUntraced args form rope script before after (error.Refused r) =
     IsRefused args.options None rope script r × Keeps before after
-IsUntraced args names rope script before after (error.Cut why) =
-    IsCutOff args names rope script before after
+IsUntraced args form rope script before after (error.Cut why) =
+    IsCutOff args form rope script before after
 
 -- How the program ends then: with 2 and the line of a fault, or with 3 if that line or the trace could not be
 -- written, or memory ran out.

@@ -12,7 +12,7 @@ use crate::traces::{Traced, remark_service, status_of_trace_error, trace_files};
 use agc_cli::exit_usage;
 use agc_io::{OK, ProgressLine};
 use agc_study_args::{NAME, RunInputs, TraceArgs, open_run, resolve_locations};
-use agc_symbols::SymbolTable;
+use agc_trace::LineForm;
 use std::alloc::Global;
 use std::io::{Read, Write};
 use std::rt::Files;
@@ -38,30 +38,31 @@ where
         return exit_usage(NAME, fault, FAULTY, &mut io.out, &mut io.err);
     }
     let mut inputs = open_run(rt, &args.files);
-    let status = write_trace(rt.alloc(), args, &names, &mut inputs, io);
+    let form = LineForm::new(rt.alloc(), names, args.operands);
+    let status = write_trace(rt.alloc(), args, &form, &mut inputs, io);
     inputs.remark_fault(rt.alloc(), &mut io.remarks);
     status
 }
 
-/// Traces the run of a rope and a script with these symbols.
+/// Traces the run of a rope and a script with lines in this form.
 fn write_trace<R: Read, W: Write, E: Write, N: Write, P: ProgressLine>(
     alloc: Global,
     args: &TraceArgs,
-    names: &Option<SymbolTable>,
+    form: &LineForm,
     inputs: &mut RunInputs<R>,
     io: &mut Streams<W, E, N, P>,
 ) -> u8
     ensures ended { EndsWith W.contents E.contents result io.old io.new }
     ensures no_note { result ≡ 2 → Keeps (N.contents io.old.remarks) (N.contents io.new.remarks) }
     ensures faulty { result ≢ 1 }
-    ensures traced { result ≡ 0 → IsTraceWritten args.now names.now
+    ensures traced { result ≡ 0 → IsTraceWritten args.now form.now
         (R.remaining inputs.old.rope) (R.remaining inputs.old.script)
         (W.contents io.old.out) (W.contents io.new.out) }
     ensures cut { result ≡ 3 → Keeps (W.contents io.old.out) (W.contents io.new.out)
-        ⊎ IsCutOff args.now names.now (R.remaining inputs.old.rope) (R.remaining inputs.old.script)
+        ⊎ IsCutOff args.now form.now (R.remaining inputs.old.rope) (R.remaining inputs.old.script)
         (W.contents io.old.out) (W.contents io.new.out) }
 {
-    let traced = trace_files(alloc, args, names, inputs, &mut io.out, &mut io.progress);
+    let traced = trace_files(alloc, args, form, inputs, &mut io.out, &mut io.progress);
     io.progress.wipe();
     match traced {
         Ok(traced) => {

@@ -8,8 +8,7 @@ use agc_io::{Progress, WRITE_FAILED};
 use agc_load::LoadFault;
 use agc_machine::Machine;
 use agc_study_args::{RunInputs, TraceArgs, read_machine};
-use agc_symbols::SymbolTable;
-use agc_trace::{Service, TraceFault, trace};
+use agc_trace::{LineForm, Service, TraceFault, trace};
 use std::alloc::Global;
 use std::io::{self, Read, Write};
 
@@ -31,20 +30,20 @@ pub enum TraceError {
     Cut(TraceFault),
 }
 
-/// Reads a rope and a script, and writes the lines of their run with these symbols. Fails with the first fault,
+/// Reads a rope and a script, and writes the lines of their run in a form. Fails with the first fault,
 /// checked in this order: rope, script, limit, `--until`; or if memory runs out. Nothing is written in that case.
 pub fn trace_files<R: Read, W: Write, P: Progress>(
     alloc: Global,
     args: &TraceArgs,
-    names: &Option<SymbolTable>,
+    form: &LineForm,
     inputs: &mut RunInputs<R>,
     out: &mut W,
     progress: &mut P,
 ) -> Result<Traced, TraceError>
-    ensures traced { IfOk result (λ traced. IsTraced args.now names.now
+    ensures traced { IfOk result (λ traced. IsTraced args.now form.now
         (R.remaining inputs.old.rope) (R.remaining inputs.old.script)
         (W.contents out.old) (W.contents out.new) traced.service) }
-    ensures error { IfErr result (IsUntraced args.now names.now
+    ensures error { IfErr result (IsUntraced args.now form.now
         (R.remaining inputs.old.rope) (R.remaining inputs.old.script)
         (W.contents out.old) (W.contents out.new)) }
 {
@@ -52,7 +51,7 @@ pub fn trace_files<R: Read, W: Write, P: Progress>(
         Ok(machine) => machine,
         Err(refusal) => return Err(TraceError::Refused(refusal)),
     };
-    match trace(alloc, &mut machine, &args.selection, names, out, progress) {
+    match trace(alloc, &mut machine, &args.selection, form, out, progress) {
         Ok(service) => Ok(Traced { machine, service }),
         Err(fault) => Err(TraceError::Cut(fault)),
     }

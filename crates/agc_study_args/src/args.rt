@@ -3,7 +3,7 @@ use agc_diff::DiffBy;
 use agc_profile::Layout;
 use agc_store::RopeForm;
 use agc_timeline::{Part, RunFiles};
-use agc_trace::{Selection, Span};
+use agc_trace::{Notation, Selection, Span};
 
 /// The program name used in messages.
 pub const NAME: &str = "agc-study";
@@ -91,6 +91,8 @@ pub struct TraceArgs {
     pub channel: Vec<String>,
     /// The symbol file (`--names`).
     pub names: Option<String>,
+    /// How to print what operands held (`--operands`, `--decimal`); `None` if that is not printed.
+    pub operands: Option<Notation>,
 }
 
 /// Arguments of `profile`: a run, and what to print about it.

@@ -97,7 +97,9 @@ impl<'a> Subcommands<'a> {
             .last_option()
             .names_option(
                 "Show names from this file (a line for each, PLACE NAME), and accept them as places",
-            );
+            )
+            .operands_option()
+            .decimal_option();
         self.with(
             "trace",
             "Runs a rope and a script, and prints a line for each order, event, timer step and interrupt.",
@@ -207,6 +209,23 @@ impl<'a> ArgList<'a> {
         )
         .required(is_required);
         self.with(arg)
+    }
+
+    fn operands_option(self) -> ArgList<'a> {
+        self.flag(
+            "operands",
+            "Print what the operand of an order held before it and, if that changed, after it",
+        )
+    }
+
+    fn decimal_option(self) -> ArgList<'a> {
+        let arg = flag(
+            self.alloc,
+            "decimal",
+            "With --operands, print these words as signed decimal numbers; -0 is minus zero",
+        )
+        .requires_arg("operands");
+        self.with_tied(arg)
     }
 
     fn whole_option(self) -> ArgList<'a> {

@@ -13,7 +13,7 @@ use agc_study_args::{
     Args, CheckArgs, CompareArgs, FilmArgs, ListArgs, ListStyle, NAME, TraceArgs, WeaveArgs,
 };
 use agc_timeline::{Part, RunFiles};
-use agc_trace::{Only, Selection, Span};
+use agc_trace::{Notation, Only, Selection, Span};
 use clap::ArgMatches;
 use std::alloc::{AllocError, Global};
 use std::rt::Env;
@@ -156,7 +156,20 @@ fn trace_args(alloc: Global, given: &ArgMatches<'_>) -> Result<Args, ArgsFault> 
         cell: texts_of(alloc, given, "cell")?,
         channel: channel_names_of(alloc, given)?,
         names: text_of(alloc, given, "names")?,
+        operands: operands_of(given),
     }))
+}
+
+/// Parses how what operands held is printed.
+fn operands_of(given: &ArgMatches<'_>) -> Option<Notation> {
+    if !given.get_flag("operands") {
+        return None;
+    }
+    if given.get_flag("decimal") {
+        Some(Notation::Decimal)
+    } else {
+        Some(Notation::Octal)
+    }
 }
 
 /// Parses which lines of a trace are printed; `--at` and `--cell` are parsed later, with the symbol file.

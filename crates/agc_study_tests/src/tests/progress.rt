@@ -4,7 +4,7 @@ use agc_diff::compare;
 use agc_io::{NoProgress, next_mark, report_at};
 use agc_machine::Machine;
 use agc_test_support::{IDLE, RecordingProgress};
-use agc_trace::trace;
+use agc_trace::{LineForm, trace};
 use std::process::Abort;
 
 /// Checks the reported cycles.
@@ -29,7 +29,7 @@ fn a_trace_tells_how_far_it_has_come(rt: HostRuntime) {
         rt.alloc(),
         &mut machine,
         &selection,
-        &None,
+        &LineForm::new(rt.alloc(), None, None),
         &mut out,
         &mut told,
     );

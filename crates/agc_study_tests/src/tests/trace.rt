@@ -4,7 +4,8 @@ use agc_io::NoProgress;
 use agc_listing::{Location, LocationRange, RangeFault, location_at};
 use agc_processor::Rupt;
 use agc_store::Addr;
-use agc_trace::{Only, Selection, Service, trace};
+use agc_symbols::SymbolTable;
+use agc_trace::{LineForm, Notation, Only, Selection, Service, trace};
 use std::process::Abort;
 use std::test::Fail;
 
@@ -15,6 +16,7 @@ fn traced(
     script: &str,
     limit: u64,
     selection: &Selection,
+    form: &LineForm,
 ) -> String {
     let mut machine = machine_of(rt, listing, script, limit);
     let mut out = Vec::new(rt.alloc());
@@ -22,7 +24,7 @@ fn traced(
         rt.alloc(),
         &mut machine,
         selection,
-        &None,
+        form,
         &mut out,
         &mut NoProgress,
     );
@@ -39,7 +41,8 @@ fn shows(
     selection: &Selection,
     lines: &[&str],
 ) {
-    let text = traced(rt, listing, script, limit, selection);
+    let form = LineForm::new(rt.alloc(), None, None);
+    let text = traced(rt, listing, script, limit, selection, &form);
     has_lines(rt, text.as_str(), lines);
 }
 
@@ -353,7 +356,7 @@ fn service_left(
         rt.alloc(),
         &mut machine,
         selection,
-        &None,
+        &LineForm::new(rt.alloc(), None, None),
         &mut out,
         &mut NoProgress,
     )
@@ -511,6 +514,7 @@ fn all_that_happens(rt: HostRuntime) -> Result<(), Fail> {
         EVERYTHING,
         860,
         &between(&rt, 0, 860, None),
+        &LineForm::new(rt.alloc(), None, None),
     );
     let mut lines = text.as_str().lines().filter(|line| line.contains(" - "));
     for (happening, z) in &HAPPENINGS {
@@ -521,4 +525,155 @@ fn all_that_happens(rt: HostRuntime) -> Result<(), Fail> {
     }
     assert_eq!(rt; lines.next(), None);
     Ok(())
+}
+
+/// Checks the lines of a run with operands in a notation, with the names of a file if there is one.
+fn shows_operands(
+    rt: &(impl AllocGlobal + Abort),
+    listing: &str,
+    limit: u64,
+    names: Option<&str>,
+    notation: Option<Notation>,
+    lines: &[&str],
+) {
+    let names = match names {
+        Some(text) => Some(named(rt, text)),
+        None => None,
+    };
+    let form = LineForm::new(rt.alloc(), names, notation);
+    let selection = between(rt, 0, limit, None);
+    let text = traced(rt, listing, "", limit, &selection, &form);
+    has_lines(rt, text.as_str(), lines);
+}
+
+/// Reads a symbol file.
+fn named(rt: &(impl AllocGlobal + Abort), text: &str) -> SymbolTable {
+    SymbolTable::read(rt.alloc(), text.as_bytes())
+        .ok()
+        .expect(rt, "names")
+}
+
+/// Counts a cell, writes a channel, selects erasable bank 3 and writes its first cell.
+static COUNTS: &str = "
+4000 34020 CA 4020
+4001 54100 TS 0100
+4002 24100 INCR 0100
+4003 64020 AD 4020
+4004 00006 EXTEND
+4005 01010 WRITE 10
+4006 34021 CA 4021
+4007 54003 TS 0003
+4010 55400 TS 1400
+4011 14011 TCF 4011
+4020 00001
+4021 01400
+";
+
+/// Names of COUNTS, and of the first cell of the next bank.
+static COUNTED: &str = "0100 RUN\n4020 ONE\nE3,1400 COUNT\nE4,1400 OTHER\nC010 OUT0\n";
+
+/// The operands by name, with the words that they hold before and after each order: TS 0100 puts the 1 of A into RUN,
+/// INCR makes it 2, AD leaves ONE unchanged, and after TS 0003 the address 1400 names the first cell of bank 3. EB has no
+/// name, the word at 4021 is one beyond ONE, and TCF holds nothing.
+#[test]
+fn operands_by_name(rt: HostRuntime) {
+    shows_operands(
+        &rt,
+        COUNTS,
+        18,
+        Some(COUNTED),
+        Some(Notation::Octal),
+        &[
+            "0 4000              34020 CA ONE 00001 | A 000001 L 00000 Q 000000 Z 4002 EB 0 FB 00",
+            "2 4001              54100 TS RUN 00000 > 00001 | A 000001 L 00000 Q 000000 Z 4003 EB 0 FB 00",
+            "4 4002              24100 INCR RUN 00001 > 00002 | A 000001 L 00000 Q 000000 Z 4004 EB 0 FB 00",
+            "6 4003              64020 AD ONE 00001 | A 000002 L 00000 Q 000000 Z 4005 EB 0 FB 00",
+            "8 4004              00006 EXTEND | A 000002 L 00000 Q 000000 Z 4006 EB 0 FB 00",
+            "9 4005              01010 WRITE OUT0 00000 > 00002 > 010 00002 | A 000002 L 00000 Q 000000 Z 4007 EB 0 FB 00",
+            "11 4006              34021 CA ONE +1 01400 | A 001400 L 00000 Q 000000 Z 4010 EB 0 FB 00",
+            "13 4007              54003 TS 0003 00000 > 01400 | A 001400 L 00000 Q 000000 Z 4011 EB 3 FB 00",
+            "15 4010              55400 TS COUNT 00000 > 01400 | A 001400 L 00000 Q 000000 Z 4012 EB 3 FB 00",
+            "17 4011              14011 TCF 4011 | A 001400 L 00000 Q 000000 Z 4012 EB 3 FB 00",
+            "18 - stop Limit | A 001400 L 00000 Q 000000 Z 4012 EB 3 FB 00",
+        ],
+    );
+}
+
+/// The same by names alone, from the order that selects bank 3 on.
+#[test]
+fn operands_without_words(rt: HostRuntime) {
+    let form = LineForm::new(rt.alloc(), Some(named(&rt, COUNTED)), None);
+    let selection = between(&rt, 13, 17, None);
+    let text = traced(&rt, COUNTS, "", 18, &selection, &form);
+    has_lines(
+        &rt,
+        text.as_str(),
+        &[
+            "13 4007              54003 TS 0003 | A 001400 L 00000 Q 000000 Z 4011 EB 3 FB 00",
+            "15 4010              55400 TS COUNT | A 001400 L 00000 Q 000000 Z 4012 EB 3 FB 00",
+            "17 4011              14011 TCF 4011 | A 001400 L 00000 Q 000000 Z 4012 EB 3 FB 00",
+        ],
+    );
+}
+
+/// Makes -0 and -10, and exchanges them.
+static MINUS: &str = "
+4000 44010 CS 4010
+4001 54100 TS 0100
+4002 44011 CS 4011
+4003 56100 XCH 0100
+4004 14004 TCF 4004
+4011 00012
+";
+
+/// Words as signed decimal numbers, without names: the complement of +0 is -0, that of 10 is -10.
+#[test]
+fn operands_in_decimal(rt: HostRuntime) {
+    shows_operands(
+        &rt,
+        MINUS,
+        9,
+        None,
+        Some(Notation::Decimal),
+        &[
+            "0 4000 44010 CS 4010 0 | A 177777 L 00000 Q 000000 Z 4002 EB 0 FB 00",
+            "2 4001 54100 TS 0100 0 > -0 | A 177777 L 00000 Q 000000 Z 4003 EB 0 FB 00",
+            "4 4002 44011 CS 4011 10 | A 177765 L 00000 Q 000000 Z 4004 EB 0 FB 00",
+            "6 4003 56100 XCH 0100 -0 > -10 | A 177777 L 00000 Q 000000 Z 4005 EB 0 FB 00",
+            "8 4004 14004 TCF 4004 | A 177777 L 00000 Q 000000 Z 4005 EB 0 FB 00",
+            "9 - stop Limit | A 177777 L 00000 Q 000000 Z 4005 EB 0 FB 00",
+        ],
+    );
+}
+
+/// Selects fixed bank 5, reads its first word, and exchanges A and L with a double word.
+static FIVES: &str = "
+4000 34010 CA 4010
+4001 54004 TS 0004
+4002 32000 CA 2000
+4003 52101 DXCH 0100
+4004 14004 TCF 4004
+4010 12000
+05,2000 00055
+06,2000 00066
+";
+
+/// The address 2000 names the word of the bank that FB selects; a double word has its upper word first.
+#[test]
+fn operands_in_banks_and_pairs(rt: HostRuntime) {
+    shows_operands(
+        &rt,
+        FIVES,
+        10,
+        Some("05,2000 FIVE\n06,2000 SIX\n0100 PAIR\n"),
+        Some(Notation::Octal),
+        &[
+            "0 4000              34010 CA 4010 12000 | A 012000 L 00000 Q 000000 Z 4002 EB 0 FB 00",
+            "2 4001              54004 TS 0004 00000 > 12000 | A 012000 L 00000 Q 000000 Z 4003 EB 0 FB 05",
+            "4 4002              32000 CA FIVE 00055 | A 000055 L 00000 Q 000000 Z 4004 EB 0 FB 05",
+            "6 4003              52101 DXCH PAIR 00000 00000 > 00055 00000 | A 000000 L 00000 Q 000000 Z 4005 EB 0 FB 05",
+            "9 4004              14004 TCF 4004 | A 000000 L 00000 Q 000000 Z 4005 EB 0 FB 05",
+            "10 - stop Limit | A 000000 L 00000 Q 000000 Z 4005 EB 0 FB 05",
+        ],
+    );
 }

@@ -7,7 +7,7 @@ use agc_machine::LimitFault;
 use agc_processor::Rupt;
 use agc_study_args::TraceArgs;
 use agc_test_support::rope_file;
-use agc_trace::{Service, TraceFault};
+use agc_trace::{LineForm, Service, TraceFault};
 use std::io::{self, ErrorKind, Write};
 
 /// The error line and the status of an incomplete trace.
@@ -66,6 +66,7 @@ fn tracing(rt: &impl AllocGlobal, limit: u64) -> TraceArgs {
         cell: Vec::new(rt.alloc()),
         channel: Vec::new(rt.alloc()),
         names: None,
+        operands: None,
     }
 }
 
@@ -84,7 +85,8 @@ fn service_of(
 ) -> Result<Option<Service>, TraceError> {
     let mut inputs = RunInputs { rope, script };
     let args = tracing(rt, limit);
-    let traced = trace_files(rt.alloc(), &args, &None, &mut inputs, out, &mut NoProgress)?;
+    let form = LineForm::new(rt.alloc(), None, None);
+    let traced = trace_files(rt.alloc(), &args, &form, &mut inputs, out, &mut NoProgress)?;
     Ok(traced.service)
 }
 
