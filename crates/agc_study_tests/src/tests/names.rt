@@ -2,10 +2,12 @@
 use super::same;
 use agc_listing::{Location, LocationRange, RangeFault};
 use agc_symbols::{
-    NameFault, SymbolFileFault, SymbolTable, SymbolTableFault, push_channel_line, push_column,
-    push_name_line, push_named, read_names, resolve, resolve_cells, resolve_range, text_with_names,
+    ChannelTable, NameFault, SymbolFileFault, SymbolTable, SymbolTableFault, push_channel_line,
+    push_column, push_name_line, push_named, read_names, resolve, resolve_cells, resolve_range,
+    text_with_names,
 };
 use std::process::Abort;
+use std::test::Fail;
 
 static NAMES: &str = "4060 KEYIN # the first\n02,4060 SERVICE\n\nE0,0100\tBEFORE\n5777 LAST\n";
 
@@ -201,4 +203,65 @@ fn a_question_says_cells(rt: HostRuntime) {
     }
     let fixed = resolve_cells(&names, b"KEYIN-LAST");
     assert_eq!(rt; fixed, Err(RangeFault::NotErasable));
+}
+
+/// The computer's own names are cells with a symbol file and without; a name of the file counts first. TIME7 is none of
+/// them.
+#[test]
+fn own_names_are_cells(rt: HostRuntime) {
+    let file = SymbolTable::read(rt.alloc(), b"0100 Q\n").ok();
+    for (name, cell) in [
+        ("A", 0o0),
+        ("EB", 0o3),
+        ("FBANK", 0o4),
+        ("BB", 0o6),
+        ("ARUPT", 0o10),
+        ("ZRUPT", 0o15),
+        ("CYR", 0o20),
+        ("EDOP", 0o23),
+        ("TIME1", 0o25),
+        ("TIME4", 0o27),
+    ] {
+        let cell = Some(Location::Erasable(cell));
+        same(&rt, resolve(&None, name.as_bytes()), cell, name);
+        same(&rt, resolve(&file, name.as_bytes()), cell, name);
+    }
+    let (own, other) = (Location::Erasable(0o2), Location::Erasable(0o100));
+    same(&rt, resolve(&None, b"Q"), Some(own), "the register");
+    same(&rt, resolve(&file, b"Q"), Some(other), "a name of the file");
+    same(&rt, resolve(&None, b"TIME7"), None, "no such timer");
+    let (first, last) = (Location::Erasable(0o26), Location::Erasable(0o30));
+    let timers = Ok(LocationRange { first, last });
+    same(&rt, resolve_cells(&None, b"TIME3-TIME5"), timers, "timers");
+}
+
+/// Channels of a file by their numbers; the first name counts, and places are passed over.
+#[test]
+fn channels_go_by_name(rt: HostRuntime) -> Result<(), Fail> {
+    let text = b"0010 CELL\nC010 OUT0\nC10 RELAYS # the second name\nC777 LAST\n";
+    let channels = ChannelTable::read(rt.alloc(), text)?;
+    same(&rt, channels.name(0o10), Some("OUT0"), "10");
+    same(&rt, channels.name(0o777), Some("LAST"), "777");
+    same(&rt, channels.name(0o11), None, "11");
+    same(&rt, channels.channel(b"RELAYS"), Some(0o10), "RELAYS");
+    same(&rt, channels.channel(b"CELL"), None, "a cell");
+    Ok(())
+}
+
+/// The operand of an order goes by the nearest name, but a register or a counter only by its own.
+#[test]
+fn operands_go_by_name(rt: HostRuntime) {
+    let names = SymbolTable::read(rt.alloc(), b"0020 SPIN\n0060 END\n0061 FREE\n4000 HERE\n")
+        .ok()
+        .expect(&rt, "names");
+    for (at, offset) in [
+        (Location::Erasable(0o20), Some(0)),
+        (Location::Erasable(0o21), None),
+        (Location::Erasable(0o60), Some(0)),
+        (Location::Erasable(0o62), Some(1)),
+        (Location::Fixed(0o4002), Some(2)),
+    ] {
+        let found = names.operand_at(at).map(|near| near.offset);
+        same(&rt, found, offset, "operand");
+    }
 }
