@@ -3,3 +3,9 @@ pub mod Placed
 pub mod LeastPlace
 pub mod VectorTexts
 pub mod AllKeys
+pub mod BytesBack
+pub mod Converted
+pub mod Patched
+pub mod RightParity
+pub mod Sums
+pub mod WordReadings

@@ -6,3 +6,8 @@ pub mod RopeReport
 pub mod Report
 pub mod KeyReport
 pub mod ListingReport
+pub mod BankSum
+pub mod FileWords
+pub mod Parity
+pub mod Patch
+pub mod Reading

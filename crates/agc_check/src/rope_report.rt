@@ -7,6 +7,7 @@ ghost use Rattle.agc_check.specs.RopeReport.{IsPlaced, bad_word_text, parity_why
 ghost use Rattle.agc_check.specs.RopeReport.{rope_holdings_text, rope_report, rope_why, sound_rope_text, word_with_parity};
 
 use crate::holdings::{RopeHoldings, holdings_in};
+use crate::rope_bytes::word_in_file;
 use crate::vectors::push_vectors;
 use agc_listing::{Place, listed_address, push_place};
 use agc_load::LoadFault;
@@ -133,20 +134,4 @@ fn push_word(text: &mut String, word: u16) -> Result<(), AllocError>
         text,
         " is {digits} with parity bit {parity}: {ones} one bits; the count must be odd"
     )
-}
-
-/// Returns the sixteen bits of a word in the file, the higher byte first; 0 past its end.
-#[tactic(auto, unfolding(agc_store::specs::RopeFile::file_word))]
-fn word_in_file(file: &[u8], index: usize) -> u16
-    requires { index < fixed_words }
-    ensures { result ≡ file_word file.now index }
-{
-    256 * u16::from(byte_at(file, 2 * index)) + u16::from(byte_at(file, 2 * index + 1))
-}
-
-/// Returns a byte of the file; 0 past its end.
-fn byte_at(file: &[u8], place: usize) -> u8
-    ensures { result ≡ get_or file.now place 0 }
-{
-    file.get(place).copied().unwrap_or(0)
 }

@@ -8,3 +8,4 @@ pub mod Passed
 pub mod Followed
 pub mod Memories
 pub mod Compared
+pub mod Repaired

@@ -1,4 +1,5 @@
-//! Two runs side by side: where they diverge, boundary by boundary or by what an observer sees.
+//! Two runs side by side: where they diverge, boundary by boundary or by what an observer sees. Two ropes side by side,
+//! and a damaged rope beside its repairs.
 #![tactic(auto)]
 
 mod cells;
@@ -6,7 +7,9 @@ mod common_prefix;
 mod comparison;
 mod counted;
 mod cursor;
+mod legal;
 mod observed;
+mod repair;
 mod report;
 mod runs;
 mod same;
@@ -14,9 +17,11 @@ mod same;
 pub use cells::CellPair;
 pub use comparison::{Comparison, DivergencePoint};
 pub use cursor::{End, WriteDivergence};
+pub use legal::is_legal;
 pub use observed::{
     DiffBy, Observation, Observed, ObservedComparison, ObservedDivergence, Pair, compare_shown,
     next_write, none_kept, one_more, push_brief, push_last, push_shown,
 };
+pub use repair::{Repair, repairs};
 pub use report::{SideNames, push_comparison};
 pub use runs::compare;

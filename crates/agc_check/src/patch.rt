@@ -1,0 +1,94 @@
+//! Applies a patch to a rope file: lines of a place and its word.
+ghost use Rattle.std.specs.Prelude.{◌≡◌, ◌≢◌, ◌<◌, Err, IfErr, IfOk, Ok, OnOk};
+ghost use Rattle.agc_store.specs.Places.{fixed_words};
+ghost use Rattle.agc_word.specs.Number.{pattern_of};
+ghost use Rattle.agc_listing.specs.Weave.{ArePlaces, said_in, woven_bits};
+ghost use Rattle.agc_listing.specs.declared.fault.WeaveFault.TheVariants.{Memory};
+ghost use Rattle.agc_check.specs.Patch.{IsPatchedBy, with_word, with_words};
+
+use agc_listing::{PlacedWord, RopeBuilder, WeaveFault};
+use agc_store::{RopeForm, index_in_file};
+use agc_word::{Narrow, next_line};
+use std::alloc::{AllocError, Global};
+
+/// Returns the words of a rope file with the words of a patch. The patch is a text as `weave` reads it: a line `bb,oooo
+/// wwwww` or `oooo wwwww` for each word, all octal. In the form with parity a word gets the right parity bit. The fault
+/// is that of the first faulty line, or `Memory`.
+pub fn apply_patch(
+    alloc: Global,
+    form: RopeForm,
+    words: &[u16],
+    text: &[u8],
+) -> Result<Vec<u16>, WeaveFault>
+    ensures patched { IfOk result (λ new. IsPatchedBy form text.now words.now new.items) }
+    ensures fault { IfErr result (λ fault. fault ≢ Memory → said_in text.now ≡ Err fault) }
+{
+    let patch = read_patch(alloc, text)?;
+    match with_words(alloc, form, words, patch.words()) {
+        Ok(patched) => Ok(patched),
+        Err(_) => Err(WeaveFault::Memory),
+    }
+}
+
+/// Returns the words that a patch names, in the order of its lines, or the fault of its first faulty line.
+fn read_patch(alloc: Global, text: &[u8]) -> Result<RopeBuilder, WeaveFault>
+    ensures words { IfOk result (λ patch. said_in text.now ≡ Ok patch) }
+    ensures fault { IfErr result (λ fault. fault ≢ Memory → said_in text.now ≡ Err fault) }
+{
+    let mut patch = RopeBuilder::new(alloc)?;
+    let mut lines = 0;
+    let mut rest = text;
+    while let Some((line, after)) = next_line(rest) {
+        lines += 1;
+        match patch.read(line) {
+            Ok(named) => patch.add(named)?,
+            Err(fault) => return Err(WeaveFault::Line(lines, fault)),
+        }
+        rest = after;
+    }
+    Ok(patch)
+}
+
+/// Returns the words of a file with these words at their places.
+#[tactic(auto, unfolding(crate::specs::Patch::with_words))]
+fn with_words(
+    alloc: Global,
+    form: RopeForm,
+    words: &[u16],
+    said: &[PlacedWord],
+) -> Result<Vec<u16>, AllocError>
+    requires { ArePlaces said.now }
+    ensures { IfOk result (λ new. new.items ≡ with_words form words.now said.now) }
+{
+    let mut new = Vec::from_slice(alloc, words)?;
+    for named in said {
+        put_word(&mut new, form, named)?;
+    }
+    Ok(new)
+}
+
+/// Writes a word into the words of a file, which grow with zeros as far as the word needs.
+#[tactic(auto, unfolding(crate::specs::Patch::with_word))]
+fn put_word(words: &mut Vec<u16>, form: RopeForm, named: &PlacedWord) -> Result<(), AllocError>
+    requires { named.now.place < fixed_words }
+    ensures { OnOk result (words.new.items ≡ with_word form words.old.items named.now) }
+{
+    let index = index_in_file(form, named.place);
+    if words.len() < index + 1 {
+        words.resize(index + 1, 0)?;
+    }
+    words[index] = woven_bits(form, named.word);
+    Ok(())
+}
+
+/// Returns the sixteen bits of a word in a file.
+#[tactic(auto, unfolding(agc_listing::specs::Weave::woven_bits))]
+fn woven_bits(form: RopeForm, word: Narrow) -> u16
+    ensures { result ≡ woven_bits form (pattern_of 15 word) }
+{
+    let bits = 2 * word.bits();
+    match form {
+        RopeForm::Parity if bits.count_ones() % 2 == 0 => bits + 1,
+        _ => bits,
+    }
+}
