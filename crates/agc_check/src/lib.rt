@@ -28,7 +28,7 @@ pub use holdings::{RopeHoldings, ScriptHoldings, Span, holdings_of_rope, holding
 pub use key_report::check_keys;
 pub use listing_report::check_listing;
 pub use names::nearest;
-pub use parity::{BadWord, bad_words, right_parity};
+pub use parity::{BadWord, bad_words, is_bad_parity, right_parity};
 pub use patch::apply_patch;
 pub use reading::{ParityBit, Reading, convert, converting_there_and_back};
 pub use reports::{Report, check};

@@ -42,7 +42,7 @@ pub(crate) fn word_at(words: &[u16], index: usize) -> u16
 
 /// Returns whether the parity of a word is wrong. 0 is accepted, because it marks a place without a word.
 #[tactic(auto, unfolding(agc_store::specs::RopeFile::is_bad_parity))]
-pub(crate) fn is_bad_parity(word: u16) -> bool
+pub fn is_bad_parity(word: u16) -> bool
     ensures { result ≡ is_bad_parity word }
 {
     word != 0 && word.count_ones() % 2 == 0

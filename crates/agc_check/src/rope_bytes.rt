@@ -1,5 +1,5 @@
 //! The words of a rope file as sixteen bits each, whatever their parity, and the file of such words.
-ghost use Rattle.std.specs.Prelude.{◌≡◌, ℕ, ◌<◌, ◌%◌, ◌^◌, List, All, IfOk, length, get_or};
+ghost use Rattle.std.specs.Prelude.{◌≡◌, ℕ, ◌<◌, ◌%◌, ◌^◌, ◌*◌, List, All, IfOk, length, get_or};
 ghost use Rattle.agc_store.specs.RopeFile.{file_word};
 ghost use Rattle.agc_check.specs.FileWords.{file_of_words, file_words};
 
@@ -33,8 +33,16 @@ fn byte_at(file: &[u8], place: usize) -> u8
 }
 
 /// Returns the file of these words. Fails if out of memory.
-#[tactic(auto, unfolding(crate::specs::FileWords::file_of_words))]
 pub fn file_of_words(alloc: Global, words: &[u16]) -> Result<Vec<u8>, AllocError>
+    ensures file { IfOk result (λ file. file.items ≡ file_of_words words.now) }
+    ensures long { IfOk result (λ file. length file.items ≡ 2 * length words.now) }
+{
+    let file = bytes_of_words(alloc, words)?;
+    Ok(file)
+}
+
+#[tactic(auto, unfolding(crate::specs::FileWords::file_of_words))]
+fn bytes_of_words(alloc: Global, words: &[u16]) -> Result<Vec<u8>, AllocError>
     ensures { IfOk result (λ file. file.items ≡ file_of_words words.now) }
 {
     let mut file = Vec::new(alloc);

@@ -13,3 +13,4 @@ pub mod Report
 pub mod SideNames
 pub mod Legal
 pub mod Repair
+pub mod WordDiff

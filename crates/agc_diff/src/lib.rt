@@ -13,6 +13,9 @@ mod repair;
 mod report;
 mod runs;
 mod same;
+mod scores;
+mod walk;
+mod word_diff;
 
 pub use cells::CellPair;
 pub use comparison::{Comparison, DivergencePoint};
@@ -25,3 +28,6 @@ pub use observed::{
 pub use repair::{Repair, repairs};
 pub use report::{SideNames, push_comparison};
 pub use runs::compare;
+pub use scores::{Score, score_readings};
+pub use walk::{Reach, follow_orders};
+pub use word_diff::{MovedBlock, moved_blocks, places_apart};
