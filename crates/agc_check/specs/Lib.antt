@@ -11,3 +11,4 @@ pub mod FileWords
 pub mod Parity
 pub mod Patch
 pub mod Reading
+pub mod Legal

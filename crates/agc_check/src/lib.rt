@@ -6,6 +6,7 @@ mod bank_sum;
 mod erase_remark;
 mod holdings;
 mod key_report;
+mod legal;
 mod lines;
 mod listing_report;
 mod names;
@@ -26,6 +27,7 @@ pub use bank_sum::{
 pub use erase_remark::erase_remarks;
 pub use holdings::{RopeHoldings, ScriptHoldings, Span, holdings_of_rope, holdings_of_script};
 pub use key_report::check_keys;
+pub use legal::{is_extracode_at, is_legal};
 pub use listing_report::check_listing;
 pub use names::nearest;
 pub use parity::{BadWord, bad_words, is_bad_parity, right_parity};

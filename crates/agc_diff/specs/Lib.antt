@@ -11,6 +11,5 @@ pub mod Compare
 pub mod Divergence
 pub mod Report
 pub mod SideNames
-pub mod Legal
 pub mod Repair
 pub mod WordDiff

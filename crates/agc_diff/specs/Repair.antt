@@ -8,7 +8,7 @@ use Rattle.agc_store.specs.Places.{fixed_bank_size, fixed_words}
 use Rattle.agc_listing.specs.List.{is_extracode_at, starts_run}
 use Rattle.agc_listing.specs.Order.{next_is_extracode}
 use Rattle.agc_check.specs.BankSum.{bank_word, fit_of, word_sum}
-use Rattle.agc_diff.specs.Legal.{is_legal}
+use Rattle.agc_check.specs.Legal.{is_legal}
 use Rattle.agc_check.specs.declared.bank_sum.SumFit.{SumFit}
 use Rattle.agc_check.specs.declared.bank_sum.SumFit.TheVariants as fit
 use Rattle.agc_check.specs.declared.parity.BadWord.{BadWord}

@@ -7,7 +7,6 @@ mod common_prefix;
 mod comparison;
 mod counted;
 mod cursor;
-mod legal;
 mod observed;
 mod repair;
 mod report;
@@ -20,7 +19,6 @@ mod word_diff;
 pub use cells::CellPair;
 pub use comparison::{Comparison, DivergencePoint};
 pub use cursor::{End, WriteDivergence};
-pub use legal::is_legal;
 pub use observed::{
     DiffBy, Observation, Observed, ObservedComparison, ObservedDivergence, Pair, compare_shown,
     next_write, none_kept, one_more, push_brief, push_last, push_shown,

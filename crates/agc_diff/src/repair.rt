@@ -1,7 +1,7 @@
 //! Finds the single-bit repairs of words with wrong parity, the most plausible ones first.
 ghost use Rattle.std.specs.Prelude.{◌≡◌, ◌<◌, ◌≤◌, ◌+◌, ◌==◌, All, IfOk, filter};
 ghost use Rattle.agc_store.specs.Places.{fixed_bank_size, fixed_banks, fixed_words};
-ghost use Rattle.agc_diff.specs.Legal.{is_legal};
+ghost use Rattle.agc_check.specs.Legal.{is_legal};
 ghost use Rattle.agc_diff.specs.Repair.{
   all_repairs,
   fits,
@@ -18,8 +18,7 @@ ghost use Rattle.agc_diff.specs.Repair.{
   word_repaired,
 };
 
-use crate::legal::{is_extracode_at, is_legal};
-use agc_check::{BadWord, SumFit, fit_of, word_sum};
+use agc_check::{BadWord, SumFit, fit_of, is_extracode_at, is_legal, word_sum};
 use agc_listing::{leads_on, next_is_extracode};
 use agc_store::Store;
 use agc_store::place::{FIXED_BANK_SIZE, FIXED_WORDS, bank_of, offset_of, place_of};

@@ -1,5 +1,5 @@
 //! Follows the orders of a rope from 4000 and the interrupt vectors, and counts those that look right.
-use crate::legal::is_legal;
+use agc_check::is_legal;
 use agc_order::{Basic, Extracode};
 use agc_store::Store;
 use agc_store::place::{FIXED_BANK_SIZE, FIXED_FIXED, FIXED_WINDOW, FIXED_WORDS};

@@ -3,7 +3,7 @@ ghost use Rattle.std.specs.Prelude.{◌≡◌, ◌<◌};
 ghost use Rattle.agc_store.specs.Places.{fixed_words};
 ghost use Rattle.agc_listing.specs.List.{is_extracode_at};
 ghost use Rattle.agc_listing.specs.Order.{FitsPrint};
-ghost use Rattle.agc_diff.specs.Legal.{can_have, has_word, is_legal, names_word};
+ghost use Rattle.agc_check.specs.Legal.{can_have, has_word, is_legal, names_word};
 
 use agc_listing::{Operand, leads_on, next_is_extracode, operand_in};
 use agc_order::{Basic, Extracode};
@@ -77,7 +77,7 @@ fn has_word(store: &Store, place: usize) -> bool
 
 /// Returns whether the word at a place is an extracode: the words before it lead to one.
 #[tactic(auto, using(agc_listing::proofs::RopeLines::extracode_first, agc_listing::proofs::RopeLines::extracode_next))]
-pub(crate) fn is_extracode_at(store: &Store, place: usize) -> bool
+pub fn is_extracode_at(store: &Store, place: usize) -> bool
     requires { place < fixed_words }
     ensures { result ≡ is_extracode_at store.now.fixed place }
 {
