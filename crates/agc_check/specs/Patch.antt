@@ -1,4 +1,4 @@
--- What a patch makes of a rope file: its words stand at their places, and every other word stays.
+-- What a patch makes of a rope file: its words are at their places, and every other word stays.
 use Rattle.std.specs.Prelude.{◌≡◌, ℕ, ◌+◌, ◌-◌, ◌==◌, false, max, List, ◌++◌, fold, get_or, length, replicate, set, Ok, if◌then◌else◌}
 use Rattle.agc_word.specs.Number.{pattern_of}
 use Rattle.agc_store.specs.RopeFile.{file_index}

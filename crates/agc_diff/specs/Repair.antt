@@ -35,7 +35,7 @@ makes_sum_fit words place word =
     let bank = place / fixed_bank_size in
     fits (fit_of bank (sum_with fixed_bank_size words bank (place % fixed_bank_size) word))
 
--- whether the same word stands at another place, among the first ones
+-- whether the same word is at another place, among the first ones
 unfoldable pub stands_elsewhere : ℕ → List Number → ℕ → Number → Bool
 stands_elsewhere count words place word =
     list_any (λ at. not (at == place) && (pattern_of 15 (fixed_at at words) == pattern_of 15 word)) (range_with_len 0 count)
@@ -51,7 +51,7 @@ points count true = count
 points count false = 0
 
 -- How plausible a word is at a place, from 0 to 15: above all, the sum of its bank fits; next, it is legal there; next,
--- it stands elsewhere too; last, the word after it is legal.
+-- it is elsewhere too; last, the word after it is legal.
 unfoldable pub plausibility_of : List Number → ℕ → Bool → Number → ℕ
 plausibility_of words place extracode word =
     points 8 (makes_sum_fit words place word) + points 4 (is_legal words place extracode word)

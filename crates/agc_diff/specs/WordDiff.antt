@@ -15,13 +15,13 @@ differs_at first second place =
 unfoldable pub places_apart : ℕ → List Number → List Number → List ℕ
 places_apart count first second = filter (differs_at first second) (range_with_len 0 count)
 
--- as many words of one rope from a place on stand in another from a place on
+-- as many words of one rope from a place on are in another from a place on
 pub record IsSameRun (first second : List Number) (source target count : ℕ) : Type 0 where
   pub in_first : source + count ≤ fixed_words
   pub in_second : target + count ≤ fixed_words
   pub same : (k : ℕ) → k < count → pattern_of 15 (fixed_at (source + k) first) ≡ pattern_of 15 (fixed_at (target + k) second)
 
--- a block of at least so many words of one rope that stands at another place in the other
+-- a block of at least so many words of one rope that is at another place in the other
 pub record IsMoved (first second : List Number) (least : ℕ) (block : MovedBlock) : Type 0 where
   pub long : least ≤ block.count
   pub elsewhere : block.source ≢ block.target

@@ -32,7 +32,7 @@ pub struct Repair {
     pub word: Narrow,
     /// Whether the word is legal at its place as an order.
     pub is_legal: bool,
-    /// How plausible the word is at its place. The sum of its bank fits: 8. It is legal there: 4. It stands at another
+    /// How plausible the word is at its place. The sum of its bank fits: 8. It is legal there: 4. It is at another
     /// place too: 2. The word after it is legal: 1.
     pub plausibility: u8,
 }
@@ -175,7 +175,7 @@ fn sum_with(store: &Store, bank: u8, offset: u16, word: Narrow, count: u16) -> N
     sum
 }
 
-/// Returns whether the same word stands at another place, among the first ones.
+/// Returns whether the same word is at another place, among the first ones.
 #[tactic(auto, unfolding(crate::specs::Repair::stands_elsewhere))]
 fn stands_elsewhere(store: &Store, place: usize, word: Narrow, count: usize) -> bool
     requires { count ≤ fixed_words }

@@ -13,7 +13,7 @@ const PATTERNS: usize = 0o100000;
 /// The most places that are tried as the new place of a word.
 const MOST_TRIED: usize = 1000;
 
-/// A block of words of one rope that stands at another place in the other.
+/// A block of words of one rope that is at another place in the other.
 #[derive(Clone, Copy, Debug, PartialEq, Eq)]
 pub struct MovedBlock {
     /// Its first place in the first rope.
@@ -64,7 +64,7 @@ pub(crate) fn differs_at(first: &Store, second: &Store, place: usize) -> bool
     first.fixed_at(place).bits() != second.fixed_at(place).bits()
 }
 
-/// Returns blocks of at least `least` words of the first rope that stand at another place in the second, in the order
+/// Returns blocks of at least `least` words of the first rope that are at another place in the second, in the order
 /// of the first rope. A block begins at a place that differs. Fails if out of memory.
 pub fn moved_blocks(
     alloc: Global,
@@ -90,7 +90,7 @@ pub fn moved_blocks(
     Ok(blocks)
 }
 
-/// Returns the longest block from a place on that stands elsewhere in the other rope, if it is long enough.
+/// Returns the longest block from a place on that is elsewhere in the other rope, if it is long enough.
 fn moved_from(
     first: &Store,
     second: &Store,

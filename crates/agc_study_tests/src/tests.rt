@@ -10,6 +10,7 @@ mod misnamed;
 mod names;
 mod page_lines;
 mod progress;
+mod restore;
 mod rope_listing;
 mod source;
 mod study;

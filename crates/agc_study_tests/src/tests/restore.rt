@@ -1,0 +1,277 @@
+//! Tests what restores a damaged rope, worked out by hand.
+use super::{rope_of, same};
+use agc_check::{
+    BadWord, BankSum, ParityBit, Reading, SumFit, apply_patch, bad_words, convert,
+    converting_there_and_back, file_of_words, file_words, files_hold_their_words, fit_of,
+    is_bad_parity, is_legal, right_parity, sum_in_bank, the_missing_word_makes_the_sum, word_sum,
+    words_make_their_file,
+};
+use agc_diff::{MovedBlock, Reach, follow_orders, moved_blocks, places_apart, repairs, score_readings};
+use agc_listing::{LineFault, WeaveFault};
+use agc_store::{RopeForm, Store};
+use agc_word::Narrow;
+use std::process::Abort;
+
+const CLASSIC: Reading = Reading {
+    order: RopeForm::Classic,
+    parity: ParityBit::Unused,
+    is_swapped: false,
+};
+
+const PARITY: Reading = Reading {
+    order: RopeForm::Parity,
+    parity: ParityBit::Last,
+    is_swapped: false,
+};
+
+/// Bank 00 with parity first and the bytes exchanged.
+const ODD: Reading = Reading {
+    order: RopeForm::Parity,
+    parity: ParityBit::First,
+    is_swapped: true,
+};
+
+fn store_of(rt: &(impl AllocGlobal + Abort), listing: &str) -> Store {
+    Store::new(rope_of(rt, listing))
+}
+
+fn narrow(word: u16) -> Narrow {
+    Narrow::with_bits(word % 0o100000)
+}
+
+#[test]
+fn words_with_wrong_parity(rt: HostRuntime) {
+    // 7008 hex has four one bits, 7009 five; 0 is a place without a word.
+    same(&rt, is_bad_parity(0x7008), true, "four");
+    same(&rt, is_bad_parity(0x7009), false, "five");
+    let words = [0x0000, 0x0001, 0x7008, 0x7009, 0x0003];
+    let bad = bad_words(rt.alloc(), words.as_slice())
+        .ok()
+        .expect(&rt, "memory");
+    let wanted = [
+        BadWord {
+            place: 2,
+            word: 0x7008,
+        },
+        BadWord {
+            place: 4,
+            word: 0x0003,
+        },
+    ];
+    same(&rt, bad.as_slice(), wanted.as_slice(), "bad");
+    let file = [0x70, 0x08, 0x00, 0x00, 0x00, 0x03];
+    let right = right_parity(rt.alloc(), file.as_slice())
+        .ok()
+        .expect(&rt, "memory");
+    let wanted = [0x70, 0x09, 0x00, 0x00, 0x00, 0x02];
+    same(&rt, right.as_slice(), wanted.as_slice(), "right");
+}
+
+#[test]
+fn words_and_their_bytes(rt: HostRuntime) {
+    let words = file_words(rt.alloc(), [0x70, 0x08, 0x01, 0xFF, 0x12].as_slice())
+        .ok()
+        .expect(&rt, "memory");
+    same(&rt, words.as_slice(), [0x7008, 0x01FF].as_slice(), "words");
+    let file = file_of_words(rt.alloc(), words.as_slice())
+        .ok()
+        .expect(&rt, "memory");
+    let wanted = [0x70, 0x08, 0x01, 0xFF];
+    same(&rt, file.as_slice(), wanted.as_slice(), "file");
+    words_make_their_file();
+    files_hold_their_words();
+}
+
+fn converted(
+    rt: &(impl AllocGlobal + Abort),
+    before: Reading,
+    after: Reading,
+    words: &[u16],
+) -> Vec<u16> {
+    let some = if words.len() > 36864 { &[] } else { words };
+    convert(rt.alloc(), before, after, some)
+        .ok()
+        .expect(rt, "memory")
+}
+
+fn at(words: &[u16], index: usize) -> u16 {
+    words.get(index).copied().unwrap_or(0)
+}
+
+#[test]
+fn files_in_other_readings(rt: HostRuntime) {
+    // The first word of a classic file is at 02,4000, the 2049th in the plain order of banks.
+    let plain = converted(&rt, CLASSIC, PARITY, [0x7008].as_slice());
+    same(&rt, plain.len(), 4096, "four banks");
+    same(&rt, at(plain.as_slice(), 2048), 0x7009, "02,4000");
+    let back = converted(&rt, PARITY, CLASSIC, plain.as_slice());
+    same(&rt, back.len(), 4096, "four banks");
+    same(&rt, at(back.as_slice(), 0), 0x7008, "classic");
+    // 7009 hex with its last bit first is B804, and with its bytes exchanged 04B8.
+    let odd = converted(&rt, PARITY, ODD, [0x7009, 0x0001].as_slice());
+    same(&rt, odd.as_slice(), [0x04B8, 0x0080].as_slice(), "odd");
+    let back = converted(&rt, ODD, PARITY, odd.as_slice());
+    same(&rt, back.as_slice(), [0x7009, 0x0001].as_slice(), "back");
+    converting_there_and_back();
+}
+
+#[test]
+fn patches(rt: HostRuntime) {
+    let words = [0x7008, 0x1111];
+    let text = b"# two words\n02,4001 00006 EXTEND\n4002 00001\n";
+    let patched = apply_patch(
+        rt.alloc(),
+        RopeForm::Classic,
+        words.as_slice(),
+        text.as_slice(),
+    )
+    .ok()
+    .expect(&rt, "memory");
+    let wanted = [0x7008, 0x000C, 0x0002];
+    same(&rt, patched.as_slice(), wanted.as_slice(), "classic");
+    let patched = apply_patch(
+        rt.alloc(),
+        RopeForm::Parity,
+        words.as_slice(),
+        b"00,2000 00006".as_slice(),
+    )
+    .ok()
+    .expect(&rt, "memory");
+    let wanted = [0x000D, 0x1111];
+    same(&rt, patched.as_slice(), wanted.as_slice(), "parity");
+    for (text, fault) in [
+        ("4000 00001\n4001 1\n", WeaveFault::Line(2, LineFault::BadWord)),
+        ("4000 00001\n4000 00002\n", WeaveFault::Line(2, LineFault::NamedTwice)),
+        ("44,2000 00001\n", WeaveFault::Line(1, LineFault::BadAddress)),
+    ] {
+        let told = apply_patch(
+            rt.alloc(),
+            RopeForm::Classic,
+            words.as_slice(),
+            text.as_bytes(),
+        )
+        .err();
+        same(&rt, told, Some(fault), text);
+    }
+}
+
+#[test]
+fn sums_of_banks(rt: HostRuntime) {
+    // 16,383 and 16,383 are 32,766, one less than the modulus: the sum is -1.
+    same(&rt, word_sum(narrow(0o37777), narrow(0o37777)), narrow(0o77776), "around");
+    same(&rt, word_sum(narrow(0o00001), narrow(0o77776)), narrow(0o77777), "zero");
+    same(&rt, fit_of(0, narrow(0o77777)), SumFit::Number, "bank 00");
+    let store = store_of(&rt, "4000 00001\n4001 77776\n");
+    let wanted = BankSum {
+        bank: 2,
+        sum: narrow(0o77777),
+        fit: SumFit::Neither,
+        last: 1,
+        for_number: narrow(0o00001),
+        for_complement: narrow(0o77774),
+    };
+    same(&rt, sum_in_bank(&store, 2), Some(wanted), "bank 02");
+    same(&rt, sum_in_bank(&store, 3), None, "bank 03");
+    let store = store_of(&rt, "4000 00001\n4001 77774\n");
+    let fit = match sum_in_bank(&store, 2) {
+        Some(sum) => sum.fit,
+        None => SumFit::Neither,
+    };
+    same(&rt, fit, SumFit::Complement, "complement");
+    the_missing_word_makes_the_sum();
+}
+
+#[test]
+fn legal_orders(rt: HostRuntime) {
+    let store = store_of(&rt, "4000 14000\n05,2000 00001\n");
+    for (here, extracode, word, legal) in [
+        (0o4000, false, 0o14000, true),
+        (0o4000, false, 0o14001, false),
+        (0o4000, false, 0o32000, true),
+        (0o12000, false, 0o32000, true),
+        (0o12000, false, 0o32001, false),
+        (0o12000, false, 0o30100, true),
+        (0o4000, true, 0o00010, true),
+        (0o4000, true, 0o00000, false),
+        (0o4000, true, 0o00036, false),
+        (0o4000, true, 0o07000, false),
+    ] {
+        same(&rt, is_legal(&store, here, extracode, narrow(word)), legal, "legal");
+    }
+}
+
+#[test]
+fn repairs_of_a_word(rt: HostRuntime) {
+    // TCF 4000 is 3001 hex with its parity bit; with bit 2 flipped it is 3003 hex, TCF 4001.
+    let store = store_of(&rt, "4000 14001\n");
+    let bad = [BadWord {
+        place: 0o4000,
+        word: 0x3003,
+    }];
+    let found = repairs(rt.alloc(), &store, bad.as_slice())
+        .ok()
+        .expect(&rt, "memory");
+    same(&rt, found.len(), 16, "sixteen");
+    let legal = found.as_slice().iter().filter(|repair| repair.is_legal).count();
+    let first = found.as_slice().iter().next().copied();
+    let word = match first {
+        Some(repair) => repair.word.bits(),
+        None => 0,
+    };
+    println!(rt; "legal {legal} first {word:05o}").ok().expect(&rt, "print");
+    let first = found
+        .as_slice()
+        .iter()
+        .position(|repair| repair.word == narrow(0o14000));
+    let illegal = found
+        .as_slice()
+        .iter()
+        .position(|repair| repair.word == narrow(0o14001));
+    same(&rt, first < illegal, true, "the legal one first");
+}
+
+#[test]
+fn orders_that_are_reached(rt: HostRuntime) {
+    // INHINT, TCF 4003, a word that nothing reaches, TCF 4003.
+    let store = store_of(&rt, "4000 00004\n4001 14003\n4002 00001\n4003 14003\n");
+    let wanted = Reach {
+        words: 4,
+        reached: 3,
+        legal: 3,
+        starts: 1,
+        unreached: 1,
+    };
+    let told = follow_orders(rt.alloc(), &store).ok().expect(&rt, "memory");
+    same(&rt, told, wanted, "reach");
+    let scores = score_readings(rt.alloc(), [0x0008, 0x3006, 0x0002, 0x3006].as_slice())
+        .ok()
+        .expect(&rt, "memory");
+    same(&rt, scores.len(), 12, "twelve");
+    let first = scores.as_slice().iter().next().copied();
+    let points = match first {
+        Some(score) => score.points,
+        None => 0,
+    };
+    same(&rt, points, 3, "classic");
+}
+
+#[test]
+fn words_of_two_ropes(rt: HostRuntime) {
+    let first = store_of(&rt, "4000 00004\n4001 14003\n4002 00001\n4003 14003\n");
+    let second = store_of(&rt, "4000 00004\n4002 14003\n4003 00001\n4004 14003\n");
+    let apart = places_apart(rt.alloc(), &first, &second)
+        .ok()
+        .expect(&rt, "memory");
+    let wanted = [0o4001, 0o4002, 0o4003, 0o4004];
+    same(&rt, apart.as_slice(), wanted.as_slice(), "places");
+    let blocks = moved_blocks(rt.alloc(), &first, &second, 3)
+        .ok()
+        .expect(&rt, "memory");
+    let longest = 36864 - 0o4002;
+    let wanted = [MovedBlock {
+        source: 0o4001,
+        target: 0o4002,
+        count: longest,
+    }];
+    same(&rt, blocks.as_slice(), wanted.as_slice(), "blocks");
+}
