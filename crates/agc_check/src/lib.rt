@@ -33,6 +33,6 @@ pub use names::nearest;
 pub use parity::{BadWord, bad_words, is_bad_parity, right_parity};
 pub use patch::apply_patch;
 pub use reading::{ParityBit, Reading, convert, converting_there_and_back};
-pub use reports::{Report, check};
+pub use reports::{Report, check, check_rope};
 pub use rope_bytes::{file_of_words, file_words, files_hold_their_words, words_make_their_file};
 pub use source_remark::nearest_order;

@@ -5,6 +5,7 @@ ghost use Rattle.agc_store.specs.RopeFile.{rope_fault_of};
 ghost use Rattle.agc_script.specs.Parse.{script_of};
 ghost use Rattle.agc_check.specs.Report.{IsFileReport, IsScriptReport, span_text};
 ghost use Rattle.agc_check.specs.Report.{script_fault_text, script_holdings_text};
+ghost use Rattle.agc_check.specs.RopeReport.{rope_report};
 
 use crate::holdings::{ScriptHoldings, Span, holdings_of_script};
 use crate::lines::line_at;
@@ -44,6 +45,17 @@ pub fn check(
         text,
         is_sound: rope_is_sound && script_is_sound,
     })
+}
+
+/// Checks a rope file of the given form alone. The report gives what it holds, or its fault and what is wrong there.
+/// Fails if out of memory.
+pub fn check_rope(alloc: Global, form: RopeForm, rope: &[u8]) -> Result<Report, AllocError>
+    ensures sound { IfOk result (λ report. report.is_sound ≡ is_none (rope_fault_of form rope.now)) }
+    ensures text { IfOk result (λ report. string_bytes report.text ≡ rope_report form rope.now) }
+{
+    let mut text = String::new(alloc);
+    let is_sound = push_rope(alloc, &mut text, form, rope)?;
+    Ok(Report { text, is_sound })
 }
 
 /// Appends the report on a script file, and returns whether nothing is wrong with it.
