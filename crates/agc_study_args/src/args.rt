@@ -1,4 +1,5 @@
 //! The parsed arguments of `agc-study`, one struct for each subcommand.
+use agc_check::Reading;
 use agc_diff::DiffBy;
 use agc_profile::Layout;
 use agc_store::RopeForm;
@@ -19,6 +20,10 @@ pub enum Args {
     Jobs(JobsArgs),
     Compare(CompareArgs),
     Film(FilmArgs),
+    Convert(ConvertArgs),
+    Repair(RepairArgs),
+    Patch(PatchArgs),
+    Words(WordsArgs),
 }
 
 /// How a run begins and where it stops.
@@ -53,6 +58,8 @@ pub struct ListArgs {
     /// The symbol file (`--names`).
     pub names: Option<String>,
     pub style: ListStyle,
+    /// Whether words with wrong parity are read too (`--ignore-parity`).
+    pub ignores_parity: bool,
 }
 
 /// Arguments of `weave`: a text file to assemble.
@@ -71,6 +78,8 @@ pub struct WeaveArgs {
 pub struct CheckArgs {
     /// A rope and a script.
     pub run: Option<RunFiles>,
+    /// A rope without a script, whose damage is looked for.
+    pub rope: Option<String>,
     /// A text file of live keys.
     pub keys: Option<String>,
     /// The text file of a rope, in the form that `weave` reads.
@@ -154,4 +163,41 @@ pub struct FilmArgs {
     pub watch: Option<String>,
     /// The symbol file (`--names`).
     pub names: Option<String>,
+}
+
+/// Arguments of `convert`: a rope file, its reading, and that of the result.
+#[derive(Debug, Drop)]
+pub struct ConvertArgs {
+    pub rope: String,
+    pub before: Reading,
+    pub after: Reading,
+    /// Whether words with wrong parity are accepted, and their parity bits made right.
+    pub ignores_parity: bool,
+}
+
+/// Arguments of `repair`: a rope file in the form with parity.
+#[derive(Debug, Drop)]
+pub struct RepairArgs {
+    pub rope: String,
+    /// The most repairs to print for each word.
+    pub most: usize,
+}
+
+/// Arguments of `patch`: a rope file, and the words to put into it.
+#[derive(Debug, Drop)]
+pub struct PatchArgs {
+    pub rope: String,
+    /// The text file of the words, a line for each.
+    pub patch: String,
+    pub form: RopeForm,
+}
+
+/// Arguments of `compare --words`: two rope files.
+#[derive(Debug, Drop)]
+pub struct WordsArgs {
+    pub rope: String,
+    pub other: String,
+    pub form: RopeForm,
+    /// The form of the other rope file.
+    pub other_form: RopeForm,
 }

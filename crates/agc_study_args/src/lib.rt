@@ -3,20 +3,26 @@
 
 mod args;
 mod channel_names;
+mod conversion;
+mod findings;
 mod laws;
 mod locations;
 mod read_file;
 mod runs;
 mod symbol_output;
 mod until;
+mod words_apart;
 
 pub use args::{
-    Args, CheckArgs, CompareArgs, FilmArgs, JobsArgs, ListArgs, ListStyle, NAME, ObservedArgs,
-    ProfileArgs, RunOptions, TraceArgs, WeaveArgs,
+    Args, CheckArgs, CompareArgs, ConvertArgs, FilmArgs, JobsArgs, ListArgs, ListStyle, NAME,
+    ObservedArgs, PatchArgs, ProfileArgs, RepairArgs, RunOptions, TraceArgs, WeaveArgs, WordsArgs,
 };
+pub use conversion::{ConvertedRope, convert_rope};
+pub use findings::{mark_bad_words, push_findings, push_reading, push_repairs};
 pub use laws::a_run_stops_at_the_resolved_location;
 pub use locations::{LocationOption, resolve_locations};
 pub use read_file::{ReadFile, open_file, remark_on_file};
 pub use runs::{RunInputs, Start, open_run, read_machine, read_start};
 pub use symbol_output::{check_names_path, write_names};
 pub use until::resolve_until;
+pub use words_apart::text_of_words_apart;

@@ -1,0 +1,116 @@
+//! Prints the words of two ropes that differ, and blocks of words that moved.
+use agc_diff::{MovedBlock, moved_blocks, places_apart};
+use agc_listing::{Place, leads_on, listed_address, next_is_extracode, push_order, push_place};
+use agc_store::Store;
+use agc_store::place::{FIXED_BANKS, FIXED_WORDS, bank_of};
+use agc_word::Narrow;
+use std::alloc::{AllocError, Global};
+
+/// The least number of words of a moved block.
+const LEAST_MOVED: usize = 8;
+
+/// Returns the text of the words that differ in two ropes; it is empty if all are the same. Fails if out of memory.
+pub fn text_of_words_apart(
+    alloc: Global,
+    first: &Store,
+    second: &Store,
+) -> Result<String, AllocError> {
+    let mut text = String::new(alloc);
+    let apart = places_apart(alloc, first, second)?;
+    if apart.is_empty() {
+        return Ok(text);
+    }
+    let blocks = moved_blocks(alloc, first, second, LEAST_MOVED)?;
+    for block in blocks.as_slice() {
+        push_block(&mut text, *block)?;
+    }
+    push_words(&mut text, first, second, blocks.as_slice())?;
+    push_counts(alloc, &mut text, apart.as_slice())?;
+    Ok(text)
+}
+
+/// Appends where a block moved.
+fn push_block(text: &mut String, block: MovedBlock) -> Result<(), AllocError> {
+    let count = block.count;
+    push_rope_place(text, block.source)?;
+    text.push_str(" moved to ")?;
+    push_rope_place(text, block.target)?;
+    writeln!(text, ": {count} words")
+}
+
+/// Appends a line for each place that differs and belongs to no moved block: the word and order of each rope.
+fn push_words(
+    text: &mut String,
+    first: &Store,
+    second: &Store,
+    blocks: &[MovedBlock],
+) -> Result<(), AllocError> {
+    let (mut left_leads, mut right_leads) = (false, false);
+    for place in 0..FIXED_WORDS as usize {
+        let (left, right) = (first.fixed_at(place), second.fixed_at(place));
+        let left_extracode = leads_on(left_leads, place);
+        let right_extracode = leads_on(right_leads, place);
+        if left.bits() != right.bits() && !is_moved(blocks, place) {
+            push_rope_place(text, place)?;
+            text.push_str(": ")?;
+            push_word(text, left, left_extracode)?;
+            text.push_str(" | ")?;
+            push_word(text, right, right_extracode)?;
+            text.push_str("\n")?;
+        }
+        left_leads = next_is_extracode(left_extracode, left);
+        right_leads = next_is_extracode(right_extracode, right);
+    }
+    Ok(())
+}
+
+/// Returns whether a place belongs to a moved block, in the first rope or in the second.
+fn is_moved(blocks: &[MovedBlock], place: usize) -> bool {
+    blocks.iter().any(|block| {
+        is_within(place, block.source, block.count) || is_within(place, block.target, block.count)
+    })
+}
+
+fn is_within(place: usize, start: usize, count: usize) -> bool {
+    start <= place && place < start.saturating_add(count)
+}
+
+/// Appends a word and its order.
+fn push_word(text: &mut String, word: Narrow, extracode: bool) -> Result<(), AllocError> {
+    if word.bits() == 0 {
+        return text.push_str("no word");
+    }
+    write!(text, "{word} ")?;
+    push_order(text, extracode, word)
+}
+
+/// Appends how many words of each bank differ.
+fn push_counts(alloc: Global, text: &mut String, apart: &[usize]) -> Result<(), AllocError> {
+    let mut counts = vec![in alloc; 0usize; FIXED_BANKS as usize]?;
+    for place in apart {
+        if *place < FIXED_WORDS as usize {
+            let bank = usize::from(bank_of(*place as u32));
+            if let Some(count) = counts.get_mut(bank) {
+                *count = count.saturating_add(1);
+            }
+        }
+    }
+    for (bank, count) in counts.as_slice().iter().enumerate() {
+        if *count > 0 {
+            writeln!(text, "bank {bank:02o}: {count} words differ")?;
+        }
+    }
+    Ok(())
+}
+
+/// Appends a place of a rope as listings name it.
+pub(crate) fn push_rope_place(text: &mut String, place: usize) -> Result<(), AllocError> {
+    if place < FIXED_WORDS as usize {
+        let listed = Place::Fixed {
+            bank: bank_of(place as u32),
+            address: listed_address(place),
+        };
+        push_place(text, listed)?;
+    }
+    Ok(())
+}
