@@ -157,7 +157,8 @@ impl<'a> ArgList<'a> {
     }
 }
 
-fn named<'a>(alloc: Global, id: &'a str, shown: &'a str, help: &'a str) -> Arg<'a> {
+/// Returns a parameter of this name.
+pub fn named<'a>(alloc: Global, id: &'a str, shown: &'a str, help: &'a str) -> Arg<'a> {
     Arg::new(alloc, id).value_name(shown).help(help)
 }
 

@@ -1,5 +1,6 @@
 //! The `clap` definition of the command line: the subcommands with their files and options.
-use crate::arg_list::{ArgList, Subcommands, flag, option, repeated};
+use crate::arg_list::{ArgList, Subcommands, flag, named, option, repeated};
+use crate::restore::READINGS;
 use agc_cli::FORMS;
 use clap::{ArgAction, Command};
 use std::alloc::{AllocError, Global};
@@ -32,6 +33,9 @@ fn subcommands<'a>(alloc: Global) -> Subcommands<'a> {
         .jobs_command()
         .compare_command()
         .film_command()
+        .convert_command()
+        .repair_command()
+        .patch_command()
 }
 
 impl<'a> Subcommands<'a> {
@@ -42,7 +46,8 @@ impl<'a> Subcommands<'a> {
             .bank_option()
             .names_option("Show names of places from this file: a line for each, PLACE NAME")
             .source_option()
-            .style_option();
+            .style_option()
+            .ignore_parity_option();
         self.with(
             "list",
             "Disassembles a rope: prints each word that is not +0 as an order.",
@@ -153,12 +158,14 @@ impl<'a> Subcommands<'a> {
 
     fn compare_command(self) -> Subcommands<'a> {
         let words = ArgList::none(self.alloc)
-            .rope_file(true)
-            .script_file(true)
-            .other_rope(true)
-            .other_script(true)
-            .limit_option()
+            .run_file("rope", "ROPE", "Rope file of the first run")
+            .run_file("script", "SCRIPT", "Script file of the first run")
+            .run_file("other-rope", "ROPE", "Rope file of the second run")
+            .run_file("other-script", "SCRIPT", "Script file of the second run")
+            .limit_of_runs()
+            .words_option()
             .form_option()
+            .other_form_option()
             .until_named()
             .by_option()
             .brief_option()
@@ -199,7 +206,114 @@ impl<'a> Subcommands<'a> {
     }
 }
 
+impl<'a> Subcommands<'a> {
+    fn convert_command(self) -> Subcommands<'a> {
+        let words = ArgList::none(self.alloc)
+            .rope_file(true)
+            .reading_option(
+                "form",
+                "Layout of the rope file: classic and plain have no parity bit, first is before the word",
+            )
+            .reading_option("to", "Layout of the result")
+            .flag("swap", "Exchange the two bytes of each word first")
+            .ignore_parity_option();
+        self.with(
+            "convert",
+            "Converts a rope file to another layout, on standard output.",
+            "Example:\n  agc-study convert examples/verbs/rope --to parity > rope",
+            words,
+        )
+    }
+
+    fn repair_command(self) -> Subcommands<'a> {
+        let words = ArgList::none(self.alloc).rope_file(true).option(
+            "most",
+            "N",
+            "Print at most N repairs of each word: decimal; 16 if left out",
+        );
+        self.with(
+            "repair",
+            "Prints the repairs by one bit of each word with wrong parity, in a rope file with parity, as a patch.",
+            "Example:\n  agc-study repair image --most 1 > repairs",
+            words,
+        )
+    }
+
+    fn patch_command(self) -> Subcommands<'a> {
+        let words = ArgList::none(self.alloc)
+            .rope_file(true)
+            .file(
+                "patch",
+                "PATCH",
+                "Text file of words: a line for each, PLACE WORD; # starts a comment",
+                true,
+            )
+            .form_option();
+        self.with(
+            "patch",
+            "Puts words into a rope file, and writes it to standard output.",
+            "Example:\n  agc-study patch image repairs --form parity > rope",
+            words,
+        )
+    }
+}
+
 impl<'a> ArgList<'a> {
+    fn reading_option(self, name: &'a str, help: &'a str) -> ArgList<'a> {
+        let arg = option(self.alloc, name, "FORM", help)
+            .default_value("classic")
+            .value_parser(READINGS.as_slice());
+        self.with(arg)
+    }
+
+    fn ignore_parity_option(self) -> ArgList<'a> {
+        self.flag(
+            "ignore-parity",
+            "Accept words with wrong parity, and make their parity bits right",
+        )
+    }
+
+    /// Adds a file of two runs, which `--words` does without.
+    fn run_file(self, id: &'a str, shown: &'a str, help: &'a str) -> ArgList<'a> {
+        let arg = named(self.alloc, id, shown, help).required_unless_present("words");
+        self.with_tied(arg)
+    }
+
+    fn limit_of_runs(self) -> ArgList<'a> {
+        let arg = option(
+            self.alloc,
+            "limit",
+            "N",
+            "Stop at this machine cycle (85,333 a second): decimal, 1 to 1000000000000",
+        )
+        .required_unless_present("words");
+        self.with_tied(arg)
+    }
+
+    fn words_option(self) -> ArgList<'a> {
+        let arg = option(
+            self.alloc,
+            "words",
+            "ROPE",
+            "Compare only the words of these two rope files, without a run",
+        )
+        .num_args(2)
+        .conflicts_with("rope");
+        self.with_tied(arg)
+    }
+
+    fn other_form_option(self) -> ArgList<'a> {
+        let arg = option(
+            self.alloc,
+            "form-b",
+            "FORM",
+            "Layout of the second rope file of --words, if it is another",
+        )
+        .value_parser(FORMS.as_slice())
+        .requires_arg("words");
+        self.with_tied(arg)
+    }
+
     fn watch_option(self, is_required: bool) -> ArgList<'a> {
         let arg = option(
             self.alloc,

@@ -6,6 +6,7 @@ mod command_line;
 mod jobs;
 mod mistakes;
 mod profile;
+mod restore;
 mod runs;
 mod shown;
 mod values;

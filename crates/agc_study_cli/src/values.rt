@@ -41,7 +41,7 @@ pub(crate) fn span_of(alloc: Global, given: &ArgMatches<'_>) -> Result<Span, Arg
 }
 
 /// Parses the value of an option that takes a number.
-fn number_in(
+pub(crate) fn number_in(
     alloc: Global,
     text: Option<&str>,
     option: &str,

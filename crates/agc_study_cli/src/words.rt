@@ -3,6 +3,7 @@ use crate::command_line::command;
 use crate::jobs::jobs_args;
 use crate::mistakes::without_tip;
 use crate::profile::profile_args;
+use crate::restore::{convert_args, patch_args, repair_args, words_args};
 use crate::runs::{files_of, options_of, other_files_of};
 use crate::shown::{shown_of, with_channel_form};
 use crate::values::{channel_names_of, channels_of, last_of, orders_of, span_of, texts_of};
@@ -76,6 +77,9 @@ fn args_of(alloc: Global, name: &str, given: &ArgMatches<'_>) -> Result<Args, Ar
         "jobs" => jobs_args(alloc, given),
         "compare" => compare_args(alloc, given),
         "film" => film_args(alloc, given),
+        "convert" => convert_args(alloc, given),
+        "repair" => repair_args(alloc, given),
+        "patch" => patch_args(alloc, given),
         _ => Err(mistake(alloc, "error: no such subcommand: see --help\n")),
     }
 }
@@ -95,6 +99,7 @@ fn list_args(alloc: Global, given: &ArgMatches<'_>) -> Result<Args, ArgsFault> {
         bank: text_of(alloc, given, "bank")?,
         names: text_of(alloc, given, "names")?,
         style: style_of(given),
+        ignores_parity: given.get_flag("ignore-parity"),
     }))
 }
 
@@ -118,33 +123,27 @@ fn weave_args(alloc: Global, given: &ArgMatches<'_>) -> Result<Args, ArgsFault> 
 }
 
 fn check_args(alloc: Global, given: &ArgMatches<'_>) -> Result<Args, ArgsFault> {
-    let run = checked_run_of(alloc, given)?;
     let keys = text_of(alloc, given, "keys")?;
     let listing = text_of(alloc, given, "listing")?;
-    if run.is_none() && keys.is_none() && listing.is_none() {
+    let (mut run, mut rope) = (None, None);
+    if given.get_str("script").is_some() {
+        run = Some(files_of(alloc, given)?);
+    } else {
+        rope = text_of(alloc, given, "rope")?;
+    }
+    if run.is_none() && rope.is_none() && keys.is_none() && listing.is_none() {
         return Err(mistake(
             alloc,
-            "error: nothing to check: give ROPE SCRIPT, --keys FILE or --listing FILE\n",
+            "error: nothing to check: give ROPE, ROPE SCRIPT, --keys FILE or --listing FILE\n",
         ));
     }
     Ok(Args::Check(CheckArgs {
         run,
+        rope,
         keys,
         listing,
         form: form_of(given),
     }))
-}
-
-/// Parses the rope and the script to check; both are present or neither is.
-fn checked_run_of(alloc: Global, given: &ArgMatches<'_>) -> Result<Option<RunFiles>, ArgsFault> {
-    match (given.get_str("rope"), given.get_str("script")) {
-        (Some(_), Some(_)) => Ok(Some(files_of(alloc, given)?)),
-        (None, None) => Ok(None),
-        (Some(_), None) | (None, Some(_)) => Err(mistake(
-            alloc,
-            "error: check needs a SCRIPT after its ROPE\n",
-        )),
-    }
 }
 
 fn trace_args(alloc: Global, given: &ArgMatches<'_>) -> Result<Args, ArgsFault> {
@@ -188,6 +187,9 @@ fn selection_of(alloc: Global, given: &ArgMatches<'_>) -> Result<Selection, Args
 }
 
 fn compare_args(alloc: Global, given: &ArgMatches<'_>) -> Result<Args, ArgsFault> {
+    if let Some(words) = words_args(alloc, given)? {
+        return Ok(words);
+    }
     let other_names = other_names_of(alloc, given)?;
     Ok(Args::Compare(CompareArgs {
         files: files_of(alloc, given)?,
