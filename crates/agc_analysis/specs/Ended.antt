@@ -22,4 +22,5 @@ EndsWith out err ended before after =
 abbrev pub LooksForFaults : Result Args ArgsFault → Type 0
 LooksForFaults (Ok (args.Check checking)) = Unit {0}
 LooksForFaults (Ok (args.Compare comparing)) = Unit {0}
+LooksForFaults (Ok (args.Words comparing)) = Unit {0}
 LooksForFaults given = ⊥

@@ -10,8 +10,10 @@ use crate::cmd_film::run_film;
 use crate::cmd_jobs::run_jobs;
 use crate::cmd_list::run_list;
 use crate::cmd_profile::run_profile;
+use crate::cmd_restore::{run_convert, run_patch, run_repair};
 use crate::cmd_trace::run_trace;
 use crate::cmd_weave::run_weave;
+use crate::cmd_words::run_words;
 use crate::fault::FAULTY;
 use crate::streams::Streams;
 use agc_cli::{ArgsFault, exit_usage};
@@ -28,7 +30,16 @@ pub fn last_cycle(args: &Result<Args, ArgsFault>) -> u64 {
         Ok(Args::Jobs(args)) => args.options.limit.min(args.span.to),
         Ok(Args::Compare(args)) => args.options.limit,
         Ok(Args::Film(args)) => args.options.limit.min(args.part.to),
-        Ok(Args::List(_) | Args::Weave(_) | Args::Check(_)) | Err(_) => 0,
+        Ok(
+            Args::List(_)
+            | Args::Weave(_)
+            | Args::Check(_)
+            | Args::Convert(_)
+            | Args::Repair(_)
+            | Args::Patch(_)
+            | Args::Words(_),
+        )
+        | Err(_) => 0,
     }
 }
 
@@ -87,5 +98,9 @@ where
         Args::Jobs(args) => run_jobs(rt, args, io),
         Args::Compare(args) => run_compare(rt, args, io),
         Args::Film(args) => run_film(rt, args, io),
+        Args::Convert(args) => run_convert(rt, args, io),
+        Args::Repair(args) => run_repair(rt, args, io),
+        Args::Patch(args) => run_patch(rt, args, io),
+        Args::Words(args) => run_words(rt, args, io),
     }
 }

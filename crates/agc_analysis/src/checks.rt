@@ -7,12 +7,12 @@ ghost use Rattle.agc_analysis.specs.Checked.{IsWithMore};
 ghost use Rattle.agc_analysis.specs.declared.fault.AnalysisFault.TheVariants as analysis;
 
 use crate::fault::AnalysisFault;
-use agc_check::{Report, check, check_keys, check_listing, erase_remarks};
+use agc_check::{Report, check, check_keys, check_listing, check_rope, erase_remarks};
 use agc_io::{KEY_BYTES, ROPE_BYTES, ReadError, TEXT_BYTES, read_limited};
 use agc_load::LoadFault;
 use agc_store::RopeForm;
-use agc_study_args::RunInputs;
-use std::alloc::Global;
+use agc_study_args::{RunInputs, push_findings};
+use std::alloc::{AllocError, Global};
 use std::io::Read;
 
 /// Checks a rope file and a script file and returns the report.
@@ -44,6 +44,31 @@ pub fn check_files<R: Read>(
         Ok(report) => Ok(report),
         Err(_) => Err(AnalysisFault::Refused(LoadFault::Memory)),
     }
+}
+
+/// Checks a rope file alone and returns the report, followed by what a restorer wants to know.
+pub(crate) fn check_rope_file<R: Read>(
+    alloc: Global,
+    form: RopeForm,
+    rope: &mut R,
+) -> Result<Report, AnalysisFault> {
+    let file = match read_limited(alloc, rope, ROPE_BYTES) {
+        Ok(file) => file,
+        Err(ReadError::CannotRead(fault)) => {
+            return Err(AnalysisFault::Refused(LoadFault::CannotReadRope(fault)));
+        }
+        Err(ReadError::Memory) => return Err(AnalysisFault::Refused(LoadFault::Memory)),
+    };
+    match report_on_rope(alloc, form, file.as_slice()) {
+        Ok(report) => Ok(report),
+        Err(_) => Err(AnalysisFault::Refused(LoadFault::Memory)),
+    }
+}
+
+fn report_on_rope(alloc: Global, form: RopeForm, file: &[u8]) -> Result<Report, AllocError> {
+    let Report { mut text, is_sound } = check_rope(alloc, form, file)?;
+    push_findings(alloc, &mut text, form, file)?;
+    Ok(Report { text, is_sound })
 }
 
 /// Checks a rope file and a script file and appends the report on other files.

@@ -6,11 +6,11 @@ ghost use Rattle.agc_analysis.specs.Checked.{IsCheckWritten, IsUnchecked, IsWrit
 ghost use Rattle.agc_analysis.specs.Ended.{EndsWith};
 ghost use Rattle.agc_analysis.specs.Fault.{IsReported};
 
-use crate::checks::{check_key_file, check_listing_file, check_with, joined};
+use crate::checks::{check_key_file, check_listing_file, check_rope_file, check_with, joined};
 use crate::inputs::report_fault;
 use crate::streams::Streams;
 use agc_check::Report;
-use agc_io::{KEY_BYTES, OK, TEXT_BYTES, status_of, write_in_full};
+use agc_io::{KEY_BYTES, OK, ROPE_BYTES, TEXT_BYTES, status_of, write_in_full};
 use agc_store::RopeForm;
 use agc_study_args::{CheckArgs, RunInputs, open_file, open_run};
 use std::alloc::Global;
@@ -60,14 +60,47 @@ where
     ensures ended { IfErr result (λ status. EndsWith W.contents E.contents status io.old io.new) }
 {
     let keys = check_keys(rt, &args.keys, io)?;
-    let listing = check_listing(rt, &args.listing, io)?;
-    match (keys, listing) {
-        (Some(keys), Some(listing)) => match joined(keys, &listing) {
+    let texts = join_reports(keys, check_listing(rt, &args.listing, io)?, io)?;
+    join_reports(check_rope(rt, args, io)?, texts, io)
+}
+
+/// Joins two reports, whichever there are.
+fn join_reports<W: Write, E: Write, N: Write, P>(
+    first: Option<Report>,
+    second: Option<Report>,
+    io: &mut Streams<W, E, N, P>,
+) -> Result<Option<Report>, u8>
+    ensures unchanged { OnOk result (io.new ≡ io.old) }
+    ensures ended { IfErr result (λ status. EndsWith W.contents E.contents status io.old io.new) }
+{
+    match (first, second) {
+        (Some(first), Some(second)) => match joined(first, &second) {
             Ok(both) => Ok(Some(both)),
             Err(fault) => Err(fault.report_to(&mut io.err)),
         },
-        (keys, None) => Ok(keys),
-        (None, listing) => Ok(listing),
+        (first, None) => Ok(first),
+        (None, second) => Ok(second),
+    }
+}
+
+/// Checks a rope alone, if one is given without a script.
+fn check_rope<R, W: Write, E: Write, N: Write, P>(
+    rt: &R,
+    args: &CheckArgs,
+    io: &mut Streams<W, E, N, P>,
+) -> Result<Option<Report>, u8>
+where
+    R: Files + AllocGlobal,
+    ensures unchanged { OnOk result (io.new ≡ io.old) }
+    ensures ended { IfErr result (λ status. EndsWith W.contents E.contents status io.old io.new) }
+{
+    let Some(path) = &args.rope else {
+        return Ok(None);
+    };
+    let mut rope = open_file(rt, path, ROPE_BYTES);
+    match check_rope_file(rt.alloc(), args.form, &mut rope) {
+        Ok(report) => Ok(Some(report)),
+        Err(fault) => Err(report_fault(rt.alloc(), fault, &rope, io)),
     }
 }
 

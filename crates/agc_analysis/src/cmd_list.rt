@@ -7,6 +7,7 @@ ghost use Rattle.agc_analysis.specs.Listed.{IsListRefused, IsListWritten};
 ghost use Rattle.agc_analysis.specs.Fault.{IsReported};
 
 use crate::inputs::read_symbols;
+use crate::rope_bytes::marked_list;
 use crate::ropes::text_of_rope;
 use crate::streams::Streams;
 use agc_io::{OK, ROPE_BYTES, status_of, write_in_full};
@@ -32,9 +33,30 @@ where
         Err(status) => return status,
     };
     let mut rope = open_file(rt, &args.rope, ROPE_BYTES);
-    let status = write_list(rt.alloc(), args, &names, &mut rope, io);
+    let status = if args.ignores_parity {
+        write_damaged(rt.alloc(), args, &names, &mut rope, io)
+    } else {
+        write_list(rt.alloc(), args, &names, &mut rope, io)
+    };
     rope.remark_fault(rt.alloc(), &mut io.remarks);
     status
+}
+
+/// Lists a rope whatever its parity, and marks the words with wrong parity.
+fn write_damaged<R: Read, W: Write, E: Write, N: Write, P>(
+    alloc: Global,
+    args: &ListArgs,
+    names: &Option<SymbolTable>,
+    rope: &mut R,
+    io: &mut Streams<W, E, N, P>,
+) -> u8
+    ensures ended { EndsWith W.contents E.contents result io.old io.new }
+    ensures faulty { result ≢ 1 }
+{
+    match marked_list(alloc, args, names, rope) {
+        Ok(text) => status_of(OK, write_in_full(&mut io.out, text.as_slice())),
+        Err(fault) => fault.report_to(&mut io.err),
+    }
 }
 
 /// Lists a rope and writes its text with these symbols. Writes nothing if memory runs out.
