@@ -128,8 +128,11 @@ fn mistakes(rt: HostRuntime) {
         "agc-study weave",
         "agc-study weave text --bank 02",
         "agc-study check",
-        "agc-study check rope",
-        "agc-study check rope --keys keys",
+        "agc-study convert",
+        "agc-study convert rope --to best",
+        "agc-study repair rope --most many",
+        "agc-study patch rope",
+        "agc-study compare --words rope",
         "agc-study check rope script more",
         "agc-study check rope script --limit 10",
         "agc-study trace rope script",
@@ -272,6 +275,7 @@ fn listed(rt: &impl AllocGlobal, rope: &[u8], style: ListStyle) -> Result<Vec<u8
         bank: None,
         names: None,
         style,
+        ignores_parity: false,
     };
     let mut rope = rope;
     text_of_rope(rt.alloc(), &args, &None, &mut rope)
