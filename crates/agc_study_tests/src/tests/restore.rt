@@ -6,7 +6,9 @@ use agc_check::{
     is_bad_parity, is_legal, right_parity, sum_in_bank, the_missing_word_makes_the_sum, word_sum,
     words_make_their_file,
 };
-use agc_diff::{MovedBlock, Reach, follow_orders, moved_blocks, places_apart, repairs, score_readings};
+use agc_diff::{
+    MovedBlock, Reach, follow_orders, moved_blocks, places_apart, repairs, score_readings,
+};
 use agc_listing::{LineFault, WeaveFault};
 use agc_store::{RopeForm, Store};
 use agc_word::Narrow;
@@ -140,9 +142,18 @@ fn patches(rt: HostRuntime) {
     let wanted = [0x000D, 0x1111];
     same(&rt, patched.as_slice(), wanted.as_slice(), "parity");
     for (text, fault) in [
-        ("4000 00001\n4001 1\n", WeaveFault::Line(2, LineFault::BadWord)),
-        ("4000 00001\n4000 00002\n", WeaveFault::Line(2, LineFault::NamedTwice)),
-        ("44,2000 00001\n", WeaveFault::Line(1, LineFault::BadAddress)),
+        (
+            "4000 00001\n4001 1\n",
+            WeaveFault::Line(2, LineFault::BadWord),
+        ),
+        (
+            "4000 00001\n4000 00002\n",
+            WeaveFault::Line(2, LineFault::NamedTwice),
+        ),
+        (
+            "44,2000 00001\n",
+            WeaveFault::Line(1, LineFault::BadAddress),
+        ),
     ] {
         let told = apply_patch(
             rt.alloc(),
@@ -158,8 +169,18 @@ fn patches(rt: HostRuntime) {
 #[test]
 fn sums_of_banks(rt: HostRuntime) {
     // 16,383 and 16,383 are 32,766, one less than the modulus: the sum is -1.
-    same(&rt, word_sum(narrow(0o37777), narrow(0o37777)), narrow(0o77776), "around");
-    same(&rt, word_sum(narrow(0o00001), narrow(0o77776)), narrow(0o77777), "zero");
+    same(
+        &rt,
+        word_sum(narrow(0o37777), narrow(0o37777)),
+        narrow(0o77776),
+        "around",
+    );
+    same(
+        &rt,
+        word_sum(narrow(0o00001), narrow(0o77776)),
+        narrow(0o77777),
+        "zero",
+    );
     same(&rt, fit_of(0, narrow(0o77777)), SumFit::Number, "bank 00");
     let store = store_of(&rt, "4000 00001\n4001 77776\n");
     let wanted = BankSum {
@@ -196,7 +217,12 @@ fn legal_orders(rt: HostRuntime) {
         (0o4000, true, 0o00036, false),
         (0o4000, true, 0o07000, false),
     ] {
-        same(&rt, is_legal(&store, here, extracode, narrow(word)), legal, "legal");
+        same(
+            &rt,
+            is_legal(&store, here % 0o110000, extracode, narrow(word)),
+            legal,
+            "legal",
+        );
     }
 }
 
@@ -212,13 +238,6 @@ fn repairs_of_a_word(rt: HostRuntime) {
         .ok()
         .expect(&rt, "memory");
     same(&rt, found.len(), 16, "sixteen");
-    let legal = found.as_slice().iter().filter(|repair| repair.is_legal).count();
-    let first = found.as_slice().iter().next().copied();
-    let word = match first {
-        Some(repair) => repair.word.bits(),
-        None => 0,
-    };
-    println!(rt; "legal {legal} first {word:05o}").ok().expect(&rt, "print");
     let first = found
         .as_slice()
         .iter()
