@@ -98,8 +98,24 @@ fn write_comparison<R: Read, W: Write, E: Write, N: Write, P: ProgressLine>(
     let compared = compare_files(alloc, args, names, left, right, &mut io.progress);
     io.progress.wipe();
     match compared {
-        Ok(outcome) => write_outcome(&outcome, &mut io.out),
+        Ok(outcome) => {
+            remark_silent(&outcome, &mut io.remarks);
+            write_outcome(&outcome, &mut io.out)
+        }
         Err(fault) => fault.report_to(&mut io.err),
+    }
+}
+
+/// Warns if the runs are the same because neither showed anything.
+fn remark_silent<N: Write>(outcome: &DiffOutcome, remarks: &mut N) {
+    if outcome
+        .text
+        .as_str()
+        .starts_with("The runs show the same: 0 ")
+    {
+        let _written = remarks.write_all(
+            b"agc-study: neither run showed anything; check ROPE shows whether the form is right\n",
+        );
     }
 }
 
