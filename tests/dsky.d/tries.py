@@ -886,13 +886,13 @@ def rerun_of(screen):
 
 
 def try_a_long_way_back():
-    """Going back a long run shows how far it is, and hears what is typed; the end is that of the place gone back to."""
+    """Going back after a long run is quick, since the session keeps copies of the machine; the end is that of the place gone back to."""
     made = subprocess.run([study, "weave", written("counts.words", COUNTS)], capture_output=True)
     rope = os.path.join(scratch, "counts.rope")
     with open(rope, "wb") as file:
         file.write(made.stdout)
     save = os.path.join(scratch, "long")
-    for name, by in (("q", "q"), ("control-C", b"\x03"), ("its end", "")):
+    for name, by in (("q", "q"), ("control-C", b"\x03")):
         terminal = Terminal([rope, "--speed", "max", "--save", save, "--force"])
         try:
             terminal.begun()
@@ -901,22 +901,15 @@ def try_a_long_way_back():
             while time.monotonic() < end:
                 terminal.take(0.05)
             cycle = terminal.pause()
-            terminal.type(b"\x7f")
-            terminal.until("no rerun", lambda screen: rerun_of(screen) == cycle - SPACING)
-            came = terminal.screen.cycle()
-            terminal.until("no way", lambda screen: came < screen.cycle() < cycle - SPACING)
-            terminal.type(b"s\x7f")
-            terminal.until("not further back", lambda screen: rerun_of(screen) == cycle - 2 * SPACING)
-            judge(f"going back to {name}: saved on the way", ["4"], keys_of(read(save)))
-            if by:
+            for times in (1, 2):
                 begun = time.monotonic()
-                status, text = terminal.quit(by)
-                judge(f"going back to {name}", (0, cycle - 2 * SPACING, True), (status, told(text)[1], time.monotonic() < begun + 2))
-            else:
-                terminal.until("never back", lambda screen: rerun_of(screen) is None and screen.cycle() >= cycle - 2 * SPACING)
-                came = terminal.screen.cycle()
-                judge(f"going back to {name}", True, cycle - 2 * SPACING <= came < cycle - 2 * SPACING + 6)
-                judge(f"going back to {name}: the end", (0, came), (lambda end: (end[0], told(end[1])[1]))(terminal.quit()))
+                terminal.type(b"\x7f")
+                place = cycle - times * SPACING
+                terminal.until("not back", lambda screen: rerun_of(screen) is None and place <= screen.cycle() < place + 12)
+                judge(f"going back to {name}: quick", True, time.monotonic() < begun + 1.5)
+            came = terminal.screen.cycle()
+            status, text = terminal.quit(by)
+            judge(f"going back to {name}: the end", (0, came), (status, told(text)[1]))
             judge(f"going back to {name}: the script", ["4"], keys_of(read(save)))
         finally:
             terminal.close()
