@@ -8,7 +8,7 @@ ghost use Rattle.agc_load.specs.Fault.{refusal_line};
 ghost use Rattle.agc_load.specs.declared.fault.LoadFault.{LoadFault};
 ghost use Rattle.agc_cli.specs.Exit.{ExitsWithUsage};
 
-use agc_cli::{ArgsFault, Options, exit_usage, options};
+use agc_cli::{ArgsFault, Options, exit_usage, parse_env};
 use agc_io::{InputFile, REFUSED, Ticker, hold_closed_streams};
 use agc_ring::Gate;
 use agc_run::{ProgressGate, session};
@@ -22,15 +22,15 @@ use std::thread::Threads;
 fn main(rt: HostRuntime) -> ExitCode {
     let _stand_ins = hold_closed_streams(&rt);
     let (mut keys, mut out, mut err) = (rt.stdin(), rt.stdout(), rt.stderr());
-    let asked = options(&rt);
-    let ticker = Ticker::new(&rt, rt.stderr(), "agc", limit_of(&asked));
+    let requested = parse_env(&rt);
+    let ticker = Ticker::new(&rt, rt.stderr(), "agc", limit_of(&requested));
     let gate = ProgressGate::new(ticker, rt.stderr().is_terminal());
-    ExitCode::from(run(&rt, asked, &mut keys, &mut out, &mut err, &gate))
+    ExitCode::from(run(&rt, requested, &mut keys, &mut out, &mut err, &gate))
 }
 
 /// Returns the cycle at which the run ends at the latest; 0 if there is no run.
-fn limit_of(asked: &Result<Options, ArgsFault>) -> u64 {
-    match asked {
+fn limit_of(requested: &Result<Options, ArgsFault>) -> u64 {
+    match requested {
         Ok(options) => options.limit,
         Err(_) => 0,
     }
@@ -42,7 +42,7 @@ fn limit_of(asked: &Result<Options, ArgsFault>) -> u64 {
 /// call the gate.
 fn run<R, K: Read, W: Write, E: Write, G: Gate + Sync>(
     rt: &R,
-    asked: Result<Options, ArgsFault>,
+    requested: Result<Options, ArgsFault>,
     keys: &mut K,
     out: &mut W,
     err: &mut E,
@@ -50,19 +50,19 @@ fn run<R, K: Read, W: Write, E: Write, G: Gate + Sync>(
 ) -> u8
 where
     R: Files + AllocGlobal + Threads + Wait + Sync,
-    ensures session { IfOk asked (λ _. (result ≡ 0) ⊎ ((result ≡ 1) ⊎ (result ≡ 3))) }
-    ensures stderr_unchanged { IfOk asked
+    ensures session { IfOk requested (λ _. (result ≡ 0) ⊎ ((result ≡ 1) ⊎ (result ≡ 3))) }
+    ensures stderr_unchanged { IfOk requested
         (λ _. result ≡ 0 → Keeps (E.contents err.old) (E.contents err.new)) }
-    ensures refused { IfOk asked
+    ensures refused { IfOk requested
         (λ _. result ≡ 1 → (r : LoadFault)
         × Appends (E.contents err.old) (E.contents err.new) (refusal_line r)) }
-    ensures stdout_unchanged { IfOk asked
+    ensures stdout_unchanged { IfOk requested
         (λ _. result ≡ 1 → Keeps (W.contents out.old) (W.contents out.new)) }
-    ensures told { IfErr asked
+    ensures reported { IfErr requested
         (λ fault. ExitsWithUsage (codes "agc") 1 fault result (W.contents out.old) (W.contents out.new)
         (E.contents err.old) (E.contents err.new)) }
 {
-    match asked {
+    match requested {
         Ok(options) => {
             let mut rope = InputFile::new(fs::open(rt, options.rope.as_str()));
             let mut script = InputFile::new(fs::open(rt, options.script.as_str()));

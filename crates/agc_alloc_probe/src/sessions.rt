@@ -136,7 +136,7 @@ where
     let Ok(file) = rope_file(rt.alloc(), DIVISION) else {
         return no_input(out);
     };
-    let (mut printed, mut told) = (Page::new(), Page::new());
+    let (mut printed, mut reported) = (Page::new(), Page::new());
     let (mut rope, mut script, mut keys): (&[u8], &[u8], &[u8]) = (file.as_slice(), POKE, b"");
     begin(out, Call::Session)?;
     let status = session(
@@ -148,11 +148,11 @@ where
         &mut keys,
         &Open,
         &mut printed,
-        &mut told,
+        &mut reported,
     );
     let as_before = is_watched(&options);
     if status == REFUSED {
-        out.write_all(told.written())?;
+        out.write_all(reported.written())?;
         return keeps(out, as_before && printed.written().is_empty());
     }
     answered(
@@ -160,6 +160,6 @@ where
         status == OK
             && as_before
             && printed.written() == TEXT.as_bytes()
-            && told.written().is_empty(),
+            && reported.written().is_empty(),
     )
 }

@@ -35,6 +35,6 @@ pub filmed_start : (args : FilmArgs) (rope script : Option (List ℕ)) (start : 
     → IfOk result (IsRecordingOf args.part start.machine)
     → IfOk result (λ recording. (watch : Option (String Global)) → AreWatched watch start.tables → ShowsTables watch args.part start.machine recording.tables)
     → IfOk result (IsFilmed args rope script)
-filmed_start args rope script start (Ok recording) is said shows tables =
-    filmed_run args rope script start.machine recording is shows (tables args.watch said)
-filmed_start args rope script start (Err r) is said shows tables = tt
+filmed_start args rope script start (Ok recording) is parsed shows tables =
+    filmed_run args rope script start.machine recording is shows (tables args.watch parsed)
+filmed_start args rope script start (Err r) is parsed shows tables = tt

@@ -14,9 +14,9 @@ use Rattle.agc_analysis.specs.declared.fault.AnalysisFault.{AnalysisFault}
 use Rattle.agc_analysis.specs.declared.fault.AnalysisFault.TheVariants as analysis
 
 -- the error may be out of memory, or a fault of the right run
-pub pair_refused : (options : RunOptions) (watch : Option (String Global)) (left_rope left_script right_rope right_script : Option (List ℕ))
+pub pair_refused : (options other : RunOptions) (watch : Option (String Global)) (left_rope left_script right_rope right_script : Option (List ℕ))
     → IsAccepted options watch left_rope left_script → (t : AnalysisFault)
-    → (t ≡ analysis.Refused refusal.Memory) ⊎ ((r : LoadFault) × (t ≡ other_error r) × IsRefused options watch right_rope right_script r)
-    → IsPairRefused options watch left_rope left_script right_rope right_script t
-pair_refused options watch left_rope left_script right_rope right_script accepted t (inl is) = inl (refusal.Memory, is, memory_refused options watch left_rope left_script)
-pair_refused options watch left_rope left_script right_rope right_script accepted t (inr other) = inr (accepted, other.0, other.1, other.2)
+    → (t ≡ analysis.Refused refusal.Memory) ⊎ ((r : LoadFault) × (t ≡ other_error r) × IsRefused other watch right_rope right_script r)
+    → IsPairRefused options other watch left_rope left_script right_rope right_script t
+pair_refused options other watch left_rope left_script right_rope right_script accepted t (inl is) = inl (refusal.Memory, is, memory_refused options watch left_rope left_script)
+pair_refused options other watch left_rope left_script right_rope right_script accepted t (inr reported) = inr (accepted, reported.0, reported.1, reported.2)

@@ -14,9 +14,10 @@ use Rattle.agc_diff.specs.ObservedCompared.{SummarizesPairs}
 use Rattle.agc_diff.specs.ObservedReport.{brief_of, report_of as shown_report_of}
 use Rattle.agc_diff.specs.Observation.{looks_of, shown_by}
 use Rattle.agc_diff.specs.declared.observed.comparison.ObservedComparison.{ObservedComparison}
-use Rattle.agc_study_args.specs.Started.{IsStarted}
+use Rattle.agc_study_args.specs.Started.{IsStarted, in_form}
 use Rattle.agc_study_args.specs.declared.args.ObservedArgs.{ObservedArgs}
 use Rattle.agc_study_args.specs.declared.args.CompareArgs.{CompareArgs}
+use Rattle.agc_study_args.specs.declared.args.RunOptions.{RunOptions}
 use Rattle.agc_analysis.specs.declared.compares.DiffOutcome.{DiffOutcome}
 
 -- The comparison of two machines at their start: the runs are the same exactly if both traces are the same and the
@@ -57,14 +58,18 @@ abbrev pub IsOutcomeAs : Names → Option ObservedArgs → State → State → D
 IsOutcomeAs names None left right outcome = IsOutcomeOf names left right outcome
 IsOutcomeAs names (Some args) left right outcome = IsShownOutcomeOf args left right outcome
 
+-- the options of the right run, whose rope has its own form
+abbrev pub other_options : CompareArgs → RunOptions
+other_options args = in_form args.other_form args.options
+
 -- the same for the machines of two ropes and two scripts, for the bytes that their readers report
 pub record IsCompared (names : Names) (args : CompareArgs)
     (left_rope left_script right_rope right_script : Option (List ℕ)) (outcome : DiffOutcome) : Type 0 where
   pub left : State
   pub right : State
   pub left_start : IsStarted args.options None left_rope left_script left
-  pub right_start : IsStarted args.options None right_rope right_script right
-  pub tells : IsOutcomeAs names args.shown left right outcome
+  pub right_start : IsStarted (other_options args) None right_rope right_script right
+  pub reports : IsOutcomeAs names args.shown left right outcome
 
 -- the comparison was written, or a beginning of it, and the runs are the same or not
 pub record IsOutcomeWritten (Writes : Option (List ℕ) → Option (List ℕ) → List ℕ → Type 0)

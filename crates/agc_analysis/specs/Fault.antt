@@ -52,6 +52,8 @@ error_text analysis.CannotReadText = codes "cannot read text"
 error_text (analysis.Text fault) = weave_text fault
 error_text analysis.BadBankSpec = codes "no such bank: --bank is one or two octal digits, 00 to 43"
 error_text (analysis.Unnamed r) = names_refusal_text r
+error_text analysis.NoParity =
+    codes "no parity bit is 1, as in the classic form; --form parity repairs it nevertheless"
 
 -- the line of an error
 abbrev pub error_line : AnalysisFault → List ℕ

@@ -48,7 +48,7 @@ IsFilmRefused args rope script r =
 abbrev pub IsFilmPairRefused : FilmArgs → Option (List ℕ) → Option (List ℕ)
     → Option (List ℕ) → Option (List ℕ) → AnalysisFault → Type 0
 IsFilmPairRefused args left_rope left_script right_rope right_script t =
-    IsPairRefused args.options args.watch
+    IsPairRefused args.options args.options args.watch
     left_rope left_script right_rope right_script t
 
 -- the page of one run: its constant head, script of the tables and tail, and the run

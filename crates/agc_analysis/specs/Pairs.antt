@@ -10,10 +10,10 @@ use Rattle.agc_analysis.specs.declared.fault.AnalysisFault.{AnalysisFault}
 use Rattle.agc_analysis.specs.declared.fault.AnalysisFault.TheVariants as analysis
 
 -- The fault of two runs: that of the left run, or, if the left run has none, that of the right run, reported as the
--- other run's.
-abbrev pub IsPairRefused : RunOptions → Option (String Global) → Option (List ℕ) → Option (List ℕ)
+-- other run's. The right run may have other options.
+abbrev pub IsPairRefused : RunOptions → RunOptions → Option (String Global) → Option (List ℕ) → Option (List ℕ)
     → Option (List ℕ) → Option (List ℕ) → AnalysisFault → Type 0
-IsPairRefused options watch left_rope left_script right_rope right_script t =
+IsPairRefused options other watch left_rope left_script right_rope right_script t =
     ((r : LoadFault) × (t ≡ analysis.Refused r) × IsRefused options watch left_rope left_script r)
     ⊎ (IsAccepted options watch left_rope left_script × (r : LoadFault) × (t ≡ other_error r)
-    × IsRefused options watch right_rope right_script r)
+    × IsRefused other watch right_rope right_script r)

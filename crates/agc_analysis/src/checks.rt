@@ -7,11 +7,13 @@ ghost use Rattle.agc_analysis.specs.Checked.{IsWithMore};
 ghost use Rattle.agc_analysis.specs.declared.fault.AnalysisFault.TheVariants as analysis;
 
 use crate::fault::AnalysisFault;
-use agc_check::{Report, check, check_keys, check_listing, check_rope, erase_remarks};
+use agc_check::{
+    Report, check, check_keys, check_listing, check_rope, erase_remarks, push_findings,
+};
 use agc_io::{KEY_BYTES, ROPE_BYTES, ReadError, TEXT_BYTES, read_limited};
 use agc_load::LoadFault;
 use agc_store::RopeForm;
-use agc_study_args::{RunInputs, push_findings};
+use agc_study_args::RunInputs;
 use std::alloc::{AllocError, Global};
 use std::io::Read;
 

@@ -4,7 +4,7 @@ ghost use Rattle.std.specs.Option.{option_or};
 ghost use Rattle.std.specs.Io.KnownBytes.{Appends, Keeps};
 ghost use Rattle.agc_io.specs.Output.{IsBegun};
 ghost use Rattle.agc_diff.specs.SideNames.{both_names};
-ghost use Rattle.agc_analysis.specs.Compared.{IsComparisonWritten, IsOutcomeWritten};
+ghost use Rattle.agc_analysis.specs.Compared.{IsComparisonWritten, IsOutcomeWritten, other_options};
 ghost use Rattle.agc_analysis.specs.Ended.{EndsWith};
 ghost use Rattle.agc_analysis.specs.Pairs.{IsPairRefused};
 ghost use Rattle.agc_analysis.specs.Fault.{IsReported};
@@ -90,7 +90,7 @@ fn write_comparison<R: Read, W: Write, E: Write, N: Write, P: ProgressLine>(
         (R.remaining left.old.rope) (R.remaining left.old.script)
         (R.remaining right.old.rope) (R.remaining right.old.script) is_same
         (W.contents io.old.out) (W.contents io.new.out)) }
-    ensures refused { result ≡ 2 → IsReported (IsPairRefused args.now.options None
+    ensures refused { result ≡ 2 → IsReported (IsPairRefused args.now.options (other_options args.now) None
         (R.remaining left.old.rope) (R.remaining left.old.script)
         (R.remaining right.old.rope) (R.remaining right.old.script))
         (E.contents io.old.err) (E.contents io.new.err) }

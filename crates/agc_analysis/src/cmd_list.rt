@@ -12,7 +12,7 @@ use crate::ropes::text_of_rope;
 use crate::streams::Streams;
 use agc_io::{OK, ROPE_BYTES, status_of, write_in_full};
 use agc_study_args::{ListArgs, open_file};
-use agc_symbols::SymbolTable;
+use agc_trace::LineForm;
 use std::alloc::Global;
 use std::io::{Read, Write};
 use std::rt::Files;
@@ -32,11 +32,12 @@ where
         Ok(names) => names,
         Err(status) => return status,
     };
+    let form = LineForm::new(rt.alloc(), names, None);
     let mut rope = open_file(rt, &args.rope, ROPE_BYTES);
     let status = if args.ignores_parity {
-        write_damaged(rt.alloc(), args, &names, &mut rope, io)
+        write_damaged(rt.alloc(), args, &form, &mut rope, io)
     } else {
-        write_list(rt.alloc(), args, &names, &mut rope, io)
+        write_list(rt.alloc(), args, &form, &mut rope, io)
     };
     rope.remark_fault(rt.alloc(), &mut io.remarks);
     status
@@ -46,14 +47,14 @@ where
 fn write_damaged<R: Read, W: Write, E: Write, N: Write, P>(
     alloc: Global,
     args: &ListArgs,
-    names: &Option<SymbolTable>,
+    form: &LineForm,
     rope: &mut R,
     io: &mut Streams<W, E, N, P>,
 ) -> u8
     ensures ended { EndsWith W.contents E.contents result io.old io.new }
     ensures faulty { result ≢ 1 }
 {
-    match marked_list(alloc, args, names, rope) {
+    match marked_list(alloc, args, form, rope) {
         Ok(text) => status_of(OK, write_in_full(&mut io.out, text.as_slice())),
         Err(fault) => fault.report_to(&mut io.err),
     }
@@ -63,23 +64,23 @@ fn write_damaged<R: Read, W: Write, E: Write, N: Write, P>(
 fn write_list<R: Read, W: Write, E: Write, N: Write, P>(
     alloc: Global,
     args: &ListArgs,
-    names: &Option<SymbolTable>,
+    form: &LineForm,
     rope: &mut R,
     io: &mut Streams<W, E, N, P>,
 ) -> u8
     ensures ended { EndsWith W.contents E.contents result io.old io.new }
     ensures no_note { Keeps (N.contents io.old.remarks) (N.contents io.new.remarks) }
     ensures faulty { result ≢ 1 }
-    ensures listed { result ≡ 0 → IsListWritten Appends args.now names.now
+    ensures listed { result ≡ 0 → IsListWritten Appends args.now form.now
         (R.remaining rope.old) (W.contents io.old.out) (W.contents io.new.out) }
     ensures cut { result ≡ 3 → Keeps (W.contents io.old.out) (W.contents io.new.out)
-        ⊎ IsListWritten IsBegun args.now names.now
+        ⊎ IsListWritten IsBegun args.now form.now
         (R.remaining rope.old) (W.contents io.old.out) (W.contents io.new.out) }
     ensures refused { result ≡ 2
-        → IsReported (IsListRefused args.now.form args.now.bank (R.remaining rope.old))
+        → IsReported (IsListRefused args.now (R.remaining rope.old))
         (E.contents io.old.err) (E.contents io.new.err) }
 {
-    match text_of_rope(alloc, args, names, rope) {
+    match text_of_rope(alloc, args, form, rope) {
         Ok(text) => status_of(OK, write_in_full(&mut io.out, text.as_slice())),
         Err(fault) => fault.report_to(&mut io.err),
     }

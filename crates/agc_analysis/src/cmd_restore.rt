@@ -5,11 +5,10 @@ ghost use Rattle.agc_analysis.specs.Ended.{EndsWith};
 use crate::fault::AnalysisFault;
 use crate::rope_bytes::{converted_rope, patched_rope, read_rope_bytes};
 use crate::streams::Streams;
+use agc_check::{push_reading, push_repairs};
 use agc_io::{OK, ROPE_BYTES, TEXT_BYTES, status_of, write_in_full};
 use agc_load::LoadFault;
-use agc_study_args::{
-    ConvertArgs, ConvertedRope, PatchArgs, RepairArgs, open_file, push_reading, push_repairs,
-};
+use agc_study_args::{ConvertArgs, ConvertedRope, PatchArgs, RepairArgs, open_file};
 use std::alloc::{AllocError, Global};
 use std::io::{Read, Write};
 use std::rt::Files;
@@ -80,7 +79,7 @@ where
     ensures faulty { result ≢ 1 }
 {
     let mut rope = open_file(rt, &args.rope, ROPE_BYTES);
-    let status = match repair_text(rt.alloc(), args.most, &mut rope) {
+    let status = match repair_text(rt.alloc(), args, &mut rope) {
         Ok(text) => status_of(OK, write_in_full(&mut io.out, text.as_bytes())),
         Err(fault) => fault.report_to(&mut io.err),
     };
@@ -88,18 +87,27 @@ where
     status
 }
 
-/// Returns the repairs of a rope file in the form with parity.
+/// Returns the repairs of a rope file in the form with parity. A file in which parity is wrong and no parity bit is 1 is a
+/// fault, because it is probably in the classic form, unless `--form parity` is given.
 fn repair_text<R: Read>(
     alloc: Global,
-    most: usize,
+    args: &RepairArgs,
     reader: &mut R,
 ) -> Result<String, AnalysisFault> {
     let file = read_rope_bytes(alloc, reader)?;
     let mut text = String::new(alloc);
-    match push_repairs(alloc, &mut text, file.as_slice(), most) {
+    match push_repairs(alloc, &mut text, file.as_slice(), args.most) {
+        Ok(wrong) if wrong > 0 && !args.has_parity && !has_parity_bit(file.as_slice()) => {
+            Err(AnalysisFault::NoParity)
+        }
         Ok(_) => Ok(text),
         Err(_) => Err(AnalysisFault::Refused(LoadFault::Memory)),
     }
+}
+
+/// Returns whether a parity bit is 1: the last bit of a word.
+fn has_parity_bit(file: &[u8]) -> bool {
+    file.iter().skip(1).step_by(2).any(|lower| *lower % 2 == 1)
 }
 
 /// Applies a patch to a rope file and writes the file.

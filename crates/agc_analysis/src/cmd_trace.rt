@@ -17,8 +17,8 @@ use std::alloc::Global;
 use std::io::{Read, Write};
 use std::rt::Files;
 
-/// Traces the run of a rope file and a script file. A value of `--at` or `--cell` that names no location, with the
-/// symbol file in use, is reported as a command-line error. Remarks warn if the run stops before the range, and if the
+/// Traces the run of a rope file and a script file. A value of `--at`, `--cell` or `--channel` that names nothing, with
+/// the symbol file in use, is reported as a command-line error. Remarks warn if the run stops before the range, and if the
 /// service of an interrupt is still in progress at the stop.
 pub fn run_trace<R, W: Write, E: Write, N: Write, P: ProgressLine>(
     rt: &R,
@@ -34,11 +34,11 @@ where
         Ok(names) => names,
         Err(status) => return status,
     };
-    if let Err(fault) = resolve_locations(rt.alloc(), &names, args) {
+    let form = LineForm::new(rt.alloc(), names, args.operands);
+    if let Err(fault) = resolve_locations(rt.alloc(), &form.names, &form.channels, args) {
         return exit_usage(NAME, fault, FAULTY, &mut io.out, &mut io.err);
     }
     let mut inputs = open_run(rt, &args.files);
-    let form = LineForm::new(rt.alloc(), names, args.operands);
     let status = write_trace(rt.alloc(), args, &form, &mut inputs, io);
     inputs.remark_fault(rt.alloc(), &mut io.remarks);
     status

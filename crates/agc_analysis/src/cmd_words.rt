@@ -5,9 +5,9 @@ ghost use Rattle.agc_analysis.specs.Ended.{EndsWith};
 use crate::fault::AnalysisFault;
 use crate::streams::Streams;
 use agc_io::{OK, ROPE_BYTES, status_of, write_in_full};
-use agc_load::{LoadFault, read_rope};
+use agc_load::LoadFault;
 use agc_store::Store;
-use agc_study_args::{WordsArgs, open_file, text_of_words_apart};
+use agc_study_args::{WordsArgs, open_file, read_any_rope, text_of_words_apart};
 use std::alloc::Global;
 use std::io::{Read, Write};
 use std::rt::Files;
@@ -28,7 +28,9 @@ where
     let mut rope = open_file(rt, &args.rope, ROPE_BYTES);
     let mut other = open_file(rt, &args.other, ROPE_BYTES);
     let status = match words_text(rt.alloc(), args, &mut rope, &mut other) {
-        Ok(text) => {
+        Ok(ComparedWords { text, wrong }) => {
+            rope.remark_wrong(rt.alloc(), wrong.0, &mut io.remarks);
+            other.remark_wrong(rt.alloc(), wrong.1, &mut io.remarks);
             let status = if text.is_empty() { OK } else { APART };
             status_of(status, write_in_full(&mut io.out, text.as_bytes()))
         }
@@ -39,20 +41,30 @@ where
     status
 }
 
+/// The words that differ in two ropes, as text.
+#[derive(Drop)]
+struct ComparedWords {
+    text: String,
+    /// The numbers of words with wrong parity in the first rope and in the second.
+    wrong: (usize, usize),
+}
+
 /// Returns the text of the words that differ in two rope files.
 fn words_text<R: Read, S: Read>(
     alloc: Global,
     args: &WordsArgs,
     rope: &mut R,
     other: &mut S,
-) -> Result<String, AnalysisFault> {
-    let first = Store::new(read_rope(alloc, args.form, rope)?);
-    let second = match read_rope(alloc, args.other_form, other) {
-        Ok(rope) => Store::new(rope),
+) -> Result<ComparedWords, AnalysisFault> {
+    let first = read_any_rope(alloc, args.form, args.ignores_parity, rope)?;
+    let second = match read_any_rope(alloc, args.other_form, args.ignores_parity, other) {
+        Ok(read) => read,
         Err(fault) => return Err(AnalysisFault::of_other_run(fault)),
     };
+    let wrong = (first.wrong.len(), second.wrong.len());
+    let (first, second) = (Store::new(first.rope), Store::new(second.rope));
     match text_of_words_apart(alloc, &first, &second) {
-        Ok(text) => Ok(text),
+        Ok(text) => Ok(ComparedWords { text, wrong }),
         Err(_) => Err(AnalysisFault::Refused(LoadFault::Memory)),
     }
 }

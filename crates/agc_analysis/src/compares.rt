@@ -3,7 +3,8 @@ ghost use Rattle.std.specs.Prelude.{◌≡◌, ◌⊎◌, IfErr, IfOk, None, str
 ghost use Rattle.agc_diff.specs.SideNames.{both_names};
 ghost use Rattle.agc_machine.specs.State.{State};
 ghost use Rattle.agc_diff.specs.ObservedCompared.{FitsLines};
-ghost use Rattle.agc_analysis.specs.Compared.{IsCompared, IsShownOutcomeOf, IsOutcomeAs, IsOutcomeOf, shown_text_of};
+ghost use Rattle.agc_analysis.specs.Compared.{IsCompared, IsShownOutcomeOf, IsOutcomeAs, IsOutcomeOf, other_options};
+ghost use Rattle.agc_analysis.specs.Compared.{shown_text_of};
 ghost use Rattle.agc_analysis.specs.Pairs.{IsPairRefused};
 ghost use Rattle.agc_study_args.specs.Started.{IsRefused, IsStarted};
 ghost use Rattle.agc_analysis.specs.Fault.{other_error};
@@ -18,7 +19,7 @@ use agc_diff::{
 use agc_io::Progress;
 use agc_load::LoadFault;
 use agc_machine::Machine;
-use agc_study_args::{CompareArgs, ObservedArgs, RunInputs, read_machine};
+use agc_study_args::{CompareArgs, ObservedArgs, RunInputs, read_machine, read_machine_as};
 use std::alloc::{AllocError, Global};
 use std::io::Read;
 
@@ -44,7 +45,7 @@ pub fn compare_files<R: Read, P: Progress>(
     ensures compared { IfOk result (IsCompared (both_names names.entry) args.now
         (R.remaining left.old.rope) (R.remaining left.old.script)
         (R.remaining right.old.rope) (R.remaining right.old.script)) }
-    ensures refused { IfErr result (IsPairRefused args.now.options None
+    ensures refused { IfErr result (IsPairRefused args.now.options (other_options args.now) None
         (R.remaining left.old.rope) (R.remaining left.old.script)
         (R.remaining right.old.rope) (R.remaining right.old.script)) }
 {
@@ -61,14 +62,14 @@ fn compare_with<R: Read, P: Progress>(
     inputs: &mut RunInputs<R>,
     progress: &mut P,
 ) -> Result<DiffOutcome, AnalysisFault>
-    ensures compared { IfOk result (λ outcome. (right : State) × IsStarted args.now.options None
+    ensures compared { IfOk result (λ outcome. (right : State) × IsStarted (other_options args.now) None
         (R.remaining inputs.old.rope) (R.remaining inputs.old.script) right
         × IsOutcomeAs (both_names names.entry) args.now.shown left.old right outcome) }
     ensures refused { IfErr result (λ t. (t ≡ analysis.Refused refusal.Memory)
-        ⊎ ((r : LoadFault) × (t ≡ other_error r) × IsRefused args.now.options None
+        ⊎ ((r : LoadFault) × (t ≡ other_error r) × IsRefused (other_options args.now) None
         (R.remaining inputs.old.rope) (R.remaining inputs.old.script) r)) }
 {
-    match read_machine(alloc, &args.options, inputs) {
+    match read_machine_as(alloc, &args.options, args.other_form, inputs) {
         Ok(mut right) => compare_as(alloc, args.shown, names, left, &mut right, progress),
         Err(refusal) => Err(AnalysisFault::of_other_run(refusal)),
     }
@@ -83,7 +84,7 @@ fn compare_as<P: Progress>(
     right: &mut Machine,
     progress: &mut P,
 ) -> Result<DiffOutcome, AnalysisFault>
-    ensures tells { IfOk result (IsOutcomeAs (both_names names.entry) shown left.old right.old) }
+    ensures reports { IfOk result (IsOutcomeAs (both_names names.entry) shown left.old right.old) }
     ensures refused { IfErr result (λ t. t ≡ analysis.Refused refusal.Memory) }
 {
     let outcome = match shown {

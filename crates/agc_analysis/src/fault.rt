@@ -33,6 +33,8 @@ pub enum AnalysisFault {
     BadBankSpec,
     /// The symbol file is at fault.
     Unnamed(SymbolFileFault),
+    /// `repair` needs parity bits, and none of the rope's is 1.
+    NoParity,
 }
 
 impl AnalysisFault {
@@ -96,6 +98,9 @@ impl fmt::Display for AnalysisFault {
                 "no such bank: --bank is one or two octal digits, 00 to 43",
             ),
             AnalysisFault::Unnamed(refusal) => write!(f, "{refusal}"),
+            AnalysisFault::NoParity => f.write_str(
+                "no parity bit is 1, as in the classic form; --form parity repairs it nevertheless",
+            ),
         }
     }
 }

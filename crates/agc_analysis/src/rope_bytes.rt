@@ -3,18 +3,16 @@ ghost use Rattle.std.specs.Prelude.{◌≡◌, ◌<◌, ◌≤◌, ◌*◌, ◌%
 ghost use Rattle.agc_store.specs.Places.{fixed_words};
 
 use crate::fault::AnalysisFault;
-use crate::ropes::text_of_rope;
+use crate::ropes::{ListedRope, listed_rope};
 use agc_asm::{AssemblyFault, SourceFault};
-use agc_check::{apply_patch, file_of_words, file_words, right_parity};
+use agc_check::{apply_patch, file_of_words, file_words, mark_bad_words};
 use agc_io::{ROPE_BYTES, ReadError, TEXT_BYTES, read_limited};
 use agc_listing::WeaveFault;
 use agc_load::LoadFault;
+use agc_store::RopeFault;
 use agc_store::place::FIXED_WORDS;
-use agc_store::{RopeFault, RopeForm};
-use agc_study_args::{
-    ConvertArgs, ConvertedRope, ListArgs, PatchArgs, convert_rope, mark_bad_words,
-};
-use agc_symbols::SymbolTable;
+use agc_study_args::{ConvertArgs, ConvertedRope, ListArgs, PatchArgs, convert_rope};
+use agc_trace::LineForm;
 use std::alloc::{AllocError, Global};
 use std::io::Read;
 
@@ -93,14 +91,12 @@ pub(crate) fn patched_rope<R: Read, T: Read>(
 pub(crate) fn marked_list<R: Read>(
     alloc: Global,
     args: &ListArgs,
-    names: &Option<SymbolTable>,
+    form: &LineForm,
     reader: &mut R,
 ) -> Result<Vec<u8>, AnalysisFault> {
-    let file = read_rope_bytes(alloc, reader)?;
-    if args.form == RopeForm::Classic {
-        return text_of_rope(alloc, args, names, &mut file.as_slice());
+    let ListedRope { text, wrong } = listed_rope(alloc, args, form, reader)?;
+    if wrong.is_empty() {
+        return Ok(text);
     }
-    let right = right_parity(alloc, file.as_slice()).map_err(no_memory)?;
-    let text = text_of_rope(alloc, args, names, &mut right.as_slice())?;
-    mark_bad_words(alloc, text.as_slice(), file.as_slice()).map_err(no_memory)
+    mark_bad_words(alloc, text.as_slice(), wrong.as_slice()).map_err(no_memory)
 }

@@ -3,44 +3,75 @@ ghost use Rattle.std.specs.Prelude.{◌≡◌, ◌≢◌, Err, IfOk, IfErr, IfSo
 ghost use Rattle.std.specs.Prelude.{string_bytes};
 ghost use Rattle.agc_asm.specs.MnemonicCheck.{misnamed_in};
 ghost use Rattle.agc_asm.specs.Source.{IsSourceWoven, source_in};
-ghost use Rattle.agc_load.specs.Options.{said_by, says_nothing};
+ghost use Rattle.agc_load.specs.Options.{parsed_by, says_nothing};
 ghost use Rattle.agc_analysis.specs.Listed.{IsListRefused, IsListText, IsStyledText, IsWeaveRefused, IsWoven};
-ghost use Rattle.agc_analysis.specs.Listed.{bank_named, misnamed_line, shown_with};
+ghost use Rattle.agc_analysis.specs.Listed.{bank_named, lines_of_words, misnamed_line};
 ghost use Rattle.agc_analysis.specs.Listed.{IsSource};
+ghost use Rattle.agc_study_args.specs.RopeRead.{wrong_words};
 ghost use Rattle.agc_asm.specs.declared.fault.AssemblyFault.{AssemblyFault};
 ghost use Rattle.agc_asm.specs.declared.fault.AssemblyFault.TheVariants as source_trouble;
 ghost use Rattle.agc_analysis.specs.declared.fault.AnalysisFault.TheVariants as analysis;
 
 use crate::fault::AnalysisFault;
 use agc_asm::{AssemblyFault, Misnamed, assemble, first_misnamed, rope_source, yul_source};
+use agc_check::BadWord;
 use agc_io::{ReadError, TEXT_BYTES, read_limited};
 use agc_listing::{files_say_rope_words, list, push_order};
-use agc_load::{LoadFault, read_rope};
+use agc_load::LoadFault;
 use agc_store::{RopeForm, Store};
-use agc_study_args::{ListArgs, ListStyle};
-use agc_symbols::{SymbolTable, text_with_names};
+use agc_study_args::{ListArgs, ListStyle, RopeRead, list_with_names, read_any_rope};
+use agc_trace::LineForm;
 use agc_word::read_octal;
 use std::alloc::{AllocError, Global};
 use std::io::Read;
+
+/// The text of a rope, and the words with wrong parity in the rope, if parity is ignored.
+#[derive(Drop)]
+pub(crate) struct ListedRope {
+    pub text: Vec<u8>,
+    pub wrong: Vec<BadWord>,
+}
 
 /// Returns the text of a rope file, or of one of its banks, in a style and with these symbols. Rejects an invalid `--bank`
 /// before it reads the file. The source of a whole rope assembles to a rope with the same words.
 pub fn text_of_rope<R: Read>(
     alloc: Global,
     args: &ListArgs,
-    names: &Option<SymbolTable>,
+    form: &LineForm,
     reader: &mut R,
 ) -> Result<Vec<u8>, AnalysisFault>
     ensures text { IfOk result (λ text. IfSome (R.remaining reader.old)
-        (λ file. IsListText args.now args.now.style names.now file text.items)) }
+        (λ file. IsListText args.now args.now.style form.now file text.items)) }
     ensures named { OnOk result (says_nothing bank_named args.now.bank ≡ false) }
-    ensures refused { IfErr result (IsListRefused args.now.form args.now.bank (R.remaining reader.old)) }
+    ensures refused { IfErr result (IsListRefused args.now (R.remaining reader.old)) }
+{
+    match listed_rope(alloc, args, form, reader) {
+        Ok(listed) => Ok(listed.text),
+        Err(fault) => Err(fault),
+    }
+}
+
+/// Returns the same text, with the words of wrong parity.
+pub(crate) fn listed_rope<R: Read>(
+    alloc: Global,
+    args: &ListArgs,
+    form: &LineForm,
+    reader: &mut R,
+) -> Result<ListedRope, AnalysisFault>
+    ensures text { IfOk result (λ listed. IfSome (R.remaining reader.old)
+        (λ file. IsListText args.now args.now.style form.now file listed.text.items)) }
+    ensures wrong { IfOk result (λ listed. IfSome (R.remaining reader.old)
+        (λ file. listed.wrong.items ≡ wrong_words args.now.ignores_parity args.now.form file)) }
+    ensures named { OnOk result (says_nothing bank_named args.now.bank ≡ false) }
+    ensures refused { IfErr result (IsListRefused args.now (R.remaining reader.old)) }
 {
     let bank = bank_of(&args.bank)?;
-    let store = Store::new(read_rope(alloc, args.form, reader)?);
+    let read = read_any_rope(alloc, args.form, args.ignores_parity, reader)?;
+    let RopeRead { rope, wrong } = read;
+    let store = Store::new(rope);
     files_say_rope_words();
-    match styled_text(alloc, args.style, bank, names, &store) {
-        Ok(text) => Ok(text),
+    match styled_text(alloc, args.style, bank, form, &store) {
+        Ok(text) => Ok(ListedRope { text, wrong }),
         Err(_) => Err(AnalysisFault::Refused(LoadFault::Memory)),
     }
 }
@@ -50,35 +81,37 @@ fn styled_text(
     alloc: Global,
     style: ListStyle,
     bank: Option<u8>,
-    names: &Option<SymbolTable>,
+    form: &LineForm,
     store: &Store,
 ) -> Result<Vec<u8>, AllocError>
-    ensures { IfOk result (λ text. IsStyledText style bank names.now store.now.fixed text.items) }
+    ensures { IfOk result (λ text. IsStyledText style bank form.now store.now.fixed text.items) }
 {
     match style {
-        ListStyle::Lines => with_symbols(alloc, names, list(alloc, store, bank)?),
+        ListStyle::Lines => Ok(lines_of_words(alloc, form, bank, store)?.into_bytes()),
         ListStyle::Source => Ok(rope_source(alloc, store, bank)?.into_bytes()),
-        ListStyle::Yul => Ok(yul_source(alloc, store, bank, names)?.into_bytes()),
+        ListStyle::Yul => Ok(yul_source(alloc, store, bank, &form.names)?.into_bytes()),
     }
 }
 
-/// Returns the text of a rope with symbols, if there are any.
-fn with_symbols(
+/// Returns a line for each word, with symbols if there are any.
+fn lines_of_words(
     alloc: Global,
-    names: &Option<SymbolTable>,
-    text: String,
-) -> Result<Vec<u8>, AllocError>
-    ensures { IfOk result (λ shown. shown.items ≡ shown_with names.now (string_bytes text)) }
+    form: &LineForm,
+    bank: Option<u8>,
+    store: &Store,
+) -> Result<String, AllocError>
+    ensures { IfOk result (λ text. string_bytes text
+        ≡ lines_of_words form.now.names form.now.channels bank store.now.fixed) }
 {
-    match names {
-        Some(names) => text_with_names(alloc, names, text.as_bytes()),
-        None => Ok(text.into_bytes()),
+    match &form.names {
+        Some(names) => list_with_names(alloc, names, &form.channels, store, bank),
+        None => list(alloc, store, bank),
     }
 }
 
 /// Returns the requested bank, if there is one.
 fn bank_of(bank: &Option<String>) -> Result<Option<u8>, AnalysisFault>
-    ensures ok { IfOk result (λ named. named ≡ said_by bank_named bank.now) }
+    ensures ok { IfOk result (λ named. named ≡ parsed_by bank_named bank.now) }
     ensures named { OnOk result (says_nothing bank_named bank.now ≡ false) }
     ensures refused { IfErr result (λ t. t ≡ analysis.BadBankSpec) }
     ensures cause { IfErr result (λ _. says_nothing bank_named bank.now ≡ true) }

@@ -6,24 +6,26 @@ use crate::traces::TraceError;
 use agc_io::Progress;
 use agc_machine::Machine;
 use agc_study_args::{JobsArgs, RunInputs, read_start};
+use agc_symbols::SymbolTable;
 use agc_timeline::write_changes;
 use std::alloc::Global;
 use std::io::{Read, Write};
 
-/// Reads a rope and a script, and writes a line for each change of the tables in their run. Returns the machine at
+/// Reads a rope and a script, and writes a line for each change of the tables in their run, with these names. Returns the machine at
 /// the end of the run. Fails with the first fault, checked in this order: rope, script, limit, `--watch`, `--until`,
 /// addresses of the tables; or if memory runs out. Nothing is written in that case.
 pub fn watch_files<R: Read, W: Write, P: Progress>(
     alloc: Global,
     args: &JobsArgs,
+    names: &Option<SymbolTable>,
     inputs: &mut RunInputs<R>,
     out: &mut W,
     progress: &mut P,
 ) -> Result<Machine, TraceError>
-    ensures watched { IfOk result (λ _. IsWatched args.now
+    ensures watched { IfOk result (λ _. IsWatched args.now names.now
         (R.remaining inputs.old.rope) (R.remaining inputs.old.script)
         (W.contents out.old) (W.contents out.new)) }
-    ensures unwatched { IfErr result (IsUnwatched args.now
+    ensures unwatched { IfErr result (IsUnwatched args.now names.now
         (R.remaining inputs.old.rope) (R.remaining inputs.old.script)
         (W.contents out.old) (W.contents out.new)) }
 {
@@ -33,7 +35,7 @@ pub fn watch_files<R: Read, W: Write, P: Progress>(
     };
     let mut machine = start.machine;
     let spec = start.tables.unwrap();
-    match write_changes(alloc, &mut machine, args.span, &spec, out, progress) {
+    match write_changes(alloc, names, &mut machine, args.span, &spec, out, progress) {
         Ok(()) => Ok(machine),
         Err(fault) => Err(TraceError::Cut(fault)),
     }

@@ -16,12 +16,12 @@ use Rattle.agc_asm.proofs.Lines.{Stands}
 use Rattle.agc_asm.proofs.Stretches.{StandsIn, finds_none, finds_words}
 use Rattle.agc_word.specs.Text.{lines_of}
 use Rattle.agc_listing.specs.Line.{line_named}
-use Rattle.agc_listing.specs.Weave.{is_named, said_from, said_in, said_next, unless_named, woven_file}
+use Rattle.agc_listing.specs.Weave.{is_named, parsed_from, parsed_in, parsed_next, unless_named, woven_file}
 use Rattle.agc_listing.specs.declared.fault.LineFault.TheVariants as line_fault
 use Rattle.agc_listing.specs.declared.fault.WeaveFault.TheVariants as weave
 use Rattle.agc_listing.proofs.Listings.{rope_of_words}
 use Rattle.agc_asm.specs.Laws.{WeavesTo}
-use Rattle.agc_listing.proofs.Woven.{next_said}
+use Rattle.agc_listing.proofs.Woven.{next_parsed}
 use Rattle.agc_asm.specs.declared.fault.SourceFault.{SourceFault}
 use Rattle.agc_asm.specs.declared.fault.SourceFault.TheVariants as fault
 use Rattle.agc_asm.specs.declared.fault.AssemblyFault.TheVariants as trouble
@@ -29,10 +29,10 @@ use Rattle.agc_asm.proofs.Passes.{next_woven}
 use Rattle.agc_asm.specs.declared.pass2.Step.{Step}
 use Rattle.agc_listing.specs.declared.fault.LineFault.{LineFault}
 use Rattle.agc_listing.specs.declared.line.PlacedWord.{PlacedWord}
-use Rattle.agc_asm.specs.Source.{as_source, both_said, first_names, first_state, is_listing, line_woven, listed_woven, IsSourceWoven, names_in, source_in, words_from, words_in, is_listing_line}
+use Rattle.agc_asm.specs.Source.{as_source, two_added, first_names, first_state, is_listing, line_woven, listed_woven, IsSourceWoven, names_in, source_in, words_from, words_in, is_listing_line}
 use Rattle.agc_asm.specs.declared.pass2.State.{State}
 use Rattle.agc_asm.specs.Name.{Naming}
-use Rattle.agc_listing.specs.Text.{are_listed, said_by}
+use Rattle.agc_listing.specs.Text.{are_listed, parsed_by}
 
 -- A line of a listing is read as it is.
 plain_by : (odd : Bool) (line : List ℕ) → has_odd_comment line ≡ odd → not odd ≡ true → plain_line line ≡ line
@@ -41,79 +41,79 @@ plain_by true line e h = absurd cc
 plain_by false line e h = rw e refl
 
 pub plain_listed : (line : List ℕ) → is_listing_line line ≡ true → plain_line line ≡ line
-plain_listed line h = plain_by (has_odd_comment line) line refl (and_parts (are_listed (said_by line)) (not (has_odd_comment line)) h).1
+plain_listed line h = plain_by (has_odd_comment line) line refl (and_parts (are_listed (parsed_by line)) (not (has_odd_comment line)) h).1
 
-pub listed_is : (line : List ℕ) → is_listing_line line ≡ true → are_listed (said_by line) ≡ true
-listed_is line h = (and_parts (are_listed (said_by line)) (not (has_odd_comment line)) h).0
+pub listed_is : (line : List ℕ) → is_listing_line line ≡ true → are_listed (parsed_by line) ≡ true
+listed_is line h = (and_parts (are_listed (parsed_by line)) (not (has_odd_comment line)) h).0
 
 -- In the second pass the lines of a listing mean what they mean in a listing.
 abbrev AgreeOn : Naming → State → List (List ℕ) → Type 0
-AgreeOn naming state lines = (n : ℕ) (said : List PlacedWord) → words_from n naming state said lines ≡ as_source (said_from n said lines)
+AgreeOn naming state lines = (n : ℕ) (parsed : List PlacedWord) → words_from n naming state parsed lines ≡ as_source (parsed_from n parsed lines)
 
 -- a faulty line, and a word whose place is taken
-faulty_line : (n : ℕ) (naming : Naming) (state : State) (said : List PlacedWord) (line : List ℕ) (lines : List (List ℕ)) (why : SourceFault) → line_woven naming state (plain_line line) ≡ Err why
-    → words_from n naming state said (line ∷ lines) ≡ Err (trouble.Line n why)
+faulty_line : (n : ℕ) (naming : Naming) (state : State) (parsed : List PlacedWord) (line : List ℕ) (lines : List (List ℕ)) (why : SourceFault) → line_woven naming state (plain_line line) ≡ Err why
+    → words_from n naming state parsed (line ∷ lines) ≡ Err (trouble.Line n why)
 unfolding words_from
-faulty_line n naming state said line lines why e = rw (e, words_from) refl
+faulty_line n naming state parsed line lines why e = rw (e, words_from) refl
 
-wrong_word : (n : ℕ) (naming : Naming) (state : State) (said : List PlacedWord) (line : List ℕ) (lines : List (List ℕ)) (step : Step) (why : SourceFault) → line_woven naming state (plain_line line) ≡ Ok step
-    → both_said said step.first step.second ≡ Err why → words_from n naming state said (line ∷ lines) ≡ Err (trouble.Line n why)
+wrong_word : (n : ℕ) (naming : Naming) (state : State) (parsed : List PlacedWord) (line : List ℕ) (lines : List (List ℕ)) (step : Step) (why : SourceFault) → line_woven naming state (plain_line line) ≡ Ok step
+    → two_added parsed step.first step.second ≡ Err why → words_from n naming state parsed (line ∷ lines) ≡ Err (trouble.Line n why)
 unfolding words_from
-wrong_word n naming state said line lines step why e f = rw (e, words_from) (rw f refl)
+wrong_word n naming state parsed line lines step why e f = rw (e, words_from) (rw f refl)
 
-faulty_said : (n : ℕ) (said : List PlacedWord) (line : List ℕ) (lines : List (List ℕ)) (why : LineFault) → said_next said line ≡ Err why → said_from n said (line ∷ lines) ≡ Err (weave.Line n why)
-unfolding said_from
-faulty_said n said line lines why e = rw (e, said_from) refl
+faulty_parsed : (n : ℕ) (parsed : List PlacedWord) (line : List ℕ) (lines : List (List ℕ)) (why : LineFault) → parsed_next parsed line ≡ Err why → parsed_from n parsed (line ∷ lines) ≡ Err (weave.Line n why)
+unfolding parsed_from
+faulty_parsed n parsed line lines why e = rw (e, parsed_from) refl
 
 listed_line : (naming : Naming) (state : State) (line : List ℕ) (says : Result (Option PlacedWord) LineFault) → is_listing_line line ≡ true → line_named line ≡ says
     → line_woven naming state (plain_line line) ≡ listed_woven state says
 unfolding line_woven
 listed_line naming state line says listed is = rw (plain_listed line listed, listed_is line listed, is) refl
 
-next_of : (said : List PlacedWord) (line : List ℕ) (says : Result (Option PlacedWord) LineFault) → line_named line ≡ says → said_next said line ≡ unless_named said says
-unfolding said_next
-next_of said line says is = rw is refl
+next_of : (parsed : List PlacedWord) (line : List ℕ) (says : Result (Option PlacedWord) LineFault) → line_named line ≡ says → parsed_next parsed line ≡ unless_named parsed says
+unfolding parsed_next
+next_of parsed line says is = rw is refl
 
-agree_word : (naming : Naming) (state : State) (line : List ℕ) (lines : List (List ℕ)) (n : ℕ) (said : List PlacedWord) (word : PlacedWord) (twice : Bool) → is_listing_line line ≡ true
-    → line_named line ≡ Ok (Some word) → is_named word.place said ≡ twice → AgreeOn naming state lines → words_from n naming state said (line ∷ lines) ≡ as_source (said_from n said (line ∷ lines))
-agree_word naming state line lines n said word true listed is named rest =
+agree_word : (naming : Naming) (state : State) (line : List ℕ) (lines : List (List ℕ)) (n : ℕ) (parsed : List PlacedWord) (word : PlacedWord) (twice : Bool) → is_listing_line line ≡ true
+    → line_named line ≡ Ok (Some word) → is_named word.place parsed ≡ twice → AgreeOn naming state lines → words_from n naming state parsed (line ∷ lines) ≡ as_source (parsed_from n parsed (line ∷ lines))
+agree_word naming state line lines n parsed word true listed is named rest =
     let step : Step = record { state = state; first = Some word; second = None } in
-    let both : both_said said (Some word) None ≡ Err (fault.Listed line_fault.NamedTwice) = rw named refl in
-    let next : said_next said line ≡ Err line_fault.NamedTwice = next_of said line (Ok (Some word)) is ∙ rw named refl in
-    wrong_word n naming state said line lines step (fault.Listed line_fault.NamedTwice) (listed_line naming state line (Ok (Some word)) listed is) both
-    ∙ sym (ap as_source (faulty_said n said line lines line_fault.NamedTwice next))
-agree_word naming state line lines n said word false listed is named rest =
+    let both : two_added parsed (Some word) None ≡ Err (fault.Listed line_fault.NamedTwice) = rw named refl in
+    let next : parsed_next parsed line ≡ Err line_fault.NamedTwice = next_of parsed line (Ok (Some word)) is ∙ rw named refl in
+    wrong_word n naming state parsed line lines step (fault.Listed line_fault.NamedTwice) (listed_line naming state line (Ok (Some word)) listed is) both
+    ∙ sym (ap as_source (faulty_parsed n parsed line lines line_fault.NamedTwice next))
+agree_word naming state line lines n parsed word false listed is named rest =
     let step : Step = record { state = state; first = Some word; second = None } in
-    let both : both_said said (Some word) None ≡ Ok (said ++ word ∷ []) = rw named refl in
-    let next : said_next said line ≡ Ok (Some word) = next_of said line (Ok (Some word)) is ∙ rw named refl in
-    next_woven n naming state said (said ++ word ∷ []) line lines step (listed_line naming state line (Ok (Some word)) listed is) both
-    ∙ rest (n + 1) (said ++ word ∷ [])
-    ∙ sym (ap as_source (next_said n said line lines (Some word) next))
+    let both : two_added parsed (Some word) None ≡ Ok (parsed ++ word ∷ []) = rw named refl in
+    let next : parsed_next parsed line ≡ Ok (Some word) = next_of parsed line (Ok (Some word)) is ∙ rw named refl in
+    next_woven n naming state parsed (parsed ++ word ∷ []) line lines step (listed_line naming state line (Ok (Some word)) listed is) both
+    ∙ rest (n + 1) (parsed ++ word ∷ [])
+    ∙ sym (ap as_source (next_parsed n parsed line lines (Some word) next))
 
-agree_line : (naming : Naming) (state : State) (line : List ℕ) (lines : List (List ℕ)) (n : ℕ) (said : List PlacedWord) (says : Result (Option PlacedWord) LineFault) → is_listing_line line ≡ true
-    → line_named line ≡ says → AgreeOn naming state lines → words_from n naming state said (line ∷ lines) ≡ as_source (said_from n said (line ∷ lines))
-agree_line naming state line lines n said (Err why) listed is rest =
-    faulty_line n naming state said line lines (fault.Listed why) (listed_line naming state line (Err why) listed is)
-    ∙ sym (ap as_source (faulty_said n said line lines why (next_of said line (Err why) is)))
-agree_line naming state line lines n said (Ok None) listed is rest =
+agree_line : (naming : Naming) (state : State) (line : List ℕ) (lines : List (List ℕ)) (n : ℕ) (parsed : List PlacedWord) (says : Result (Option PlacedWord) LineFault) → is_listing_line line ≡ true
+    → line_named line ≡ says → AgreeOn naming state lines → words_from n naming state parsed (line ∷ lines) ≡ as_source (parsed_from n parsed (line ∷ lines))
+agree_line naming state line lines n parsed (Err why) listed is rest =
+    faulty_line n naming state parsed line lines (fault.Listed why) (listed_line naming state line (Err why) listed is)
+    ∙ sym (ap as_source (faulty_parsed n parsed line lines why (next_of parsed line (Err why) is)))
+agree_line naming state line lines n parsed (Ok None) listed is rest =
     let step : Step = record { state = state; first = None; second = None } in
-    next_woven n naming state said said line lines step (listed_line naming state line (Ok None) listed is) refl
-    ∙ rest (n + 1) said
-    ∙ sym (ap as_source (next_said n said line lines None (next_of said line (Ok None) is)))
-agree_line naming state line lines n said (Ok (Some word)) listed is rest = agree_word naming state line lines n said word (is_named word.place said) listed is refl rest
+    next_woven n naming state parsed parsed line lines step (listed_line naming state line (Ok None) listed is) refl
+    ∙ rest (n + 1) parsed
+    ∙ sym (ap as_source (next_parsed n parsed line lines None (next_of parsed line (Ok None) is)))
+agree_line naming state line lines n parsed (Ok (Some word)) listed is rest = agree_word naming state line lines n parsed word (is_named word.place parsed) listed is refl rest
 
 pub agree_on : (naming : Naming) (state : State) (lines : List (List ℕ)) → list_all (λ line. is_listing_line line) lines ≡ true → AgreeOn naming state lines
-unfolding words_from said_from
-agree_on naming state [] h n said = refl
-agree_on naming state (line ∷ lines) h n said =
+unfolding words_from parsed_from
+agree_on naming state [] h n parsed = refl
+agree_on naming state (line ∷ lines) h n parsed =
     let parts = and_parts (is_listing_line line) (list_all (λ other. is_listing_line other) lines) h in
-    agree_line naming state line lines n said (line_named line) parts.0 refl (agree_on naming state lines parts.1)
+    agree_line naming state line lines n parsed (line_named line) parts.0 refl (agree_on naming state lines parts.1)
 
 -- So a text without faults in both passes names the words of the second pass.
-source_by : (text : List ℕ) (said : List PlacedWord) (listing : Bool) → is_listing text ≡ listing → names_in text ≡ Ok (first_names text) → words_in (first_names text) text ≡ Ok said → source_in text ≡ Ok said
-unfolding source_in is_listing words_in said_in
-source_by text said true listing none says = rw listing (sym (agree_on (first_names text) first_state (lines_of text) listing 1 []) ∙ says)
-source_by text said false listing none says = rw (listing, none) says
+source_by : (text : List ℕ) (parsed : List PlacedWord) (listing : Bool) → is_listing text ≡ listing → names_in text ≡ Ok (first_names text) → words_in (first_names text) text ≡ Ok parsed → source_in text ≡ Ok parsed
+unfolding source_in is_listing words_in parsed_in
+source_by text parsed true listing none says = rw listing (sym (agree_on (first_names text) first_state (lines_of text) listing 1 []) ∙ says)
+source_by text parsed false listing none says = rw (listing, none) says
 
 -- a rope's words are narrow, also past its end
 narrow_at : (words : List Number) → AreRopeWords words → (place : ℕ) → (fixed_at place words).magnitude < 2 ^ 14

@@ -9,7 +9,7 @@ use Rattle.std.proofs.lemmas.List.Sums.{AllPass-from_list_all}
 use Rattle.agc_word.specs.Text.{is_blank, is_empty_part, is_line_feed, lines_of, without_empty_end, words_of}
 use Rattle.agc_listing.specs.Line.{is_hash}
 use Rattle.agc_listing.proofs.Prints.{in_line, is_solid, no_blank, prints}
-use Rattle.agc_listing.specs.Text.{said_by}
+use Rattle.agc_listing.specs.Text.{parsed_by}
 
 -- a line of printable bytes does not end in a carriage return
 no_return : (b : ℕ) → prints b ≡ true → (b == 13) ≡ false
@@ -43,7 +43,7 @@ no_lines = refl
 pub record IsWord (part : List ℕ) : Type 0 where
   pub solid : list_all is_solid part ≡ true
   pub some : is_empty_part part ≡ false
-  pub said : is_hash part ≡ false
+  pub parsed : is_hash part ≡ false
 
 -- leading spaces separate nothing
 pub indented : (rest : List ℕ) → words_of (codes "        " ++ rest) ≡ words_of rest
@@ -59,10 +59,10 @@ unfolding words_of
 word_before part rest h = rw (slice_split_at is_blank part 0x20 rest (no_blank part h.solid) refl, h.some) refl
 
 -- a line of one word, and one of two
-pub says_one : (part : List ℕ) → IsWord part → said_by (codes "        " ++ part) ≡ part ∷ []
-unfolding said_by
-says_one part h = rw (indented part, one_word part h, h.said) refl
+pub says_one : (part : List ℕ) → IsWord part → parsed_by (codes "        " ++ part) ≡ part ∷ []
+unfolding parsed_by
+says_one part h = rw (indented part, one_word part h, h.parsed) refl
 
-pub says_two : (part next : List ℕ) → IsWord part → IsWord next → said_by (codes "        " ++ (part ++ 0x20 ∷ next)) ≡ part ∷ next ∷ []
-unfolding said_by
-says_two part next h k = rw (indented (part ++ 0x20 ∷ next), word_before part next h, one_word next k, h.said, k.said) refl
+pub says_two : (part next : List ℕ) → IsWord part → IsWord next → parsed_by (codes "        " ++ (part ++ 0x20 ∷ next)) ≡ part ∷ next ∷ []
+unfolding parsed_by
+says_two part next h k = rw (indented (part ++ 0x20 ∷ next), word_before part next h, one_word next k, h.parsed, k.parsed) refl

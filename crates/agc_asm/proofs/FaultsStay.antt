@@ -3,7 +3,7 @@ use Rattle.agc_asm.specs.Body.{plain_line}
 use Rattle.std.specs.Prelude.{◌≡◌, ℕ, zero, suc, ◌+◌, List, [], ◌∷◌, take, Result, Ok, Err}
 use Rattle.std.proofs.Common.{refl, sym, ◌∙◌}
 use Rattle.agc_listing.specs.declared.line.PlacedWord.{PlacedWord}
-use Rattle.agc_asm.specs.Source.{both_said, line_labelled, line_woven, names_from, naming_after, words_from}
+use Rattle.agc_asm.specs.Source.{two_added, line_labelled, line_woven, names_from, naming_after, words_from}
 use Rattle.agc_asm.specs.declared.location_counter.LocationCounter.{LocationCounter}
 use Rattle.agc_asm.specs.declared.pass1.Labelled.{Labelled}
 use Rattle.agc_asm.specs.declared.pass2.State.{State}
@@ -21,15 +21,15 @@ pub faulty_name : (n : ℕ) (naming : Naming) (counter : LocationCounter) (line 
 unfolding names_from
 faulty_name n naming counter line why e lines = rw (e, names_from) refl
 
-pub faulty_line : (n : ℕ) (naming : Naming) (state : State) (said : List PlacedWord) (line : List ℕ) (why : SourceFault) → line_woven naming state (plain_line line) ≡ Err why
-    → (lines : List (List ℕ)) → words_from n naming state said (line ∷ lines) ≡ Err (trouble.Line n why)
+pub faulty_line : (n : ℕ) (naming : Naming) (state : State) (parsed : List PlacedWord) (line : List ℕ) (why : SourceFault) → line_woven naming state (plain_line line) ≡ Err why
+    → (lines : List (List ℕ)) → words_from n naming state parsed (line ∷ lines) ≡ Err (trouble.Line n why)
 unfolding words_from
-faulty_line n naming state said line why e lines = rw (e, words_from) refl
+faulty_line n naming state parsed line why e lines = rw (e, words_from) refl
 
-pub wrong_word : (n : ℕ) (naming : Naming) (state : State) (said : List PlacedWord) (line : List ℕ) (step : Step) (why : SourceFault) → line_woven naming state (plain_line line) ≡ Ok step
-    → both_said said step.first step.second ≡ Err why → (lines : List (List ℕ)) → words_from n naming state said (line ∷ lines) ≡ Err (trouble.Line n why)
+pub wrong_word : (n : ℕ) (naming : Naming) (state : State) (parsed : List PlacedWord) (line : List ℕ) (step : Step) (why : SourceFault) → line_woven naming state (plain_line line) ≡ Ok step
+    → two_added parsed step.first step.second ≡ Err why → (lines : List (List ℕ)) → words_from n naming state parsed (line ∷ lines) ≡ Err (trouble.Line n why)
 unfolding words_from
-wrong_word n naming state said line step why e f lines = rw (e, words_from) (rw f refl)
+wrong_word n naming state parsed line step why e f lines = rw (e, words_from) (rw f refl)
 
 -- a fault of the first lines is a fault of all
 abbrev NamesStay : List (List ℕ) → Type 0
@@ -51,27 +51,27 @@ names_stay (line ∷ lines) zero n naming counter why is = absurd cc
 names_stay (line ∷ lines) (suc upto) n naming counter why is = names_stay_by upto n naming counter why line lines (line_labelled naming counter (plain_line line)) refl (names_stay lines) is
 
 abbrev WordsStay : Naming → List (List ℕ) → Type 0
-WordsStay naming lines = (upto n : ℕ) (state : State) (said : List PlacedWord) (why : AssemblyFault) → words_from n naming state said (take upto lines) ≡ Err why → words_from n naming state said lines ≡ Err why
+WordsStay naming lines = (upto n : ℕ) (state : State) (parsed : List PlacedWord) (why : AssemblyFault) → words_from n naming state parsed (take upto lines) ≡ Err why → words_from n naming state parsed lines ≡ Err why
 
-words_stay_both : (upto n : ℕ) (naming : Naming) (state : State) (said : List PlacedWord) (why : AssemblyFault) (line : List ℕ) (lines : List (List ℕ)) (step : Step) (both : Result (List PlacedWord) SourceFault)
-    → line_woven naming state (plain_line line) ≡ Ok step → both_said said step.first step.second ≡ both → WordsStay naming lines
-    → words_from n naming state said (line ∷ take upto lines) ≡ Err why → words_from n naming state said (line ∷ lines) ≡ Err why
-words_stay_both upto n naming state said why line lines step (Err mine) e f rest is =
-    wrong_word n naming state said line step mine e f lines ∙ sym (wrong_word n naming state said line step mine e f (take upto lines)) ∙ is
-words_stay_both upto n naming state said why line lines step (Ok more) e f rest is =
-    next_woven n naming state said more line lines step e f
-    ∙ rest upto (n + 1) step.state more why (sym (next_woven n naming state said more line (take upto lines) step e f) ∙ is)
+words_stay_both : (upto n : ℕ) (naming : Naming) (state : State) (parsed : List PlacedWord) (why : AssemblyFault) (line : List ℕ) (lines : List (List ℕ)) (step : Step) (both : Result (List PlacedWord) SourceFault)
+    → line_woven naming state (plain_line line) ≡ Ok step → two_added parsed step.first step.second ≡ both → WordsStay naming lines
+    → words_from n naming state parsed (line ∷ take upto lines) ≡ Err why → words_from n naming state parsed (line ∷ lines) ≡ Err why
+words_stay_both upto n naming state parsed why line lines step (Err mine) e f rest is =
+    wrong_word n naming state parsed line step mine e f lines ∙ sym (wrong_word n naming state parsed line step mine e f (take upto lines)) ∙ is
+words_stay_both upto n naming state parsed why line lines step (Ok more) e f rest is =
+    next_woven n naming state parsed more line lines step e f
+    ∙ rest upto (n + 1) step.state more why (sym (next_woven n naming state parsed more line (take upto lines) step e f) ∙ is)
 
-words_stay_by : (upto n : ℕ) (naming : Naming) (state : State) (said : List PlacedWord) (why : AssemblyFault) (line : List ℕ) (lines : List (List ℕ)) (woven : Result Step SourceFault) → line_woven naming state (plain_line line) ≡ woven
-    → WordsStay naming lines → words_from n naming state said (line ∷ take upto lines) ≡ Err why → words_from n naming state said (line ∷ lines) ≡ Err why
-words_stay_by upto n naming state said why line lines (Err mine) e rest is =
-    faulty_line n naming state said line mine e lines ∙ sym (faulty_line n naming state said line mine e (take upto lines)) ∙ is
-words_stay_by upto n naming state said why line lines (Ok step) e rest is =
-    words_stay_both upto n naming state said why line lines step (both_said said step.first step.second) e refl rest is
+words_stay_by : (upto n : ℕ) (naming : Naming) (state : State) (parsed : List PlacedWord) (why : AssemblyFault) (line : List ℕ) (lines : List (List ℕ)) (woven : Result Step SourceFault) → line_woven naming state (plain_line line) ≡ woven
+    → WordsStay naming lines → words_from n naming state parsed (line ∷ take upto lines) ≡ Err why → words_from n naming state parsed (line ∷ lines) ≡ Err why
+words_stay_by upto n naming state parsed why line lines (Err mine) e rest is =
+    faulty_line n naming state parsed line mine e lines ∙ sym (faulty_line n naming state parsed line mine e (take upto lines)) ∙ is
+words_stay_by upto n naming state parsed why line lines (Ok step) e rest is =
+    words_stay_both upto n naming state parsed why line lines step (two_added parsed step.first step.second) e refl rest is
 
 pub words_stay : (naming : Naming) (lines : List (List ℕ)) → WordsStay naming lines
 unfolding words_from
-words_stay naming [] zero n state said why is = is
-words_stay naming [] (suc upto) n state said why is = is
-words_stay naming (line ∷ lines) zero n state said why is = absurd cc
-words_stay naming (line ∷ lines) (suc upto) n state said why is = words_stay_by upto n naming state said why line lines (line_woven naming state (plain_line line)) refl (words_stay naming lines) is
+words_stay naming [] zero n state parsed why is = is
+words_stay naming [] (suc upto) n state parsed why is = is
+words_stay naming (line ∷ lines) zero n state parsed why is = absurd cc
+words_stay naming (line ∷ lines) (suc upto) n state parsed why is = words_stay_by upto n naming state parsed why line lines (line_woven naming state (plain_line line)) refl (words_stay naming lines) is

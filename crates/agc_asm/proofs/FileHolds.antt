@@ -15,7 +15,7 @@ use Rattle.agc_store.specs.declared.rope_file.RopeForm.TheVariants as form
 use Rattle.agc_listing.specs.Weave.{is_named, woven_bits, woven_file, woven_on, woven_with}
 use Rattle.agc_listing.specs.declared.line.PlacedWord.{PlacedWord}
 use Rattle.agc_listing.proofs.FileWords.{index_apart, length_on, on_word, put_at, put_beside}
-use Rattle.agc_asm.specs.Source.{said_more, words_from}
+use Rattle.agc_asm.specs.Source.{word_added, words_from}
 use Rattle.agc_asm.specs.declared.pass2.State.{State}
 use Rattle.agc_asm.specs.Name.{Naming}
 use Rattle.agc_asm.proofs.Stepped.{added, both, none_added, none_left, stepped}
@@ -52,47 +52,47 @@ elsewhere form bytes word place other =
 apart : (a b : ℕ) → (a == b) ≡ false → a ≢ b
 apart a b h = grind (arith, nat_tests)
 
-still : (form : RopeForm) (bytes : List ℕ) (word : PlacedWord) (said : List PlacedWord) → is_named word.place said ≡ false → All (StandsIn form bytes) said
-    → All (StandsIn form (woven_with form bytes word)) said
+still : (form : RopeForm) (bytes : List ℕ) (word : PlacedWord) (parsed : List PlacedWord) → is_named word.place parsed ≡ false → All (StandsIn form bytes) parsed
+    → All (StandsIn form (woven_with form bytes word)) parsed
 still form bytes word [] free h = All-nil (StandsIn form (woven_with form bytes word))
-still form bytes word (w ∷ said) free h =
-    let parts = or_parts (w.place == word.place) (is_named word.place said) free in
+still form bytes word (w ∷ parsed) free h =
+    let parts = or_parts (w.place == word.place) (is_named word.place parsed) free in
     let same = elsewhere form bytes word w.place (apart w.place word.place parts.0) in
-    let here : StandsIn form bytes w = All-head (StandsIn form bytes) w said h in
-    All-cons (StandsIn form (woven_with form bytes word)) w said (ap (λ (bits : ℕ). bits / 2) same ∙ here)
-    (still form bytes word said parts.1 (All-tail (StandsIn form bytes) w said h))
+    let here : StandsIn form bytes w = All-head (StandsIn form bytes) w parsed h in
+    All-cons (StandsIn form (woven_with form bytes word)) w parsed (ap (λ (bits : ℕ). bits / 2) same ∙ here)
+    (still form bytes word parsed parts.1 (All-tail (StandsIn form bytes) w parsed h))
 
 -- the file of words holds them
 abbrev pub Kept : RopeForm → List PlacedWord → Type 0
-Kept form said = All (StandsIn form (woven_file form said)) said
+Kept form parsed = All (StandsIn form (woven_file form parsed)) parsed
 
-woven_more : (form : RopeForm) (said : List PlacedWord) (word : PlacedWord) → woven_file form (said ++ word ∷ []) ≡ woven_with form (woven_file form said) word
+woven_more : (form : RopeForm) (parsed : List PlacedWord) (word : PlacedWord) → woven_file form (parsed ++ word ∷ []) ≡ woven_with form (woven_file form parsed) word
 unfolding woven_file
-woven_more form said word = fold-append (woven_with form) (0 ∷ 0 ∷ []) said (word ∷ [])
+woven_more form parsed word = fold-append (woven_with form) (0 ∷ 0 ∷ []) parsed (word ∷ [])
 
-kept_push : (form : RopeForm) (said : List PlacedWord) (word : PlacedWord) → is_named word.place said ≡ false → Kept form said → Kept form (said ++ word ∷ [])
-kept_push form said word free h =
-    let bytes = woven_file form said in
-    let all = All-push (StandsIn form (woven_with form bytes word)) said word (still form bytes word said free h) (stands form bytes word) in
-    rw (woven_more form said word) all
+kept_push : (form : RopeForm) (parsed : List PlacedWord) (word : PlacedWord) → is_named word.place parsed ≡ false → Kept form parsed → Kept form (parsed ++ word ∷ [])
+kept_push form parsed word free h =
+    let bytes = woven_file form parsed in
+    let all = All-push (StandsIn form (woven_with form bytes word)) parsed word (still form bytes word parsed free h) (stands form bytes word) in
+    rw (woven_more form parsed word) all
 
-kept_more : (form : RopeForm) (said more : List PlacedWord) (word : Option PlacedWord) → said_more said word ≡ Ok more → Kept form said → Kept form more
-kept_more form said more None is h =
-    let same : said ≡ more = none_added said more is in
+kept_more : (form : RopeForm) (parsed more : List PlacedWord) (word : Option PlacedWord) → word_added parsed word ≡ Ok more → Kept form parsed → Kept form more
+kept_more form parsed more None is h =
+    let same : parsed ≡ more = none_added parsed more is in
     rw same at h
-kept_more form said more (Some word) is h =
-    let a = added said more word is in
-    rw a.same at (kept_push form said word a.free h)
+kept_more form parsed more (Some word) is h =
+    let a = added parsed more word is in
+    rw a.same at (kept_push form parsed word a.free h)
 
-pub kept_from : (form : RopeForm) (lines : List (List ℕ)) (n : ℕ) (naming : Naming) (state : State) (said final : List PlacedWord)
-    → words_from n naming state said lines ≡ Ok final → Kept form said → Kept form final
-kept_from form [] n naming state said final is h =
-    let same : said ≡ final = none_left n naming state said final is in
+pub kept_from : (form : RopeForm) (lines : List (List ℕ)) (n : ℕ) (naming : Naming) (state : State) (parsed final : List PlacedWord)
+    → words_from n naming state parsed lines ≡ Ok final → Kept form parsed → Kept form final
+kept_from form [] n naming state parsed final is h =
+    let same : parsed ≡ final = none_left n naming state parsed final is in
     rw same at h
-kept_from form (line ∷ lines) n naming state said final is h =
-    let s = stepped n naming state said final line lines is in
-    let b = both said s.more s.step.first s.step.second s.both in
-    let one = kept_more form said b.between s.step.first b.one h in
+kept_from form (line ∷ lines) n naming state parsed final is h =
+    let s = stepped n naming state parsed final line lines is in
+    let b = both parsed s.more s.step.first s.step.second s.both in
+    let one = kept_more form parsed b.between s.step.first b.one h in
     kept_from form lines (n + 1) naming s.step.state s.more final s.rest (kept_more form b.between s.more s.step.second b.other one)
 
 -- a rope has a word at its place

@@ -3,11 +3,11 @@ use Rattle.agc_asm.specs.Body.{plain_line}
 use Rattle.std.specs.Prelude.{◌≡◌, ℕ, suc, ◌+◌, ◌-◌, ◌<◌, true, false, List, [], ◌∷◌, length, take, Result, Ok, Err, IsOk}
 use Rattle.std.proofs.Common.{refl, ap, sym, ◌∙◌, arith, inl, inr}
 use Rattle.agc_word.specs.Text.{lines_of}
-use Rattle.agc_listing.specs.Weave.{said_in}
+use Rattle.agc_listing.specs.Weave.{parsed_in}
 use Rattle.agc_listing.specs.declared.line.PlacedWord.{PlacedWord}
 use Rattle.agc_asm.specs.LocationCounter.{first_cursor}
 use Rattle.agc_asm.specs.FirstFault.{IsFirstFault, IsFirstOn, Pass, names_pass, words_pass}
-use Rattle.agc_asm.specs.Source.{as_source, both_said, first_names, first_state, is_listing, line_labelled, line_woven, names_from, names_in, naming_after, source_in, words_after_names, words_from, words_in}
+use Rattle.agc_asm.specs.Source.{as_source, two_added, first_names, first_state, is_listing, line_labelled, line_woven, names_from, names_in, naming_after, source_in, words_after_names, words_from, words_in}
 use Rattle.agc_asm.specs.declared.location_counter.LocationCounter.{LocationCounter}
 use Rattle.agc_asm.specs.declared.pass1.Labelled.{Labelled}
 use Rattle.agc_asm.specs.declared.pass2.State.{State}
@@ -33,7 +33,7 @@ record Cut {A : Type 0} (pass : List (List ℕ) → Result A AssemblyFault) (n :
 cut_here : {A : Type 0} (pass : List (List ℕ) → Result A AssemblyFault) (n : ℕ) (line : List ℕ) (lines : List (List ℕ)) (at : ℕ) (why mine : SourceFault) → IsOk (pass [])
     → ((others : List (List ℕ)) → pass (line ∷ others) ≡ Err (trouble.Line n mine)) → pass (line ∷ lines) ≡ Err (trouble.Line at why) → Cut pass n (line ∷ lines) at why
 cut_here pass n line lines at why mine none faulty is =
-    let told : Err (trouble.Line at why) ≡ Err (trouble.Line n mine) = sym is ∙ faulty lines in
+    let reported : Err (trouble.Line at why) ≡ Err (trouble.Line n mine) = sym is ∙ faulty lines in
     let number : at ≡ n = cc in
     let same : mine ≡ why = cc in
     record {
@@ -41,7 +41,7 @@ cut_here pass n line lines at why mine none faulty is =
       number = omega arith;
       inside = omega arith;
       plain = none;
-      faulty = faulty [] ∙ sym told;
+      faulty = faulty [] ∙ sym reported;
     }
 
 -- a fault of a later line
@@ -81,35 +81,35 @@ names_cut [] at why n naming counter is = absurd cc
 names_cut (line ∷ lines) at why n naming counter is = names_by at why n naming counter line lines (line_labelled naming counter (plain_line line)) refl (names_cut lines at why) is
 
 -- the pass for the words
-no_words : (n : ℕ) (naming : Naming) (state : State) (said : List PlacedWord) → IsOk (words_from n naming state said [])
+no_words : (n : ℕ) (naming : Naming) (state : State) (parsed : List PlacedWord) → IsOk (words_from n naming state parsed [])
 unfolding words_from
-no_words n naming state said = refl
+no_words n naming state parsed = refl
 
 abbrev WordsCut : Naming → List (List ℕ) → ℕ → SourceFault → Type 0
-WordsCut naming lines at why = (n : ℕ) (state : State) (said : List PlacedWord) → words_from n naming state said lines ≡ Err (trouble.Line at why) → Cut (words_from n naming state said) n lines at why
+WordsCut naming lines at why = (n : ℕ) (state : State) (parsed : List PlacedWord) → words_from n naming state parsed lines ≡ Err (trouble.Line at why) → Cut (words_from n naming state parsed) n lines at why
 
-words_both : (at : ℕ) (why : SourceFault) (n : ℕ) (naming : Naming) (state : State) (said : List PlacedWord) (line : List ℕ) (lines : List (List ℕ)) (step : Step) (both : Result (List PlacedWord) SourceFault)
-    → line_woven naming state (plain_line line) ≡ Ok step → both_said said step.first step.second ≡ both → WordsCut naming lines at why
-    → words_from n naming state said (line ∷ lines) ≡ Err (trouble.Line at why) → Cut (words_from n naming state said) n (line ∷ lines) at why
-words_both at why n naming state said line lines step (Err mine) e f rest is =
-    cut_here (words_from n naming state said) n line lines at why mine (no_words n naming state said) (wrong_word n naming state said line step mine e f) is
-words_both at why n naming state said line lines step (Ok more) e f rest is =
-    let goes : (others : List (List ℕ)) → words_from n naming state said (line ∷ others) ≡ words_from (n + 1) naming step.state more others
-    = λ others. next_woven n naming state said more line others step e f in
-    cut_later (words_from n naming state said) (words_from (n + 1) naming step.state more) n line lines at why goes
+words_both : (at : ℕ) (why : SourceFault) (n : ℕ) (naming : Naming) (state : State) (parsed : List PlacedWord) (line : List ℕ) (lines : List (List ℕ)) (step : Step) (both : Result (List PlacedWord) SourceFault)
+    → line_woven naming state (plain_line line) ≡ Ok step → two_added parsed step.first step.second ≡ both → WordsCut naming lines at why
+    → words_from n naming state parsed (line ∷ lines) ≡ Err (trouble.Line at why) → Cut (words_from n naming state parsed) n (line ∷ lines) at why
+words_both at why n naming state parsed line lines step (Err mine) e f rest is =
+    cut_here (words_from n naming state parsed) n line lines at why mine (no_words n naming state parsed) (wrong_word n naming state parsed line step mine e f) is
+words_both at why n naming state parsed line lines step (Ok more) e f rest is =
+    let goes : (others : List (List ℕ)) → words_from n naming state parsed (line ∷ others) ≡ words_from (n + 1) naming step.state more others
+    = λ others. next_woven n naming state parsed more line others step e f in
+    cut_later (words_from n naming state parsed) (words_from (n + 1) naming step.state more) n line lines at why goes
     (rest (n + 1) step.state more (sym (goes lines) ∙ is))
 
-words_by : (at : ℕ) (why : SourceFault) (n : ℕ) (naming : Naming) (state : State) (said : List PlacedWord) (line : List ℕ) (lines : List (List ℕ)) (woven : Result Step SourceFault) → line_woven naming state (plain_line line) ≡ woven
-    → WordsCut naming lines at why → words_from n naming state said (line ∷ lines) ≡ Err (trouble.Line at why) → Cut (words_from n naming state said) n (line ∷ lines) at why
-words_by at why n naming state said line lines (Err mine) e rest is =
-    cut_here (words_from n naming state said) n line lines at why mine (no_words n naming state said) (faulty_line n naming state said line mine e) is
-words_by at why n naming state said line lines (Ok step) e rest is =
-    words_both at why n naming state said line lines step (both_said said step.first step.second) e refl rest is
+words_by : (at : ℕ) (why : SourceFault) (n : ℕ) (naming : Naming) (state : State) (parsed : List PlacedWord) (line : List ℕ) (lines : List (List ℕ)) (woven : Result Step SourceFault) → line_woven naming state (plain_line line) ≡ woven
+    → WordsCut naming lines at why → words_from n naming state parsed (line ∷ lines) ≡ Err (trouble.Line at why) → Cut (words_from n naming state parsed) n (line ∷ lines) at why
+words_by at why n naming state parsed line lines (Err mine) e rest is =
+    cut_here (words_from n naming state parsed) n line lines at why mine (no_words n naming state parsed) (faulty_line n naming state parsed line mine e) is
+words_by at why n naming state parsed line lines (Ok step) e rest is =
+    words_both at why n naming state parsed line lines step (two_added parsed step.first step.second) e refl rest is
 
 words_cut : (naming : Naming) (lines : List (List ℕ)) (at : ℕ) (why : SourceFault) → WordsCut naming lines at why
 unfolding words_from
-words_cut naming [] at why n state said is = absurd cc
-words_cut naming (line ∷ lines) at why n state said is = words_by at why n naming state said line lines (line_woven naming state (plain_line line)) refl (words_cut naming lines at why) is
+words_cut naming [] at why n state parsed is = absurd cc
+words_cut naming (line ∷ lines) at why n state parsed is = words_by at why n naming state parsed line lines (line_woven naming state (plain_line line)) refl (words_cut naming lines at why) is
 
 -- with the first line's number 1
 from_one : {A : Type 0} (pass : Pass A) (lines : List (List ℕ)) (at : ℕ) (why : SourceFault) → Cut pass 1 lines at why → IsFirstOn pass lines at why
@@ -132,8 +132,8 @@ unfolding words_in
 words_first naming text n why is = from_one (words_pass naming) (lines_of text) n why (words_cut naming (lines_of text) n why 1 first_state [] is)
 
 either_by : (text : List ℕ) (n : ℕ) (why : SourceFault) (names : Result Naming AssemblyFault) → names_in text ≡ names → words_after_names text names ≡ Err (trouble.Line n why) → IsFirstFault text n why
-either_by text n why (Err told) e is =
-    let same : told ≡ trouble.Line n why = cc in
+either_by text n why (Err reported) e is =
+    let same : reported ≡ trouble.Line n why = cc in
     inl (names_first text n why (rw same at e))
 either_by text n why (Ok naming) e is = inr (naming, e, words_first naming text n why is)
 
@@ -145,16 +145,16 @@ source_first text n why listing is =
     either_by text n why (names_in text) refl pass
 
 pub listing_first : (text : List ℕ) (n : ℕ) (why : SourceFault) → is_listing text ≡ true → source_in text ≡ Err (trouble.Line n why) → IsFirstOn (words_pass own_names) (lines_of text) n why
-unfolding source_in is_listing words_in said_in
+unfolding source_in is_listing words_in parsed_in
 listing_first text n why listing is =
-    let told : as_source (said_in text) ≡ Err (trouble.Line n why) = rw listing at is in
-    words_first own_names text n why (agree_on own_names first_state (lines_of text) listing 1 [] ∙ told)
+    let reported : as_source (parsed_in text) ≡ Err (trouble.Line n why) = rw listing at is in
+    words_first own_names text n why (agree_on own_names first_state (lines_of text) listing 1 [] ∙ reported)
 
-pub first_told : (text : List ℕ) (n : ℕ) (why : SourceFault) → is_listing text ≡ false → IsFirstFault text n why → source_in text ≡ Err (trouble.Line n why)
+pub first_reported : (text : List ℕ) (n : ℕ) (why : SourceFault) → is_listing text ≡ false → IsFirstFault text n why → source_in text ≡ Err (trouble.Line n why)
 unfolding source_in names_in words_in
-first_told text n why listing (inl first) =
+first_reported text n why listing (inl first) =
     let names : names_in text ≡ Err (trouble.Line n why) = names_stay (lines_of text) n 1 (first_names text) first_cursor (trouble.Line n why) first.here in
     rw (listing, names) refl
-first_told text n why listing (inr second) =
+first_reported text n why listing (inr second) =
     let words : words_in second.0 text ≡ Err (trouble.Line n why) = words_stay second.0 (lines_of text) n 1 first_state [] (trouble.Line n why) second.2.here in
     rw (listing, second.1) words

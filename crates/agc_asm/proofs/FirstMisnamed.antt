@@ -11,10 +11,10 @@ unfolding misnamed_from
 next_line n line lines e = rw (e, misnamed_from)
 
 -- the line with the mismatch
-pub told_line : (text : List ℕ) (n : ℕ) (line : List ℕ) (lines : List (List ℕ)) (told : Misnamed)
-    → misnamed_from n (line ∷ lines) ≡ misnamed_from 1 (lines_of text) → misnamed_at n line ≡ Some told → misnamed_in text ≡ Some told
+pub reported_line : (text : List ℕ) (n : ℕ) (line : List ℕ) (lines : List (List ℕ)) (reported : Misnamed)
+    → misnamed_from n (line ∷ lines) ≡ misnamed_from 1 (lines_of text) → misnamed_at n line ≡ Some reported → misnamed_in text ≡ Some reported
 unfolding misnamed_from misnamed_in
-told_line text n line lines told same e = rw (← same, e, misnamed_from)
+reported_line text n line lines reported same e = rw (← same, e, misnamed_from)
 
 -- no line is left
 pub no_line : (text : List ℕ) (n : ℕ) → misnamed_from n [] ≡ misnamed_from 1 (lines_of text) → misnamed_in text ≡ None

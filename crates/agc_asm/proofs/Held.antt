@@ -5,7 +5,7 @@ use Rattle.std.proofs.Common.{refl, arith}
 use Rattle.std.proofs.lemmas.Bool.Decides.{nat_tests}
 use Rattle.agc_word.specs.Numeral.{octal_number}
 use Rattle.agc_asm.specs.Mnemonic.{directive_named, is_order}
-use Rattle.agc_listing.specs.Number.{offset_said}
+use Rattle.agc_listing.specs.Number.{offset_parsed}
 use Rattle.agc_listing.specs.Text.{only_of}
 use Rattle.agc_asm.specs.declared.fault.SourceFault.TheVariants as fault
 use Rattle.agc_listing.specs.declared.location.Location.{Location}
@@ -115,7 +115,7 @@ cells_dash false first last = tt
 
 cells_words : (words : List (List ℕ)) → IfOk (cells_in words) GoesIntoRope
 cells_words [] = tt
-cells_words (word ∷ []) = cells_number (offset_said word) word
+cells_words (word ∷ []) = cells_number (offset_parsed word) word
 cells_words (first ∷ dash ∷ []) = tt
 cells_words (first ∷ dash ∷ last ∷ []) = cells_dash (is_dash dash) (octal_number 6 first) (octal_number 6 last)
 cells_words (first ∷ dash ∷ last ∷ more ∷ words) = tt

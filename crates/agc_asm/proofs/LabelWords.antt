@@ -8,7 +8,7 @@ use Rattle.agc_listing.specs.Line.{is_hash, is_no_text}
 use Rattle.agc_listing.proofs.Prints.{is_solid}
 use Rattle.agc_word.specs.Text.{is_blank, is_empty_part, words_of}
 use Rattle.agc_symbols.specs.Symbols.{is_place_name}
-use Rattle.agc_listing.specs.Text.{before_comment, first_of, is_indented, is_name, label_of, said_by}
+use Rattle.agc_listing.specs.Text.{before_comment, first_of, is_indented, is_name, label_of, parsed_by}
 use Rattle.agc_asm.proofs.Cut.{IsWord, one_word}
 
 -- a byte of a word of text
@@ -70,20 +70,20 @@ first_word line word words h is = first_kept (slice_split is_blank line) word wo
 
 -- its name
 
-said_first : (hash : Bool) (word label : List ℕ) (words : List (List ℕ)) → is_hash word ≡ hash → first_of (if hash then [] else word ∷ words) ≡ Some label → (word ≡ label) × (hash ≡ false)
-said_first true word label words e is = absurd cc
-said_first false word label words e is = (cc, refl)
+parsed_first : (hash : Bool) (word label : List ℕ) (words : List (List ℕ)) → is_hash word ≡ hash → first_of (if hash then [] else word ∷ words) ≡ Some label → (word ≡ label) × (hash ≡ false)
+parsed_first true word label words e is = absurd cc
+parsed_first false word label words e is = (cc, refl)
 
 label_first : (indented : Bool) (words : List (List ℕ)) (label : List ℕ) → (if indented then None else first_of (before_comment words)) ≡ Some label
     → (rest : List (List ℕ)) × (words ≡ label ∷ rest) × (is_hash label ≡ false)
 label_first true words label is = absurd cc
 label_first false [] label is = absurd cc
 label_first false (word ∷ words) label is =
-    let said = said_first (is_hash word) word label (before_comment words) refl is in
-    (words, rw said.0 refl, rw said.0 at said.1)
+    let parsed = parsed_first (is_hash word) word label (before_comment words) refl is in
+    (words, rw parsed.0 refl, rw parsed.0 at parsed.1)
 
 label_is_first : (line label : List ℕ) → label_of line ≡ Some label → (rest : List (List ℕ)) × (words_of line ≡ label ∷ rest) × (is_hash label ≡ false)
-unfolding label_of said_by
+unfolding label_of parsed_by
 label_is_first line label is = label_first (is_indented line) (words_of line) label is
 
 part_is_solid : (part : List ℕ) → is_part part ≡ true → list_all is_solid part ≡ true
@@ -104,15 +104,15 @@ part_is_text (b ∷ bs) h =
     let here = not_so (is_no_text b) (split_all (not (is_blank b)) (not (is_no_text b)) two.0).1 in
     rw (here, part_is_text bs two.1) refl
 
-word_said : (part : List ℕ) → IsWord part → said_by part ≡ part ∷ []
-unfolding said_by
-word_said part h = rw (one_word part h, h.said) refl
+order_or_digits : (part : List ℕ) → IsWord part → parsed_by part ≡ part ∷ []
+unfolding parsed_by
+order_or_digits part h = rw (one_word part h, h.parsed) refl
 
 -- a name that a symbol file can hold
 pub label_is_word : (line label : List ℕ) → list_any is_no_text line ≡ false → label_of line ≡ Some label → is_name label ≡ true
-    → (is_place_name label ≡ true) × (said_by label ≡ label ∷ [])
+    → (is_place_name label ≡ true) × (parsed_by label ≡ label ∷ [])
 label_is_word line label text is name =
     let first = label_is_first line label is in
     let part = first_word line label first.0 text first.1 in
     let other = part_is_text label part.0 in
-    (rw (name, other) refl, word_said label (record { solid = part_is_solid label part.0; some = part.1; said = first.2 }))
+    (rw (name, other) refl, order_or_digits label (record { solid = part_is_solid label part.0; some = part.1; parsed = first.2 }))

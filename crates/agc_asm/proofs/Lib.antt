@@ -1,3 +1,4 @@
+mod RowWords
 pub mod BasicRows
 pub mod ExtracodeRows
 mod Naming
@@ -15,7 +16,7 @@ mod Orders
 mod Places
 mod Within
 mod LabelWords
-mod ToldNames
+mod ReportedNames
 mod OwnWords
 mod Stepped
 mod FileHolds

@@ -15,11 +15,11 @@ use Rattle.agc_listing.proofs.Prints.{all_text, prints}
 use Rattle.agc_listing.specs.Weave.{is_named}
 use Rattle.agc_listing.specs.declared.line.PlacedWord.{PlacedWord}
 use Rattle.agc_asm.specs.LineKind.{shape_of, after_line_words}
-use Rattle.agc_asm.specs.Source.{both_said, line_labelled, line_woven, names_from, naming_after, word_at, words_from, is_include}
+use Rattle.agc_asm.specs.Source.{two_added, line_labelled, line_woven, names_from, naming_after, word_at, words_from, is_include}
 use Rattle.agc_asm.specs.declared.line_kind.LineKind.TheVariants as kind
 use Rattle.agc_asm.specs.declared.pass2.State.{State}
 use Rattle.agc_asm.specs.Name.{Naming}
-use Rattle.agc_listing.specs.Text.{are_listed, body_of, label_of, said_by}
+use Rattle.agc_listing.specs.Text.{are_listed, body_of, label_of, parsed_by}
 use Rattle.agc_asm.proofs.Orders.{IsPlain, Says}
 use Rattle.agc_asm.specs.Body.{body_in, spelled, plain_line, has_odd_comment}
 use Rattle.agc_asm.specs.Encode.{banks_after, is_banked}
@@ -93,12 +93,12 @@ skips words place counter h none = record {
 pub record IsLine (line : List ℕ) : Type 0 where
   pub text : list_any is_no_text line ≡ false
   pub own : is_include line ≡ false
-  pub unlisted : are_listed (said_by line) ≡ false
+  pub unlisted : are_listed (parsed_by line) ≡ false
   pub label : label_of line ≡ None
-  pub body : body_in line ≡ said_by line
+  pub body : body_in line ≡ parsed_by line
 
-pub is_line : (rest : List ℕ) → list_all prints (codes "        " ++ rest) ≡ true → are_listed (said_by (codes "        " ++ rest)) ≡ false
-    → IsPlain (said_by (codes "        " ++ rest)) → IsLine (codes "        " ++ rest)
+pub is_line : (rest : List ℕ) → list_all prints (codes "        " ++ rest) ≡ true → are_listed (parsed_by (codes "        " ++ rest)) ≡ false
+    → IsPlain (parsed_by (codes "        " ++ rest)) → IsLine (codes "        " ++ rest)
 unfolding label_of body_of body_in
 is_line rest h unlisted plain = record { text = all_text (codes "        " ++ rest) h; own = refl; unlisted = unlisted; label = refl; body = plain }
 
@@ -108,12 +108,12 @@ unfolding plain_line has_odd_comment
 plain_is line h = rw h.text refl
 
 -- the first pass
-labelled_word : (naming : Naming) (counter : LocationCounter) (place : ℕ) (line : List ℕ) → IsLine line → shape_of naming (spelled (said_by line)) ≡ Ok kind.Word → IsHere place counter
+labelled_word : (naming : Naming) (counter : LocationCounter) (place : ℕ) (line : List ℕ) → IsLine line → shape_of naming (spelled (parsed_by line)) ≡ Ok kind.Word → IsHere place counter
     → line_labelled naming counter line ≡ Ok (record { counter = after_words counter counter.at 1; place = None })
 unfolding line_labelled
 labelled_word naming counter place line h takes here = rw (h.unlisted, h.text, h.own, h.label, h.body, takes, words_here place counter here) refl
 
-labelled_move : (naming : Naming) (counter : LocationCounter) (place : ℕ) (line : List ℕ) → IsLine line → shape_of naming (spelled (said_by line)) ≡ Ok (kind.Moves (location.Fixed place))
+labelled_move : (naming : Naming) (counter : LocationCounter) (place : ℕ) (line : List ℕ) → IsLine line → shape_of naming (spelled (parsed_by line)) ≡ Ok (kind.Moves (location.Fixed place))
     → line_labelled naming counter line ≡ Ok (record { counter = moved_to counter (location.Fixed place); place = None })
 unfolding line_labelled
 labelled_move naming counter place line h moves = rw (h.unlisted, h.text, h.own, h.label, h.body, moves) refl
@@ -121,14 +121,14 @@ labelled_move naming counter place line h moves = rw (h.unlisted, h.text, h.own,
 no_name : (naming : Naming) (line : List ℕ) → IsLine line → naming_after naming (label_of (plain_line line)) None ≡ naming
 no_name naming line h = rw (plain_is line h, h.label) refl
 
-pub names_word : (n : ℕ) (naming : Naming) (counter : LocationCounter) (place : ℕ) (line : List ℕ) (lines : List (List ℕ)) → IsLine line → shape_of naming (spelled (said_by line)) ≡ Ok kind.Word → IsHere place counter
+pub names_word : (n : ℕ) (naming : Naming) (counter : LocationCounter) (place : ℕ) (line : List ℕ) (lines : List (List ℕ)) → IsLine line → shape_of naming (spelled (parsed_by line)) ≡ Ok kind.Word → IsHere place counter
     → names_from n naming counter (line ∷ lines) ≡ names_from (n + 1) naming (after_words counter counter.at 1) lines
 names_word n naming counter place line lines h takes here =
     next_named n naming counter line lines (record { counter = after_words counter counter.at 1; place = None })
     (rw (plain_is line h) (labelled_word naming counter place line h takes here))
     ∙ ap (λ (names : Naming). names_from (n + 1) names (after_words counter counter.at 1) lines) (no_name naming line h)
 
-pub names_move : (n : ℕ) (naming : Naming) (counter : LocationCounter) (place : ℕ) (line : List ℕ) (lines : List (List ℕ)) → IsLine line → shape_of naming (spelled (said_by line)) ≡ Ok (kind.Moves (location.Fixed place))
+pub names_move : (n : ℕ) (naming : Naming) (counter : LocationCounter) (place : ℕ) (line : List ℕ) (lines : List (List ℕ)) → IsLine line → shape_of naming (spelled (parsed_by line)) ≡ Ok (kind.Moves (location.Fixed place))
     → names_from n naming counter (line ∷ lines) ≡ names_from (n + 1) naming (moved_to counter (location.Fixed place)) lines
 names_move n naming counter place line lines h moves =
     next_named n naming counter line lines (record { counter = moved_to counter (location.Fixed place); place = None })
@@ -137,37 +137,37 @@ names_move n naming counter place line lines h moves =
 
 -- the second pass
 abbrev pub state_after : State → Bool → Number → List (List ℕ) → State
-state_after state order word said = record {
+state_after state order word parsed = record {
   counter = after_words state.counter state.counter.at 1;
   leads = order && next_is_extracode state.leads word;
-  banks = banks_after (is_banked said) state.banks;
+  banks = banks_after (is_banked parsed) state.banks;
 }
 
 abbrev pub state_moved : State → ℕ → State
 state_moved state place = record { counter = moved_to state.counter (location.Fixed place); leads = false; banks = state.banks }
 
-woven_word : (naming : Naming) (state : State) (place : ℕ) (order : Bool) (word : Number) (line : List ℕ) → IsLine line → Says state.leads order word (said_by line) → IsHere place state.counter
-    → line_woven naming state line ≡ Ok (record { state = state_after state order word (said_by line); first = word_at place word; second = None })
+woven_word : (naming : Naming) (state : State) (place : ℕ) (order : Bool) (word : Number) (line : List ℕ) → IsLine line → Says state.leads order word (parsed_by line) → IsHere place state.counter
+    → line_woven naming state line ≡ Ok (record { state = state_after state order word (parsed_by line); first = word_at place word; second = None })
 unfolding line_woven
 woven_word naming state place order word line h says here =
     rw (h.unlisted, h.body, says.takes_up naming, here.bank, has_room place state.counter here, says.means naming place state.banks, says.writes) refl
 
-woven_move : (naming : Naming) (state : State) (place : ℕ) (line : List ℕ) → IsLine line → shape_of naming (spelled (said_by line)) ≡ Ok (kind.Moves (location.Fixed place))
+woven_move : (naming : Naming) (state : State) (place : ℕ) (line : List ℕ) → IsLine line → shape_of naming (spelled (parsed_by line)) ≡ Ok (kind.Moves (location.Fixed place))
     → line_woven naming state line ≡ Ok (record { state = state_moved state place; first = None; second = None })
 unfolding line_woven
 woven_move naming state place line h moves = rw (h.unlisted, h.body, moves, and_right state.leads false refl) refl
 
-both_once : (said : List PlacedWord) (place : ℕ) (word : Number) → is_named place said ≡ false → both_said said (word_at place word) None ≡ Ok (said ++ (record { place = place; word = word }) ∷ [])
-both_once said place word h = rw h refl
+both_once : (parsed : List PlacedWord) (place : ℕ) (word : Number) → is_named place parsed ≡ false → two_added parsed (word_at place word) None ≡ Ok (parsed ++ (record { place = place; word = word }) ∷ [])
+both_once parsed place word h = rw h refl
 
-pub words_word : (n : ℕ) (naming : Naming) (state : State) (said : List PlacedWord) (place : ℕ) (order : Bool) (word : Number) (line : List ℕ) (lines : List (List ℕ)) → IsLine line → Says state.leads order word (said_by line)
-    → IsHere place state.counter → is_named place said ≡ false
-    → words_from n naming state said (line ∷ lines) ≡ words_from (n + 1) naming (state_after state order word (said_by line)) (said ++ (record { place = place; word = word }) ∷ []) lines
-words_word n naming state said place order word line lines h says here none =
-    next_woven n naming state said (said ++ (record { place = place; word = word }) ∷ []) line lines (record { state = state_after state order word (said_by line); first = word_at place word; second = None })
-    (rw (plain_is line h) (woven_word naming state place order word line h says here)) (both_once said place word none)
+pub words_word : (n : ℕ) (naming : Naming) (state : State) (parsed : List PlacedWord) (place : ℕ) (order : Bool) (word : Number) (line : List ℕ) (lines : List (List ℕ)) → IsLine line → Says state.leads order word (parsed_by line)
+    → IsHere place state.counter → is_named place parsed ≡ false
+    → words_from n naming state parsed (line ∷ lines) ≡ words_from (n + 1) naming (state_after state order word (parsed_by line)) (parsed ++ (record { place = place; word = word }) ∷ []) lines
+words_word n naming state parsed place order word line lines h says here none =
+    next_woven n naming state parsed (parsed ++ (record { place = place; word = word }) ∷ []) line lines (record { state = state_after state order word (parsed_by line); first = word_at place word; second = None })
+    (rw (plain_is line h) (woven_word naming state place order word line h says here)) (both_once parsed place word none)
 
-pub words_move : (n : ℕ) (naming : Naming) (state : State) (said : List PlacedWord) (place : ℕ) (line : List ℕ) (lines : List (List ℕ)) → IsLine line → shape_of naming (spelled (said_by line)) ≡ Ok (kind.Moves (location.Fixed place))
-    → words_from n naming state said (line ∷ lines) ≡ words_from (n + 1) naming (state_moved state place) said lines
-words_move n naming state said place line lines h moves =
-    next_woven n naming state said said line lines (record { state = state_moved state place; first = None; second = None }) (rw (plain_is line h) (woven_move naming state place line h moves)) refl
+pub words_move : (n : ℕ) (naming : Naming) (state : State) (parsed : List PlacedWord) (place : ℕ) (line : List ℕ) (lines : List (List ℕ)) → IsLine line → shape_of naming (spelled (parsed_by line)) ≡ Ok (kind.Moves (location.Fixed place))
+    → words_from n naming state parsed (line ∷ lines) ≡ words_from (n + 1) naming (state_moved state place) parsed lines
+words_move n naming state parsed place line lines h moves =
+    next_woven n naming state parsed parsed line lines (record { state = state_moved state place; first = None; second = None }) (rw (plain_is line h) (woven_move naming state place line h moves)) refl

@@ -9,7 +9,7 @@ use Rattle.agc_listing.specs.Line.{line_named}
 use Rattle.agc_listing.specs.declared.fault.LineFault.{LineFault}
 use Rattle.agc_listing.specs.declared.line.PlacedWord.{PlacedWord}
 use Rattle.agc_asm.specs.Name.{Naming}
-use Rattle.agc_listing.specs.Text.{after_first, are_listed, said_by}
+use Rattle.agc_listing.specs.Text.{after_first, are_listed, parsed_by}
 use Rattle.agc_listing.specs.Order.{next_is_extracode}
 use Rattle.agc_asm.specs.Body.{body_in, spelled, plain_line}
 use Rattle.agc_asm.specs.Operand.{location_in}
@@ -19,7 +19,7 @@ use Rattle.agc_asm.specs.LocationCounter.{after_words, room_at, after_cells}
 use Rattle.agc_asm.specs.Encode.{cell_in, pair_meaning, place_in, word_meaning, writes_order}
 use Rattle.agc_asm.specs.OrderLines.{OrderLine, mnemonic_in, mnemonic_of, order_of, order_placed, order_words, orders_from, since_after, mnemonic_at, mnemonics_from}
 use Rattle.agc_asm.specs.LineKind.{cursor_after, shape_of}
-use Rattle.agc_asm.specs.Source.{ebank_said, line_woven, listed_woven, no_word, one_word, pair_placed, sbank_said, shape_woven, stays_put, two_words, with_banks, word_placed, words_from, in_cells, word_at_counter, pair_at_counter, word_in_cell, pair_in_cells}
+use Rattle.agc_asm.specs.Source.{ebank_parsed, line_woven, listed_woven, no_word, one_word, pair_placed, sbank_parsed, shape_woven, stays_put, two_words, with_banks, word_placed, words_from, in_cells, word_at_counter, pair_at_counter, word_in_cell, pair_in_cells}
 use Rattle.agc_asm.specs.declared.location_counter.At.{At as Where}
 use Rattle.agc_asm.specs.declared.location_counter.At.TheVariants as at
 use Rattle.agc_asm.specs.declared.location_counter.LocationCounter.{LocationCounter}
@@ -46,26 +46,26 @@ LineDone words naming since state line step = IfSome step.first (HasWord words) 
 
 -- a source line, not a listing line
 record Plain (words : List Number) (naming : Naming) (since : ℕ) (state : State) (line : List ℕ) (s : LineKind) : Type 0 where
-  unlisted : are_listed (said_by line) ≡ false
+  unlisted : are_listed (parsed_by line) ≡ false
   takes : shape_of naming (spelled (body_in line)) ≡ Ok s
   sound : Sound words since state.counter state.leads
 
 -- words in erasable memory are no orders of the rope
-no_order_in_cell : (naming : Naming) (since cell : ℕ) (state : State) (line : List ℕ) → are_listed (said_by line) ≡ false → state.counter.at ≡ at.Cell cell → order_of naming since state line ≡ []
+no_order_in_cell : (naming : Naming) (since cell : ℕ) (state : State) (line : List ℕ) → are_listed (parsed_by line) ≡ false → state.counter.at ≡ at.Cell cell → order_of naming since state line ≡ []
 unfolding order_of
 no_order_in_cell naming since cell state line unlisted e = rw (unlisted, e) refl
 
-orders_at : (words : List Number) (naming : Naming) (since : ℕ) (state : State) (line : List ℕ) (here : Where) → are_listed (said_by line) ≡ false → state.counter.at ≡ here
+orders_at : (words : List Number) (naming : Naming) (since : ℕ) (state : State) (line : List ℕ) (here : Where) → are_listed (parsed_by line) ≡ false → state.counter.at ≡ here
     → AreShown words (order_of naming since state line) (mnemonic_of line) → AreShown words (order_of naming since state line) (mnemonic_at here line)
 orders_at words naming since state line (at.Bank bank) unlisted e h = h
 orders_at words naming since state line (at.Cell cell) unlisted e h = rw (no_order_in_cell naming since cell state line unlisted e) (none_shown words)
 
-orders_read : (words : List Number) (naming : Naming) (since : ℕ) (state : State) (line : List ℕ) (room : Result ℕ SourceFault) → are_listed (said_by line) ≡ false → room_at state.counter state.counter.at 1 ≡ room
+orders_read : (words : List Number) (naming : Naming) (since : ℕ) (state : State) (line : List ℕ) (room : Result ℕ SourceFault) → are_listed (parsed_by line) ≡ false → room_at state.counter state.counter.at 1 ≡ room
     → AreShown words (order_placed naming since state.leads room (order_words (body_in line))) (mnemonic_in (order_words (body_in line))) → AreShown words (order_of naming since state line) (mnemonic_of line)
 unfolding order_of mnemonic_of
 orders_read words naming since state line room unlisted e h = rw (unlisted, e) h
 
-orders_placed : (words : List Number) (naming : Naming) (since : ℕ) (state : State) (line : List ℕ) (room : Result ℕ SourceFault) → are_listed (said_by line) ≡ false → room_at state.counter state.counter.at 1 ≡ room
+orders_placed : (words : List Number) (naming : Naming) (since : ℕ) (state : State) (line : List ℕ) (room : Result ℕ SourceFault) → are_listed (parsed_by line) ≡ false → room_at state.counter state.counter.at 1 ≡ room
     → AreShown words (order_placed naming since state.leads room (order_words (body_in line))) (mnemonic_in (order_words (body_in line))) → AreShown words (order_of naming since state line) (mnemonic_at state.counter.at line)
 orders_placed words naming since state line room unlisted e h =
     orders_at words naming since state line state.counter.at unlisted refl (orders_read words naming since state line room unlisted e h)
@@ -132,7 +132,7 @@ cells_done : (words : List Number) (naming : Naming) (since : ℕ) (state : Stat
 cells_done words naming since state line leads (Err why) orders h = tt
 cells_done words naming since state line leads (Ok counter) orders h = λ first second. record { sound = h; orders = orders }
 
-none_in_cell : (words : List Number) (naming : Naming) (since cell : ℕ) (state : State) (line : List ℕ) → are_listed (said_by line) ≡ false → state.counter.at ≡ at.Cell cell
+none_in_cell : (words : List Number) (naming : Naming) (since cell : ℕ) (state : State) (line : List ℕ) → are_listed (parsed_by line) ≡ false → state.counter.at ≡ at.Cell cell
     → AreShown words (order_of naming since state line) (mnemonic_at state.counter.at line)
 none_in_cell words naming since cell state line unlisted e =
     let none = no_order_in_cell naming since cell state line unlisted e in
@@ -172,12 +172,12 @@ banks_done words naming since state line s banks none p same =
     λ first second. record { sound = rw same p.sound; orders = no_orders words naming since state line s none p }
 
 ebank_done : (words : List Number) (naming : Naming) (since : ℕ) (state : State) (line : List ℕ) (cell : Result ℕ SourceFault) → Plain words naming since state line kind.Ebank
-    → IfOk (ebank_said state cell) (LineDone words naming since state line)
+    → IfOk (ebank_parsed state cell) (LineDone words naming since state line)
 ebank_done words naming since state line (Err why) p = tt
 ebank_done words naming since state line (Ok cell) p = banks_done words naming since state line kind.Ebank _ tt p (rw (p.unlisted, p.takes) refl)
 
 sbank_done : (words : List Number) (naming : Naming) (since : ℕ) (state : State) (line : List ℕ) (place : Result ℕ SourceFault) → Plain words naming since state line kind.Sbank
-    → IfOk (sbank_said state place) (LineDone words naming since state line)
+    → IfOk (sbank_parsed state place) (LineDone words naming since state line)
 sbank_done words naming since state line (Err why) p = tt
 sbank_done words naming since state line (Ok place) p = banks_done words naming since state line kind.Sbank _ tt p (rw (p.unlisted, p.takes) refl)
 
@@ -220,32 +220,32 @@ shape_done words naming since state line kind.Ebank p goes =
 shape_done words naming since state line kind.Sbank p goes =
     sbank_done words naming since state line (place_in (location_in naming (after_first (spelled (body_in line))))) p
 
-plain_done : (words : List Number) (naming : Naming) (since : ℕ) (state : State) (line : List ℕ) (s : Result LineKind SourceFault) → are_listed (said_by line) ≡ false → shape_of naming (spelled (body_in line)) ≡ s
+plain_done : (words : List Number) (naming : Naming) (since : ℕ) (state : State) (line : List ℕ) (s : Result LineKind SourceFault) → are_listed (parsed_by line) ≡ false → shape_of naming (spelled (body_in line)) ≡ s
     → Sound words since state.counter state.leads → IfOk (shape_woven naming state (body_in line) s) (LineDone words naming since state line)
 plain_done words naming since state line (Err why) unlisted e sound = tt
 plain_done words naming since state line (Ok s) unlisted e sound =
     shape_done words naming since state line s (record { unlisted = unlisted; takes = e; sound = sound }) (goes_into_rope naming (spelled (body_in line)) s e)
 
 -- a listing line
-pub listed_none : (line : List ℕ) (here : Where) → are_listed (said_by line) ≡ true → mnemonic_at here line ≡ []
+pub listed_none : (line : List ℕ) (here : Where) → are_listed (parsed_by line) ≡ true → mnemonic_at here line ≡ []
 unfolding mnemonic_of
 listed_none line (at.Bank bank) listed = rw listed refl
 listed_none line (at.Cell cell) listed = refl
 
-no_order_listed : (naming : Naming) (since : ℕ) (state : State) (line : List ℕ) → are_listed (said_by line) ≡ true → order_of naming since state line ≡ []
+no_order_listed : (naming : Naming) (since : ℕ) (state : State) (line : List ℕ) → are_listed (parsed_by line) ≡ true → order_of naming since state line ≡ []
 unfolding order_of
 no_order_listed naming since state line listed = rw listed refl
 
-listed_orders : (words : List Number) (naming : Naming) (since : ℕ) (state : State) (line : List ℕ) → are_listed (said_by line) ≡ true → AreShown words (order_of naming since state line) (mnemonic_at state.counter.at line)
+listed_orders : (words : List Number) (naming : Naming) (since : ℕ) (state : State) (line : List ℕ) → are_listed (parsed_by line) ≡ true → AreShown words (order_of naming since state line) (mnemonic_at state.counter.at line)
 listed_orders words naming since state line listed = rw (no_order_listed naming since state line listed, listed_none line state.counter.at listed) (none_shown words)
 
-listed_done : (words : List Number) (naming : Naming) (since : ℕ) (state : State) (line : List ℕ) (said : Result (Option PlacedWord) LineFault) → are_listed (said_by line) ≡ true
-    → Sound words since state.counter state.leads → IfOk (listed_woven state said) (LineDone words naming since state line)
+listed_done : (words : List Number) (naming : Naming) (since : ℕ) (state : State) (line : List ℕ) (parsed : Result (Option PlacedWord) LineFault) → are_listed (parsed_by line) ≡ true
+    → Sound words since state.counter state.leads → IfOk (listed_woven state parsed) (LineDone words naming since state line)
 listed_done words naming since state line (Err why) listed sound = tt
-listed_done words naming since state line (Ok said) listed sound =
+listed_done words naming since state line (Ok parsed) listed sound =
     λ first second. record { sound = rw listed sound; orders = listed_orders words naming since state line listed }
 
-line_by : (words : List Number) (naming : Naming) (since : ℕ) (state : State) (line : List ℕ) (listed : Bool) → are_listed (said_by line) ≡ listed → Sound words since state.counter state.leads
+line_by : (words : List Number) (naming : Naming) (since : ℕ) (state : State) (line : List ℕ) (listed : Bool) → are_listed (parsed_by line) ≡ listed → Sound words since state.counter state.leads
     → IfOk (line_woven naming state line) (LineDone words naming since state line)
 unfolding line_woven
 line_by words naming since state line true e sound = rw e (listed_done words naming since state line (line_named line) e sound)
@@ -254,7 +254,7 @@ line_by words naming since state line false e sound = rw e (plain_done words nam
 line_done : (words : List Number) (naming : Naming) (since : ℕ) (state : State) (line : List ℕ) (step : Step) → line_woven naming state line ≡ Ok step → Sound words since state.counter state.leads
     → LineDone words naming since state line step
 line_done words naming since state line step e sound =
-    let all = line_by words naming since state line (are_listed (said_by line)) refl sound in
+    let all = line_by words naming since state line (are_listed (parsed_by line)) refl sound in
     rw e at all
 
 -- one line after the other
@@ -275,16 +275,16 @@ pub mnemonics_more : (naming : Naming) (state : State) (line : List ℕ) (lines 
 unfolding mnemonics_from
 mnemonics_more naming state line lines step e = rw (e, mnemonics_from) refl
 
-pub shown_from : (words : List Number) (lines : List (List ℕ)) (n : ℕ) (naming : Naming) (since : ℕ) (state : State) (said final : List PlacedWord) → words_from n naming state said lines ≡ Ok final
+pub shown_from : (words : List Number) (lines : List (List ℕ)) (n : ℕ) (naming : Naming) (since : ℕ) (state : State) (parsed final : List PlacedWord) → words_from n naming state parsed lines ≡ Ok final
     → All (HasWord words) final → Sound words since state.counter state.leads → AreShown words (orders_from naming since state lines) (mnemonics_from naming state lines)
 unfolding orders_from mnemonics_from
-shown_from words [] n naming since state said final is has sound = none_shown words
-shown_from words (line ∷ lines) n naming since state said final is has sound =
-    let s = stepped n naming state said final line lines is in
+shown_from words [] n naming since state parsed final is has sound = none_shown words
+shown_from words (line ∷ lines) n naming since state parsed final is has sound =
+    let s = stepped n naming state parsed final line lines is in
     let more = all_before (HasWord words) lines (n + 1) naming s.step.state s.more final s.rest has in
-    let b = both said s.more s.step.first s.step.second s.both in
+    let b = both parsed s.more s.step.first s.step.second s.both in
     let second = holds (HasWord words) b.between s.more s.step.second b.other more in
-    let first = holds (HasWord words) said b.between s.step.first b.one second.before in
+    let first = holds (HasWord words) parsed b.between s.step.first b.one second.before in
     let done = line_done words naming since state (plain_line line) s.step s.woven sound first.here second.here in
     let since_next = since_after naming since (plain_line line) s.step.state.counter in
     let rest = shown_from words lines (n + 1) naming since_next s.step.state s.more final s.rest has done.sound in

@@ -64,17 +64,17 @@ pattern_again : (bits : ℕ) → bits < 2 ^ 15 → pattern_of 15 (number_from_pa
 pattern_again bits h = grind (arith, nat_tests)
 
 -- a listing shows a word that names the order of a line
-order_said : (extracode : Bool) (word : Number) → order_text extracode word
+order_parsed : (extracode : Bool) (word : Number) → order_text extracode word
     ≡ (row_of extracode (pattern_of 15 word)).mnemonic ++ operand_text (operand_in (row_of extracode (pattern_of 15 word)).takes (pattern_of 15 word))
 unfolding basic_text extracode_text
-order_said true word = refl
-order_said false word = refl
+order_parsed true word = refl
+order_parsed false word = refl
 
 is_listed : (words : List Number) (line : OrderLine) → Names line (pattern_of 15 (fixed_at line.place words)) → IsListed words line
 unfolding listed_line line_text
 is_listed words line n read has =
     let word = fixed_at line.place words in
-    rw (has, read, order_said line.extracode word, n.mnemonic, n.operand) refl
+    rw (has, read, order_parsed line.extracode word, n.mnemonic, n.operand) refl
 
 -- all that the law claims for a line
 pub record Shown (words : List Number) (line : OrderLine) : Type 0 where

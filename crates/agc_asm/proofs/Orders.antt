@@ -23,7 +23,7 @@ use Rattle.agc_listing.proofs.Prints.{both, digits_are_solid, digits_print, is_s
 use Rattle.agc_asm.specs.Encode.{less_than_zero, word_meaning, writes_order}
 use Rattle.agc_asm.specs.Operand.{as_address, as_channel, located, operand_for, value_of}
 use Rattle.agc_asm.specs.LineKind.{shape_of}
-use Rattle.agc_asm.specs.Disassemble.{shows_order, word_said}
+use Rattle.agc_asm.specs.Disassemble.{shows_order, order_or_digits}
 use Rattle.agc_listing.specs.Location.{begins_with_e, location_named}
 use Rattle.agc_listing.specs.declared.location.Location.TheVariants as location
 use Rattle.agc_asm.specs.declared.mnemonic.Directive.TheVariants as directive
@@ -35,11 +35,11 @@ use Rattle.agc_asm.specs.declared.line_kind.LineKind.TheVariants as kind
 use Rattle.agc_asm.specs.Mnemonic.{all_directives, directive_name, directive_named, is_order}
 use Rattle.agc_asm.specs.declared.fault.SourceFault.TheVariants as fault
 use Rattle.agc_asm.specs.Name.{Naming}
-use Rattle.agc_listing.specs.Number.{begins_with_minus, is_sign, octal_word, offset_said, without_sign}
+use Rattle.agc_listing.specs.Number.{begins_with_minus, is_sign, octal_word, offset_parsed, without_sign}
 use Rattle.agc_listing.specs.List.{listed_address}
 use Rattle.agc_asm.specs.Body.{alias_in, alias_name, alias_named, all_aliases, is_hash_byte, spelled, uncommented, without_adornment}
 use Rattle.agc_asm.specs.declared.encode.Banks.{Banks}
-use Rattle.agc_listing.specs.Text.{are_listed, is_place_text, said_by}
+use Rattle.agc_listing.specs.Text.{are_listed, is_place_text, parsed_by}
 use Rattle.agc_asm.proofs.Cut.{IsWord, says_one, says_two}
 use Rattle.agc_asm.proofs.Rows.{IsMnemonic, basic_by_name, basic_mnemonic, extracode_by_name, extracode_mnemonic, own_basic, own_extracode}
 
@@ -58,18 +58,18 @@ no_dash n = grind (arith, nat_tests)
 
 three_digits : (n : ℕ) → IsWord (octal_digits 3 n)
 unfolding octal_digits
-three_digits n = record { solid = digits_are_solid 3 n; some = refl; said = no_hash (n / 8 / 8) }
+three_digits n = record { solid = digits_are_solid 3 n; some = refl; parsed = no_hash (n / 8 / 8) }
 
 four_digits : (n : ℕ) → IsWord (octal_digits 4 n)
 unfolding octal_digits
-four_digits n = record { solid = digits_are_solid 4 n; some = refl; said = no_hash (n / 8 / 8 / 8) }
+four_digits n = record { solid = digits_are_solid 4 n; some = refl; parsed = no_hash (n / 8 / 8 / 8) }
 
 pub five_digits : (n : ℕ) → IsWord (octal_digits 5 n)
 unfolding octal_digits
-five_digits n = record { solid = digits_are_solid 5 n; some = refl; said = no_hash (n / 8 / 8 / 8 / 8) }
+five_digits n = record { solid = digits_are_solid 5 n; some = refl; parsed = no_hash (n / 8 / 8 / 8 / 8) }
 
-no_distance-three : (n : ℕ) → offset_said (octal_digits 3 n) ≡ None
-unfolding octal_digits offset_said
+no_distance-three : (n : ℕ) → offset_parsed (octal_digits 3 n) ≡ None
+unfolding octal_digits offset_parsed
 no_distance-three n = rw (no_sign (n / 8 / 8)) refl
 
 no_comment-three : (n : ℕ) → position is_hash_byte (octal_digits 3 n) ≡ None
@@ -88,8 +88,8 @@ unsigned : (n : ℕ) → (begins_with_minus (octal_digits 5 n) ≡ false) × (wi
 unfolding octal_digits
 unsigned n = (no_dash (n / 8 / 8 / 8 / 8), rw (no_sign (n / 8 / 8 / 8 / 8)) refl)
 
-no_distance-four : (n : ℕ) → offset_said (octal_digits 4 n) ≡ None
-unfolding octal_digits offset_said
+no_distance-four : (n : ℕ) → offset_parsed (octal_digits 4 n) ≡ None
+unfolding octal_digits offset_parsed
 no_distance-four n = rw (no_sign (n / 8 / 8 / 8)) refl
 
 -- and read back as the number
@@ -127,7 +127,7 @@ operand_back takes.MemoryPair bits naming here = address_back naming here ((bits
 operand_back takes.Channel bits naming here = channel_back naming here (bits % 0o1000) (omega arith)
 
 -- what the line of an order means
-order_says : (name : List ℕ) (o : Operand) → IsWord name → said_by (codes "        " ++ (name ++ operand_text o)) ≡ name ∷ operand_words o
+order_says : (name : List ℕ) (o : Operand) → IsWord name → parsed_by (codes "        " ++ (name ++ operand_text o)) ≡ name ∷ operand_words o
 order_says name operand.Nothing h = rw (append-nil name) (says_one name h)
 order_says name (operand.Address k) h = says_two name (octal_digits 4 k) h (four_digits k)
 order_says name (operand.Channel c) h = says_two name (octal_digits 3 c) h (three_digits c)
@@ -170,11 +170,11 @@ unfolding writes_order
 order_writes name o m = rw (m.no_minus, order_spelled name (operand_words o) m, m.no_directive, not_less o) refl
 
 -- what a line means that is read as a word
-pub record Says (wanted order : Bool) (word : Number) (said : List (List ℕ)) : Type 0 where
-  pub takes_up : (naming : Naming) → shape_of naming (spelled said) ≡ Ok kind.Word
-  pub means : (naming : Naming) (here : ℕ) (banks : Banks) → word_meaning naming here wanted banks said ≡ Ok word
-  pub writes : writes_order said ≡ order
-  pub plain : IsPlain said
+pub record Says (wanted order : Bool) (word : Number) (parsed : List (List ℕ)) : Type 0 where
+  pub takes_up : (naming : Naming) → shape_of naming (spelled parsed) ≡ Ok kind.Word
+  pub means : (naming : Naming) (here : ℕ) (banks : Banks) → word_meaning naming here wanted banks parsed ≡ Ok word
+  pub writes : writes_order parsed ≡ order
+  pub plain : IsPlain parsed
 
 -- an order with its word is no other order
 meant_by : (b : Basic) (o : Operand) (bits : ℕ) (other : Bool) → is_of_another b o ≡ other → basic_word b o ≡ Ok bits → is_of_another b o ≡ false
@@ -186,7 +186,7 @@ own_meant : (b : Basic) (o : Operand) (bits : ℕ) → basic_word b o ≡ Ok bit
 own_meant b o bits is = meant_by b o bits (is_of_another b o) refl is
 
 basic_line : (b : Basic) (word : Number) → word.magnitude < 2 ^ 14 → basic_of (pattern_of 15 word) ≡ b
-    → Says false true word (said_by (codes "        " ++ row_text (basic_row b) (pattern_of 15 word)))
+    → Says false true word (parsed_by (codes "        " ++ row_text (basic_row b) (pattern_of 15 word)))
 unfolding word_meaning
 basic_line b word narrow is =
     let p = pattern_of 15 word in
@@ -206,7 +206,7 @@ basic_line b word narrow is =
     })
 
 extracode_line : (e : Extracode) (word : Number) → word.magnitude < 2 ^ 14 → extracode_of (pattern_of 15 word) ≡ e
-    → Says true true word (said_by (codes "        " ++ row_text (extracode_row e) (pattern_of 15 word)))
+    → Says true true word (parsed_by (codes "        " ++ row_text (extracode_row e) (pattern_of 15 word)))
 unfolding word_meaning
 extracode_line e word narrow is =
     let p = pattern_of 15 word in
@@ -238,19 +238,19 @@ unfolding alias_named alias_name all_aliases
 oct_alias words = refl
 
 oct_no_adornment : {words : List (List ℕ)} → without_adornment (codes "OCT" ∷ words) ≡ codes "OCT" ∷ words
-unfolding offset_said
+unfolding offset_parsed
 oct_no_adornment = refl
 
 oct_plain : (p : ℕ) → IsPlain (codes "OCT" ∷ octal_digits 5 p ∷ [])
 oct_plain p = rw (uncommented_two (codes "OCT") (octal_digits 5 p) refl (no_comment-five p)) oct_no_adornment
 
-octal_line : (wanted : Bool) (word : Number) → word.magnitude < 2 ^ 14 → Says wanted false word (said_by (codes "        OCT " ++ octal_digits 5 (pattern_of 15 word)))
+octal_line : (wanted : Bool) (word : Number) → word.magnitude < 2 ^ 14 → Says wanted false word (parsed_by (codes "        OCT " ++ octal_digits 5 (pattern_of 15 word)))
 unfolding word_meaning octal_word writes_order
 octal_line wanted word narrow =
     let p = pattern_of 15 word in
-    let oct : IsWord (codes "OCT") = record { solid = refl; some = refl; said = refl } in
+    let oct : IsWord (codes "OCT") = record { solid = refl; some = refl; parsed = refl } in
     let digits = octal_digits 5 p in
-    let cut : said_by (codes "        OCT " ++ digits) ≡ codes "OCT" ∷ digits ∷ [] = says_two (codes "OCT") digits oct (five_digits p) in
+    let cut : parsed_by (codes "        OCT " ++ digits) ≡ codes "OCT" ∷ digits ∷ [] = says_two (codes "OCT") digits oct (five_digits p) in
     rw cut
     (record {
       takes_up = λ naming. rw (oct_spelled (digits ∷ []), octal_directive) refl;
@@ -262,9 +262,9 @@ octal_line wanted word narrow =
 
 -- the line of a word, without its line feed
 abbrev pub word_line : Bool → Bool → Number → List ℕ
-word_line wanted extracode word = codes "        " ++ word_said wanted extracode word
+word_line wanted extracode word = codes "        " ++ order_or_digits wanted extracode word
 
-pub word_line_says : (wanted extracode : Bool) (word : Number) → word.magnitude < 2 ^ 14 → Says wanted (shows_order wanted extracode) word (said_by (word_line wanted extracode word))
+pub word_line_says : (wanted extracode : Bool) (word : Number) → word.magnitude < 2 ^ 14 → Says wanted (shows_order wanted extracode) word (parsed_by (word_line wanted extracode word))
 unfolding basic_text extracode_text
 word_line_says true true word narrow = extracode_line (extracode_of (pattern_of 15 word)) word narrow refl
 word_line_says false false word narrow = basic_line (basic_of (pattern_of 15 word)) word narrow refl
@@ -278,20 +278,20 @@ word_line_prints true false word = both prints (codes "        OCT ") (octal_dig
 word_line_prints false true word = both prints (codes "        OCT ") (octal_digits 5 (pattern_of 15 word)) refl (digits_print 5 (pattern_of 15 word))
 
 -- it is not a listing line
-unlisted-row : (name : List ℕ) (o : Operand) → IsMnemonic name → are_listed (said_by (codes "        " ++ (name ++ operand_text o))) ≡ false
+unlisted-row : (name : List ℕ) (o : Operand) → IsMnemonic name → are_listed (parsed_by (codes "        " ++ (name ++ operand_text o))) ≡ false
 unlisted-row name o h = rw (order_says name o h.word, h.no_place) refl
 
 no_place-oct : is_place_text (codes "OCT") ≡ false
 unfolding is_place_text
 no_place-oct = refl
 
-unlisted-oct : (p : ℕ) → are_listed (said_by (codes "        OCT " ++ octal_digits 5 p)) ≡ false
+unlisted-oct : (p : ℕ) → are_listed (parsed_by (codes "        OCT " ++ octal_digits 5 p)) ≡ false
 unlisted-oct p =
-    let oct : IsWord (codes "OCT") = record { solid = refl; some = refl; said = refl } in
-    let cut : said_by (codes "        OCT " ++ octal_digits 5 p) ≡ codes "OCT" ∷ octal_digits 5 p ∷ [] = says_two (codes "OCT") (octal_digits 5 p) oct (five_digits p) in
+    let oct : IsWord (codes "OCT") = record { solid = refl; some = refl; parsed = refl } in
+    let cut : parsed_by (codes "        OCT " ++ octal_digits 5 p) ≡ codes "OCT" ∷ octal_digits 5 p ∷ [] = says_two (codes "OCT") (octal_digits 5 p) oct (five_digits p) in
     rw cut no_place-oct
 
-pub word_line_unlisted : (wanted extracode : Bool) (word : Number) → are_listed (said_by (word_line wanted extracode word)) ≡ false
+pub word_line_unlisted : (wanted extracode : Bool) (word : Number) → are_listed (parsed_by (word_line wanted extracode word)) ≡ false
 unfolding basic_text extracode_text
 word_line_unlisted true true word =
     let p = pattern_of 15 word in
@@ -330,7 +330,7 @@ unfolding location_named
 location_back place h = rw (no_e place, not_alone place, place_back place h) refl
 
 place_word : (place : ℕ) → IsWord (place_text (listed_place place))
-place_word place = record { solid = place_passes is_solid digits_are_solid refl place; some = place_is_some place; said = place_is_no_comment place }
+place_word place = record { solid = place_passes is_solid digits_are_solid refl place; some = place_is_some place; parsed = place_is_no_comment place }
 
 goes_to : directive_named (codes "SETLOC") ≡ Some directive.SetLoc
 unfolding directive_named directive_name all_directives
@@ -340,9 +340,9 @@ no_place-setloc : is_place_text (codes "SETLOC") ≡ false
 unfolding is_place_text
 no_place-setloc = refl
 
-place_line_says : (place : ℕ) → said_by (place_line place) ≡ codes "SETLOC" ∷ place_text (listed_place place) ∷ []
+place_line_says : (place : ℕ) → parsed_by (place_line place) ≡ codes "SETLOC" ∷ place_text (listed_place place) ∷ []
 place_line_says place =
-    let setloc : IsWord (codes "SETLOC") = record { solid = refl; some = refl; said = refl } in
+    let setloc : IsWord (codes "SETLOC") = record { solid = refl; some = refl; parsed = refl } in
     says_two (codes "SETLOC") (place_text (listed_place place)) setloc (place_word place)
 
 setloc_spelled : (words : List (List ℕ)) → spelled (codes "SETLOC" ∷ words) ≡ codes "SETLOC" ∷ words
@@ -352,20 +352,20 @@ setloc_spelled words = refl
 in_rope : (place : ℕ) → place < 0o110000 → located (Some (location.Fixed place)) ≡ Ok (location.Fixed place)
 in_rope place h = grind (arith, nat_tests)
 
-pub place_line_moves : (place : ℕ) → place < 0o110000 → (naming : Naming) → shape_of naming (spelled (said_by (place_line place))) ≡ Ok (kind.Moves (location.Fixed place))
+pub place_line_moves : (place : ℕ) → place < 0o110000 → (naming : Naming) → shape_of naming (spelled (parsed_by (place_line place))) ≡ Ok (kind.Moves (location.Fixed place))
 place_line_moves place h naming =
     rw (place_line_says place, setloc_spelled (place_text (listed_place place) ∷ []), goes_to, no_number place, location_back place h, in_rope place h) refl
 
 no_adornment-setloc : (words : List (List ℕ)) → without_adornment (codes "SETLOC" ∷ words) ≡ codes "SETLOC" ∷ words
-unfolding offset_said
+unfolding offset_parsed
 no_adornment-setloc words = refl
 
-pub place_line_plain : (place : ℕ) → IsPlain (said_by (place_line place))
+pub place_line_plain : (place : ℕ) → IsPlain (parsed_by (place_line place))
 place_line_plain place =
     let text = place_text (listed_place place) in
     rw (place_line_says place, uncommented_two (codes "SETLOC") text refl (no_comment-place place)) (no_adornment-setloc (text ∷ []))
 
-pub place_line_unlisted : (place : ℕ) → are_listed (said_by (place_line place)) ≡ false
+pub place_line_unlisted : (place : ℕ) → are_listed (parsed_by (place_line place)) ≡ false
 place_line_unlisted place = rw (place_line_says place, no_place-setloc) refl
 
 pub place_line_prints : (place : ℕ) → list_all prints (place_line place) ≡ true

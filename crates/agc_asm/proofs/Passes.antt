@@ -6,7 +6,7 @@ use Rattle.agc_word.specs.Text.{lines_of}
 use Rattle.agc_listing.specs.declared.line.PlacedWord.{PlacedWord}
 use Rattle.agc_asm.specs.LocationCounter.{first_cursor}
 use Rattle.agc_asm.specs.Name.{Naming}
-use Rattle.agc_asm.specs.Source.{both_said, first_names, first_state, found_from, line_labelled, line_woven, names_from, names_in, naming_after, told_at, words_from, words_in}
+use Rattle.agc_asm.specs.Source.{two_added, first_names, first_state, found_from, line_labelled, line_woven, names_from, names_in, naming_after, reported_at, words_from, words_in}
 use Rattle.agc_listing.specs.Text.{label_of}
 use Rattle.agc_asm.specs.declared.location_counter.LocationCounter.{LocationCounter}
 use Rattle.agc_asm.specs.declared.fault.SourceFault.{SourceFault}
@@ -34,36 +34,36 @@ unfolding names_from names_in
 all_named text n naming counter same = sym same
 
 -- the same in the second pass
-pub next_woven : (n : ℕ) (naming : Naming) (state : State) (said more : List PlacedWord) (line : List ℕ) (lines : List (List ℕ)) (step : Step) → line_woven naming state (plain_line line) ≡ Ok step
-    → both_said said step.first step.second ≡ Ok more → words_from n naming state said (line ∷ lines) ≡ words_from (n + 1) naming step.state more lines
+pub next_woven : (n : ℕ) (naming : Naming) (state : State) (parsed more : List PlacedWord) (line : List ℕ) (lines : List (List ℕ)) (step : Step) → line_woven naming state (plain_line line) ≡ Ok step
+    → two_added parsed step.first step.second ≡ Ok more → words_from n naming state parsed (line ∷ lines) ≡ words_from (n + 1) naming step.state more lines
 unfolding words_from
-next_woven n naming state said more line lines step e f = rw (e, words_from) (rw f)
+next_woven n naming state parsed more line lines step e f = rw (e, words_from) (rw f)
 
-pub faulty_line : (text : List ℕ) (n : ℕ) (naming : Naming) (state : State) (said : List PlacedWord) (line : List ℕ) (lines : List (List ℕ)) (why : SourceFault)
-    → words_from n naming state said (line ∷ lines) ≡ words_from 1 naming first_state [] (lines_of text) → line_woven naming state (plain_line line) ≡ Err why → words_in naming text ≡ Err (trouble.Line n why)
+pub faulty_line : (text : List ℕ) (n : ℕ) (naming : Naming) (state : State) (parsed : List PlacedWord) (line : List ℕ) (lines : List (List ℕ)) (why : SourceFault)
+    → words_from n naming state parsed (line ∷ lines) ≡ words_from 1 naming first_state [] (lines_of text) → line_woven naming state (plain_line line) ≡ Err why → words_in naming text ≡ Err (trouble.Line n why)
 unfolding words_from words_in
-faulty_line text n naming state said line lines why same e = rw (← same, e, words_from)
+faulty_line text n naming state parsed line lines why same e = rw (← same, e, words_from)
 
 -- words whose places are taken
-wrongly : (n : ℕ) (naming : Naming) (state : State) (said : List PlacedWord) (line : List ℕ) (lines : List (List ℕ)) (step : Step) (why : AssemblyFault) (both : Result (List PlacedWord) SourceFault)
-    → line_woven naming state (plain_line line) ≡ Ok step → both_said said step.first step.second ≡ both → told_at n both ≡ Err why → words_from n naming state said (line ∷ lines) ≡ Err why
+wrongly : (n : ℕ) (naming : Naming) (state : State) (parsed : List PlacedWord) (line : List ℕ) (lines : List (List ℕ)) (step : Step) (why : AssemblyFault) (both : Result (List PlacedWord) SourceFault)
+    → line_woven naming state (plain_line line) ≡ Ok step → two_added parsed step.first step.second ≡ both → reported_at n both ≡ Err why → words_from n naming state parsed (line ∷ lines) ≡ Err why
 unfolding words_from
-wrongly n naming state said line lines step why (Ok more) e is f = absurd cc
-wrongly n naming state said line lines step why (Err fault) e is f = rw (e, words_from) (rw is f)
+wrongly n naming state parsed line lines step why (Ok more) e is f = absurd cc
+wrongly n naming state parsed line lines step why (Err fault) e is f = rw (e, words_from) (rw is f)
 
-said_wrongly : (n : ℕ) (naming : Naming) (state : State) (said : List PlacedWord) (line : List ℕ) (lines : List (List ℕ)) (step : Step) (why : AssemblyFault) → line_woven naming state (plain_line line) ≡ Ok step
-    → told_at n (both_said said step.first step.second) ≡ Err why → words_from n naming state said (line ∷ lines) ≡ Err why
-said_wrongly n naming state said line lines step why e f = wrongly n naming state said line lines step why (both_said said step.first step.second) e refl f
+parsed_wrongly : (n : ℕ) (naming : Naming) (state : State) (parsed : List PlacedWord) (line : List ℕ) (lines : List (List ℕ)) (step : Step) (why : AssemblyFault) → line_woven naming state (plain_line line) ≡ Ok step
+    → reported_at n (two_added parsed step.first step.second) ≡ Err why → words_from n naming state parsed (line ∷ lines) ≡ Err why
+parsed_wrongly n naming state parsed line lines step why e f = wrongly n naming state parsed line lines step why (two_added parsed step.first step.second) e refl f
 
-pub faulty_words : (text : List ℕ) (n : ℕ) (naming : Naming) (state : State) (said : List PlacedWord) (line : List ℕ) (lines : List (List ℕ)) (step : Step) (why : AssemblyFault)
-    → words_from n naming state said (line ∷ lines) ≡ words_from 1 naming first_state [] (lines_of text) → line_woven naming state (plain_line line) ≡ Ok step → told_at n (both_said said step.first step.second) ≡ Err why
+pub faulty_words : (text : List ℕ) (n : ℕ) (naming : Naming) (state : State) (parsed : List PlacedWord) (line : List ℕ) (lines : List (List ℕ)) (step : Step) (why : AssemblyFault)
+    → words_from n naming state parsed (line ∷ lines) ≡ words_from 1 naming first_state [] (lines_of text) → line_woven naming state (plain_line line) ≡ Ok step → reported_at n (two_added parsed step.first step.second) ≡ Err why
     → words_in naming text ≡ Err why
 unfolding words_in
-faulty_words text n naming state said line lines step why same e f = sym same ∙ said_wrongly n naming state said line lines step why e f
+faulty_words text n naming state parsed line lines step why same e f = sym same ∙ parsed_wrongly n naming state parsed line lines step why e f
 
-pub all_woven : (text : List ℕ) (n : ℕ) (naming : Naming) (state : State) (said : List PlacedWord) → words_from n naming state said [] ≡ words_from 1 naming first_state [] (lines_of text) → words_in naming text ≡ Ok said
+pub all_woven : (text : List ℕ) (n : ℕ) (naming : Naming) (state : State) (parsed : List PlacedWord) → words_from n naming state parsed [] ≡ words_from 1 naming first_state [] (lines_of text) → words_in naming text ≡ Ok parsed
 unfolding words_from words_in
-all_woven text n naming state said same = sym same
+all_woven text n naming state parsed same = sym same
 
 -- an earlier reading
 pub next_found : (naming : Naming) (counter : LocationCounter) (line : List ℕ) (lines : List (List ℕ)) (next : Labelled) → line_labelled naming counter (plain_line line) ≡ Ok next

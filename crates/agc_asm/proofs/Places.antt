@@ -7,7 +7,7 @@ use Rattle.agc_word.specs.Number.{Number, pattern_of}
 use Rattle.agc_store.specs.Memory.{fixed_at}
 use Rattle.agc_listing.specs.Order.{next_is_extracode}
 use Rattle.agc_listing.proofs.RopeLines.{range_more}
-use Rattle.agc_asm.specs.Disassemble.{is_wanted_at, resolve, resolve_range, shows_order, text_said, follows_word}
+use Rattle.agc_asm.specs.Disassemble.{is_wanted_at, resolve, resolve_range, shows_order, text_at_place, follows_word}
 use Rattle.agc_listing.specs.List.{starts_run, is_extracode_at}
 
 -- no lines yet
@@ -31,7 +31,7 @@ places_more bank words count =
 pub text_more : (bank : Option ℕ) (words : List Number) (count : ℕ) (follows wanted extracode : Bool) (word : Number) (old text new : List ℕ)
     → follows ≡ follows_word words count → wanted ≡ is_wanted_at words count → extracode ≡ is_extracode_at words count → word ≡ fixed_at count words
     → text ≡ old ++ resolve_range count bank words
-    → new ≡ text ++ text_said bank count follows wanted extracode word → new ≡ old ++ resolve_range (count + 1) bank words
+    → new ≡ text ++ text_at_place bank count follows wanted extracode word → new ≡ old ++ resolve_range (count + 1) bank words
 unfolding resolve
 text_more bank words count follows wanted extracode word old text new does_follow is_wanted is_extracode is_word so_far is =
     rw (is, so_far, places_more bank words count, does_follow, is_wanted, is_extracode, is_word) (append_assoc old (resolve_range count bank words) (resolve bank words count))

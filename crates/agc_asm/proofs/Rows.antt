@@ -11,7 +11,7 @@ use Rattle.agc_order.specs.declared.order.Extracode.TheVariants as extra
 use Rattle.agc_listing.specs.Order.{operand_in}
 use Rattle.agc_asm.specs.Mnemonic.{all_directives, basic_named, directive_name, directive_named, extracode_named}
 use Rattle.agc_asm.specs.Row.{basic_word, extracode_word}
-use Rattle.agc_listing.specs.Number.{begins_with_minus, offset_said}
+use Rattle.agc_listing.specs.Number.{begins_with_minus, offset_parsed}
 use Rattle.agc_listing.specs.Text.{is_place_text}
 use Rattle.agc_asm.specs.Body.{alias_name, alias_named, all_aliases, is_hash_byte, without_minus}
 use Rattle.agc_asm.proofs.Cut.{IsWord}
@@ -22,55 +22,55 @@ pub record IsMnemonic (name : List ℕ) : Type 0 where
   pub no_place : is_place_text name ≡ false
   pub no_directive : directive_named name ≡ None
   pub no_comment : position is_hash_byte name ≡ None
-  pub no_adornment : offset_said name ≡ None
+  pub no_adornment : offset_parsed name ≡ None
   pub plain : without_minus name ≡ name
   pub no_minus : begins_with_minus name ≡ false
   pub no_alias : alias_named name ≡ None
 
 pub basic_mnemonic : (b : Basic) → IsMnemonic (basic_row b).mnemonic
-unfolding is_place_text directive_named directive_name all_directives offset_said alias_named alias_name all_aliases
-basic_mnemonic basic.Tc = record { word = record { solid = refl; some = refl; said = refl }; no_place = refl; no_directive = refl; no_comment = refl; no_adornment = refl; plain = refl; no_minus = refl; no_alias = refl }
-basic_mnemonic basic.Relint = record { word = record { solid = refl; some = refl; said = refl }; no_place = refl; no_directive = refl; no_comment = refl; no_adornment = refl; plain = refl; no_minus = refl; no_alias = refl }
-basic_mnemonic basic.Inhint = record { word = record { solid = refl; some = refl; said = refl }; no_place = refl; no_directive = refl; no_comment = refl; no_adornment = refl; plain = refl; no_minus = refl; no_alias = refl }
-basic_mnemonic basic.Extend = record { word = record { solid = refl; some = refl; said = refl }; no_place = refl; no_directive = refl; no_comment = refl; no_adornment = refl; plain = refl; no_minus = refl; no_alias = refl }
-basic_mnemonic basic.Ccs = record { word = record { solid = refl; some = refl; said = refl }; no_place = refl; no_directive = refl; no_comment = refl; no_adornment = refl; plain = refl; no_minus = refl; no_alias = refl }
-basic_mnemonic basic.Tcf = record { word = record { solid = refl; some = refl; said = refl }; no_place = refl; no_directive = refl; no_comment = refl; no_adornment = refl; plain = refl; no_minus = refl; no_alias = refl }
-basic_mnemonic basic.Das = record { word = record { solid = refl; some = refl; said = refl }; no_place = refl; no_directive = refl; no_comment = refl; no_adornment = refl; plain = refl; no_minus = refl; no_alias = refl }
-basic_mnemonic basic.Lxch = record { word = record { solid = refl; some = refl; said = refl }; no_place = refl; no_directive = refl; no_comment = refl; no_adornment = refl; plain = refl; no_minus = refl; no_alias = refl }
-basic_mnemonic basic.Incr = record { word = record { solid = refl; some = refl; said = refl }; no_place = refl; no_directive = refl; no_comment = refl; no_adornment = refl; plain = refl; no_minus = refl; no_alias = refl }
-basic_mnemonic basic.Ads = record { word = record { solid = refl; some = refl; said = refl }; no_place = refl; no_directive = refl; no_comment = refl; no_adornment = refl; plain = refl; no_minus = refl; no_alias = refl }
-basic_mnemonic basic.Ca = record { word = record { solid = refl; some = refl; said = refl }; no_place = refl; no_directive = refl; no_comment = refl; no_adornment = refl; plain = refl; no_minus = refl; no_alias = refl }
-basic_mnemonic basic.Cs = record { word = record { solid = refl; some = refl; said = refl }; no_place = refl; no_directive = refl; no_comment = refl; no_adornment = refl; plain = refl; no_minus = refl; no_alias = refl }
-basic_mnemonic basic.Index = record { word = record { solid = refl; some = refl; said = refl }; no_place = refl; no_directive = refl; no_comment = refl; no_adornment = refl; plain = refl; no_minus = refl; no_alias = refl }
-basic_mnemonic basic.Resume = record { word = record { solid = refl; some = refl; said = refl }; no_place = refl; no_directive = refl; no_comment = refl; no_adornment = refl; plain = refl; no_minus = refl; no_alias = refl }
-basic_mnemonic basic.Dxch = record { word = record { solid = refl; some = refl; said = refl }; no_place = refl; no_directive = refl; no_comment = refl; no_adornment = refl; plain = refl; no_minus = refl; no_alias = refl }
-basic_mnemonic basic.Ts = record { word = record { solid = refl; some = refl; said = refl }; no_place = refl; no_directive = refl; no_comment = refl; no_adornment = refl; plain = refl; no_minus = refl; no_alias = refl }
-basic_mnemonic basic.Xch = record { word = record { solid = refl; some = refl; said = refl }; no_place = refl; no_directive = refl; no_comment = refl; no_adornment = refl; plain = refl; no_minus = refl; no_alias = refl }
-basic_mnemonic basic.Ad = record { word = record { solid = refl; some = refl; said = refl }; no_place = refl; no_directive = refl; no_comment = refl; no_adornment = refl; plain = refl; no_minus = refl; no_alias = refl }
-basic_mnemonic basic.Mask = record { word = record { solid = refl; some = refl; said = refl }; no_place = refl; no_directive = refl; no_comment = refl; no_adornment = refl; plain = refl; no_minus = refl; no_alias = refl }
+unfolding is_place_text directive_named directive_name all_directives offset_parsed alias_named alias_name all_aliases
+basic_mnemonic basic.Tc = record { word = record { solid = refl; some = refl; parsed = refl }; no_place = refl; no_directive = refl; no_comment = refl; no_adornment = refl; plain = refl; no_minus = refl; no_alias = refl }
+basic_mnemonic basic.Relint = record { word = record { solid = refl; some = refl; parsed = refl }; no_place = refl; no_directive = refl; no_comment = refl; no_adornment = refl; plain = refl; no_minus = refl; no_alias = refl }
+basic_mnemonic basic.Inhint = record { word = record { solid = refl; some = refl; parsed = refl }; no_place = refl; no_directive = refl; no_comment = refl; no_adornment = refl; plain = refl; no_minus = refl; no_alias = refl }
+basic_mnemonic basic.Extend = record { word = record { solid = refl; some = refl; parsed = refl }; no_place = refl; no_directive = refl; no_comment = refl; no_adornment = refl; plain = refl; no_minus = refl; no_alias = refl }
+basic_mnemonic basic.Ccs = record { word = record { solid = refl; some = refl; parsed = refl }; no_place = refl; no_directive = refl; no_comment = refl; no_adornment = refl; plain = refl; no_minus = refl; no_alias = refl }
+basic_mnemonic basic.Tcf = record { word = record { solid = refl; some = refl; parsed = refl }; no_place = refl; no_directive = refl; no_comment = refl; no_adornment = refl; plain = refl; no_minus = refl; no_alias = refl }
+basic_mnemonic basic.Das = record { word = record { solid = refl; some = refl; parsed = refl }; no_place = refl; no_directive = refl; no_comment = refl; no_adornment = refl; plain = refl; no_minus = refl; no_alias = refl }
+basic_mnemonic basic.Lxch = record { word = record { solid = refl; some = refl; parsed = refl }; no_place = refl; no_directive = refl; no_comment = refl; no_adornment = refl; plain = refl; no_minus = refl; no_alias = refl }
+basic_mnemonic basic.Incr = record { word = record { solid = refl; some = refl; parsed = refl }; no_place = refl; no_directive = refl; no_comment = refl; no_adornment = refl; plain = refl; no_minus = refl; no_alias = refl }
+basic_mnemonic basic.Ads = record { word = record { solid = refl; some = refl; parsed = refl }; no_place = refl; no_directive = refl; no_comment = refl; no_adornment = refl; plain = refl; no_minus = refl; no_alias = refl }
+basic_mnemonic basic.Ca = record { word = record { solid = refl; some = refl; parsed = refl }; no_place = refl; no_directive = refl; no_comment = refl; no_adornment = refl; plain = refl; no_minus = refl; no_alias = refl }
+basic_mnemonic basic.Cs = record { word = record { solid = refl; some = refl; parsed = refl }; no_place = refl; no_directive = refl; no_comment = refl; no_adornment = refl; plain = refl; no_minus = refl; no_alias = refl }
+basic_mnemonic basic.Index = record { word = record { solid = refl; some = refl; parsed = refl }; no_place = refl; no_directive = refl; no_comment = refl; no_adornment = refl; plain = refl; no_minus = refl; no_alias = refl }
+basic_mnemonic basic.Resume = record { word = record { solid = refl; some = refl; parsed = refl }; no_place = refl; no_directive = refl; no_comment = refl; no_adornment = refl; plain = refl; no_minus = refl; no_alias = refl }
+basic_mnemonic basic.Dxch = record { word = record { solid = refl; some = refl; parsed = refl }; no_place = refl; no_directive = refl; no_comment = refl; no_adornment = refl; plain = refl; no_minus = refl; no_alias = refl }
+basic_mnemonic basic.Ts = record { word = record { solid = refl; some = refl; parsed = refl }; no_place = refl; no_directive = refl; no_comment = refl; no_adornment = refl; plain = refl; no_minus = refl; no_alias = refl }
+basic_mnemonic basic.Xch = record { word = record { solid = refl; some = refl; parsed = refl }; no_place = refl; no_directive = refl; no_comment = refl; no_adornment = refl; plain = refl; no_minus = refl; no_alias = refl }
+basic_mnemonic basic.Ad = record { word = record { solid = refl; some = refl; parsed = refl }; no_place = refl; no_directive = refl; no_comment = refl; no_adornment = refl; plain = refl; no_minus = refl; no_alias = refl }
+basic_mnemonic basic.Mask = record { word = record { solid = refl; some = refl; parsed = refl }; no_place = refl; no_directive = refl; no_comment = refl; no_adornment = refl; plain = refl; no_minus = refl; no_alias = refl }
 
 pub extracode_mnemonic : (e : Extracode) → IsMnemonic (extracode_row e).mnemonic
-unfolding is_place_text directive_named directive_name all_directives offset_said alias_named alias_name all_aliases
-extracode_mnemonic extra.Read = record { word = record { solid = refl; some = refl; said = refl }; no_place = refl; no_directive = refl; no_comment = refl; no_adornment = refl; plain = refl; no_minus = refl; no_alias = refl }
-extracode_mnemonic extra.Write = record { word = record { solid = refl; some = refl; said = refl }; no_place = refl; no_directive = refl; no_comment = refl; no_adornment = refl; plain = refl; no_minus = refl; no_alias = refl }
-extracode_mnemonic extra.Rand = record { word = record { solid = refl; some = refl; said = refl }; no_place = refl; no_directive = refl; no_comment = refl; no_adornment = refl; plain = refl; no_minus = refl; no_alias = refl }
-extracode_mnemonic extra.Wand = record { word = record { solid = refl; some = refl; said = refl }; no_place = refl; no_directive = refl; no_comment = refl; no_adornment = refl; plain = refl; no_minus = refl; no_alias = refl }
-extracode_mnemonic extra.Ror = record { word = record { solid = refl; some = refl; said = refl }; no_place = refl; no_directive = refl; no_comment = refl; no_adornment = refl; plain = refl; no_minus = refl; no_alias = refl }
-extracode_mnemonic extra.Wor = record { word = record { solid = refl; some = refl; said = refl }; no_place = refl; no_directive = refl; no_comment = refl; no_adornment = refl; plain = refl; no_minus = refl; no_alias = refl }
-extracode_mnemonic extra.Rxor = record { word = record { solid = refl; some = refl; said = refl }; no_place = refl; no_directive = refl; no_comment = refl; no_adornment = refl; plain = refl; no_minus = refl; no_alias = refl }
-extracode_mnemonic extra.Edrupt = record { word = record { solid = refl; some = refl; said = refl }; no_place = refl; no_directive = refl; no_comment = refl; no_adornment = refl; plain = refl; no_minus = refl; no_alias = refl }
-extracode_mnemonic extra.Dv = record { word = record { solid = refl; some = refl; said = refl }; no_place = refl; no_directive = refl; no_comment = refl; no_adornment = refl; plain = refl; no_minus = refl; no_alias = refl }
-extracode_mnemonic extra.Bzf = record { word = record { solid = refl; some = refl; said = refl }; no_place = refl; no_directive = refl; no_comment = refl; no_adornment = refl; plain = refl; no_minus = refl; no_alias = refl }
-extracode_mnemonic extra.Msu = record { word = record { solid = refl; some = refl; said = refl }; no_place = refl; no_directive = refl; no_comment = refl; no_adornment = refl; plain = refl; no_minus = refl; no_alias = refl }
-extracode_mnemonic extra.Qxch = record { word = record { solid = refl; some = refl; said = refl }; no_place = refl; no_directive = refl; no_comment = refl; no_adornment = refl; plain = refl; no_minus = refl; no_alias = refl }
-extracode_mnemonic extra.Aug = record { word = record { solid = refl; some = refl; said = refl }; no_place = refl; no_directive = refl; no_comment = refl; no_adornment = refl; plain = refl; no_minus = refl; no_alias = refl }
-extracode_mnemonic extra.Dim = record { word = record { solid = refl; some = refl; said = refl }; no_place = refl; no_directive = refl; no_comment = refl; no_adornment = refl; plain = refl; no_minus = refl; no_alias = refl }
-extracode_mnemonic extra.Dca = record { word = record { solid = refl; some = refl; said = refl }; no_place = refl; no_directive = refl; no_comment = refl; no_adornment = refl; plain = refl; no_minus = refl; no_alias = refl }
-extracode_mnemonic extra.Dcs = record { word = record { solid = refl; some = refl; said = refl }; no_place = refl; no_directive = refl; no_comment = refl; no_adornment = refl; plain = refl; no_minus = refl; no_alias = refl }
-extracode_mnemonic extra.Index = record { word = record { solid = refl; some = refl; said = refl }; no_place = refl; no_directive = refl; no_comment = refl; no_adornment = refl; plain = refl; no_minus = refl; no_alias = refl }
-extracode_mnemonic extra.Su = record { word = record { solid = refl; some = refl; said = refl }; no_place = refl; no_directive = refl; no_comment = refl; no_adornment = refl; plain = refl; no_minus = refl; no_alias = refl }
-extracode_mnemonic extra.Bzmf = record { word = record { solid = refl; some = refl; said = refl }; no_place = refl; no_directive = refl; no_comment = refl; no_adornment = refl; plain = refl; no_minus = refl; no_alias = refl }
-extracode_mnemonic extra.Mp = record { word = record { solid = refl; some = refl; said = refl }; no_place = refl; no_directive = refl; no_comment = refl; no_adornment = refl; plain = refl; no_minus = refl; no_alias = refl }
+unfolding is_place_text directive_named directive_name all_directives offset_parsed alias_named alias_name all_aliases
+extracode_mnemonic extra.Read = record { word = record { solid = refl; some = refl; parsed = refl }; no_place = refl; no_directive = refl; no_comment = refl; no_adornment = refl; plain = refl; no_minus = refl; no_alias = refl }
+extracode_mnemonic extra.Write = record { word = record { solid = refl; some = refl; parsed = refl }; no_place = refl; no_directive = refl; no_comment = refl; no_adornment = refl; plain = refl; no_minus = refl; no_alias = refl }
+extracode_mnemonic extra.Rand = record { word = record { solid = refl; some = refl; parsed = refl }; no_place = refl; no_directive = refl; no_comment = refl; no_adornment = refl; plain = refl; no_minus = refl; no_alias = refl }
+extracode_mnemonic extra.Wand = record { word = record { solid = refl; some = refl; parsed = refl }; no_place = refl; no_directive = refl; no_comment = refl; no_adornment = refl; plain = refl; no_minus = refl; no_alias = refl }
+extracode_mnemonic extra.Ror = record { word = record { solid = refl; some = refl; parsed = refl }; no_place = refl; no_directive = refl; no_comment = refl; no_adornment = refl; plain = refl; no_minus = refl; no_alias = refl }
+extracode_mnemonic extra.Wor = record { word = record { solid = refl; some = refl; parsed = refl }; no_place = refl; no_directive = refl; no_comment = refl; no_adornment = refl; plain = refl; no_minus = refl; no_alias = refl }
+extracode_mnemonic extra.Rxor = record { word = record { solid = refl; some = refl; parsed = refl }; no_place = refl; no_directive = refl; no_comment = refl; no_adornment = refl; plain = refl; no_minus = refl; no_alias = refl }
+extracode_mnemonic extra.Edrupt = record { word = record { solid = refl; some = refl; parsed = refl }; no_place = refl; no_directive = refl; no_comment = refl; no_adornment = refl; plain = refl; no_minus = refl; no_alias = refl }
+extracode_mnemonic extra.Dv = record { word = record { solid = refl; some = refl; parsed = refl }; no_place = refl; no_directive = refl; no_comment = refl; no_adornment = refl; plain = refl; no_minus = refl; no_alias = refl }
+extracode_mnemonic extra.Bzf = record { word = record { solid = refl; some = refl; parsed = refl }; no_place = refl; no_directive = refl; no_comment = refl; no_adornment = refl; plain = refl; no_minus = refl; no_alias = refl }
+extracode_mnemonic extra.Msu = record { word = record { solid = refl; some = refl; parsed = refl }; no_place = refl; no_directive = refl; no_comment = refl; no_adornment = refl; plain = refl; no_minus = refl; no_alias = refl }
+extracode_mnemonic extra.Qxch = record { word = record { solid = refl; some = refl; parsed = refl }; no_place = refl; no_directive = refl; no_comment = refl; no_adornment = refl; plain = refl; no_minus = refl; no_alias = refl }
+extracode_mnemonic extra.Aug = record { word = record { solid = refl; some = refl; parsed = refl }; no_place = refl; no_directive = refl; no_comment = refl; no_adornment = refl; plain = refl; no_minus = refl; no_alias = refl }
+extracode_mnemonic extra.Dim = record { word = record { solid = refl; some = refl; parsed = refl }; no_place = refl; no_directive = refl; no_comment = refl; no_adornment = refl; plain = refl; no_minus = refl; no_alias = refl }
+extracode_mnemonic extra.Dca = record { word = record { solid = refl; some = refl; parsed = refl }; no_place = refl; no_directive = refl; no_comment = refl; no_adornment = refl; plain = refl; no_minus = refl; no_alias = refl }
+extracode_mnemonic extra.Dcs = record { word = record { solid = refl; some = refl; parsed = refl }; no_place = refl; no_directive = refl; no_comment = refl; no_adornment = refl; plain = refl; no_minus = refl; no_alias = refl }
+extracode_mnemonic extra.Index = record { word = record { solid = refl; some = refl; parsed = refl }; no_place = refl; no_directive = refl; no_comment = refl; no_adornment = refl; plain = refl; no_minus = refl; no_alias = refl }
+extracode_mnemonic extra.Su = record { word = record { solid = refl; some = refl; parsed = refl }; no_place = refl; no_directive = refl; no_comment = refl; no_adornment = refl; plain = refl; no_minus = refl; no_alias = refl }
+extracode_mnemonic extra.Bzmf = record { word = record { solid = refl; some = refl; parsed = refl }; no_place = refl; no_directive = refl; no_comment = refl; no_adornment = refl; plain = refl; no_minus = refl; no_alias = refl }
+extracode_mnemonic extra.Mp = record { word = record { solid = refl; some = refl; parsed = refl }; no_place = refl; no_directive = refl; no_comment = refl; no_adornment = refl; plain = refl; no_minus = refl; no_alias = refl }
 
 pub basic_by_name : (b : Basic) → basic_named (basic_row b).mnemonic ≡ Some b
 unfolding basic_named all_basics

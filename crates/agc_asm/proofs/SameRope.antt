@@ -14,23 +14,22 @@ use Rattle.agc_listing.specs.Laws.{AreRopeWords, IsRopeOf}
 use Rattle.agc_listing.specs.Weave.{woven_file}
 use Rattle.agc_listing.specs.declared.line.PlacedWord.{PlacedWord}
 use Rattle.agc_asm.specs.Laws.{WeavesTo}
-use Rattle.agc_asm.specs.Name.{Naming}
-use Rattle.agc_asm.specs.Source.{is_listing, names_in, source_in, words_in}
+use Rattle.agc_asm.specs.Source.{is_listing, names_in, source_in, words_after_names}
 
 pub is_true : (b : Bool) → not b ≡ false → b ≡ true
 is_true true h = refl
 is_true false h = absurd cc
 
 -- in both forms
-by_form : (words : List Number) (text : List ℕ) (said : List PlacedWord) → source_in text ≡ Ok said → IsRopeOf form.Classic words (woven_file form.Classic said)
-    → IsRopeOf form.Parity words (woven_file form.Parity said) → WeavesTo words text
-by_form words text said is classic parity form.Classic = (woven_file form.Classic said, (said, is, refl), classic)
-by_form words text said is classic parity form.Parity = (woven_file form.Parity said, (said, is, refl), parity)
+by_form : (words : List Number) (text : List ℕ) (parsed : List PlacedWord) → source_in text ≡ Ok parsed → IsRopeOf form.Classic words (woven_file form.Classic parsed)
+    → IsRopeOf form.Parity words (woven_file form.Parity parsed) → WeavesTo words text
+by_form words text parsed is classic parity form.Classic = (woven_file form.Classic parsed, (parsed, is, refl), classic)
+by_form words text parsed is classic parity form.Parity = (woven_file form.Parity parsed, (parsed, is, refl), parity)
 
-pub weaves_said : (words : List Number) (text : List ℕ) (naming : Naming) (said : List PlacedWord) → is_listing text ≡ false → names_in text ≡ Ok naming → words_in naming text ≡ Ok said
-    → IsRopeOf form.Classic words (woven_file form.Classic said) → IsRopeOf form.Parity words (woven_file form.Parity said) → WeavesTo words text
+pub weaves_parsed : (words : List Number) (text : List ℕ) (parsed : List PlacedWord) → is_listing text ≡ false → words_after_names text (names_in text) ≡ Ok parsed
+    → IsRopeOf form.Classic words (woven_file form.Classic parsed) → IsRopeOf form.Parity words (woven_file form.Parity parsed) → WeavesTo words text
 unfolding source_in
-weaves_said words text naming said listing names says classic parity = by_form words text said (rw (listing, names) says) classic parity
+weaves_parsed words text parsed listing says classic parity = by_form words text parsed (rw listing says) classic parity
 
 -- a file holds a rope if it is accepted and its words are those
 pub same_rope : (form : RopeForm) (words rope : List Number) (bytes : List ℕ) → rope ≡ rope_words form bytes → rope_fault_of form bytes ≡ None → AreRopeWords words

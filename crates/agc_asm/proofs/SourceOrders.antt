@@ -32,20 +32,20 @@ at_first : (words : List Number) → Sound words 0o4000 first_state.counter firs
 at_first words = record { banks = length-replicate {A = ℕ} 36 0; bank = omega arith; along = λ none inside. none }
 
 -- a text whose second pass yields words
-way_shown : (form : RopeForm) (text file : List ℕ) (naming : Naming) (said : List PlacedWord) → words_in naming text ≡ Ok said → file ≡ woven_file form said
+way_shown : (form : RopeForm) (text file : List ℕ) (naming : Naming) (parsed : List PlacedWord) → words_in naming text ≡ Ok parsed → file ≡ woven_file form parsed
     → AreShown (rope_words form file) (orders_from naming 0o4000 first_state (lines_of text)) (mnemonics_from naming first_state (lines_of text))
 unfolding words_in
-way_shown form text file naming said is woven =
+way_shown form text file naming parsed is woven =
     let words = rope_words form file in
-    let kept : Kept form said = kept_from form (lines_of text) 1 naming first_state [] said is (All-nil (StandsIn form (woven_file form []))) in
-    let stand : All (StandsIn form file) said = rw woven kept in
-    let has = All-weaker (StandsIn form file) (HasWord words) (λ word h. has_word form file word h) said stand in
-    shown_from words (lines_of text) 1 naming 0o4000 first_state [] said is has (at_first words)
+    let kept : Kept form parsed = kept_from form (lines_of text) 1 naming first_state [] parsed is (All-nil (StandsIn form (woven_file form []))) in
+    let stand : All (StandsIn form file) parsed = rw woven kept in
+    let has = All-weaker (StandsIn form file) (HasWord words) (λ word h. has_word form file word h) parsed stand in
+    shown_from words (lines_of text) 1 naming 0o4000 first_state [] parsed is has (at_first words)
 
-named_shown : (form : RopeForm) (text file : List ℕ) (names : Result Naming AssemblyFault) (said : List PlacedWord) → words_after_names text names ≡ Ok said → file ≡ woven_file form said
+named_shown : (form : RopeForm) (text file : List ℕ) (names : Result Naming AssemblyFault) (parsed : List PlacedWord) → words_after_names text names ≡ Ok parsed → file ≡ woven_file form parsed
     → AreShown (rope_words form file) (orders_by names (lines_of text)) (mnemonics_by names (lines_of text))
-named_shown form text file (Err why) said is woven = absurd cc
-named_shown form text file (Ok naming) said is woven = way_shown form text file naming said is woven
+named_shown form text file (Err why) parsed is woven = absurd cc
+named_shown form text file (Ok naming) parsed is woven = way_shown form text file naming parsed is woven
 
 -- a listing writes no orders
 no_order : (naming : Naming) (since : ℕ) (state : State) (line : List ℕ) → is_listing_line line ≡ true → order_of naming since state (plain_line line) ≡ []
@@ -99,13 +99,13 @@ listing_shown : (words : List Number) (lines : List (List ℕ)) (names : Result 
 listing_shown words lines (Err why) h = none_shown words
 listing_shown words lines (Ok naming) h = rw (no_orders lines h naming 0o4000 first_state, no_mnemonics lines h naming first_state) (none_shown words)
 
-text_shown : (form : RopeForm) (text file : List ℕ) (said : List PlacedWord) (listing : Bool) → is_listing text ≡ listing → source_in text ≡ Ok said → file ≡ woven_file form said
+text_shown : (form : RopeForm) (text file : List ℕ) (parsed : List PlacedWord) (listing : Bool) → is_listing text ≡ listing → source_in text ≡ Ok parsed → file ≡ woven_file form parsed
     → AreShown (rope_words form file) (orders_in text) (mnemonics_in text)
 unfolding source_in is_listing orders_in mnemonics_in
-text_shown form text file said true listing is woven = listing_shown (rope_words form file) (lines_of text) (names_in text) listing
-text_shown form text file said false listing is woven =
-    let way : words_after_names text (names_in text) ≡ Ok said = rw listing at is in
-    named_shown form text file (names_in text) said way woven
+text_shown form text file parsed true listing is woven = listing_shown (rope_words form file) (lines_of text) (names_in text) listing
+text_shown form text file parsed false listing is woven =
+    let way : words_after_names text (names_in text) ≡ Ok parsed = rw listing at is in
+    named_shown form text file (names_in text) parsed way woven
 
 source_shown : (form : RopeForm) (text file : List ℕ) → IsSourceWoven form text file → AreShown (rope_words form file) (orders_in text) (mnemonics_in text)
 source_shown form text file h = text_shown form text file h.0 (is_listing text) refl h.1 h.2

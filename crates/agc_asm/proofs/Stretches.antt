@@ -16,8 +16,8 @@ use Rattle.agc_listing.specs.declared.line.PlacedWord.{PlacedWord}
 use Rattle.agc_listing.proofs.LinesBack.{NoneFrom}
 use Rattle.agc_asm.specs.Source.{names_from, words_from}
 use Rattle.agc_asm.specs.LocationCounter.{after_words, moved_to}
-use Rattle.agc_asm.specs.Disassemble.{follows_word, is_wanted_at, line_of, line_to, lines_said, resolve, shows_order}
-use Rattle.agc_listing.specs.Text.{said_by}
+use Rattle.agc_asm.specs.Disassemble.{follows_word, is_wanted_at, line_of, line_to, placed_word_lines, resolve, shows_order}
+use Rattle.agc_listing.specs.Text.{parsed_by}
 use Rattle.agc_asm.specs.declared.location_counter.LocationCounter.{LocationCounter}
 use Rattle.agc_asm.specs.declared.pass2.State.{State}
 use Rattle.agc_asm.specs.Name.{Naming}
@@ -54,19 +54,19 @@ unfolding resolve
 no_text words place h = rw h refl
 
 some_text : (words : List Number) (place : ℕ) (follows : Bool) → has_line words place ≡ true → follows_word words place ≡ follows
-    → resolve None words place ≡ lines_said place follows (is_wanted_at words place) (is_extracode_at words place) (fixed_at place words)
+    → resolve None words place ≡ placed_word_lines place follows (is_wanted_at words place) (is_extracode_at words place) (fixed_at place words)
 unfolding resolve
 some_text words place follows h is = rw (h, is) refl
 
 cut_follows : (words : List Number) (place : ℕ) (rest : List ℕ) → has_line words place ≡ true → follows_word words place ≡ true
     → lines_of (resolve None words place ++ rest) ≡ line_at words place ∷ lines_of rest
-unfolding lines_said
+unfolding placed_word_lines
 cut_follows words place rest has follows =
     rw (some_text words place true has follows) (cut_word (is_wanted_at words place) (is_extracode_at words place) (fixed_at place words) rest)
 
 cut_begins : (words : List Number) (place : ℕ) (rest : List ℕ) → has_line words place ≡ true → follows_word words place ≡ false
     → lines_of (resolve None words place ++ rest) ≡ place_line place ∷ line_at words place ∷ lines_of rest
-unfolding lines_said
+unfolding placed_word_lines
 cut_begins words place rest has begins =
     let wanted = is_wanted_at words place in
     let extracode = is_extracode_at words place in
@@ -172,45 +172,45 @@ state_skips words place state h none = record {
 }
 
 state_next : (words : List Number) (place : ℕ) (state : State) → IsHere place state.counter → length state.counter.left ≡ 36 → state.leads ≡ is_wanted_at words place → place < 0o110000
-    → (said : List (List ℕ)) → StandsIn words (place + 1) (state_after state (shows_order (is_wanted_at words place) (is_extracode_at words place)) (fixed_at place words) said)
-state_next words place state here banks leads inside said = record {
+    → (parsed : List (List ℕ)) → StandsIn words (place + 1) (state_after state (shows_order (is_wanted_at words place) (is_extracode_at words place)) (fixed_at place words) parsed)
+state_next words place state here banks leads inside parsed = record {
   counter = after_word words place state.counter here banks inside;
   leads = λ follows. wanted_next words place state.leads leads follows;
 }
 
 -- places from one on stay free
-later : (first : ℕ) (said : List PlacedWord) → NoneFrom first said → NoneFrom (first + 1) said
-later first said h = record { none = λ place from. h.none place (omega arith) }
+later : (first : ℕ) (parsed : List PlacedWord) → NoneFrom first parsed → NoneFrom (first + 1) parsed
+later first parsed h = record { none = λ place from. h.none place (omega arith) }
 
-named_more : (words : List Number) (first : ℕ) (said : List PlacedWord) → NoneFrom first said → NoneFrom (first + 1) (said ++ named_word words first ∷ [])
-named_more words first said h =
+named_more : (words : List Number) (first : ℕ) (parsed : List PlacedWord) → NoneFrom first parsed → NoneFrom (first + 1) (parsed ++ named_word words first ∷ [])
+named_more words first parsed h =
     record {
       none = λ place from.
           let other : (first == place) ≡ false = ne_eqb first place (omega arith) in
-          list_any-append (λ (word : PlacedWord). word.place == place) said (named_word words first ∷ []) ∙ rw (h.none place (omega arith), other) refl;
+          list_any-append (λ (word : PlacedWord). word.place == place) parsed (named_word words first ∷ []) ∙ rw (h.none place (omega arith), other) refl;
     }
 
 -- the second pass finds the words that have a line
 abbrev FindsWords : List Number → ℕ → ℕ → Type 0
-FindsWords words first count = (n : ℕ) (naming : Naming) (state : State) (said : List PlacedWord) → StandsIn words first state → NoneFrom first said
-    → words_from n naming state said (lines_of (texts words first count)) ≡ Ok (said ++ named words first count)
+FindsWords words first count = (n : ℕ) (naming : Naming) (state : State) (parsed : List PlacedWord) → StandsIn words first state → NoneFrom first parsed
+    → words_from n naming state parsed (lines_of (texts words first count)) ≡ Ok (parsed ++ named words first count)
 
-words_by : (words : List Number) → ((place : ℕ) → (fixed_at place words).magnitude < 2 ^ 14) → (count first n : ℕ) (naming : Naming) (state : State) (said : List PlacedWord) (has follows : Bool)
-    → first + suc count ≤ 0o110000 → StandsIn words first state → NoneFrom first said → has_line words first ≡ has → follows_word words first ≡ follows → FindsWords words (first + 1) count
-    → words_from n naming state said (lines_of (texts words first (suc count))) ≡ Ok (said ++ named words first (suc count))
-words_by words narrow count first n naming state said false follows room stands free has is rest =
-    rw (no_text words first has, has) (rest n naming state said (state_skips words first state stands has) (later first said free))
-words_by words narrow count first n naming state said true true room stands free has is rest =
+words_by : (words : List Number) → ((place : ℕ) → (fixed_at place words).magnitude < 2 ^ 14) → (count first n : ℕ) (naming : Naming) (state : State) (parsed : List PlacedWord) (has follows : Bool)
+    → first + suc count ≤ 0o110000 → StandsIn words first state → NoneFrom first parsed → has_line words first ≡ has → follows_word words first ≡ follows → FindsWords words (first + 1) count
+    → words_from n naming state parsed (lines_of (texts words first (suc count))) ≡ Ok (parsed ++ named words first (suc count))
+words_by words narrow count first n naming state parsed false follows room stands free has is rest =
+    rw (no_text words first has, has) (rest n naming state parsed (state_skips words first state stands has) (later first parsed free))
+words_by words narrow count first n naming state parsed true true room stands free has is rest =
     let here = stands.counter.here is in
     let leads = stands.leads is in
     let word = fixed_at first words in
     let order = shows_order (is_wanted_at words first) (is_extracode_at words first) in
     let says = word_line_says (is_wanted_at words first) (is_extracode_at words first) word (narrow first) in
     rw (cut_follows words first (texts words (first + 1) count) has is, has)
-    (words_word n naming state said first order word (line_at words first) (lines_of (texts words (first + 1) count)) (word_is_line _ _ _ (narrow first)) (rw leads says) here (free.none first (omega arith))
-    ∙ rest (n + 1) naming (state_after state order word (said_by (line_at words first))) (said ++ named_word words first ∷ []) (state_next words first state here stands.counter.banks leads (omega arith) (said_by (line_at words first))) (named_more words first said free)
-    ∙ ap (λ (all : List PlacedWord). Ok all) (append_assoc said (named_word words first ∷ []) (named words (first + 1) count)))
-words_by words narrow count first n naming state said true false room stands free has is rest =
+    (words_word n naming state parsed first order word (line_at words first) (lines_of (texts words (first + 1) count)) (word_is_line _ _ _ (narrow first)) (rw leads says) here (free.none first (omega arith))
+    ∙ rest (n + 1) naming (state_after state order word (parsed_by (line_at words first))) (parsed ++ named_word words first ∷ []) (state_next words first state here stands.counter.banks leads (omega arith) (parsed_by (line_at words first))) (named_more words first parsed free)
+    ∙ ap (λ (all : List PlacedWord). Ok all) (append_assoc parsed (named_word words first ∷ []) (named words (first + 1) count)))
+words_by words narrow count first n naming state parsed true false room stands free has is rest =
     let moved = state_moved state first in
     let here = moved_here first state.counter stands.counter.banks (omega arith) in
     let banks = moved_banks first state.counter stands.counter.banks in
@@ -219,14 +219,14 @@ words_by words narrow count first n naming state said true false room stands fre
     let order = shows_order (is_wanted_at words first) (is_extracode_at words first) in
     let says = word_line_says (is_wanted_at words first) (is_extracode_at words first) word (narrow first) in
     rw (cut_begins words first (texts words (first + 1) count) has is, has)
-    (words_move n naming state said first (place_line first) (line_at words first ∷ lines_of (texts words (first + 1) count)) (place_is_line first) (place_line_moves first (omega arith) naming)
-    ∙ words_word (n + 1) naming moved said first order word (line_at words first) (lines_of (texts words (first + 1) count)) (word_is_line _ _ _ (narrow first)) (rw leads says) here (free.none first (omega arith))
-    ∙ rest (n + 1 + 1) naming (state_after moved order word (said_by (line_at words first))) (said ++ named_word words first ∷ []) (state_next words first moved here banks leads (omega arith) (said_by (line_at words first))) (named_more words first said free)
-    ∙ ap (λ (all : List PlacedWord). Ok all) (append_assoc said (named_word words first ∷ []) (named words (first + 1) count)))
+    (words_move n naming state parsed first (place_line first) (line_at words first ∷ lines_of (texts words (first + 1) count)) (place_is_line first) (place_line_moves first (omega arith) naming)
+    ∙ words_word (n + 1) naming moved parsed first order word (line_at words first) (lines_of (texts words (first + 1) count)) (word_is_line _ _ _ (narrow first)) (rw leads says) here (free.none first (omega arith))
+    ∙ rest (n + 1 + 1) naming (state_after moved order word (parsed_by (line_at words first))) (parsed ++ named_word words first ∷ []) (state_next words first moved here banks leads (omega arith) (parsed_by (line_at words first))) (named_more words first parsed free)
+    ∙ ap (λ (all : List PlacedWord). Ok all) (append_assoc parsed (named_word words first ∷ []) (named words (first + 1) count)))
 
 pub finds_words : (words : List Number) → ((place : ℕ) → (fixed_at place words).magnitude < 2 ^ 14) → (count first : ℕ) → first + count ≤ 0o110000 → FindsWords words first count
 unfolding words_from
-finds_words words narrow zero first room n naming state said stands free = rw no_lines (ap (λ (all : List PlacedWord). Ok all) (sym (append-nil said)))
-finds_words words narrow (suc count) first room n naming state said stands free =
-    words_by words narrow count first n naming state said (has_line words first) (follows_word words first) room stands free refl refl
+finds_words words narrow zero first room n naming state parsed stands free = rw no_lines (ap (λ (all : List PlacedWord). Ok all) (sym (append-nil parsed)))
+finds_words words narrow (suc count) first room n naming state parsed stands free =
+    words_by words narrow count first n naming state parsed (has_line words first) (follows_word words first) room stands free refl refl
     (finds_words words narrow count (first + 1) (omega arith))

@@ -2,27 +2,27 @@
 use Rattle.std.specs.Prelude.{◌≡◌, ℕ, List, [], ◌∷◌, codes, position, take}
 use Rattle.std.proofs.Common.{refl, sym, ne_eqb}
 use Rattle.agc_word.specs.Text.{words_of}
-use Rattle.agc_listing.specs.Text.{said_by}
+use Rattle.agc_listing.specs.Text.{parsed_by}
 use Rattle.agc_asm.specs.Body.{alias_operand, is_hash_byte, operand_spelled, tokens, uncommented}
 use Rattle.agc_asm.specs.declared.alias.Alias.{Alias}
 use Rattle.agc_asm.specs.declared.alias.Alias.TheVariants as alias
 use Rattle.std.specs.Prelude.{Some}
 
 pub no_tokens : tokens [] ≡ []
-unfolding tokens uncommented said_by words_of
+unfolding tokens uncommented parsed_by words_of
 no_tokens = refl
 
 pub zero_token : tokens (codes "0") ≡ codes "0" ∷ []
-unfolding tokens uncommented said_by words_of
+unfolding tokens uncommented parsed_by words_of
 zero_token = refl
 
 pub three_tokens : tokens (codes "0 0 0") ≡ codes "0" ∷ codes "0" ∷ codes "0" ∷ []
-unfolding tokens uncommented said_by words_of
+unfolding tokens uncommented parsed_by words_of
 three_tokens = refl
 
 -- the operand of an alias is one word
 pub operand_token : (a : Alias) (operand : List ℕ) → alias_operand a ≡ Some operand → tokens operand ≡ operand ∷ []
-unfolding tokens uncommented said_by words_of alias_operand
+unfolding tokens uncommented parsed_by words_of alias_operand
 operand_token alias.Caf operand is = absurd cc
 operand_token alias.Cae operand is = absurd cc
 operand_token alias.Tcr operand is = absurd cc
@@ -45,13 +45,13 @@ operand_token alias.Ddoubl operand is = let same : codes "0" ≡ operand = cc in
 operand_token alias.Square operand is = let same : codes "0" ≡ operand = cc in rw (← same) refl
 
 -- a comment within a word
-nothing_said : said_by [] ≡ []
-unfolding said_by words_of
-nothing_said = refl
+nothing_parsed : parsed_by [] ≡ []
+unfolding parsed_by words_of
+nothing_parsed = refl
 
-pub cut_token : (text word rest : List ℕ) (at : ℕ) → said_by text ≡ word ∷ said_by rest → position is_hash_byte word ≡ Some at → (at ≡ 0 → ⊥) → tokens text ≡ take at word ∷ tokens []
+pub cut_token : (text word rest : List ℕ) (at : ℕ) → parsed_by text ≡ word ∷ parsed_by rest → position is_hash_byte word ≡ Some at → (at ≡ 0 → ⊥) → tokens text ≡ take at word ∷ tokens []
 unfolding tokens uncommented
-cut_token text word rest at said hash some = rw (said, hash, ne_eqb at 0 some) (rw nothing_said refl)
+cut_token text word rest at parsed hash some = rw (parsed, hash, ne_eqb at 0 some) (rw nothing_parsed refl)
 
 -- an alias with an operand of its own, and with one that it does not take
 pub alone : (a : Alias) (operand bytes : List ℕ) (rest : List (List ℕ)) → Some operand ≡ alias_operand a → bytes ≡ operand → rest ≡ [] → tokens bytes ≡ operand_spelled (alias_operand a) rest

@@ -4,8 +4,8 @@ use Rattle.std.specs.Prelude.{Option, Some, None, is_some, if◌then◌else◌}
 use Rattle.std.specs.List.{list_any}
 use Rattle.std.specs.Str.{bytes_eq}
 use Rattle.agc_listing.specs.Line.{is_no_text}
-use Rattle.agc_listing.specs.Number.{begins_with_minus, offset_said}
-use Rattle.agc_listing.specs.Text.{body_of, label_of, said_by}
+use Rattle.agc_listing.specs.Number.{begins_with_minus, offset_parsed}
+use Rattle.agc_listing.specs.Text.{body_of, label_of, parsed_by}
 use Rattle.agc_asm.specs.Mnemonic.{directive_named}
 use Rattle.agc_asm.specs.declared.alias.Alias.{Alias}
 use Rattle.agc_asm.specs.declared.alias.Alias.TheVariants as alias
@@ -26,7 +26,7 @@ uncommented (word ∷ words) = comment_cut (position is_hash_byte word) word (un
 
 -- the words of a text before its comment
 unfoldable pub tokens : List ℕ → List (List ℕ)
-tokens text = uncommented (said_by text)
+tokens text = uncommented (parsed_by text)
 
 -- Comments may have any bytes. A line whose comment has a byte that is not text is read without its comment.
 abbrev pub cut_at : Option ℕ → List ℕ → List ℕ
@@ -46,7 +46,7 @@ plain_line line = if has_odd_comment line then code_of line else line
 -- name.
 abbrev pub without_adornment : List (List ℕ) → List (List ℕ)
 without_adornment [] = []
-without_adornment (word ∷ words) = if is_some (offset_said word) then words else word ∷ words
+without_adornment (word ∷ words) = if is_some (offset_parsed word) then words else word ∷ words
 
 abbrev pub body_by : Option (List ℕ) → List (List ℕ) → List (List ℕ)
 body_by (Some label) words = words

@@ -7,7 +7,7 @@ use Rattle.agc_word.specs.Octal.{word_digits}
 use Rattle.agc_store.specs.Places.{fixed_bank_size, fixed_words}
 use Rattle.agc_store.specs.Memory.{fixed_at}
 use Rattle.agc_listing.specs.Laws.{has_line}
-use Rattle.agc_listing.specs.List.{is_asked_for, is_extracode_at, listed_place}
+use Rattle.agc_listing.specs.List.{is_in_selected_bank, is_extracode_at, listed_place}
 use Rattle.agc_listing.specs.Order.{next_is_extracode, order_text}
 use Rattle.agc_listing.specs.Place.{place_text}
 
@@ -30,10 +30,10 @@ is_wanted_at words (suc place) =
     && not (suc place % fixed_bank_size == 0)
 
 -- the order that `list` shows for a word if the line is read as that order; otherwise its digits
-abbrev pub word_said : Bool → Bool → Number → List ℕ
-word_said true true word = order_text true word
-word_said false false word = order_text false word
-word_said wanted extracode word = codes "OCT " ++ word_digits word
+abbrev pub order_or_digits : Bool → Bool → Number → List ℕ
+order_or_digits true true word = order_text true word
+order_or_digits false false word = order_text false word
+order_or_digits wanted extracode word = codes "OCT " ++ word_digits word
 
 -- The SETLOC line of a place. The line begins with spaces, so it has no name.
 abbrev pub line_to : ℕ → List ℕ
@@ -41,24 +41,24 @@ line_to place = codes "        SETLOC " ++ place_text (listed_place place) ++ co
 
 -- the line of a word
 abbrev pub line_of : Bool → Bool → Number → List ℕ
-line_of wanted extracode word = codes "        " ++ word_said wanted extracode word ++ codes "\n"
+line_of wanted extracode word = codes "        " ++ order_or_digits wanted extracode word ++ codes "\n"
 
 -- the lines of a word at a place: a SETLOC line if it does not follow a word, and its own
-unfoldable pub lines_said : ℕ → Bool → Bool → Bool → Number → List ℕ
-lines_said place follows wanted extracode word =
+unfoldable pub placed_word_lines : ℕ → Bool → Bool → Bool → Number → List ℕ
+placed_word_lines place follows wanted extracode word =
     (if follows then [] else line_to place) ++ line_of wanted extracode word
 
 -- the lines of the word at a place, if it is not +0 and its bank is selected
-abbrev pub text_said : Option ℕ → ℕ → Bool → Bool → Bool → Number → List ℕ
-text_said bank place follows wanted extracode word =
-    if not (pattern_of 15 word == 0) && is_asked_for bank place
-    then lines_said place follows wanted extracode word
+abbrev pub text_at_place : Option ℕ → ℕ → Bool → Bool → Bool → Number → List ℕ
+text_at_place bank place follows wanted extracode word =
+    if not (pattern_of 15 word == 0) && is_in_selected_bank bank place
+    then placed_word_lines place follows wanted extracode word
     else []
 
 -- the lines of a place in a rope
 unfoldable pub resolve : Option ℕ → List Number → ℕ → List ℕ
 resolve bank words place =
-    text_said bank place (follows_word words place) (is_wanted_at words place)
+    text_at_place bank place (follows_word words place) (is_wanted_at words place)
     (is_extracode_at words place) (fixed_at place words)
 
 -- the lines of the first `count` places

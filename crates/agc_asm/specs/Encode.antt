@@ -15,7 +15,7 @@ use Rattle.agc_listing.specs.declared.location.Location.TheVariants as location
 use Rattle.agc_asm.specs.Body.{alias_in, has_minus, spelled}
 use Rattle.agc_asm.specs.Mnemonic.{basic_named, directive_named, extracode_named}
 use Rattle.agc_asm.specs.Name.{Naming}
-use Rattle.agc_listing.specs.Number.{begins_with_minus, octal_word, offset_said, without_sign}
+use Rattle.agc_listing.specs.Number.{begins_with_minus, octal_word, offset_parsed, without_sign}
 use Rattle.agc_asm.specs.Numeral.{number_in}
 use Rattle.agc_asm.specs.Operand.{location_for, operand_for, value_of}
 use Rattle.agc_asm.specs.Row.{as_word, basic_word, extracode_word, meant, meant_operand}
@@ -120,11 +120,11 @@ ecadr_word (Err why) = Err why
 
 -- the superbank that channel 7 holds for a place, in bits 7 to 5: 3 for banks 30 to 37, and 4 for 40 to 43
 abbrev pub superbank_by : ℕ → ℕ → ℕ
-superbank_by said bank =
-    if nat_lt bank 0o30 then said else if nat_lt bank 0o40 then 3 else 4
+superbank_by parsed bank =
+    if nat_lt bank 0o30 then parsed else if nat_lt bank 0o40 then 3 else 4
 
 abbrev pub superbank : ℕ → ℕ → ℕ
-superbank said place = superbank_by said (place / fixed_bank_size)
+superbank parsed place = superbank_by parsed (place / fixed_bank_size)
 
 -- A word for BB: the bank that FB holds for a place in bits 15 to 11, the superbank in bits 7 to 5, and the erasable
 -- bank in bits 3 to 1.
@@ -178,7 +178,7 @@ less_by (Some n) (Some by) =
 less_by n by = None
 
 abbrev pub less_than_zero : List (List ℕ) → Option ℕ
-less_than_zero (word ∷ by ∷ []) = less_by (octal_number 6 word) (offset_said by)
+less_than_zero (word ∷ by ∷ []) = less_by (octal_number 6 word) (offset_parsed by)
 less_than_zero words = None
 
 abbrev pub lowered : ℕ → Result Number SourceFault → Result Number SourceFault

@@ -10,7 +10,7 @@ use Rattle.agc_asm.specs.Operand.{location_in}
 use Rattle.agc_listing.specs.Location.{IsWithin}
 use Rattle.agc_asm.specs.Mnemonic.{directive_named, is_order}
 use Rattle.agc_asm.specs.UnknownOperation.{unknown_operation}
-use Rattle.agc_listing.specs.Number.{offset_said}
+use Rattle.agc_listing.specs.Number.{offset_parsed}
 use Rattle.agc_listing.specs.Text.{only_of}
 use Rattle.agc_asm.specs.declared.location_counter.At.{At}
 use Rattle.agc_asm.specs.declared.location_counter.At.TheVariants as at
@@ -98,7 +98,7 @@ is_dash word = false
 
 abbrev pub cells_in : List (List ℕ) → Result LineKind SourceFault
 cells_in [] = Ok (kind.Cells 1)
-cells_in (word ∷ []) = cells_by (offset_said word) word
+cells_in (word ∷ []) = cells_by (offset_parsed word) word
 cells_in (first ∷ dash ∷ last ∷ []) =
     if is_dash dash then range_of (octal_number 6 first) (octal_number 6 last) else Err fault.BadNumber
 cells_in words = Err fault.BadNumber

@@ -56,9 +56,9 @@ misnamed_as n word (Some order) = Some (record { line = n; word = word; written 
 misnamed_as n word None = None
 
 abbrev pub misnamed_by : ℕ → Result (Option PlacedWord) LineFault → Option (List ℕ) → Option Misnamed
-misnamed_by n (Ok (Some said)) (Some name) =
-    misnamed_as n said.word (order_amiss (pattern_of 15 said.word) name)
-misnamed_by n said name = None
+misnamed_by n (Ok (Some parsed)) (Some name) =
+    misnamed_as n parsed.word (order_amiss (pattern_of 15 parsed.word) name)
+misnamed_by n parsed name = None
 
 -- a listing line whose mnemonic does not match its word, with its number
 unfoldable pub misnamed_at : ℕ → List ℕ → Option Misnamed
@@ -69,7 +69,7 @@ unfoldable pub misnamed_from : ℕ → List (List ℕ) → Option Misnamed
 misnamed_from n [] = None
 misnamed_from n (line ∷ lines) =
     elim (misnamed_at n line) [
-      | Some told ↦ Some told
+      | Some reported ↦ Some reported
       | None ↦ misnamed_from (n + 1) lines
     ]
 

@@ -11,7 +11,7 @@ use Rattle.agc_listing.specs.declared.order.Operand.{Operand}
 use Rattle.agc_listing.specs.declared.order.Operand.TheVariants as operand
 use Rattle.agc_listing.specs.Location.{cell_address, is_addressable, location_named, location_numbered}
 use Rattle.agc_asm.specs.Name.{Naming, known}
-use Rattle.agc_listing.specs.Number.{count_named, offset_said}
+use Rattle.agc_listing.specs.Number.{count_named, offset_parsed}
 use Rattle.agc_listing.specs.Text.{is_name}
 use Rattle.agc_asm.specs.declared.fault.SourceFault.{SourceFault}
 use Rattle.agc_asm.specs.declared.fault.SourceFault.TheVariants as fault
@@ -76,14 +76,14 @@ value_parts word (Some v) (Some by) = value_moved v by
 value_parts word v by = Err (no_value word)
 
 abbrev pub begins_offset : List ℕ → ℕ → Bool
-begins_offset word at = nat_lt at (length word) && is_some (offset_said (drop at word))
+begins_offset word at = nat_lt at (length word) && is_some (offset_parsed (drop at word))
 
 unfoldable pub offset_place : List ℕ → Option ℕ
 offset_place word = find (begins_offset word) (range_with_len 0 (length word))
 
 abbrev pub value_cut : Naming → Option ℕ → List ℕ → Result Value SourceFault
 value_cut naming (Some at) word =
-    value_parts word (value_whole naming (take at word)) (offset_said (drop at word))
+    value_parts word (value_whole naming (take at word)) (offset_parsed (drop at word))
 value_cut naming None word = Err (no_value word)
 
 abbrev pub value_or_cut : Option Value → Naming → List ℕ → Result Value SourceFault
@@ -105,8 +105,8 @@ value_beside (Ok v) (Some by) = value_moved v by
 
 -- the value of an operand's words, for a line at a place
 abbrev pub value_of : Naming → ℕ → List (List ℕ) → Result Value SourceFault
-value_of naming here (word ∷ []) = value_here (offset_said word) naming here word
-value_of naming here (word ∷ by ∷ []) = value_beside (value_in naming word) (offset_said by)
+value_of naming here (word ∷ []) = value_here (offset_parsed word) naming here word
+value_of naming here (word ∷ by ∷ []) = value_beside (value_in naming word) (offset_parsed by)
 value_of naming here words = Err fault.BadOperand
 
 -- the location of a value; a number names one as listings count all memory
@@ -128,7 +128,7 @@ location_by (Err why) = Err why
 -- the location that the operand of a directive names
 abbrev pub value_apart : Naming → List (List ℕ) → Result Value SourceFault
 value_apart naming (word ∷ []) = value_in naming word
-value_apart naming (word ∷ by ∷ []) = value_beside (value_in naming word) (offset_said by)
+value_apart naming (word ∷ by ∷ []) = value_beside (value_in naming word) (offset_parsed by)
 value_apart naming words = Err fault.BadPlace
 
 abbrev pub location_in : Naming → List (List ℕ) → Result Location SourceFault

@@ -17,7 +17,7 @@ use Rattle.agc_listing.specs.Place.{place_text}
 use Rattle.agc_listing.specs.declared.order.Operand.{Operand}
 use Rattle.agc_asm.specs.Mnemonic.{basic_named, extracode_named}
 use Rattle.agc_asm.specs.Name.{Naming}
-use Rattle.agc_listing.specs.Text.{are_listed, said_by}
+use Rattle.agc_listing.specs.Text.{are_listed, parsed_by}
 use Rattle.agc_asm.specs.Body.{body_in, plain_line, spelled}
 use Rattle.agc_asm.specs.Encode.{writes_order}
 use Rattle.agc_asm.specs.declared.fault.SourceFault.{SourceFault}
@@ -99,7 +99,7 @@ order_placed naming since extracode (Ok place) words = order_at naming since ext
 -- the order that a line writes, if it writes one
 unfoldable pub order_of : Naming → ℕ → State → List ℕ → List OrderLine
 order_of naming since state line =
-    if are_listed (said_by line)
+    if are_listed (parsed_by line)
     then []
     else order_placed naming since state.leads (room_at state.counter state.counter.at 1) (order_words (body_in line))
 
@@ -120,7 +120,7 @@ shape_stays order (Err why) = true
 -- whether a line neither moves to another place nor writes data
 abbrev pub stays : Naming → List ℕ → Bool
 stays naming line =
-    are_listed (said_by line)
+    are_listed (parsed_by line)
     || shape_stays (writes_order (body_in line)) (shape_of naming (spelled (body_in line)))
 
 abbrev pub since_after : Naming → ℕ → List ℕ → LocationCounter → ℕ
@@ -151,7 +151,7 @@ mnemonic_in [] = []
 mnemonic_in (word ∷ words) = word ∷ []
 
 unfoldable pub mnemonic_of : List ℕ → List (List ℕ)
-mnemonic_of line = if are_listed (said_by line) then [] else mnemonic_in (order_words (body_in line))
+mnemonic_of line = if are_listed (parsed_by line) then [] else mnemonic_in (order_words (body_in line))
 
 -- the mnemonics of lines in fixed memory; orders in erasable memory are not in the rope
 abbrev pub mnemonic_at : At → List ℕ → List (List ℕ)

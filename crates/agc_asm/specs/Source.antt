@@ -8,7 +8,7 @@ use Rattle.agc_store.specs.declared.rope_file.RopeForm.{RopeForm}
 use Rattle.agc_word.specs.Text.{lines_of}
 use Rattle.agc_listing.specs.Line.{is_no_text, line_named}
 use Rattle.agc_listing.specs.Order.{next_is_extracode}
-use Rattle.agc_listing.specs.Weave.{said_in, said_with, unless_named, woven_file}
+use Rattle.agc_listing.specs.Weave.{parsed_in, with_placed_word, unless_named, woven_file}
 use Rattle.agc_listing.specs.declared.fault.LineFault.{LineFault}
 use Rattle.agc_listing.specs.declared.fault.LineFault.TheVariants as line_fault
 use Rattle.agc_listing.specs.declared.fault.WeaveFault.{WeaveFault}
@@ -21,7 +21,7 @@ use Rattle.agc_asm.specs.Encode.{banks_after, cell_in, is_banked, pair_meaning, 
 use Rattle.agc_asm.specs.Name.{Naming, guessing, no_name, with_name}
 use Rattle.agc_asm.specs.Operand.{location_in}
 use Rattle.agc_asm.specs.LineKind.{cursor_after, shape_of}
-use Rattle.agc_listing.specs.Text.{after_first, are_listed, is_name, label_of, said_by}
+use Rattle.agc_listing.specs.Text.{after_first, are_listed, is_name, label_of, parsed_by}
 use Rattle.agc_asm.specs.declared.location_counter.At.{At}
 use Rattle.agc_asm.specs.declared.location_counter.At.TheVariants as at
 use Rattle.agc_asm.specs.declared.location_counter.LocationCounter.{LocationCounter}
@@ -87,7 +87,7 @@ shape_labelled naming counter label (Ok s) =
 
 -- a listing line has no name
 abbrev pub listed_labelled : LocationCounter → Result (Option PlacedWord) LineFault → Result Labelled SourceFault
-listed_labelled counter (Ok said) = Ok (record { counter = counter; place = None })
+listed_labelled counter (Ok parsed) = Ok (record { counter = counter; place = None })
 listed_labelled counter (Err why) = Err (fault.Listed why)
 
 -- `$FILE` in the first column reads another file
@@ -98,7 +98,7 @@ is_include (b ∷ bs) = b == 0x24
 -- the location of a line's name, if it has one, and where the next line goes
 unfoldable pub line_labelled : Naming → LocationCounter → List ℕ → Result Labelled SourceFault
 line_labelled naming counter line =
-    if are_listed (said_by line)
+    if are_listed (parsed_by line)
     then listed_labelled counter (line_named line)
     else (if list_any is_no_text line
     then Err (fault.Listed line_fault.NotText)
@@ -244,23 +244,23 @@ pair_at_counter naming state body (at.Cell cell) =
 abbrev pub with_banks : State → Banks → Step
 with_banks state banks = record { state = record state { banks = banks }; first = None; second = None }
 
-abbrev pub ebank_said : State → Result ℕ SourceFault → Result Step SourceFault
-ebank_said state (Ok cell) =
+abbrev pub ebank_parsed : State → Result ℕ SourceFault → Result Step SourceFault
+ebank_parsed state (Ok cell) =
     Ok (with_banks state (record {
       erasable = cell / erasable_bank_size;
       before = Some state.banks.erasable;
       superbank = state.banks.superbank;
     }))
-ebank_said state (Err why) = Err why
+ebank_parsed state (Err why) = Err why
 
-abbrev pub sbank_said : State → Result ℕ SourceFault → Result Step SourceFault
-sbank_said state (Ok place) =
+abbrev pub sbank_parsed : State → Result ℕ SourceFault → Result Step SourceFault
+sbank_parsed state (Ok place) =
     Ok (with_banks state (record {
       erasable = state.banks.erasable;
       before = state.banks.before;
       superbank = superbank 0 place;
     }))
-sbank_said state (Err why) = Err why
+sbank_parsed state (Err why) = Err why
 
 abbrev pub shape_woven : Naming → State → List (List ℕ) → Result LineKind SourceFault → Result Step SourceFault
 shape_woven naming state body (Err why) = Err why
@@ -269,49 +269,49 @@ shape_woven naming state body (Ok kind.Word) =
 shape_woven naming state body (Ok kind.Pair) =
     pair_at_counter naming state body state.counter.at
 shape_woven naming state body (Ok kind.Ebank) =
-    ebank_said state (cell_in (location_in naming (after_first (spelled body))))
+    ebank_parsed state (cell_in (location_in naming (after_first (spelled body))))
 shape_woven naming state body (Ok kind.Sbank) =
-    sbank_said state (place_in (location_in naming (after_first (spelled body))))
+    sbank_parsed state (place_in (location_in naming (after_first (spelled body))))
 shape_woven naming state body (Ok s) = no_word state s (cursor_after state.counter s)
 
 -- a listing line changes nothing but its place
 abbrev pub listed_woven : State → Result (Option PlacedWord) LineFault → Result Step SourceFault
-listed_woven state (Ok said) = Ok (record { state = state; first = said; second = None })
+listed_woven state (Ok parsed) = Ok (record { state = state; first = parsed; second = None })
 listed_woven state (Err why) = Err (fault.Listed why)
 
 -- the words of a line, with their places, and where the next line goes
 unfoldable pub line_woven : Naming → State → List ℕ → Result Step SourceFault
 line_woven naming state line =
-    if are_listed (said_by line)
+    if are_listed (parsed_by line)
     then listed_woven state (line_named line)
     else shape_woven naming state (body_in line) (shape_of naming (spelled (body_in line)))
 
 -- no place is named twice
-abbrev pub more_said : List PlacedWord → Result (Option PlacedWord) LineFault → Result (List PlacedWord) SourceFault
-more_said said (Ok word) = Ok (said_with said word)
-more_said said (Err why) = Err (fault.Listed why)
+abbrev pub parsed_added : List PlacedWord → Result (Option PlacedWord) LineFault → Result (List PlacedWord) SourceFault
+parsed_added parsed (Ok word) = Ok (with_placed_word parsed word)
+parsed_added parsed (Err why) = Err (fault.Listed why)
 
-abbrev pub said_more : List PlacedWord → Option PlacedWord → Result (List PlacedWord) SourceFault
-said_more said word = more_said said (unless_named said (Ok word))
+abbrev pub word_added : List PlacedWord → Option PlacedWord → Result (List PlacedWord) SourceFault
+word_added parsed word = parsed_added parsed (unless_named parsed (Ok word))
 
-abbrev pub also_said : Result (List PlacedWord) SourceFault → Option PlacedWord → Result (List PlacedWord) SourceFault
-also_said (Ok said) word = said_more said word
-also_said (Err why) word = Err why
+abbrev pub also_added : Result (List PlacedWord) SourceFault → Option PlacedWord → Result (List PlacedWord) SourceFault
+also_added (Ok parsed) word = word_added parsed word
+also_added (Err why) word = Err why
 
-abbrev pub both_said : List PlacedWord → Option PlacedWord → Option PlacedWord → Result (List PlacedWord) SourceFault
-both_said said first second = also_said (said_more said first) second
+abbrev pub two_added : List PlacedWord → Option PlacedWord → Option PlacedWord → Result (List PlacedWord) SourceFault
+two_added parsed first second = also_added (word_added parsed first) second
 
 -- the result of a line, with its number if it is faulty
-abbrev pub told_at : ℕ → Result (List PlacedWord) SourceFault → Result (List PlacedWord) AssemblyFault
-told_at n (Ok said) = Ok said
-told_at n (Err why) = Err (trouble.Line n why)
+abbrev pub reported_at : ℕ → Result (List PlacedWord) SourceFault → Result (List PlacedWord) AssemblyFault
+reported_at n (Ok parsed) = Ok parsed
+reported_at n (Err why) = Err (trouble.Line n why)
 
 -- the words of lines after other words, or the first fault of these lines
 unfoldable pub words_from : ℕ → Naming → State → List PlacedWord → List (List ℕ) → Result (List PlacedWord) AssemblyFault
-words_from n naming state said [] = Ok said
-words_from n naming state said (line ∷ lines) =
+words_from n naming state parsed [] = Ok parsed
+words_from n naming state parsed (line ∷ lines) =
     elim (line_woven naming state (plain_line line)) [
-      | Ok step ↦ elim (both_said said step.first step.second) [
+      | Ok step ↦ elim (two_added parsed step.first step.second) [
         | Ok more ↦ words_from (n + 1) naming step.state more lines
         | Err why ↦ Err (trouble.Line n why)
       ]
@@ -328,25 +328,25 @@ words_after_names text (Err why) = Err why
 
 -- a text with only places and words, and with comments that are text, is a listing
 abbrev pub is_listing_line : List ℕ → Bool
-is_listing_line line = are_listed (said_by line) && not (has_odd_comment line)
+is_listing_line line = are_listed (parsed_by line) && not (has_odd_comment line)
 
 unfoldable pub is_listing : List ℕ → Bool
 is_listing text = list_all (λ line. is_listing_line line) (lines_of text)
 
 abbrev pub as_source : Result (List PlacedWord) WeaveFault → Result (List PlacedWord) AssemblyFault
-as_source (Ok said) = Ok said
+as_source (Ok parsed) = Ok parsed
 as_source (Err (weave.Line n why)) = Err (trouble.Line n (fault.Listed why))
 as_source (Err weave.Memory) = Err trouble.Memory
 
 -- the words of a text, each with its place, or its first fault
 unfoldable pub source_in : List ℕ → Result (List PlacedWord) AssemblyFault
 source_in text =
-    if is_listing text then as_source (said_in text) else words_after_names text (names_in text)
+    if is_listing text then as_source (parsed_in text) else words_after_names text (names_in text)
 
 -- the file that a source assembles to
 abbrev pub IsSourceWoven : RopeForm → List ℕ → List ℕ → Type 0
 IsSourceWoven form text file =
-    (said : List PlacedWord) × (source_in text ≡ Ok said) × (file ≡ woven_file form said)
+    (parsed : List PlacedWord) × (source_in text ≡ Ok parsed) × (file ≡ woven_file form parsed)
 
 -- the places of a step are in the rope
 abbrev pub IsPlaced : Step → Type 0

@@ -1,7 +1,7 @@
 //! Splits a line of a source: its name, its operation, and the words of its operand.
 ghost use Rattle.std.specs.Prelude.{◌≡◌, ◌<◌, ◌∷◌, [], length, position, option_map, MatchOption, IfSome, codes, true, false};
 ghost use Rattle.agc_listing.specs.Number.{begins_with_minus};
-ghost use Rattle.agc_listing.specs.Text.{body_of, label_of, only_of, said_by};
+ghost use Rattle.agc_listing.specs.Text.{body_of, label_of, only_of, parsed_by};
 ghost use Rattle.agc_asm.specs.Body.{
   alias_in,
   alias_named,
@@ -26,7 +26,7 @@ ghost use Rattle.agc_listing.specs.Line.{is_no_text};
 
 use crate::alias::Alias;
 use crate::mnemonic::Directive;
-use agc_listing::{cut_label, has_other_byte, next_said, offset_said};
+use agc_listing::{cut_label, has_other_byte, next_parsed, offset_parsed};
 
 /// The operation of a line and what follows it.
 #[derive(Clone, Copy)]
@@ -47,7 +47,7 @@ pub(crate) fn next_token(text: &[u8]) -> Option<(&[u8], &[u8])>
     ensures { MatchOption result (tokens text.now ≡ [])
         (λ cut. tokens text.now ≡ cut.0.now ∷ tokens cut.1.now) }
 {
-    let (word, rest) = next_said(text)?;
+    let (word, rest) = next_parsed(text)?;
     match first_hash(word) {
         None => Some((word, rest)),
         Some(0) => None,
@@ -122,7 +122,7 @@ fn without_adornment(body: &[u8]) -> &[u8]
     ensures { tokens result.now ≡ without_adornment (tokens body.now) }
 {
     match next_token(body) {
-        Some((word, rest)) if offset_said(word).is_some() => rest,
+        Some((word, rest)) if offset_parsed(word).is_some() => rest,
         _ => body,
     }
 }

@@ -3,22 +3,23 @@ ghost use Rattle.std.specs.Prelude.{◌≡◌, ◌<◌, ◌≤◌, ◌+◌, ◌+
 ghost use Rattle.agc_word.specs.Number.{pattern_of};
 ghost use Rattle.agc_store.specs.Places.{fixed_bank_size, fixed_words};
 ghost use Rattle.agc_listing.specs.Laws.{AreRopeWords};
-ghost use Rattle.agc_listing.specs.List.{starts_run, is_asked_for};
+ghost use Rattle.agc_listing.specs.List.{starts_run, is_in_selected_bank};
 ghost use Rattle.agc_asm.specs.Laws.{WeavesTo};
 ghost use Rattle.agc_listing.specs.Order.{next_is_extracode};
 ghost use Rattle.agc_asm.specs.Disassemble.{
   line_of,
   line_to,
-  lines_said,
+  placed_word_lines,
   resolve_range,
   rope_source,
   shows_order,
-  text_said,
-  word_said,
+  text_at_place,
+  order_or_digits,
 };
 
 use agc_listing::{
-    Place, is_asked_for, listed_address, next_is_extracode, push_order, push_place, starts_run,
+    Place, is_in_selected_bank, listed_address, next_is_extracode, push_order, push_place,
+    starts_run,
 };
 use agc_store::Store;
 use agc_store::place::{FIXED_BANK_SIZE, FIXED_WORDS, bank_of};
@@ -26,7 +27,7 @@ use agc_word::Narrow;
 use std::alloc::{AllocError, Global};
 
 /// How the assembler reads the line of a place, and how `list` shows the place.
-#[derive(Clone, Copy, Debug, PartialEq, Eq)]
+#[derive(Clone, Copy)]
 pub(crate) struct Read {
     /// The place right before it in its bank holds a word.
     pub follows: bool,
@@ -71,7 +72,7 @@ fn push_places(
     };
     for place in 0..count {
         let word = store.fixed_at(place);
-        push_place_said(text, bank, place, read, word)?;
+        push_text_at_place(text, bank, place, read, word)?;
         read = read_next(read, place, word);
     }
     Ok(())
@@ -98,7 +99,7 @@ pub(crate) fn read_next(read: Read, place: usize, word: Narrow) -> Read
 }
 
 /// Appends the lines of a word, if it has any.
-fn push_place_said(
+fn push_text_at_place(
     text: &mut String,
     bank: Option<u8>,
     place: usize,
@@ -107,26 +108,26 @@ fn push_place_said(
 ) -> Result<(), AllocError>
     requires { place < fixed_words }
     ensures { OnOk result (string_bytes text.new ≡ string_bytes text.old
-        ++ text_said bank place read.follows read.wanted read.extracode word) }
+        ++ text_at_place bank place read.follows read.wanted read.extracode word) }
 {
-    if word.bits() != 0 && is_asked_for(bank, place) {
+    if word.bits() != 0 && is_in_selected_bank(bank, place) {
         push_lines(text, place, read, word)?;
     }
     Ok(())
 }
 
 /// Appends the lines of a word.
-#[tactic(auto, unfolding(crate::specs::Disassemble::lines_said))]
+#[tactic(auto, unfolding(crate::specs::Disassemble::placed_word_lines))]
 fn push_lines(text: &mut String, place: usize, read: Read, word: Narrow) -> Result<(), AllocError>
     requires { place < fixed_words }
     ensures { OnOk result (string_bytes text.new ≡ string_bytes text.old
-        ++ lines_said place read.follows read.wanted read.extracode word) }
+        ++ placed_word_lines place read.follows read.wanted read.extracode word) }
 {
     if !read.follows {
         push_line_to(text, place)?;
     }
     text.push_str("        ")?;
-    push_word_said(text, read, word)?;
+    push_order_or_digits(text, read, word)?;
     text.push_str("\n")
 }
 
@@ -146,9 +147,9 @@ fn push_line_to(text: &mut String, place: usize) -> Result<(), AllocError>
 }
 
 /// Appends the order of a word, or its digits.
-fn push_word_said(text: &mut String, read: Read, word: Narrow) -> Result<(), AllocError>
+fn push_order_or_digits(text: &mut String, read: Read, word: Narrow) -> Result<(), AllocError>
     ensures { OnOk result (string_bytes text.new
-        ≡ string_bytes text.old ++ word_said read.wanted read.extracode word) }
+        ≡ string_bytes text.old ++ order_or_digits read.wanted read.extracode word) }
 {
     if read.wanted == read.extracode {
         push_order(text, read.extracode, word)

@@ -46,25 +46,25 @@ use crate::body::{next_token, only_token, operation_in};
 use crate::fault::SourceFault;
 use crate::mnemonic::{Directive, basic_named, extracode_named};
 use crate::names::Names;
-use crate::numeral::number_in;
-use crate::operand::{Value, location_for, location_in, operand_for, value_of};
+use crate::numeral::{number_in, without_sign};
+use crate::operand::{Value, location_for, operand_for, value_of};
 use crate::row::{basic_word, extracode_word, meant, meant_operand};
 use agc_listing::{
-    Location, cell_address, complete_address, listed_address, octal_word, offset_said,
+    Location, cell_address, complete_address, listed_address, octal_word, offset_parsed,
 };
 use agc_order::{Basic, Extracode};
 use agc_store::place::bank_of;
 use agc_word::{Narrow, read_decimal, read_octal};
 
 /// Two words, the upper one first.
-#[derive(Clone, Copy, Debug, PartialEq, Eq)]
+#[derive(Clone, Copy)]
 pub(crate) struct Pair {
     pub upper: Narrow,
     pub lower: Narrow,
 }
 
 /// The banks that EBANK= and SBANK= name for words for BB.
-#[derive(Clone, Copy, Debug, PartialEq, Eq)]
+#[derive(Clone, Copy)]
 pub(crate) struct Banks {
     pub erasable: u8,
     /// The bank before the last EBANK=, if no word has come since.
@@ -73,7 +73,7 @@ pub(crate) struct Banks {
 }
 
 /// Where a line is: its place, whether an extracode is expected there, and the banks for words for BB.
-#[derive(Clone, Copy, Debug, PartialEq, Eq)]
+#[derive(Clone, Copy)]
 pub(crate) struct Site {
     pub here: u32,
     pub leads: bool,
@@ -174,7 +174,7 @@ fn less_than_zero(rest: &[u8]) -> Option<u64>
         return None;
     }
     let number = read_octal(6, word)?;
-    let by = offset_said(by)?;
+    let by = offset_parsed(by)?;
     if by.minus && number < by.magnitude {
         Some(by.magnitude - number)
     } else {
@@ -246,15 +246,15 @@ fn directive_meaning(
             Ok(Narrow::with_bits(any_address(place)))
         }
         Directive::Cadr | Directive::Fcadr => {
-            let place = place_at(names, site.here, rest)?;
+            let place = place_in(location_for(names, site.here, rest))?;
             Ok(Narrow::with_bits(complete_address(place)))
         }
         Directive::Ecadr => {
-            let cell = cell_at(names, site.here, rest)?;
+            let cell = cell_in(location_for(names, site.here, rest))?;
             Ok(Narrow::with_bits(cell as u16))
         }
         Directive::Bbcon => {
-            let place = place_at(names, site.here, rest)?;
+            let place = place_in(location_for(names, site.here, rest))?;
             Ok(Narrow::with_bits(bank_word(site.banks, place)))
         }
         Directive::VerbNoun => verb_noun_in(rest),
@@ -270,15 +270,6 @@ fn octal_in(rest: &[u8]) -> Option<Narrow>
     let word = only_token(rest)?;
     let minus = matches!(word, [b'-', ..]);
     Some(complemented(minus, octal_word(without_sign(word))?))
-}
-
-fn without_sign(text: &[u8]) -> &[u8]
-    ensures { result.now ≡ without_sign text.now }
-{
-    match text {
-        [b'+' | b'-', digits @ ..] => digits,
-        _ => text,
-    }
 }
 
 /// Parses a decimal number of one word.
@@ -301,60 +292,40 @@ fn any_address(location: Location) -> u16
     }
 }
 
-/// Returns the place in fixed memory that the operand of a word at a place names.
-fn place_at(names: &Names, here: u32, rest: &[u8]) -> Result<u32, SourceFault>
-    ensures place { result ≡ place_in (location_for (naming_of names.now) here (tokens rest.now)) }
+/// Returns the place of a location that must be in fixed memory.
+pub(crate) fn place_in(location: Result<Location, SourceFault>) -> Result<u32, SourceFault>
+    requires { IfOk location IsWithin }
+    ensures place { result ≡ place_in location }
     ensures range { IfOk result (λ place. place < fixed_words) }
 {
-    match location_for(names, here, rest)? {
+    match location? {
         Location::Fixed(place) => Ok(place),
         Location::Erasable(_) => Err(SourceFault::FixedWanted),
     }
 }
 
-/// Returns the cell that the operand of a word at a place names.
-fn cell_at(names: &Names, here: u32, rest: &[u8]) -> Result<u32, SourceFault>
-    ensures cell { result ≡ cell_in (location_for (naming_of names.now) here (tokens rest.now)) }
+/// Returns the cell of a location that must be in erasable memory.
+pub(crate) fn cell_in(location: Result<Location, SourceFault>) -> Result<u32, SourceFault>
+    requires { IfOk location IsWithin }
+    ensures cell { result ≡ cell_in location }
     ensures range { IfOk result (λ cell. cell < erasable_cells) }
 {
-    match location_for(names, here, rest)? {
-        Location::Erasable(cell) => Ok(cell),
-        Location::Fixed(_) => Err(SourceFault::ErasableWanted),
-    }
-}
-
-/// Returns the place in fixed memory that the operand of a directive names.
-pub(crate) fn place_in(names: &Names, rest: &[u8]) -> Result<u32, SourceFault>
-    ensures place { result ≡ place_in (location_in (naming_of names.now) (tokens rest.now)) }
-    ensures range { IfOk result (λ place. place < fixed_words) }
-{
-    match location_in(names, rest)? {
-        Location::Fixed(place) => Ok(place),
-        Location::Erasable(_) => Err(SourceFault::FixedWanted),
-    }
-}
-
-/// Returns the cell that the operand of a directive names.
-pub(crate) fn cell_in(names: &Names, rest: &[u8]) -> Result<u32, SourceFault>
-    ensures cell { result ≡ cell_in (location_in (naming_of names.now) (tokens rest.now)) }
-    ensures range { IfOk result (λ cell. cell < erasable_cells) }
-{
-    match location_in(names, rest)? {
+    match location? {
         Location::Erasable(cell) => Ok(cell),
         Location::Fixed(_) => Err(SourceFault::ErasableWanted),
     }
 }
 
 /// Returns the superbank that channel 7 holds for a place, or the one that SBANK= said.
-pub(crate) fn superbank(said: u8, place: u32) -> u8
-    requires said { said < 8 }
+pub(crate) fn superbank(parsed: u8, place: u32) -> u8
+    requires parsed { parsed < 8 }
     requires place { place < fixed_words }
-    ensures superbank { result ≡ superbank said place }
+    ensures superbank { result ≡ superbank parsed place }
     ensures range { result < 8 }
 {
     let bank = bank_of(place);
     if bank < 0o30 {
-        said
+        parsed
     } else if bank < 0o40 {
         3
     } else {
@@ -489,7 +460,7 @@ fn pair_by_word(
         Directive::PairDecStarred => pair_of_number(true, rest),
         Directive::PairOct => octal_pair_in(rest),
         Directive::PairCadr => {
-            let place = place_at(names, site.here, rest)?;
+            let place = place_in(location_for(names, site.here, rest))?;
             Ok(Pair {
                 upper: Narrow::with_bits(listed_address(place as usize)),
                 lower: Narrow::with_bits(bank_word(site.banks, place)),

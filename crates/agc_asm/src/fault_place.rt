@@ -6,7 +6,7 @@ use crate::alias::Alias;
 use crate::fault::SourceFault;
 use crate::mnemonic::{Directive, is_order};
 use crate::numeral::{is_numeral, is_scale};
-use agc_listing::{LineFault, has_other_byte, is_listed, offset_said};
+use agc_listing::{LineFault, has_other_byte, is_listed, offset_parsed};
 
 /// A word of a line, and the byte column at which it begins, counted from 1.
 #[derive(Clone, Copy, Debug, PartialEq, Eq)]
@@ -80,7 +80,7 @@ fn operation_index(line: &[u8]) -> usize
         return 1;
     }
     match word_of(line, 0) {
-        Some(first) if offset_said(first).is_some() => 1,
+        Some(first) if offset_parsed(first).is_some() => 1,
         _ => 0,
     }
 }
@@ -104,7 +104,7 @@ fn bad_operand(line: &[u8], first: usize) -> usize
         return first + 2;
     }
     match word_of(line, first + 1) {
-        Some(second) if offset_said(second).is_none() => first + 1,
+        Some(second) if offset_parsed(second).is_none() => first + 1,
         _ => first,
     }
 }

@@ -1,9 +1,7 @@
 //! Finds all faulty lines of a source, not only the first.
 ghost use Rattle.agc_asm.specs.LocationCounter.{IsAt};
-ghost use Rattle.agc_asm.specs.Source.{IsState};
 
 use crate::body::{cut_line, plain_line};
-use crate::encode::Banks;
 use crate::fault::SourceFault;
 use crate::fault_place::word_at_fault;
 use crate::line_kind::{cursor_after, shape_of};
@@ -65,23 +63,22 @@ pub fn faulty_lines(
     text: &[u8],
     most: usize,
 ) -> Result<Vec<FaultyLine<'_>>, AllocError> {
+    let mut found = Vec::new(alloc);
     let mut names = first_names(alloc, text)?;
-    let named = faulty_labels(alloc, &mut names, text, most)?;
-    if named.is_empty() {
-        faulty_words(alloc, &names, text, most)
-    } else {
-        Ok(named)
+    push_faulty_labels(&mut found, &mut names, text, most)?;
+    if found.is_empty() {
+        push_faulty_words(&mut found, &names, text, most)?;
     }
+    Ok(found)
 }
 
-/// Returns the faulty lines of the first pass, and adds the names of the others.
-fn faulty_labels<'a>(
-    alloc: Global,
+/// Adds the faulty lines of the first pass, and the names of the others.
+fn push_faulty_labels<'a>(
+    found: &mut Vec<FaultyLine<'a>>,
     names: &mut Names<'a>,
     text: &'a [u8],
     most: usize,
-) -> Result<Vec<FaultyLine<'a>>, AllocError> {
-    let mut found = Vec::new(alloc);
+) -> Result<(), AllocError> {
     let mut counter = LocationCounter::new();
     let mut lines = 0;
     let mut rest = text;
@@ -94,24 +91,23 @@ fn faulty_labels<'a>(
                 counter = next.counter;
             }
             Err(fault) => {
-                push_faulty(&mut found, FaultyLine::new(lines, line, fault), most)?;
+                push_faulty(found, FaultyLine::new(lines, line, fault), most)?;
                 counter = moved_past(names, counter, line);
             }
         }
         rest = after;
     }
-    Ok(found)
+    Ok(())
 }
 
-/// Returns the faulty lines of the second pass.
-fn faulty_words<'a>(
-    alloc: Global,
+/// Adds the faulty lines of the second pass.
+fn push_faulty_words<'a>(
+    found: &mut Vec<FaultyLine<'a>>,
     names: &Names,
     text: &'a [u8],
     most: usize,
-) -> Result<Vec<FaultyLine<'a>>, AllocError> {
-    let mut found = Vec::new(alloc);
-    let mut state = first_state();
+) -> Result<(), AllocError> {
+    let mut state = State::new();
     let mut lines = 0;
     let mut rest = text;
     while let Some((line, after)) = next_line(rest) {
@@ -120,29 +116,14 @@ fn faulty_words<'a>(
         match line_woven(names, state, line) {
             Ok(step) => state = step.state,
             Err(fault) => {
-                push_faulty(&mut found, FaultyLine::new(lines, line, fault), most)?;
+                push_faulty(found, FaultyLine::new(lines, line, fault), most)?;
                 state.counter = moved_past(names, state.counter, line);
                 state.leads = false;
             }
         }
         rest = after;
     }
-    Ok(found)
-}
-
-/// Returns the state before the first line.
-fn first_state() -> State
-    ensures { IsState result }
-{
-    State {
-        counter: LocationCounter::new(),
-        leads: false,
-        banks: Banks {
-            erasable: 0,
-            before: None,
-            superbank: 0,
-        },
-    }
+    Ok(())
 }
 
 /// Adds a faulty line, if there are fewer than `most`.

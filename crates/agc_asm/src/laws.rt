@@ -51,7 +51,7 @@ pub fn a_listing_shows_the_orders_of_a_source()
 /// no fault, and with that line they have this one. The second pass, for the words, runs only if the first pass, for
 /// the names, has no fault. The first pass begins with the names that earlier readings found for references to later
 /// lines. A text with only places and words has no names, and only the pass for its words.
-pub fn the_fault_told_is_the_first()
+pub fn the_fault_reported_is_the_first()
     ensures source { (text : List ℕ) (n : ℕ) (why : SourceFault) → is_listing text ≡ false
         → source_in text ≡ Err (Line n why) → IsFirstFault text n why }
     ensures only { (text : List ℕ) (n : ℕ) (why : SourceFault) → is_listing text ≡ false

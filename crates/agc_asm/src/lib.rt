@@ -20,7 +20,6 @@ mod numeral;
 mod operand;
 mod pass1;
 mod pass2;
-mod register;
 mod row;
 mod symbol_file;
 mod unknown_operation;
@@ -36,7 +35,7 @@ pub use faulty::{FaultyLine, faulty_lines};
 pub use laws::{
     a_fraction_is_the_nearest_number, a_listing_shows_the_orders_of_a_source,
     a_minus_complements_the_words, aliases_are_the_words_of_their_table,
-    an_offset_is_added_to_the_word, the_fault_told_is_the_first,
+    an_offset_is_added_to_the_word, the_fault_reported_is_the_first,
 };
 pub use listing_style::yul_source;
 pub use mnemonic::{Directive, basic_named, extracode_named, is_order};

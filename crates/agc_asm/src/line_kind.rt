@@ -19,7 +19,7 @@ ghost use Rattle.agc_asm.specs.LineKind.{
   stands_for,
 };
 ghost use Rattle.agc_asm.specs.Name.{naming_of};
-ghost use Rattle.agc_listing.specs.Number.{offset_said};
+ghost use Rattle.agc_listing.specs.Number.{offset_parsed};
 ghost use Rattle.agc_listing.specs.Text.{only_of};
 ghost use Rattle.agc_word.specs.Numeral.{octal_number};
 
@@ -30,12 +30,12 @@ use crate::mnemonic::{Directive, is_order};
 use crate::names::Names;
 use crate::operand::location_in;
 use crate::unknown_operation::unknown_operation;
-use agc_listing::{Location, offset_said};
+use agc_listing::{Location, offset_parsed};
 use agc_store::place::ERASABLE_CELLS;
 use agc_word::read_octal;
 
 /// What a line occupies.
-#[derive(Clone, Copy, Debug, PartialEq, Eq)]
+#[derive(Clone, Copy)]
 pub(crate) enum LineKind {
     /// One word.
     Word,
@@ -170,10 +170,10 @@ fn is_dash(word: &[u8]) -> bool
 
 /// Parses how many more cells there are, or a range without blanks.
 fn cells_by(word: &[u8]) -> Result<LineKind, SourceFault>
-    ensures cells { result ≡ cells_by (offset_said word.now) word.now }
+    ensures cells { result ≡ cells_by (offset_parsed word.now) word.now }
     ensures range { IfOk result IsShape }
 {
-    match offset_said(word) {
+    match offset_parsed(word) {
         Some(by) if !by.minus => Ok(LineKind::Cells(by.magnitude as u32 + 1)),
         Some(_) => Err(SourceFault::BadNumber),
         None => cut_range(word),

@@ -7,19 +7,17 @@ ghost use Rattle.agc_asm.specs.Laws.{WeavesTo};
 ghost use Rattle.agc_store.specs.Places.{fixed_words};
 
 use crate::alias::Alias;
-use crate::assemble_source::is_listing;
+use crate::assemble_source::{is_listing, source_words};
 use crate::disassemble::{Read, read_next, rope_source};
 use crate::fault::AssemblyFault;
-use crate::pass1::read_names;
-use crate::pass2::read_words;
 use agc_listing::{
-    Location, Operand, PlacedWord, file_of, is_asked_for, listed_address, operand_in,
+    Location, Operand, PlacedWord, file_of, is_in_selected_bank, listed_address, operand_in,
 };
 use agc_order::{Basic, Extracode, Row, Takes};
 use agc_store::place::{FIXED_FIXED, FIXED_WORDS};
 use agc_store::{Rope, RopeFault, RopeForm, Store};
 use agc_symbols::SymbolTable;
-use agc_word::Narrow;
+use agc_word::{Narrow, read_octal};
 use std::alloc::{AllocError, Global};
 
 /// Prints the source of the rope in a store as the listings write it: a line for each word that is not +0 or that an
@@ -55,12 +53,7 @@ fn is_source_of(alloc: Global, text: &[u8], store: &Store) -> Result<bool, Alloc
     if is_listing(text) {
         return Ok(false);
     }
-    let names = match read_names(alloc, text) {
-        Ok(names) => names,
-        Err(AssemblyFault::Line(_, _)) => return Ok(false),
-        Err(AssemblyFault::Memory) => return Err(AllocError),
-    };
-    let builder = match read_words(alloc, &names, text) {
+    let builder = match source_words(alloc, text) {
         Ok(builder) => builder,
         Err(AssemblyFault::Line(_, _)) => return Ok(false),
         Err(AssemblyFault::Memory) => return Err(AllocError),
@@ -120,7 +113,7 @@ fn yul_text(
     };
     for place in 0..FIXED_WORDS as usize {
         let word = store.fixed_at(place);
-        if (word.bits() != 0 || read.wanted) && is_asked_for(bank, place) {
+        if (word.bits() != 0 || read.wanted) && is_in_selected_bank(bank, place) {
             push_lines(&mut text, names, place, read, word)?;
         }
         read = read_next(read, place, word);
@@ -144,12 +137,24 @@ fn push_lines(
     }
     push_label(text, names, place)?;
     text.push_str("\t")?;
-    if read.wanted == read.extracode && !is_wrapped(read.extracode, word) {
-        push_order(text, read.extracode, place, word)?;
-    } else {
-        write!(text, "OCT\t{word}")?;
-    }
+    push_order_or_octal(text, place, read, word)?;
     text.push_str("\n")
+}
+
+/// Appends a word as an order, or in octal.
+fn push_order_or_octal(
+    text: &mut String,
+    place: usize,
+    read: Read,
+    word: Narrow,
+) -> Result<(), AllocError>
+    requires { place < fixed_words }
+{
+    if read.wanted == read.extracode && !is_wrapped(read.extracode, word) {
+        push_order(text, read.extracode, place, word)
+    } else {
+        write!(text, "OCT\t{word}")
+    }
 }
 
 /// Returns whether a word is the double order whose upper address wraps round: listings have no such order.
@@ -232,22 +237,22 @@ fn alias_of(row: Row, operand: Operand, place: usize) -> Option<Alias>
     let Operand::Address(address) = operand else {
         return None;
     };
-    match (row.mnemonic, address) {
-        ("TS", 0) => Some(Alias::Ovsk),
-        ("TS", 5) => Some(Alias::Tcaa),
-        ("TC", 2) => Some(Alias::Return),
-        ("TC", 1) => Some(Alias::Xlq),
-        ("DXCH", 5) => Some(Alias::Dtcb),
-        ("DXCH", 4) => Some(Alias::Dtcf),
-        ("LXCH", 7) => Some(Alias::Zl),
-        ("QXCH", 7) => Some(Alias::Zq),
-        ("CS", 0) => Some(Alias::Com),
-        ("DCS", 0) => Some(Alias::Dcom),
-        ("AD", 0) => Some(Alias::Double),
-        ("DAS", 0) => Some(Alias::Ddoubl),
-        ("MP", 0) => Some(Alias::Square),
-        ("TCF", next) if is_next(place, next) => Some(Alias::Noop),
-        _ => None,
+    for alias in Alias::ALL {
+        if alias.order() == row.mnemonic && has_operand(alias, address, place) {
+            return Some(alias);
+        }
+    }
+    None
+}
+
+/// Returns whether an alias has this address as its operand.
+fn has_operand(alias: Alias, address: u16, place: usize) -> bool
+    requires { place < fixed_words }
+{
+    match alias.operand() {
+        Some("+1") => is_next(place, address),
+        Some(digits) => read_octal(1, digits.as_bytes()) == Some(u64::from(address)),
+        None => false,
     }
 }
 

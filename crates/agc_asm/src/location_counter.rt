@@ -26,7 +26,7 @@ use agc_store::place::{
 };
 
 /// Which memory the lines go into.
-#[derive(Clone, Copy, Debug, PartialEq, Eq)]
+#[derive(Clone, Copy)]
 pub(crate) enum At {
     /// A fixed bank.
     Bank(u8),
@@ -35,7 +35,7 @@ pub(crate) enum At {
 }
 
 /// Where the next line goes.
-#[derive(Clone, Copy, Debug, PartialEq, Eq)]
+#[derive(Clone, Copy)]
 pub(crate) struct LocationCounter {
     /// The offset of the next word in each bank.
     pub left: [u16; 36],

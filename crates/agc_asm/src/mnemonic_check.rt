@@ -84,13 +84,13 @@ pub fn first_misnamed(text: &[u8]) -> Option<Misnamed>
 fn misnamed_at(number: usize, line: &[u8]) -> Option<Misnamed>
     ensures { result ≡ misnamed_at number line.now }
 {
-    let Ok(Some(said)) = read_line(line) else {
+    let Ok(Some(parsed)) = read_line(line) else {
         return None;
     };
-    let written = order_amiss(said.word, third_word(line)?)?;
+    let written = order_amiss(parsed.word, third_word(line)?)?;
     Some(Misnamed {
         line: number,
-        word: said.word,
+        word: parsed.word,
         written,
     })
 }

@@ -2,8 +2,8 @@
 ghost use Rattle.std.specs.Prelude.{◌≡◌, OnOk};
 ghost use Rattle.agc_asm.specs.Name.{given_of, guessing, known, naming_of, own_names, with_name};
 
-use crate::register::Register;
 use agc_listing::Location;
+use agc_symbols::Register;
 use std::alloc::{AllocError, Global};
 use std::collections::BTreeMap;
 
@@ -46,8 +46,10 @@ impl<'a> Names<'a> {
         if let Some(place) = self.guess.get(name) {
             return Some(*place);
         }
-        let register = Register::from_name(name)?;
-        Some(Location::Erasable(register.cell()))
+        match Register::from_name(name) {
+            Some(register) if !register.is_short() => Some(Location::Erasable(register.cell())),
+            _ => None,
+        }
     }
 
     /// Returns the location of a name that a line has.

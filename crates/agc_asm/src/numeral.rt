@@ -41,7 +41,7 @@ use agc_listing::Signed;
 use agc_word::read_decimal;
 
 /// The digits of a number as one integer, and how many of them stand after its point.
-#[derive(Clone, Copy, Debug, PartialEq, Eq)]
+#[derive(Clone, Copy)]
 pub(crate) struct Numeral {
     pub minus: bool,
     pub digits: u128,
@@ -53,21 +53,21 @@ pub(crate) struct Numeral {
 }
 
 /// A factor: a power of ten or of two.
-#[derive(Clone, Copy, Debug, PartialEq, Eq)]
+#[derive(Clone, Copy)]
 pub(crate) enum Scale {
     Ten(Signed),
     Two(Signed),
 }
 
 /// Both factors of a number.
-#[derive(Clone, Copy, Debug, PartialEq, Eq)]
+#[derive(Clone, Copy)]
 pub(crate) struct Scales {
     pub ten: Signed,
     pub two: Signed,
 }
 
 /// A quotient of two integers.
-#[derive(Clone, Copy, Debug, PartialEq, Eq)]
+#[derive(Clone, Copy)]
 pub(crate) struct Quotient {
     pub over: u128,
     pub under: u128,
@@ -304,7 +304,8 @@ fn first_point(text: &[u8]) -> Option<usize>
     text.iter().position(|b| *b == b'.')
 }
 
-fn without_sign(text: &[u8]) -> &[u8]
+/// Returns a text without the sign before it.
+pub(crate) fn without_sign(text: &[u8]) -> &[u8]
     ensures { result.now ≡ without_sign text.now }
 {
     match text {

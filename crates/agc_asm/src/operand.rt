@@ -26,21 +26,21 @@ ghost use Rattle.agc_asm.specs.Operand.{
   value_whole,
 };
 ghost use Rattle.agc_listing.specs.Location.{IsWithin};
-ghost use Rattle.agc_listing.specs.Number.{offset_said};
+ghost use Rattle.agc_listing.specs.Number.{offset_parsed};
 
 use crate::body::next_token;
 use crate::fault::SourceFault;
 use crate::names::Names;
 use agc_listing::{
     Location, Operand, Signed, cell_address, count_named, is_addressable, is_name, listed_address,
-    location_named, location_numbered, offset_said,
+    location_named, location_numbered, offset_parsed,
 };
 use agc_order::Takes;
 use agc_store::place::{ERASABLE_CELLS, FIXED_WORDS};
 use agc_word::read_octal;
 
 /// The value of an operand.
-#[derive(Clone, Copy, Debug, PartialEq, Eq)]
+#[derive(Clone, Copy)]
 pub(crate) enum Value {
     /// An address or a channel, as written.
     Number(u32),
@@ -91,9 +91,9 @@ pub(crate) fn value_of(names: &Names, here: u32, text: &[u8]) -> Result<Value, S
 
 /// Parses a value of one word: an offset from the line itself, a number or a name.
 fn value_here(names: &Names, here: u32, word: &[u8]) -> Result<Value, SourceFault>
-    ensures { result ≡ value_here (offset_said word.now) (naming_of names.now) here word.now }
+    ensures { result ≡ value_here (offset_parsed word.now) (naming_of names.now) here word.now }
 {
-    match offset_said(word) {
+    match offset_parsed(word) {
         Some(by) => value_moved(Value::At(Location::Fixed(here)), by),
         None => value_in(names, word),
     }
@@ -101,10 +101,10 @@ fn value_here(names: &Names, here: u32, word: &[u8]) -> Result<Value, SourceFaul
 
 /// Parses a value and an offset.
 fn value_beside(names: &Names, word: &[u8], by: &[u8]) -> Result<Value, SourceFault>
-    ensures { result ≡ value_beside (value_in (naming_of names.now) word.now) (offset_said by.now) }
+    ensures { result ≡ value_beside (value_in (naming_of names.now) word.now) (offset_parsed by.now) }
 {
     let value = value_in(names, word)?;
-    match offset_said(by) {
+    match offset_parsed(by) {
         Some(by) => value_moved(value, by),
         None => Err(SourceFault::BadOperand),
     }
@@ -144,7 +144,7 @@ fn value_cut(names: &Names, word: &[u8]) -> Result<Value, SourceFault>
         Some(at) => value_parts(
             word,
             value_whole(names, &word[..at]),
-            offset_said(&word[at..]),
+            offset_parsed(&word[at..]),
         ),
         None => Err(no_value(word)),
     }
@@ -162,7 +162,7 @@ fn offset_place(word: &[u8]) -> Option<usize>
 fn begins_offset(word: &[u8], at: usize) -> bool
     ensures { result ≡ begins_offset word.now at }
 {
-    at < word.len() && offset_said(&word[at..]).is_some()
+    at < word.len() && offset_parsed(&word[at..]).is_some()
 }
 
 fn value_parts(word: &[u8], value: Option<Value>, by: Option<Signed>) -> Result<Value, SourceFault>

@@ -20,7 +20,7 @@ ghost use Rattle.agc_asm.specs.Source.{
   shape_labelled,
 };
 ghost use Rattle.agc_listing.specs.Location.{IsWithin};
-ghost use Rattle.agc_listing.specs.Text.{label_of, said_by};
+ghost use Rattle.agc_listing.specs.Text.{label_of, parsed_by};
 ghost use Rattle.agc_listing.specs.Line.{line_named};
 ghost use Rattle.agc_asm.specs.declared.fault.AssemblyFault.TheVariants.{Memory};
 
@@ -35,7 +35,7 @@ use agc_word::next_line;
 use std::alloc::{AllocError, Global};
 
 /// The result of a line in the first pass: the location of its name, and where the next line goes.
-#[derive(Clone, Copy, Debug, PartialEq, Eq)]
+#[derive(Clone, Copy)]
 pub(crate) struct Labelled {
     pub counter: LocationCounter,
     pub place: Option<Location>,

@@ -6,19 +6,19 @@ ghost use Rattle.agc_asm.specs.LineKind.{IsShape, shape_of};
 ghost use Rattle.agc_asm.specs.Source.{
   IsPlaced,
   IsState,
-  ebank_said,
-  both_said,
+  ebank_parsed,
+  two_added,
   first_state,
   line_woven,
   listed_woven,
   no_word,
   pair_placed,
   shape_woven,
-  said_more,
-  sbank_said,
+  word_added,
+  sbank_parsed,
   stays_put,
   with_banks,
-  told_at,
+  reported_at,
   word_placed,
   words_in,
   in_cells,
@@ -32,7 +32,7 @@ ghost use Rattle.agc_asm.specs.LocationCounter.{room_at, IsAt, after_cells};
 ghost use Rattle.agc_asm.specs.Body.{body_in, spelled, tokens};
 ghost use Rattle.agc_asm.specs.Encode.{cell_in, place_in};
 ghost use Rattle.agc_asm.specs.Operand.{location_in};
-ghost use Rattle.agc_listing.specs.Text.{after_first, said_by};
+ghost use Rattle.agc_listing.specs.Text.{after_first, parsed_by};
 ghost use Rattle.agc_listing.specs.Line.{line_named};
 ghost use Rattle.agc_asm.specs.declared.fault.AssemblyFault.TheVariants.{Memory};
 
@@ -45,6 +45,7 @@ use crate::fault::{AssemblyFault, SourceFault};
 use crate::line_kind::{LineKind, cursor_after, shape_of};
 use crate::location_counter::{At, LocationCounter};
 use crate::names::Names;
+use crate::operand::location_in;
 use agc_listing::{PlacedWord, RopeBuilder, is_listed, next_is_extracode, read_line};
 use agc_store::place::{ERASABLE_BANK_SIZE, FIXED_FIXED};
 use agc_word::next_line;
@@ -52,15 +53,33 @@ use std::alloc::Global;
 
 /// The state after the lines so far: where the next one goes, whether an extracode is expected there, and the banks for
 /// words for BB.
-#[derive(Clone, Copy, Debug, PartialEq, Eq)]
+#[derive(Clone, Copy)]
 pub(crate) struct State {
     pub counter: LocationCounter,
     pub leads: bool,
     pub banks: Banks,
 }
 
+impl State {
+    /// Starts before the first line.
+    pub fn new() -> State
+        ensures start { result ≡ first_state }
+        ensures range { IsState result }
+    {
+        State {
+            counter: LocationCounter::new(),
+            leads: false,
+            banks: Banks {
+                erasable: 0,
+                before: None,
+                superbank: 0,
+            },
+        }
+    }
+}
+
 /// The result of a line: the state after it, and its words.
-#[derive(Clone, Copy, Debug, PartialEq, Eq)]
+#[derive(Clone, Copy)]
 pub(crate) struct Step {
     pub state: State,
     pub first: Option<PlacedWord>,
@@ -78,15 +97,7 @@ pub(crate) fn read_words(
         → words_in (naming_of names.now) text.now ≡ Err why) }
 {
     let mut builder = RopeBuilder::new(alloc)?;
-    let mut state = State {
-        counter: LocationCounter::new(),
-        leads: false,
-        banks: Banks {
-            erasable: 0,
-            before: None,
-            superbank: 0,
-        },
-    };
+    let mut state = State::new();
     let mut lines = 0;
     let mut rest = text;
     while let Some((line, after)) = next_line(rest) {
@@ -106,9 +117,9 @@ pub(crate) fn read_words(
 /// Adds the words of a line; a fault carries the line's number.
 fn add_words(builder: &mut RopeBuilder, number: usize, step: Step) -> Result<(), AssemblyFault>
     requires { IsPlaced step }
-    ensures said { OnOk result (both_said builder.old step.first step.second ≡ Ok builder.new) }
+    ensures parsed { OnOk result (two_added builder.old step.first step.second ≡ Ok builder.new) }
     ensures fault { IfErr result (λ why. why ≢ Memory
-        → told_at number (both_said builder.old step.first step.second) ≡ Err why) }
+        → reported_at number (two_added builder.old step.first step.second) ≡ Err why) }
 {
     add_word(builder, number, step.first)?;
     add_word(builder, number, step.second)
@@ -120,9 +131,9 @@ fn add_word(
     word: Option<PlacedWord>,
 ) -> Result<(), AssemblyFault>
     requires { IfSome word (λ word. word.place < fixed_words) }
-    ensures said { OnOk result (said_more builder.old word ≡ Ok builder.new) }
+    ensures parsed { OnOk result (word_added builder.old word ≡ Ok builder.new) }
     ensures fault { IfErr result (λ why. why ≢ Memory
-        → told_at number (said_more builder.old word) ≡ Err why) }
+        → reported_at number (word_added builder.old word) ≡ Err why) }
 {
     match builder.unless_named(word) {
         Ok(word) => {
@@ -148,8 +159,8 @@ pub(crate) fn line_woven(names: &Names, state: State, line: &[u8]) -> Result<Ste
     match shape_of(names, body)? {
         LineKind::Word => word_at_counter(names, state, body),
         LineKind::Pair => pair_at_counter(names, state, body),
-        LineKind::Ebank => ebank_said(names, state, operand_in(body)),
-        LineKind::Sbank => sbank_said(names, state, operand_in(body)),
+        LineKind::Ebank => ebank_parsed(names, state, operand_in(body)),
+        LineKind::Sbank => sbank_parsed(names, state, operand_in(body)),
         kind => no_word(state, kind),
     }
 }
@@ -165,13 +176,13 @@ fn operand_in(body: &[u8]) -> &[u8]
 }
 
 /// Takes the erasable bank that EBANK= names.
-fn ebank_said(names: &Names, state: State, rest: &[u8]) -> Result<Step, SourceFault>
+fn ebank_parsed(names: &Names, state: State, rest: &[u8]) -> Result<Step, SourceFault>
     requires { IsState state }
-    ensures woven { result ≡ ebank_said state (cell_in (location_in (naming_of names.now) (tokens rest.now))) }
+    ensures woven { result ≡ ebank_parsed state (cell_in (location_in (naming_of names.now) (tokens rest.now))) }
     ensures range { IfOk result (λ step. IsState step.state) }
     ensures placed { IfOk result IsPlaced }
 {
-    let cell = cell_in(names, rest)?;
+    let cell = cell_in(location_in(names, rest))?;
     Ok(with_banks(
         state,
         Banks {
@@ -183,13 +194,13 @@ fn ebank_said(names: &Names, state: State, rest: &[u8]) -> Result<Step, SourceFa
 }
 
 /// Takes the superbank that SBANK= names.
-fn sbank_said(names: &Names, state: State, rest: &[u8]) -> Result<Step, SourceFault>
+fn sbank_parsed(names: &Names, state: State, rest: &[u8]) -> Result<Step, SourceFault>
     requires { IsState state }
-    ensures woven { result ≡ sbank_said state (place_in (location_in (naming_of names.now) (tokens rest.now))) }
+    ensures woven { result ≡ sbank_parsed state (place_in (location_in (naming_of names.now) (tokens rest.now))) }
     ensures range { IfOk result (λ step. IsState step.state) }
     ensures placed { IfOk result IsPlaced }
 {
-    let place = place_in(names, rest)?;
+    let place = place_in(location_in(names, rest))?;
     Ok(with_banks(
         state,
         Banks {
@@ -223,9 +234,9 @@ fn listed_woven(state: State, line: &[u8]) -> Result<Step, SourceFault>
     ensures placed { IfOk result IsPlaced }
 {
     match read_line(line) {
-        Ok(said) => Ok(Step {
+        Ok(parsed) => Ok(Step {
             state,
-            first: said,
+            first: parsed,
             second: None,
         }),
         Err(fault) => Err(SourceFault::Listed(fault)),

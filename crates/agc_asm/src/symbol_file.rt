@@ -20,7 +20,7 @@ pub fn name_lines(alloc: Global, text: &[u8]) -> Result<Vec<u8>, AllocError>
     ensures written { IfOk result (λ lines. lines.items ≡ name_lines_in text.now) }
     ensures read { IfOk result (λ lines. names_in lines.items ≡ Ok (labels_in text.now)) }
 {
-    let mut told = Vec::new(alloc);
+    let mut reported = Vec::new(alloc);
     let mut names = first_names(alloc, text)?;
     let mut counter = LocationCounter::new();
     let mut rest = text;
@@ -28,30 +28,30 @@ pub fn name_lines(alloc: Global, text: &[u8]) -> Result<Vec<u8>, AllocError>
         let line = plain_line(line);
         match line_labelled(&names, counter, line) {
             Ok(next) => {
-                tell_label(alloc, &mut told, line, next.place)?;
+                tell_label(alloc, &mut reported, line, next.place)?;
                 note_label(&mut names, line, next.place)?;
                 counter = next.counter;
             }
-            Err(_) => return Ok(told),
+            Err(_) => return Ok(reported),
         }
         rest = after;
     }
-    Ok(told)
+    Ok(reported)
 }
 
 /// Appends the symbol-file line of a line's name, if it has a location.
 #[tactic(auto, unfolding(agc_symbols::specs::Writing::names_text))]
 fn tell_label(
     alloc: Global,
-    told: &mut Vec<u8>,
+    reported: &mut Vec<u8>,
     line: &[u8],
     place: Option<Location>,
 ) -> Result<(), AllocError>
     ensures { OnOk result
-        (told.new.items ≡ told.old.items ++ names_text (label_named (label_of line.now) place)) }
+        (reported.new.items ≡ reported.old.items ++ names_text (label_named (label_of line.now) place)) }
 {
     match (cut_label(line).0, place) {
-        (Some(label), Some(place)) => push_name_line(alloc, told, place, label),
+        (Some(label), Some(place)) => push_name_line(alloc, reported, place, label),
         _ => Ok(()),
     }
 }

@@ -9,3 +9,4 @@ pub mod Patched
 pub mod RightParity
 pub mod Sums
 pub mod WordReadings
+pub mod Repaired

@@ -49,30 +49,30 @@ one_word form words named place =
           stays ∙ grind (arith, nat_tests)
     ]
 
-each_word : (form : RopeForm) (words : List ℕ) (said : List PlacedWord) (place : ℕ)
-    → get_or (fold (with_word form) words said) (file_index form place) 0 ≡ fold (bits_after form place) (get_or words (file_index form place) 0) said
+each_word : (form : RopeForm) (words : List ℕ) (parsed : List PlacedWord) (place : ℕ)
+    → get_or (fold (with_word form) words parsed) (file_index form place) 0 ≡ fold (bits_after form place) (get_or words (file_index form place) 0) parsed
 each_word form words [] place = refl
-each_word form words (named ∷ said) place =
-    each_word form (with_word form words named) said place
-    ∙ ap (λ (bits : ℕ). fold (bits_after form place) bits said) (one_word form words named place)
+each_word form words (named ∷ parsed) place =
+    each_word form (with_word form words named) parsed place
+    ∙ ap (λ (bits : ℕ). fold (bits_after form place) bits parsed) (one_word form words named place)
 
-each_length : (form : RopeForm) (words : List ℕ) (said : List PlacedWord) → length (fold (with_word form) words said) ≡ fold (length_after form) (length words) said
+each_length : (form : RopeForm) (words : List ℕ) (parsed : List PlacedWord) → length (fold (with_word form) words parsed) ≡ fold (length_after form) (length words) parsed
 each_length form words [] = refl
-each_length form words (named ∷ said) =
-    each_length form (with_word form words named) said
-    ∙ ap (λ (len : ℕ). fold (length_after form) len said) (word_length form words named)
+each_length form words (named ∷ parsed) =
+    each_length form (with_word form words named) parsed
+    ∙ ap (λ (len : ℕ). fold (length_after form) len parsed) (word_length form words named)
 
-left_alone : (form : RopeForm) (place bits : ℕ) (said : List PlacedWord) → is_named place said ≡ false → fold (bits_after form place) bits said ≡ bits
+left_alone : (form : RopeForm) (place bits : ℕ) (parsed : List PlacedWord) → is_named place parsed ≡ false → fold (bits_after form place) bits parsed ≡ bits
 left_alone form place bits [] none = refl
-left_alone form place bits (named ∷ said) none =
-    let parts = or_parts (named.place == place) (is_named place said) none in
-    rw parts.0 (left_alone form place bits said parts.1)
+left_alone form place bits (named ∷ parsed) none =
+    let parts = or_parts (named.place == place) (is_named place parsed) none in
+    rw parts.0 (left_alone form place bits parsed parts.1)
 
-pub is_patched : (form : RopeForm) (said : List PlacedWord) (words : List ℕ) → IsPatched form said words (with_words form words said)
+pub is_patched : (form : RopeForm) (parsed : List PlacedWord) (words : List ℕ) → IsPatched form parsed words (with_words form words parsed)
 unfolding with_words
-is_patched form said words =
+is_patched form parsed words =
     record {
-      named = λ place. each_word form words said place;
-      others = λ place none. each_word form words said place ∙ left_alone form place (get_or words (file_index form place) 0) said none;
-      long = each_length form words said;
+      named = λ place. each_word form words parsed place;
+      others = λ place none. each_word form words parsed place ∙ left_alone form place (get_or words (file_index form place) 0) parsed none;
+      long = each_length form words parsed;
     }

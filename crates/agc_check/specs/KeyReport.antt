@@ -11,10 +11,10 @@ unfoldable pub key_holdings_text : ℕ → List ℕ
 key_holdings_text count = codes "keys: " ++ decimal count ++ codes "\n"
 
 -- `why` names the first word that is not a key, and what is expected
-abbrev pub keys_told : Bool → List ℕ → List ℕ → List ℕ
-keys_told true file why = key_holdings_text (length (names_in file))
-keys_told false file why = codes "keys: BadKey\n" ++ why
+abbrev pub keys_reported : Bool → List ℕ → List ℕ → List ℕ
+keys_reported true file why = key_holdings_text (length (names_in file))
+keys_reported false file why = codes "keys: BadKey\n" ++ why
 
 pub record IsKeyReport (file text : List ℕ) : Type 0 where
   pub why : List ℕ
-  pub told : text ≡ keys_told (are_keys file) file why
+  pub reported : text ≡ keys_reported (are_keys file) file why

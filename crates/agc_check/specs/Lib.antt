@@ -12,3 +12,5 @@ pub mod Parity
 pub mod Patch
 pub mod Reading
 pub mod Legal
+pub mod Repair
+pub mod WordDiff

@@ -13,11 +13,11 @@ listing_fault_text n fault =
     codes "text line " ++ decimal n ++ codes ": " ++ fault_text fault ++ codes "\n"
 
 -- `why` shows the line, and which of its words is wrong
-abbrev pub listing_told : {Said : Type 0} → Result Said AssemblyFault → List ℕ → List ℕ
-listing_told (Ok said) why = codes "text: no fault\n"
-listing_told (Err (trouble.Line n fault)) why = listing_fault_text n fault ++ why
-listing_told (Err trouble.Memory) why = why
+abbrev pub listing_reported : {Parsed : Type 0} → Result Parsed AssemblyFault → List ℕ → List ℕ
+listing_reported (Ok parsed) why = codes "text: no fault\n"
+listing_reported (Err (trouble.Line n fault)) why = listing_fault_text n fault ++ why
+listing_reported (Err trouble.Memory) why = why
 
 pub record IsListingReport (file text : List ℕ) : Type 0 where
   pub why : List ℕ
-  pub told : text ≡ listing_told (source_in file) why
+  pub reported : text ≡ listing_reported (source_in file) why

@@ -35,16 +35,16 @@ script_fault_text file fault =
     ++ codes "    " ++ shown_line (line_numbered file fault.line) ++ codes "\n"
 
 -- the report on a script file; `why` explains a fault by the words of its line
-abbrev pub script_told : Result (List Event) ScriptFault → List ℕ → List ℕ → List ℕ
-script_told (Ok events) file why = script_holdings_text (script_holdings events)
-script_told (Err fault) file why = script_fault_text file fault ++ why
+abbrev pub script_reported : Result (List Event) ScriptFault → List ℕ → List ℕ → List ℕ
+script_reported (Ok events) file why = script_holdings_text (script_holdings events)
+script_reported (Err fault) file why = script_fault_text file fault ++ why
 
 -- the report on a script file follows the text before it
 pub record IsScriptReport (file before after : List ℕ) : Type 0 where
   pub why : List ℕ
-  pub text : after ≡ before ++ script_told (script_of file) file why
+  pub text : after ≡ before ++ script_reported (script_of file) file why
 
 -- the report on a rope file of a form and a script file
 pub record IsFileReport (form : RopeForm) (rope script text : List ℕ) : Type 0 where
   pub why : List ℕ
-  pub told : text ≡ rope_report form rope ++ script_told (script_of script) script why
+  pub reported : text ≡ rope_report form rope ++ script_reported (script_of script) script why

@@ -67,10 +67,10 @@ rope_fault_text file fault =
 unfoldable pub sound_rope_text : List Number → List ℕ
 sound_rope_text words = rope_holdings_text (rope_holdings words) ++ vectors_text words
 
-abbrev pub rope_told : Option RopeFault → List ℕ → List Number → List ℕ
-rope_told None file words = sound_rope_text words
-rope_told (Some fault) file words = rope_fault_text file fault
+abbrev pub rope_reported : Option RopeFault → List ℕ → List Number → List ℕ
+rope_reported None file words = sound_rope_text words
+rope_reported (Some fault) file words = rope_fault_text file fault
 
 -- the report on a rope file
 unfoldable pub rope_report : RopeForm → List ℕ → List ℕ
-rope_report form file = rope_told (rope_fault_of form file) file (rope_words form file)
+rope_report form file = rope_reported (rope_fault_of form file) file (rope_words form file)

@@ -1,7 +1,7 @@
 //! Remarks on the erasable cells of a source that lie over registers or over other cells.
 use agc_asm::Directive;
 use agc_listing::{
-    Location, cut_label, is_listed, location_named, next_said, offset_said, only_word,
+    Location, cut_label, is_listed, location_named, next_parsed, offset_parsed, only_word,
 };
 use agc_store::place::{ERASABLE_BANK_SIZE, ERASABLE_CELLS};
 use agc_word::without_return;
@@ -33,7 +33,7 @@ pub fn erase_remarks(alloc: Global, file: &[u8]) -> Result<String, AllocError> {
             continue;
         }
         let (_, body) = cut_label(line);
-        let Some((word, operand)) = next_said(body) else {
+        let Some((word, operand)) = next_parsed(body) else {
             continue;
         };
         match Directive::from_name(word) {
@@ -70,8 +70,8 @@ fn cell_named(operand: &[u8]) -> Option<u32> {
 /// Returns the cells that an ERASE with this operand takes from a cell on, if memory has them.
 fn cells_at(first: Option<u32>, operand: &[u8]) -> Option<Cells> {
     let first = first?;
-    let more = match next_said(operand) {
-        Some((word, rest)) if next_said(rest).is_none() => offset_said(word)?.magnitude as u32,
+    let more = match next_parsed(operand) {
+        Some((word, rest)) if next_parsed(rest).is_none() => offset_parsed(word)?.magnitude as u32,
         Some(_) => return None,
         None => 0,
     };

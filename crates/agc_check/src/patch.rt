@@ -2,7 +2,7 @@
 ghost use Rattle.std.specs.Prelude.{◌≡◌, ◌≢◌, ◌<◌, Err, IfErr, IfOk, Ok, OnOk};
 ghost use Rattle.agc_store.specs.Places.{fixed_words};
 ghost use Rattle.agc_word.specs.Number.{pattern_of};
-ghost use Rattle.agc_listing.specs.Weave.{ArePlaces, said_in, woven_bits};
+ghost use Rattle.agc_listing.specs.Weave.{ArePlaces, parsed_in, woven_bits};
 ghost use Rattle.agc_listing.specs.declared.fault.WeaveFault.TheVariants.{Memory};
 ghost use Rattle.agc_check.specs.Patch.{IsPatchedBy, with_word, with_words};
 
@@ -21,7 +21,7 @@ pub fn apply_patch(
     text: &[u8],
 ) -> Result<Vec<u16>, WeaveFault>
     ensures patched { IfOk result (λ new. IsPatchedBy form text.now words.now new.items) }
-    ensures fault { IfErr result (λ fault. fault ≢ Memory → said_in text.now ≡ Err fault) }
+    ensures fault { IfErr result (λ fault. fault ≢ Memory → parsed_in text.now ≡ Err fault) }
 {
     let patch = read_patch(alloc, text)?;
     match with_words(alloc, form, words, patch.words()) {
@@ -32,8 +32,8 @@ pub fn apply_patch(
 
 /// Returns the words that a patch names, in the order of its lines, or the fault of its first faulty line.
 fn read_patch(alloc: Global, text: &[u8]) -> Result<RopeBuilder, WeaveFault>
-    ensures words { IfOk result (λ patch. said_in text.now ≡ Ok patch) }
-    ensures fault { IfErr result (λ fault. fault ≢ Memory → said_in text.now ≡ Err fault) }
+    ensures words { IfOk result (λ patch. parsed_in text.now ≡ Ok patch) }
+    ensures fault { IfErr result (λ fault. fault ≢ Memory → parsed_in text.now ≡ Err fault) }
 {
     let mut patch = RopeBuilder::new(alloc)?;
     let mut lines = 0;
@@ -55,13 +55,13 @@ fn with_words(
     alloc: Global,
     form: RopeForm,
     words: &[u16],
-    said: &[PlacedWord],
+    parsed: &[PlacedWord],
 ) -> Result<Vec<u16>, AllocError>
-    requires { ArePlaces said.now }
-    ensures { IfOk result (λ new. new.items ≡ with_words form words.now said.now) }
+    requires { ArePlaces parsed.now }
+    ensures { IfOk result (λ new. new.items ≡ with_words form words.now parsed.now) }
 {
     let mut new = Vec::from_slice(alloc, words)?;
-    for named in said {
+    for named in parsed {
         put_word(&mut new, form, named)?;
     }
     Ok(new)

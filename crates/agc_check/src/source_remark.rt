@@ -3,7 +3,7 @@ use crate::names::nearest;
 use crate::remarks::{push_nearest, push_quoted, push_quoted_then, push_subject};
 use crate::shown::push_bytes;
 use agc_asm::{Alias, Directive, SourceFault, code_of, is_operation, word_at_fault};
-use agc_listing::{cut_label, is_listed, is_name, next_said, offset_said};
+use agc_listing::{cut_label, is_listed, is_name, next_parsed, offset_parsed};
 use agc_order::{Basic, Extracode};
 use agc_word::without_return;
 use std::alloc::{AllocError, Global};
@@ -51,9 +51,9 @@ pub(crate) fn push_source_why(
 
 /// Returns the order or directive of a line, and what follows it.
 fn operation_in<'a>(label: Option<&[u8]>, body: &'a [u8]) -> Option<(&'a [u8], &'a [u8])> {
-    let (first, rest) = next_said(body)?;
-    if label.is_none() && offset_said(first).is_some() {
-        next_said(rest)
+    let (first, rest) = next_parsed(body)?;
+    if label.is_none() && offset_parsed(first).is_some() {
+        next_parsed(rest)
     } else {
         Some((first, rest))
     }
@@ -175,7 +175,7 @@ fn push_operand(
     operand: &[u8],
     word: &[u8],
 ) -> Result<(), AllocError> {
-    if next_said(operand).is_none() {
+    if next_parsed(operand).is_none() {
         return push_quoted_then(text, order, " has no operand\n");
     }
     push_quoted(text, word)?;

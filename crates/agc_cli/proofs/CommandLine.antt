@@ -8,7 +8,7 @@ use Rattle.clap.specs.declared.parser.matches.ArgMatches.{ArgMatches}
 use Rattle.clap.specs.declared.parser.matches.Found.{Found}
 use Rattle.clap.proofs.OnLiterals.{clap_on_literals}
 use Rattle.clap.proofs.WalkLemmas.{one_text-rows}
-use Rattle.agc_cli.specs.Mistakes.{Tells}
+use Rattle.agc_cli.specs.Mistakes.{Outputs}
 use Rattle.agc_cli.specs.Parameters.{IsFormOption}
 use Rattle.agc_cli.specs.ParseArgs.{AreRequiredBy, AsksFor, IsCommandLine, IsFaultOf, IsFlag, command_line, display_parameters, layout_parameters, live_parameters, run_parameters}
 use Rattle.agc_cli.specs.declared.fault.ArgsFault.{ArgsFault}
@@ -57,10 +57,10 @@ whole_command start run display layout whole at_start at_run at_display at_layou
 )
 
 -- the result of a parse of the command line
-pub asked : (app : App) → IsCommandLine app → (words : List Text) (m : ArgMatches) (options : Options)
+pub requested : (app : App) → IsCommandLine app → (words : List Text) (m : ArgMatches) (options : Options)
     → (is_simple_and_free app ≡ true → fault_of app words ≡ []) → HasMatchesOf app words m → AsksFor (rows_of (found_of m)) options
     → AreRequiredBy words options
-asked app line words m options free matches asks = (
+requested app line words m options free matches asks = (
   app,
   line,
   free (command_is_free app line),
@@ -68,23 +68,23 @@ asked app line words m options free matches asks = (
 )
 
 -- the fault of a parse that fails
-pub told : (app : App) → IsCommandLine app → (words : List Text) (kind : ErrorKind) (why : ArgsFault)
-    → (is_simple_and_free app ≡ true → (kind ≡ OutOfMemory) ⊎ IsAmong kind (fault_of app words)) → Tells kind why → IsFaultOf words why
-told app line words kind (fault.Help text) among tells = (
+pub reported : (app : App) → IsCommandLine app → (words : List Text) (kind : ErrorKind) (why : ArgsFault)
+    → (is_simple_and_free app ≡ true → (kind ≡ OutOfMemory) ⊎ IsAmong kind (fault_of app words)) → Outputs kind why → IsFaultOf words why
+reported app line words kind (fault.Help text) among reports = (
   app,
   line,
   elim (among (command_is_free app line)) [
     | inl memory ↦
-        let no : DisplayHelp ≡ OutOfMemory = sym tells ∙ memory in
+        let no : DisplayHelp ≡ OutOfMemory = sym reports ∙ memory in
         cc
-    | inr a ↦ subst (λ (k : ErrorKind). IsAmong k (fault_of app words)) tells a
+    | inr a ↦ subst (λ (k : ErrorKind). IsAmong k (fault_of app words)) reports a
   ],
 )
-told app line words kind (fault.Command text) among tells = (
+reported app line words kind (fault.Command text) among reports = (
   app,
   line,
   kind,
-  tells.0,
-  elim (among (command_is_free app line)) [ inl memory ↦ absurd (tells.1 memory) | inr a ↦ a ],
+  reports.0,
+  elim (among (command_is_free app line)) [ inl memory ↦ absurd (reports.1 memory) | inr a ↦ a ],
 )
-told app line words kind fault.Memory among tells = tt
+reported app line words kind fault.Memory among reports = tt

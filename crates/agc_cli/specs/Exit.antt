@@ -8,7 +8,7 @@ use Rattle.agc_cli.specs.declared.fault.ArgsFault.TheVariants as fault
 pub record EndsTelling (text : List ℕ) (status ended : ℕ)
     (old new other other_new : Option (List ℕ)) : Type 0 where
   pub ends : (ended ≡ status) ⊎ (ended ≡ 3)
-  pub told : ended ≡ status → Appends old new text
+  pub reported : ended ≡ status → Appends old new text
   pub untold : Keeps other other_new
 
 -- help goes to standard output with status 0, a mistake to standard error with status 2, and out of

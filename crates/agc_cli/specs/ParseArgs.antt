@@ -7,7 +7,7 @@ use Rattle.clap.specs.Words.{one_of, with_rule}
 use Rattle.clap.specs.declared.error.kind.ErrorKind.{ErrorKind}
 use Rattle.clap.specs.declared.error.kind.ErrorKind.TheVariants.{DisplayHelp}
 use Rattle.agc_store.specs.declared.rope_file.RopeForm.TheVariants as form
-use Rattle.agc_cli.specs.Mistakes.{not_text_told}
+use Rattle.agc_cli.specs.Mistakes.{not_text_reported}
 use Rattle.agc_cli.specs.Parameters.{IsFormOption, file_parameter, flag_option}
 use Rattle.agc_cli.specs.Parameters.{number_option, value_option}
 use Rattle.agc_cli.specs.Values.{form_named, number_written, text_given}
@@ -93,5 +93,5 @@ IsFaultOf words fault.Memory = Unit {0}
 abbrev pub IsNotText : ℕ → ArgsFault → Type 0
 IsNotText number (fault.Help text) = ⊥
 IsNotText number (fault.Command text) =
-    (usage : Text) × (string_bytes text ≡ not_text_told number usage)
+    (usage : Text) × (string_bytes text ≡ not_text_reported number usage)
 IsNotText number fault.Memory = Unit {0}

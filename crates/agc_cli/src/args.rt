@@ -3,19 +3,17 @@ ghost use Rattle.std.specs.Prelude.{◌≡◌, IfOk, IfErr, map, codes};
 ghost use Rattle.std.specs.Prelude.{option_and_then, unwrap_or};
 ghost use Rattle.clap.specs.Words.{found_of, one_of, rows_of};
 ghost use Rattle.agc_cli.specs.Values.{number_written};
-ghost use Rattle.agc_cli.specs.ParseArgs.{AreRequiredBy, AsksFor, IsFaultOf, IsNotText};
+ghost use Rattle.agc_cli.specs.ParseArgs.{AreRequiredBy, AsksFor, IsFaultOf};
 ghost use Rattle.agc_cli.specs.declared.fault.ArgsFault.TheVariants as fault;
 
 use crate::command::command;
 use crate::fault::ArgsFault;
-use crate::mistakes::{fault_of, mistaken_word};
+use crate::mistakes::fault_of;
+use crate::program_args::Args;
 use crate::session_options::Options;
 use crate::values::{form_of, number_of, path_of, text_of};
-use crate::version::answer_version;
-use crate::words::{WordsFault, words_of};
-use clap::ArgMatches;
+use clap::{ArgMatches, Command};
 use std::alloc::{AllocError, Global};
-use std::rt::Env;
 
 /// Default number of slots of the ring between machine and display.
 const DEFAULT_SLOTS: usize = 256;
@@ -23,20 +21,23 @@ const DEFAULT_SLOTS: usize = 256;
 /// Default number of machine cycles between two live keys: a tenth of a second.
 const DEFAULT_SPACING: u64 = 8533;
 
-/// Parses the command line of `agc`.
-pub fn options<R: Env + AllocGlobal>(rt: &R) -> Result<Options, ArgsFault> {
-    let alloc = rt.alloc();
-    let words = match words_of(rt) {
-        Ok(words) => words,
-        Err(WordsFault::NotText(number)) => return Err(not_text(alloc, number)),
-        Err(WordsFault::Memory) => return Err(ArgsFault::Memory),
-    };
-    answer_version(alloc, "agc", words.as_slice())?;
-    let words: Vec<&str> = words.iter().map(|word| word.as_str()).collect(alloc)?;
-    parse_args(alloc, words.as_slice())
+impl Args for Options {
+    const NAME: &'static str = "agc";
+
+    fn command<'a>(alloc: Global) -> Result<Command<'a>, AllocError> {
+        command(alloc)
+    }
+
+    fn from_matches(alloc: Global, matches: &ArgMatches<'_>) -> Result<Options, ArgsFault> {
+        options_of(alloc, matches)
+    }
+
+    fn parse<'a>(alloc: Global, words: &'a [&'a str]) -> Result<Options, ArgsFault> {
+        parse_args(alloc, words)
+    }
 }
 
-/// Parses the words of a command line; the first is the program's own name.
+/// Parses the words of the command line of `agc`; the first is the program's own name.
 pub fn parse_args<'a>(alloc: Global, words: &'a [&'a str]) -> Result<Options, ArgsFault>
     ensures options { IfOk result (AreRequiredBy (map (λ word. word.now) words.now)) }
     ensures fault { IfErr result (IsFaultOf (map (λ word. word.now) words.now)) }
@@ -46,25 +47,6 @@ pub fn parse_args<'a>(alloc: Global, words: &'a [&'a str]) -> Result<Options, Ar
         Ok(matches) => options_of(alloc, &matches),
         Err(error) => Err(fault_of(alloc, &error)),
     }
-}
-
-/// Returns the fault of a command line with a word that is not text. The message has the word's
-/// number, counted from 1 after the program's own name, and the usage.
-pub fn not_text(alloc: Global, number: usize) -> ArgsFault
-    ensures { IsNotText number result }
-{
-    let Ok(usage) = usage(alloc) else {
-        return ArgsFault::Memory;
-    };
-    match mistaken_word(alloc, number, usage.as_str()) {
-        Ok(text) => ArgsFault::Command(text),
-        Err(_) => ArgsFault::Memory,
-    }
-}
-
-/// Returns the usage line of the program.
-fn usage(alloc: Global) -> Result<String, AllocError> {
-    command(alloc)?.render_usage()
 }
 
 fn options_of(alloc: Global, matches: &ArgMatches<'_>) -> Result<Options, ArgsFault>

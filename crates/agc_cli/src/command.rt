@@ -2,11 +2,12 @@
 ghost use Rattle.std.specs.Prelude.{◌≡◌, ◌∷◌, [], false, IfOk, codes, fold};
 ghost use Rattle.clap.specs.Words.{Rule, app_of, rule_of, with_rule};
 ghost use Rattle.agc_cli.specs.Parameters.{IsFormOption, flag_option, number_option};
-ghost use Rattle.agc_cli.specs.Parameters.{value_option};
 ghost use Rattle.agc_cli.specs.ParseArgs.{IsCommandLine, display_parameters, live_parameters};
 ghost use Rattle.agc_cli.specs.ParseArgs.{layout_parameters, run_parameters};
 
-use crate::parameters::{form_option, limit_option, rope_file, script_file, with_parameter};
+use crate::parameters::{
+    form_option, limit_option, rope_file, script_file, until_option, watch_option, with_parameter,
+};
 use clap::{Arg, ArgAction, Command, value_parser};
 use std::alloc::{AllocError, Global};
 
@@ -15,7 +16,7 @@ pub(crate) fn command<'a>(alloc: Global) -> Result<Command<'a>, AllocError>
     ensures { IfOk result (λ command. IsCommandLine (app_of command)) }
 {
     let command = Command::new(alloc, "agc").about(
-        "Runs a rope on an emulated Block II computer and prints its display. What is refused of a rope or a script, agc-study check explains.",
+        "Runs a rope on an emulated Block II computer and prints its display. If a rope or a script is refused, agc-study check explains why.",
     );
     let command = with_run(alloc, command)?;
     let command = with_display(alloc, command)?;
@@ -68,19 +69,7 @@ fn slots_option<'a>(alloc: Global) -> Arg<'a>
         .value_name("N")
         .default_value("256")
         .value_parser(value_parser!(usize))
-        .help("Channel writes that wait for the display at most: decimal, 1 to 65536")
-}
-
-fn watch_option<'a>(alloc: Global) -> Arg<'a>
-    ensures rule { rule_of result ≡ value_option (codes "watch") }
-    ensures local { result.global ≡ false }
-{
-    Arg::new(alloc, "watch")
-        .long("watch")
-        .value_name("SPEC")
-        .help(
-            "Print core sets and wait lists: octal CORE_BANK,CORE_OFFSET,SETS,LST1_BANK,LST1_OFFSET,LST2_BANK,LST2_OFFSET",
-        )
+        .help("The most channel writes that wait for the display: decimal, 1 to 65536")
 }
 
 fn log_option<'a>(alloc: Global) -> Arg<'a>
@@ -93,16 +82,6 @@ fn log_option<'a>(alloc: Global) -> Arg<'a>
         .help("Print each channel write: cycle (decimal), channel and value (octal)")
 }
 
-fn until_option<'a>(alloc: Global) -> Arg<'a>
-    ensures rule { rule_of result ≡ value_option (codes "until") }
-    ensures local { result.global ≡ false }
-{
-    Arg::new(alloc, "until")
-        .long("until")
-        .value_name("BANK,ADDR")
-        .help("Stop before the order at this address runs: octal, BANK 0 to 47, ADDR 0 to 7777")
-}
-
 fn live_option<'a>(alloc: Global) -> Arg<'a>
     ensures rule { rule_of result ≡ flag_option (codes "live") }
     ensures local { result.global ≡ false }
@@ -111,7 +90,7 @@ fn live_option<'a>(alloc: Global) -> Arg<'a>
         .long("live")
         .action(ArgAction::SetTrue)
         .help(
-            "Press the keys named on standard input, which is read to its end first, while the machine runs, and print which it took, at which cycle",
+            "Press the keys named on standard input while it runs; print which were taken, and when",
         )
 }
 
@@ -125,5 +104,5 @@ fn spacing_option<'a>(alloc: Global) -> Arg<'a>
         .value_name("N")
         .default_value("8533")
         .value_parser(value_parser!(u64))
-        .help("Machine cycles between two live keys at least: decimal, from 1")
+        .help("The fewest machine cycles between two live keys: decimal, from 1")
 }

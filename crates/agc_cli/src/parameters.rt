@@ -1,7 +1,7 @@
 //! The files and the options that the programs' command lines share.
 ghost use Rattle.std.specs.Prelude.{◌≡◌, true, false, IfOk, codes};
 ghost use Rattle.clap.specs.Words.{app_of, rule_of, with_rule};
-ghost use Rattle.agc_cli.specs.Parameters.{IsFormOption, file_parameter, number_option};
+ghost use Rattle.agc_cli.specs.Parameters.{IsFormOption, file_parameter, number_option, value_option};
 
 use clap::{Arg, Command, value_parser};
 use std::alloc::{AllocError, Global};
@@ -29,9 +29,7 @@ pub fn rope_file<'a>(alloc: Global) -> Arg<'a>
     Arg::new(alloc, "rope")
         .value_name("ROPE")
         .required(true)
-        .help(
-            "The file of the fixed memory: 16-bit words, the high byte first; - is a file of that name, not standard input",
-        )
+        .help("Rope file: 16-bit words, the high byte first; - names a file, not standard input")
 }
 
 /// Returns the argument for the script file.
@@ -42,9 +40,7 @@ pub fn script_file<'a>(alloc: Global) -> Arg<'a>
     Arg::new(alloc, "script")
         .value_name("SCRIPT")
         .required(true)
-        .help(
-            "The file of what happens outside: a line an event, in order of their cycles; - is a file of that name, too",
-        )
+        .help("Script file: a line for each event, in order of their machine cycles")
 }
 
 /// Returns the option for the cycle at which a run ends at the latest.
@@ -57,7 +53,7 @@ pub fn limit_option<'a>(alloc: Global) -> Arg<'a>
         .value_name("N")
         .required(true)
         .value_parser(value_parser!(u64))
-        .help("Stop at this cycle (1,024,000 / 12 = 85,333 a second): decimal, 1 to 1000000000000")
+        .help("Stop at this machine cycle (85,333 a second): decimal, 1 to 1000000000000")
 }
 
 /// Returns the option for the form of the rope file.
@@ -71,6 +67,36 @@ pub fn form_option<'a>(alloc: Global) -> Arg<'a>
         .default_value("classic")
         .value_parser(FORMS.as_slice())
         .help(
-            "The layout of the rope file: banks 2, 3, 0, 1, 4 to 43 octal, or 0 to 43 octal with odd parity",
+            "Layout of the rope file: octal banks 2, 3, 0, 1, 4 to 43, or 0 to 43 with odd parity",
         )
+}
+
+/// Returns the option for the Executive's tables.
+pub fn watch_option<'a>(alloc: Global) -> Arg<'a>
+    ensures rule { rule_of result ≡ value_option (codes "watch") }
+    ensures local { result.global ≡ false }
+{
+    Arg::new(alloc, "watch")
+        .long("watch")
+        .value_name("SPEC")
+        .help("Executive's tables: octal CORE_BANK,OFFSET,SETS,LST1_BANK,OFFSET,LST2_BANK,OFFSET")
+}
+
+/// Returns the option for the order before which a run stops.
+pub fn until_option<'a>(alloc: Global) -> Arg<'a>
+    ensures rule { rule_of result ≡ value_option (codes "until") }
+    ensures local { result.global ≡ false }
+{
+    Arg::new(alloc, "until")
+        .long("until")
+        .value_name("BANK,ADDR")
+        .help("Stop before the order at this address runs: octal, BANK 0 to 47, ADDR 0 to 7777")
+}
+
+/// Returns the option for a symbol file.
+pub fn names_option<'a>(alloc: Global) -> Arg<'a> {
+    Arg::new(alloc, "names")
+        .long("names")
+        .value_name("FILE")
+        .help("Show names from this file (a line for each, PLACE NAME), and accept them as places")
 }

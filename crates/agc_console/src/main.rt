@@ -19,8 +19,8 @@ use words::Console;
 fn main(rt: HostRuntime) -> ExitCode {
     let _stand_ins = hold_closed_streams(&rt);
     let (mut commands, mut out, mut err) = (rt.stdin(), rt.stdout(), rt.stderr());
-    let asked = parse_env(&rt);
-    ExitCode::from(run(&rt, asked, &mut commands, &mut out, &mut err))
+    let requested = parse_env(&rt);
+    ExitCode::from(run(&rt, requested, &mut commands, &mut out, &mut err))
 }
 
 /// Runs a session over the two files of the command line, with the commands of `commands`. Answers go to `out`, and
@@ -28,7 +28,7 @@ fn main(rt: HostRuntime) -> ExitCode {
 /// status 2. A failed write gives status 3.
 fn run<R, C: Read, W: Write, E: Write>(
     rt: &R,
-    asked: Result<Console, ArgsFault>,
+    requested: Result<Console, ArgsFault>,
     commands: &mut C,
     out: &mut W,
     err: &mut E,
@@ -36,8 +36,8 @@ fn run<R, C: Read, W: Write, E: Write>(
 where
     R: Files + AllocGlobal,
 {
-    match asked {
-        Ok(asked) => match open_all(rt, &asked) {
+    match requested {
+        Ok(requested) => match open_all(rt, &requested) {
             Ok((session, names)) => {
                 status_after(run_repl(rt.alloc(), session, &names, commands, out), err)
             }
@@ -50,13 +50,13 @@ where
 /// Opens the session at the start of time, and the symbols, which are checked first.
 fn open_all<R: Files + AllocGlobal>(
     rt: &R,
-    asked: &Console,
+    requested: &Console,
 ) -> Result<(Session, Option<SymbolTable>), Error> {
-    let names = match names_at(rt, &asked.names) {
+    let names = match names_at(rt, &requested.names) {
         Ok(names) => names,
         Err(refusal) => return Err(Error::Unnamed(refusal)),
     };
-    match open_session(rt, &asked.start) {
+    match open_session(rt, &requested.start) {
         Ok(session) => Ok((session, names)),
         Err(refusal) => Err(Error::Refused(refusal)),
     }

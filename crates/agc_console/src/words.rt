@@ -1,5 +1,5 @@
 //! The command-line arguments of the console.
-use agc_cli::{Args, names_option, script_file, text_of, with_parameter};
+use agc_cli::{Args, ArgsFault, names_option, script_file, text_of, with_parameter};
 use agc_session::{SessionArgs, session_args, with_session_args};
 use clap::{ArgMatches, Command};
 use std::alloc::{AllocError, Global};
@@ -25,7 +25,7 @@ impl Args for Console {
         with_parameter(command, names_option(alloc))
     }
 
-    fn from_matches(alloc: Global, matches: &ArgMatches<'_>) -> Result<Console, AllocError> {
+    fn from_matches(alloc: Global, matches: &ArgMatches<'_>) -> Result<Console, ArgsFault> {
         let start = session_args(alloc, matches)?;
         let names = text_of(alloc, matches, "names")?;
         Ok(Console { start, names })

@@ -27,7 +27,7 @@ abbrev pub writes_left : Cursor → State → ℕ
 writes_left follower s = length (run_with follower.held s).writes
 
 -- two cursors have returned the same writes
-pub record HasToldSame (before number : ℕ) (left : Cursor) (s : State) (left_now : Cursor) (u : State)
+pub record HasReportedSame (before number : ℕ) (left : Cursor) (s : State) (left_now : Cursor) (u : State)
     (right : Cursor) (t : State) (right_now : Cursor) (v : State) : Type 0 where
   pub reported : List ChannelWrite
   pub left_advanced : HasAdvanced left s reported left_now u
@@ -135,13 +135,13 @@ some_write (Some write) h = (write, refl)
 some_write None h = cc
 
 -- no write is returned yet
-pub reported_none : (before : ℕ) (f g : Cursor) (s t : State) → HasToldSame before before f s f s g t g t
+pub reported_none : (before : ℕ) (f g : Cursor) (s t : State) → HasReportedSame before before f s f s g t g t
 reported_none before f g s t = record { reported = []; left_advanced = gone_none f s; right_advanced = gone_none g t; count = sym (add-zero before) }
 
 -- a write that both have is returned
 reported_write : (before number more : ℕ) (f f2 f3 g g2 g3 : Cursor) (s s2 s3 t t2 t3 : State) (x y : Option ChannelWrite) (write : ChannelWrite) →
     HasAdvanced f2 s2 (one_write x) f3 s3 → HasAdvanced g2 t2 (one_write y) g3 t3 → x ≡ y → x ≡ Some write → more ≡ number + 1 →
-    HasToldSame before number f s f2 s2 g t g2 t2 → HasToldSame before more f s f3 s3 g t g3 t3
+    HasReportedSame before number f s f2 s2 g t g2 t2 → HasReportedSame before more f s f3 s3 g t g3 t3
 reported_write before number more f f2 f3 g g2 g3 s s2 s3 t t2 t3 x y write a b same some m h =
     let u : HasAdvanced f2 s2 (write ∷ []) f3 s3 = subst (λ (o : Option ChannelWrite). HasAdvanced f2 s2 (one_write o) f3 s3) some a in
     let v : HasAdvanced g2 t2 (write ∷ []) g3 t3 = subst (λ (o : Option ChannelWrite). HasAdvanced g2 t2 (one_write o) g3 t3) (sym same ∙ some) b in
@@ -154,7 +154,7 @@ reported_write before number more f f2 f3 g g2 g3 s s2 s3 t t2 t3 x y write a b 
 
 pub reported_more : (before number more : ℕ) (f f2 f3 g g2 g3 : Cursor) (s s2 s3 t t2 t3 : State) (x y : Option ChannelWrite) →
     HasAdvanced f2 s2 (one_write x) f3 s3 → HasAdvanced g2 t2 (one_write y) g3 t3 → x ≡ y → IsSome x → more ≡ number + 1 →
-    HasToldSame before number f s f2 s2 g t g2 t2 → HasToldSame before more f s f3 s3 g t g3 t3
+    HasReportedSame before number f s f2 s2 g t g2 t2 → HasReportedSame before more f s f3 s3 g t g3 t3
 reported_more before number more f f2 f3 g g2 g3 s s2 s3 t t2 t3 x y a b same some m h =
     let write = some_write x some in
     reported_write before number more f f2 f3 g g2 g3 s s2 s3 t t2 t3 x y write.0 a b same write.1 m h
@@ -174,7 +174,7 @@ fewer_left f g s t x h some = let write = some_write x some in fewer_by f g s t 
 pub reported_all : (before number : ℕ) (f f2 f3 g g2 g3 : Cursor) (s s2 s3 t t2 t3 : State) (x y : Option ChannelWrite) →
     HasAdvanced f2 s2 (one_write x) f3 s3 → HasAdvanced g2 t2 (one_write y) g3 t3 → x ≡ y → x ≡ None →
     (x ≡ None → (run_with f3.held s3).writes ≡ []) → (y ≡ None → (run_with g3.held t3).writes ≡ []) →
-    HasToldSame before number f s f2 s2 g t g2 t2 → FindsWriteDivergence before f g s t None f3 g3 s3 t3
+    HasReportedSame before number f s f2 s2 g t g2 t2 → FindsWriteDivergence before f g s t None f3 g3 s3 t3
 reported_all before number f f2 f3 g g2 g3 s s2 s3 t t2 t3 x y a b same none p q h =
     let left = gone_on f f2 f3 s s2 s3 h.reported (one_write x) h.left_advanced a in
     let right = gone_on g g2 g3 t t2 t3 h.reported (one_write y) h.right_advanced b in
@@ -208,7 +208,7 @@ parts_after reported xs ys x y differ p q =
 pub reported_apart : (before number more : ℕ) (f f2 f3 g g2 g3 : Cursor) (s s2 s3 t t2 t3 : State) (x y : Option ChannelWrite) →
     HasAdvanced f2 s2 (one_write x) f3 s3 → HasAdvanced g2 t2 (one_write y) g3 t3 → x ≢ y →
     (x ≡ None → (run_with f3.held s3).writes ≡ []) → (y ≡ None → (run_with g3.held t3).writes ≡ []) → more ≡ number + 1 →
-    HasToldSame before number f s f2 s2 g t g2 t2 → FindsWriteDivergence before f g s t (Some (record { number = more; left = x; right = y })) f3 g3 s3 t3
+    HasReportedSame before number f s f2 s2 g t g2 t2 → FindsWriteDivergence before f g s t (Some (record { number = more; left = x; right = y })) f3 g3 s3 t3
 reported_apart before number more f f2 f3 g g2 g3 s s2 s3 t t2 t3 x y a b differ p q m h =
     let left = gone_on f f2 f3 s s2 s3 h.reported (one_write x) h.left_advanced a in
     let right = gone_on g g2 g3 t t2 t3 h.reported (one_write y) h.right_advanced b in

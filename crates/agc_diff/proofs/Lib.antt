@@ -1,4 +1,5 @@
 pub mod Kept
+pub mod Faces
 pub mod Alike
 pub mod Follows
 pub mod Together
@@ -8,4 +9,4 @@ pub mod Passed
 pub mod Followed
 pub mod Memories
 pub mod Compared
-pub mod Repaired
+pub mod CellNames

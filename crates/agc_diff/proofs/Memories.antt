@@ -35,24 +35,24 @@ differing_more cells more place xs ys x y d e b f g m h =
     ∙ ap (λ (n : ℕ). differing_below n xs ys) (sym (add-one place))
 
 -- The cells below this one are listed. That the memories hold their registers is known once a cell was read.
-pub record ToldBelow (place : ℕ) (cells : List CellPair) (m n : Memory) : Type 0 where
+pub record ReportedBelow (place : ℕ) (cells : List CellPair) (m n : Memory) : Type 0 where
   pub reported : cells ≡ differing_below place m.erasable n.erasable
   pub left : 0 < place → HoldsRegisters m.erasable
   pub right : 0 < place → HoldsRegisters n.erasable
 
-pub reported_none : (cells : List CellPair) (m n : Memory) → cells ≡ [] → ToldBelow 0 cells m n
+pub reported_none : (cells : List CellPair) (m n : Memory) → cells ≡ [] → ReportedBelow 0 cells m n
 unfolding differing_below
 reported_none cells m n e = record { reported = e; left = λ l. absurd (omega (arith, l)); right = λ l. absurd (omega (arith, l)) }
 
 -- another cell
 pub reported_one : (place : ℕ) (cells more : List CellPair) (m n : Memory) (x y : Number) → x ≡ cell_at place m.erasable → y ≡ cell_at place n.erasable →
     HoldsRegisters m.erasable → HoldsRegisters n.erasable → (b : Bool) → (IsTrue b → x ≡ y) → (x ≡ y → IsTrue b) →
-    more ≡ cells ++ (if b then [] else record { place = place; left = x; right = y } ∷ []) → ToldBelow place cells m n → ToldBelow (place + 1) more m n
+    more ≡ cells ++ (if b then [] else record { place = place; left = x; right = y } ∷ []) → ReportedBelow place cells m n → ReportedBelow (place + 1) more m n
 reported_one place cells more m n x y d e g h b f k r t =
     record { reported = differing_more cells more place m.erasable n.erasable x y d e b f k r t.reported; left = λ l. g; right = λ l. h }
 
 -- all cells
-pub reported_all : (place : ℕ) (cells : List CellPair) (m n : Memory) → place ≡ 2048 → ToldBelow place cells m n → cells ≡ cells_that_differ m.erasable n.erasable
+pub reported_all : (place : ℕ) (cells : List CellPair) (m n : Memory) → place ≡ 2048 → ReportedBelow place cells m n → cells ≡ cells_that_differ m.erasable n.erasable
 unfolding cells_that_differ
 reported_all place cells m n e t = t.reported ∙ ap (λ (k : ℕ). differing_below k m.erasable n.erasable) e
 
@@ -95,7 +95,7 @@ unfolding cells_that_differ
 none_differ xs ys e = ap (λ (zs : List Number). differing_below 2048 xs zs) (sym e) ∙ none_below 2048 xs
 
 -- if all cells are listed, the list is empty exactly when the memories are the same
-pub reported_none_same : (place : ℕ) (cells : List CellPair) (m n : Memory) → place ≡ 2048 → ToldBelow place cells m n → cells ≡ [] ↔ (m.erasable ≡ n.erasable)
+pub reported_none_same : (place : ℕ) (cells : List CellPair) (m n : Memory) → place ≡ 2048 → ReportedBelow place cells m n → cells ≡ [] ↔ (m.erasable ≡ n.erasable)
 reported_none_same place cells m n e t =
     let some : 0 < place = omega (arith, e) in
     let all = reported_all place cells m n e t in

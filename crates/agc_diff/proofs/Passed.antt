@@ -104,14 +104,14 @@ pub record Shares (s t : State) (common : CommonPrefix) (last : Buffer Entry) (u
   pub right : HasPassed t entries v
 
 -- one more boundary is recorded
-pub record TellsMore (c d : CommonPrefix) (last more : Buffer Entry) (entry : Entry) : Type 0 where
+pub record ReportsMore (c d : CommonPrefix) (last more : Buffer Entry) (entry : Entry) : Type 0 where
   pub boundaries : d.boundaries ≡ c.boundaries + 1
   pub writes : d.writes ≡ c.writes + length (one_write entry.write)
   pub panel : (taken : List ChannelWrite) → c.panel ≡ panel_of taken → d.panel ≡ panel_of (taken ++ one_write entry.write)
   pub fits : FitsLine entry
   pub last_ones : more ≡ buffer (keep_last last.capacity (last.items ++ entry ∷ [])) last.capacity
 
-reports_more : (entries : List Entry) (c d : CommonPrefix) (last more : Buffer Entry) (entry : Entry) → TellsMore c d last more entry →
+reports_more : (entries : List Entry) (c d : CommonPrefix) (last more : Buffer Entry) (entry : Entry) → ReportsMore c d last more entry →
     SummarizesEntries entries c last → SummarizesEntries (entries ++ entry ∷ []) d more
 reports_more entries c d last more entry h t =
     let writes = entry_writes-snoc entries entry in
@@ -134,7 +134,7 @@ shares_none s t common last b w p l =
 -- another boundary that both have
 pub shares_more : (s t : State) (c d : CommonPrefix) (last more : Buffer Entry) (u v x y : State) (entry other : Entry) →
     entry ≡ entry_of u → other ≡ entry_of v → x ≡ (boundary None u).0 → y ≡ (boundary None v).0 → entry ≡ other →
-    is_stop entry.happening ≡ false → TellsMore c d last more entry → Shares s t c last u v → Shares s t d more x y
+    is_stop entry.happening ≡ false → ReportsMore c d last more entry → Shares s t c last u v → Shares s t d more x y
 shares_more s t c d last more u v x y entry other e f g h same stop reports k =
     record {
       entries = k.entries ++ entry ∷ [];
@@ -146,7 +146,7 @@ shares_more s t c d last more u v x y entry other e f g h same stop reports k =
 -- the stop, which both have
 pub shares_all : (s t : State) (c d : CommonPrefix) (last more : Buffer Entry) (u v x y : State) (entry other : Entry) →
     entry ≡ entry_of u → other ≡ entry_of v → x ≡ (boundary None u).0 → y ≡ (boundary None v).0 → entry ≡ other →
-    is_stop entry.happening ≡ true → TellsMore c d last more entry → Shares s t c last u v → ComesApart s t d more None x y
+    is_stop entry.happening ≡ true → ReportsMore c d last more entry → Shares s t c last u v → ComesApart s t d more None x y
 shares_all s t c d last more u v x y entry other e f g h same stop reports k = (
   k.entries ++ entry ∷ [],
   reports_more k.entries c d last more entry reports k.reports,

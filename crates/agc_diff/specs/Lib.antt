@@ -11,5 +11,3 @@ pub mod Compare
 pub mod Divergence
 pub mod Report
 pub mod SideNames
-pub mod Repair
-pub mod WordDiff

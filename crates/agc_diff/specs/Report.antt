@@ -1,6 +1,6 @@
 -- The report of a comparison, with symbols for places if there are any.
-use Rattle.std.specs.Prelude.{ℕ, ◌==◌, if◌then◌else◌}
-use Rattle.std.specs.Prelude.{List, [], ◌++◌, codes, length, flat_map, Option, Some, None}
+use Rattle.std.specs.Prelude.{ℕ, ◌-◌, ◌==◌, if◌then◌else◌}
+use Rattle.std.specs.Prelude.{List, [], ◌++◌, codes, length, flat_map, replicate, Option, Some, None}
 use Rattle.std.specs.Fmt.{decimal}
 use Rattle.std.specs.List.{zip}
 use Rattle.std.specs.Str.Lines.{lines}
@@ -10,6 +10,10 @@ use Rattle.agc_panel.specs.declared.face.Face.{Face}
 use Rattle.agc_word.specs.Octal.{octal_digits, word_digits}
 use Rattle.agc_word.specs.declared.channel_write.ChannelWrite.{ChannelWrite}
 use Rattle.agc_listing.specs.Place.{place_text}
+use Rattle.agc_listing.specs.declared.location.Location.TheVariants as location
+use Rattle.agc_symbols.specs.Column.{nearby_text}
+use Rattle.agc_symbols.specs.Nearest.{Nearby}
+use Rattle.agc_symbols.specs.Operand.{operand_named}
 use Rattle.agc_symbols.specs.Symbols.{Symbol}
 use Rattle.agc_trace.specs.NamedLine.{line_with}
 use Rattle.agc_listing.specs.Cell.{cell_place, cell_word}
@@ -99,17 +103,31 @@ unfoldable pub panels_text : Face → Face → List ℕ
 panels_text left right =
     flat_map line_pair_text (zip (lines (panel_text left)) (lines (panel_text right)))
 
+-- a name padded with spaces to thirteen characters
+abbrev pub padded_name : Option Nearby → List ℕ
+padded_name near = nearby_text near ++ replicate (13 - length (nearby_text near)) 0x20
+
+-- The column of a cell, if there are symbols: the nearest name at or below it in its bank. A register or a counter has
+-- only a name of its own.
+unfoldable pub cell_column : Option (List Symbol) → ℕ → List ℕ
+cell_column (Some names) cell = padded_name (operand_named names (location.Erasable cell))
+cell_column None cell = []
+
+-- the place of a cell, with its name if there are symbols
+unfoldable pub named_cell : Option (List Symbol) → ℕ → List ℕ
+named_cell names cell = place_text (cell_place cell) ++ codes " " ++ cell_column names cell
+
 -- a cell that differs, and its word in each run
-unfoldable pub cell_text : CellPair → List ℕ
-cell_text cell =
-    place_text (cell_place cell.place) ++ codes " " ++ cell_word cell.place cell.left ++ codes " "
+unfoldable pub cell_text : Option (List Symbol) → CellPair → List ℕ
+cell_text names cell =
+    named_cell names cell.place ++ cell_word cell.place cell.left ++ codes " "
     ++ cell_word cell.place cell.right ++ codes "\n"
 
 -- the cells that differ, under a heading if there are any
-unfoldable pub cells_text : List CellPair → List ℕ
-cells_text cells =
+unfoldable pub cells_text : Option (List Symbol) → List CellPair → List ℕ
+cells_text names cells =
     if length cells == 0 then []
-    else codes "The cells that differ at the stops:\n" ++ flat_map cell_text cells
+    else codes "The cells that differ at the stops:\n" ++ flat_map (cell_text names) cells
 
 -- the stop of a run
 unfoldable pub end_text : End → List ℕ
@@ -121,11 +139,11 @@ unfoldable pub ends_text : End → End → List ℕ
 ends_text left right = codes "< " ++ end_text left ++ codes "> " ++ end_text right
 
 -- One line if the runs are the same. Otherwise what differs, in parts that are left out if nothing does: the first
--- boundary with up to five lines before it, the first write, the panel's lines, the cells; and last, both stops. `<`
--- marks the left run's line, `>` the right run's.
+-- boundary with up to five lines before it, the first write, the panel's lines, the cells, which have the symbols of the
+-- run on the left; and last, both stops. `<` marks the left run's line, `>` the right run's.
 unfoldable pub report_of : Names → Comparison → List ℕ
 report_of names c =
     if is_same c then same_text c
     else boundaries_text names c c.divergence ++ write_divergence_text c.write
-    ++ panels_text c.left.panel c.right.panel ++ cells_text c.cells.items
+    ++ panels_text c.left.panel c.right.panel ++ cells_text names.left c.cells.items
     ++ ends_text c.left c.right

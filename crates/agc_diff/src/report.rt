@@ -8,6 +8,7 @@ ghost use Rattle.agc_diff.specs.SideNames.{both_names};
 ghost use Rattle.agc_diff.specs.Report.{
   boundaries_counted,
   boundaries_text,
+  cell_column,
   cell_text,
   cells_text,
   end_text,
@@ -15,6 +16,7 @@ ghost use Rattle.agc_diff.specs.Report.{
   entry_text,
   last_cycle_text,
   line_pair_text,
+  named_cell,
   number_text,
   panels_text,
   divergence_text,
@@ -30,12 +32,15 @@ use crate::cells::CellPair;
 use crate::comparison::{Comparison, DivergencePoint};
 use crate::counted::push_counted;
 use crate::cursor::{End, WriteDivergence};
-use agc_listing::{Cell, push_cell_word, push_place};
+use agc_listing::{Cell, Location, push_cell_word, push_place};
 use agc_panel::Panel;
-use agc_symbols::SymbolTable;
+use agc_symbols::{SymbolTable, push_column};
 use agc_trace::{Entry, push_line_with};
 use agc_word::ChannelWrite;
 use std::alloc::{AllocError, Global};
+
+/// A column without a name.
+const NO_NAME: &str = "             ";
 
 /// The symbols for the lines of each of two runs, if there are any.
 #[derive(Clone, Copy)]
@@ -47,8 +52,8 @@ pub struct SideNames<'a> {
 /// Adds the report of a comparison: one line if the runs are the same. Otherwise it has these parts, each left out if
 /// nothing differs: the first boundary that differs, with up to five lines before it, the first channel write, the
 /// panel's lines and the erasable cells; and last, both stops. Of two lines that differ, `<` marks the run on the
-/// left, `>` the run on the right. Fails if memory runs out. With symbols, an order has a column for the symbol of
-/// its place; lines of both runs use the symbols of the left one.
+/// left, `>` the run on the right. Fails if memory runs out. With symbols, an order and a cell have a column for the
+/// symbol of their place; lines of both runs use the symbols of the left one.
 #[tactic(auto, unfolding(crate::specs::Report::report_of))]
 pub fn push_comparison(
     text: &mut String,
@@ -65,7 +70,7 @@ pub fn push_comparison(
     push_boundaries(text, names, comparison)?;
     push_write_divergence(text, comparison.write)?;
     push_panels(text, &comparison.left.panel, &comparison.right.panel)?;
-    push_cells(text, comparison.cells.as_slice())?;
+    push_cells(text, names.left, comparison.cells.as_slice())?;
     push_ends(text, comparison.left, comparison.right)
 }
 
@@ -293,44 +298,92 @@ fn push_line_pair(text: &mut String, left: &str, right: &str) -> Result<(), Allo
 
 /// Adds the cells that differ, under a heading if there are any.
 #[tactic(auto, unfolding(crate::specs::Report::cells_text))]
-fn push_cells(text: &mut String, cells: &[CellPair]) -> Result<(), AllocError>
+fn push_cells(
+    text: &mut String,
+    names: &Option<SymbolTable>,
+    cells: &[CellPair],
+) -> Result<(), AllocError>
     requires { All IsCell cells.now }
     ensures { OnOk result (string_bytes text.new
-        ≡ string_bytes text.old ++ cells_text cells.now) }
+        ≡ string_bytes text.old ++ cells_text names.now cells.now) }
 {
     if cells.is_empty() {
         return Ok(());
     }
     text.push_str("The cells that differ at the stops:\n")?;
-    push_each_cell(text, cells)
+    push_each_cell(text, names, cells)
 }
 
 /// Adds these cells.
-fn push_each_cell(text: &mut String, cells: &[CellPair]) -> Result<(), AllocError>
+fn push_each_cell(
+    text: &mut String,
+    names: &Option<SymbolTable>,
+    cells: &[CellPair],
+) -> Result<(), AllocError>
     requires { All IsCell cells.now }
     ensures { OnOk result (string_bytes text.new
-        ≡ string_bytes text.old ++ flat_map cell_text cells.now) }
+        ≡ string_bytes text.old ++ flat_map (cell_text names.now) cells.now) }
 {
     for cell in cells {
-        push_cell(text, *cell)?;
+        push_cell(text, names, *cell)?;
     }
     Ok(())
 }
 
 /// Adds a cell that differs: its place and its two words.
 #[tactic(auto, unfolding(crate::specs::Report::cell_text))]
-fn push_cell(text: &mut String, cell: CellPair) -> Result<(), AllocError>
+fn push_cell(
+    text: &mut String,
+    names: &Option<SymbolTable>,
+    cell: CellPair,
+) -> Result<(), AllocError>
     requires { IsCell cell }
-    ensures { OnOk result (string_bytes text.new ≡ string_bytes text.old ++ cell_text cell) }
+    ensures { OnOk result
+        (string_bytes text.new ≡ string_bytes text.old ++ cell_text names.now cell) }
 {
     let CellPair { place, left, right } = cell;
     let cell = Cell::new(place);
-    push_place(text, cell.place())?;
-    text.push_str(" ")?;
+    push_named_cell(text, names, cell)?;
     push_cell_word(text, cell, left)?;
     text.push_str(" ")?;
     push_cell_word(text, cell, right)?;
     text.push_str("\n")
+}
+
+/// Adds the place of a cell, with its name if there are symbols.
+#[tactic(auto, unfolding(crate::specs::Report::named_cell))]
+fn push_named_cell(
+    text: &mut String,
+    names: &Option<SymbolTable>,
+    cell: Cell,
+) -> Result<(), AllocError>
+    ensures { OnOk result
+        (string_bytes text.new ≡ string_bytes text.old ++ named_cell names.now cell) }
+{
+    push_place(text, cell.place())?;
+    text.push_str(" ")?;
+    push_cell_name(text, names, cell.number())
+}
+
+/// Adds the column of a cell's name, if there are symbols. A register or a counter has only a name of its own.
+#[tactic(auto, unfolding(crate::specs::Report::cell_column), using(crate::proofs::CellNames::columns))]
+fn push_cell_name(
+    text: &mut String,
+    names: &Option<SymbolTable>,
+    cell: u16,
+) -> Result<(), AllocError>
+    ensures { OnOk result
+        (string_bytes text.new ≡ string_bytes text.old ++ cell_column names.now cell) }
+{
+    let Some(names) = names else {
+        return Ok(());
+    };
+    let at = Location::Erasable(u32::from(cell));
+    if names.operand_at(at).is_some() {
+        push_column(text, names, at)
+    } else {
+        text.push_str(NO_NAME)
+    }
 }
 
 /// Adds the stops of both runs.

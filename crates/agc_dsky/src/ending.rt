@@ -57,19 +57,19 @@ impl Ending {
         &mut self,
         rt: &R,
         operator: &Operator,
-        asked: &Dsky,
+        requested: &Dsky,
         ended: Ended,
         out: &mut W,
         err: &mut E,
     ) -> u8 {
         let saved = self.save(rt, operator);
-        let status = match self.tell(operator, asked, saved == Ok(true), out) {
-            Ok(()) => status_at_end(asked, ended, err),
+        let status = match self.tell(operator, requested, saved == Ok(true), out) {
+            Ok(()) => status_at_end(requested, ended, err),
             Err(_) => WRITE_FAILED,
         };
         match saved {
             Ok(_) => status,
-            Err(error) => status_of(WRITE_FAILED, error.write_to(asked, err)),
+            Err(error) => status_of(WRITE_FAILED, error.write_to(requested, err)),
         }
     }
 
@@ -77,22 +77,22 @@ impl Ending {
     fn tell<W: Write>(
         &mut self,
         operator: &Operator,
-        asked: &Dsky,
+        requested: &Dsky,
         is_saved: bool,
         out: &mut W,
     ) -> io::Result<()> {
-        let script = match &asked.save {
+        let script = match &requested.save {
             Some(path) if is_saved => path.as_str(),
             _ => self.print_script(operator, out)?,
         };
         let limit = operator.limit_to_repeat();
         out.write_all(b"again: ")?;
         write_word(out, self.agc.as_str())?;
-        write_run(out, asked, script, limit)?;
+        write_run(out, requested, script, limit)?;
         out.write_all(b"\nas a film: ")?;
         write_word(out, self.study.as_str())?;
         out.write_all(b" film")?;
-        write_run(out, asked, script, limit)?;
+        write_run(out, requested, script, limit)?;
         out.write_all(b" > film.html\n")
     }
 
@@ -112,27 +112,27 @@ impl Ending {
 }
 
 /// Returns the status at the end of a session.
-fn status_at_end<E: Write>(asked: &Dsky, ended: Ended, err: &mut E) -> u8 {
+fn status_at_end<E: Write>(requested: &Dsky, ended: Ended, err: &mut E) -> u8 {
     match ended {
         Ended::Quit => OK,
         Ended::Gone => WRITE_FAILED,
         Ended::Memory => {
             status_of(
                 REFUSED,
-                Error::Refused(LoadFault::Memory).write_to(asked, err),
+                Error::Refused(LoadFault::Memory).write_to(requested, err),
             )
         }
     }
 }
 
 /// Writes the arguments of a run: its files, its limit and its form.
-fn write_run<W: Write>(out: &mut W, asked: &Dsky, script: &str, limit: u64) -> io::Result<()> {
+fn write_run<W: Write>(out: &mut W, requested: &Dsky, script: &str, limit: u64) -> io::Result<()> {
     out.write_all(b" ")?;
-    write_path(out, asked.start.rope.as_str())?;
+    write_path(out, requested.start.rope.as_str())?;
     out.write_all(b" ")?;
     write_path(out, script)?;
     write!(out, " --limit {limit}")?;
-    match asked.start.form {
+    match requested.start.form {
         RopeForm::Classic => Ok(()),
         RopeForm::Parity => out.write_all(b" --form parity"),
     }

@@ -4,6 +4,7 @@ use crate::words::Dsky;
 use agc_load::LoadFault;
 use agc_script::FaultKind;
 use agc_store::RopeFault;
+use agc_symbols::{SymbolFileFault, SymbolTableFault};
 use std::alloc::AllocError;
 use std::fmt;
 use std::io::{self, Write};
@@ -13,9 +14,12 @@ use std::io::{self, Write};
 pub enum Error {
     /// An error that `agc` reports too: in the rope, the script or the limit, or out of memory.
     Refused(LoadFault),
-    /// The rope, or the script, is a pipe.
+    /// An error in the symbol file.
+    Unnamed(SymbolFileFault),
+    /// The rope, the script or the symbol file is a pipe.
     RopeIsPipe,
     ScriptIsPipe,
+    NamesIsPipe,
     /// Standard input is not a terminal, so keys cannot be read one by one.
     InputIsNoTerminal,
     /// Standard output is not a terminal, so nothing can be drawn.
@@ -38,9 +42,9 @@ pub enum Error {
 
 impl Error {
     /// Writes this error of a session with these arguments as one line.
-    pub fn write_to<W: Write>(self, asked: &Dsky, err: &mut W) -> io::Result<()> {
+    pub fn write_to<W: Write>(self, requested: &Dsky, err: &mut W) -> io::Result<()> {
         err.write_all(b"agc-dsky: ")?;
-        if let Some(path) = self.path(asked) {
+        if let Some(path) = self.path(requested) {
             write_word(err, path)?;
             err.write_all(b": ")?;
         }
@@ -56,19 +60,21 @@ impl Error {
     }
 
     /// Returns the path of the file that the error is about.
-    fn path(self, asked: &Dsky) -> Option<&str> {
+    fn path(self, requested: &Dsky) -> Option<&str> {
         match self {
             Error::Refused(LoadFault::CannotReadRope(_) | LoadFault::Rope(_)) | Error::RopeIsPipe =>
-                Some(asked.start.rope.as_str()),
+                Some(requested.start.rope.as_str()),
             Error::Refused(LoadFault::CannotReadScript(_) | LoadFault::Script(_))
-            | Error::ScriptIsPipe => path_in(&asked.start.script),
+            | Error::ScriptIsPipe => path_in(&requested.start.script),
+            Error::Unnamed(SymbolFileFault::Names(SymbolTableFault::Memory)) => None,
+            Error::Unnamed(_) | Error::NamesIsPipe => path_in(&requested.names),
             Error::SaveTaken
             | Error::SaveNotMade
             | Error::SaveIsFolder
             | Error::SaveIsNoFile
             | Error::SaveIsDangling
             | Error::SaveFailed
-            | Error::SaveChanged => path_in(&asked.save),
+            | Error::SaveChanged => path_in(&requested.save),
             _ => None,
         }
     }
@@ -112,6 +118,7 @@ impl fmt::Display for Error {
     fn fmt<W: fmt::Write>(&self, f: &mut fmt::Formatter<W>) -> fmt::Result {
         match *self {
             Error::Refused(refusal) => write!(f, "{refusal}"),
+            Error::Unnamed(refusal) => write!(f, "{refusal}"),
             _ => f.write_str(self.text()),
         }
     }
@@ -121,8 +128,8 @@ impl Error {
     /// Returns the text of an error that only this program reports.
     fn text(self) -> &'static str {
         match self {
-            Error::Refused(_) => "",
-            Error::RopeIsPipe | Error::ScriptIsPipe => {
+            Error::Refused(_) | Error::Unnamed(_) => "",
+            Error::RopeIsPipe | Error::ScriptIsPipe | Error::NamesIsPipe => {
                 "a pipe, and no key is heard while it is read; write it to a file first"
             }
             Error::InputIsNoTerminal => {

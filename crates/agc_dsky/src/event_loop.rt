@@ -1,8 +1,14 @@
 //! The event loop: reads keys, runs the machine and draws the screen, at most a hundred times a second.
 use crate::screen::{Content, DrawFault, Screen, ask_size};
+use crate::seeking::{
+    Seeking, found_ahead, found_behind, none_ahead, none_before_stop, none_behind, searching,
+};
 use agc_panel::WatchSpec;
 use agc_session::InjectFault;
-use agc_tui::{Button, Decoder, InputEvent, Operator, Pacer, Speed, cycles_in, micros_of};
+use agc_tui::{
+    Button, Decoder, InputEvent, Operator, Pacer, Ratio, Search, Speed, Target, cycles_in,
+    micros_of,
+};
 use std::alloc::Global;
 use std::io::{Read, Write};
 use std::thread;
@@ -11,7 +17,7 @@ use std::time::{Clock, Duration};
 /// The most microseconds that the machine runs before keys are read again.
 const TURN: u64 = 15_000;
 
-/// The same while it reruns.
+/// The same while it reruns or searches.
 const RERUN_TURN: u64 = 90_000;
 
 /// The milliseconds of sleep between two turns.
@@ -28,6 +34,9 @@ const LIT: u64 = 300_000;
 
 /// The microseconds between two requests for the terminal's size; the speed is measured over the same period.
 const ASKED_EVERY: u64 = 500_000;
+
+/// The speed of the hardware.
+const REAL: Ratio = Ratio { times: 1, parts: 1 };
 
 /// How a session ended.
 #[derive(Clone, Copy, Debug, PartialEq, Eq)]
@@ -52,10 +61,12 @@ pub struct EventLoop {
     watch: Option<WatchSpec>,
     are_tables: bool,
     remark: &'static str,
+    /// The search forward that has not ended yet.
+    seeking: Option<Seeking>,
     runs_at: Option<u64>,
     /// The time of the clock and the cycle of the last request for the terminal's size.
-    asked: u64,
-    asked_at: u64,
+    requested: u64,
+    requested_at: u64,
     /// The number of key presses at the last look, and the time until which the last key is lit.
     presses: usize,
     lit_until: u64,
@@ -67,6 +78,8 @@ pub enum Action {
     None,
     /// Go back a little.
     Back,
+    /// Go back to the last one.
+    BackToLast(Target),
     Save,
     Quit,
 }
@@ -91,9 +104,10 @@ impl EventLoop {
             watch,
             are_tables: false,
             remark: "",
+            seeking: None,
             runs_at: None,
-            asked: micros,
-            asked_at: cycle,
+            requested: micros,
+            requested_at: cycle,
             presses: 0,
             lit_until: 0,
         }
@@ -131,16 +145,26 @@ impl EventLoop {
                 return Action::Save;
             }
             InputEvent::Back => return Action::Back,
+            InputEvent::Search(Search::Previous(target)) => return Action::BackToLast(target),
+            InputEvent::Search(Search::Next(target)) => self.begin_search(clock, target),
             InputEvent::Key(button) => self.type_key(button),
-            InputEvent::Pause => self.pause_or_go_on(),
-            InputEvent::Step => self.step(),
-            InputEvent::Faster => self.pacer.go_faster(),
-            InputEvent::Slower => self.pacer.go_slower(),
+            InputEvent::Pause | InputEvent::Step if self.seeking.is_some() => {
+                self.end_search(clock, "search ended")
+            }
+            InputEvent::Pause => self.pause_or_go_on(clock),
+            InputEvent::Step => self.step(clock),
+            InputEvent::Faster => {
+                self.pacer.go_faster();
+                self.begin_pace(clock);
+            }
+            InputEvent::Slower => {
+                self.pacer.go_slower();
+                self.begin_pace(clock);
+            }
             InputEvent::Inside => self.is_inside = !self.is_inside,
             InputEvent::Tables => self.show_tables(),
             InputEvent::Size { .. } => {}
         }
-        self.begin_pace(clock);
         Action::None
     }
 
@@ -176,29 +200,91 @@ impl EventLoop {
 
     /// Pauses or resumes. Before a pause takes the last boundaries one by one, so that they are recorded, except during a
     /// rerun, which records its own.
-    fn pause_or_go_on(&mut self) {
+    fn pause_or_go_on<C: Clock>(&mut self, clock: &C) {
         self.pacer.pause_or_go_on();
         if self.pacer.is_paused() && self.operator.rerun_end().is_none() {
             let slowed = self.operator.step_tail();
             self.note(slowed);
         }
+        self.begin_pace(clock);
     }
 
     /// Takes one boundary if the session is paused, else pauses it. During a rerun takes none.
-    fn step(&mut self) {
+    fn step<C: Clock>(&mut self, clock: &C) {
         if !self.pacer.is_paused() {
-            return self.pause_or_go_on();
+            return self.pause_or_go_on(clock);
         }
         if self.operator.rerun_end().is_some() {
             return;
         }
         let stepped = self.operator.step();
         self.note(stepped);
+        self.begin_pace(clock);
     }
 
-    /// Begins a rerun that rebuilds the history, if the inspector is shown and the machine has stopped by itself.
+    /// Stops time, if it runs.
+    fn hold<C: Clock>(&mut self, clock: &C) {
+        if !self.pacer.is_paused() {
+            self.pacer.pause_or_go_on();
+        }
+        self.begin_pace(clock);
+    }
+
+    /// Stops time, and begins to search forward. During a rerun does nothing.
+    fn begin_search<C: Clock>(&mut self, clock: &C, target: Target) {
+        if self.operator.rerun_end().is_some() {
+            return;
+        }
+        self.hold(clock);
+        self.seeking = Some(Seeking::new(target, self.operator.cycle()));
+    }
+
+    /// Ends a search forward with a remark.
+    fn end_search<C: Clock>(&mut self, clock: &C, remark: &'static str) {
+        self.seeking = None;
+        self.remark = remark;
+        self.requested = micros_of(clock);
+        self.requested_at = self.operator.cycle();
+        self.begin_pace(clock);
+    }
+
+    /// Goes on with a search forward, as far as it gets within a turn.
+    fn go_on_seeking<C: Clock>(&mut self, clock: &C, seeking: Seeking) {
+        let start = micros_of(clock);
+        let end = start.saturating_add(RERUN_TURN);
+        for _chunk in 0..u64::MAX {
+            if let Some(remark) = self.seek(seeking) {
+                return self.end_search(clock, remark);
+            }
+            let now = micros_of(clock);
+            if end <= now || now == start {
+                return;
+            }
+        }
+    }
+
+    /// Goes on with a search forward for some cycles. Returns the remark on its end, if it has ended.
+    fn seek(&mut self, seeking: Seeking) -> Option<&'static str> {
+        let Seeking { target, end } = seeking;
+        if self.operator.has_stopped() {
+            return Some(none_before_stop(target));
+        }
+        let next = end.min(self.operator.cycle().saturating_add(CHUNK));
+        match self.operator.seek(target.breakpoint(), next) {
+            Ok(true) => Some(found_ahead(target)),
+            Ok(false) if end <= self.operator.cycle() => Some(none_ahead(target)),
+            Ok(false) => None,
+            Err(fault) => {
+                self.note(Err(fault));
+                None
+            }
+        }
+    }
+
+    /// Begins a rerun that rebuilds the history, if the inspector is shown and time or the machine has stopped.
     pub fn look_inside(self, alloc: Global) -> EventLoop {
-        if !self.is_inside {
+        let stands = self.pacer.is_paused() || self.operator.has_stopped();
+        if !self.is_inside || !stands || self.seeking.is_some() {
             return self;
         }
         let operator = self.operator.rebuild_history(alloc);
@@ -215,7 +301,7 @@ impl EventLoop {
             is_inside,
             watch,
             are_tables,
-            asked,
+            requested,
             lit_until,
             ..
         } = self;
@@ -226,7 +312,7 @@ impl EventLoop {
         };
         let from = operator.rerun_end().unwrap_or(operator.cycle());
         let (operator, went) = operator.back(alloc, from.saturating_sub(way));
-        let asked_at = operator.cycle();
+        let requested_at = operator.cycle();
         let presses = operator.presses();
         let mut event_loop = EventLoop {
             operator,
@@ -241,9 +327,10 @@ impl EventLoop {
             } else {
                 "cannot go back: out of memory"
             },
+            seeking: None,
             runs_at: None,
-            asked,
-            asked_at,
+            requested,
+            requested_at,
             presses,
             lit_until,
         };
@@ -251,10 +338,34 @@ impl EventLoop {
         event_loop
     }
 
-    /// Runs the machine to the cycle that is due now, or as far as it gets within a turn. Goes on with a rerun first.
+    /// Stops time, and begins to go back to the last one before now. During a rerun does nothing.
+    pub fn back_to_last<C: Clock>(self, alloc: Global, clock: &C, target: Target) -> EventLoop {
+        if self.operator.rerun_end().is_some() {
+            return self;
+        }
+        let (operator, found) = self.operator.back_to_last(alloc, target.breakpoint());
+        let mut event_loop = EventLoop { operator, ..self };
+        event_loop.presses = event_loop.operator.presses();
+        event_loop.hold(clock);
+        event_loop.end_search(
+            clock,
+            match found {
+                Ok(Some(_)) => found_behind(target),
+                Ok(None) => none_behind(target),
+                Err(_) => "cannot search: out of memory",
+            },
+        );
+        event_loop
+    }
+
+    /// Runs the machine to the cycle that is due now, or as far as it gets within a turn. Goes on with a rerun or a search
+    /// first.
     pub fn go_on<C: Clock>(&mut self, clock: &C) {
         if self.operator.rerun_end().is_some() {
             return self.rerun(clock);
+        }
+        if let Some(seeking) = self.seeking {
+            return self.go_on_seeking(clock, seeking);
         }
         let start = micros_of(clock);
         let due = self.pacer.due(start);
@@ -284,8 +395,8 @@ impl EventLoop {
             self.operator.rerun(CHUNK);
             let now = micros_of(clock);
             if self.operator.rerun_end().is_none() {
-                self.asked = now;
-                self.asked_at = self.operator.cycle();
+                self.requested = now;
+                self.requested_at = self.operator.cycle();
                 return self.begin_pace(clock);
             }
             if end <= now || now == start {
@@ -316,14 +427,14 @@ impl EventLoop {
         out: &mut W,
     ) -> Result<(), DrawFault> {
         let micros = micros_of(clock);
-        let since = micros.saturating_sub(self.asked);
+        let since = micros.saturating_sub(self.requested);
         if ASKED_EVERY <= since {
             ask_size(out)?;
             if self.operator.rerun_end().is_none() {
                 self.measure(since);
             }
-            self.asked = micros;
-            self.asked_at = self.operator.cycle();
+            self.requested = micros;
+            self.requested_at = self.operator.cycle();
         }
         let pressed = self.lit(micros);
         let shown = Content {
@@ -333,7 +444,10 @@ impl EventLoop {
             runs_at: self.runs_at,
             is_inside: self.is_inside,
             tables: if self.are_tables { self.watch } else { None },
-            remark: self.remark,
+            remark: match self.seeking {
+                Some(seeking) => searching(seeking.target),
+                None => self.remark,
+            },
         };
         self.screen.draw(alloc, &self.operator, shown, out)
     }
@@ -354,13 +468,13 @@ impl EventLoop {
     /// Measures the speed over `micros` microseconds as a multiple of the hardware's. It is shown if it is clearly
     /// below the requested speed, or if that is as fast as possible.
     fn measure(&mut self, micros: u64) {
-        let cycles = self.operator.cycle().saturating_sub(self.asked_at);
-        let times = match cycles_in(micros, 1) {
+        let cycles = self.operator.cycle().saturating_sub(self.requested_at);
+        let times = match cycles_in(micros, REAL) {
             0 => 0,
             real => cycles / real,
         };
-        self.runs_at = match self.pacer.speed().factor() {
-            Some(factor) if factor.saturating_mul(9) / 10 <= times => None,
+        self.runs_at = match self.pacer.speed().ratio() {
+            Some(ratio) if ratio.times as u64 * 9 / 10 <= times => None,
             _ => Some(times),
         };
     }

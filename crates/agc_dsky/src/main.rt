@@ -7,6 +7,7 @@ mod event_loop;
 mod quoting;
 mod saving;
 mod screen;
+mod seeking;
 mod words;
 
 use agc_cli::{ArgsFault, exit_usage, parse_env};
@@ -14,6 +15,7 @@ use agc_io::{REFUSED, USAGE, hold_closed_streams, status_of};
 use agc_load::LoadFault;
 use agc_panel::WatchSpec;
 use agc_session::open_session;
+use agc_symbols::{SymbolTable, names_at};
 use agc_tui::{ColorMode, Operator};
 use ending::Ending;
 use error::Error;
@@ -42,13 +44,13 @@ struct Place {
 fn main(rt: HostRuntime) -> ExitCode {
     let _stand_ins = hold_closed_streams(&rt);
     let (mut keys, mut out, mut err) = (rt.stdin(), rt.stdout(), rt.stderr());
-    let asked = parse_env(&rt);
+    let requested = parse_env(&rt);
     let place = Place {
         color: color_of(&rt, keys.is_terminal(), out.is_terminal()),
         program: program_of(&rt),
         number: process::id(rt.process()),
     };
-    ExitCode::from(run(&rt, asked, &place, &mut keys, &mut out, &mut err))
+    ExitCode::from(run(&rt, requested, &place, &mut keys, &mut out, &mut err))
 }
 
 /// Checks that this is a terminal that can be drawn on, and returns its colour mode. `NO_COLOR`, unless empty, turns
@@ -87,7 +89,7 @@ fn program_of<R: Env + AllocGlobal>(rt: &R) -> String {
 /// error goes to `err` in one line, with status 1, and a usage error with status 2. A failed write gives status 3.
 fn run<R, K: Read, W: Write, E: Write>(
     rt: &R,
-    asked: Result<Dsky, ArgsFault>,
+    requested: Result<Dsky, ArgsFault>,
     place: &Place,
     keys: &mut K,
     out: &mut W,
@@ -96,16 +98,16 @@ fn run<R, K: Read, W: Write, E: Write>(
 where
     R: Files + Clock + AllocGlobal,
 {
-    match asked {
-        Ok(asked) => run_asked(rt, &asked, place, keys, out, err),
+    match requested {
+        Ok(requested) => run_requested(rt, &requested, place, keys, out, err),
         Err(fault) => exit_usage("agc-dsky", fault, REFUSED, out, err),
     }
 }
 
 /// Runs a session over rope and script, if it can start.
-fn run_asked<R, K: Read, W: Write, E: Write>(
+fn run_requested<R, K: Read, W: Write, E: Write>(
     rt: &R,
-    asked: &Dsky,
+    requested: &Dsky,
     place: &Place,
     keys: &mut K,
     out: &mut W,
@@ -114,16 +116,16 @@ fn run_asked<R, K: Read, W: Write, E: Write>(
 where
     R: Files + Clock + AllocGlobal,
 {
-    let (event_loop, mut ending) = match begin(rt, asked, place) {
+    let (event_loop, mut ending) = match begin(rt, requested, place) {
         Ok(begun) => begun,
-        Err(error) => return status_of(status_for(error), error.write_to(asked, err)),
+        Err(error) => return status_of(status_for(error), error.write_to(requested, err)),
     };
     // If the terminal accepts no output, the first drawing reports it.
     let _begun = screen::begin(out);
     let (event_loop, ended) = sit(rt, event_loop, &mut ending, keys, out);
     // A terminal that is gone cannot be restored.
     let _put_back = screen::end(out);
-    ending.finish(rt, &event_loop.operator, asked, ended, out, err)
+    ending.finish(rt, &event_loop.operator, requested, ended, out, err)
 }
 
 /// Returns the status if no session could start.
@@ -131,45 +133,59 @@ fn status_for(error: Error) -> u8 {
     if error.is_misuse() { USAGE } else { REFUSED }
 }
 
-/// Opens the session. Checks the terminal first, then the rope, the script, the limit, the tables, and last the file
-/// to save to, so that no file is created without a session.
-fn begin<R>(rt: &R, asked: &Dsky, place: &Place) -> Result<(EventLoop, Ending), Error>
+/// Opens the session. Checks the terminal first, then the symbols, the rope, the script, the limit, the tables, and last
+/// the file to save to, so that no file is created without a session.
+fn begin<R>(rt: &R, requested: &Dsky, place: &Place) -> Result<(EventLoop, Ending), Error>
 where
     R: Files + Clock + AllocGlobal,
 {
     let color = place.color?;
-    let operator = operator_for(rt, asked)?;
-    let watch = watch_for(asked)?;
-    let ending = ending_for(rt, asked, place)?;
-    let screen = Screen::new(rt.alloc(), color);
-    let event_loop = EventLoop::new(rt, operator, screen, asked.speed, watch);
+    let names = names_for(rt, requested)?;
+    let operator = operator_for(rt, requested)?;
+    let watch = watch_for(requested)?;
+    let ending = ending_for(rt, requested, place)?;
+    let screen = Screen::new(rt.alloc(), color, names);
+    let event_loop = EventLoop::new(rt, operator, screen, requested.speed, watch);
     Ok((event_loop, ending))
 }
 
 /// Reserves what the end of the session needs, with the file to save to.
 fn ending_for<R: Files + AllocGlobal>(
     rt: &R,
-    asked: &Dsky,
+    requested: &Dsky,
     place: &Place,
 ) -> Result<Ending, Error> {
     let mut ending = Ending::new(rt.alloc(), place.program.as_str())?;
-    if let Some(path) = &asked.save {
-        let file = SaveFile::reserve(rt, path.as_str(), asked.force, place.number)?;
+    if let Some(path) = &requested.save {
+        let file = SaveFile::reserve(rt, path.as_str(), requested.force, place.number)?;
         ending.file = Some(file);
     }
     Ok(ending)
 }
 
+/// Reads the symbols, if a file is named for them.
+fn names_for<R: Files + AllocGlobal>(
+    rt: &R,
+    requested: &Dsky,
+) -> Result<Option<SymbolTable>, Error> {
+    if is_named_pipe(rt, &requested.names) {
+        return Err(Error::NamesIsPipe);
+    }
+    match names_at(rt, &requested.names) {
+        Ok(names) => Ok(names),
+        Err(refusal) => Err(Error::Unnamed(refusal)),
+    }
+}
+
 /// Creates the operator of a machine at its start.
-fn operator_for<R: Files + AllocGlobal>(rt: &R, asked: &Dsky) -> Result<Operator, Error> {
-    if is_pipe(rt, asked.start.rope.as_str()) {
+fn operator_for<R: Files + AllocGlobal>(rt: &R, requested: &Dsky) -> Result<Operator, Error> {
+    if is_pipe(rt, requested.start.rope.as_str()) {
         return Err(Error::RopeIsPipe);
     }
-    match &asked.start.script {
-        Some(path) if is_pipe(rt, path.as_str()) => return Err(Error::ScriptIsPipe),
-        _ => {}
+    if is_named_pipe(rt, &requested.start.script) {
+        return Err(Error::ScriptIsPipe);
     }
-    let session = open_session(rt, &asked.start)?;
+    let session = open_session(rt, &requested.start)?;
     Ok(Operator::new(rt.alloc(), session)?)
 }
 
@@ -181,9 +197,17 @@ fn is_pipe<R: Files>(rt: &R, path: &str) -> bool {
     }
 }
 
+/// Returns whether there is a path, and a pipe at it.
+fn is_named_pipe<R: Files>(rt: &R, path: &Option<String>) -> bool {
+    match path {
+        Some(path) => is_pipe(rt, path.as_str()),
+        None => false,
+    }
+}
+
 /// Returns the tables that can be shown.
-fn watch_for(asked: &Dsky) -> Result<Option<WatchSpec>, LoadFault> {
-    let Some(text) = &asked.watch else {
+fn watch_for(requested: &Dsky) -> Result<Option<WatchSpec>, LoadFault> {
+    let Some(text) = &requested.watch else {
         return Ok(None);
     };
     let Some(spec) = WatchSpec::read(text.as_str()) else {
@@ -215,6 +239,9 @@ where
             match event_loop.take(rt, byte) {
                 Action::None => {}
                 Action::Back => event_loop = event_loop.back(rt.alloc(), rt),
+                Action::BackToLast(target) => {
+                    event_loop = event_loop.back_to_last(rt.alloc(), rt, target)
+                }
                 Action::Save => {
                     let remark = save_now(rt, &event_loop.operator, ending);
                     event_loop.say(remark);

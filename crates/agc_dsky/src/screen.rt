@@ -1,5 +1,6 @@
 //! The terminal's screen: what is drawn on it, and its size.
 use agc_panel::WatchSpec;
+use agc_symbols::SymbolTable;
 use agc_tui::{
     Button, ColorMode, Operator, Pacer, Size, View, push_inspector, push_tables, render,
 };
@@ -62,6 +63,8 @@ pub struct Content<'a> {
 #[derive(Drop)]
 pub struct Screen {
     color: ColorMode,
+    /// The names of places, if there are any.
+    names: Option<SymbolTable>,
     lines: u16,
     columns: u16,
     drawn: String,
@@ -69,9 +72,10 @@ pub struct Screen {
 
 impl Screen {
     /// Creates a screen with nothing drawn, of the smallest size until the terminal reports its own.
-    pub fn new(alloc: Global, color: ColorMode) -> Screen {
+    pub fn new(alloc: Global, color: ColorMode, names: Option<SymbolTable>) -> Screen {
         Screen {
             color,
+            names,
             lines: SMALL_LINES,
             columns: COLUMNS,
             drawn: String::new(alloc),
@@ -162,10 +166,26 @@ impl Screen {
         render(&mut picture, self.view(shown), operator.session())?;
         let tables = tables_of(alloc, operator, shown)?;
         let most = self.boundaries(operator, shown, tables.lines().count());
-        let inspector = insides_of(alloc, operator, shown, most)?;
+        let inspector = self.insides_of(alloc, operator, shown, most)?;
         self.push_cut(&mut picture, &inspector)?;
         self.push_cut(&mut picture, &tables)?;
         Ok(picture)
+    }
+
+    /// Returns the lines of the inspector with at most `most` lines of the last boundaries, or no lines if it is not shown.
+    fn insides_of(
+        &self,
+        alloc: Global,
+        operator: &Operator,
+        shown: Content<'_>,
+        most: usize,
+    ) -> Result<String, AllocError> {
+        let mut inspector = String::new(alloc);
+        if shown.is_inside {
+            let (history, session) = (operator.history(), operator.session());
+            push_inspector(alloc, &mut inspector, &self.names, history, most, session)?;
+        }
+        Ok(inspector)
     }
 
     /// Returns how the picture is drawn.
@@ -189,7 +209,7 @@ impl Screen {
         Ok(())
     }
 
-    /// Returns how many of the last boundaries fit beside this many lines of tables, during a pause or after the
+    /// Returns how many lines of the last boundaries fit beside this many lines of tables, during a pause or after the
     /// stop.
     fn boundaries(&self, operator: &Operator, shown: Content<'_>, tables: usize) -> usize {
         if shown.pacer.is_paused() || operator.has_stopped() {
@@ -213,9 +233,9 @@ impl Screen {
             return write!(frame, " {left} more lines: enlarge the terminal");
         }
         frame.push_str(if self.columns < LONG_HINT_COLUMNS {
-            " v n c k r p Enter 0-9 + -  space . < >  i t s  q quit"
+            " v n c k r p Enter 0-9 + - space . < > u w d i t s q quit"
         } else {
-            " v n c k r p Enter 0-9 + -  space . Backspace < >  i t inside  s save  q quit"
+            " v n c k r p Enter 0-9 + -  space . Backspace < >  u w d U W D  i t s  q quit"
         })
     }
 
@@ -273,26 +293,6 @@ fn tables_of(alloc: Global, operator: &Operator, shown: Content<'_>) -> Result<S
         push_tables(alloc, &mut tables, operator.session(), spec)?;
     }
     Ok(tables)
-}
-
-/// Returns the lines of the inspector with at most `most` of the last boundaries, or no lines if it is not shown.
-fn insides_of(
-    alloc: Global,
-    operator: &Operator,
-    shown: Content<'_>,
-    most: usize,
-) -> Result<String, AllocError> {
-    let mut inspector = String::new(alloc);
-    if shown.is_inside {
-        push_inspector(
-            alloc,
-            &mut inspector,
-            operator.history(),
-            most,
-            operator.session(),
-        )?;
-    }
-    Ok(inspector)
 }
 
 /// Adds as many lines of a picture as there is room for, and returns how many are left over.

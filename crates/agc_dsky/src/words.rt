@@ -1,5 +1,5 @@
 //! The command-line arguments of `agc-dsky`.
-use agc_cli::{Args, script_file, text_of, with_parameter};
+use agc_cli::{Args, ArgsFault, names_option, script_file, text_of, watch_option, with_parameter};
 use agc_session::{SessionArgs, session_args, with_session_args};
 use agc_tui::Speed;
 use clap::{Arg, ArgAction, ArgMatches, Command};
@@ -16,10 +16,12 @@ pub struct Dsky {
     pub force: bool,
     /// The places of the Executive's tables, which `t` shows.
     pub watch: Option<String>,
+    /// The path of the symbol file, if there is one.
+    pub names: Option<String>,
 }
 
 /// The names of the speeds.
-const SPEEDS: [&str; 5] = ["1", "10", "100", "1000", "max"];
+const SPEEDS: [&str; 7] = ["1/100", "1/10", "1", "10", "100", "1000", "max"];
 
 impl Args for Dsky {
     const NAME: &'static str = "agc-dsky";
@@ -34,16 +36,21 @@ impl Args for Dsky {
         let command = with_parameter(command, speed_option(alloc))?;
         let command = with_parameter(command, save_option(alloc))?;
         let command = with_parameter(command, watch_option(alloc))?;
+        let names = names_option(alloc).help(
+            "Show names of places for i from this file: a line for each, PLACE NAME",
+        );
+        let command = with_parameter(command, names)?;
         with_parameter(command, force_option(alloc))
     }
 
-    fn from_matches(alloc: Global, matches: &ArgMatches<'_>) -> Result<Dsky, AllocError> {
+    fn from_matches(alloc: Global, matches: &ArgMatches<'_>) -> Result<Dsky, ArgsFault> {
         Ok(Dsky {
             start: session_args(alloc, matches)?,
             speed: speed_of(matches),
             save: text_of(alloc, matches, "save")?,
             force: matches.get_flag("force"),
             watch: text_of(alloc, matches, "watch")?,
+            names: text_of(alloc, matches, "names")?,
         })
     }
 }
@@ -75,11 +82,4 @@ fn force_option<'a>(alloc: Global) -> Arg<'a> {
         .long("force")
         .action(ArgAction::SetTrue)
         .help("Overwrite the file after --save, whatever is in it")
-}
-
-fn watch_option<'a>(alloc: Global) -> Arg<'a> {
-    Arg::new(alloc, "watch")
-        .long("watch")
-        .value_name("SPEC")
-        .help("Tables for t: CORE_BANK,OFFSET,SETS,LST1_BANK,OFFSET,LST2_BANK,OFFSET in octal")
 }

@@ -13,11 +13,11 @@ use Rattle.agc_word.specs.Text.{is_line_feed, lines_of, without_empty_end}
 use Rattle.agc_listing.specs.Laws.{has_line, named_word}
 use Rattle.agc_listing.specs.Line.{line_named}
 use Rattle.agc_listing.specs.List.{is_extracode_at, listed_line}
-use Rattle.agc_listing.specs.Weave.{is_named, said_from, said_next}
+use Rattle.agc_listing.specs.Weave.{is_named, parsed_from, parsed_next}
 use Rattle.agc_listing.specs.declared.line.PlacedWord.{PlacedWord}
 use Rattle.agc_listing.proofs.LineBack.{line_back, line_body, line_ends, line_prints}
 use Rattle.agc_listing.proofs.Prints.{in_line, prints}
-use Rattle.agc_listing.proofs.Woven.{next_said}
+use Rattle.agc_listing.proofs.Woven.{next_parsed}
 
 -- a line of printable bytes does not end in a carriage return
 no_return : (b : ℕ) → prints b ≡ true → (b == 13) ≡ false
@@ -58,34 +58,34 @@ unfolding listed_line
 some_text words place h = rw h (line_ends place (is_extracode_at words place) (fixed_at place words))
 
 -- a line that names a place which no earlier line names
-unnamed : (said : List PlacedWord) (line : List ℕ) (word : PlacedWord) → line_named line ≡ Ok (Some word) → is_named word.place said ≡ false → said_next said line ≡ Ok (Some word)
-unfolding said_next
-unnamed said line word says none = rw (says, none) refl
+unnamed : (parsed : List PlacedWord) (line : List ℕ) (word : PlacedWord) → line_named line ≡ Ok (Some word) → is_named word.place parsed ≡ false → parsed_next parsed line ≡ Ok (Some word)
+unfolding parsed_next
+unnamed parsed line word says none = rw (says, none) refl
 
-said_more : (words : List Number) (place n : ℕ) (said : List PlacedWord) (rest : List ℕ) → place < 0o110000 → (fixed_at place words).magnitude < 2 ^ 14
-    → has_line words place ≡ true → is_named place said ≡ false
-    → said_from n said (lines_of (listed_line None words place ++ rest)) ≡ said_from (n + 1) (said ++ named_word words place ∷ []) (lines_of rest)
-said_more words place n said rest inside narrow has none =
+word_added : (words : List Number) (place n : ℕ) (parsed : List PlacedWord) (rest : List ℕ) → place < 0o110000 → (fixed_at place words).magnitude < 2 ^ 14
+    → has_line words place ≡ true → is_named place parsed ≡ false
+    → parsed_from n parsed (lines_of (listed_line None words place ++ rest)) ≡ parsed_from (n + 1) (parsed ++ named_word words place ∷ []) (lines_of rest)
+word_added words place n parsed rest inside narrow has none =
     let extracode = is_extracode_at words place in
     let word = fixed_at place words in
     let line = line_body place extracode word in
     let cut : lines_of (listed_line None words place ++ rest) ≡ line ∷ lines_of rest =
     rw (some_text words place has) (ap lines_of (append_assoc line (0x0A ∷ []) rest) ∙ lines_more line rest (line_prints place extracode word)) in
-    rw cut (next_said n said line (lines_of rest) (Some (named_word words place)) (unnamed said line (named_word words place) (line_back place extracode word inside narrow) none))
+    rw cut (next_parsed n parsed line (lines_of rest) (Some (named_word words place)) (unnamed parsed line (named_word words place) (line_back place extracode word inside narrow) none))
 
 -- no place from one on is named
-pub record NoneFrom (first : ℕ) (said : List PlacedWord) : Type 0 where
-  pub none : (place : ℕ) → first ≤ place → is_named place said ≡ false
+pub record NoneFrom (first : ℕ) (parsed : List PlacedWord) : Type 0 where
+  pub none : (place : ℕ) → first ≤ place → is_named place parsed ≡ false
 
-later : (first : ℕ) (said : List PlacedWord) → NoneFrom first said → NoneFrom (first + 1) said
-later first said h = record { none = λ place from. h.none place (omega arith) }
+later : (first : ℕ) (parsed : List PlacedWord) → NoneFrom first parsed → NoneFrom (first + 1) parsed
+later first parsed h = record { none = λ place from. h.none place (omega arith) }
 
-named_more : (words : List Number) (first : ℕ) (said : List PlacedWord) → NoneFrom first said → NoneFrom (first + 1) (said ++ named_word words first ∷ [])
-named_more words first said h =
+named_more : (words : List Number) (first : ℕ) (parsed : List PlacedWord) → NoneFrom first parsed → NoneFrom (first + 1) (parsed ++ named_word words first ∷ [])
+named_more words first parsed h =
     record {
       none = λ place from.
           let other : (first == place) ≡ false = ne_eqb first place (omega arith) in
-          list_any-append (λ (word : PlacedWord). word.place == place) said (named_word words first ∷ []) ∙ rw (h.none place (omega arith), other) refl;
+          list_any-append (λ (word : PlacedWord). word.place == place) parsed (named_word words first ∷ []) ∙ rw (h.none place (omega arith), other) refl;
     }
 
 abbrev texts : List Number → ℕ → ℕ → List ℕ
@@ -94,21 +94,21 @@ texts words first count = flat_map (listed_line None words) (range_with_len firs
 abbrev named : List Number → ℕ → ℕ → List PlacedWord
 named words first count = map (named_word words) (filter (has_line words) (range_with_len first count))
 
-said_by : (words : List Number) → ((place : ℕ) → (fixed_at place words).magnitude < 2 ^ 14) → (count first n : ℕ) (said : List PlacedWord) (has : Bool) → first + suc count ≤ 0o110000
-    → NoneFrom first said → has_line words first ≡ has
-    → ((m : ℕ) (before : List PlacedWord) → NoneFrom (first + 1) before → said_from m before (lines_of (texts words (first + 1) count)) ≡ Ok (before ++ named words (first + 1) count))
-    → said_from n said (lines_of (texts words first (suc count))) ≡ Ok (said ++ named words first (suc count))
-said_by words narrow count first n said true room none has rest =
-    let line = said_more words first n said (texts words (first + 1) count) (omega arith) (narrow first) has (none.none first (omega arith)) in
-    line ∙ rest (n + 1) (said ++ named_word words first ∷ []) (named_more words first said none)
-    ∙ rw has (ap (λ (all : List PlacedWord). Ok all) (append_assoc said (named_word words first ∷ []) (named words (first + 1) count)))
-said_by words narrow count first n said false room none has rest =
-    rw (no_text words first has, has) (rest n said (later first said none))
+parsed_by : (words : List Number) → ((place : ℕ) → (fixed_at place words).magnitude < 2 ^ 14) → (count first n : ℕ) (parsed : List PlacedWord) (has : Bool) → first + suc count ≤ 0o110000
+    → NoneFrom first parsed → has_line words first ≡ has
+    → ((m : ℕ) (before : List PlacedWord) → NoneFrom (first + 1) before → parsed_from m before (lines_of (texts words (first + 1) count)) ≡ Ok (before ++ named words (first + 1) count))
+    → parsed_from n parsed (lines_of (texts words first (suc count))) ≡ Ok (parsed ++ named words first (suc count))
+parsed_by words narrow count first n parsed true room none has rest =
+    let line = word_added words first n parsed (texts words (first + 1) count) (omega arith) (narrow first) has (none.none first (omega arith)) in
+    line ∙ rest (n + 1) (parsed ++ named_word words first ∷ []) (named_more words first parsed none)
+    ∙ rw has (ap (λ (all : List PlacedWord). Ok all) (append_assoc parsed (named_word words first ∷ []) (named words (first + 1) count)))
+parsed_by words narrow count first n parsed false room none has rest =
+    rw (no_text words first has, has) (rest n parsed (later first parsed none))
 
 -- the lines of the first `count` places name their words
-pub said_range : (words : List Number) → ((place : ℕ) → (fixed_at place words).magnitude < 2 ^ 14) → (count first n : ℕ) (said : List PlacedWord) → first + count ≤ 0o110000 → NoneFrom first said
-    → said_from n said (lines_of (texts words first count)) ≡ Ok (said ++ named words first count)
-unfolding said_from
-said_range words narrow zero first n said room none = rw no_lines_of (ap (λ (all : List PlacedWord). Ok all) (sym (append-nil said)))
-said_range words narrow (suc count) first n said room none =
-    said_by words narrow count first n said (has_line words first) room none refl (λ m before h. said_range words narrow count (first + 1) m before (omega arith) h)
+pub parsed_range : (words : List Number) → ((place : ℕ) → (fixed_at place words).magnitude < 2 ^ 14) → (count first n : ℕ) (parsed : List PlacedWord) → first + count ≤ 0o110000 → NoneFrom first parsed
+    → parsed_from n parsed (lines_of (texts words first count)) ≡ Ok (parsed ++ named words first count)
+unfolding parsed_from
+parsed_range words narrow zero first n parsed room none = rw no_lines_of (ap (λ (all : List PlacedWord). Ok all) (sym (append-nil parsed)))
+parsed_range words narrow (suc count) first n parsed room none =
+    parsed_by words narrow count first n parsed (has_line words first) room none refl (λ m before h. parsed_range words narrow count (first + 1) m before (omega arith) h)

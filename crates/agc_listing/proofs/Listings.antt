@@ -13,10 +13,10 @@ use Rattle.agc_store.specs.RopeFile.{first_words, rope_word_at, rope_words}
 use Rattle.agc_store.specs.declared.rope_file.RopeForm.{RopeForm}
 use Rattle.agc_listing.specs.Laws.{AreRopeWords, IsRopeOf, words_below, words_listed}
 use Rattle.agc_listing.specs.List.{listed_lines, rope_text}
-use Rattle.agc_listing.specs.Weave.{IsWovenOf, said_in, woven_file}
+use Rattle.agc_listing.specs.Weave.{IsWovenOf, parsed_in, woven_file}
 use Rattle.agc_listing.specs.declared.fault.WeaveFault.{WeaveFault}
 use Rattle.agc_listing.specs.declared.fault.WeaveFault.TheVariants as weave
-use Rattle.agc_listing.proofs.LinesBack.{said_range}
+use Rattle.agc_listing.proofs.LinesBack.{parsed_range}
 use Rattle.agc_listing.proofs.RopeBack.{accepted, first_words_back, holds_all}
 
 -- a rope's words are narrow, also past its end
@@ -47,14 +47,14 @@ unfolding rope_words
 are_rope_words form file = record { count = length_words 0o110000 form file; narrow = narrow_words 0o110000 form file }
 
 -- a listing names the words that it lists
-lines_said : (words : List Number) → ((place : ℕ) → (fixed_at place words).magnitude < 2 ^ 14) → (count : ℕ) → count ≤ 0o110000
-    → said_in (listed_lines count None words) ≡ Ok (words_below count words)
-unfolding said_in listed_lines words_below
-lines_said words narrow count room = said_range words narrow count 0 1 [] (omega arith) (record { none = λ place from. refl })
+placed_word_lines : (words : List Number) → ((place : ℕ) → (fixed_at place words).magnitude < 2 ^ 14) → (count : ℕ) → count ≤ 0o110000
+    → parsed_in (listed_lines count None words) ≡ Ok (words_below count words)
+unfolding parsed_in listed_lines words_below
+placed_word_lines words narrow count room = parsed_range words narrow count 0 1 [] (omega arith) (record { none = λ place from. refl })
 
-pub listing_says : (words : List Number) → AreRopeWords words → said_in (rope_text None words) ≡ Ok (words_listed words)
+pub listing_says : (words : List Number) → AreRopeWords words → parsed_in (rope_text None words) ≡ Ok (words_listed words)
 unfolding rope_text words_listed
-listing_says words h = lines_said words (narrow_at words h) 0o110000 (omega arith)
+listing_says words h = placed_word_lines words (narrow_at words h) 0o110000 (omega arith)
 
 -- the file of these words is the rope's
 pub rope_of_words : (form : RopeForm) (words : List Number) → AreRopeWords words → IsRopeOf form words (woven_file form (words_listed words))
@@ -71,10 +71,10 @@ rope_of_words form words h =
 pub rope_of_listing : (form : RopeForm) (text file : List ℕ) (words : List Number) → IsWovenOf form text file → AreRopeWords words → text ≡ rope_text None words → IsRopeOf form words file
 rope_of_listing form text file words woven h listed =
     let says = listing_says words h in
-    let said : woven.0 ≡ words_listed words = cc (woven.1, listed, says) in
-    rw (woven.2, said) (rope_of_words form words h)
+    let parsed : woven.0 ≡ words_listed words = cc (woven.1, listed, says) in
+    rw (woven.2, parsed) (rope_of_words form words h)
 
-pub no_fault : (text : List ℕ) (words : List Number) (fault : WeaveFault) → (fault ≢ weave.Memory → said_in text ≡ Err fault) → AreRopeWords words → text ≡ rope_text None words
+pub no_fault : (text : List ℕ) (words : List Number) (fault : WeaveFault) → (fault ≢ weave.Memory → parsed_in text ≡ Err fault) → AreRopeWords words → text ≡ rope_text None words
     → fault ≡ weave.Memory
 no_fault text words weave.Memory faulty h listed = refl
 no_fault text words (weave.Line n why) faulty h listed =

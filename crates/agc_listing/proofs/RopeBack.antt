@@ -34,9 +34,9 @@ words_more count words =
     ∙ ap (map (named_word words)) (filter-append (has_line words) before (count ∷ []))
     ∙ map-append (named_word words) (filter (has_line words) before) (filter (has_line words) (count ∷ []))
 
-file_more : (form : RopeForm) (said more : List PlacedWord) → woven_file form (said ++ more) ≡ fold (woven_with form) (woven_file form said) more
+file_more : (form : RopeForm) (parsed more : List PlacedWord) → woven_file form (parsed ++ more) ≡ fold (woven_with form) (woven_file form parsed) more
 unfolding woven_file
-file_more form said more = fold-append (woven_with form) (0 ∷ 0 ∷ []) said more
+file_more form parsed more = fold-append (woven_with form) (0 ∷ 0 ∷ []) parsed more
 
 is_zero : (n : ℕ) → not (n == 0) ≡ false → n ≡ 0
 is_zero n h = grind (arith, nat_tests)

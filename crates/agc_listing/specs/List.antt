@@ -44,14 +44,14 @@ line_text place extracode word =
     ++ codes "\n"
 
 -- whether a place is in the selected bank; without one, every place is
-abbrev pub is_asked_for : Option ℕ → ℕ → Bool
-is_asked_for None place = true
-is_asked_for (Some bank) place = place / fixed_bank_size == bank
+abbrev pub is_in_selected_bank : Option ℕ → ℕ → Bool
+is_in_selected_bank None place = true
+is_in_selected_bank (Some bank) place = place / fixed_bank_size == bank
 
 -- the line of a word at a place, if it has one: it is not +0 and its bank is selected
 abbrev pub text_listed : Option ℕ → ℕ → Bool → Number → List ℕ
 text_listed bank place extracode word =
-    if not (pattern_of 15 word == 0) && is_asked_for bank place
+    if not (pattern_of 15 word == 0) && is_in_selected_bank bank place
     then line_text place extracode word
     else []
 

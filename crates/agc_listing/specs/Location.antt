@@ -2,6 +2,7 @@
 use Rattle.std.specs.Prelude.{ℕ, ◌+◌, ◌-◌, ◌*◌, ◌/◌, ◌%◌, ◌<◌, ◌==◌, nat_lt, nat_le, Bool, false, ◌&&◌, ◌||◌, List, [], ◌∷◌}
 use Rattle.std.specs.Prelude.{take, drop, position, Option, Some, None, if◌then◌else◌}
 use Rattle.agc_word.specs.Numeral.{octal_number}
+use Rattle.agc_store.specs.Memory.{Memory, erasable_place, fixed_place, is_erasable}
 use Rattle.agc_store.specs.Places.{erasable_bank_size, erasable_cells, erasable_window, fixed_bank_size}
 use Rattle.agc_store.specs.Places.{fixed_fixed, fixed_window, fixed_words}
 use Rattle.agc_listing.specs.Line.{is_comma, place_named}
@@ -93,6 +94,18 @@ abbrev pub location_numbered : ℕ → Option Location
 location_numbered n =
     if nat_lt n fixed_fixed then Some (location.Erasable n)
     else if nat_lt n 0o10000 then Some (location.Fixed n) else pseudo_fixed (n - 0o10000)
+
+-- the location that an address names in a memory: EB, FB and the superbank select the banks in the two windows
+unfoldable pub location_in : Memory → ℕ → Location
+location_in m address =
+    if is_erasable address
+    then location.Erasable (erasable_place m.erasable address)
+    else location.Fixed (fixed_place m address)
+
+-- a location that has a word: each place of the rope, and the cells that exist
+abbrev pub IsReadable : Location → Type 0
+IsReadable (location.Erasable cell) = cell < erasable_cells
+IsReadable (location.Fixed place) = Unit {0}
 
 -- The place of an order by its bank and its address. A cell that the window shows is the same cell
 -- by its own address.

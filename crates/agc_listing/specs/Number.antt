@@ -40,8 +40,8 @@ count_named text =
     else octal_number 5 text
 
 -- an offset as sources write it: a sign and such a number
-unfoldable pub offset_said : List ℕ → Option Signed
-offset_said text =
+unfoldable pub offset_parsed : List ℕ → Option Signed
+offset_parsed text =
     if begins_with_sign text
     then with_sign (begins_with_minus text) (count_named (without_sign text))
     else None

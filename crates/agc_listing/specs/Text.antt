@@ -12,8 +12,8 @@ before_comment [] = []
 before_comment (word ∷ words) = if is_hash word then [] else word ∷ before_comment words
 
 -- the words of a line, without its comment
-unfoldable pub said_by : List ℕ → List (List ℕ)
-said_by text = before_comment (words_of text)
+unfoldable pub parsed_by : List ℕ → List (List ℕ)
+parsed_by text = before_comment (words_of text)
 
 -- a text of digits and commas alone, as places are written
 unfoldable pub is_place_text : List ℕ → Bool
@@ -39,11 +39,11 @@ after_first (first ∷ words) = words
 
 -- the name of a line: the word in its first column
 unfoldable pub label_of : List ℕ → Option (List ℕ)
-label_of line = if is_indented line then None else first_of (said_by line)
+label_of line = if is_indented line then None else first_of (parsed_by line)
 
 -- the order or directive of a line, with its operand
 unfoldable pub body_of : List ℕ → List (List ℕ)
-body_of line = if is_indented line then said_by line else after_first (said_by line)
+body_of line = if is_indented line then parsed_by line else after_first (parsed_by line)
 
 -- the only word of a list
 abbrev pub only_of : List (List ℕ) → Option (List ℕ)

@@ -18,37 +18,37 @@ use Rattle.agc_listing.specs.declared.line.PlacedWord.{PlacedWord}
 
 -- whether one of these words has this place
 abbrev pub is_named : ℕ → List PlacedWord → Bool
-is_named place said = list_any (λ word. word.place == place) said
+is_named place parsed = list_any (λ word. word.place == place) parsed
 
 -- what a line adds after these words: no place is named twice
 abbrev pub unless_named : List PlacedWord → Result (Option PlacedWord) LineFault →
     Result (Option PlacedWord) LineFault
-unless_named said (Ok None) = Ok None
-unless_named said (Ok (Some word)) =
-    if is_named word.place said then Err fault.NamedTwice else Ok (Some word)
-unless_named said (Err why) = Err why
+unless_named parsed (Ok None) = Ok None
+unless_named parsed (Ok (Some word)) =
+    if is_named word.place parsed then Err fault.NamedTwice else Ok (Some word)
+unless_named parsed (Err why) = Err why
 
-unfoldable pub said_next : List PlacedWord → List ℕ → Result (Option PlacedWord) LineFault
-said_next said line = unless_named said (line_named line)
+unfoldable pub parsed_next : List PlacedWord → List ℕ → Result (Option PlacedWord) LineFault
+parsed_next parsed line = unless_named parsed (line_named line)
 
 -- these words, and the word of a line if it has one
-abbrev pub said_with : List PlacedWord → Option PlacedWord → List PlacedWord
-said_with said None = said
-said_with said (Some word) = said ++ word ∷ []
+abbrev pub with_placed_word : List PlacedWord → Option PlacedWord → List PlacedWord
+with_placed_word parsed None = parsed
+with_placed_word parsed (Some word) = parsed ++ word ∷ []
 
 -- The words that lines name, in the order of the lines, or the fault of the first faulty line; n is
 -- the number of the first of the lines.
-unfoldable pub said_from : ℕ → List PlacedWord → List (List ℕ) → Result (List PlacedWord) WeaveFault
-said_from n said [] = Ok said
-said_from n said (line ∷ lines) =
-    elim (said_next said line) [
-      | Ok more ↦ said_from (n + 1) (said_with said more) lines
+unfoldable pub parsed_from : ℕ → List PlacedWord → List (List ℕ) → Result (List PlacedWord) WeaveFault
+parsed_from n parsed [] = Ok parsed
+parsed_from n parsed (line ∷ lines) =
+    elim (parsed_next parsed line) [
+      | Ok more ↦ parsed_from (n + 1) (with_placed_word parsed more) lines
       | Err why ↦ Err (weave.Line n why)
     ]
 
 -- the words that a text names, or its first fault
-unfoldable pub said_in : List ℕ → Result (List PlacedWord) WeaveFault
-said_in text = said_from 1 [] (lines_of text)
+unfoldable pub parsed_in : List ℕ → Result (List PlacedWord) WeaveFault
+parsed_in text = parsed_from 1 [] (lines_of text)
 
 -- The sixteen bits of a file's word: the left fifteen are the word's. In the form with parity the
 -- last one makes the count of one bits odd.
@@ -71,21 +71,21 @@ woven_with form bytes word =
 -- The file of the words that a text names, one after the other: as long as they need, and at least
 -- one word long.
 unfoldable pub woven_file : RopeForm → List PlacedWord → List ℕ
-woven_file form said = fold (woven_with form) (0 ∷ 0 ∷ []) said
+woven_file form parsed = fold (woven_with form) (0 ∷ 0 ∷ []) parsed
 
 -- the file that is built from a text
 abbrev pub IsWovenOf : RopeForm → List ℕ → List ℕ → Type 0
 IsWovenOf form text file =
-    (said : List PlacedWord) × (said_in text ≡ Ok said) × (file ≡ woven_file form said)
+    (parsed : List PlacedWord) × (parsed_in text ≡ Ok parsed) × (file ≡ woven_file form parsed)
 
 -- words whose places are in the rope
 abbrev pub ArePlaces : List PlacedWord → Type 0
-ArePlaces said = All (λ word. word.place < fixed_words) said
+ArePlaces parsed = All (λ word. word.place < fixed_words) parsed
 
 -- for each place of the rope, whether a word was named
 unfoldable pub no_flags : ℕ → List Bool
 no_flags count = replicate count false
 
-pub record AreFlags (places : ℕ) (flags : List Bool) (said : List PlacedWord) : Type 0 where
+pub record AreFlags (places : ℕ) (flags : List Bool) (parsed : List PlacedWord) : Type 0 where
   pub count : length flags ≡ places
-  pub named : (place : ℕ) → place < places → get_or flags place false ≡ is_named place said
+  pub named : (place : ℕ) → place < places → get_or flags place false ≡ is_named place parsed

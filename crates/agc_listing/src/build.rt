@@ -7,7 +7,7 @@ ghost use Rattle.agc_listing.specs.List.{rope_text};
 ghost use Rattle.agc_listing.specs.Weave.{
   ArePlaces,
   IsWovenOf,
-  said_in,
+  parsed_in,
   woven_bits,
   woven_file,
   woven_with,
@@ -27,7 +27,7 @@ use std::alloc::{AllocError, Global};
 /// ignored. The fault is that of the first faulty line, or `Memory`.
 pub fn weave(alloc: Global, form: RopeForm, text: &[u8]) -> Result<Vec<u8>, WeaveFault>
     ensures file { IfOk result (λ bytes. IsWovenOf form text.now bytes.items) }
-    ensures fault { IfErr result (λ fault. fault ≢ Memory → said_in text.now ≡ Err fault) }
+    ensures fault { IfErr result (λ fault. fault ≢ Memory → parsed_in text.now ≡ Err fault) }
 
     // The text of a whole rope builds a rope with the same words.
     ensures listing { (words : List Number) → AreRopeWords words → text.now ≡ rope_text None words
@@ -42,8 +42,8 @@ pub fn weave(alloc: Global, form: RopeForm, text: &[u8]) -> Result<Vec<u8>, Weav
 
 /// Returns the words that a text names, in the order of its lines, or the fault of its first faulty line.
 fn read_text(alloc: Global, text: &[u8]) -> Result<RopeBuilder, WeaveFault>
-    ensures words { IfOk result (λ builder. said_in text.now ≡ Ok builder) }
-    ensures fault { IfErr result (λ fault. fault ≢ Memory → said_in text.now ≡ Err fault) }
+    ensures words { IfOk result (λ builder. parsed_in text.now ≡ Ok builder) }
+    ensures fault { IfErr result (λ fault. fault ≢ Memory → parsed_in text.now ≡ Err fault) }
 {
     let mut builder = RopeBuilder::new(alloc)?;
     let mut lines = 0;

@@ -6,7 +6,7 @@ ghost use Rattle.agc_store.specs.RopeFile.{rope_words};
 ghost use Rattle.agc_store.specs.declared.rope_file.RopeForm.{RopeForm};
 ghost use Rattle.agc_listing.specs.Laws.{AreRopeWords, IsRopeOf, words_listed};
 ghost use Rattle.agc_listing.specs.List.{rope_text};
-ghost use Rattle.agc_listing.specs.Weave.{said_in, woven_file};
+ghost use Rattle.agc_listing.specs.Weave.{parsed_in, woven_file};
 
 /// The words that a file holds in a form are those of a rope: 36 banks of narrow words.
 pub fn files_say_rope_words()
@@ -18,7 +18,7 @@ pub fn files_say_rope_words()
 #[tactic(auto, using(crate::proofs::Listings::listing_says))]
 pub fn listings_say_their_words()
     ensures { (words : List Number) → AreRopeWords words
-        → said_in (rope_text None words) ≡ Ok (words_listed words) }
+        → parsed_in (rope_text None words) ≡ Ok (words_listed words) }
 {}
 
 /// Those words alone build the file of a rope with all of its words, in each form.

@@ -20,16 +20,16 @@ pub use cell::{Cell, is_same_word, push_cell_word};
 pub use fault::{LineFault, WeaveFault};
 pub use laws::{files_say_rope_words, listings_say_their_words, words_listed_make_the_rope};
 pub use line::{PlacedWord, first_comma, has_other_byte, is_no_text, read_line, read_place};
-pub use listed::{is_asked_for, leads_on, list, listed_address, starts_run};
+pub use listed::{is_in_selected_bank, leads_on, list, listed_address, starts_run};
 pub use location::{
-    Location, bank_word, cell_address, complete_address, is_addressable, location_at,
+    Location, bank_word, cell_address, complete_address, is_addressable, location_at, location_in,
     location_named, location_numbered,
 };
 pub use location_range::{LocationRange, RangeFault, one_place, only_cells, two_places};
 pub use number::{
-    Signed, count_named, decimal_word, octal_word, offset_named, offset_said, signed_number,
+    Signed, count_named, decimal_word, octal_word, offset_named, offset_parsed, signed_number,
 };
 pub use order::{Operand, next_is_extracode, operand_in, push_order};
 pub use place::{Place, push_place};
 pub use rope_builder::RopeBuilder;
-pub use text::{cut_label, is_listed, is_name, next_said, only_word};
+pub use text::{cut_label, is_listed, is_name, next_parsed, only_word};

@@ -33,7 +33,7 @@ pub struct PlacedWord {
 #[tactic(auto, unfolding(crate::specs::Line::line_named))]
 pub fn read_line(line: &[u8]) -> Result<Option<PlacedWord>, LineFault>
     ensures line { result ≡ line_named line.now }
-    ensures range { IfOk result (λ said. IfSome said (λ named. named.place < fixed_words)) }
+    ensures range { IfOk result (λ parsed. IfSome parsed (λ named. named.place < fixed_words)) }
 {
     if has_other_byte(line) {
         return Err(LineFault::NotText);
@@ -58,7 +58,7 @@ pub fn is_no_text(byte: u8) -> bool
 #[tactic(auto, unfolding(crate::specs::Line::words_named))]
 fn read_words(line: &[u8]) -> Result<Option<PlacedWord>, LineFault>
     ensures words { result ≡ words_named (words_of line.now) }
-    ensures range { IfOk result (λ said. IfSome said (λ named. named.place < fixed_words)) }
+    ensures range { IfOk result (λ parsed. IfSome parsed (λ named. named.place < fixed_words)) }
 {
     let Some((first, words)) = next_word(line) else {
         return Ok(None);
@@ -156,7 +156,7 @@ fn place_alone(address: Option<u64>) -> Option<usize>
 fn read_word(place: usize, words: &[u8]) -> Result<Option<PlacedWord>, LineFault>
     requires { place < fixed_words }
     ensures word { result ≡ word_named place (words_of words.now) }
-    ensures range { IfOk result (λ said. IfSome said (λ named. named.place < fixed_words)) }
+    ensures range { IfOk result (λ parsed. IfSome parsed (λ named. named.place < fixed_words)) }
 {
     let Some((word, _)) = next_word(words) else {
         return Err(LineFault::BadWord);

@@ -4,7 +4,7 @@ ghost use Rattle.agc_word.specs.Number.{pattern_of};
 ghost use Rattle.agc_store.specs.Places.{fixed_words};
 ghost use Rattle.agc_listing.specs.List.{
   starts_run,
-  is_asked_for,
+  is_in_selected_bank,
   line_text,
   listed_address,
   listed_lines,
@@ -78,7 +78,7 @@ fn push_listed(
     ensures { OnOk result (string_bytes text.new
         ≡ string_bytes text.old ++ text_listed bank place extracode word) }
 {
-    if word.bits() != 0 && is_asked_for(bank, place) {
+    if word.bits() != 0 && is_in_selected_bank(bank, place) {
         push_word(text, place, extracode, word)?;
     }
     Ok(())
@@ -94,8 +94,8 @@ pub fn starts_run(place: usize) -> bool
 }
 
 /// Returns whether a place of the rope is in the selected bank; without one, every place is.
-pub fn is_asked_for(bank: Option<u8>, place: usize) -> bool
-    ensures { result ≡ is_asked_for bank place }
+pub fn is_in_selected_bank(bank: Option<u8>, place: usize) -> bool
+    ensures { result ≡ is_in_selected_bank bank place }
 {
     match bank {
         Some(bank) => place / FIXED_BANK_SIZE as usize == usize::from(bank),

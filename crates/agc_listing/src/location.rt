@@ -8,7 +8,9 @@ ghost use Rattle.agc_store.specs.Places.{
   fixed_window,
   fixed_words,
 };
+ghost use Rattle.agc_store.specs.Memory.{erasable_bank};
 ghost use Rattle.agc_listing.specs.Location.{
+  IsReadable,
   IsWithin,
   bank_register,
   cell_address,
@@ -18,6 +20,7 @@ ghost use Rattle.agc_listing.specs.Location.{
   cell_or_place,
   complete_address,
   location_at,
+  location_in,
   location_named,
   is_addressable,
   is_fixed_fixed,
@@ -26,11 +29,11 @@ ghost use Rattle.agc_listing.specs.Location.{
 ghost use Rattle.agc_word.specs.Numeral.{octal_number};
 
 use crate::line::{first_comma, read_place};
-use agc_store::Addr;
 use agc_store::place::{
     ERASABLE_BANK_SIZE, ERASABLE_WINDOW, FIXED_BANK_SIZE, FIXED_FIXED, FIXED_WINDOW, FIXED_WORDS,
     bank_of, offset_of, place_of,
 };
+use agc_store::{Addr, Store};
 use agc_word::read_octal;
 
 /// A location in memory: a word of the rope or a cell.
@@ -115,6 +118,37 @@ pub fn location_at(bank: u8, address: Addr) -> Location
         FIXED_WINDOW..FIXED_FIXED => Location::Fixed(place_of(bank, address % FIXED_BANK_SIZE)),
         _ => Location::Fixed(u32::from(address)),
     }
+}
+
+/// Returns the location that an address names in a memory: EB, FB and the superbank select the banks in the two windows.
+#[inline(always)]
+#[tactic(auto, unfolding(crate::specs::Location::location_in, agc_store::specs::Memory::erasable_place, agc_store::specs::Memory::fixed_place))]
+pub fn location_in(store: &Store, address: Addr) -> Location
+    ensures location { result ≡ location_in store.now address }
+    ensures range { IsReadable result }
+{
+    let address = address.bits();
+    match address {
+        0..ERASABLE_WINDOW => Location::Erasable(u32::from(address)),
+        ERASABLE_WINDOW..FIXED_WINDOW => {
+            Location::Erasable(cell_in_window(store, address - ERASABLE_WINDOW))
+        }
+        FIXED_WINDOW..FIXED_FIXED => Location::Fixed(place_of(
+            store.selected_bank(),
+            address - FIXED_WINDOW,
+        )),
+        _ => Location::Fixed(u32::from(address)),
+    }
+}
+
+/// Returns the cell at an offset of the bank in EB.
+#[inline(always)]
+fn cell_in_window(store: &Store, offset: u16) -> u32
+    requires { offset < erasable_bank_size }
+    ensures cell { result ≡ erasable_bank_size * erasable_bank store.now.erasable + offset }
+    ensures range { result < erasable_cells }
+{
+    u32::from(ERASABLE_BANK_SIZE) * u32::from(store.erasable_bank()) + u32::from(offset)
 }
 
 /// Returns the cell that an address in the window names.

@@ -7,7 +7,7 @@ ghost use Rattle.agc_listing.specs.Number.{
   decimal_word,
   octal_word,
   offset_named,
-  offset_said,
+  offset_parsed,
   signed_number,
   without_sign,
 };
@@ -67,9 +67,9 @@ pub fn count_named(text: &[u8]) -> Option<u64>
 }
 
 /// Parses an offset as sources write it: a sign, and octal digits, or decimal digits and a letter D.
-#[tactic(auto, unfolding(crate::specs::Number::offset_said))]
-pub fn offset_said(text: &[u8]) -> Option<Signed>
-    ensures number { result ≡ offset_said text.now }
+#[tactic(auto, unfolding(crate::specs::Number::offset_parsed))]
+pub fn offset_parsed(text: &[u8]) -> Option<Signed>
+    ensures number { result ≡ offset_parsed text.now }
     ensures range { IfSome result (λ n. n.magnitude < 100000) }
 {
     match text {

@@ -4,8 +4,8 @@ ghost use Rattle.agc_store.specs.Places.{fixed_words};
 ghost use Rattle.agc_listing.specs.Weave.{
   ArePlaces,
   no_flags,
-  said_next,
-  said_with,
+  parsed_next,
+  with_placed_word,
   unless_named,
 };
 
@@ -56,20 +56,20 @@ impl RopeBuilder {
     }
 
     /// Parses a line that comes after these words.
-    #[tactic(auto, unfolding(crate::specs::Weave::said_next))]
+    #[tactic(auto, unfolding(crate::specs::Weave::parsed_next))]
     pub fn read(&self, line: &[u8]) -> Result<Option<PlacedWord>, LineFault>
-        ensures line { result ≡ said_next self.now line.now }
-        ensures range { IfOk result (λ said. IfSome said (λ named. named.place < fixed_words)) }
+        ensures line { result ≡ parsed_next self.now line.now }
+        ensures range { IfOk result (λ parsed. IfSome parsed (λ named. named.place < fixed_words)) }
     {
         self.unless_named(read_line(line)?)
     }
 
     /// Returns a word, or `NamedTwice` if an earlier line names its place.
-    pub fn unless_named(&self, said: Option<PlacedWord>) -> Result<Option<PlacedWord>, LineFault>
-        requires { IfSome said (λ named. named.place < fixed_words) }
-        ensures { result ≡ unless_named self.now (Ok said) }
+    pub fn unless_named(&self, parsed: Option<PlacedWord>) -> Result<Option<PlacedWord>, LineFault>
+        requires { IfSome parsed (λ named. named.place < fixed_words) }
+        ensures { result ≡ unless_named self.now (Ok parsed) }
     {
-        let Some(named) = said else {
+        let Some(named) = parsed else {
             return Ok(None);
         };
         let place = named.place;
@@ -80,11 +80,11 @@ impl RopeBuilder {
     }
 
     /// Adds the word of a line, if it has one. Fails if out of memory.
-    pub fn add(&mut self, said: Option<PlacedWord>) -> Result<(), AllocError>
-        requires { IfSome said (λ named. named.place < fixed_words) }
-        ensures { OnOk result (self.new ≡ said_with self.old said) }
+    pub fn add(&mut self, parsed: Option<PlacedWord>) -> Result<(), AllocError>
+        requires { IfSome parsed (λ named. named.place < fixed_words) }
+        ensures { OnOk result (self.new ≡ with_placed_word self.old parsed) }
     {
-        let Some(named) = said else {
+        let Some(named) = parsed else {
             return Ok(());
         };
         let place = named.place;

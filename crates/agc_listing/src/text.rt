@@ -13,16 +13,16 @@ ghost use Rattle.agc_listing.specs.Text.{
   is_place_text,
   label_of,
   only_of,
-  said_by,
+  parsed_by,
 };
 
 use agc_word::next_word;
 
 /// Returns the first word of a text before its comment, and what follows it; `None` if there is no word.
-#[tactic(auto, unfolding(crate::specs::Text::said_by))]
-pub fn next_said(text: &[u8]) -> Option<(&[u8], &[u8])>
-    ensures { MatchOption result (said_by text.now ≡ [])
-        (λ cut. said_by text.now ≡ cut.0.now ∷ said_by cut.1.now) }
+#[tactic(auto, unfolding(crate::specs::Text::parsed_by))]
+pub fn next_parsed(text: &[u8]) -> Option<(&[u8], &[u8])>
+    ensures { MatchOption result (parsed_by text.now ≡ [])
+        (λ cut. parsed_by text.now ≡ cut.0.now ∷ parsed_by cut.1.now) }
 {
     let (word, rest) = next_word(text)?;
     if matches!(word, [b'#', ..]) {
@@ -33,9 +33,9 @@ pub fn next_said(text: &[u8]) -> Option<(&[u8], &[u8])>
 
 /// Returns whether a line is a listing line: it has no words, or begins with a place.
 pub fn is_listed(line: &[u8]) -> bool
-    ensures { result ≡ are_listed (said_by line.now) }
+    ensures { result ≡ are_listed (parsed_by line.now) }
 {
-    match next_said(line) {
+    match next_parsed(line) {
         Some((first, _)) => is_place_text(first),
         None => true,
     }
@@ -65,12 +65,12 @@ fn is_indented(line: &[u8]) -> bool
 #[tactic(auto, unfolding(crate::specs::Text::label_of, crate::specs::Text::body_of))]
 pub fn cut_label(line: &[u8]) -> (Option<&[u8]>, &[u8])
     ensures label { option_map (λ label. label.now) result.0 ≡ label_of line.now }
-    ensures body { said_by result.1.now ≡ body_of line.now }
+    ensures body { parsed_by result.1.now ≡ body_of line.now }
 {
     if is_indented(line) {
         return (None, line);
     }
-    match next_said(line) {
+    match next_parsed(line) {
         Some((label, body)) => (Some(label), body),
         None => (None, line),
     }
@@ -78,10 +78,10 @@ pub fn cut_label(line: &[u8]) -> (Option<&[u8]>, &[u8])
 
 /// Returns the only word of a text.
 pub fn only_word(text: &[u8]) -> Option<&[u8]>
-    ensures { option_map (λ word. word.now) result ≡ only_of (said_by text.now) }
+    ensures { option_map (λ word. word.now) result ≡ only_of (parsed_by text.now) }
 {
-    let (word, rest) = next_said(text)?;
-    match next_said(rest) {
+    let (word, rest) = next_parsed(text)?;
+    match next_parsed(rest) {
         Some(_) => None,
         None => Some(word),
     }

@@ -1,3 +1,3 @@
 pub mod Denied
 pub mod There
-pub mod Told
+pub mod Reported

@@ -11,5 +11,5 @@ says_nothing meaning (Some text) =
     elim (meaning (string_bytes text)) [ None ↦ true | Some spec ↦ false ]
 
 -- the meaning of a text that is given
-abbrev pub said_by : {A : Type 0} → (List ℕ → Option A) → Option (String Global) → Option A
-said_by meaning given = option_and_then (λ text. meaning (string_bytes text)) given
+abbrev pub parsed_by : {A : Type 0} → (List ℕ → Option A) → Option (String Global) → Option A
+parsed_by meaning given = option_and_then (λ text. meaning (string_bytes text)) given

@@ -8,7 +8,7 @@ use Rattle.agc_machine.specs.declared.machine.LimitFault.TheVariants as limit
 use Rattle.agc_panel.specs.WatchSpec.{spec_of, watch_fault_of}
 use Rattle.agc_panel.specs.declared.watch_spec.WatchSpec.{WatchSpec}
 use Rattle.agc_panel.specs.declared.watch_spec.WatchFault.TheVariants as watch
-use Rattle.agc_load.specs.Options.{said_by, says_nothing}
+use Rattle.agc_load.specs.Options.{parsed_by, says_nothing}
 use Rattle.agc_load.specs.Steps.{Step, requires_resource, checks, refused_if}
 use Rattle.agc_cli.specs.declared.session_options.Options.{Options}
 use Rattle.agc_load.specs.declared.fault.LoadFault.{LoadFault}
@@ -53,7 +53,7 @@ run_steps options =
     checks (slots_refusal options.slots)
     ∷ checks (spacing_refusal options.live options.spacing)
     ∷ requires_resource refusal.Thread
-    ∷ checks (tables_refusal (said_by spec_of options.watch))
+    ∷ checks (tables_refusal (parsed_by spec_of options.watch))
     ∷ requires_resource refusal.Memory
     ∷ requires_resource (refusal.Watch watch.Memory)
     ∷ []

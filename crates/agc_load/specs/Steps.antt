@@ -22,12 +22,12 @@ IsShortAtLine file r = ⊥
 
 -- What a run that goes through these steps may report: the refusal of the first check that applies,
 -- or that of an earlier request that failed.
-abbrev pub IsTold : List Step → LoadFault → Type 0
-IsTold [] r = ⊥
-IsTold (checks (Some found) ∷ steps) r = r ≡ found
-IsTold (checks None ∷ steps) r = IsTold steps r
-IsTold (requires_resource other ∷ steps) r = (r ≡ other) ⊎ IsTold steps r
-IsTold (asks_by_line file ∷ steps) r = IsShortAtLine file r ⊎ IsTold steps r
+abbrev pub IsOutcome : List Step → LoadFault → Type 0
+IsOutcome [] r = ⊥
+IsOutcome (checks (Some found) ∷ steps) r = r ≡ found
+IsOutcome (checks None ∷ steps) r = IsOutcome steps r
+IsOutcome (requires_resource other ∷ steps) r = (r ≡ other) ⊎ IsOutcome steps r
+IsOutcome (asks_by_line file ∷ steps) r = IsShortAtLine file r ⊎ IsOutcome steps r
 
 -- the refusal of the first check that applies
 abbrev pub refusal_in : List Step → Option LoadFault
@@ -44,4 +44,4 @@ refused_if applies r = if applies then Some r else None
 -- The result of steps: a right value if no check refuses, or a refusal that they may report.
 abbrev pub ComesOf : {A : Type 0} → List Step → (A → Type 0) → Result A LoadFault → Type 0
 ComesOf steps IsRight (Ok value) = (refusal_in steps ≡ None) × IsRight value
-ComesOf steps IsRight (Err r) = IsTold steps r
+ComesOf steps IsRight (Err r) = IsOutcome steps r

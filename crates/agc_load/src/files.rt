@@ -6,7 +6,7 @@ ghost use Rattle.agc_store.specs.declared.rope_file.RopeFault.TheVariants as rop
 ghost use Rattle.agc_script.specs.Parse.{script_of};
 ghost use Rattle.agc_load.specs.Files.{events_in, keys_steps, rope_steps, script_steps};
 ghost use Rattle.agc_load.specs.Files.{script_refused, IsScriptRefused};
-ghost use Rattle.agc_load.specs.Steps.{IsTold, refusal_in};
+ghost use Rattle.agc_load.specs.Steps.{IsOutcome, refusal_in};
 ghost use Rattle.agc_load.specs.Keys.{keys_of};
 ghost use Rattle.agc_load.specs.declared.fault.LoadFault.TheVariants as refusal;
 
@@ -29,7 +29,7 @@ pub fn read_rope<R: Read>(alloc: Global, form: RopeForm, reader: &mut R) -> Resu
         (IfSome (R.remaining reader.old) (λ file. refusal_in (rope_steps form file) ≡ None)) }
     ensures end { OnOk result (IsAtEnd (R.remaining reader.new)) }
     ensures refused { IfErr result
-        (λ r. IfSome (R.remaining reader.old) (λ file. IsTold (rope_steps form file) r)) }
+        (λ r. IfSome (R.remaining reader.old) (λ file. IsOutcome (rope_steps form file) r)) }
 {
     let bytes = match read_limited(alloc, reader, ROPE_BYTES) {
         Ok(bytes) => bytes,
@@ -60,7 +60,7 @@ pub fn read_script<S: Read>(alloc: Global, reader: &mut S) -> Result<Script, Loa
         (IfSome (S.remaining reader.old) (λ file. refusal_in (script_steps file) ≡ None)) }
     ensures end { OnOk result (IsAtEnd (S.remaining reader.new)) }
     ensures refused { IfErr result
-        (λ r. IfSome (S.remaining reader.old) (λ file. IsTold (script_steps file) r)) }
+        (λ r. IfSome (S.remaining reader.old) (λ file. IsOutcome (script_steps file) r)) }
 {
     let bytes = match read_limited(alloc, reader, TEXT_BYTES) {
         Ok(bytes) => bytes,
@@ -90,7 +90,7 @@ pub fn read_keys<K: Read>(alloc: Global, reader: &mut K) -> Result<Vec<Key>, Loa
         (IfSome (K.remaining reader.old) (λ file. refusal_in (keys_steps file) ≡ None)) }
     ensures end { OnOk result (IsAtEnd (K.remaining reader.new)) }
     ensures refused { IfErr result
-        (λ r. IfSome (K.remaining reader.old) (λ file. IsTold (keys_steps file) r)) }
+        (λ r. IfSome (K.remaining reader.old) (λ file. IsOutcome (keys_steps file) r)) }
 {
     let bytes = match read_limited(alloc, reader, KEY_BYTES) {
         Ok(bytes) => bytes,

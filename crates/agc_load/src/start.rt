@@ -2,7 +2,7 @@
 ghost use Rattle.std.specs.Prelude.{◌≡◌, false, IfOk, MatchResult, None, Some, option_copied};
 ghost use Rattle.agc_machine.specs.State.{start_state};
 ghost use Rattle.agc_panel.specs.WatchSpec.{spec_of};
-ghost use Rattle.agc_load.specs.Options.{said_by};
+ghost use Rattle.agc_load.specs.Options.{parsed_by};
 ghost use Rattle.agc_load.specs.Prepare.{limit_refusal, start_steps, until_refusal};
 ghost use Rattle.agc_load.specs.Prepare.{watch_spec_refusal};
 ghost use Rattle.agc_load.specs.Steps.{refusal_in};
@@ -36,9 +36,9 @@ pub fn load(
         (λ _. refusal_in (start_steps until.now (option_copied watch.entry) limit) ≡ None)
         (λ refusal. refusal_in (start_steps until.now (option_copied watch.entry) limit) ≡ Some refusal) }
     ensures machine { IfOk result (λ prepared. prepared.machine
-        ≡ start_state rope script limit (said_by stop_address_of until.now)) }
+        ≡ start_state rope script limit (parsed_by stop_address_of until.now)) }
     ensures watch { IfOk result
-        (λ prepared. prepared.watch ≡ said_by spec_of (option_copied watch.entry)) }
+        (λ prepared. prepared.watch ≡ parsed_by spec_of (option_copied watch.entry)) }
     ensures fresh { IfOk result (λ prepared. prepared.machine.begun ≡ false) }
 {
     let machine = limited_machine(rope, script, limit)?;
@@ -66,7 +66,7 @@ fn limited_machine(rope: Rope, script: Script, limit: u64) -> Result<Machine, Lo
 fn watch_spec(watch: Option<&String>) -> Result<Option<WatchSpec>, LoadFault>
     ensures checked { MatchResult result (λ _. watch_spec_refusal (option_copied watch.entry) ≡ None)
         (λ refusal. watch_spec_refusal (option_copied watch.entry) ≡ Some refusal) }
-    ensures said { IfOk result (λ spec. spec ≡ said_by spec_of (option_copied watch.entry)) }
+    ensures parsed { IfOk result (λ spec. spec ≡ parsed_by spec_of (option_copied watch.entry)) }
 {
     let Some(text) = watch else {
         return Ok(None);
@@ -81,7 +81,7 @@ fn watch_spec(watch: Option<&String>) -> Result<Option<WatchSpec>, LoadFault>
 fn stop_address(until: &Option<String>) -> Result<Option<StopAddress>, LoadFault>
     ensures checked { MatchResult result (λ _. until_refusal until.now ≡ None)
         (λ refusal. until_refusal until.now ≡ Some refusal) }
-    ensures said { IfOk result (λ at. at ≡ said_by stop_address_of until.now) }
+    ensures parsed { IfOk result (λ at. at ≡ parsed_by stop_address_of until.now) }
 {
     let Some(text) = until else {
         return Ok(None);

@@ -8,7 +8,7 @@ use Rattle.agc_processor.specs.Interrupt.{pending}
 use Rattle.agc_processor.specs.Timer.{due_timer}
 use Rattle.agc_processor.specs.declared.interrupt.Rupt.{Rupt}
 use Rattle.agc_processor.specs.declared.timer.Timer.{Timer}
-use Rattle.agc_machine.specs.Boundary.{Applies, ComesAsTold, IsBefore, IsClockQuiet, address_comes, boundary, carried_out, due_event, event_comes, in_hand, interrupt_comes, is_reached, limit_comes, order_comes, stop_again, timer_comes, unless_stopped, upcoming_of, ◌otherwise◌}
+use Rattle.agc_machine.specs.Boundary.{Applies, HappensNext, IsBefore, IsClockQuiet, address_comes, boundary, carried_out, due_event, event_comes, in_hand, interrupt_comes, is_reached, limit_comes, order_comes, stop_again, timer_comes, unless_stopped, upcoming_of, ◌otherwise◌}
 use Rattle.agc_machine.specs.State.{State}
 use Rattle.agc_machine.specs.declared.answer.Stepped.{Stepped}
 use Rattle.agc_machine.specs.declared.answer.Stepped.TheVariants as stepped
@@ -118,24 +118,24 @@ same_upcoming s events e =
     ap (λ (o : Option What). stop_again s.stopped otherwise limit_comes s otherwise option_map (λ what. upcoming.Event what) o otherwise timer_comes s otherwise interrupt_comes s otherwise address_comes s otherwise order_comes s) e
 
 -- a stopped machine returns its stop again
-stop_is_told : (o : Option Stop) (why : Stop) (rest : Upcoming) → o ≡ Some why → (stop_again o otherwise rest) ≡ upcoming.Stop why
-stop_is_told (Some other) why rest e = cc
-stop_is_told None why rest e = cc
+stop_is_reported : (o : Option Stop) (why : Stop) (rest : Upcoming) → o ≡ Some why → (stop_again o otherwise rest) ≡ upcoming.Stop why
+stop_is_reported (Some other) why rest e = cc
+stop_is_reported None why rest e = cc
 
 stop_upcoming : (s : State) (why : Stop) → s.stopped ≡ Some why → upcoming_of s ≡ upcoming.Stop why
 unfolding upcoming_of
-stop_upcoming s why e = stop_is_told s.stopped why _ e
+stop_upcoming s why e = stop_is_reported s.stopped why _ e
 
 runs_on : (o : Option Stop) (s : State) → o ≡ None → unless_stopped o s ≡ carried_out (upcoming_of s) (record s { begun = true })
 runs_on (Some why) s e = cc
 runs_on None s e = refl
 
-pub upcoming_comes : (s : State) → ComesAsTold s (upcoming_of s)
+pub upcoming_comes : (s : State) → HappensNext s (upcoming_of s)
 unfolding boundary
 upcoming_comes s = record { stays = stop_upcoming s; comes = runs_on s.stopped s }
 
-pub told_comes : (s t : State) (told : Upcoming) → s ≡ t → told ≡ upcoming_of s → ComesAsTold t told
-told_comes s t told e f = subst (λ u. ComesAsTold u told) e (subst (λ u. ComesAsTold s u) (sym f) (upcoming_comes s))
+pub reported_comes : (s t : State) (reported : Upcoming) → s ≡ t → reported ≡ upcoming_of s → HappensNext t reported
+reported_comes s t reported e f = subst (λ u. HappensNext u reported) e (subst (λ u. HappensNext s u) (sym f) (upcoming_comes s))
 
 by_stop : (o : Option Stop) (P : State × Stepped → Type 0) (s : State) → s.stopped ≡ o → ((why : Stop) → s.stopped ≡ Some why → P (s, stepped.Stopped why)) →
     (s.stopped ≡ None → P (carried_out (upcoming_of s) (record s { begun = true }))) → P (unless_stopped o s)

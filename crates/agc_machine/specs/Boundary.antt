@@ -165,9 +165,9 @@ boundary live s = let with_live = fed live s in unless_stopped with_live.stopped
 
 -- The boundary does what comes: if the machine has stopped nothing, and the stop is returned;
 -- otherwise a machine that has begun carries out what comes.
-pub record ComesAsTold (s : State) (told : Upcoming) : Type 0 where
-  pub stays : (why : Stop) → s.stopped ≡ Some why → told ≡ upcoming.Stop why
-  pub comes : s.stopped ≡ None → boundary None s ≡ carried_out told (record s { begun = true })
+pub record HappensNext (s : State) (reported : Upcoming) : Type 0 where
+  pub stays : (why : Stop) → s.stopped ≡ Some why → reported ≡ upcoming.Stop why
+  pub comes : s.stopped ≡ None → boundary None s ≡ carried_out reported (record s { begun = true })
 
 -- no event left is due at the present cycle
 abbrev pub IsBefore : ℕ → List Event → Type 0

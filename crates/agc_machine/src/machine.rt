@@ -172,6 +172,14 @@ impl Machine {
         self.engine.cycle
     }
 
+    /// Returns whether the service of an interrupt is running: from the interrupt to the order RESUME. No other
+    /// interrupt comes meanwhile.
+    pub fn serving(&self) -> bool
+        ensures { result ≡ self.now.processor.serving }
+    {
+        self.engine.processor.serving
+    }
+
     /// Returns the present memory.
     pub fn store(&self) -> &Store
         ensures { result.now ≡ self.now.processor.store }

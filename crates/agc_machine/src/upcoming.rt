@@ -2,7 +2,7 @@
 ghost use Rattle.std.specs.Prelude.{◌≡◌, ◌<◌, None};
 ghost use Rattle.agc_machine.specs.State.{State};
 ghost use Rattle.agc_store.specs.Places.{fixed_window};
-ghost use Rattle.agc_machine.specs.Boundary.{Applies, ComesAsTold, HasPlace, bank_of_address, in_hand, upcoming_of};
+ghost use Rattle.agc_machine.specs.Boundary.{Applies, HappensNext, HasPlace, bank_of_address, in_hand, upcoming_of};
 
 use crate::answer::Stop;
 use crate::engine::Engine;
@@ -47,17 +47,17 @@ pub enum Upcoming {
 /// the boundary does what it predicts.
 pub fn the_upcoming_comes()
     ensures cases { (s : State) → s.stopped ≡ None → Applies (upcoming_of s) s }
-    ensures boundary { (s : State) → ComesAsTold s (upcoming_of s) }
+    ensures boundary { (s : State) → HappensNext s (upcoming_of s) }
 {}
 
 impl Machine {
     ghost use Rattle.std.specs.Prelude.{◌≡◌};
-    ghost use Rattle.agc_machine.specs.Boundary.{ComesAsTold, HasPlace, upcoming_of};
+    ghost use Rattle.agc_machine.specs.Boundary.{HappensNext, HasPlace, upcoming_of};
 
     /// Returns what the next boundary will be if no live key comes.
     pub fn upcoming(&self) -> Upcoming
-        ensures told { result ≡ upcoming_of self.now }
-        ensures comes { ComesAsTold self.now result }
+        ensures reported { result ≡ upcoming_of self.now }
+        ensures comes { HappensNext self.now result }
         ensures place { HasPlace result }
     {
         self.engine.upcoming()
@@ -73,7 +73,7 @@ impl Engine {
     /// before the order in hand, that is the order.
     fn upcoming(&self) -> Upcoming
         requires sound { IsSound self.now }
-        ensures told { result ≡ upcoming_of (state_of self.now) }
+        ensures reported { result ≡ upcoming_of (state_of self.now) }
         ensures place { HasPlace result }
     {
         if self.cycle < self.quiet_until && self.pace == Pace::Bare {
@@ -86,7 +86,7 @@ impl Engine {
     #[tactic(auto, unfolding(crate::specs::Boundary::upcoming_of))]
     pub(crate) fn upcoming_by_cases(&self) -> Upcoming
         requires sound { IsSound self.now }
-        ensures told { result ≡ upcoming_of (state_of self.now) }
+        ensures reported { result ≡ upcoming_of (state_of self.now) }
         ensures place { HasPlace result }
         ensures script { StandsInScript result self.now }
     {

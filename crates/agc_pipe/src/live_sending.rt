@@ -40,7 +40,7 @@ pub(crate) fn send_live_run<R: Wait, G: Gate>(
     let mut mark = 0u64;
     for _ in rt.forever() {
         match go_on(&mut machine, &mut taker) {
-            Stepped::Quiet => mark = told_past(gate, mark, machine.cycle()),
+            Stepped::Quiet => mark = reported_past(gate, mark, machine.cycle()),
             Stepped::Wrote(write) => block_sender.put(rt, gate, write),
             Stepped::Stopped(stop) => {
                 taker.close();
@@ -59,7 +59,7 @@ pub(crate) fn send_live_run<R: Wait, G: Gate>(
 }
 
 /// Reports the cycle of a run to a gate that wants progress, if it has reached the mark; returns the next mark.
-fn told_past<G: Gate>(gate: &G, mark: u64, cycle: u64) -> u64 {
+fn reported_past<G: Gate>(gate: &G, mark: u64, cycle: u64) -> u64 {
     if cycle < mark || !gate.wants_progress() {
         mark
     } else {

@@ -34,7 +34,7 @@ pub(crate) fn send_run<R: Wait, G: Gate>(
     let mut block_sender = BlockSender::new(sender);
     let mut mark = 0u64;
     loop {
-        match next_told(gate, &mut machine, &mut mark) {
+        match next_reported(gate, &mut machine, &mut mark) {
             Next::Wrote(write) => block_sender.put(rt, gate, write),
             Next::Stopped(stop) => {
                 gate.stopped();
@@ -49,7 +49,7 @@ pub(crate) fn send_run<R: Wait, G: Gate>(
 }
 
 /// Runs to the next channel write or the stop; reports the progress at each mark to a gate that wants it.
-fn next_told<G: Gate>(gate: &G, machine: &mut Machine, mark: &mut u64) -> Next
+fn next_reported<G: Gate>(gate: &G, machine: &mut Machine, mark: &mut u64) -> Next
     ensures next { (machine.new, result) ≡ next_of machine.old }
     ensures channel { HasNextChannel result }
 {

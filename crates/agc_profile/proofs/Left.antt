@@ -16,12 +16,12 @@ use Rattle.agc_trace.proofs.Steps.{fewer_entries}
 use Rattle.agc_profile.specs.Profile.{count_of, counted, counted_in, counted_one, nothing_counted}
 use Rattle.agc_profile.specs.Context.{at_start, mode_after}
 use Rattle.agc_profile.specs.Step.{is_in, passage_between, passage_of, passages, passages_in, passages_left}
-use Rattle.agc_profile.specs.Readers.{Told, all_told, told_of}
+use Rattle.agc_profile.specs.Readers.{Reported, all_reported, reported_of}
 use Rattle.agc_trace.specs.declared.span.Span.{Span}
 use Rattle.agc_profile.specs.declared.profile.Profile.{Profile}
 use Rattle.agc_profile.specs.declared.context.Context.{Context}
 use Rattle.agc_profile.specs.declared.step.Step.{Step}
-use Rattle.agc_profile.proofs.Told.{entries_of, told_by_one, told_ends, told_is_trace, told_on}
+use Rattle.agc_profile.proofs.Reported.{entries_of, reported_by_one, reported_ends, reported_is_trace, reported_on}
 
 pub begins : (s : State) → (entry_of s).cycle ≡ s.cycle
 unfolding entry_of
@@ -46,52 +46,52 @@ not_in : (span : Span) (p : Step) (ps : List Step) → is_in span p ≡ false �
 not_in span p ps e = leaves_by (is_in span p) p (filter (is_in span) ps) e
 
 -- two consecutive entries: the first belongs to this state and the second to the next one
-first_of : (mode : Context) (s : State) (told next : Told) (rest : List Told) → told ≡ told_of s → next ≡ told_of (boundary None s).0 →
-    passages mode (told ∷ next ∷ rest) ≡ passage_of mode s ∷ passages (mode_after (upcoming_of s) mode) (next ∷ rest)
-unfolding passages passage_of told_of entry_of
-first_of mode s told next rest e f = cc
+first_of : (mode : Context) (s : State) (reported next : Reported) (rest : List Reported) → reported ≡ reported_of s → next ≡ reported_of (boundary None s).0 →
+    passages mode (reported ∷ next ∷ rest) ≡ passage_of mode s ∷ passages (mode_after (upcoming_of s) mode) (next ∷ rest)
+unfolding passages passage_of reported_of entry_of
+first_of mode s reported next rest e f = cc
 
 -- the boundaries from a state on are its own and those from the next state on
 pub passages_go_on : (mode : Context) (s : State) → is_stop (upcoming_of s) ≡ false →
-    passages mode (all_told s) ≡ passage_of mode s ∷ passages (mode_after (upcoming_of s) mode) (all_told (boundary None s).0)
+    passages mode (all_reported s) ≡ passage_of mode s ∷ passages (mode_after (upcoming_of s) mode) (all_reported (boundary None s).0)
 passages_go_on mode s f =
     let t = (boundary None s).0 in
-    let rest = if is_stop (upcoming_of t) then [] else all_told (boundary None t).0 in
-    let two : all_told s ≡ told_of s ∷ told_of t ∷ rest =
-    told_by_one s ∙ ap (λ (xs : List Told). told_of s ∷ xs) (told_on (is_stop (upcoming_of s)) (all_told t) f ∙ told_by_one t) in
-    ap (λ (xs : List Told). passages mode xs) two
-    ∙ first_of mode s (told_of s) (told_of t) rest refl refl
-    ∙ ap (λ (xs : List Told). passage_of mode s ∷ passages (mode_after (upcoming_of s) mode) xs) (sym (told_by_one t))
+    let rest = if is_stop (upcoming_of t) then [] else all_reported (boundary None t).0 in
+    let two : all_reported s ≡ reported_of s ∷ reported_of t ∷ rest =
+    reported_by_one s ∙ ap (λ (xs : List Reported). reported_of s ∷ xs) (reported_on (is_stop (upcoming_of s)) (all_reported t) f ∙ reported_by_one t) in
+    ap (λ (xs : List Reported). passages mode xs) two
+    ∙ first_of mode s (reported_of s) (reported_of t) rest refl refl
+    ∙ ap (λ (xs : List Reported). passage_of mode s ∷ passages (mode_after (upcoming_of s) mode) xs) (sym (reported_by_one t))
 
 -- at the stop there are no more
-pub passages_end : (mode : Context) (s : State) → is_stop (upcoming_of s) ≡ true → passages mode (all_told s) ≡ []
+pub passages_end : (mode : Context) (s : State) → is_stop (upcoming_of s) ≡ true → passages mode (all_reported s) ≡ []
 unfolding passages
 passages_end mode s f =
-    ap (λ (xs : List Told). passages mode xs)
-    (told_by_one s ∙ ap (λ (xs : List Told). told_of s ∷ xs) (told_ends (is_stop (upcoming_of s)) (all_told (boundary None s).0) f))
+    ap (λ (xs : List Reported). passages mode xs)
+    (reported_by_one s ∙ ap (λ (xs : List Reported). reported_of s ∷ xs) (reported_ends (is_stop (upcoming_of s)) (all_reported (boundary None s).0) f))
 
 late : (span : Span) (p : Step) → span.to < p.cycle → is_in span p ≡ false
 late span p l =
     let long : nat_le p.cycle span.to ≡ false = grind (arith, nat_tests) in
     ap (λ (b : Bool). nat_le span.from p.cycle && b) long ∙ none_of (nat_le span.from p.cycle)
 
-none_late : (span : Span) (mode : Context) (from : ℕ) (all : List Told) → span.to < from → NeverGoBack from (entries_of all) →
+none_late : (span : Span) (mode : Context) (from : ℕ) (all : List Reported) → span.to < from → NeverGoBack from (entries_of all) →
     filter (is_in span) (passages mode all) ≡ []
 unfolding passages
 none_late span mode from [] l h = refl
-none_late span mode from (told ∷ []) l h = refl
-none_late span mode from (told ∷ next ∷ later) l h =
-    not_in span (passage_between mode told next) (passages (mode_after told.entry.happening mode) (next ∷ later))
-    (late span (passage_between mode told next) (omega (arith, h.0)))
-    ∙ none_late span (mode_after told.entry.happening mode) told.entry.cycle (next ∷ later) (omega (arith, h.0)) h.1
+none_late span mode from (reported ∷ []) l h = refl
+none_late span mode from (reported ∷ next ∷ later) l h =
+    not_in span (passage_between mode reported next) (passages (mode_after reported.entry.happening mode) (next ∷ later))
+    (late span (passage_between mode reported next) (omega (arith, h.0)))
+    ∙ none_late span (mode_after reported.entry.happening mode) reported.entry.cycle (next ∷ later) (omega (arith, h.0)) h.1
 
-forward : (s : State) → NeverGoBack s.cycle (entries_of (all_told s))
-forward s = subst (λ (xs : List Entry). NeverGoBack s.cycle xs) (sym (told_is_trace s)) (trace_goes_forward s)
+forward : (s : State) → NeverGoBack s.cycle (entries_of (all_reported s))
+forward s = subst (λ (xs : List Entry). NeverGoBack s.cycle xs) (sym (reported_is_trace s)) (trace_goes_forward s)
 
 -- past the last cycle of the span no boundary is counted
 pub none_past : (span : Span) (mode : Context) (s : State) → span.to < s.cycle → passages_left span mode s ≡ []
 unfolding passages_left
-none_past span mode s l = none_late span mode s.cycle (all_told s) l (forward s)
+none_past span mode s l = none_late span mode s.cycle (all_reported s) l (forward s)
 
 -- at the stop none is left
 pub none_at_stop : (span : Span) (mode : Context) (s : State) → is_stop (upcoming_of s) ≡ true → passages_left span mode s ≡ []
@@ -101,7 +101,7 @@ none_at_stop span mode s f = ap (λ (ps : List Step). filter (is_in span) ps) (p
 -- a boundary that is not a stop is left with those after it
 pub left_after : (span : Span) (mode : Context) (s : State) → is_stop (upcoming_of s) ≡ false →
     passages_left span mode s
-    ≡ filter (is_in span) (passage_of mode s ∷ passages (mode_after (upcoming_of s) mode) (all_told (boundary None s).0))
+    ≡ filter (is_in span) (passage_of mode s ∷ passages (mode_after (upcoming_of s) mode) (all_reported (boundary None s).0))
 unfolding passages_left
 left_after span mode s f = ap (λ (ps : List Step). filter (is_in span) ps) (passages_go_on mode s f)
 
@@ -110,8 +110,8 @@ unfolding passage_of
 happens mode s = refl
 
 -- a boundary happens as foreseen
-pub happens_told : (mode : Context) (s : State) (p : Step) (u : Upcoming) → p ≡ passage_of mode s → u ≡ upcoming_of s → p.happening ≡ u
-happens_told mode s p u e f = ap (λ (q : Step). q.happening) e ∙ happens mode s ∙ sym f
+pub happens_reported : (mode : Context) (s : State) (p : Step) (u : Upcoming) → p ≡ passage_of mode s → u ≡ upcoming_of s → p.happening ≡ u
+happens_reported mode s p u e f = ap (λ (q : Step). q.happening) e ∙ happens mode s ∙ sym f
 
 counted_by : (b : Bool) (p : Step) (ps : List Step) (c : Profile) →
     counted (if b then counted_one p c else c) ps ≡ counted c (if b then p ∷ ps else ps)
@@ -125,7 +125,7 @@ pub counted_next : (span : Span) (mode : Context) (s : State) (c : Profile) → 
     ≡ counted c (passages_left span mode s)
 unfolding passages_left
 counted_next span mode s c f =
-    let rest = passages (mode_after (upcoming_of s) mode) (all_told (boundary None s).0) in
+    let rest = passages (mode_after (upcoming_of s) mode) (all_reported (boundary None s).0) in
     counted_by (is_in span (passage_of mode s)) (passage_of mode s) (filter (is_in span) rest) c
     ∙ sym (ap (λ (ps : List Step). counted c ps) (left_after span mode s f))
 

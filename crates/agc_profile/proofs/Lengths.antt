@@ -19,7 +19,7 @@ use Rattle.agc_profile.specs.Context.{at_start, mode_after}
 use Rattle.agc_profile.specs.Opcode.{named_of}
 use Rattle.agc_profile.specs.Step.{passage_between, passages, service_of}
 use Rattle.agc_profile.specs.Tally.{once, plus}
-use Rattle.agc_profile.specs.Readers.{Told, all_told, told_of}
+use Rattle.agc_profile.specs.Readers.{Reported, all_reported, reported_of}
 use Rattle.agc_profile.specs.declared.profile.Profile.{Profile}
 use Rattle.agc_profile.specs.declared.data.DataReads.{DataReads}
 use Rattle.agc_profile.specs.declared.context.Context.{Context}
@@ -28,7 +28,7 @@ use Rattle.agc_profile.specs.declared.opcode.Opcode.TheVariants as named
 use Rattle.agc_profile.specs.declared.step.Step.{Step}
 use Rattle.agc_profile.specs.declared.tally.Tally.{Tally}
 use Rattle.agc_profile.proofs.Left.{begins}
-use Rattle.agc_profile.proofs.Told.{entries_of, tells, told_by_one, told_is_trace}
+use Rattle.agc_profile.proofs.Reported.{entries_of, reports, reported_by_one, reported_is_trace}
 
 as_length : (name : Opcode) (one : Tally) (c : Profile) → counted_cycles (counted_as name one c) ≡ counted_cycles c
 as_length (named.Basic order) one c = refl
@@ -78,35 +78,35 @@ one_length p c e =
     ∙ happening_length p.happening (once p.cycles) c e
 
 -- up to the stop of a trace, the cycles of its entries pass
-all_lengths : (last : State) (mode : Context) (c : Profile) (told : Told) (later : List Told) → NeverGoBack told.entry.cycle (entries_of (told ∷ later)) →
-    EndsWithStop last (entries_of (told ∷ later)) →
-    counted_cycles (counted c (passages mode (told ∷ later))) + told.entry.cycle ≡ counted_cycles c + last.cycle
+all_lengths : (last : State) (mode : Context) (c : Profile) (reported : Reported) (later : List Reported) → NeverGoBack reported.entry.cycle (entries_of (reported ∷ later)) →
+    EndsWithStop last (entries_of (reported ∷ later)) →
+    counted_cycles (counted c (passages mode (reported ∷ later))) + reported.entry.cycle ≡ counted_cycles c + last.cycle
 unfolding counted passages
-all_lengths last mode c told [] h k = ap (λ (n : ℕ). counted_cycles c + n) k.cycle
-all_lengths last mode c told (next ∷ later) h k =
+all_lengths last mode c reported [] h k = ap (λ (n : ℕ). counted_cycles c + n) k.cycle
+all_lengths last mode c reported (next ∷ later) h k =
     omega (
       arith,
       h.1.0,
-      one_length (passage_between mode told next) c k.0,
-      all_lengths last (mode_after told.entry.happening mode) (counted_one (passage_between mode told next) c) next later (omega arith, h.1.1) k.1,
+      one_length (passage_between mode reported next) c k.0,
+      all_lengths last (mode_after reported.entry.happening mode) (counted_one (passage_between mode reported next) c) next later (omega arith, h.1.1) k.1,
     )
 
 none_yet : counted_cycles nothing_counted ≡ 0
 unfolding nothing_counted
 none_yet = refl
 
-lengths_from : (s : State) (later : List Told) → all_told s ≡ told_of s ∷ later →
-    counted_cycles (count_of (passages at_start (all_told s))) + s.cycle ≡ (run_of s).last.cycle
+lengths_from : (s : State) (later : List Reported) → all_reported s ≡ reported_of s ∷ later →
+    counted_cycles (count_of (passages at_start (all_reported s))) + s.cycle ≡ (run_of s).last.cycle
 lengths_from s later e =
-    let entries = sym (told_is_trace s) ∙ ap entries_of e in
+    let entries = sym (reported_is_trace s) ∙ ap entries_of e in
     let forward = subst (λ (xs : List Entry). NeverGoBack s.cycle xs) entries (trace_goes_forward s) in
     let ends = subst (λ (xs : List Entry). EndsWithStop (run_of s).last xs) entries (trace_ends s) in
-    let all = all_lengths (run_of s).last at_start nothing_counted (told_of s) later (omega arith, forward.1) ends in
-    ap (λ (xs : List Told). counted_cycles (count_of (passages at_start xs)) + s.cycle) e
-    ∙ ap (λ (n : ℕ). counted_cycles (count_of (passages at_start (told_of s ∷ later))) + n)
-    (sym (ap (λ (entry : Entry). entry.cycle) (tells s) ∙ begins s))
+    let all = all_lengths (run_of s).last at_start nothing_counted (reported_of s) later (omega arith, forward.1) ends in
+    ap (λ (xs : List Reported). counted_cycles (count_of (passages at_start xs)) + s.cycle) e
+    ∙ ap (λ (n : ℕ). counted_cycles (count_of (passages at_start (reported_of s ∷ later))) + n)
+    (sym (ap (λ (entry : Entry). entry.cycle) (reports s) ∙ begins s))
     ∙ omega (arith, all, none_yet)
 
 -- the cycles of a whole run by kinds are its length
-pub whole_length : (s : State) → counted_cycles (count_of (passages at_start (all_told s))) + s.cycle ≡ (run_of s).last.cycle
-whole_length s = lengths_from s _ (told_by_one s)
+pub whole_length : (s : State) → counted_cycles (count_of (passages at_start (all_reported s))) + s.cycle ≡ (run_of s).last.cycle
+whole_length s = lengths_from s _ (reported_by_one s)

@@ -1,4 +1,4 @@
-mod Told
+mod Reported
 mod Left
 mod Places
 mod Readers
@@ -8,4 +8,7 @@ mod Room
 mod Running
 mod Interrupts
 mod Lines
+mod Quotes
+mod Routines
+mod RoutineLaws
 mod Flags

@@ -6,7 +6,7 @@ use Rattle.agc_listing.specs.List.{is_extracode_at}
 use Rattle.agc_profile.specs.Report.{lines_below, word_line, word_row}
 use Rattle.agc_profile.specs.Tally.{tally_at}
 use Rattle.agc_profile.specs.declared.profile.Profile.{Profile}
-use Rattle.agc_profile.specs.declared.row.Layout.{Layout}
+use Rattle.agc_profile.specs.declared.form.ProfileForm.{ProfileForm}
 use Rattle.agc_profile.specs.declared.tally.Tally.{Tally}
 
 -- nothing is written yet
@@ -26,14 +26,14 @@ more_lines number line before text after e f =
     ∙ ap (λ (bs : List ℕ). before ++ bs) (sym (one_more number line))
 
 -- the line of a word is written
-pub more_words : (layout : Layout) (whole : Bool) (c : Profile) (words : List Number) (place : ℕ) (before text after : List ℕ) (extracode : Bool) (word : Number) (tally reads : Tally) →
+pub more_words : (form : ProfileForm) (c : Profile) (words : List Number) (place : ℕ) (before text after : List ℕ) (extracode : Bool) (word : Number) (tally reads : Tally) →
     extracode ≡ is_extracode_at words place → word ≡ fixed_at place words → tally ≡ tally_at place c.fixed → reads ≡ tally_at place c.fixed_data →
-    text ≡ before ++ lines_below place (word_line layout whole c words) → after ≡ text ++ word_row layout whole place extracode word tally reads →
-    after ≡ before ++ lines_below (place + 1) (word_line layout whole c words)
+    text ≡ before ++ lines_below place (word_line form c words) → after ≡ text ++ word_row form place extracode word tally reads →
+    after ≡ before ++ lines_below (place + 1) (word_line form c words)
 unfolding word_line
-more_words layout whole c words place before text after extracode word tally reads e f g r h k =
-    more_lines place (word_line layout whole c words) before text after h
-    (k ∙ ap (λ (b : Bool). text ++ word_row layout whole place b word tally reads) e
-    ∙ ap (λ (n : Number). text ++ word_row layout whole place (is_extracode_at words place) n tally reads) f
-    ∙ ap (λ (t : Tally). text ++ word_row layout whole place (is_extracode_at words place) (fixed_at place words) t reads) g
-    ∙ ap (λ (t : Tally). text ++ word_row layout whole place (is_extracode_at words place) (fixed_at place words) (tally_at place c.fixed) t) r)
+more_words form c words place before text after extracode word tally reads e f g r h k =
+    more_lines place (word_line form c words) before text after h
+    (k ∙ ap (λ (b : Bool). text ++ word_row form place b word tally reads) e
+    ∙ ap (λ (n : Number). text ++ word_row form place (is_extracode_at words place) n tally reads) f
+    ∙ ap (λ (t : Tally). text ++ word_row form place (is_extracode_at words place) (fixed_at place words) t reads) g
+    ∙ ap (λ (t : Tally). text ++ word_row form place (is_extracode_at words place) (fixed_at place words) (tally_at place c.fixed) t) r)

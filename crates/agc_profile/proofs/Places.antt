@@ -100,9 +100,9 @@ module _ (table : Profile → List Tally) (test : Step → Bool) (place : ℕ)
       ∙ nothing_plus (tally_of (filter test ps))
 
 -- what an order adds apart from its place, and a boundary apart from what happens, changes neither table
-record SamePlaces (c d : Profile) : Type 0 where
-  fixed : d.fixed ≡ c.fixed
-  erasable : d.erasable ≡ c.erasable
+pub record SamePlaces (c d : Profile) : Type 0 where
+  pub fixed : d.fixed ≡ c.fixed
+  pub erasable : d.erasable ≡ c.erasable
 
 same_places : (c d e : Profile) → SamePlaces c d → SamePlaces d e → SamePlaces c e
 same_places c d e h k = record { fixed = k.fixed ∙ h.fixed; erasable = k.erasable ∙ h.erasable }
@@ -153,7 +153,7 @@ there_same (upcoming.Event what) one c = record { fixed = refl; erasable = refl 
 there_same (upcoming.Timer t) one c = record { fixed = refl; erasable = refl }
 there_same (upcoming.Interrupt r) one c = record { fixed = refl; erasable = refl }
 
-tables_after : (p : Step) (c : Profile) → SamePlaces (counted_there p.happening (once p.cycles) c) (counted_one p c)
+pub tables_after : (p : Step) (c : Profile) → SamePlaces (counted_there p.happening (once p.cycles) c) (counted_one p c)
 tables_after p c = same_places _ _ _ (there_same p.happening (once p.cycles) c) (one_same p c)
 
 -- fixed memory
@@ -161,7 +161,7 @@ fixed_at_length : (l : Location) (one : Tally) (c : Profile) → length (counted
 fixed_at_length (location.Fixed q) one c = added_length q one c.fixed
 fixed_at_length (location.Erasable q) one c = refl
 
-fixed_length : (u : Upcoming) (one : Tally) (c : Profile) → length (counted_there u one c).fixed ≡ length c.fixed
+pub fixed_length : (u : Upcoming) (one : Tally) (c : Profile) → length (counted_there u one c).fixed ≡ length c.fixed
 fixed_length (upcoming.Order order) one c = fixed_at_length (location_at order.bank order.address) one c
 fixed_length (upcoming.Stop why) one c = refl
 fixed_length (upcoming.Event what) one c = refl
@@ -183,7 +183,7 @@ fixed_there (upcoming.Event what) place cycles c l = refl
 fixed_there (upcoming.Timer t) place cycles c l = refl
 fixed_there (upcoming.Interrupt r) place cycles c l = refl
 
-no_fixed : nothing_counted.fixed ≡ empty_table 0o120000
+pub no_fixed : nothing_counted.fixed ≡ empty_table 0o120000
 unfolding nothing_counted
 no_fixed = refl
 
@@ -200,7 +200,7 @@ cells_at_length : (l : Location) (one : Tally) (c : Profile) → length (counted
 cells_at_length (location.Fixed q) one c = refl
 cells_at_length (location.Erasable q) one c = added_length q one c.erasable
 
-cells_length : (u : Upcoming) (one : Tally) (c : Profile) → length (counted_there u one c).erasable ≡ length c.erasable
+pub cells_length : (u : Upcoming) (one : Tally) (c : Profile) → length (counted_there u one c).erasable ≡ length c.erasable
 cells_length (upcoming.Order order) one c = cells_at_length (location_at order.bank order.address) one c
 cells_length (upcoming.Stop why) one c = refl
 cells_length (upcoming.Event what) one c = refl
@@ -222,7 +222,7 @@ cells_there (upcoming.Event what) place cycles c l = refl
 cells_there (upcoming.Timer t) place cycles c l = refl
 cells_there (upcoming.Interrupt r) place cycles c l = refl
 
-no_cells : nothing_counted.erasable ≡ empty_table 0o4000
+pub no_cells : nothing_counted.erasable ≡ empty_table 0o4000
 unfolding nothing_counted
 no_cells = refl
 

@@ -166,8 +166,8 @@ in_more : (b : Bool) (p : Step) (c : Profile) → OneMore c (if b then counted_o
 in_more true p c = one_more p c
 in_more false p c = none_more c p.cycles
 
-told_more : (span : Span) (p : Step) (c more : Profile) → more ≡ counted_in span p c → OneMore c more p.cycles
-told_more span p c more e = subst (λ (d : Profile). OneMore c d p.cycles) (sym e) (in_more (is_in span p) p c)
+reported_more : (span : Span) (p : Step) (c more : Profile) → more ≡ counted_in span p c → OneMore c more p.cycles
+reported_more span p c more e = subst (λ (d : Profile). OneMore c d p.cycles) (sym e) (in_more (is_in span p) p c)
 
 -- at the start nothing is counted
 pub none_taken : (c : Profile) → c ≡ nothing_counted → c.orders ≡ nothing
@@ -186,12 +186,12 @@ goes_on s t e = subst (λ (u : State). s.cycle ≤ u.cycle) (sym e) (never_earli
 pub no_more : (span : Span) (mode : Context) (s t : State) (c more : Profile) → t ≡ (boundary None s).0 → more ≡ counted_in span (passage_of mode s) c →
     c.orders.cycles ≤ s.cycle → more.orders.cycles ≤ t.cycle
 no_more span mode s t c more e f l =
-    omega (arith, l, (told_more span (passage_of mode s) c more f).cycles_are, takes mode s, ap (λ (u : State). u.cycle) e, never_earlier s (boundary None s) (boundary_falls s))
+    omega (arith, l, (reported_more span (passage_of mode s) c more f).cycles_are, takes mode s, ap (λ (u : State). u.cycle) e, never_earlier s (boundary None s) (boundary_falls s))
 
 -- and there is room for as many orders as that, plus the boundaries that are left
 pub room_left : (span : Span) (mode : Context) (s t : State) (c more : Profile) → entries_left t < entries_left s → more ≡ counted_in span (passage_of mode s) c →
     c.orders.times + entries_left s < 2 ^ 64 → more.orders.times + entries_left t < 2 ^ 64
-room_left span mode s t c more e f l = omega (arith, l, e, (told_more span (passage_of mode s) c more f).times)
+room_left span mode s t c more e f l = omega (arith, l, e, (reported_more span (passage_of mode s) c more f).times)
 
 pub room_for_one : (s : State) (c : Profile) → c.orders.times + entries_left s < 2 ^ 64 → c.orders.times + 1 < 2 ^ 64
 room_for_one s c l = omega (arith, l, some_entry s)

@@ -15,10 +15,10 @@ use Rattle.agc_machine.specs.declared.upcoming.InHand.{InHand}
 use Rattle.agc_machine.specs.declared.upcoming.Upcoming.{Upcoming}
 use Rattle.agc_machine.specs.declared.upcoming.Upcoming.TheVariants as upcoming
 use Rattle.agc_machine.proofs.Cases.{upcoming_applies, upcoming_comes}
-use Rattle.agc_listing.specs.Location.{location_at}
+use Rattle.agc_listing.specs.Location.{location_at, location_in}
 use Rattle.agc_listing.specs.declared.location.Location.{Location}
 use Rattle.agc_listing.specs.declared.location.Location.TheVariants as location
-use Rattle.agc_profile.specs.DataReads.{data_of, data_read, location_in, order_reads}
+use Rattle.agc_profile.specs.DataReads.{data_of, data_read, order_reads}
 use Rattle.agc_profile.specs.Opcode.{named_of}
 use Rattle.agc_profile.specs.Step.{RunsAs, is_order}
 use Rattle.agc_profile.specs.declared.opcode.Opcode.{Opcode}
@@ -64,25 +64,25 @@ place_in order p e =
     same_place ((z_of p.store + 0o7777) % 0o10000) p ∙ ap (λ (o : InHand). location_at o.bank o.address) (sym e)
 
 -- the place of the order in hand
-place_told : (s : State) (u : Upcoming) (order : InHand) → u ≡ upcoming_of s → u ≡ upcoming.Order order →
+place_reported : (s : State) (u : Upcoming) (order : InHand) → u ≡ upcoming_of s → u ≡ upcoming.Order order →
     location_in s.processor.store ((z_of s.processor.store + 0o7777) % 0o10000) ≡ location_at order.bank order.address
-place_told s u order e f = place_in order s.processor (order_by s.stopped s order refl (sym e ∙ f))
+place_reported s u order e f = place_in order s.processor (order_by s.stopped s order refl (sym e ∙ f))
 
 pub place_found : (s : State) (u : Upcoming) (order : InHand) (m : Memory) (l : Location) → u ≡ upcoming_of s → u ≡ upcoming.Order order → m ≡ s.processor.store →
     l ≡ location_in m ((z_of m + 0o7777) % 0o10000) → l ≡ location_at order.bank order.address
 place_found s u order m l e f g h =
-    h ∙ ap (λ (n : Memory). location_in n ((z_of n + 0o7777) % 0o10000)) g ∙ place_told s u order e f
+    h ∙ ap (λ (n : Memory). location_in n ((z_of n + 0o7777) % 0o10000)) g ∙ place_reported s u order e f
 
 -- it runs at this place and with this opcode
-pub runs_told : (u : Upcoming) (order : InHand) (l : Location) (name : Opcode) → u ≡ upcoming.Order order → l ≡ location_at order.bank order.address →
+pub runs_reported : (u : Upcoming) (order : InHand) (l : Location) (name : Opcode) → u ≡ upcoming.Order order → l ≡ location_at order.bank order.address →
     name ≡ named_of order → RunsAs l name u
-runs_told u order l name e f g = subst (λ (v : Upcoming). RunsAs l name v) (sym e) (f, g)
+runs_reported u order l name e f g = subst (λ (v : Upcoming). RunsAs l name v) (sym e) (f, g)
 
 -- the words that it reads
-pub reads_told : (u : Upcoming) (order : InHand) (name : Opcode) (reads : Takes) (m : Memory) → u ≡ upcoming.Order order → name ≡ named_of order →
+pub reads_reported : (u : Upcoming) (order : InHand) (name : Opcode) (reads : Takes) (m : Memory) → u ≡ upcoming.Order order → name ≡ named_of order →
     reads ≡ order_reads name → data_read reads (pattern_of 15 order.word) m ≡ data_of u m
 unfolding data_of
-reads_told u order name reads m e f g =
+reads_reported u order name reads m e f g =
     ap (λ (t : Takes). data_read t (pattern_of 15 order.word) m) (g ∙ ap order_reads f) ∙ ap (λ (v : Upcoming). data_of v m) (sym e)
 
 -- an order that takes nothing, a fixed address or a channel reads no word
@@ -93,10 +93,10 @@ nothing_read t word m (inr (inl e)) = ap (λ (u : Takes). data_read u word m) e
 nothing_read t word m (inr (inr e)) = ap (λ (u : Takes). data_read u word m) e
 
 -- what is not an order reads none
-pub none_told : (u : Upcoming) (m : Memory) → is_order u ≡ false → record { at = None; before = None } ≡ data_of u m
+pub none_reported : (u : Upcoming) (m : Memory) → is_order u ≡ false → record { at = None; before = None } ≡ data_of u m
 unfolding data_of
-none_told (upcoming.Order order) m e = cc
-none_told (upcoming.Stop why) m e = refl
-none_told (upcoming.Event what) m e = refl
-none_told (upcoming.Timer t) m e = refl
-none_told (upcoming.Interrupt r) m e = refl
+none_reported (upcoming.Order order) m e = cc
+none_reported (upcoming.Stop why) m e = refl
+none_reported (upcoming.Event what) m e = refl
+none_reported (upcoming.Timer t) m e = refl
+none_reported (upcoming.Interrupt r) m e = refl

@@ -1,7 +1,7 @@
 -- The words that an order reads as data.
-use Rattle.std.specs.Prelude.{ℕ, ◌%◌, Some, None, if◌then◌else◌}
+use Rattle.std.specs.Prelude.{ℕ, ◌%◌, Some, None}
 use Rattle.agc_word.specs.Number.{pattern_of}
-use Rattle.agc_store.specs.Memory.{Memory, erasable_place, fixed_place, is_erasable}
+use Rattle.agc_store.specs.Memory.{Memory}
 use Rattle.agc_order.specs.Row.{basic_row, extracode_row}
 use Rattle.agc_order.specs.declared.order.Basic.{Basic}
 use Rattle.agc_order.specs.declared.order.Basic.TheVariants as basic
@@ -10,19 +10,12 @@ use Rattle.agc_order.specs.declared.row.Takes.TheVariants as takes
 use Rattle.agc_processor.specs.Double.{before_in_ten, before_in_twelve}
 use Rattle.agc_machine.specs.declared.upcoming.Upcoming.{Upcoming}
 use Rattle.agc_machine.specs.declared.upcoming.Upcoming.TheVariants as upcoming
+use Rattle.agc_listing.specs.Location.{location_in}
 use Rattle.agc_listing.specs.declared.location.Location.{Location}
-use Rattle.agc_listing.specs.declared.location.Location.TheVariants as location
 use Rattle.agc_profile.specs.Opcode.{named_of}
 use Rattle.agc_profile.specs.declared.data.DataReads.{DataReads}
 use Rattle.agc_profile.specs.declared.opcode.Opcode.{Opcode}
 use Rattle.agc_profile.specs.declared.opcode.Opcode.TheVariants as named
-
--- the place that is read through an address
-unfoldable pub location_in : Memory → ℕ → Location
-location_in m address =
-    if is_erasable address
-    then location.Erasable (erasable_place m.erasable address)
-    else location.Fixed (fixed_place m address)
 
 -- A basic order reads what it takes, except that TC takes the address of an order, and TS only stores.
 abbrev pub basic_reads : Basic → Takes

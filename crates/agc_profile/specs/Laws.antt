@@ -72,11 +72,11 @@ abbrev pub takes : Rupt → Step → Bool
 takes r p = serves r p && is_entry p.happening
 
 -- a context says what the flags of a processor do: whether INHINT is in force, and whether an interrupt is being served
-pub record TellsFlags (mode : Context) (p : Processor) : Type 0 where
+pub record ReportsFlags (mode : Context) (p : Processor) : Type 0 where
   pub inhibited : mode.inhibited ≡ p.inhibited
   pub serving : is_some mode.service ≡ p.serving
 
 -- each boundary, from that of a state on, begins in a context that says what the flags of its state do
 abbrev pub TellFlags : State → List Step → Type 0
 TellFlags s [] = Unit {0}
-TellFlags s (p ∷ ps) = TellsFlags p.mode s.processor × TellFlags (boundary None s).0 ps
+TellFlags s (p ∷ ps) = ReportsFlags p.mode s.processor × TellFlags (boundary None s).0 ps

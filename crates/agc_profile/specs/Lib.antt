@@ -8,5 +8,6 @@ pub mod Number
 pub mod Profile
 pub mod Laws
 pub mod Sums
+pub mod Routine
 pub mod Row
 pub mod Report

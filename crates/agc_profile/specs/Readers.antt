@@ -9,21 +9,21 @@ use Rattle.agc_profile.specs.DataReads.{data_of}
 use Rattle.agc_profile.specs.declared.data.DataReads.{DataReads}
 
 -- the entry that a trace has of a boundary, and what the boundary reads
-pub record Told : Type 0 where
+pub record Reported : Type 0 where
   pub entry : Entry
   pub reads : DataReads
 
 -- the boundary that begins in a state
-unfoldable pub told_of : State → Told
-told_of s =
+unfoldable pub reported_of : State → Reported
+reported_of s =
     record { entry = entry_of s; reads = data_of (upcoming_of s) s.processor.store }
 
 -- those of at most this many boundaries; the bound must be large enough
-unfoldable pub all_within : ℕ → State → List Told
+unfoldable pub all_within : ℕ → State → List Reported
 all_within zero s = []
 all_within (suc more) s =
-    told_of s ∷ (if is_stop (upcoming_of s) then [] else all_within more (boundary None s).0)
+    reported_of s ∷ (if is_stop (upcoming_of s) then [] else all_within more (boundary None s).0)
 
 -- those from a state on: the last one is the stop
-unfoldable pub all_told : State → List Told
-all_told s = all_within (entries_left s) s
+unfoldable pub all_reported : State → List Reported
+all_reported s = all_within (entries_left s) s

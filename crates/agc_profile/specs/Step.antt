@@ -12,30 +12,30 @@ use Rattle.agc_listing.specs.declared.location.Location.TheVariants as location
 use Rattle.agc_profile.specs.DataReads.{data_of}
 use Rattle.agc_profile.specs.Context.{at_start, mode_after}
 use Rattle.agc_profile.specs.Opcode.{named_of}
-use Rattle.agc_profile.specs.Readers.{Told, all_told}
+use Rattle.agc_profile.specs.Readers.{Reported, all_reported}
 use Rattle.agc_trace.specs.declared.span.Span.{Span}
 use Rattle.agc_profile.specs.declared.context.Context.{Context}
 use Rattle.agc_profile.specs.declared.opcode.Opcode.{Opcode}
 use Rattle.agc_profile.specs.declared.step.Step.{Step}
 
 -- an entry of a trace takes the cycles up to the next one
-abbrev pub passage_between : Context → Told → Told → Step
-passage_between mode told next =
+abbrev pub passage_between : Context → Reported → Reported → Step
+passage_between mode reported next =
     record {
-      cycle = told.entry.cycle;
-      happening = told.entry.happening;
-      cycles = next.entry.cycle - told.entry.cycle;
+      cycle = reported.entry.cycle;
+      happening = reported.entry.happening;
+      cycles = next.entry.cycle - reported.entry.cycle;
       mode = mode;
-      reads = told.reads;
+      reads = reported.reads;
     }
 
 -- the boundaries of a trace except its last entry, which is the stop and takes no cycles
-unfoldable pub passages : Context → List Told → List Step
+unfoldable pub passages : Context → List Reported → List Step
 passages mode [] = []
 passages mode (last ∷ []) = []
-passages mode (told ∷ next ∷ later) =
-    passage_between mode told next
-    ∷ passages (mode_after told.entry.happening mode) (next ∷ later)
+passages mode (reported ∷ next ∷ later) =
+    passage_between mode reported next
+    ∷ passages (mode_after reported.entry.happening mode) (next ∷ later)
 
 -- a boundary that begins in a span of cycles
 abbrev pub is_in : Span → Step → Bool
@@ -43,7 +43,7 @@ is_in span passage = nat_le span.from passage.cycle && nat_le passage.cycle span
 
 -- the boundaries in a span that a machine still makes, from a state and a context
 unfoldable pub passages_left : Span → Context → State → List Step
-passages_left span mode s = filter (is_in span) (passages mode (all_told s))
+passages_left span mode s = filter (is_in span) (passages mode (all_reported s))
 
 -- the boundaries of a run in a span
 abbrev pub passages_in : Span → State → List Step

@@ -90,7 +90,7 @@ fn push_fixed_bank(
 }
 
 /// Appends the name of a bank of erasable memory.
-fn push_erasable_name(name: &mut String, bank: u8) -> Result<(), AllocError>
+pub(crate) fn push_erasable_name(name: &mut String, bank: u8) -> Result<(), AllocError>
     requires { bank < 8 }
     ensures { OnOk result (string_bytes name.new
         ≡ string_bytes name.old ++ codes "E" ++ octal_digits 1 bank) }
@@ -99,7 +99,7 @@ fn push_erasable_name(name: &mut String, bank: u8) -> Result<(), AllocError>
 }
 
 /// Appends the name of a bank of fixed memory.
-fn push_fixed_name(name: &mut String, bank: u8) -> Result<(), AllocError>
+pub(crate) fn push_fixed_name(name: &mut String, bank: u8) -> Result<(), AllocError>
     requires { bank < 40 }
     ensures { OnOk result (string_bytes name.new ≡ string_bytes name.old ++ octal_digits 2 bank) }
 {

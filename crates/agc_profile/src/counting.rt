@@ -114,7 +114,7 @@ fn take_other(
     mode: &mut Context,
     happening: &Upcoming,
 ) -> Result<(), AllocError>
-    requires told { happening.now ≡ upcoming_of machine.old }
+    requires reported { happening.now ≡ upcoming_of machine.old }
     requires other { is_order happening.now ≡ false }
     ensures after { machine.new ≡ (boundary None machine.old).0 }
     ensures counts { OnOk result
@@ -138,7 +138,7 @@ fn take_order(
     happening: &Upcoming,
     order: &InHand,
 ) -> Result<(), AllocError>
-    requires told { happening.now ≡ upcoming_of machine.old }
+    requires reported { happening.now ≡ upcoming_of machine.old }
     requires order { happening.now ≡ Upcoming.Order order.now }
     requires tally { HasTally (location_at order.now.bank order.now.address) }
     requires sums { AddsUp counts.old }
@@ -172,7 +172,7 @@ fn take_named(
     place: Location,
     named: Opcode,
 ) -> Result<(), AllocError>
-    requires told { happening.now ≡ upcoming_of machine.old }
+    requires reported { happening.now ≡ upcoming_of machine.old }
     requires order { happening.now ≡ Upcoming.Order order.now }
     requires place { place ≡ location_at order.now.bank order.now.address }
     requires named { named ≡ named_of order.now }
@@ -217,7 +217,7 @@ fn take_reading(
     named: Opcode,
     words: DataReads,
 ) -> Result<(), AllocError>
-    requires told { happening.now ≡ upcoming_of machine.old }
+    requires reported { happening.now ≡ upcoming_of machine.old }
     requires runs { RunsAs place named happening.now }
     requires words { words ≡ data_of happening.now machine.old.processor.store }
     requires tally { HasTally place }

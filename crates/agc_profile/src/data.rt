@@ -3,17 +3,16 @@ ghost use Rattle.std.specs.Prelude.{◌≡◌, ◌+◌, ◌%◌};
 ghost use Rattle.agc_word.specs.Number.{pattern_of};
 ghost use Rattle.agc_store.specs.Registers.{z_of};
 ghost use Rattle.agc_order.specs.Row.{extracode_row};
+ghost use Rattle.agc_listing.specs.Location.{location_in};
 ghost use Rattle.agc_profile.specs.DataReads.{
   basic_reads,
   data_read,
-  location_in,
   word_at,
   words_at,
 };
 
-use agc_listing::Location;
+use agc_listing::{Location, location_in};
 use agc_order::{Basic, Extracode, Takes};
-use agc_store::place::{FIXED_FIXED, FIXED_WINDOW, place_of};
 use agc_store::{Addr, Store};
 use agc_word::Narrow;
 
@@ -88,23 +87,6 @@ pub(crate) fn place_in_hand(store: &Store) -> Location
     ensures { result ≡ location_in store.now ((z_of store.now + 0o7777) % 0o10000) }
 {
     location_in(store, store.z().previous())
-}
-
-/// Returns the place that is read through an address.
-#[inline(always)]
-#[tactic(auto, unfolding(crate::specs::DataReads::location_in, agc_store::specs::Cells::named_cell, agc_store::specs::Memory::fixed_place))]
-fn location_in(store: &Store, address: Addr) -> Location
-    ensures { result ≡ location_in store.now address }
-{
-    let number = u32::from(address.bits());
-    match store.named_cell(address) {
-        Some(cell) => Location::Erasable(u32::from(cell)),
-        None => Location::Fixed(if number < u32::from(FIXED_FIXED) {
-            place_of(store.selected_bank(), address.bits() - FIXED_WINDOW)
-        } else {
-            number
-        }),
-    }
 }
 
 /// Returns what a basic order reads: TC takes the address of an order, and TS only stores. The table is repeated here

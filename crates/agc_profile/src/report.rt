@@ -8,14 +8,18 @@ ghost use Rattle.agc_profile.specs.Report.{
   counted_row,
   extracode_line,
   extracode_lines,
+  routines_text,
   rupt_line,
   rupt_lines,
   summary_text,
 };
 
 use crate::banks::{push_erasable_banks, push_fixed_banks};
+use crate::form::ProfileForm;
 use crate::number::{basic_number, extracode_number};
 use crate::profile::Profile;
+use crate::routine::MemoryKind;
+use crate::routine_lines::push_routines;
 use crate::row::{Layout, push_row};
 use crate::tally::Tally;
 use crate::words::push_words;
@@ -24,25 +28,40 @@ use agc_processor::Rupt;
 use agc_store::Store;
 use std::alloc::AllocError;
 
-/// Prints a profile: lines for the run as a whole, for its interrupts, its orders by mnemonic, its banks and its words,
-/// each only if it occurred at all. With `whole`, words of the rope other than +0 have lines even if they never ran and
-/// were never read. Fails if out of memory.
+/// Prints a profile: lines for the run as a whole, for its interrupts, its orders by mnemonic, its banks, its routines if
+/// there are names, and its words, each only if it occurred at all. Fails if out of memory.
 #[tactic(auto, unfolding(crate::specs::Report::count_text))]
 pub fn push_profile(
     text: &mut String,
-    layout: Layout,
-    whole: bool,
+    form: &ProfileForm,
     counts: &Profile,
     store: &Store,
 ) -> Result<(), AllocError>
     ensures { OnOk result (string_bytes text.new ≡ string_bytes text.old
-        ++ count_text layout whole counts.now store.now.fixed) }
+        ++ count_text form.now counts.now store.now.fixed) }
 {
-    push_summary(text, layout, counts)?;
-    push_words(text, layout, whole, counts, store)
+    push_summary(text, form.layout, counts)?;
+    push_all_routines(text, form, counts)?;
+    push_words(text, form, counts, store)
 }
 
-/// Appends the lines before those of the words.
+/// Appends the lines of the routines, if there are names.
+fn push_all_routines(
+    text: &mut String,
+    form: &ProfileForm,
+    counts: &Profile,
+) -> Result<(), AllocError>
+    ensures { OnOk result (string_bytes text.new
+        ≡ string_bytes text.old ++ routines_text form.now.layout form.now.names counts.now) }
+{
+    let Some(names) = &form.names else {
+        return Ok(());
+    };
+    push_routines(text, form.layout, names, counts, MemoryKind::Erasable)?;
+    push_routines(text, form.layout, names, counts, MemoryKind::Fixed)
+}
+
+/// Appends the lines before those of the routines and the words.
 #[tactic(auto, unfolding(crate::specs::Report::summary_text))]
 fn push_summary(text: &mut String, layout: Layout, counts: &Profile) -> Result<(), AllocError>
     ensures { OnOk result (string_bytes text.new

@@ -54,7 +54,7 @@ pub(crate) fn next_passage(
     happening: &Upcoming,
     reads: DataReads,
 ) -> Step
-    requires told { happening.now ≡ upcoming_of machine.old }
+    requires reported { happening.now ≡ upcoming_of machine.old }
     requires reads { reads ≡ data_of happening.now machine.old.processor.store }
     ensures passage { result ≡ passage_of mode machine.old }
     ensures after { machine.new ≡ (boundary None machine.old).0 }

@@ -1,6 +1,6 @@
 //! Prints the lines of the words: how often each ran as an order, how many cycles that took, and how often it was read
 //! as data.
-ghost use Rattle.std.specs.Prelude.{◌≡◌, ◌++◌, ◌+◌, ◌<◌, ◌≤◌, OnOk, string_bytes};
+ghost use Rattle.std.specs.Prelude.{◌≡◌, ◌++◌, ◌+◌, ◌<◌, ◌≤◌, IfOk, OnOk, Some, string_bytes};
 ghost use Rattle.agc_word.specs.Number.{pattern_of};
 ghost use Rattle.agc_store.specs.Places.{erasable_cells, fixed_places, fixed_words};
 ghost use Rattle.agc_store.specs.Memory.{fixed_at};
@@ -12,22 +12,27 @@ ghost use Rattle.agc_profile.specs.Report.{
   empty_line,
   empty_lines,
   is_used,
+  label,
+  label_before,
+  name_of,
   place_row,
   word_lines,
   word_row,
   words_text,
 };
 
+use crate::form::ProfileForm;
 use crate::profile::Profile;
-use crate::row::{Layout, push_row};
+use crate::row::{Layout, push_after_name, push_padded, push_row};
 use crate::tally::Tally;
 use agc_listing::{
-    Cell, Place, leads_on, listed_address, next_is_extracode, push_order, push_place,
+    Cell, Location, Place, leads_on, listed_address, next_is_extracode, push_order, push_place,
 };
 use agc_store::Store;
 use agc_store::place::{ERASABLE_CELLS, FIXED_BANK_SIZE, FIXED_PLACES, FIXED_WINDOW, FIXED_WORDS};
+use agc_symbols::{SymbolTable, push_nearby};
 use agc_word::Narrow;
-use std::alloc::AllocError;
+use std::alloc::{AllocError, Global};
 
 /// The number of places in the four banks that the rope does not have.
 const EMPTY_WORDS: usize = (FIXED_PLACES - FIXED_WORDS) as usize;
@@ -36,32 +41,31 @@ const EMPTY_WORDS: usize = (FIXED_PLACES - FIXED_WORDS) as usize;
 #[tactic(auto, unfolding(crate::specs::Report::words_text))]
 pub(crate) fn push_words(
     text: &mut String,
-    layout: Layout,
-    whole: bool,
+    form: &ProfileForm,
     counts: &Profile,
     store: &Store,
 ) -> Result<(), AllocError>
     ensures { OnOk result (string_bytes text.new ≡ string_bytes text.old
-        ++ words_text layout whole counts.now store.now.fixed) }
+        ++ words_text form.now counts.now store.now.fixed) }
 {
-    push_cells(text, layout, counts, u32::from(ERASABLE_CELLS))?;
-    push_listed(text, layout, whole, counts, store, FIXED_WORDS as usize)?;
-    push_empty(text, layout, counts, FIXED_WORDS as usize, EMPTY_WORDS)
+    push_cells(text, form, counts, u32::from(ERASABLE_CELLS))?;
+    push_listed(text, form, counts, store, FIXED_WORDS as usize)?;
+    push_empty(text, form, counts, FIXED_WORDS as usize, EMPTY_WORDS)
 }
 
 /// Appends the lines of the first `count` cells.
 fn push_cells(
     text: &mut String,
-    layout: Layout,
+    form: &ProfileForm,
     counts: &Profile,
     count: u32,
 ) -> Result<(), AllocError>
     requires { count ≤ erasable_cells }
     ensures { OnOk result (string_bytes text.new
-        ≡ string_bytes text.old ++ cell_lines count layout counts.now) }
+        ≡ string_bytes text.old ++ cell_lines count form.now counts.now) }
 {
     for cell in 0..count {
-        push_cell(text, layout, counts, cell)?;
+        push_cell(text, form, counts, cell)?;
     }
     Ok(())
 }
@@ -69,46 +73,126 @@ fn push_cells(
 #[tactic(auto, unfolding(crate::specs::Report::cell_line))]
 fn push_cell(
     text: &mut String,
-    layout: Layout,
+    form: &ProfileForm,
     counts: &Profile,
     cell: u32,
 ) -> Result<(), AllocError>
     requires { cell < erasable_cells }
     ensures { OnOk result (string_bytes text.new
-        ≡ string_bytes text.old ++ cell_line layout counts.now cell) }
+        ≡ string_bytes text.old ++ cell_line form.now counts.now cell) }
 {
     let number = cell as usize;
     let (tally, reads) = (counts.erasable.at(number), counts.erasable_data.at(number));
-    push_at(text, layout, Cell::new(cell as u16).place(), tally, reads)
+    let place = Cell::new(cell as u16).place();
+    push_at(text, form, Location::Erasable(cell), place, tally, reads)
 }
 
 /// Appends the line of a word by its place alone, if it ran or was read.
 #[tactic(auto, unfolding(crate::specs::Report::place_row))]
 fn push_at(
     text: &mut String,
-    layout: Layout,
+    form: &ProfileForm,
+    at: Location,
     place: Place,
     tally: Tally,
     reads: Tally,
 ) -> Result<(), AllocError>
     requires { IsInPrint place }
-    ensures { OnOk result (string_bytes text.new
-        ≡ string_bytes text.old ++ place_row layout place tally reads) }
+    ensures { OnOk result (string_bytes text.new ≡ string_bytes text.old
+        ++ place_row form.now.layout (label form.now.names at place) tally reads) }
 {
     if !is_used(tally, reads) {
         return Ok(());
     }
     let mut name = String::new(*text.allocator());
-    push_place(&mut name, place)?;
+    push_label_if(&mut name, &form.names, at, place)?;
     push_row(
         text,
-        layout,
+        form.layout,
         "word",
         name.as_str(),
         "",
         tally,
         Some(reads.times),
     )
+}
+
+/// Appends a place, with its name after it if there are names.
+fn push_label_if(
+    text: &mut String,
+    names: &Option<SymbolTable>,
+    at: Location,
+    place: Place,
+) -> Result<(), AllocError>
+    requires { IsInPrint place }
+    ensures { OnOk result (string_bytes text.new
+        ≡ string_bytes text.old ++ label names.now at place) }
+{
+    match names {
+        Some(names) => push_label(text, names, at, place),
+        None => push_place(text, place),
+    }
+}
+
+/// Returns the name of a place: the nearest one, but for a register or a counter only a name of its own.
+fn name_of(alloc: Global, names: &SymbolTable, at: Location) -> Result<String, AllocError>
+    ensures { IfOk result (λ name. string_bytes name ≡ name_of names.now at) }
+{
+    let mut name = String::new(alloc);
+    if let Some(near) = names.operand_at(at) {
+        push_nearby(&mut name, near)?;
+    }
+    Ok(name)
+}
+
+/// Appends a place with its name after it.
+pub(crate) fn push_label(
+    text: &mut String,
+    names: &SymbolTable,
+    at: Location,
+    place: Place,
+) -> Result<(), AllocError>
+    requires { IsInPrint place }
+    ensures { OnOk result (string_bytes text.new
+        ≡ string_bytes text.old ++ label (Some names.now) at place) }
+{
+    let name = name_of(*text.allocator(), names, at)?;
+    push_place(text, place)?;
+    push_after_name(text, name.as_str())
+}
+
+/// Appends the same before an order: in columns the name is padded to twelve characters.
+fn push_label_before(
+    text: &mut String,
+    form: &ProfileForm,
+    at: Location,
+    place: Place,
+) -> Result<(), AllocError>
+    requires { IsInPrint place }
+    ensures { OnOk result (string_bytes text.new ≡ string_bytes text.old
+        ++ label_before form.now.layout form.now.names at place) }
+{
+    match (form.layout, &form.names) {
+        (Layout::Columns, Some(names)) => push_padded_label(text, names, at, place),
+        (Layout::Columns, None) | (Layout::Csv, _) => push_label_if(text, &form.names, at, place),
+    }
+}
+
+/// Appends a place and its name, padded to twelve characters.
+fn push_padded_label(
+    text: &mut String,
+    names: &SymbolTable,
+    at: Location,
+    place: Place,
+) -> Result<(), AllocError>
+    requires { IsInPrint place }
+    ensures { OnOk result (string_bytes text.new ≡ string_bytes text.old
+        ++ label_before Layout.Columns (Some names.now) at place) }
+{
+    let name = name_of(*text.allocator(), names, at)?;
+    push_place(text, place)?;
+    text.push_str(" ")?;
+    push_padded(text, 12, name.as_str())
 }
 
 /// Returns whether a word ran as an order, or was read as data.
@@ -121,22 +205,21 @@ fn is_used(tally: Tally, reads: Tally) -> bool
 /// Appends the lines of the words at the first `count` places of the rope.
 fn push_listed(
     text: &mut String,
-    layout: Layout,
-    whole: bool,
+    form: &ProfileForm,
     counts: &Profile,
     store: &Store,
     count: usize,
 ) -> Result<(), AllocError>
     requires { count ≤ fixed_words }
     ensures { OnOk result (string_bytes text.new
-        ≡ string_bytes text.old ++ word_lines count layout whole counts.now store.now.fixed) }
+        ≡ string_bytes text.old ++ word_lines count form.now counts.now store.now.fixed) }
 {
     let mut leads = false;
     for place in 0..count {
         let word = word_at(store, place);
         let extracode = leads_on(leads, place);
         let (tally, reads) = (counts.fixed.at(place), counts.fixed_data.at(place));
-        push_word(text, layout, whole, place, extracode, word, tally, reads)?;
+        push_word(text, form, place, extracode, word, tally, reads)?;
         leads = next_is_extracode(extracode, word);
     }
     Ok(())
@@ -154,8 +237,7 @@ fn word_at(store: &Store, place: usize) -> Narrow
 #[tactic(auto, unfolding(crate::specs::Report::word_row))]
 fn push_word(
     text: &mut String,
-    layout: Layout,
-    whole: bool,
+    form: &ProfileForm,
     place: usize,
     extracode: bool,
     word: Narrow,
@@ -164,20 +246,21 @@ fn push_word(
 ) -> Result<(), AllocError>
     requires { place < fixed_words }
     ensures { OnOk result (string_bytes text.new
-        ≡ string_bytes text.old ++ word_row layout whole place extracode word tally reads) }
+        ≡ string_bytes text.old ++ word_row form.now place extracode word tally reads) }
 {
-    if !(is_used(tally, reads) || (whole && word.bits() != 0)) {
+    if !(is_used(tally, reads) || (form.is_whole && word.bits() != 0)) {
         return Ok(());
     }
     let alloc = *text.allocator();
     let mut name = String::new(alloc);
-    push_place(&mut name, fixed_place(place))?;
+    let at = Location::Fixed(place as u32);
+    push_label_before(&mut name, form, at, fixed_place(place))?;
     let mut order = format!(in alloc; "{word} ")?;
     push_order(&mut order, extracode, word)?;
     let reads = Some(reads.times);
     push_row(
         text,
-        layout,
+        form.layout,
         "word",
         name.as_str(),
         order.as_str(),
@@ -188,7 +271,7 @@ fn push_word(
 
 /// Returns the place of a word of fixed memory, as listings name it.
 #[tactic(auto, unfolding(agc_listing::specs::List::listed_address))]
-fn fixed_place(place: usize) -> Place
+pub(crate) fn fixed_place(place: usize) -> Place
     requires { place < fixed_places }
     ensures place { result ≡ listed_place place }
     ensures range { IsInPrint result }
@@ -208,17 +291,17 @@ fn fixed_place(place: usize) -> Place
 /// Appends the lines of `count` words from a place on, in banks that the rope does not have.
 fn push_empty(
     text: &mut String,
-    layout: Layout,
+    form: &ProfileForm,
     counts: &Profile,
     first: usize,
     count: usize,
 ) -> Result<(), AllocError>
     requires { first + count ≤ fixed_places }
     ensures { OnOk result (string_bytes text.new
-        ≡ string_bytes text.old ++ empty_lines first count layout counts.now) }
+        ≡ string_bytes text.old ++ empty_lines first count form.now counts.now) }
 {
     for number in 0..count {
-        push_empty_word(text, layout, counts, first + number)?;
+        push_empty_word(text, form, counts, first + number)?;
     }
     Ok(())
 }
@@ -226,14 +309,15 @@ fn push_empty(
 #[tactic(auto, unfolding(crate::specs::Report::empty_line))]
 fn push_empty_word(
     text: &mut String,
-    layout: Layout,
+    form: &ProfileForm,
     counts: &Profile,
     place: usize,
 ) -> Result<(), AllocError>
     requires { place < fixed_places }
     ensures { OnOk result (string_bytes text.new
-        ≡ string_bytes text.old ++ empty_line layout counts.now place) }
+        ≡ string_bytes text.old ++ empty_line form.now counts.now place) }
 {
     let (tally, reads) = (counts.fixed.at(place), counts.fixed_data.at(place));
-    push_at(text, layout, fixed_place(place), tally, reads)
+    let at = Location::Fixed(place as u32);
+    push_at(text, form, at, fixed_place(place), tally, reads)
 }

@@ -4,12 +4,12 @@ use Rattle.std.specs.Io.KnownBytes.{Appends, append_known}
 use Rattle.std.proofs.Common.{refl, ap, sym, subst, ◌∙◌, inl, inr}
 use Rattle.std.proofs.KnownBytes.{Appends-trans}
 use Rattle.std.proofs.lemmas.Bool.{eq-eqb, eqb-true}
-use Rattle.agc_repl.specs.Fault.{fault_text}
+use Rattle.agc_repl.specs.Fault.{fault_text_with}
 use Rattle.agc_repl.specs.declared.command.Command.{Command}
 use Rattle.agc_repl.specs.declared.command.Command.TheVariants as command
 use Rattle.agc_repl.specs.declared.command.Breakpoint.{Breakpoint}
 use Rattle.agc_repl.specs.declared.fault.CommandFault.{CommandFault}
-use Rattle.agc_repl.specs.Command.{IsCommandInRange}
+use Rattle.agc_repl.specs.Command.{IsBreakpointInRange, IsCommandInRange}
 use Rattle.agc_script.specs.Event.{IsWhatInRange, most_events}
 use Rattle.agc_script.specs.declared.event.What.{What}
 use Rattle.agc_session.specs.Session.{injected_now}
@@ -18,22 +18,24 @@ use Rattle.agc_session.specs.declared.fault.InjectFault.TheVariants as fault
 use Rattle.agc_trace.specs.NamedLine.{line_with}
 use Rattle.agc_trace.specs.Trace.{trace_within}
 use Rattle.agc_repl.specs.Answer.{error_line}
-use Rattle.agc_repl.specs.Answered.{Answer, Begins, GoesBack, IsAnswered, IsLeft, IsPartOf, IsPlain, Request, RunsOut, Tells, ahead_text, answer_to, answered, back_answer, cycles_on, done, ended, given_answer, last_line, refusal_text, refused_by, shown_until, shown_stretch}
+use Rattle.agc_repl.specs.Answered.{Answer, Begins, GoesBack, IsAnswered, IsLeft, IsPartOf, IsPlain, Request, RunsOut, Sets, Outputs, ahead_text, answer_to, answered, back_answer, break_answer, breakpoint_set, cycles_on, delete_answer, done, ended, full_text, given_answer, last_line, missing_text, quiet_answer, refusal_text, refused_by, shown_course, shown_until, shown_stretch}
+use Rattle.agc_repl.specs.Course.{all_armed, course_to}
 use Rattle.agc_repl.specs.Queries.{shown_text}
+use Rattle.agc_repl.specs.Settings.{breakpoint_line, has_number, is_full, next_numbered, with_breakpoint, without_number}
 use Rattle.agc_repl.specs.Repl.{after_boundaries, after_due, gone_back, takes_event}
 use Rattle.agc_repl.specs.Stretch.{armed_in, stretch_to}
 use Rattle.agc_repl.specs.declared.armed_breakpoint.ArmedBreakpoint.TheVariants as armed
 use Rattle.agc_repl.specs.declared.conversation.ReplFault.{ReplFault}
 use Rattle.agc_repl.specs.declared.repl.Repl.{Repl}
-use Rattle.agc_repl.proofs.Going.{stays_put}
+use Rattle.agc_repl.proofs.Going.{stays_run}
 use Rattle.agc_repl.proofs.Beginning.{nothing_begun}
 use Rattle.agc_repl.proofs.Telling.{grown}
 use Rattle.agc_symbols.specs.Symbols.{Symbol}
 
 -- an answer with its end
-pub tells_end : (a : Answer) (t : Repl) (begun o : Option (List ℕ)) (old new : List ℕ) → Tells a t begun (append_known o old) → new ≡ old ++ last_line t
-    → Tells (ended a) t begun (append_known o new)
-tells_end a t begun o old new h e =
+pub reports_end : (a : Answer) (t : Repl) (begun o : Option (List ℕ)) (old new : List ℕ) → Outputs a t begun (append_known o old) → new ≡ old ++ last_line t
+    → Outputs (ended a) t begun (append_known o new)
+reports_end a t begun o old new h e =
     let line : Appends (append_known o old) (append_known o new) (last_line a.0) =
     subst (λ (u : Repl). Appends (append_known o old) (append_known o new) (last_line u)) h.0 (grown o old new (last_line t) e) in
     (h.0, Appends-trans begun (append_known o old) (append_known o new) a.1 (last_line a.0) h.1 line)
@@ -42,31 +44,35 @@ pub answered_plain : (names : Option (List Symbol)) (c : Command) (s : Repl) →
 unfolding answered
 answered_plain names (command.Inject what) s h = absurd h
 answered_plain names (command.Back cycle) s h = absurd h
+answered_plain names (command.BackTo what count) s h = absurd h
+answered_plain names (command.Break what) s h = absurd h
+answered_plain names (command.Delete number) s h = absurd h
+answered_plain names (command.Quiet quiet) s h = absurd h
 answered_plain names c s h = refl
 
 pub answered_event : (names : Option (List Symbol)) (what : What) (s : Repl) → answer_to names (Ok (Some (command.Inject what))) s ≡ given_answer what s
 unfolding answer_to answered
 answered_event names what s = refl
 
-pub what_in_range : (request : Request) (said : Option Command) (c : Command) (what : What) → request ≡ Ok said → said ≡ Some c → c ≡ command.Inject what
+pub what_in_range : (request : Request) (parsed : Option Command) (c : Command) (what : What) → request ≡ Ok parsed → parsed ≡ Some c → c ≡ command.Inject what
     → IfOk request (λ read. IfSome read IsCommandInRange) → IsWhatInRange what
 unfolding IsCommandInRange
-what_in_range request said c what e f h k = rw (e, f, h) at k
+what_in_range request parsed c what e f h k = rw (e, f, h) at k
 
-pub answer_of_command : (names : Option (List Symbol)) (request : Request) (said : Option Command) (c : Command) (s : Repl) → request ≡ Ok said → said ≡ Some c → answer_to names request s ≡ answered names c s
+pub answer_of_command : (names : Option (List Symbol)) (request : Request) (parsed : Option Command) (c : Command) (s : Repl) → request ≡ Ok parsed → parsed ≡ Some c → answer_to names request s ≡ answered names c s
 unfolding answer_to
-answer_of_command names request said c s e f = ap (λ (x : Request). answer_to names x s) (e ∙ ap Ok f)
+answer_of_command names request parsed c s e f = ap (λ (x : Request). answer_to names x s) (e ∙ ap Ok f)
 
-pub answer_of_nothing : (names : Option (List Symbol)) (request : Request) (said : Option Command) (s : Repl) → request ≡ Ok said → said ≡ None → answer_to names request s ≡ (s, last_line s)
+pub answer_of_nothing : (names : Option (List Symbol)) (request : Request) (parsed : Option Command) (s : Repl) → request ≡ Ok parsed → parsed ≡ None → answer_to names request s ≡ (s, last_line s)
 unfolding answer_to
-answer_of_nothing names request said s e f = ap (λ (x : Request). answer_to names x s) (e ∙ ap Ok f)
+answer_of_nothing names request parsed s e f = ap (λ (x : Request). answer_to names x s) (e ∙ ap Ok f)
 
-pub answer_of_fault : (names : Option (List Symbol)) (request : Request) (why : CommandFault) (s : Repl) → request ≡ Err why → answer_to names request s ≡ (s, error_line (fault_text why))
+pub answer_of_fault : (names : Option (List Symbol)) (request : Request) (why : CommandFault) (s : Repl) → request ≡ Err why → answer_to names request s ≡ (s, error_line (fault_text_with names why))
 unfolding answer_to
 answer_of_fault names request why s e = ap (λ (x : Request). answer_to names x s) e
 
-pub tells_same : (a b : Answer) (t : Repl) (old new : Option (List ℕ)) → a ≡ b → Tells b t old new → Tells a t old new
-tells_same a b t old new e h = rw e h
+pub reports_same : (a b : Answer) (t : Repl) (old new : Option (List ℕ)) → a ≡ b → Outputs b t old new → Outputs a t old new
+reports_same a b t old new e h = rw e h
 
 -- an event that was injected or rejected
 not_equal : (m n : ℕ) (b : Bool) → (m == n) ≡ b → (m ≡ n → ⊥) → b ≡ false
@@ -86,12 +92,12 @@ abbrev events : Repl → ℕ
 events s = length s.session.script + length s.session.injected
 
 pub given_there : (what : What) (s : Repl) → events s ≢ most_events → takes_event (after_due s.session).now ≡ true
-    → given_answer what s ≡ ended (record { session = injected_now what (after_due s.session); writes = s.writes }, [])
+    → given_answer what s ≡ ended (record s { session = injected_now what (after_due s.session) }, [])
 unfolding given_answer
 given_there what s h e = given_by (events s == most_events) (takes_event (after_due s.session).now) _ _ _ (not_equal (events s) most_events _ refl h) e
 
 pub refused_there : (what : What) (s : Repl) → events s ≢ most_events → takes_event (after_due s.session).now ≡ false
-    → given_answer what s ≡ refused_by fault.Unwanted (record { session = after_due s.session; writes = s.writes })
+    → given_answer what s ≡ refused_by fault.Unwanted (record s { session = after_due s.session })
 unfolding given_answer
 refused_there what s h e = refused_so (events s == most_events) (takes_event (after_due s.session).now) _ _ _ (not_equal (events s) most_events _ refl h) e
 
@@ -105,7 +111,7 @@ pub ran_out : (names : Option (List Symbol)) (request : Request) (s t : Repl) (n
 ran_out names request s t none a b c left e h k =
     record {
       left = left;
-      said = h.0;
+      parsed = h.0;
       rest = h.1;
       begins = sym (ap (λ (xs : List ℕ). xs ++ (answer_to names request s).1) e) ∙ h.3;
       ends = Appends-trans a b c h.0 (codes "error: memory\n") h.2 k;
@@ -113,17 +119,18 @@ ran_out names request s t none a b c left e h k =
 
 -- nothing was done
 pub left_nothing : (request : Request) (s : Repl) → IsLeft request s s
-left_nothing (Ok (Some (command.Go cycles))) s = stays_put s.session
-left_nothing (Ok (Some (command.GoTo cycle))) s = stays_put s.session
-left_nothing (Ok (Some (command.Step boundaries))) s = stays_put s.session
-left_nothing (Ok (Some (command.Until what within))) s = stays_put s.session
+left_nothing (Ok (Some (command.Go cycles))) s = stays_run s
+left_nothing (Ok (Some (command.GoTo cycle))) s = stays_run s
+left_nothing (Ok (Some (command.Step boundaries))) s = stays_run s
+left_nothing (Ok (Some (command.Until what within))) s = stays_run s
+left_nothing (Ok (Some (command.Continue within))) s = stays_run s
 left_nothing (Ok (Some (command.Inject what))) s = inl refl
 left_nothing (Ok (Some c)) s = refl
 left_nothing (Ok None) s = refl
 left_nothing (Err why) s = refl
 
-pub left_by : (request : Request) (said : Option Command) (c : Command) (s t : Repl) → request ≡ Ok said → said ≡ Some c → IsPartOf c s t → IsLeft request s t
-left_by request said c s t e f h = rw (e, f) h
+pub left_by : (request : Request) (parsed : Option Command) (c : Command) (s t : Repl) → request ≡ Ok parsed → parsed ≡ Some c → IsPartOf c s t → IsLeft request s t
+left_by request parsed c s t e f h = rw (e, f) h
 
 pub part_as : (c d : Command) (s t : Repl) → c ≡ d → IsPartOf d s t → IsPartOf c s t
 part_as c d s t e h = rw e h
@@ -153,22 +160,30 @@ done_until names c what within s e = ap (λ (x : Command). done names x s) e
 
 pub done_shown : (names : Option (List Symbol)) (c : Command) (s : Repl) → ((cycles : ℕ) → c ≡ command.Go cycles → ⊥) → ((cycle : ℕ) → c ≡ command.GoTo cycle → ⊥)
     → ((boundaries : ℕ) → c ≡ command.Step boundaries → ⊥) → ((what : Breakpoint) (within : ℕ) → c ≡ command.Until what within → ⊥)
-    → done names c s ≡ (s, shown_text names c s.session s.writes)
+    → ((within : ℕ) → c ≡ command.Continue within → ⊥) → done names c s ≡ (s, shown_text names c s)
 unfolding done
-done_shown names (command.Go cycles) s a b d e = absurd (a cycles refl)
-done_shown names (command.GoTo cycle) s a b d e = absurd (b cycle refl)
-done_shown names (command.Step boundaries) s a b d e = absurd (d boundaries refl)
-done_shown names (command.Until what within) s a b d e = absurd (e what within refl)
-done_shown names c s a b d e = refl
+done_shown names (command.Go cycles) s a b d e f = absurd (a cycles refl)
+done_shown names (command.GoTo cycle) s a b d e f = absurd (b cycle refl)
+done_shown names (command.Step boundaries) s a b d e f = absurd (d boundaries refl)
+done_shown names (command.Until what within) s a b d e f = absurd (e what within refl)
+done_shown names (command.Continue within) s a b d e f = absurd (f within refl)
+done_shown names c s a b d e f = refl
 
 pub changes_nothing : (c : Command) (s : Repl) → IsPlain c → ((cycles : ℕ) → c ≡ command.Go cycles → ⊥) → ((cycle : ℕ) → c ≡ command.GoTo cycle → ⊥)
-    → ((boundaries : ℕ) → c ≡ command.Step boundaries → ⊥) → ((what : Breakpoint) (within : ℕ) → c ≡ command.Until what within → ⊥) → IsPartOf c s s
-changes_nothing (command.Go cycles) s h a b d e = absurd (a cycles refl)
-changes_nothing (command.GoTo cycle) s h a b d e = absurd (b cycle refl)
-changes_nothing (command.Step boundaries) s h a b d e = absurd (d boundaries refl)
-changes_nothing (command.Until what within) s h a b d e = absurd (e what within refl)
-changes_nothing (command.Inject what) s h a b d e = absurd h
-changes_nothing c s h a b d e = refl
+    → ((boundaries : ℕ) → c ≡ command.Step boundaries → ⊥) → ((what : Breakpoint) (within : ℕ) → c ≡ command.Until what within → ⊥)
+    → ((within : ℕ) → c ≡ command.Continue within → ⊥) → IsPartOf c s s
+changes_nothing (command.Go cycles) s h a b d e f = absurd (a cycles refl)
+changes_nothing (command.GoTo cycle) s h a b d e f = absurd (b cycle refl)
+changes_nothing (command.Step boundaries) s h a b d e f = absurd (d boundaries refl)
+changes_nothing (command.Until what within) s h a b d e f = absurd (e what within refl)
+changes_nothing (command.Continue within) s h a b d e f = absurd (f within refl)
+changes_nothing (command.Inject what) s h a b d e f = absurd h
+changes_nothing c s h a b d e f = refl
+
+pub done_continue : (names : Option (List Symbol)) (c : Command) (within : ℕ) (s : Repl) → c ≡ command.Continue within
+    → done names c s ≡ shown_course (course_to (all_armed s) (cycles_on within s) s) s
+unfolding done
+done_continue names c within s e = ap (λ (x : Command). done names x s) e
 
 if_reached : (there : Bool) (x y : Answer) → there ≡ true → (if there then x else y) ≡ x
 if_reached there x y e = rw e refl
@@ -187,19 +202,19 @@ unfolding answer_to answered back_answer
 answered_ahead names cycle s e = if_ahead (nat_le cycle s.session.now.cycle) _ _ e
 
 -- `back` went there, or did nothing
-pub back_told : (names : Option (List Symbol)) (cycle : ℕ) (s t : Repl) (old new : Option (List ℕ)) → nat_le cycle s.session.now.cycle ≡ true → GoesBack cycle s t old new
+pub back_reported : (names : Option (List Symbol)) (cycle : ℕ) (s t : Repl) (old new : Option (List ℕ)) → nat_le cycle s.session.now.cycle ≡ true → GoesBack cycle s t old new
     → IsAnswered names (Ok (Some (command.Back cycle))) s t old new
-back_told names cycle s t old new e (inl h) = inl (tells_same _ _ t old new (answered_back names cycle s e) h)
-back_told names cycle s t old new e (inr h) =
+back_reported names cycle s t old new e (inl h) = inl (reports_same _ _ t old new (answered_back names cycle s e) h)
+back_reported names cycle s t old new e (inr h) =
     inr (ran_out names (Ok (Some (command.Back cycle))) s t [] old old new h.0 refl (nothing_begun _ old) h.1)
 
-pub ahead_told : (names : Option (List Symbol)) (cycle : ℕ) (s t : Repl) (old new : Option (List ℕ)) → nat_le cycle s.session.now.cycle ≡ false
+pub ahead_reported : (names : Option (List Symbol)) (cycle : ℕ) (s t : Repl) (old new : Option (List ℕ)) → nat_le cycle s.session.now.cycle ≡ false
     → (t ≡ s) × Appends old new (error_line ahead_text) → IsAnswered names (Ok (Some (command.Back cycle))) s t old new
-ahead_told names cycle s t old new e h = inl (tells_same _ _ t old new (answered_ahead names cycle s e) h)
+ahead_reported names cycle s t old new e h = inl (reports_same _ _ t old new (answered_ahead names cycle s e) h)
 
 -- a part of an answer that is not yet written
-pub tells_waiting : (a : Answer) (t : Repl) (o : Option (List ℕ)) (old new : List ℕ) → t ≡ a.0 → new ≡ old ++ a.1 → Tells a t (append_known o old) (append_known o new)
-tells_waiting a t o old new e h = (e, grown o old new a.1 h)
+pub reports_waiting : (a : Answer) (t : Repl) (o : Option (List ℕ)) (old new : List ℕ) → t ≡ a.0 → new ≡ old ++ a.1 → Outputs a t (append_known o old) (append_known o new)
+reports_waiting a t o old new e h = (e, grown o old new a.1 h)
 
 -- a rejection, by why the event was not injected
 pub refused_is : (what : What) (s t : Repl) (r : Result (Unit {0}) InjectFault) (why : InjectFault) → r ≡ Err why → (why ≡ fault.Memory → ⊥)
@@ -226,20 +241,20 @@ pub line_is : (old new line other : List ℕ) → new ≡ old ++ line → line �
 line_is old new line other h e = h ∙ ap (λ (x : List ℕ). old ++ x) e
 
 -- the last line of the answer to `back`
-pub end_written : (cycle : ℕ) (s t : Repl) (a b : Option (List ℕ)) → t ≡ gone_back cycle s → Appends a b (last_line t) → Tells (ended (gone_back cycle s, [])) t a b
+pub end_written : (cycle : ℕ) (s t : Repl) (a b : Option (List ℕ)) → t ≡ gone_back cycle s → Appends a b (last_line t) → Outputs (ended (gone_back cycle s, [])) t a b
 end_written cycle s t a b e h = (e, subst (λ (u : Repl). Appends a b (last_line u)) e h)
 
 -- an event that was injected, or rejected
 pub event_given : (names : Option (List Symbol)) (what : What) (s t : Repl) (old new : Option (List ℕ)) → (t ≡ (given_answer what s).0) × (last_line t ≡ (given_answer what s).1)
     → Appends old new (last_line t) → IsAnswered names (Ok (Some (command.Inject what))) s t old new
 event_given names what s t old new h k =
-    inl (tells_same _ _ t old new (answered_event names what s) (h.0, subst (Appends old new) h.1 k))
+    inl (reports_same _ _ t old new (answered_event names what s) (h.0, subst (Appends old new) h.1 k))
 
 pub event_refused : (names : Option (List Symbol)) (what : What) (s t : Repl) (why : InjectFault) (old new : Option (List ℕ))
     → (t ≡ (given_answer what s).0) × (error_line (refusal_text why) ≡ (given_answer what s).1) → Appends old new (error_line (refusal_text why))
     → IsAnswered names (Ok (Some (command.Inject what))) s t old new
 event_refused names what s t why old new h k =
-    inl (tells_same _ _ t old new (answered_event names what s) (h.0, subst (Appends old new) h.1 k))
+    inl (reports_same _ _ t old new (answered_event names what s) (h.0, subst (Appends old new) h.1 k))
 
 pub event_short : (names : Option (List Symbol)) (what : What) (s t : Repl) (old new : Option (List ℕ)) → IsPartOf (command.Inject what) s t
     → Appends old new (codes "error: memory\n") → IsAnswered names (Ok (Some (command.Inject what))) s t old new
@@ -268,11 +283,72 @@ event_not_given names what s t r why (Ok u) old new e f m x line short = event_b
 event_not_given names what s t r why (Err bad) old new e f m x line short = tt
 
 -- a REPL is kept if its answer could be written
-pub when_kept : {P : Type 0} (Q : Repl → Type 0) (told : Result (Unit {0}) ReplFault) (t : Repl) (r : Result Repl ReplFault)
-    → MatchResult told (λ u. r ≡ Ok t) (λ why. r ≡ Err why) → OnOk told P → (P → Q t) → IfOk r Q
+pub when_kept : {P : Type 0} (Q : Repl → Type 0) (reported : Result (Unit {0}) ReplFault) (t : Repl) (r : Result Repl ReplFault)
+    → MatchResult reported (λ u. r ≡ Ok t) (λ why. r ≡ Err why) → OnOk reported P → (P → Q t) → IfOk r Q
 when_kept Q (Ok u) t r e h f = rw e (f h)
 when_kept Q (Err why) t r e h f = rw e tt
 
 pub when_left : {P : Repl → Type 0} (Q : Repl → Type 0) (r : Result Repl ReplFault) → IfOk r P → ((t : Repl) → P t → Q t) → IfOk r Q
 when_left Q (Ok left) h f = f left h
 when_left Q (Err why) h f = tt
+
+-- a breakpoint that was set or not
+answered_full : (names : Option (List Symbol)) (what : Breakpoint) (s : Repl) → is_full s.settings ≡ true
+    → answer_to names (Ok (Some (command.Break what))) s ≡ (s, error_line full_text)
+unfolding answer_to answered break_answer
+answered_full names what s e = if_reached (is_full s.settings) _ _ e
+
+answered_set : (names : Option (List Symbol)) (what : Breakpoint) (s : Repl) → is_full s.settings ≡ false
+    → answer_to names (Ok (Some (command.Break what))) s ≡ breakpoint_set what s
+unfolding answer_to answered break_answer
+answered_set names what s e = if_ahead (is_full s.settings) _ _ e
+
+pub full_reported : (names : Option (List Symbol)) (what : Breakpoint) (s : Repl) (old new : Option (List ℕ)) → is_full s.settings ≡ true
+    → Appends old new (error_line full_text) → IsAnswered names (Ok (Some (command.Break what))) s s old new
+full_reported names what s old new e h = inl (reports_same _ _ s old new (answered_full names what s e) (refl, h))
+
+pub set_reported : (names : Option (List Symbol)) (what : Breakpoint) (s t : Repl) (old new : Option (List ℕ)) → is_full s.settings ≡ false
+    → Sets what s t old new → IsAnswered names (Ok (Some (command.Break what))) s t old new
+set_reported names what s t old new e (inl h) = inl (reports_same _ _ t old new (answered_set names what s e) h)
+set_reported names what s t old new e (inr h) =
+    inr (ran_out names (Ok (Some (command.Break what))) s t [] old old new h.0 refl (nothing_begun _ old) h.1)
+
+-- a breakpoint that was deleted or not
+answered_delete : (names : Option (List Symbol)) (number : ℕ) (s : Repl) → has_number number s.settings ≡ true
+    → answer_to names (Ok (Some (command.Delete number))) s ≡ ended (record s { settings = without_number number s.settings }, [])
+unfolding answer_to answered delete_answer
+answered_delete names number s e = if_reached (has_number number s.settings) _ _ e
+
+answered_missing : (names : Option (List Symbol)) (number : ℕ) (s : Repl) → has_number number s.settings ≡ false
+    → answer_to names (Ok (Some (command.Delete number))) s ≡ (s, error_line missing_text)
+unfolding answer_to answered delete_answer
+answered_missing names number s e = if_ahead (has_number number s.settings) _ _ e
+
+pub deleted_reported : (names : Option (List Symbol)) (number : ℕ) (s t : Repl) (old new : Option (List ℕ)) → has_number number s.settings ≡ true
+    → t ≡ record s { settings = without_number number s.settings } → Appends old new (last_line t) → IsAnswered names (Ok (Some (command.Delete number))) s t old new
+deleted_reported names number s t old new e f h =
+    inl (reports_same _ _ t old new (answered_delete names number s e) (f, subst (λ (u : Repl). Appends old new (last_line u)) f h))
+
+pub missing_reported : (names : Option (List Symbol)) (number : ℕ) (s : Repl) (old new : Option (List ℕ)) → has_number number s.settings ≡ false
+    → Appends old new (error_line missing_text) → IsAnswered names (Ok (Some (command.Delete number))) s s old new
+missing_reported names number s old new e h = inl (reports_same _ _ s old new (answered_missing names number s e) (refl, h))
+
+-- runs that are quiet from now on, or not
+answered_quiet : (names : Option (List Symbol)) (quiet : Bool) (s : Repl)
+    → answer_to names (Ok (Some (command.Quiet quiet))) s ≡ ended (record s { settings = record s.settings { quiet = quiet } }, [])
+unfolding answer_to answered quiet_answer
+answered_quiet names quiet s = refl
+
+pub quiet_reported : (names : Option (List Symbol)) (quiet : Bool) (s t : Repl) (old new : Option (List ℕ))
+    → t ≡ record s { settings = record s.settings { quiet = quiet } } → Appends old new (last_line t) → IsAnswered names (Ok (Some (command.Quiet quiet))) s t old new
+quiet_reported names quiet s t old new f h =
+    inl (reports_same _ _ t old new (answered_quiet names quiet s) (f, subst (λ (u : Repl). Appends old new (last_line u)) f h))
+
+pub set_written : (what : Breakpoint) (s t : Repl) (text shown : List ℕ) (old new : Option (List ℕ)) → t ≡ record s { settings = with_breakpoint what s.settings }
+    → text ≡ breakpoint_line (next_numbered what s.settings) ++ last_line s → shown ≡ text → Appends old new shown → Sets what s t old new
+set_written what s t text shown old new e f h k = inl (e, subst (Appends old new) (h ∙ f) k)
+
+pub breakpoint_in_range : (request : Request) (parsed : Option Command) (c : Command) (what : Breakpoint) → request ≡ Ok parsed → parsed ≡ Some c → c ≡ command.Break what
+    → IfOk request (λ read. IfSome read IsCommandInRange) → IsBreakpointInRange what
+unfolding IsCommandInRange
+breakpoint_in_range request parsed c what e f h k = rw (e, f, h) at k

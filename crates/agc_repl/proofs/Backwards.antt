@@ -17,7 +17,7 @@ use Rattle.agc_repl.specs.Repl.{after_stretch, at_start, gone_back, gone_on, not
 use Rattle.agc_repl.specs.Stretch.{and_on, stretch_to}
 use Rattle.agc_repl.specs.declared.armed_breakpoint.ArmedBreakpoint.TheVariants as armed
 use Rattle.agc_repl.specs.declared.repl.Repl.{Repl}
-use Rattle.agc_repl.proofs.Going.{gone_nowhere, gone_then, same_repl}
+use Rattle.agc_repl.proofs.Going.{gone_at, gone_nowhere, gone_then, same_repl}
 use Rattle.agc_repl.proofs.Ways.{Follows, follows, follows_on, never_comes, nothing_comes, one_on}
 
 -- the panel shows all writes on the way, and they are all counted
@@ -25,21 +25,17 @@ one_more : (count : ℕ) (done : List ChannelWrite) (write : ChannelWrite) → c
 one_more count done write e = omega (arith, e, length_push done write)
 
 gone_is : (last : State) (done writes : List ChannelWrite) (t : Repl) → t.session.panel ≡ panel_of done → t.writes ≡ counted done
-    → gone_on last writes t ≡ record { session = record t.session { now = last; panel = panel_of (done ++ writes) }; writes = counted (done ++ writes) }
+    → gone_on last writes t
+    ≡ record t { session = record t.session { now = last; panel = panel_of (done ++ writes) }; writes = counted (done ++ writes) }
 unfolding gone_on
 gone_is last done [] t p e =
-    same_repl (gone_on last [] t) _ refl refl refl refl refl (p ∙ ap panel_of (sym (append-nil done))) (e ∙ ap counted (sym (append-nil done)))
+    same_repl (gone_on last [] t) _ refl refl refl refl refl (p ∙ ap panel_of (sym (append-nil done))) (e ∙ ap counted (sym (append-nil done))) refl
 gone_is last done (write ∷ writes) t p e =
     gone_is last (done ++ write ∷ []) writes (noted write t)
     (ap (λ (face : Face). face_after face (write ∷ [])) p ∙ face_after-append blank_face done (write ∷ []))
     (one_more t.writes done write e)
-    ∙ ap (λ (all : List ChannelWrite). record { session = record t.session { now = last; panel = panel_of all }; writes = counted all })
+    ∙ ap (λ (all : List ChannelWrite). record t { session = record t.session { now = last; panel = panel_of all }; writes = counted all })
     (append_assoc done (write ∷ []) writes)
-
-gone_at : (last : State) (writes : List ChannelWrite) (t : Repl) → (gone_on last writes t).session.now ≡ last
-unfolding gone_on
-gone_at last [] t = refl
-gone_at last (write ∷ writes) t = gone_at last writes (noted write t)
 
 writes_then : (answer : Stepped) (answers : List Stepped) → writes_in (answer ∷ answers) ≡ writes_in (answer ∷ []) ++ writes_in answers
 unfolding writes_in
@@ -72,14 +68,16 @@ part_of_way (suc n) cycle s t f b =
 
 pub back_near : (cycle : ℕ) (s u : Repl) (t : SessionState) (writes : ℕ) → t.base ≡ s.session.base → t.retained ≡ retained_before cycle s.session
     → t.script ≡ script_before cycle s.session → t.injected ≡ [] → IsOnWay cycle (start_with (script_before cycle s.session) s.session.now) t.now t.panel writes
-    → u ≡ after_stretch (stretch_to armed.Nothing cycle t.now) (record { session = t; writes = writes }) → u ≡ gone_back cycle s
+    → u ≡ after_stretch (stretch_to armed.Nothing cycle t.now) (record { session = t; writes = writes; settings = s.settings })
+    → u ≡ gone_back cycle s
 back_near cycle s u t writes a b c d way e =
-    let start : Repl = at_start (rewound cycle s.session) in
+    let start : Repl = at_start s.settings (rewound cycle s.session) in
     let n = way.on_run.boundaries in
     let first : Follows armed.Nothing cycle start start = follows armed.Nothing cycle start in
     let there = gone_on (chain (replicate n None) start.session.now).last (writes_in (chain (replicate n None) start.session.now).answers) start in
     let near : Follows armed.Nothing cycle start there = part_of_way n cycle start start first way.before in
-    let same : there ≡ record { session = t; writes = writes } =
+    let same : there ≡ record { session = t; writes = writes; settings = s.settings } =
     gone_is (chain (replicate n None) start.session.now).last [] (writes_in (chain (replicate n None) start.session.now).answers) start refl refl
-    ∙ same_repl _ (record { session = t; writes = writes }) (sym a) (sym b) (sym c) (sym d) way.on_run.state (sym way.on_run.shown) (sym way.on_run.count) in
+    ∙ same_repl _ (record { session = t; writes = writes; settings = s.settings }) (sym a) (sym b) (sym c) (sym d) way.on_run.state (sym way.on_run.shown)
+    (sym way.on_run.count) refl in
     e ∙ ap (λ (x : Repl). after_stretch (stretch_to armed.Nothing cycle x.session.now) x) (sym same) ∙ near.left

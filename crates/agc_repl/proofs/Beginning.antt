@@ -34,8 +34,8 @@ begun (Some xs) (Some ys) old now left whole h k =
     )
 
 -- all lines are there, and one more is missing
-pub begun_told : (o n : Option (List ℕ)) (old now whole more : List ℕ) → Appends (append_known o old) (append_known n now) whole → Grows o n → Begins (old ++ (whole ++ more)) o n
-begun_told o n old now whole more h k = begun o n old now more (whole ++ more) (whole, h, refl) k
+pub begun_reported : (o n : Option (List ℕ)) (old now whole more : List ℕ) → Appends (append_known o old) (append_known n now) whole → Grows o n → Begins (old ++ (whole ++ more)) o n
+begun_reported o n old now whole more h k = begun o n old now more (whole ++ more) (whole, h, refl) k
 
 -- a write never runs out of memory
 pub not_memory : {T : Type 0} (r : Result T ReplFault) → IfErr r (λ why. why ≡ fault.Write) → IsErrOf r fault.Memory → ⊥

@@ -59,13 +59,13 @@ due_none m s e = ap (λ (x : ℕ). due_within x s) e
 
 -- one more has happened
 gone_quietly : (s u : Repl) (answer : Stepped) → answer ≡ stepped.Quiet → u ≡ gone_on u.session.now (writes_in (answer ∷ [])) s
-    → u ≡ record { session = record s.session { now = u.session.now }; writes = s.writes }
+    → u ≡ record s { session = record s.session { now = u.session.now } }
 unfolding gone_on writes_in
 gone_quietly s u answer q e = e ∙ ap (λ (a : Stepped). gone_on u.session.now (writes_in (a ∷ [])) s) q
 
 pub due_more : (m n : ℕ) (i s u : Repl) (answer : Stepped) (next : Upcoming) (whole : Repl) → m ≡ suc n → next ≡ upcoming_of s.session.now → is_event next ≡ true
     → (u.session.now, answer) ≡ boundary None s.session.now → u ≡ gone_on u.session.now (writes_in (answer ∷ [])) s
-    → record { session = due_within m s.session; writes = s.writes } ≡ whole → record { session = due_within n u.session; writes = u.writes } ≡ whole
+    → record s { session = due_within m s.session } ≡ whole → record u { session = due_within n u.session } ≡ whole
 due_more m n i s u answer next whole c t h b e w =
     let due : is_event (upcoming_of s.session.now) ≡ true = subst (λ (x : Upcoming). is_event x ≡ true) t h in
     let shown : answer ≡ stepped.Quiet = ap (λ (r : State × Stepped). r.1) b ∙ quiet s.session.now due in
@@ -73,8 +73,9 @@ due_more m n i s u answer next whole c t h b e w =
     let there : u.session ≡ record s.session { now = (boundary None s.session.now).0 } =
     ap (λ (x : Repl). x.session) gone ∙ ap (λ (r : State × Stepped). record s.session { now = r.0 }) b in
     let same : u.writes ≡ s.writes = ap (λ (x : Repl). x.writes) gone in
+    let settings : u.settings ≡ s.settings = ap (λ (x : Repl). x.settings) gone in
     let rest : due_within m s.session ≡ due_within n u.session = due_on m n s.session u.session c due there in
-    rw (same, sym rest) w
+    rw (same, settings, sym rest) w
 
 pub not_event : (u : Upcoming) → ((what : What) → u ≡ upcoming.Event what → ⊥) → is_event u ≡ false
 not_event (upcoming.Event what) h = absurd (h what refl)

@@ -16,7 +16,8 @@ use Rattle.agc_machine.proofs.Chain.{boundary_falls, fewer_after_write, some_lef
 use Rattle.agc_panel.specs.declared.face.Face.{Face}
 use Rattle.agc_script.specs.declared.event.Event.{Event}
 use Rattle.agc_session.specs.Session.{HasGone, SessionState}
-use Rattle.agc_repl.specs.Repl.{Advances, GoesOn, counted, gone_on, noted, turns_unless}
+use Rattle.agc_repl.specs.Repl.{Advances, GoesOn, RunsOn, counted, gone_on, noted, turns_unless}
+use Rattle.agc_repl.specs.Settings.{SettingsState}
 use Rattle.agc_repl.specs.Stretch.{is_short_of}
 use Rattle.agc_repl.specs.declared.repl.Repl.{Repl}
 
@@ -141,32 +142,44 @@ pub goes_by : (s t : SessionState) (stretch : State × Stepped) (answer : Steppe
 goes_by s t stretch answer h k =
     record { boundaries = k.0; now = k.1; base = h.base; retained = h.retained; script = h.script; injected = h.injected }
 
--- a console's state made of these parts
-made : (base retained script injected : List Event) (now : State) (panel : Face) (writes : ℕ) → Repl
-made base retained script injected now panel writes =
-    record { session = record { base = base; retained = retained; script = script; injected = injected; now = now; panel = panel }; writes = writes }
+-- a console that runs on
+pub stays_run : (s : Repl) → RunsOn s s
+stays_run s = record { session = stays_put s.session; settings = refl }
 
-made_same : (base retained script injected base' retained' script' injected' : List Event) (now now' : State) (panel panel' : Face) (writes writes' : ℕ) → base ≡ base'
+pub runs_then : (s t u : Repl) → RunsOn s t → RunsOn t u → RunsOn s u
+runs_then s t u h k = record { session = goes_then s.session t.session u.session h.session k.session; settings = k.settings ∙ h.settings }
+
+-- a console's state made of these parts
+made : (base retained script injected : List Event) (now : State) (panel : Face) (writes : ℕ) (settings : SettingsState) → Repl
+made base retained script injected now panel writes settings =
+    record {
+      session = record { base = base; retained = retained; script = script; injected = injected; now = now; panel = panel };
+      writes = writes;
+      settings = settings;
+    }
+
+made_same : (base retained script injected base' retained' script' injected' : List Event) (now now' : State) (panel panel' : Face) (writes writes' : ℕ) (settings settings' : SettingsState) → base ≡ base'
     → retained ≡ retained' → script ≡ script' → injected ≡ injected' → now ≡ now' → panel ≡ panel' → writes ≡ writes'
-    → made base retained script injected now panel writes ≡ made base' retained' script' injected' now' panel' writes'
-made_same base retained script injected base' retained' script' injected' now now' panel panel' writes writes' a b c d e f g = rw (a, b, c, d, e, f, g) refl
+    → settings ≡ settings' → made base retained script injected now panel writes settings ≡ made base' retained' script' injected' now' panel' writes' settings'
+made_same base retained script injected base' retained' script' injected' now now' panel panel' writes writes' settings settings' a b c d e f g h = rw (a, b, c, d, e, f, g, h) refl
 
 pub same_repl : (s t : Repl) → s.session.base ≡ t.session.base → s.session.retained ≡ t.session.retained → s.session.script ≡ t.session.script
-    → s.session.injected ≡ t.session.injected → s.session.now ≡ t.session.now → s.session.panel ≡ t.session.panel → s.writes ≡ t.writes → s ≡ t
+    → s.session.injected ≡ t.session.injected → s.session.now ≡ t.session.now → s.session.panel ≡ t.session.panel → s.writes ≡ t.writes
+    → s.settings ≡ t.settings → s ≡ t
 unfolding made
-same_repl s t a b c d e f g = made_same _ _ _ _ _ _ _ _ _ _ _ _ _ _ a b c d e f g
+same_repl s t a b c d e f g h = made_same _ _ _ _ _ _ _ _ _ _ _ _ _ _ _ _ a b c d e f g h
 
 -- its writes are counted
 pub shows : (s t : Repl) (stretch : State × Stepped) (answer : Stepped) → HasGone s.session stretch answer t.session → t.writes ≡ counted answer s.writes
-    → t ≡ gone_on t.session.now (writes_in (answer ∷ [])) s
+    → t.settings ≡ s.settings → t ≡ gone_on t.session.now (writes_in (answer ∷ [])) s
 unfolding gone_on writes_in
-shows s t stretch stepped.Quiet h n = same_repl t _ h.base h.retained h.script h.injected refl h.panel n
-shows s t stretch (stepped.Wrote write) h n = same_repl t _ h.base h.retained h.script h.injected refl h.panel n
-shows s t stretch (stepped.Stopped why) h n = same_repl t _ h.base h.retained h.script h.injected refl h.panel n
+shows s t stretch stepped.Quiet h n k = same_repl t _ h.base h.retained h.script h.injected refl h.panel n k
+shows s t stretch (stepped.Wrote write) h n k = same_repl t _ h.base h.retained h.script h.injected refl h.panel n k
+shows s t stretch (stepped.Stopped why) h n k = same_repl t _ h.base h.retained h.script h.injected refl h.panel n k
 
 -- from any state of its machine
 gone_from : (last before : State) (writes : List ChannelWrite) (t : Repl)
-    → gone_on last writes (record { session = record t.session { now = before }; writes = t.writes }) ≡ gone_on last writes t
+    → gone_on last writes (record t { session = record t.session { now = before } }) ≡ gone_on last writes t
 unfolding gone_on
 gone_from last before [] t = refl
 gone_from last before (write ∷ writes) t = gone_from last before writes (noted write t)
@@ -175,6 +188,11 @@ pub gone_then : (last before : State) (writes more : List ChannelWrite) (t : Rep
 unfolding gone_on
 gone_then last before [] more t = gone_from last before more t
 gone_then last before (write ∷ writes) more t = gone_then last before writes more (noted write t)
+
+pub gone_at : (last : State) (writes : List ChannelWrite) (t : Repl) → (gone_on last writes t).session.now ≡ last
+unfolding gone_on
+gone_at last [] t = refl
+gone_at last (write ∷ writes) t = gone_at last writes (noted write t)
 
 pub gone_nowhere : (t : Repl) → gone_on t.session.now [] t ≡ t
 unfolding gone_on

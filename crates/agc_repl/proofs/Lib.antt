@@ -2,9 +2,12 @@ pub mod Ascii
 pub mod Beginning
 pub mod Answering
 pub mod Cells
+pub mod Courses
 pub mod Due
 pub mod Going
 pub mod Input
+pub mod Searching
+pub mod Nearby
 pub mod Sessions
 pub mod Stepping
 pub mod Telling

@@ -18,7 +18,7 @@ use Rattle.agc_trace.specs.NamedLine.{line_with}
 use Rattle.agc_trace.specs.Trace.{is_stop, trace_within}
 use Rattle.agc_trace.specs.declared.entry.Entry.{Entry}
 use Rattle.agc_trace.proofs.Lines.{IsWritten, nothing_written}
-use Rattle.agc_trace.proofs.Steps.{rest_ends, rest_goes_on, told_by}
+use Rattle.agc_trace.proofs.Steps.{rest_ends, rest_goes_on, reported_by}
 use Rattle.agc_repl.specs.Repl.{after_boundaries, after_chain, gone_on}
 use Rattle.agc_repl.specs.declared.repl.Repl.{Repl}
 use Rattle.agc_repl.proofs.Going.{gone_nowhere, gone_then}
@@ -41,21 +41,21 @@ none_taken names n m s known e = rw e (nothing_written known (lines names m s))
 lines_at_stop : (names : Option (List Symbol)) (n : ℕ) (s : State) (entry : Entry) → entry ≡ entry_of s → is_stop entry.happening ≡ true → lines names (suc n) s ≡ line_with names entry
 unfolding trace_within
 lines_at_stop names n s entry e stop =
-    ap (λ (more : List Entry). flat_map (line_with names) (entry_of s ∷ more)) (rest_ends (is_stop (upcoming_of s)) (trace_within n (boundary None s).0) (told_by true s entry e stop))
+    ap (λ (more : List Entry). flat_map (line_with names) (entry_of s ∷ more)) (rest_ends (is_stop (upcoming_of s)) (trace_within n (boundary None s).0) (reported_by true s entry e stop))
     ∙ append-nil (line_with names (entry_of s)) ∙ ap (line_with names) (sym e)
 
 lines_go_on : (names : Option (List Symbol)) (n : ℕ) (s : State) (entry : Entry) → entry ≡ entry_of s → is_stop entry.happening ≡ false
     → lines names (suc n) s ≡ line_with names entry ++ lines names n (boundary None s).0
 unfolding trace_within
 lines_go_on names n s entry e stop =
-    ap (λ (more : List Entry). flat_map (line_with names) (entry_of s ∷ more)) (rest_goes_on (is_stop (upcoming_of s)) (trace_within n (boundary None s).0) (told_by false s entry e stop))
+    ap (λ (more : List Entry). flat_map (line_with names) (entry_of s ∷ more)) (rest_goes_on (is_stop (upcoming_of s)) (trace_within n (boundary None s).0) (reported_by false s entry e stop))
     ∙ ap (λ (x : Entry). line_with names x ++ lines names n (boundary None s).0) (sym e)
 
 -- one more line is printed, and what remains is that of the boundaries after it
-pub one_said : (names : Option (List Symbol)) (m n : ℕ) (s t : State) (entry : Entry) (start now new : Option (List ℕ)) (whole : List ℕ) → m ≡ suc n → entry ≡ entry_of s
+pub one_parsed : (names : Option (List Symbol)) (m n : ℕ) (s t : State) (entry : Entry) (start now new : Option (List ℕ)) (whole : List ℕ) → m ≡ suc n → entry ≡ entry_of s
     → t ≡ (boundary None s).0 → is_stop entry.happening ≡ false → IsWritten start now (lines names m s) whole → Appends now new (line_with names entry)
     → IsWritten start new (lines names n t) whole
-one_said names m n s t entry start now new whole count e f stop h k =
+one_parsed names m n s t entry start now new whole count e f stop h k =
     let line = line_with names entry in
     let next : lines names m s ≡ line ++ lines names n t =
     ap (λ (boundaries : ℕ). lines names boundaries s) count ∙ lines_go_on names n s entry e stop
@@ -63,9 +63,9 @@ one_said names m n s t entry start now new whole count e f stop h k =
     (h.0 ++ line, Appends-trans start now new h.0 line h.1 k, append_assoc h.0 line (lines names n t) ∙ ap (λ (xs : List ℕ). h.0 ++ xs) (sym next) ∙ h.2)
 
 -- the line of the stop is printed
-pub stop_said : (names : Option (List Symbol)) (m n : ℕ) (s : State) (entry : Entry) (start now new : Option (List ℕ)) (whole : List ℕ) → m ≡ suc n → entry ≡ entry_of s
+pub stop_parsed : (names : Option (List Symbol)) (m n : ℕ) (s : State) (entry : Entry) (start now new : Option (List ℕ)) (whole : List ℕ) → m ≡ suc n → entry ≡ entry_of s
     → is_stop entry.happening ≡ true → IsWritten start now (lines names m s) whole → Appends now new (line_with names entry) → Appends start new whole
-stop_said names m n s entry start now new whole count e stop h k =
+stop_parsed names m n s entry start now new whole count e stop h k =
     let last : lines names m s ≡ line_with names entry = ap (λ (boundaries : ℕ). lines names boundaries s) count ∙ lines_at_stop names n s entry e stop in
     subst (Appends start new) (ap (λ (xs : List ℕ). h.0 ++ xs) (sym last) ∙ h.2)
     (Appends-trans start now new h.0 (line_with names entry) h.1 k)
@@ -137,5 +137,5 @@ pub none_after_stop : (n : ℕ) (s t : Repl) (entry : Entry) → entry ≡ entry
     → is_stop entry.happening ≡ true → after_boundaries n t ≡ t
 none_after_stop n s t entry e f stop =
     let stopped : IsSome t.session.now.stopped =
-    subst (λ (x : State). IsSome x.stopped) (sym f) (ends s.session.now (told_by true s.session.now entry e stop)) in
+    subst (λ (x : State). IsSome x.stopped) (sym f) (ends s.session.now (reported_by true s.session.now entry e stop)) in
     stays_by t.session.now.stopped n t refl stopped

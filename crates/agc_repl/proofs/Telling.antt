@@ -1,5 +1,5 @@
 -- The known output grows as an answer is written.
-use Rattle.std.specs.Prelude.{◌≡◌, ℕ, List, [], ◌∷◌, ◌++◌, Option, None, Some, Result, Ok, Err, OnOk, OnErr, IsErrOf}
+use Rattle.std.specs.Prelude.{◌≡◌, ℕ, Bool, List, [], ◌∷◌, ◌++◌, Option, None, Some, Result, Ok, Err, OnOk, OnErr, IsErrOf}
 use Rattle.std.specs.Io.KnownBytes.{Appends, Keeps, append_known}
 use Rattle.std.proofs.Common.{refl, ap, sym, subst, append-nil}
 use Rattle.std.proofs.KnownBytes.{Appends-kept, Appends-nil, Appends-trans, Keeps-refl, append_known-grown}
@@ -7,9 +7,8 @@ use Rattle.agc_word.specs.declared.channel_write.ChannelWrite.{ChannelWrite}
 use Rattle.agc_machine.specs.Replay.{writes_in}
 use Rattle.agc_machine.specs.declared.answer.Stepped.{Stepped}
 use Rattle.agc_machine.specs.declared.answer.Stepped.TheVariants as stepped
-use Rattle.agc_repl.specs.Answer.{write_line}
 use Rattle.agc_repl.specs.Answered.{Grows}
-use Rattle.agc_repl.specs.Stretch.{writes_text}
+use Rattle.agc_repl.specs.Stretch.{run_line, writes_text}
 use Rattle.agc_repl.specs.declared.conversation.ReplFault.{ReplFault}
 use Rattle.agc_repl.specs.declared.conversation.ReplFault.TheVariants as fault
 
@@ -46,23 +45,24 @@ written_now None c text h = tt
 written_now (Some xs) None text h = absurd h
 written_now (Some xs) (Some ys) text h = h
 
-pub all_written : (a b c : Option (List ℕ)) (none text shown said : List ℕ) → none ≡ [] → shown ≡ text
-    → Appends (append_known a none) (append_known b text) said → Appends b c shown → Appends a c said
-all_written a b c none text shown said e f h w =
+pub all_written : (a b c : Option (List ℕ)) (none text shown parsed : List ℕ) → none ≡ [] → shown ≡ text
+    → Appends (append_known a none) (append_known b text) parsed → Appends b c shown → Appends a c parsed
+all_written a b c none text shown parsed e f h w =
     let same : append_known a none ≡ a = rw e (unchanged a) in
     let whole : Keeps (append_known b text) c = written_now b c text (rw f at w) in
-    subst (λ (old : Option (List ℕ)). Appends old c said) same (Appends-kept (append_known a none) (append_known b text) c said h whole)
+    subst (λ (old : Option (List ℕ)). Appends old c parsed) same (Appends-kept (append_known a none) (append_known b text) c parsed h whole)
 
 -- the writes of a boundary, as lines
-pub one_written : (answer : Stepped) (write : ChannelWrite) → answer ≡ stepped.Wrote write → writes_text (writes_in (answer ∷ [])) ≡ write_line write
+pub one_written : (quiet : Bool) (answer : Stepped) (write : ChannelWrite) → answer ≡ stepped.Wrote write
+    → writes_text quiet (writes_in (answer ∷ [])) ≡ run_line quiet write
 unfolding writes_in
-one_written answer write e = rw e (append-nil (write_line write))
+one_written quiet answer write e = rw e (append-nil (run_line quiet write))
 
-pub none_written : (answer : Stepped) → ((write : ChannelWrite) → answer ≡ stepped.Wrote write → ⊥) → writes_text (writes_in (answer ∷ [])) ≡ []
+pub none_written : (quiet : Bool) (answer : Stepped) → ((write : ChannelWrite) → answer ≡ stepped.Wrote write → ⊥) → writes_text quiet (writes_in (answer ∷ [])) ≡ []
 unfolding writes_in
-none_written stepped.Quiet h = refl
-none_written (stepped.Wrote write) h = absurd (h write refl)
-none_written (stepped.Stopped why) h = refl
+none_written quiet stepped.Quiet h = refl
+none_written quiet (stepped.Wrote write) h = absurd (h write refl)
+none_written quiet (stepped.Stopped why) h = refl
 
 pub nothing_more : (a : Option (List ℕ)) (line : List ℕ) → line ≡ [] → Appends a a line
 nothing_more a line e = subst (Appends a a) (sym e) (Appends-nil a)

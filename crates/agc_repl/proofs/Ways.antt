@@ -15,9 +15,8 @@ use Rattle.agc_machine.specs.declared.answer.Stop.{Stop}
 use Rattle.agc_machine.proofs.Chain.{some_left, stopped_stays}
 use Rattle.agc_machine.proofs.Live.{written}
 use Rattle.agc_trace.proofs.Lines.{IsWritten, nothing_written, written_more, written_whole}
-use Rattle.agc_repl.specs.Answer.{write_line}
 use Rattle.agc_repl.specs.Repl.{after_stretch, gone_on, turns_left}
-use Rattle.agc_repl.specs.Stretch.{Stretch, and_on, has_come, is_short_of, no_way, stretch_to, way_within, writes_text}
+use Rattle.agc_repl.specs.Stretch.{Stretch, and_on, has_come, is_short_of, no_way, stretch_to, run_line, way_within, writes_text}
 use Rattle.agc_repl.specs.declared.armed_breakpoint.ArmedBreakpoint.{ArmedBreakpoint}
 use Rattle.agc_repl.specs.declared.armed_breakpoint.ArmedBreakpoint.TheVariants as armed
 use Rattle.agc_repl.specs.declared.repl.Repl.{Repl}
@@ -40,12 +39,12 @@ if_false true x z e = cc
 if_false false x z e = refl
 
 -- a machine that has no turn left has stopped or reached its cycle
-no_turn_left : (cycle : ℕ) (s : State) → turns_left s ≤ 0 → is_short_of cycle s ≡ true → ⊥
+pub no_turn_left : (cycle : ℕ) (s : State) → turns_left s ≤ 0 → is_short_of cycle s ≡ true → ⊥
 no_turn_left cycle s h b =
     let on = under_way cycle s b in
     absurd (omega (arith, h, some_left s, unstopped s.stopped (boundaries_left s) on.1))
 
-fewer_turns : (cycle : ℕ) (s : State) → is_short_of cycle s ≡ true → turns_left (boundary None s).0 < turns_left s
+pub fewer_turns : (cycle : ℕ) (s : State) → is_short_of cycle s ≡ true → turns_left (boundary None s).0 < turns_left s
 fewer_turns cycle s b = advances_by_boundary s (boundary None s).0 (boundary None s).1 refl (under_way cycle s b).1
 
 -- with enough boundaries, more make no difference
@@ -151,15 +150,15 @@ pub record Follows (k : ArmedBreakpoint) (cycle : ℕ) (s t : Repl) : Type 0 whe
   pub hit : (stretch_to k cycle t.session.now).hit ≡ (stretch_to k cycle s.session.now).hit
 
 -- and what remains to print of it
-abbrev pub Says : ArmedBreakpoint → ℕ → Repl → Repl → Option (List ℕ) → Option (List ℕ) → Type 0
-Says k cycle s t old new =
-    IsWritten old new (writes_text (stretch_to k cycle t.session.now).writes) (writes_text (stretch_to k cycle s.session.now).writes)
+abbrev pub Says : Bool → ArmedBreakpoint → ℕ → Repl → Repl → Option (List ℕ) → Option (List ℕ) → Type 0
+Says quiet k cycle s t old new =
+    IsWritten old new (writes_text quiet (stretch_to k cycle t.session.now).writes) (writes_text quiet (stretch_to k cycle s.session.now).writes)
 
 pub follows : (k : ArmedBreakpoint) (cycle : ℕ) (s : Repl) → Follows k cycle s s
 follows k cycle s = record { left = refl; hit = refl }
 
-pub nothing_said : (k : ArmedBreakpoint) (cycle : ℕ) (s : Repl) (known : Option (List ℕ)) → Says k cycle s s known known
-nothing_said k cycle s known = nothing_written known (writes_text (stretch_to k cycle s.session.now).writes)
+pub nothing_parsed : (quiet : Bool) (k : ArmedBreakpoint) (cycle : ℕ) (s : Repl) (known : Option (List ℕ)) → Says quiet k cycle s s known known
+nothing_parsed quiet k cycle s known = nothing_written known (writes_text quiet (stretch_to k cycle s.session.now).writes)
 
 -- the stretch with its first answer
 abbrev pub Onward : ArmedBreakpoint → ℕ → Repl → Repl → Stepped → Type 0
@@ -189,15 +188,15 @@ follows_on k cycle s t u answer f h e =
       hit = ap (λ (w : Stretch). w.hit) (sym stretch) ∙ f.hit;
     }
 
-pub says_on : (k : ArmedBreakpoint) (cycle : ℕ) (s t u : Repl) (answer : Stepped) (old mid new : Option (List ℕ)) → Says k cycle s t old mid → Onward k cycle t u answer
-    → has_come k u.session.now answer ≡ false → Appends mid new (writes_text (written answer)) → Says k cycle s u old new
-says_on k cycle s t u answer old mid new f h e said =
+pub says_on : (quiet : Bool) (k : ArmedBreakpoint) (cycle : ℕ) (s t u : Repl) (answer : Stepped) (old mid new : Option (List ℕ)) → Says quiet k cycle s t old mid → Onward k cycle t u answer
+    → has_come k u.session.now answer ≡ false → Appends mid new (writes_text quiet (written answer)) → Says quiet k cycle s u old new
+says_on quiet k cycle s t u answer old mid new f h e parsed =
     let rest = (stretch_to k cycle u.session.now).writes in
     let stretch = way_then k cycle t u answer h e in
-    let text : writes_text (stretch_to k cycle t.session.now).writes ≡ writes_text (written answer) ++ writes_text rest =
-    ap (λ (w : Stretch). writes_text w.writes) stretch ∙ flat_map-append write_line (written answer) rest in
-    written_more old mid new (writes_text (written answer)) (writes_text rest) _
-    (subst (λ (left : List ℕ). IsWritten old mid left (writes_text (stretch_to k cycle s.session.now).writes)) text f) said
+    let text : writes_text quiet (stretch_to k cycle t.session.now).writes ≡ writes_text quiet (written answer) ++ writes_text quiet rest =
+    ap (λ (w : Stretch). writes_text quiet w.writes) stretch ∙ flat_map-append (run_line quiet) (written answer) rest in
+    written_more old mid new (writes_text quiet (written answer)) (writes_text quiet rest) _
+    (subst (λ (left : List ℕ). IsWritten old mid left (writes_text quiet (stretch_to k cycle s.session.now).writes)) text f) parsed
 
 -- the target was hit
 pub followed_there : (k : ArmedBreakpoint) (cycle : ℕ) (s t u : Repl) (answer : Stepped) → Follows k cycle s t → Onward k cycle t u answer
@@ -209,12 +208,12 @@ pub came_there : (k : ArmedBreakpoint) (cycle : ℕ) (s t u : Repl) (answer : St
     → has_come k u.session.now answer ≡ true → true ≡ (stretch_to k cycle s.session.now).hit
 came_there k cycle s t u answer f h e = ap (λ (w : Stretch). w.hit) (sym (way_there k cycle t u answer h e)) ∙ f.hit
 
-pub said_there : (k : ArmedBreakpoint) (cycle : ℕ) (s t u : Repl) (answer : Stepped) (old mid new : Option (List ℕ)) → Says k cycle s t old mid → Onward k cycle t u answer
-    → has_come k u.session.now answer ≡ true → Appends mid new (writes_text (written answer)) → Appends old new (writes_text (stretch_to k cycle s.session.now).writes)
-said_there k cycle s t u answer old mid new f h e said =
-    let last : writes_text (written answer) ≡ writes_text (stretch_to k cycle t.session.now).writes =
-    ap (λ (w : Stretch). writes_text w.writes) (sym (way_there k cycle t u answer h e)) in
-    subst (Appends old new) (ap (λ (more : List ℕ). f.0 ++ more) last ∙ f.2) (Appends-trans old mid new f.0 (writes_text (written answer)) f.1 said)
+pub parsed_there : (quiet : Bool) (k : ArmedBreakpoint) (cycle : ℕ) (s t u : Repl) (answer : Stepped) (old mid new : Option (List ℕ)) → Says quiet k cycle s t old mid → Onward k cycle t u answer
+    → has_come k u.session.now answer ≡ true → Appends mid new (writes_text quiet (written answer)) → Appends old new (writes_text quiet (stretch_to k cycle s.session.now).writes)
+parsed_there quiet k cycle s t u answer old mid new f h e parsed =
+    let last : writes_text quiet (written answer) ≡ writes_text quiet (stretch_to k cycle t.session.now).writes =
+    ap (λ (w : Stretch). writes_text quiet w.writes) (sym (way_there k cycle t u answer h e)) in
+    subst (Appends old new) (ap (λ (more : List ℕ). f.0 ++ more) last ∙ f.2) (Appends-trans old mid new f.0 (writes_text quiet (written answer)) f.1 parsed)
 
 -- the cycle is reached, or the machine has stopped
 pub followed_up : (k : ArmedBreakpoint) (cycle : ℕ) (s t : Repl) → Follows k cycle s t → is_short_of cycle t.session.now ≡ false
@@ -226,7 +225,7 @@ pub came_not : (k : ArmedBreakpoint) (cycle : ℕ) (s t : Repl) → Follows k cy
     → false ≡ (stretch_to k cycle s.session.now).hit
 came_not k cycle s t f e = ap (λ (w : Stretch). w.hit) (sym (way_ends k cycle t.session.now e)) ∙ f.hit
 
-pub said_all : (k : ArmedBreakpoint) (cycle : ℕ) (s t : Repl) (old new : Option (List ℕ)) → Says k cycle s t old new → is_short_of cycle t.session.now ≡ false
-    → Appends old new (writes_text (stretch_to k cycle s.session.now).writes)
-said_all k cycle s t old new f e =
-    written_whole old new _ _ (ap (λ (w : Stretch). writes_text w.writes) (way_ends k cycle t.session.now e)) f
+pub parsed_all : (quiet : Bool) (k : ArmedBreakpoint) (cycle : ℕ) (s t : Repl) (old new : Option (List ℕ)) → Says quiet k cycle s t old new → is_short_of cycle t.session.now ≡ false
+    → Appends old new (writes_text quiet (stretch_to k cycle s.session.now).writes)
+parsed_all quiet k cycle s t old new f e =
+    written_whole old new _ _ (ap (λ (w : Stretch). writes_text quiet w.writes) (way_ends k cycle t.session.now e)) f

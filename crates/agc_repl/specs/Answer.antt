@@ -10,6 +10,7 @@ use Rattle.agc_listing.specs.Place.{place_text}
 use Rattle.agc_store.specs.Cells.{cell_of}
 use Rattle.agc_store.specs.Memory.{Memory}
 use Rattle.agc_store.specs.Places.{erasable_bank_size}
+use Rattle.agc_trace.specs.OperandLine.{signed_text}
 use Rattle.agc_word.specs.Number.{Number}
 use Rattle.agc_word.specs.Octal.{octal_digits, word_digits}
 
@@ -34,6 +35,13 @@ unfoldable pub cell_line : Memory → ℕ → List ℕ
 cell_line m cell =
     codes "cell " ++ place_text (cell_place cell) ++ codes " "
     ++ word_digits (cell_of m (cell / erasable_bank_size) (cell % erasable_bank_size)) ++ codes "\n"
+
+-- a cell with its word, in octal and as a signed decimal number
+unfoldable pub print_line : Memory → ℕ → List ℕ
+print_line m cell =
+    let word : Number = cell_of m (cell / erasable_bank_size) (cell % erasable_bank_size) in
+    codes "print " ++ place_text (cell_place cell) ++ codes " " ++ word_digits word ++ codes " "
+    ++ signed_text word ++ codes "\n"
 
 -- a channel with its word
 abbrev pub channel_line : ℕ → Number → List ℕ

@@ -1,20 +1,27 @@
 -- The answer to each request: the state that it leads to and the lines it prints.
-use Rattle.std.specs.Prelude.{◌≡◌, ◌⊎◌, ℕ, ◌+◌, ◌-◌, ◌^◌, ◌==◌, nat_le, min, length, List, [], ◌++◌, Option, None, Some, Result, Ok, Err, if◌then◌else◌, codes, flat_map}
+use Rattle.std.specs.Prelude.{◌≡◌, ◌⊎◌, ℕ, ◌+◌, ◌-◌, ◌^◌, ◌==◌, nat_le, min, length, Bool, List, [], ◌++◌, Option, None, Some, Result, Ok, Err, if◌then◌else◌, codes, flat_map}
 use Rattle.std.specs.Io.KnownBytes.{Appends}
-use Rattle.agc_repl.specs.Fault.{fault_text}
+use Rattle.agc_repl.specs.Fault.{fault_text_with}
 use Rattle.agc_repl.specs.declared.command.Command.{Command}
 use Rattle.agc_repl.specs.declared.command.Command.TheVariants as command
 use Rattle.agc_repl.specs.declared.fault.CommandFault.{CommandFault}
+use Rattle.agc_repl.specs.declared.fault.CommandFault.TheVariants as invalid
 use Rattle.agc_script.specs.Event.{most_events}
 use Rattle.agc_script.specs.declared.event.What.{What}
+use Rattle.agc_session.specs.Breakpoint.{IsFoundBack}
 use Rattle.agc_session.specs.Session.{injected_now}
+use Rattle.agc_session.specs.declared.breakpoint.Breakpoint.{Breakpoint as SessionBreakpoint}
+use Rattle.agc_session.specs.declared.breakpoint.Breakpoint.TheVariants as sought
 use Rattle.agc_session.specs.declared.fault.InjectFault.{InjectFault}
 use Rattle.agc_session.specs.declared.fault.InjectFault.TheVariants as fault
 use Rattle.agc_trace.specs.NamedLine.{line_with}
 use Rattle.agc_trace.specs.Trace.{trace_within}
 use Rattle.agc_repl.specs.Answer.{hit_line, end_line, error_line}
+use Rattle.agc_repl.specs.Course.{Course, all_armed, course_to, stop_line}
 use Rattle.agc_repl.specs.Queries.{shown_text}
-use Rattle.agc_repl.specs.Repl.{GoesOn, after_boundaries, after_due, after_stretch, gone_back, takes_event}
+use Rattle.agc_repl.specs.Settings.{breakpoint_line, has_number, is_full, next_numbered, with_breakpoint, without_number}
+use Rattle.agc_repl.specs.declared.command.Breakpoint.{Breakpoint}
+use Rattle.agc_repl.specs.Repl.{RunsOn, after_boundaries, after_due, after_stretch, gone_back, takes_event}
 use Rattle.agc_repl.specs.Stretch.{Stretch, armed_in, stretch_to, writes_text}
 use Rattle.agc_repl.specs.declared.armed_breakpoint.ArmedBreakpoint.TheVariants as armed
 use Rattle.agc_repl.specs.declared.repl.Repl.{Repl}
@@ -38,13 +45,19 @@ cycles_on cycles t = min (t.session.now.cycle + cycles) (2 ^ 64 - 1)
 
 -- a stretch with the lines of its writes; then also whether the breakpoint was hit
 abbrev pub shown_stretch : Stretch → Repl → Answer
-shown_stretch stretch t = (after_stretch stretch t, writes_text stretch.writes)
+shown_stretch stretch t = (after_stretch stretch t, writes_text t.settings.quiet stretch.writes)
 
 abbrev pub shown_until : Stretch → Repl → Answer
-shown_until stretch t = (after_stretch stretch t, writes_text stretch.writes ++ hit_line stretch.hit)
+shown_until stretch t =
+    (after_stretch stretch t, writes_text t.settings.quiet stretch.writes ++ hit_line stretch.hit)
 
--- What a command does, and what it prints before the last line of its answer, unless it injects or goes back: one case
--- each. Commands without a case show something and change nothing.
+-- a run to a numbered breakpoint with the lines of its writes, and which breakpoint was hit
+abbrev pub shown_course : Course → Repl → Answer
+shown_course course t =
+    (course.last, writes_text t.settings.quiet course.writes ++ stop_line course.hit)
+
+-- What a command does, and what it prints before the last line of its answer, unless it injects, goes back or changes
+-- the settings: one case each. Commands without a case show something and change nothing.
 unfoldable pub done : Option (List Symbol) → Command → Repl → Answer
 done names (command.Go cycles) t = shown_stretch (stretch_to armed.Nothing (cycles_on cycles t) t.session.now) t
 done names (command.GoTo cycle) t = shown_stretch (stretch_to armed.Nothing cycle t.session.now) t
@@ -52,7 +65,8 @@ done names (command.Step boundaries) t =
     (after_boundaries boundaries t, flat_map (line_with names) (trace_within boundaries t.session.now))
 done names (command.Until what within) t =
     shown_until (stretch_to (armed_in t.session.now what) (cycles_on within t) t.session.now) t
-done names shown t = (t, shown_text names shown t.session t.writes)
+done names (command.Continue within) t = shown_course (course_to (all_armed t) (cycles_on within t) t) t
+done names shown t = (t, shown_text names shown t)
 
 -- why an event was not injected
 unfoldable pub refusal_text : InjectFault → List ℕ
@@ -71,10 +85,10 @@ ended answer = (answer.0, answer.1 ++ last_line answer.0)
 -- if the machine takes one then.
 unfoldable pub given_answer : What → Repl → Answer
 given_answer what t =
-    let due : Repl = record { session = after_due t.session; writes = t.writes } in
+    let due : Repl = record t { session = after_due t.session } in
     if length t.session.script + length t.session.injected == most_events then refused_by fault.TooMany t
     else if takes_event due.session.now
-    then ended (record { session = injected_now what due.session; writes = due.writes }, [])
+    then ended (record t { session = injected_now what due.session }, [])
     else refused_by fault.Unwanted due
 
 -- why a session does not go back to a cycle
@@ -87,39 +101,89 @@ back_answer cycle t =
     if nat_le cycle t.session.now.cycle then ended (gone_back cycle t, [])
     else (t, error_line ahead_text)
 
--- the answer to a command
+-- why there is no further breakpoint, or none to delete
+abbrev pub full_text : List ℕ
+full_text = codes "TooManyBreakpoints: there are at most 64; delete N makes room"
+
+abbrev pub missing_text : List ℕ
+missing_text = codes "NoBreakpoint: no breakpoint has this number; breaks lists them"
+
+-- A breakpoint is set unless there are too many.
+abbrev pub breakpoint_set : Breakpoint → Repl → Answer
+breakpoint_set what t =
+    ended (
+      record t { settings = with_breakpoint what t.settings },
+      breakpoint_line (next_numbered what t.settings),
+    )
+
+unfoldable pub break_answer : Breakpoint → Repl → Answer
+break_answer what t =
+    if is_full t.settings then (t, error_line full_text) else breakpoint_set what t
+
+-- A breakpoint is deleted if there is one with this number.
+unfoldable pub delete_answer : ℕ → Repl → Answer
+delete_answer number t =
+    if has_number number t.settings
+    then ended (record t { settings = without_number number t.settings }, [])
+    else (t, error_line missing_text)
+
+unfoldable pub quiet_answer : Bool → Repl → Answer
+quiet_answer quiet t = ended (record t { settings = record t.settings { quiet = quiet } }, [])
+
+-- the fault of a search back that finds nothing
+unfoldable pub missed : SessionBreakpoint → CommandFault
+missed sought.Boundary = invalid.TooFarBack
+missed what = invalid.NotHit
+
+-- `back` to the cycle that a search has found
+abbrev pub found_request : SessionBreakpoint → Option ℕ → Request
+found_request what (Some cycle) = Ok (Some (command.Back cycle))
+found_request what None = Err (missed what)
+
+-- What a request means in a state: a search back means `back` to the cycle that it finds, or a line at fault if it
+-- finds none. Every other request means itself.
+abbrev pub Means : Request → Repl → Request → Type 0
+Means (Ok (Some (command.BackTo what count))) t meant =
+    (found : Option ℕ) × IsFoundBack what count t.session found × (meant ≡ found_request what found)
+Means request t meant = meant ≡ request
+
+-- the answer to a command; a search back is answered by what it means
 unfoldable pub answered : Option (List Symbol) → Command → Repl → Answer
 answered names (command.Inject what) t = given_answer what t
 answered names (command.Back cycle) t = back_answer cycle t
+answered names (command.BackTo what count) t = (t, [])
+answered names (command.Break what) t = break_answer what t
+answered names (command.Delete number) t = delete_answer number t
+answered names (command.Quiet quiet) t = quiet_answer quiet t
 answered names other t = ended (done names other t)
 
 -- the answer to a request: just the last line for a line without a command, and an error line for a fault
 unfoldable pub answer_to : Option (List Symbol) → Request → Repl → Answer
 answer_to names (Ok (Some command)) t = answered names command t
 answer_to names (Ok None) t = ended (t, [])
-answer_to names (Err why) t = (t, error_line (fault_text why))
+answer_to names (Err why) t = (t, error_line (fault_text_with names why))
 
 -- an answer was printed: the known output has grown by its lines
-abbrev pub Tells : Answer → Repl → Option (List ℕ) → Option (List ℕ) → Type 0
-Tells answer t old new = (t ≡ answer.0) × Appends old new answer.1
+abbrev pub Outputs : Answer → Repl → Option (List ℕ) → Option (List ℕ) → Type 0
+Outputs answer t old new = (t ≡ answer.0) × Appends old new answer.1
 
 -- the known output has grown
 abbrev pub Grows : Option (List ℕ) → Option (List ℕ) → Type 0
-Grows old new = (said : List ℕ) × Appends old new said
+Grows old new = (parsed : List ℕ) × Appends old new parsed
 
 -- the known output has grown by a beginning of this text
 abbrev pub Begins : List ℕ → Option (List ℕ) → Option (List ℕ) → Type 0
-Begins whole old new = (said : List ℕ) × (rest : List ℕ) × Appends old new said × (whole ≡ said ++ rest)
+Begins whole old new = (parsed : List ℕ) × (rest : List ℕ) × Appends old new parsed × (whole ≡ parsed ++ rest)
 
 -- What a command has done if memory ran out: a run took some boundaries; for an event at most the script's events that
 -- were due have happened, and it was not injected; every other command, `back` too, has changed nothing.
 abbrev pub IsPartOf : Command → Repl → Repl → Type 0
-IsPartOf (command.Go cycles) s t = GoesOn s.session t.session
-IsPartOf (command.GoTo cycle) s t = GoesOn s.session t.session
-IsPartOf (command.Step boundaries) s t = GoesOn s.session t.session
-IsPartOf (command.Until what within) s t = GoesOn s.session t.session
-IsPartOf (command.Inject what) s t =
-    (t ≡ s) ⊎ (t ≡ record { session = after_due s.session; writes = s.writes })
+IsPartOf (command.Go cycles) s t = RunsOn s t
+IsPartOf (command.GoTo cycle) s t = RunsOn s t
+IsPartOf (command.Step boundaries) s t = RunsOn s t
+IsPartOf (command.Until what within) s t = RunsOn s t
+IsPartOf (command.Continue within) s t = RunsOn s t
+IsPartOf (command.Inject what) s t = (t ≡ s) ⊎ (t ≡ record s { session = after_due s.session })
 IsPartOf shown s t = t ≡ s
 
 -- the same for a request: a line that is no command, and one at fault, changes nothing
@@ -131,23 +195,42 @@ IsLeft (Err why) s t = t ≡ s
 -- `back` has gone there, or memory ran out and it did nothing
 abbrev pub GoesBack : ℕ → Repl → Repl → Option (List ℕ) → Option (List ℕ) → Type 0
 GoesBack cycle s t old new =
-    Tells (ended (gone_back cycle s, [])) t old new ⊎ ((t ≡ s) × Appends old new (codes "error: memory\n"))
+    Outputs (ended (gone_back cycle s, [])) t old new ⊎ ((t ≡ s) × Appends old new (codes "error: memory\n"))
+
+-- a breakpoint was set, or memory ran out and it was not
+abbrev pub Sets : Breakpoint → Repl → Repl → Option (List ℕ) → Option (List ℕ) → Type 0
+Sets what s t old new =
+    Outputs (breakpoint_set what s) t old new ⊎ ((t ≡ s) × Appends old new (codes "error: memory\n"))
 
 -- Memory ran out during an answer: a beginning of it was printed, and then that memory ran out.
 pub record RunsOut (names : Option (List Symbol)) (request : Request) (s t : Repl) (old new : Option (List ℕ)) : Type 0 where
   pub left : IsLeft request s t
-  pub said : List ℕ
+  pub parsed : List ℕ
   pub rest : List ℕ
-  pub begins : (answer_to names request s).1 ≡ said ++ rest
-  pub ends : Appends old new (said ++ codes "error: memory\n")
+  pub begins : (answer_to names request s).1 ≡ parsed ++ rest
+  pub ends : Appends old new (parsed ++ codes "error: memory\n")
 
 -- a request is answered, or memory ran out
 abbrev pub IsAnswered : Option (List Symbol) → Request → Repl → Repl → Option (List ℕ) → Option (List ℕ) → Type 0
-IsAnswered names request s t old new = Tells (answer_to names request s) t old new ⊎ RunsOut names request s t old new
+IsAnswered names request s t old new = Outputs (answer_to names request s) t old new ⊎ RunsOut names request s t old new
 
--- commands that neither go back nor inject, which are executed separately
+-- A request was handled: what it means was answered, or memory ran out in a search back, which changes nothing.
+abbrev pub IsHandled : Option (List Symbol) → Request → Repl → Repl → Option (List ℕ) → Option (List ℕ) → Type 0
+IsHandled names request s t old new =
+    ((meant : Request) × Means request s meant × IsAnswered names meant s t old new) ⊎ RunsOut names request s t old new
+
+-- a request that is no search back means itself
+abbrev pub IsItself : Request → Type 0
+IsItself (Ok (Some (command.BackTo what count))) = ⊥
+IsItself request = Unit {0}
+
+-- commands that neither go back, inject nor change the settings, which are executed separately
 abbrev pub IsPlain : Command → Type 0
+IsPlain (command.Break what) = ⊥
+IsPlain (command.Delete number) = ⊥
+IsPlain (command.Quiet quiet) = ⊥
 IsPlain (command.Back cycle) = ⊥
+IsPlain (command.BackTo what count) = ⊥
 IsPlain (command.Inject what) = ⊥
 IsPlain command = Unit {0}
 

@@ -1,6 +1,6 @@
 -- How a line is parsed as a command, with symbols for places if there are any: one definition for each command, on
 -- the words after its name.
-use Rattle.std.specs.Prelude.{◌≡◌, ℕ, ◌+◌, ◌≤◌, ◌<◌, ◌==◌, ◌||◌, nat_lt, is_none, List, [], ◌∷◌, length, codes}
+use Rattle.std.specs.Prelude.{◌≡◌, ℕ, ◌+◌, ◌≤◌, ◌<◌, ◌==◌, ◌||◌, nat_lt, is_none, is_some, Bool, true, false, List, [], ◌∷◌, length, codes, drop, position}
 use Rattle.std.specs.Prelude.{Option, Some, None, Result, Ok, Err, if◌then◌else◌}
 use Rattle.std.specs.List.{list_any}
 use Rattle.std.specs.Str.{bytes_eq}
@@ -17,9 +17,11 @@ use Rattle.agc_script.specs.declared.fault.FaultKind.TheVariants as kind
 use Rattle.agc_script.specs.declared.key.Key.{Key}
 use Rattle.agc_script.specs.declared.key.Key.TheVariants as key
 use Rattle.agc_store.specs.Places.{erasable_cells}
+use Rattle.agc_listing.specs.Line.{is_comma}
 use Rattle.agc_listing.specs.Location.{IsWithin}
 use Rattle.agc_word.specs.Channels.{IsIoChannel, last_io_channel}
 use Rattle.agc_repl.specs.Name.{name_named}
+use Rattle.agc_repl.specs.Number.{interrupt_in, word_in}
 use Rattle.agc_repl.specs.Number.{channel_in, cycles_in, spec_in, written_channel_in}
 use Rattle.agc_repl.specs.Place.{cell_in, cells_after, place_in}
 use Rattle.agc_repl.specs.Words.{alone, and_then, only_word}
@@ -31,6 +33,9 @@ use Rattle.agc_repl.specs.declared.fault.CommandFault.{CommandFault}
 use Rattle.agc_repl.specs.declared.fault.CommandFault.TheVariants as fault
 use Rattle.agc_repl.specs.declared.name.CommandName.{CommandName}
 use Rattle.agc_repl.specs.declared.name.CommandName.TheVariants as name
+use Rattle.agc_session.specs.Breakpoint.{IsBreakpointInRange as IsSoughtInRange}
+use Rattle.agc_session.specs.declared.breakpoint.Breakpoint.{Breakpoint as SessionBreakpoint}
+use Rattle.agc_session.specs.declared.breakpoint.Breakpoint.TheVariants as sought
 
 -- a number of cycles or of boundaries, and no other words
 abbrev pub only_cycles : CommandName → List (List ℕ) → Result ℕ CommandFault
@@ -51,15 +56,13 @@ step_of (first ∷ words) =
     and_then (only_cycles name.Step (first ∷ words)) (λ boundaries. Ok (command.Step boundaries))
 
 -- `within N` at the end, or 1,000,000 cycles
-unfoldable pub within_of : List (List ℕ) → Result ℕ CommandFault
-within_of [] = Ok 1000000
-within_of (first ∷ words) =
-    if bytes_eq first (codes "within")
-    then only_cycles name.Until words
-    else Err (fault.Usage name.Until)
+unfoldable pub within_of : CommandName → List (List ℕ) → Result ℕ CommandFault
+within_of n [] = Ok 1000000
+within_of n (first ∷ words) =
+    if bytes_eq first (codes "within") then only_cycles n words else Err (fault.Usage n)
 
 unfoldable pub until_target : Breakpoint → List (List ℕ) → Result Command CommandFault
-until_target what words = and_then (within_of words) (λ within. Ok (command.Until what within))
+until_target what words = and_then (within_of name.Until words) (λ within. Ok (command.Until what within))
 
 -- `until write CCC`
 abbrev pub until_write : List (List ℕ) → Result Command CommandFault
@@ -81,17 +84,95 @@ until_of names (first ∷ words) =
     else if bytes_eq first (codes "cell") then until_cell names words
     else and_then (place_in names first) (λ place. until_target (target.Order place) words)
 
--- `watch SPEC`
-unfoldable pub watch_of : List (List ℕ) → Result Command CommandFault
-watch_of words =
-    and_then (and_then (only_word name.Watch words) spec_in) (λ spec. Ok (command.Watch spec))
+-- `break write CCC` and `break write CCC WORD`
+unfoldable pub break_write_of : ℕ → List (List ℕ) → Result Command CommandFault
+break_write_of channel [] = Ok (command.Break (target.Write channel))
+break_write_of channel (word ∷ words) =
+    and_then (word_in word)
+    (λ value. alone (command.Break (target.Word channel value)) name.Break words)
+
+abbrev pub break_write : List (List ℕ) → Result Command CommandFault
+break_write [] = Err (fault.Usage name.Break)
+break_write (channel ∷ words) =
+    and_then (written_channel_in channel) (λ number. break_write_of number words)
+
+-- a breakpoint at a cell
+abbrev pub break_at_cell : Option (List Symbol) → List ℕ → Result Command CommandFault
+break_at_cell names word = and_then (cell_in names word) (λ cell. Ok (command.Break (target.Cell cell)))
+
+-- `break cell PLACE`
+abbrev pub break_cell : Option (List Symbol) → List (List ℕ) → Result Command CommandFault
+break_cell names words = and_then (only_word name.Break words) (break_at_cell names)
+
+-- `break interrupt NAME`
+abbrev pub break_interrupt : List (List ℕ) → Result Command CommandFault
+break_interrupt words =
+    and_then (and_then (only_word name.Break words) interrupt_in)
+    (λ rupt. Ok (command.Break (target.Interrupt rupt)))
+
+-- `break PLACE`
+abbrev pub break_place : Option (List Symbol) → List (List ℕ) → Result Command CommandFault
+break_place names words =
+    and_then (and_then (only_word name.Break words) (place_in names))
+    (λ place. Ok (command.Break (target.Order place)))
+
+-- `break PLACE`, or one of the three before
+unfoldable pub break_of : Option (List Symbol) → List (List ℕ) → Result Command CommandFault
+break_of names [] = Err (fault.Usage name.Break)
+break_of names (first ∷ words) =
+    if bytes_eq first (codes "write") then break_write words
+    else if bytes_eq first (codes "cell") then break_cell names words
+    else if bytes_eq first (codes "interrupt") then break_interrupt words
+    else break_place names (first ∷ words)
+
+-- `delete N`
+unfoldable pub delete_of : List (List ℕ) → Result Command CommandFault
+delete_of words = and_then (only_cycles name.Delete words) (λ number. Ok (command.Delete number))
+
+-- `continue` and `continue within N`
+unfoldable pub continue_of : List (List ℕ) → Result Command CommandFault
+continue_of words =
+    and_then (within_of name.Continue words) (λ within. Ok (command.Continue within))
+
+-- `quiet` and `quiet off`
+unfoldable pub quiet_of : List (List ℕ) → Result Command CommandFault
+quiet_of [] = Ok (command.Quiet true)
+quiet_of (first ∷ words) =
+    if bytes_eq first (codes "off")
+    then alone (command.Quiet false) name.Quiet words
+    else Err (fault.Usage name.Quiet)
+
+-- tables have two commas or more, and a place at most one
+abbrev pub has_second_comma : Option ℕ → List ℕ → Bool
+has_second_comma (Some first) word = is_some (position is_comma (drop (first + 1) word))
+has_second_comma None word = false
+
+unfoldable pub is_tables : List ℕ → Bool
+is_tables word = has_second_comma (position is_comma word) word
+
+-- `watch SPEC` and `watch PLACE`
+abbrev pub watch_word : Option (List Symbol) → List ℕ → Result Command CommandFault
+watch_word names word =
+    if is_tables word
+    then and_then (spec_in word) (λ spec. Ok (command.Watch spec))
+    else break_at_cell names word
+
+unfoldable pub watch_of : Option (List Symbol) → List (List ℕ) → Result Command CommandFault
+watch_of names words = and_then (only_word name.Watch words) (watch_word names)
 
 -- `cell PLACE` and `cell PLACE N`
 unfoldable pub cells_of : Option (List Symbol) → List (List ℕ) → Result Command CommandFault
 cells_of names [] = Err (fault.Usage name.Cell)
 cells_of names (place ∷ words) =
     and_then (cell_in names place)
-    (λ first. and_then (cells_after first words) (λ count. Ok (command.Cells first count)))
+    (λ first. and_then (cells_after name.Cell first words) (λ count. Ok (command.Cells first count)))
+
+-- `print PLACE` and `print PLACE N`
+unfoldable pub print_of : Option (List Symbol) → List (List ℕ) → Result Command CommandFault
+print_of names [] = Err (fault.Usage name.Print)
+print_of names (place ∷ words) =
+    and_then (cell_in names place)
+    (λ first. and_then (cells_after name.Print first words) (λ count. Ok (command.Print first count)))
 
 -- `channel CCC`
 unfoldable pub channel_of : List (List ℕ) → Result Command CommandFault
@@ -99,23 +180,88 @@ channel_of words =
     and_then (and_then (only_word name.Channel words) channel_in)
     (λ channel. Ok (command.Channel channel))
 
--- `back C`
-unfoldable pub back_of : List (List ℕ) → Result Command CommandFault
-back_of words = and_then (only_cycles name.Back words) (λ cycle. Ok (command.Back cycle))
+-- a search for the last hit
+abbrev pub last_hit : SessionBreakpoint → Command
+last_hit what = command.BackTo what 1
+
+-- `back step` and `back step N`
+abbrev pub steps_back : ℕ → Result Command CommandFault
+steps_back boundaries =
+    if boundaries == 0 then Err fault.NoStep else Ok (command.BackTo sought.Boundary boundaries)
+
+unfoldable pub back_step : List (List ℕ) → Result Command CommandFault
+back_step [] = Ok (command.BackTo sought.Boundary 1)
+back_step (first ∷ words) = and_then (only_cycles name.Back (first ∷ words)) steps_back
+
+-- `back until write CCC` and `back until write CCC WORD`
+unfoldable pub back_write_of : ℕ → List (List ℕ) → Result Command CommandFault
+back_write_of channel [] = Ok (last_hit (sought.Write (Some channel) None))
+back_write_of channel (word ∷ words) =
+    and_then (word_in word)
+    (λ value. alone (last_hit (sought.Write (Some channel) (Some value))) name.Back words)
+
+abbrev pub back_write : List (List ℕ) → Result Command CommandFault
+back_write [] = Err (fault.Usage name.Back)
+back_write (channel ∷ words) =
+    and_then (written_channel_in channel) (λ number. back_write_of number words)
+
+-- `back until cell PLACE`
+abbrev pub back_cell : Option (List Symbol) → List (List ℕ) → Result Command CommandFault
+back_cell names words =
+    and_then (and_then (only_word name.Back words) (cell_in names))
+    (λ cell. Ok (last_hit (sought.Cell cell)))
+
+-- `back until interrupt` and `back until interrupt NAME`
+unfoldable pub back_interrupt : List (List ℕ) → Result Command CommandFault
+back_interrupt [] = Ok (last_hit (sought.Interrupt None))
+back_interrupt (first ∷ words) =
+    and_then (and_then (only_word name.Back (first ∷ words)) interrupt_in)
+    (λ rupt. Ok (last_hit (sought.Interrupt (Some rupt))))
+
+-- `back until PLACE`
+abbrev pub back_place : Option (List Symbol) → List (List ℕ) → Result Command CommandFault
+back_place names words =
+    and_then (and_then (only_word name.Back words) (place_in names))
+    (λ place. Ok (last_hit (sought.Order place)))
+
+-- `back until PLACE`, `back until panel`, or one of the three before
+unfoldable pub back_until : Option (List Symbol) → List (List ℕ) → Result Command CommandFault
+back_until names [] = Err (fault.Usage name.Back)
+back_until names (first ∷ words) =
+    if bytes_eq first (codes "write") then back_write words
+    else if bytes_eq first (codes "cell") then back_cell names words
+    else if bytes_eq first (codes "interrupt") then back_interrupt words
+    else if bytes_eq first (codes "panel") then alone (last_hit sought.Panel) name.Back words
+    else back_place names (first ∷ words)
+
+-- `back C`, or one of the searches before
+unfoldable pub back_of : Option (List Symbol) → List (List ℕ) → Result Command CommandFault
+back_of names [] = Err (fault.Usage name.Back)
+back_of names (first ∷ words) =
+    if bytes_eq first (codes "step") then back_step words
+    else if bytes_eq first (codes "until") then back_until names words
+    else and_then (only_cycles name.Back (first ∷ words)) (λ cycle. Ok (command.Back cycle))
 
 -- how the words after a name are parsed
 unfoldable pub command_by : Option (List Symbol) → CommandName → List (List ℕ) → Result Command CommandFault
 command_by names name.Go words = go_of words
 command_by names name.Step words = step_of words
 command_by names name.Until words = until_of names words
+command_by names name.Break words = break_of names words
+command_by names name.Breaks words = alone command.Breaks name.Breaks words
+command_by names name.Delete words = delete_of words
+command_by names name.Continue words = continue_of words
+command_by names name.Quiet words = quiet_of words
 command_by names name.Panel words = alone command.Panel name.Panel words
-command_by names name.Watch words = watch_of words
+command_by names name.Watch words = watch_of names words
 command_by names name.Registers words = alone command.Registers name.Registers words
 command_by names name.Next words = alone command.Next name.Next words
+command_by names name.Where words = alone command.Where name.Where words
 command_by names name.Cell words = cells_of names words
+command_by names name.Print words = print_of names words
 command_by names name.Channel words = channel_of words
 command_by names name.Writes words = alone command.Writes name.Writes words
-command_by names name.Back words = back_of words
+command_by names name.Back words = back_of names words
 command_by names name.Script words = alone command.Script name.Script words
 command_by names name.Help words = alone command.Help name.Help words
 command_by names name.Quit words = alone command.Quit name.Quit words
@@ -159,15 +305,15 @@ abbrev pub named_or_event : Option (List Symbol) → Option CommandName → List
 named_or_event names (Some n) first words = command_by names n words
 named_or_event names None first words = event_of first words
 
-abbrev pub asked : Command → Result (Option Command) CommandFault
-asked command = Ok (Some command)
+abbrev pub requested : Command → Result (Option Command) CommandFault
+requested command = Ok (Some command)
 
 -- how words are parsed: no words, and a comment, give no command
 unfoldable pub words_request : Option (List Symbol) → List (List ℕ) → Result (Option Command) CommandFault
 words_request names [] = Ok None
 words_request names (first ∷ words) =
     if begins_comment first then Ok None
-    else and_then (named_or_event names (name_named first) first words) asked
+    else and_then (named_or_event names (name_named first) first words) requested
 
 -- How a line is parsed with these symbols: a command, none, or its fault.
 unfoldable pub request_of : Option (List Symbol) → List ℕ → Result (Option Command) CommandFault
@@ -180,16 +326,22 @@ request_of names line =
 unfoldable pub IsBreakpointInRange : Breakpoint → Type 0
 IsBreakpointInRange (target.Order place) = IsWithin place
 IsBreakpointInRange (target.Write channel) = IsIoChannel channel
+IsBreakpointInRange (target.Word channel word) = IsIoChannel channel
 IsBreakpointInRange (target.Cell cell) = cell < erasable_cells
+IsBreakpointInRange (target.Interrupt rupt) = Unit {0}
 
 unfoldable pub IsCommandInRange : Command → Type 0
 IsCommandInRange (command.Go cycles) = cycles ≤ last_cycle
 IsCommandInRange (command.GoTo cycle) = cycle ≤ last_cycle
 IsCommandInRange (command.Step boundaries) = boundaries ≤ last_cycle
 IsCommandInRange (command.Until what within) = IsBreakpointInRange what × (within ≤ last_cycle)
+IsCommandInRange (command.Break what) = IsBreakpointInRange what
+IsCommandInRange (command.Continue within) = within ≤ last_cycle
 IsCommandInRange (command.Inject what) = IsWhatInRange what
 IsCommandInRange (command.Watch spec) = watch_fault_of spec ≡ None
 IsCommandInRange (command.Cells first count) = first + count ≤ erasable_cells
+IsCommandInRange (command.Print first count) = first + count ≤ erasable_cells
 IsCommandInRange (command.Channel channel) = channel ≤ last_io_channel
 IsCommandInRange (command.Back cycle) = cycle ≤ last_cycle
+IsCommandInRange (command.BackTo what count) = (0 < count) × IsSoughtInRange what
 IsCommandInRange command = Unit {0}

@@ -1,14 +1,16 @@
 -- The answer to an invalid command line: the name of the fault and what would be valid.
-use Rattle.std.specs.Prelude.{ℕ, List, ◌++◌, codes, Option, Some}
+use Rattle.std.specs.Prelude.{ℕ, List, [], ◌++◌, codes, Option, None, Some}
 use Rattle.agc_panel.specs.declared.watch_spec.WatchFault.{WatchFault}
 use Rattle.agc_panel.specs.declared.watch_spec.WatchFault.TheVariants as watch
 use Rattle.agc_script.specs.declared.fault.FaultKind.{FaultKind}
 use Rattle.agc_script.specs.declared.fault.FaultKind.TheVariants as kind
 use Rattle.agc_script.specs.declared.key.Key.{Key}
 use Rattle.agc_script.specs.declared.key.Key.TheVariants as key
+use Rattle.agc_repl.specs.Meant.{meant_by}
 use Rattle.agc_repl.specs.Name.{usage_text}
 use Rattle.agc_repl.specs.declared.fault.CommandFault.{CommandFault}
 use Rattle.agc_repl.specs.declared.fault.CommandFault.TheVariants as fault
+use Rattle.agc_symbols.specs.Symbols.{Symbol}
 
 unfoldable pub fault_name : CommandFault → List ℕ
 fault_name fault.LineTooLong = codes "LineTooLong"
@@ -17,15 +19,21 @@ fault_name fault.UnknownCommand = codes "UnknownCommand"
 fault_name (fault.Usage name) = codes "Usage"
 fault_name fault.BadNumber = codes "BadNumber"
 fault_name fault.BadPlace = codes "BadPlace"
+fault_name (fault.UnknownName meant) = codes "BadPlace"
 fault_name fault.NotErasable = codes "NotErasable"
 fault_name fault.BadChannel = codes "BadChannel"
 fault_name fault.NoWrites = codes "BadChannel"
+fault_name fault.BadWord = codes "BadWord"
+fault_name fault.BadInterrupt = codes "BadInterrupt"
 fault_name fault.BadCount = codes "BadCount"
 fault_name (fault.BadEvent k) = codes "BadEvent"
 fault_name (fault.UnknownKey meant) = codes "BadEvent"
 fault_name fault.ProKey = codes "BadEvent"
 fault_name fault.BadSpec = codes "BadSpec"
 fault_name (fault.Watch why) = codes "BadWatch"
+fault_name fault.NoStep = codes "BadNumber"
+fault_name fault.NotHit = codes "NotHit"
+fault_name fault.TooFarBack = codes "NotHit"
 
 -- what would be a valid event
 unfoldable pub event_advice : FaultKind → List ℕ
@@ -58,13 +66,17 @@ fault_advice fault.NotAscii = codes "a line is ASCII only"
 fault_advice fault.UnknownCommand = codes "help lists the commands"
 fault_advice (fault.Usage name) = usage_text name
 fault_advice fault.BadNumber =
-    codes "cycles and boundaries are 1 to 13 decimal digits, such as 1000000, at most 1000000000000"
+    codes "cycles, boundaries and breakpoints are 1 to 13 decimal digits, such as 1000000, at most 1000000000000"
 fault_advice fault.BadPlace =
     codes "a place is octal, such as 0100, 4100, 12,2000 or E3,1400, or a name of --names"
+fault_advice (fault.UnknownName meant) = codes "unknown name"
 fault_advice fault.NotErasable =
     codes "a cell is in erasable memory: octal, such as 0100 or E3,1400"
 fault_advice fault.BadChannel = codes "a channel is octal, 0 to 777"
 fault_advice fault.NoWrites = codes "only channels 5 to 777 octal show writes"
+fault_advice fault.BadWord = codes "a word is octal, 0 to 77777"
+fault_advice fault.BadInterrupt =
+    codes "interrupts are T6RUPT, T5RUPT, T3RUPT, T4RUPT, KEYRUPT1, KEYRUPT2, UPRUPT, DOWNRUPT, RADARUPT and RUPT10"
 fault_advice fault.BadCount =
     codes "a number of cells is decimal, from 1 up to the last cell, E7,1777"
 fault_advice (fault.BadEvent k) = event_advice k
@@ -73,7 +85,22 @@ fault_advice fault.ProKey = codes "PRO is a switch; use pro down, then pro up"
 fault_advice fault.BadSpec =
     codes "tables are seven octal numbers with commas between: bank, offset and number of core sets, bank and offset of LST1, bank and offset of LST2"
 fault_advice (fault.Watch why) = watch_advice why
+fault_advice fault.NoStep = codes "back step goes back by 1 boundary or more"
+fault_advice fault.NotHit = codes "no boundary before now hits it"
+fault_advice fault.TooFarBack = codes "there are fewer boundaries before now"
 
 -- the text of a fault
 unfoldable pub fault_text : CommandFault → List ℕ
 fault_text f = fault_name f ++ codes ": " ++ fault_advice f
+
+-- the name that was probably meant, and the text of a fault with it
+abbrev pub name_meant : Option (List Symbol) → CommandFault → Option (List ℕ)
+name_meant (Some names) (fault.UnknownName m) = Some (meant_by names m)
+name_meant names f = None
+
+abbrev pub question : Option (List ℕ) → List ℕ
+question (Some name) = codes "; did you mean " ++ name ++ codes "?"
+question None = []
+
+unfoldable pub fault_text_with : Option (List Symbol) → CommandFault → List ℕ
+fault_text_with names f = fault_text f ++ question (name_meant names f)

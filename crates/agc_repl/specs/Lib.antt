@@ -1,13 +1,17 @@
 pub mod Name
 pub mod Fault
 pub mod Words
+pub mod Meant
 pub mod Number
 pub mod Place
 pub mod Command
 pub mod Help
 pub mod Answer
+pub mod Settings
 pub mod Repl
 pub mod Stretch
+pub mod Course
+pub mod Whereabouts
 pub mod Queries
 pub mod Answered
 pub mod Transcript

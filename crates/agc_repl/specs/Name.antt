@@ -9,11 +9,18 @@ unfoldable pub name_text : CommandName → List ℕ
 name_text name.Go = codes "go"
 name_text name.Step = codes "step"
 name_text name.Until = codes "until"
+name_text name.Break = codes "break"
+name_text name.Breaks = codes "breaks"
+name_text name.Delete = codes "delete"
+name_text name.Continue = codes "continue"
+name_text name.Quiet = codes "quiet"
 name_text name.Panel = codes "panel"
 name_text name.Watch = codes "watch"
 name_text name.Registers = codes "registers"
 name_text name.Next = codes "next"
+name_text name.Where = codes "where"
 name_text name.Cell = codes "cell"
+name_text name.Print = codes "print"
 name_text name.Channel = codes "channel"
 name_text name.Writes = codes "writes"
 name_text name.Back = codes "back"
@@ -24,8 +31,9 @@ name_text name.Quit = codes "quit"
 -- every name, once
 unfoldable pub all_names : List CommandName
 all_names =
-    name.Go ∷ name.Step ∷ name.Until ∷ name.Panel ∷ name.Watch ∷ name.Registers ∷ name.Next
-    ∷ name.Cell ∷ name.Channel ∷ name.Writes ∷ name.Back ∷ name.Script ∷ name.Help ∷ name.Quit ∷ []
+    name.Go ∷ name.Step ∷ name.Until ∷ name.Break ∷ name.Breaks ∷ name.Delete ∷ name.Continue
+    ∷ name.Quiet ∷ name.Panel ∷ name.Watch ∷ name.Registers ∷ name.Next ∷ name.Where
+    ∷ name.Cell ∷ name.Print ∷ name.Channel ∷ name.Writes ∷ name.Back ∷ name.Script ∷ name.Help ∷ name.Quit ∷ []
 
 -- the name that a word spells, if any
 unfoldable pub name_named : List ℕ → Option CommandName
@@ -37,14 +45,23 @@ usage_text name.Go = codes "go N, or go to C"
 usage_text name.Step = codes "step, or step N"
 usage_text name.Until =
     codes "until PLACE, write CCC or cell PLACE [within N]"
+usage_text name.Break =
+    codes "break PLACE, write CCC [WORD], cell PLACE or interrupt NAME"
+usage_text name.Breaks = codes "breaks"
+usage_text name.Delete = codes "delete N"
+usage_text name.Continue = codes "continue [within N]"
+usage_text name.Quiet = codes "quiet, or quiet off"
 usage_text name.Panel = codes "panel"
-usage_text name.Watch = codes "watch SPEC"
+usage_text name.Watch = codes "watch PLACE, or watch SPEC"
 usage_text name.Registers = codes "registers"
 usage_text name.Next = codes "next"
+usage_text name.Where = codes "where"
 usage_text name.Cell = codes "cell PLACE, or cell PLACE N"
+usage_text name.Print = codes "print PLACE, or print PLACE N"
 usage_text name.Channel = codes "channel CCC"
 usage_text name.Writes = codes "writes"
-usage_text name.Back = codes "back C"
+usage_text name.Back =
+    codes "back C, back step [N], or back until PLACE, write CCC [WORD], cell PLACE, interrupt [NAME] or panel"
 usage_text name.Script = codes "script"
 usage_text name.Help = codes "help"
 usage_text name.Quit = codes "quit"

@@ -1,11 +1,16 @@
 -- The numbers in commands: cycles, boundaries, channels and tables.
-use Rattle.std.specs.Prelude.{ℕ, nat_le, List, Option, Some, None, Result, Ok, Err, if◌then◌else◌}
+use Rattle.std.specs.Prelude.{ℕ, nat_le, find, List, Option, Some, None, Result, Ok, Err, if◌then◌else◌}
 use Rattle.std.specs.Option.{ok_or}
+use Rattle.std.specs.Str.{bytes_eq}
+use Rattle.agc_listing.specs.Number.{octal_word}
 use Rattle.agc_panel.specs.WatchSpec.{spec_of, watch_fault_of}
 use Rattle.agc_panel.specs.declared.watch_spec.WatchFault.{WatchFault}
 use Rattle.agc_panel.specs.declared.watch_spec.WatchSpec.{WatchSpec}
+use Rattle.agc_processor.specs.Interrupt.{rupt_name, rupts}
+use Rattle.agc_processor.specs.declared.interrupt.Rupt.{Rupt}
 use Rattle.agc_script.specs.Line.{cycle_of}
 use Rattle.agc_word.specs.Channels.{is_io_channel, last_io_channel}
+use Rattle.agc_word.specs.Number.{Number}
 use Rattle.agc_word.specs.Numeral.{octal_number}
 use Rattle.agc_repl.specs.declared.fault.CommandFault.{CommandFault}
 use Rattle.agc_repl.specs.declared.fault.CommandFault.TheVariants as fault
@@ -32,6 +37,17 @@ written_channel_at None = Err fault.NoWrites
 unfoldable pub written_channel_in : List ℕ → Result ℕ CommandFault
 written_channel_in word = written_channel_at (octal_number 6 word)
 
+-- a word has one to five octal digits
+unfoldable pub word_in : List ℕ → Result Number CommandFault
+word_in word = ok_or (octal_word word) fault.BadWord
+
+-- the interrupt with this name, as traces print it
+unfoldable pub interrupt_named : List ℕ → Option Rupt
+interrupt_named word = find (λ rupt. bytes_eq (rupt_name rupt) word) rupts
+
+unfoldable pub interrupt_in : List ℕ → Result Rupt CommandFault
+interrupt_in word = ok_or (interrupt_named word) fault.BadInterrupt
+
 -- tables that can be watched
 abbrev pub spec_unless : Option WatchFault → WatchSpec → Result WatchSpec CommandFault
 spec_unless (Some why) spec = Err (fault.Watch why)
@@ -40,9 +56,9 @@ spec_unless None spec = Ok spec
 unfoldable pub sound_spec : WatchSpec → Result WatchSpec CommandFault
 sound_spec spec = spec_unless (watch_fault_of spec) spec
 
-abbrev pub spec_where_said : Option WatchSpec → Result WatchSpec CommandFault
-spec_where_said (Some spec) = sound_spec spec
-spec_where_said None = Err fault.BadSpec
+abbrev pub spec_where_parsed : Option WatchSpec → Result WatchSpec CommandFault
+spec_where_parsed (Some spec) = sound_spec spec
+spec_where_parsed None = Err fault.BadSpec
 
 unfoldable pub spec_in : List ℕ → Result WatchSpec CommandFault
-spec_in word = spec_where_said (spec_of word)
+spec_in word = spec_where_parsed (spec_of word)

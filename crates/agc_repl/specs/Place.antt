@@ -8,14 +8,15 @@ use Rattle.agc_symbols.specs.Symbols.{Symbol}
 use Rattle.agc_listing.specs.declared.location.Location.{Location}
 use Rattle.agc_listing.specs.declared.location.Location.TheVariants as location
 use Rattle.agc_word.specs.Numeral.{decimal_number}
+use Rattle.agc_repl.specs.Meant.{place_fault}
 use Rattle.agc_repl.specs.Words.{and_then, only_word}
 use Rattle.agc_repl.specs.declared.fault.CommandFault.{CommandFault}
 use Rattle.agc_repl.specs.declared.fault.CommandFault.TheVariants as fault
-use Rattle.agc_repl.specs.declared.name.CommandName.TheVariants as name
+use Rattle.agc_repl.specs.declared.name.CommandName.{CommandName}
 
 -- a place in the notation of sources, `En,oooo`, `bb,oooo` or an address alone, or a symbol if there are any
 unfoldable pub place_in : Option (List Symbol) → List ℕ → Result Location CommandFault
-place_in names word = ok_or (resolve names word) fault.BadPlace
+place_in names word = ok_or (resolve names word) (place_fault names word)
 
 -- a place that is a cell
 abbrev pub as_cell : Location → Result ℕ CommandFault
@@ -35,7 +36,6 @@ unfoldable pub count_in : ℕ → List ℕ → Result ℕ CommandFault
 count_in first word = count_from first (decimal_number 6 word)
 
 -- how many cells are requested: one, if no number is written
-unfoldable pub cells_after : ℕ → List (List ℕ) → Result ℕ CommandFault
-cells_after first [] = Ok 1
-cells_after first (word ∷ words) =
-    and_then (only_word name.Cell (word ∷ words)) (count_in first)
+unfoldable pub cells_after : CommandName → ℕ → List (List ℕ) → Result ℕ CommandFault
+cells_after n first [] = Ok 1
+cells_after n first (word ∷ words) = and_then (only_word n (word ∷ words)) (count_in first)

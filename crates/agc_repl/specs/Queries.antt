@@ -6,27 +6,33 @@ use Rattle.agc_panel.specs.Text.{panel_text}
 use Rattle.agc_panel.specs.Watcher.{watch_text}
 use Rattle.agc_processor.specs.Channel.{channel_word}
 use Rattle.agc_script.specs.Written.{script_text}
-use Rattle.agc_session.specs.Session.{SessionState, script_of}
+use Rattle.agc_session.specs.Session.{script_of}
 use Rattle.agc_word.specs.Arithmetic.{narrow_of}
-use Rattle.agc_repl.specs.Answer.{cell_line, channel_line, writes_line}
+use Rattle.agc_repl.specs.Answer.{cell_line, channel_line, print_line, writes_line}
 use Rattle.agc_trace.specs.StateLines.{next_line_with, registers_line}
 use Rattle.agc_repl.specs.Help.{help_text}
 use Rattle.agc_repl.specs.declared.command.Command.{Command}
 use Rattle.agc_repl.specs.declared.command.Command.TheVariants as command
+use Rattle.agc_repl.specs.Settings.{breakpoint_line}
+use Rattle.agc_repl.specs.Whereabouts.{where_text}
+use Rattle.agc_repl.specs.declared.repl.Repl.{Repl}
 use Rattle.agc_symbols.specs.Symbols.{Symbol}
 
--- the lines of a command, by the session and the number of channel writes so far; commands that do something show
--- nothing of themselves
-unfoldable pub shown_text : Option (List Symbol) → Command → SessionState → ℕ → List ℕ
-shown_text names command.Panel s writes = panel_text s.panel
-shown_text names (command.Watch spec) s writes = watch_text s.now.processor.store spec
-shown_text names command.Registers s writes = registers_line s.now.processor.store
-shown_text names command.Next s writes = next_line_with names (upcoming_of s.now)
-shown_text names (command.Cells first count) s writes =
-    flat_map (cell_line s.now.processor.store) (range_with_len first count)
-shown_text names (command.Channel channel) s writes =
-    channel_line channel (narrow_of (channel_word s.now.cycle channel s.now.processor))
-shown_text names command.Writes s writes = writes_line writes
-shown_text names command.Script s writes = script_text (script_of s)
-shown_text names command.Help s writes = help_text
-shown_text names command s writes = []
+-- the lines of a command; commands that do something show nothing of themselves
+unfoldable pub shown_text : Option (List Symbol) → Command → Repl → List ℕ
+shown_text names command.Breaks t = flat_map breakpoint_line t.settings.breakpoints
+shown_text names command.Panel t = panel_text t.session.panel
+shown_text names (command.Watch spec) t = watch_text t.session.now.processor.store spec
+shown_text names command.Registers t = registers_line t.session.now.processor.store
+shown_text names command.Next t = next_line_with names (upcoming_of t.session.now)
+shown_text names command.Where t = where_text names t.session.now
+shown_text names (command.Cells first count) t =
+    flat_map (cell_line t.session.now.processor.store) (range_with_len first count)
+shown_text names (command.Print first count) t =
+    flat_map (print_line t.session.now.processor.store) (range_with_len first count)
+shown_text names (command.Channel channel) t =
+    channel_line channel (narrow_of (channel_word t.session.now.cycle channel t.session.now.processor))
+shown_text names command.Writes t = writes_line t.writes
+shown_text names command.Script t = script_text (script_of t.session)
+shown_text names command.Help t = help_text
+shown_text names command t = []

@@ -13,13 +13,14 @@ use Rattle.agc_machine.specs.declared.upcoming.Upcoming.TheVariants as upcoming
 use Rattle.agc_panel.specs.Face.{face_after, panel_of}
 use Rattle.agc_script.specs.Event.{most_events}
 use Rattle.agc_session.specs.Session.{SessionState, retained_before, start_with, script_before}
+use Rattle.agc_repl.specs.Settings.{SettingsState}
 use Rattle.agc_repl.specs.Stretch.{Stretch, stretch_to}
 use Rattle.agc_repl.specs.declared.armed_breakpoint.ArmedBreakpoint.TheVariants as armed
 use Rattle.agc_repl.specs.declared.repl.Repl.{Repl}
 
--- a session to which no command was given yet
-abbrev pub at_start : SessionState → Repl
-at_start s = record { session = s; writes = 0 }
+-- a session at the start of time, with these settings
+abbrev pub at_start : SettingsState → SessionState → Repl
+at_start settings s = record { session = s; writes = 0; settings = settings }
 
 -- writes are counted in a number of 64 bits
 abbrev pub counted : Stepped → ℕ → ℕ
@@ -33,11 +34,12 @@ noted write t =
     record {
       session = record t.session { panel = face_after t.session.panel (write ∷ []) };
       writes = min (t.writes + 1) (2 ^ 64 - 1);
+      settings = t.settings;
     }
 
 -- the machine has reached a state and made some writes on the way
 unfoldable pub gone_on : State → List ChannelWrite → Repl → Repl
-gone_on last [] t = record { session = record t.session { now = last }; writes = t.writes }
+gone_on last [] t = record t { session = record t.session { now = last } }
 gone_on last (write ∷ writes) t = gone_on last writes (noted write t)
 
 abbrev pub after_stretch : Stretch → Repl → Repl
@@ -85,10 +87,10 @@ rewound cycle s =
       panel = panel_of [];
     }
 
--- and then run to the cycle
+-- and then run to the cycle; the settings stay
 abbrev pub gone_back : ℕ → Repl → Repl
 gone_back cycle t =
-    let s = rewound cycle t.session in after_stretch (stretch_to armed.Nothing cycle s.now) (at_start s)
+    let s = rewound cycle t.session in after_stretch (stretch_to armed.Nothing cycle s.now) (at_start t.settings s)
 
 -- Some boundaries were taken with nothing injected.
 pub record GoesOn (s t : SessionState) : Type 0 where
@@ -98,6 +100,11 @@ pub record GoesOn (s t : SessionState) : Type 0 where
   pub retained : t.retained ≡ s.retained
   pub script : t.script ≡ s.script
   pub injected : t.injected ≡ s.injected
+
+-- A console's session runs on, and its settings are the same.
+pub record RunsOn (s t : Repl) : Type 0 where
+  pub session : GoesOn s.session t.session
+  pub settings : t.settings ≡ s.settings
 
 -- A machine takes at most this many boundaries before it stops.
 abbrev pub turns_unless : Option Stop → ℕ → ℕ

@@ -9,6 +9,8 @@ use Rattle.agc_machine.specs.declared.answer.Stepped.{Stepped}
 use Rattle.agc_machine.specs.declared.answer.Stepped.TheVariants as stepped
 use Rattle.agc_machine.specs.declared.upcoming.Upcoming.{Upcoming}
 use Rattle.agc_machine.specs.declared.upcoming.Upcoming.TheVariants as upcoming
+use Rattle.agc_processor.specs.Interrupt.{rupt_number}
+use Rattle.agc_processor.specs.declared.interrupt.Rupt.{Rupt}
 use Rattle.agc_repl.specs.declared.command.Breakpoint.{Breakpoint}
 use Rattle.agc_repl.specs.declared.command.Breakpoint.TheVariants as target
 use Rattle.agc_listing.specs.Location.{location_at}
@@ -43,6 +45,21 @@ is_write_to channel (stepped.Wrote write) = nat_eq write.channel channel
 is_write_to channel stepped.Quiet = false
 is_write_to channel (stepped.Stopped why) = false
 
+-- a boundary returned a write of this word to a channel
+abbrev pub is_write_of : ℕ → Number → Stepped → Bool
+is_write_of channel word (stepped.Wrote write) =
+    nat_eq write.channel channel && nat_eq (pattern_of 15 write.value) (pattern_of 15 word)
+is_write_of channel word stepped.Quiet = false
+is_write_of channel word (stepped.Stopped why) = false
+
+-- an interrupt comes next
+abbrev pub is_interrupt : Rupt → Upcoming → Bool
+is_interrupt rupt (upcoming.Interrupt r) = nat_eq (rupt_number r) (rupt_number rupt)
+is_interrupt rupt (upcoming.Order order) = false
+is_interrupt rupt (upcoming.Stop why) = false
+is_interrupt rupt (upcoming.Event what) = false
+is_interrupt rupt (upcoming.Timer t) = false
+
 -- the word of a cell by its number, overflow corrected
 abbrev pub word_at : ℕ → Memory → Number
 word_at cell m = cell_of m (cell / erasable_bank_size) (cell % erasable_bank_size)
@@ -55,6 +72,8 @@ is_other_word cell before s = not (nat_eq (pattern_of 15 (word_at cell s.process
 unfoldable pub has_come : ArmedBreakpoint → State → Stepped → Bool
 has_come armed.Nothing s answer = false
 has_come (armed.Write channel) s answer = is_write_to channel answer
+has_come (armed.Word channel word) s answer = is_write_of channel word answer
+has_come (armed.Interrupt rupt) s answer = is_interrupt rupt (upcoming_of s)
 has_come (armed.Order place) s answer = is_order_at place (upcoming_of s)
 has_come (armed.Cell cell before) s answer = is_other_word cell before s
 
@@ -63,12 +82,16 @@ abbrev pub IsArmedInRange : ArmedBreakpoint → Type 0
 IsArmedInRange (armed.Cell cell before) = cell < erasable_cells
 IsArmedInRange armed.Nothing = Unit {0}
 IsArmedInRange (armed.Write channel) = Unit {0}
+IsArmedInRange (armed.Word channel word) = Unit {0}
+IsArmedInRange (armed.Interrupt rupt) = Unit {0}
 IsArmedInRange (armed.Order place) = Unit {0}
 
 -- the target of a breakpoint that is set in this state
 abbrev pub armed_in : State → Breakpoint → ArmedBreakpoint
 armed_in s (target.Order place) = armed.Order place
 armed_in s (target.Write channel) = armed.Write channel
+armed_in s (target.Word channel word) = armed.Word channel word
+armed_in s (target.Interrupt rupt) = armed.Interrupt rupt
 armed_in s (target.Cell cell) = armed.Cell cell (word_at cell s.processor.store)
 
 -- The state that a stretch ends in, its channel writes in order, and whether the target was hit.
@@ -103,6 +126,9 @@ way_within (suc more) armed cycle s =
 unfoldable pub stretch_to : ArmedBreakpoint → ℕ → State → Stretch
 stretch_to armed cycle s = way_within (boundaries_left s) armed cycle s
 
--- a line for each channel write
-abbrev pub writes_text : List ChannelWrite → List ℕ
-writes_text writes = flat_map write_line writes
+-- a line for each channel write, if runs are not quiet
+abbrev pub run_line : Bool → ChannelWrite → List ℕ
+run_line quiet write = if quiet then [] else write_line write
+
+abbrev pub writes_text : Bool → List ChannelWrite → List ℕ
+writes_text quiet writes = flat_map (run_line quiet) writes

@@ -1,5 +1,5 @@
 //! Formats the lines of an answer.
-ghost use Rattle.std.specs.Prelude.{◌≡◌, ◌+◌, ◌++◌, ◌<◌, ◌≤◌, OnOk, flat_map, string_bytes};
+ghost use Rattle.std.specs.Prelude.{◌≡◌, ◌+◌, ◌++◌, ◌<◌, ◌≤◌, IfSome, OnOk, flat_map, string_bytes};
 ghost use Rattle.std.specs.List.{range_with_len};
 ghost use Rattle.agc_repl.specs.Answer.{
   hit_line,
@@ -7,18 +7,37 @@ ghost use Rattle.agc_repl.specs.Answer.{
   channel_line,
   end_line,
   error_line,
+  print_line,
   write_line,
   writes_line,
 };
 ghost use Rattle.agc_word.specs.Channels.{last_io_channel};
-ghost use Rattle.agc_repl.specs.Fault.{fault_text};
+ghost use Rattle.agc_word.specs.Octal.{octal_digits};
+ghost use Rattle.agc_listing.specs.Location.{IsWithin};
+ghost use Rattle.agc_listing.specs.Place.{IsInPrint, place_text};
+ghost use Rattle.agc_repl.specs.Command.{IsBreakpointInRange};
+ghost use Rattle.agc_repl.specs.Course.{stop_line};
+ghost use Rattle.agc_repl.specs.Fault.{fault_text, fault_text_with, name_meant, question};
+ghost use Rattle.agc_repl.specs.Settings.{
+  AreInRange,
+  breakpoint_line,
+  breakpoint_text,
+  location_text,
+  numbered_text,
+};
+ghost use Rattle.agc_repl.specs.Stretch.{run_line};
+ghost use Rattle.agc_trace.specs.OperandLine.{signed_text};
 ghost use Rattle.agc_store.specs.Places.{erasable_cells};
 
+use crate::command::Breakpoint;
 use crate::fault::CommandFault;
-use agc_listing::{Cell, push_place};
+use crate::meant::name_meant;
+use crate::settings::Numbered;
+use agc_listing::{Cell, Location, Place, listed_address, push_place};
 use agc_machine::Stop;
 use agc_store::Store;
-use agc_store::place::ERASABLE_BANK_SIZE;
+use agc_store::place::{ERASABLE_BANK_SIZE, bank_of};
+use agc_symbols::SymbolTable;
 use agc_word::{ChannelWrite, Narrow};
 use std::alloc::AllocError;
 
@@ -31,6 +50,21 @@ pub fn push_write_line(text: &mut String, write: &ChannelWrite) -> Result<(), Al
     let channel = write.channel;
     let value = write.value;
     writeln!(text, "write {cycle} {channel:03o} {value}")
+}
+
+/// Adds the line of a channel write, if runs are not quiet.
+pub(crate) fn push_run_line(
+    text: &mut String,
+    quiet: bool,
+    write: &ChannelWrite,
+) -> Result<(), AllocError>
+    requires { write.now.channel ≤ last_io_channel }
+    ensures { OnOk result (string_bytes text.new ≡ string_bytes text.old ++ run_line quiet write.now) }
+{
+    if quiet {
+        return Ok(());
+    }
+    push_write_line(text, write)
 }
 
 /// Adds the last line of an answer: `at C`, or `stop REASON at C` if the machine has stopped.
@@ -62,6 +96,57 @@ pub fn push_fault_line(text: &mut String, fault: CommandFault) -> Result<(), All
     writeln!(text, "error: {fault}")
 }
 
+/// Adds that line with the name that was probably meant, if the fault is an unknown name.
+pub(crate) fn push_refusal_line(
+    text: &mut String,
+    names: &Option<SymbolTable>,
+    fault: CommandFault,
+) -> Result<(), AllocError>
+    ensures { OnOk result
+        (string_bytes text.new ≡ string_bytes text.old ++ error_line (fault_text_with names.now fault)) }
+{
+    text.push_str("error: ")?;
+    push_fault_with(text, names, fault)?;
+    text.push_str("\n")
+}
+
+/// Adds a fault, and the name that was probably meant if it is an unknown name.
+#[tactic(auto, unfolding(crate::specs::Fault::fault_text_with))]
+fn push_fault_with(
+    text: &mut String,
+    names: &Option<SymbolTable>,
+    fault: CommandFault,
+) -> Result<(), AllocError>
+    ensures { OnOk result
+        (string_bytes text.new ≡ string_bytes text.old ++ fault_text_with names.now fault) }
+{
+    write!(text, "{fault}")?;
+    push_question(text, names, fault)
+}
+
+/// Adds the question whether a name was meant, if the fault is an unknown name.
+fn push_question(
+    text: &mut String,
+    names: &Option<SymbolTable>,
+    fault: CommandFault,
+) -> Result<(), AllocError>
+    ensures { OnOk result
+        (string_bytes text.new ≡ string_bytes text.old ++ question (name_meant names.now fault)) }
+{
+    match name_meant(names, fault) {
+        Some(name) => push_meant(text, name),
+        None => Ok(()),
+    }
+}
+
+/// Adds the question whether this name was meant.
+fn push_meant(text: &mut String, name: &str) -> Result<(), AllocError>
+    ensures { OnOk result
+        (string_bytes text.new ≡ string_bytes text.old ++ question (Some name.now)) }
+{
+    write!(text, "; did you mean {name}?")
+}
+
 /// Adds a line for each of `count` cells of erasable memory, from `first` on: `cell PLACE VVVVV`.
 pub fn push_cell_lines(
     text: &mut String,
@@ -90,6 +175,169 @@ fn push_cell_line(text: &mut String, store: &Store, cell: u16) -> Result<(), All
     text.push_str("cell ")?;
     push_place(text, Cell::new(cell).place())?;
     writeln!(text, " {word}")
+}
+
+/// Adds a line for each of `count` cells of erasable memory, from `first` on: `print PLACE VVVVV D`.
+pub fn push_print_lines(
+    text: &mut String,
+    store: &Store,
+    first: u16,
+    count: u16,
+) -> Result<(), AllocError>
+    requires { first + count ≤ erasable_cells }
+    ensures { OnOk result (string_bytes text.new
+        ≡ string_bytes text.old ++ flat_map (print_line store.now) (range_with_len first count)) }
+{
+    for cell in first..first + count {
+        push_print_line(text, store, cell)?;
+    }
+    Ok(())
+}
+
+/// Adds the line of a cell, in octal and as a signed decimal number.
+#[tactic(auto, unfolding(crate::specs::Answer::print_line))]
+fn push_print_line(text: &mut String, store: &Store, cell: u16) -> Result<(), AllocError>
+    requires { cell < erasable_cells }
+    ensures { OnOk result
+        (string_bytes text.new ≡ string_bytes text.old ++ print_line store.now cell) }
+{
+    let word = store.cell((cell / ERASABLE_BANK_SIZE) as u8, cell % ERASABLE_BANK_SIZE);
+    text.push_str("print ")?;
+    push_location(text, Location::Erasable(u32::from(cell)))?;
+    write!(text, " {word} ")?;
+    push_signed(text, word)?;
+    text.push_str("\n")
+}
+
+/// Adds a word as a signed decimal number; the minus of -0 is printed.
+#[tactic(auto, unfolding(agc_trace::specs::OperandLine::signed_text))]
+fn push_signed(text: &mut String, word: Narrow) -> Result<(), AllocError>
+    ensures { OnOk result (string_bytes text.new ≡ string_bytes text.old ++ signed_text word) }
+{
+    let magnitude = word.magnitude();
+    if word.is_minus() {
+        write!(text, "-{magnitude}")
+    } else {
+        write!(text, "{magnitude}")
+    }
+}
+
+/// Adds the line of a numbered breakpoint: `break N` and what it is at.
+pub(crate) fn push_breakpoint_line(
+    text: &mut String,
+    breakpoint: Numbered,
+) -> Result<(), AllocError>
+    requires { IsBreakpointInRange breakpoint.what }
+    ensures { OnOk result
+        (string_bytes text.new ≡ string_bytes text.old ++ breakpoint_line breakpoint) }
+{
+    text.push_str("break ")?;
+    push_numbered(text, breakpoint)
+}
+
+/// Adds a line for each of some breakpoints.
+pub(crate) fn push_breakpoint_lines(
+    text: &mut String,
+    breakpoints: &[Numbered],
+) -> Result<(), AllocError>
+    requires { AreInRange breakpoints.now }
+    ensures { OnOk result (string_bytes text.new
+        ≡ string_bytes text.old ++ flat_map breakpoint_line breakpoints.now) }
+{
+    for breakpoint in breakpoints {
+        push_breakpoint_line(text, *breakpoint)?;
+    }
+    Ok(())
+}
+
+/// Adds the line that reports which breakpoint was hit, or that none was.
+pub(crate) fn push_stop_line(text: &mut String, hit: Option<Numbered>) -> Result<(), AllocError>
+    requires { IfSome hit (λ b. IsBreakpointInRange b.what) }
+    ensures { OnOk result (string_bytes text.new ≡ string_bytes text.old ++ stop_line hit) }
+{
+    match hit {
+        Some(breakpoint) => {
+            text.push_str("hit ")?;
+            push_numbered(text, breakpoint)
+        }
+        None => text.push_str("hit none\n"),
+    }
+}
+
+/// Adds a breakpoint's number and what it is at.
+#[tactic(auto, unfolding(crate::specs::Settings::numbered_text))]
+fn push_numbered(text: &mut String, breakpoint: Numbered) -> Result<(), AllocError>
+    requires { IsBreakpointInRange breakpoint.what }
+    ensures { OnOk result
+        (string_bytes text.new ≡ string_bytes text.old ++ numbered_text breakpoint) }
+{
+    let number = breakpoint.number;
+    write!(text, "{number} ")?;
+    push_breakpoint(text, breakpoint.what)?;
+    text.push_str("\n")
+}
+
+/// Adds what a breakpoint is at.
+#[tactic(auto, unfolding(crate::specs::Settings::breakpoint_text, crate::specs::Command::IsBreakpointInRange))]
+fn push_breakpoint(text: &mut String, what: Breakpoint) -> Result<(), AllocError>
+    requires { IsBreakpointInRange what }
+    ensures { OnOk result (string_bytes text.new ≡ string_bytes text.old ++ breakpoint_text what) }
+{
+    match what {
+        Breakpoint::Order(place) => {
+            text.push_str("order ")?;
+            push_location(text, place)
+        }
+        Breakpoint::Write(channel) => {
+            text.push_str("write ")?;
+            push_channel(text, channel)
+        }
+        Breakpoint::Word { channel, word } => {
+            text.push_str("write ")?;
+            push_channel(text, channel)?;
+            write!(text, " {word}")
+        }
+        Breakpoint::Cell(cell) => {
+            text.push_str("cell ")?;
+            push_place(text, Cell::new(cell).place())
+        }
+        Breakpoint::Interrupt(rupt) => {
+            let name = rupt.name();
+            write!(text, "interrupt {name}")
+        }
+    }
+}
+
+/// Adds a channel in three octal digits.
+fn push_channel(text: &mut String, channel: u16) -> Result<(), AllocError>
+    requires { channel ≤ last_io_channel }
+    ensures { OnOk result
+        (string_bytes text.new ≡ string_bytes text.old ++ octal_digits 3 channel) }
+{
+    write!(text, "{channel:03o}")
+}
+
+/// Adds a place as traces print it.
+fn push_location(text: &mut String, place: Location) -> Result<(), AllocError>
+    requires { IsWithin place }
+    ensures { OnOk result (string_bytes text.new ≡ string_bytes text.old ++ location_text place) }
+{
+    push_place(text, place_at(place))
+}
+
+/// Returns a place as it is printed.
+fn place_at(place: Location) -> Place
+    requires { IsWithin place }
+    ensures place { place_text result ≡ location_text place }
+    ensures range { IsInPrint result }
+{
+    match place {
+        Location::Fixed(place) => Place::Fixed {
+            bank: bank_of(place),
+            address: listed_address(place as usize),
+        },
+        Location::Erasable(cell) => Cell::new(cell as u16).place(),
+    }
 }
 
 /// Adds the line of a channel's word: `channel CCC VVVVV`.

@@ -5,13 +5,15 @@ ghost use Rattle.agc_machine.specs.Laws.{HasChannel};
 ghost use Rattle.agc_machine.specs.Replay.{writes_in};
 ghost use Rattle.agc_repl.specs.Command.{IsBreakpointInRange};
 ghost use Rattle.agc_store.specs.Places.{erasable_cells};
-ghost use Rattle.agc_repl.specs.Repl.{Advances, GoesOn, gone_on};
+ghost use Rattle.agc_repl.specs.Repl.{Advances, RunsOn, gone_on};
 ghost use Rattle.agc_repl.specs.Stretch.{
   and_on,
   IsArmedInRange,
   has_come,
+  is_interrupt,
   is_order_at,
   is_short_of,
+  is_write_of,
   is_write_to,
   same_location,
   armed_in,
@@ -21,8 +23,10 @@ ghost use Rattle.agc_repl.specs.Stretch.{
 
 use crate::command::Breakpoint;
 use crate::repl::Repl;
+use crate::settings::Numbered;
 use agc_listing::{Location, location_at};
 use agc_machine::{Machine, Stepped, Upcoming};
+use agc_processor::Rupt;
 use agc_store::Store;
 use agc_store::place::ERASABLE_BANK_SIZE;
 use agc_word::Narrow;
@@ -34,10 +38,21 @@ pub(crate) enum ArmedBreakpoint {
     Nothing,
     /// The next write to a channel.
     Write(u16),
+    /// The next write of this word to a channel.
+    Word { channel: u16, word: Narrow },
+    /// This interrupt comes next.
+    Interrupt(Rupt),
     /// The order at a place comes next.
     Order(Location),
     /// A cell has another word than this.
     Cell { cell: u16, before: Narrow },
+}
+
+/// A numbered breakpoint with its target.
+#[derive(Clone, Copy)]
+pub(crate) struct Armed {
+    pub(crate) breakpoint: Numbered,
+    pub(crate) target: ArmedBreakpoint,
 }
 
 impl ArmedBreakpoint {
@@ -51,6 +66,8 @@ impl ArmedBreakpoint {
         match what {
             Breakpoint::Order(place) => ArmedBreakpoint::Order(place),
             Breakpoint::Write(channel) => ArmedBreakpoint::Write(channel),
+            Breakpoint::Word { channel, word } => ArmedBreakpoint::Word { channel, word },
+            Breakpoint::Interrupt(rupt) => ArmedBreakpoint::Interrupt(rupt),
             Breakpoint::Cell(cell) => ArmedBreakpoint::Cell {
                 cell,
                 before: word_of(machine.store(), cell),
@@ -64,13 +81,15 @@ impl ArmedBreakpoint {
         ensures stretch { stretch_to self.now cycle repl.old.session.now
             ≡ and_on self.now (repl.new.session.now, result) (stretch_to self.now cycle repl.new.session.now) }
         ensures shown { repl.new ≡ gone_on repl.new.session.now (writes_in (result ∷ [])) repl.old }
-        ensures on { GoesOn repl.old.session repl.new.session }
+        ensures on { RunsOn repl.old repl.new }
         ensures advances { Advances repl.old.session.now repl.new.session.now }
         ensures channel { HasChannel result }
     {
         match self {
             ArmedBreakpoint::Nothing => repl.go_on(cycle),
             ArmedBreakpoint::Write(_) => repl.go_on(cycle),
+            ArmedBreakpoint::Word { .. } => repl.step(),
+            ArmedBreakpoint::Interrupt(_) => repl.step(),
             ArmedBreakpoint::Order(_) => repl.step(),
             ArmedBreakpoint::Cell { .. } => repl.step(),
         }
@@ -85,6 +104,8 @@ impl ArmedBreakpoint {
         match self {
             ArmedBreakpoint::Nothing => false,
             ArmedBreakpoint::Write(channel) => is_write_to(stepped, *channel),
+            ArmedBreakpoint::Word { channel, word } => is_write_of(stepped, *channel, *word),
+            ArmedBreakpoint::Interrupt(rupt) => is_interrupt(machine, *rupt),
             ArmedBreakpoint::Order(place) => is_in_hand(machine, *place),
             ArmedBreakpoint::Cell { cell, before } => word_of(machine.store(), *cell) != *before,
         }
@@ -98,6 +119,26 @@ fn is_write_to(stepped: &Stepped, channel: u16) -> bool
     match stepped {
         Stepped::Wrote(write) => write.channel == channel,
         Stepped::Quiet | Stepped::Stopped(_) => false,
+    }
+}
+
+/// Returns whether a boundary wrote this word to this channel.
+fn is_write_of(stepped: &Stepped, channel: u16, word: Narrow) -> bool
+    ensures { result ≡ is_write_of channel word stepped.now }
+{
+    match stepped {
+        Stepped::Wrote(write) => write.channel == channel && write.value.bits() == word.bits(),
+        Stepped::Quiet | Stepped::Stopped(_) => false,
+    }
+}
+
+/// Returns whether this interrupt comes next.
+fn is_interrupt(machine: &Machine, rupt: Rupt) -> bool
+    ensures { result ≡ is_interrupt rupt (upcoming_of machine.now) }
+{
+    match machine.upcoming() {
+        Upcoming::Interrupt(next) => next.number() == rupt.number(),
+        _ => false,
     }
 }
 

@@ -2,44 +2,54 @@
 //!
 //! Unless memory runs out, the output is the session's text: this is the contract of [`run_repl`]. Part of a long
 //! answer is written before the rest is known; if memory runs out then, the machine has already moved. An event and
-//! `back` reserve what they need first, and their answers need no memory. An event that is rejected because the
+//! `back` reserve what they need first, and their answers need no memory; a search back finds its cycle first. An event that is rejected because the
 //! machine takes no more events is tried after the script's events that were due, and those have happened. No clause
 //! states that an answer is written before the next line is read; only tests show it.
-ghost use Rattle.std.specs.Prelude.{◌≡◌, ◌⊎◌, ◌++◌, Some, Ok, Err, codes, IfErr, IfOk, IfSome, IsErrOf, MatchResult, OnOk, string_bytes};
+ghost use Rattle.std.specs.Prelude.{◌≡◌, ◌<◌, ◌⊎◌, ◌++◌, Some, Ok, Err, codes, IfErr, IfOk, IfSome, IsErrOf, MatchResult, OnErr, OnOk, string_bytes};
 ghost use Rattle.std.specs.Io.KnownBytes.{Appends, Keeps, append_known};
 ghost use Rattle.agc_repl.specs.Answer.{end_line, error_line};
 ghost use Rattle.agc_repl.specs.Answered.{
   Begins,
   GoesBack,
+  Sets,
   Grows,
   IsAnswered,
+  IsHandled,
+  IsItself,
   IsLeft,
   IsPartOf,
   IsPlain,
   IsPlainRequest,
-  Tells,
+  Outputs,
   ahead_text,
   answer_to,
   answered,
   done,
+  full_text,
+  last_line,
+  missed,
+  missing_text,
   refusal_text,
 };
-ghost use Rattle.agc_repl.specs.Transcript.{AreAnswered, RanOut, requests_in, session_text};
+ghost use Rattle.agc_repl.specs.Transcript.{AreAnswered, IsSessionOf, RanOut, requests_in};
+ghost use Rattle.agc_session.specs.Breakpoint.{IsBreakpointInRange as IsSoughtInRange};
 ghost use Rattle.agc_repl.specs.Queries.{shown_text};
 ghost use Rattle.agc_repl.specs.Repl.{at_start};
 ghost use Rattle.agc_script.specs.Event.{IsWhatInRange};
-ghost use Rattle.agc_repl.specs.Fault.{fault_text};
-ghost use Rattle.agc_repl.specs.Command.{IsCommandInRange};
+ghost use Rattle.agc_repl.specs.Fault.{fault_text_with};
+ghost use Rattle.agc_repl.specs.Command.{IsBreakpointInRange, IsCommandInRange};
+ghost use Rattle.agc_repl.specs.Settings.{at_first, breakpoint_line, next_numbered, with_breakpoint};
 ghost use Rattle.agc_repl.specs.declared.conversation.ReplFault.TheVariants.{Memory};
 
-use crate::answer::{push_end_line, push_fault_line};
-use crate::command::Command;
-use crate::commands::{go, go_on_to, inject, refusal, step, until};
+use crate::answer::{push_breakpoint_line, push_end_line, push_refusal_line};
+use crate::command::{Breakpoint, Command};
+use crate::commands::{go, go_on_to, go_on_until, inject, refusal, step, until};
 use crate::fault::CommandFault;
 use crate::lines::{Request, next_request};
 use crate::output::{write_end_line, write_error_line, write_text};
 use crate::queries::push_shown;
 use crate::repl::Repl;
+use crate::settings::Numbered;
 use agc_script::What;
 use agc_session::{InjectFault, Session};
 use agc_symbols::SymbolTable;
@@ -82,17 +92,17 @@ pub fn run_repl<R: Read, W: Write>(
     output: &mut W,
 ) -> Result<(), ReplFault>
     ensures session { OnOk result (IfSome (R.remaining input.old) (λ bytes. AreAnswered names.now (requests_in names.now bytes)
-        (at_start session) (W.contents output.old) (W.contents output.new))) }
+        (at_start at_first session) (W.contents output.old) (W.contents output.new))) }
     ensures text { OnOk result (IfSome (R.remaining input.old) (λ bytes.
-        Appends (W.contents output.old) (W.contents output.new) (session_text names.now (requests_in names.now bytes) (at_start session))
-        ⊎ RanOut names.now (requests_in names.now bytes) (at_start session) (W.contents output.old) (W.contents output.new))) }
+        IsSessionOf names.now (requests_in names.now bytes) (at_start at_first session) (W.contents output.old) (W.contents output.new)
+        ⊎ RanOut names.now (requests_in names.now bytes) (at_start at_first session) (W.contents output.old) (W.contents output.new))) }
 {
     let Ok(mut reader) = BufReader::new(alloc, input) else {
         // An explicit drop of a session or a REPL is one step of the proof. Dropping the parts is expensive to prove.
         drop(session);
         return Err(ReplFault::Memory);
     };
-    let repl = Repl::new(session);
+    let repl = Repl::new(alloc, session);
     answer_each(alloc, names, repl, &mut reader, output)
 }
 
@@ -134,8 +144,8 @@ fn reply<W: Write>(
     request: Request,
     output: &mut W,
 ) -> Result<Repl, ReplFault>
-    requires { IfOk request (λ said. IfSome said IsCommandInRange) }
-    ensures { IfOk result (λ left. IsAnswered names.now request repl left (W.contents output.old) (W.contents output.new)) }
+    requires { IfOk request (λ parsed. IfSome parsed IsCommandInRange) }
+    ensures { IfOk result (λ left. IsHandled names.now request repl left (W.contents output.old) (W.contents output.new)) }
 {
     let left = answer(alloc, names, repl, request, output)?;
     keep_if(flush(output), left)
@@ -151,31 +161,114 @@ fn flush<W: Write>(output: &mut W) -> Result<(), ReplFault>
     }
 }
 
-/// Answers a request. If memory runs out, the answer ends by reporting it.
+/// Answers a request: a search back by what it finds. If memory runs out, the answer ends by reporting it.
+#[tactic(auto, unfolding(crate::specs::Command::IsCommandInRange))]
 fn answer<W: Write>(
+    alloc: Global,
+    names: &Option<SymbolTable>,
+    repl: Repl,
+    request: Request,
+    output: &mut W,
+) -> Result<Repl, ReplFault>
+    requires { IfOk request (λ parsed. IfSome parsed IsCommandInRange) }
+    ensures { IfOk result (λ left. IsHandled names.now request repl left (W.contents output.old) (W.contents output.new)) }
+{
+    match request {
+        Ok(Some(Command::BackTo { what, count })) => {
+            answer_search(alloc, names, repl, what, count, output)
+        }
+        itself => answer_itself(alloc, names, repl, itself, output),
+    }
+}
+
+/// Goes back to where the last boundary began that hits `what`, or the last but one, and so on, and answers. If there
+/// is none, or memory runs out, nothing changes.
+fn answer_search<W: Write>(
+    alloc: Global,
+    names: &Option<SymbolTable>,
+    repl: Repl,
+    what: agc_session::Breakpoint,
+    count: u64,
+    output: &mut W,
+) -> Result<Repl, ReplFault>
+    requires some { 0 < count }
+    requires range { IsSoughtInRange what }
+    ensures { IfOk result (λ left. IsHandled names.now (Ok (Some (Command.BackTo what count))) repl left
+        (W.contents output.old) (W.contents output.new)) }
+{
+    let Ok(found) = repl.session.last_hit(alloc, what, count) else {
+        return stay(repl, output);
+    };
+    match found {
+        Some(cycle) => rewind_to(alloc, names, repl, cycle, output),
+        None => answer_missed(alloc, names, repl, &what, output),
+    }
+}
+
+/// Answers that a search back finds nothing, and changes nothing.
+fn answer_missed<W: Write>(
+    alloc: Global,
+    names: &Option<SymbolTable>,
+    mut repl: Repl,
+    what: &agc_session::Breakpoint,
+    output: &mut W,
+) -> Result<Repl, ReplFault>
+    ensures { IfOk result (λ left. IsAnswered names.now (Err (missed what.now)) repl left
+        (W.contents output.old) (W.contents output.new)) }
+{
+    let reported = answer_now(alloc, names, &mut repl, Err(missed(what)), output);
+    keep_if(reported, repl)
+}
+
+/// Returns the fault of a search back that finds nothing.
+#[tactic(auto, unfolding(crate::specs::Answered::missed))]
+fn missed(what: &agc_session::Breakpoint) -> CommandFault
+    ensures { result ≡ missed what.now }
+{
+    match what {
+        agc_session::Breakpoint::Boundary => CommandFault::TooFarBack,
+        _ => CommandFault::NotHit,
+    }
+}
+
+/// Answers a request that is no search back. If memory runs out, the answer ends by reporting it.
+fn answer_itself<W: Write>(
     alloc: Global,
     names: &Option<SymbolTable>,
     mut repl: Repl,
     request: Request,
     output: &mut W,
 ) -> Result<Repl, ReplFault>
-    requires { IfOk request (λ said. IfSome said IsCommandInRange) }
+    requires range { IfOk request (λ parsed. IfSome parsed IsCommandInRange) }
+    requires itself { IsItself request }
     ensures { IfOk result (λ left. IsAnswered names.now request repl left (W.contents output.old) (W.contents output.new)) }
 {
     match request {
         Ok(Some(Command::Back(cycle))) => rewind_to(alloc, names, repl, cycle, output),
         Ok(Some(Command::Inject(what))) => {
-            let told = answer_event(alloc, names, &mut repl, what, output);
-            keep_if(told, repl)
+            let reported = answer_event(alloc, names, &mut repl, what, output);
+            keep_if(reported, repl)
+        }
+        Ok(Some(Command::Break(what))) => {
+            let reported = answer_break(alloc, names, &mut repl, what, output);
+            keep_if(reported, repl)
+        }
+        Ok(Some(Command::Delete(number))) => {
+            let reported = answer_delete(alloc, names, &mut repl, number, output);
+            keep_if(reported, repl)
+        }
+        Ok(Some(Command::Quiet(quiet))) => {
+            let reported = answer_quiet(alloc, names, &mut repl, quiet, output);
+            keep_if(reported, repl)
         }
         plain => {
-            let told = answer_now(alloc, names, &mut repl, plain, output);
-            keep_if(told, repl)
+            let reported = answer_now(alloc, names, &mut repl, plain, output);
+            keep_if(reported, repl)
         }
     }
 }
 
-/// Answers a request that neither rewinds nor injects.
+/// Answers a request that neither rewinds, injects nor changes the settings.
 fn answer_now<W: Write>(
     alloc: Global,
     names: &Option<SymbolTable>,
@@ -183,7 +276,7 @@ fn answer_now<W: Write>(
     request: Request,
     output: &mut W,
 ) -> Result<(), ReplFault>
-    requires range { IfOk request (λ said. IfSome said IsCommandInRange) }
+    requires range { IfOk request (λ parsed. IfSome parsed IsCommandInRange) }
     requires plain { IsPlainRequest request }
     ensures { OnOk result (IsAnswered names.now request repl.old repl.new (W.contents output.old) (W.contents output.new)) }
 {
@@ -217,9 +310,9 @@ fn execute<W: Write>(
     text: &mut String,
     output: &mut W,
 ) -> Result<(), ReplFault>
-    requires range { IfOk request (λ said. IfSome said IsCommandInRange) }
+    requires range { IfOk request (λ parsed. IfSome parsed IsCommandInRange) }
     requires plain { IsPlainRequest request }
-    ensures said { OnOk result (Tells (answer_to names.now request repl.old) repl.new
+    ensures parsed { OnOk result (Outputs (answer_to names.now request repl.old) repl.new
         (append_known (W.contents output.old) (string_bytes text.old))
         (append_known (W.contents output.new) (string_bytes text.new))) }
     ensures left { IsLeft request repl.old repl.new }
@@ -229,7 +322,7 @@ fn execute<W: Write>(
     match request {
         Ok(Some(command)) => say_command(alloc, names, repl, command, text, output),
         Ok(None) => push_end(repl, text),
-        Err(fault) => push_refusal(fault, text),
+        Err(fault) => push_refusal(names, fault, text),
     }
 }
 
@@ -244,7 +337,7 @@ fn say_command<W: Write>(
 ) -> Result<(), ReplFault>
     requires range { IsCommandInRange command }
     requires plain { IsPlain command }
-    ensures said { OnOk result (Tells (answered names.now command repl.old) repl.new
+    ensures parsed { OnOk result (Outputs (answered names.now command repl.old) repl.new
         (append_known (W.contents output.old) (string_bytes text.old))
         (append_known (W.contents output.new) (string_bytes text.new))) }
     ensures left { IsPartOf command repl.old repl.new }
@@ -256,15 +349,19 @@ fn say_command<W: Write>(
 }
 
 /// Adds the answer to an invalid command line.
-fn push_refusal(fault: CommandFault, text: &mut String) -> Result<(), ReplFault>
+fn push_refusal(
+    names: &Option<SymbolTable>,
+    fault: CommandFault,
+    text: &mut String,
+) -> Result<(), ReplFault>
     ensures { OnOk result
-        (string_bytes text.new ≡ string_bytes text.old ++ error_line (fault_text fault)) }
+        (string_bytes text.new ≡ string_bytes text.old ++ error_line (fault_text_with names.now fault)) }
 {
-    push_fault_line(text, fault)?;
+    push_refusal_line(text, names, fault)?;
     Ok(())
 }
 
-/// Executes a command that neither injects nor rewinds, and adds its answer without the last line.
+/// Executes a command that neither injects, rewinds nor changes the settings, and adds its answer without the last line.
 #[tactic(auto, unfolding(crate::specs::Command::IsCommandInRange, crate::specs::Answered::done))]
 fn carry_out<W: Write>(
     alloc: Global,
@@ -276,7 +373,7 @@ fn carry_out<W: Write>(
 ) -> Result<(), ReplFault>
     requires range { IsCommandInRange command }
     requires plain { IsPlain command }
-    ensures told { OnOk result (Tells (done names.now command repl.old) repl.new
+    ensures reported { OnOk result (Outputs (done names.now command repl.old) repl.new
         (append_known (W.contents output.old) (string_bytes text.old))
         (append_known (W.contents output.new) (string_bytes text.new))) }
     ensures left { IsPartOf command repl.old repl.new }
@@ -289,6 +386,7 @@ fn carry_out<W: Write>(
         Command::GoTo(cycle) => go_on_to(repl, cycle, text, output),
         Command::Step(boundaries) => step(repl, names, boundaries, text, output),
         Command::Until { what, within } => until(repl, what, within, text, output),
+        Command::Continue(within) => go_on_until(alloc, repl, within, text, output),
         shown => show(alloc, names, repl, shown, text),
     }
 }
@@ -303,7 +401,7 @@ fn show(
 ) -> Result<(), ReplFault>
     requires { IsCommandInRange command }
     ensures { OnOk result (string_bytes text.new
-        ≡ string_bytes text.old ++ shown_text names.now command repl.now.session repl.now.writes) }
+        ≡ string_bytes text.old ++ shown_text names.now command repl.now) }
 {
     push_shown(alloc, names, repl, command, text)?;
     Ok(())
@@ -349,6 +447,112 @@ fn write_refusal<W: Write>(fault: InjectFault, output: &mut W) -> Result<(), Rep
     }
 }
 
+/// Sets a breakpoint, and answers. If there are too many or memory runs out, nothing changes.
+fn answer_break<W: Write>(
+    alloc: Global,
+    names: &Option<SymbolTable>,
+    repl: &mut Repl,
+    what: Breakpoint,
+    output: &mut W,
+) -> Result<(), ReplFault>
+    requires { IsBreakpointInRange what }
+    ensures { OnOk result (IsAnswered names.now (Ok (Some (Command.Break what))) repl.old repl.new
+        (W.contents output.old) (W.contents output.new)) }
+{
+    if repl.settings.is_full() {
+        write_error_line(output, full())
+    } else {
+        set_breakpoint(alloc, repl, what, output)
+    }
+}
+
+/// Sets a breakpoint, and answers. If memory runs out, nothing changes.
+fn set_breakpoint<W: Write>(
+    alloc: Global,
+    repl: &mut Repl,
+    what: Breakpoint,
+    output: &mut W,
+) -> Result<(), ReplFault>
+    requires { IsBreakpointInRange what }
+    ensures { OnOk result (Sets what repl.old repl.new (W.contents output.old) (W.contents output.new)) }
+{
+    match add_breakpoint(alloc, repl, &what) {
+        Ok(text) => write_text(output, &text),
+        Err(_) => write_text(output, OUT_OF_MEMORY),
+    }
+}
+
+/// Sets a breakpoint, and returns the answer. If memory runs out, it is not set.
+fn add_breakpoint(alloc: Global, repl: &mut Repl, what: &Breakpoint) -> Result<String, AllocError>
+    requires { IsBreakpointInRange what.now }
+    ensures set { OnOk result
+        (repl.new ≡ record repl.old { settings = with_breakpoint what.now repl.old.settings }) }
+    ensures parsed { IfOk result (λ text. string_bytes text
+        ≡ breakpoint_line (next_numbered what.now repl.old.settings) ++ last_line repl.old) }
+    ensures err { OnErr result (repl.new ≡ repl.old) }
+{
+    let number = repl.settings.next_number();
+    let mut text = String::new(alloc);
+    push_breakpoint_line(
+        &mut text,
+        Numbered {
+            number,
+            what: *what,
+        },
+    )?;
+    push_end_line(&mut text, repl.stopped(), repl.cycle())?;
+    repl.settings.add(what)?;
+    Ok(text)
+}
+
+/// Returns why no further breakpoint is set.
+fn full() -> &'static str
+    ensures { result.now ≡ full_text }
+{
+    "TooManyBreakpoints: there are at most 64; delete N makes room"
+}
+
+/// Deletes a breakpoint if there is one with this number, and answers.
+fn answer_delete<W: Write>(
+    alloc: Global,
+    names: &Option<SymbolTable>,
+    repl: &mut Repl,
+    number: u64,
+    output: &mut W,
+) -> Result<(), ReplFault>
+    ensures { OnOk result (IsAnswered names.now (Ok (Some (Command.Delete number))) repl.old repl.new
+        (W.contents output.old) (W.contents output.new)) }
+{
+    if repl.settings.has_number(number) {
+        repl.settings.delete(number);
+        write_end(alloc, repl, output)
+    } else {
+        write_error_line(output, missing())
+    }
+}
+
+/// Returns why no breakpoint is deleted.
+fn missing() -> &'static str
+    ensures { result.now ≡ missing_text }
+{
+    "NoBreakpoint: no breakpoint has this number; breaks lists them"
+}
+
+/// Lets runs print no channel writes, or print them again, and answers.
+fn answer_quiet<W: Write>(
+    alloc: Global,
+    names: &Option<SymbolTable>,
+    repl: &mut Repl,
+    quiet: bool,
+    output: &mut W,
+) -> Result<(), ReplFault>
+    ensures { OnOk result (IsAnswered names.now (Ok (Some (Command.Quiet quiet))) repl.old repl.new
+        (W.contents output.old) (W.contents output.new)) }
+{
+    repl.settings.set_quiet(quiet);
+    write_end(alloc, repl, output)
+}
+
 /// Rewinds to the state before `cycle` if the machine has reached it, and answers.
 fn rewind_to<W: Write>(
     alloc: Global,
@@ -378,8 +582,8 @@ fn rewind_reached<W: Write>(
 {
     match repl.back(alloc, cycle) {
         Ok(earlier) => {
-            let told = write_end(alloc, &earlier, output);
-            keep_if(told, earlier)
+            let reported = write_end(alloc, &earlier, output);
+            keep_if(reported, earlier)
         }
         Err(same) => stay(same, output),
     }
@@ -390,8 +594,8 @@ fn refuse_ahead<W: Write>(repl: Repl, output: &mut W) -> Result<Repl, ReplFault>
     ensures { IfOk result (λ left. (left ≡ repl)
         × Appends (W.contents output.old) (W.contents output.new) (error_line ahead_text)) }
 {
-    let told = write_error_line(output, ahead());
-    keep_if(told, repl)
+    let reported = write_error_line(output, ahead());
+    keep_if(reported, repl)
 }
 
 /// Returns why a session does not go back to a cycle.
@@ -406,8 +610,8 @@ fn stay<W: Write>(repl: Repl, output: &mut W) -> Result<Repl, ReplFault>
     ensures { IfOk result (λ left. (left ≡ repl)
         × Appends (W.contents output.old) (W.contents output.new) (codes "error: memory\n")) }
 {
-    let told = write_text(output, OUT_OF_MEMORY);
-    keep_if(told, repl)
+    let reported = write_text(output, OUT_OF_MEMORY);
+    keep_if(reported, repl)
 }
 
 /// Writes the last line of an answer, also if memory has run out.
@@ -423,8 +627,8 @@ fn write_end<W: Write>(alloc: Global, repl: &Repl, output: &mut W) -> Result<(),
 }
 
 /// Returns the REPL if its answer could be written, else the fault.
-fn keep_if(told: Result<(), ReplFault>, repl: Repl) -> Result<Repl, ReplFault>
-    ensures { MatchResult told (λ _. result ≡ Ok repl) (λ fault. result ≡ Err fault) }
+fn keep_if(reported: Result<(), ReplFault>, repl: Repl) -> Result<Repl, ReplFault>
+    ensures { MatchResult reported (λ _. result ≡ Ok repl) (λ fault. result ≡ Err fault) }
 {
-    told.map(|()| repl)
+    reported.map(|()| repl)
 }

@@ -2,6 +2,7 @@
 ghost use Rattle.std.specs.Prelude.{◌≡◌};
 ghost use Rattle.agc_repl.specs.Fault.{event_advice, key_advice, watch_advice};
 
+use crate::meant::Meant;
 use crate::name::CommandName;
 use agc_panel::WatchFault;
 use agc_script::{FaultKind, Key};
@@ -23,12 +24,18 @@ pub enum CommandFault {
     BadNumber,
     /// Not a place in memory.
     BadPlace,
+    /// An unknown name; this one was probably meant.
+    UnknownName(Meant),
     /// A place in fixed memory where a cell is expected.
     NotErasable,
     /// Not 1 to 6 octal digits, or above 777 octal.
     BadChannel,
     /// Not a channel that shows writes: 1 to 6 octal digits, 5 to 777 octal.
     NoWrites,
+    /// Not a word: 1 to 5 octal digits.
+    BadWord,
+    /// Not the name of an interrupt.
+    BadInterrupt,
     /// Not 1 to 6 decimal digits, or 0, or past the end of erasable memory.
     BadCount,
     /// The event has this fault.
@@ -41,6 +48,12 @@ pub enum CommandFault {
     BadSpec,
     /// The tables cannot be at these places.
     Watch(WatchFault),
+    /// A search back for no boundary.
+    NoStep,
+    /// A search back finds nothing.
+    NotHit,
+    /// A search back finds fewer boundaries than that.
+    TooFarBack,
 }
 
 impl CommandFault {
@@ -59,15 +72,21 @@ impl CommandFault {
             CommandFault::Usage(_) => "Usage",
             CommandFault::BadNumber => "BadNumber",
             CommandFault::BadPlace => "BadPlace",
+            CommandFault::UnknownName(_) => "BadPlace",
             CommandFault::NotErasable => "NotErasable",
             CommandFault::BadChannel => "BadChannel",
             CommandFault::NoWrites => "BadChannel",
+            CommandFault::BadWord => "BadWord",
+            CommandFault::BadInterrupt => "BadInterrupt",
             CommandFault::BadCount => "BadCount",
             CommandFault::BadEvent(_) => "BadEvent",
             CommandFault::UnknownKey(_) => "BadEvent",
             CommandFault::ProKey => "BadEvent",
             CommandFault::BadSpec => "BadSpec",
             CommandFault::Watch(_) => "BadWatch",
+            CommandFault::NoStep => "BadNumber",
+            CommandFault::NotHit => "NotHit",
+            CommandFault::TooFarBack => "NotHit",
         }
     }
 
@@ -82,13 +101,17 @@ impl CommandFault {
             CommandFault::UnknownCommand => "help lists the commands",
             CommandFault::Usage(name) => name.usage(),
             CommandFault::BadNumber =>
-                "cycles and boundaries are 1 to 13 decimal digits, such as 1000000, at most 1000000000000",
+                "cycles, boundaries and breakpoints are 1 to 13 decimal digits, such as 1000000, at most 1000000000000",
             CommandFault::BadPlace =>
                 "a place is octal, such as 0100, 4100, 12,2000 or E3,1400, or a name of --names",
+            CommandFault::UnknownName(_) => "unknown name",
             CommandFault::NotErasable =>
                 "a cell is in erasable memory: octal, such as 0100 or E3,1400",
             CommandFault::BadChannel => "a channel is octal, 0 to 777",
             CommandFault::NoWrites => "only channels 5 to 777 octal show writes",
+            CommandFault::BadWord => "a word is octal, 0 to 77777",
+            CommandFault::BadInterrupt =>
+                "interrupts are T6RUPT, T5RUPT, T3RUPT, T4RUPT, KEYRUPT1, KEYRUPT2, UPRUPT, DOWNRUPT, RADARUPT and RUPT10",
             CommandFault::BadCount =>
                 "a number of cells is decimal, from 1 up to the last cell, E7,1777",
             CommandFault::BadEvent(kind) => event_advice(kind),
@@ -97,6 +120,9 @@ impl CommandFault {
             CommandFault::BadSpec =>
                 "tables are seven octal numbers with commas between: bank, offset and number of core sets, bank and offset of LST1, bank and offset of LST2",
             CommandFault::Watch(fault) => watch_advice(fault),
+            CommandFault::NoStep => "back step goes back by 1 boundary or more",
+            CommandFault::NotHit => "no boundary before now hits it",
+            CommandFault::TooFarBack => "there are fewer boundaries before now",
         }
     }
 }

@@ -66,16 +66,26 @@ fn purpose(name: CommandName) -> &'static str
         CommandName::Go => "runs N cycles, or to cycle C, in decimal. Example: go 85333",
         CommandName::Step => "takes one boundary, or N, with trace lines. Example: step 10",
         CommandName::Until => "runs on to it. Example: until write 10",
+        CommandName::Break => "sets a breakpoint. Example: break write 10 44017",
+        CommandName::Breaks => "lists the breakpoints",
+        CommandName::Delete => "deletes breakpoint N, in decimal. Example: delete 2",
+        CommandName::Continue =>
+            "runs on to the first breakpoint that is hit. Example: continue within 85333",
+        CommandName::Quiet => "prints no channel writes of runs, or prints them again",
         CommandName::Panel => "shows the panel",
         CommandName::Watch =>
-            "shows the Executive's tables, octal. Example: watch 0,200,7,0,330,0,340",
+            "sets a breakpoint at a cell, or shows the Executive's tables. Example: watch 0,200,7,0,330,0,340",
         CommandName::Registers => "shows A, L, Q, Z, EB, FB and BB, octal",
         CommandName::Next => "shows what comes next, as a trace does",
+        CommandName::Where =>
+            "shows the place of the order in hand, and what a service interrupted",
         CommandName::Cell => "shows a cell, or N (decimal). Example: cell 0100 8",
+        CommandName::Print =>
+            "shows a cell, or N, in octal and signed decimal. Example: print 0100",
         CommandName::Channel => "shows a channel, 0 to 777 octal. Example: channel 10",
         CommandName::Writes => "shows the number of channel writes so far",
         CommandName::Back =>
-            "returns to before cycle C and drops later events. Example: back 85333",
+            "returns to before cycle C, to where the Nth last boundary began, or to where the last one that hits it began; drops later events. Example: back until cell 0100",
         CommandName::Script => "prints the script that repeats this session",
         CommandName::Help => "prints these lines",
         CommandName::Quit => "ends the session, as the end of the input does",

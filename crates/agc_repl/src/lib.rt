@@ -6,9 +6,11 @@ mod armed_breakpoint;
 mod command;
 mod commands;
 mod conversation;
+mod edits;
 mod fault;
 mod help;
 mod lines;
+mod meant;
 mod name;
 mod number;
 mod output;
@@ -16,15 +18,19 @@ mod place;
 mod queries;
 mod repl;
 mod request;
+mod settings;
+mod whereabouts;
 mod words;
 
 pub use answer::{
     push_cell_lines, push_channel_line, push_end_line, push_error_line, push_fault_line,
-    push_hit_line, push_write_line, push_writes_line,
+    push_hit_line, push_print_lines, push_write_line, push_writes_line,
 };
 pub use command::{Breakpoint, Command};
 pub use conversation::{ReplFault, run_repl};
 pub use fault::CommandFault;
 pub use help::push_help;
+pub use meant::Meant;
 pub use name::CommandName;
 pub use request::parse_command;
+pub use settings::Numbered;

@@ -29,7 +29,7 @@ pub(crate) fn next_request<R: Read>(
     reader: &mut R,
 ) -> Result<Option<Request>, ReplFault>
     ensures reads { IfOk result (λ request. ReadsRequest names.now (R.remaining reader.old) (R.remaining reader.new) request) }
-    ensures range { IfOk result (λ next. IfSome next (λ request. IfOk request (λ said. IfSome said IsCommandInRange))) }
+    ensures range { IfOk result (λ next. IfSome next (λ request. IfOk request (λ parsed. IfSome parsed IsCommandInRange))) }
 {
     let Some(line) = next_line(alloc, reader)? else {
         return Ok(None);

@@ -6,6 +6,7 @@ ghost use Rattle.agc_listing.specs.Location.{IsWithin};
 ghost use Rattle.agc_repl.specs.Place.{cell_in, cells_after, count_in, place_in};
 
 use crate::fault::CommandFault;
+use crate::meant::place_fault;
 use crate::name::CommandName;
 use crate::words::only_word;
 use agc_listing::Location;
@@ -20,7 +21,10 @@ pub(crate) fn read_place(names: &Option<SymbolTable>, word: &[u8]) -> Result<Loc
     ensures place { result ≡ place_in names.now word.now }
     ensures range { IfOk result IsWithin }
 {
-    resolve(names, word).ok_or(CommandFault::BadPlace)
+    match resolve(names, word) {
+        Some(place) => Ok(place),
+        None => Err(place_fault(names, word)),
+    }
 }
 
 /// Parses the place of a cell, and returns its number.
@@ -37,15 +41,19 @@ pub(crate) fn read_cell(names: &Option<SymbolTable>, word: &[u8]) -> Result<u16,
 
 /// Parses the number of cells, from `first` on, out of the words after it. Without a word it is 1.
 #[tactic(auto, unfolding(crate::specs::Place::cells_after))]
-pub(crate) fn read_cells_after(first: u16, words: &[u8]) -> Result<u16, CommandFault>
+pub(crate) fn read_cells_after(
+    name: CommandName,
+    first: u16,
+    words: &[u8],
+) -> Result<u16, CommandFault>
     requires { first < erasable_cells }
-    ensures count { result ≡ cells_after first (words_of words.now) }
+    ensures count { result ≡ cells_after name first (words_of words.now) }
     ensures range { IfOk result (λ count. first + count ≤ erasable_cells) }
 {
     if next_word(words).is_none() {
         return Ok(1);
     }
-    let word = only_word(CommandName::Cell, words)?;
+    let word = only_word(name, words)?;
     read_count(first, word)
 }
 

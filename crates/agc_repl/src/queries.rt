@@ -7,10 +7,13 @@ ghost use Rattle.agc_session.specs.Session.{script_of};
 ghost use Rattle.agc_repl.specs.Command.{IsCommandInRange};
 ghost use Rattle.agc_repl.specs.Queries.{shown_text};
 
-use crate::answer::{push_cell_lines, push_channel_line, push_writes_line};
+use crate::answer::{
+    push_breakpoint_lines, push_cell_lines, push_channel_line, push_print_lines, push_writes_line,
+};
 use crate::command::Command;
 use crate::help::push_help;
 use crate::repl::Repl;
+use crate::whereabouts::push_where;
 use agc_panel::{WatchSpec, watch};
 use agc_symbols::SymbolTable;
 use agc_trace::{push_next_line_with, push_registers_line};
@@ -27,15 +30,18 @@ pub(crate) fn push_shown(
 ) -> Result<(), AllocError>
     requires { IsCommandInRange command }
     ensures { OnOk result (string_bytes text.new
-        ≡ string_bytes text.old ++ shown_text names.now command repl.now.session repl.now.writes) }
+        ≡ string_bytes text.old ++ shown_text names.now command repl.now) }
 {
     let machine = repl.machine();
     match command {
+        Command::Breaks => push_breakpoint_lines(text, repl.settings.breakpoints()),
         Command::Panel => push_panel(alloc, repl, text),
         Command::Watch(spec) => push_watch(alloc, repl, spec, text),
         Command::Registers => push_registers_line(text, machine.store()),
         Command::Next => push_next_line_with(text, names, machine.upcoming()),
+        Command::Where => push_where(text, names, machine),
         Command::Cells { first, count } => push_cell_lines(text, machine.store(), first, count),
+        Command::Print { first, count } => push_print_lines(text, machine.store(), first, count),
         Command::Channel(channel) => push_channel_line(text, channel, machine.channel(channel)),
         Command::Writes => push_writes_line(text, repl.writes),
         Command::Script => push_script(alloc, repl, text),

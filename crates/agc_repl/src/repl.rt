@@ -1,4 +1,4 @@
-//! The state of a console: a session, and the number of channel writes that it has shown.
+//! The state of a console: a session, the number of channel writes that it has shown, and its settings.
 ghost use Rattle.std.specs.Prelude.{◌≡◌, [], ◌∷◌, nat_le, IfOk, IfErr};
 ghost use Rattle.agc_machine.specs.Boundary.{boundary};
 ghost use Rattle.agc_machine.specs.Laws.{HasChannel};
@@ -6,33 +6,40 @@ ghost use Rattle.agc_machine.specs.Replay.{writes_in};
 ghost use Rattle.agc_machine.specs.Run.{next_before};
 ghost use Rattle.agc_repl.specs.Repl.{
   Advances,
-  GoesOn,
+  RunsOn,
   after_stretch,
   at_start,
   counted,
   gone_back,
   gone_on,
 };
+ghost use Rattle.agc_repl.specs.Settings.{at_first};
 ghost use Rattle.agc_repl.specs.Stretch.{is_short_of, stretch_to};
 ghost use Rattle.agc_repl.specs.declared.armed_breakpoint.ArmedBreakpoint.TheVariants.{Nothing};
 
+use crate::settings::Settings;
 use agc_machine::{Machine, Stepped, Stop};
 use agc_session::Session;
 use std::alloc::Global;
 
-/// A session, and the number of channel writes that it has shown.
+/// A session, the number of channel writes that it has shown, and the settings.
 #[derive(Drop)]
 pub(crate) struct Repl {
     pub(crate) session: Session,
     pub(crate) writes: usize,
+    pub(crate) settings: Settings,
 }
 
 impl Repl {
     /// Creates the console's state for a session that has shown no writes.
-    pub(crate) fn new(session: Session) -> Repl
-        ensures { result ≡ at_start session }
+    pub(crate) fn new(alloc: Global, session: Session) -> Repl
+        ensures { result ≡ at_start at_first session }
     {
-        Repl { session, writes: 0 }
+        Repl {
+            session,
+            writes: 0,
+            settings: Settings::new(alloc),
+        }
     }
 
     /// Returns the machine in its present state.
@@ -74,7 +81,7 @@ impl Repl {
     pub(crate) fn step(&mut self) -> Stepped
         ensures boundary { (self.new.session.now, result) ≡ boundary None self.old.session.now }
         ensures shown { self.new ≡ gone_on self.new.session.now (writes_in (result ∷ [])) self.old }
-        ensures on { GoesOn self.old.session self.new.session }
+        ensures on { RunsOn self.old self.new }
         ensures advances { Advances self.old.session.now self.new.session.now }
         ensures channel { HasChannel result }
     {
@@ -86,7 +93,7 @@ impl Repl {
     pub(crate) fn go_on(&mut self, cycle: u64) -> Stepped
         ensures before { (self.new.session.now, result) ≡ next_before cycle self.old.session.now }
         ensures shown { self.new ≡ gone_on self.new.session.now (writes_in (result ∷ [])) self.old }
-        ensures on { GoesOn self.old.session self.new.session }
+        ensures on { RunsOn self.old self.new }
         ensures advances { Advances self.old.session.now self.new.session.now }
         ensures channel { HasChannel result }
     {
@@ -99,6 +106,7 @@ impl Repl {
         ensures same { result ≡ stepped }
         ensures session { self.new.session ≡ self.old.session }
         ensures counted { self.new.writes ≡ counted stepped self.old.writes }
+        ensures settings { self.new.settings ≡ self.old.settings }
     {
         if let Stepped::Wrote(_) = stepped {
             self.writes = self.writes.saturating_add(1);
@@ -120,12 +128,17 @@ impl Repl {
         ensures ok { IfOk result (λ repl. repl ≡ gone_back cycle self) }
         ensures err { IfErr result (λ repl. repl ≡ self) }
     {
-        let Repl { session, writes } = self;
+        let Repl {
+            session,
+            writes,
+            settings,
+        } = self;
         match session.rewind_near(alloc, cycle, cycle) {
             Ok(rewound) => {
                 let mut earlier = Repl {
                     session: rewound.session,
                     writes: rewound.writes,
+                    settings,
                 };
                 earlier.go_silently(cycle);
                 Ok(earlier)
@@ -133,6 +146,7 @@ impl Repl {
             Err(same) => Err(Repl {
                 session: same.session,
                 writes,
+                settings,
             }),
         }
     }

@@ -1,13 +1,36 @@
 //! Parses a line as a command.
 ghost use Rattle.std.specs.Prelude.{◌≡◌, ◌≤◌, ◌∷◌, IfOk, IfSome};
 ghost use Rattle.agc_script.specs.Event.{last_cycle};
+ghost use Rattle.agc_word.specs.Channels.{IsIoChannel};
 ghost use Rattle.agc_word.specs.Text.{words_of};
+ghost use Rattle.agc_session.specs.Breakpoint.{IsBreakpointInRange as IsSoughtInRange};
 ghost use Rattle.agc_repl.specs.Command.{
   IsCommandInRange,
   IsBreakpointInRange,
+  back_cell,
+  back_interrupt,
   back_of,
+  back_place,
+  back_step,
+  back_until,
+  back_write,
+  back_write_of,
+  last_hit,
+  break_of,
+  break_at_cell,
+  break_cell,
+  break_interrupt,
+  break_place,
+  break_write,
+  break_write_of,
   cells_of,
   channel_of,
+  continue_of,
+  delete_of,
+  has_second_comma,
+  is_tables,
+  print_of,
+  quiet_of,
   command_by,
   event_fault,
   event_of,
@@ -19,6 +42,7 @@ ghost use Rattle.agc_repl.specs.Command.{
   until_of,
   until_target,
   watch_of,
+  watch_word,
   within_of,
   words_request,
 };
@@ -26,9 +50,12 @@ ghost use Rattle.agc_repl.specs.Command.{
 use crate::command::{Breakpoint, Command};
 use crate::fault::CommandFault;
 use crate::name::CommandName;
-use crate::number::{read_channel, read_cycles, read_spec, read_written_channel};
+use crate::number::{
+    read_channel, read_cycles, read_interrupt, read_spec, read_word, read_written_channel,
+};
 use crate::place::{read_cell, read_cells_after, read_place};
 use crate::words::{alone, is_word, only_word};
+use agc_listing::first_comma;
 use agc_script::{FaultKind, Key, LONGEST_LINE, has_high_byte, read_command};
 use agc_symbols::SymbolTable;
 use agc_word::next_word;
@@ -44,7 +71,7 @@ pub fn parse_command(
     line: &[u8],
 ) -> Result<Option<Command>, CommandFault>
     ensures request { result ≡ request_of names.now line.now }
-    ensures range { IfOk result (λ said. IfSome said IsCommandInRange) }
+    ensures range { IfOk result (λ parsed. IfSome parsed IsCommandInRange) }
 {
     if line.len() > LONGEST_LINE {
         Err(CommandFault::LineTooLong)
@@ -58,7 +85,7 @@ pub fn parse_command(
 #[tactic(auto, unfolding(crate::specs::Command::words_request))]
 fn read_words(names: &Option<SymbolTable>, line: &[u8]) -> Result<Option<Command>, CommandFault>
     ensures words { result ≡ words_request names.now (words_of line.now) }
-    ensures range { IfOk result (λ said. IfSome said IsCommandInRange) }
+    ensures range { IfOk result (λ parsed. IfSome parsed IsCommandInRange) }
 {
     let Some((first, words)) = next_word(line) else {
         return Ok(None);
@@ -87,14 +114,21 @@ fn read_named(
         CommandName::Go => read_go(words),
         CommandName::Step => read_step(words),
         CommandName::Until => read_until(names, words),
+        CommandName::Break => read_break(names, words),
+        CommandName::Breaks => alone(Command::Breaks, name, words),
+        CommandName::Delete => read_delete(words),
+        CommandName::Continue => read_continue(words),
+        CommandName::Quiet => read_quiet(words),
         CommandName::Panel => alone(Command::Panel, name, words),
-        CommandName::Watch => read_watch(words),
+        CommandName::Watch => read_watch(names, words),
         CommandName::Registers => alone(Command::Registers, name, words),
         CommandName::Next => alone(Command::Next, name, words),
+        CommandName::Where => alone(Command::Where, name, words),
         CommandName::Cell => read_cells(names, words),
-        CommandName::Channel => read_channel_asked(words),
+        CommandName::Print => read_print(names, words),
+        CommandName::Channel => read_channel_query(words),
         CommandName::Writes => alone(Command::Writes, name, words),
-        CommandName::Back => read_back(words),
+        CommandName::Back => read_back(names, words),
         CommandName::Script => alone(Command::Script, name, words),
         CommandName::Help => alone(Command::Help, name, words),
         CommandName::Quit => alone(Command::Quit, name, words),
@@ -229,34 +263,164 @@ fn read_until_target(what: Breakpoint, words: &[u8]) -> Result<Command, CommandF
     ensures until { result ≡ until_target what (words_of words.now) }
     ensures range { IfOk result IsCommandInRange }
 {
-    let within = read_within(words)?;
+    let within = read_within(CommandName::Until, words)?;
     Ok(Command::Until { what, within })
 }
 
 /// Parses `within N`. Without words, returns the default.
 #[tactic(auto, unfolding(crate::specs::Command::within_of))]
-fn read_within(words: &[u8]) -> Result<u64, CommandFault>
-    ensures within { result ≡ within_of (words_of words.now) }
+fn read_within(name: CommandName, words: &[u8]) -> Result<u64, CommandFault>
+    ensures within { result ≡ within_of name (words_of words.now) }
     ensures range { IfOk result (λ cycles. cycles ≤ last_cycle) }
 {
     let Some((first, rest)) = next_word(words) else {
         return Ok(WITHIN);
     };
     if !is_word(first, "within") {
-        return Err(CommandFault::Usage(CommandName::Until));
+        return Err(CommandFault::Usage(name));
     }
-    let cycles = only_word(CommandName::Until, rest)?;
+    let cycles = only_word(name, rest)?;
     read_cycles(cycles)
 }
 
 #[tactic(auto, unfolding(crate::specs::Command::watch_of, crate::specs::Command::IsCommandInRange))]
-fn read_watch(words: &[u8]) -> Result<Command, CommandFault>
-    ensures watch { result ≡ watch_of (words_of words.now) }
+fn read_watch(names: &Option<SymbolTable>, words: &[u8]) -> Result<Command, CommandFault>
+    ensures watch { result ≡ watch_of names.now (words_of words.now) }
     ensures range { IfOk result IsCommandInRange }
 {
-    let spec = only_word(CommandName::Watch, words)?;
-    let spec = read_spec(spec)?;
-    Ok(Command::Watch(spec))
+    let word = only_word(CommandName::Watch, words)?;
+    read_watched(names, word)
+}
+
+/// Parses what to watch: tables, or a cell.
+#[tactic(auto, unfolding(crate::specs::Command::IsCommandInRange))]
+fn read_watched(names: &Option<SymbolTable>, word: &[u8]) -> Result<Command, CommandFault>
+    ensures watch { result ≡ watch_word names.now word.now }
+    ensures range { IfOk result IsCommandInRange }
+{
+    if is_tables(word) {
+        let spec = read_spec(word)?;
+        return Ok(Command::Watch(spec));
+    }
+    read_break_at_cell(names, word)
+}
+
+/// Returns whether a word has two commas or more, as tables do and no place does.
+#[tactic(auto, unfolding(crate::specs::Command::is_tables))]
+fn is_tables(word: &[u8]) -> bool
+    ensures { result ≡ is_tables word.now }
+{
+    match first_comma(word) {
+        Some(first) => first_comma(&word[first + 1..]).is_some(),
+        None => false,
+    }
+}
+
+#[tactic(auto, unfolding(crate::specs::Command::break_of, crate::specs::Command::IsCommandInRange))]
+fn read_break(names: &Option<SymbolTable>, words: &[u8]) -> Result<Command, CommandFault>
+    ensures breaks { result ≡ break_of names.now (words_of words.now) }
+    ensures range { IfOk result IsCommandInRange }
+{
+    let (first, rest) = next_word(words).ok_or(CommandFault::Usage(CommandName::Break))?;
+    if is_word(first, "write") {
+        read_break_write(rest)
+    } else if is_word(first, "cell") {
+        let word = only_word(CommandName::Break, rest)?;
+        read_break_at_cell(names, word)
+    } else if is_word(first, "interrupt") {
+        read_break_interrupt(rest)
+    } else {
+        read_break_place(names, words)
+    }
+}
+
+#[tactic(auto, unfolding(crate::specs::Command::IsCommandInRange, crate::specs::Command::IsBreakpointInRange))]
+fn read_break_place(names: &Option<SymbolTable>, words: &[u8]) -> Result<Command, CommandFault>
+    ensures breaks { result ≡ break_place names.now (words_of words.now) }
+    ensures range { IfOk result IsCommandInRange }
+{
+    let word = only_word(CommandName::Break, words)?;
+    let place = read_place(names, word)?;
+    Ok(Command::Break(Breakpoint::Order(place)))
+}
+
+#[tactic(auto, unfolding(crate::specs::Command::IsCommandInRange, crate::specs::Command::IsBreakpointInRange))]
+fn read_break_at_cell(names: &Option<SymbolTable>, word: &[u8]) -> Result<Command, CommandFault>
+    ensures breaks { result ≡ break_at_cell names.now word.now }
+    ensures range { IfOk result IsCommandInRange }
+{
+    let cell = read_cell(names, word)?;
+    Ok(Command::Break(Breakpoint::Cell(cell)))
+}
+
+#[tactic(auto, unfolding(crate::specs::Command::IsCommandInRange, crate::specs::Command::IsBreakpointInRange))]
+fn read_break_interrupt(words: &[u8]) -> Result<Command, CommandFault>
+    ensures breaks { result ≡ break_interrupt (words_of words.now) }
+    ensures range { IfOk result IsCommandInRange }
+{
+    let word = only_word(CommandName::Break, words)?;
+    let rupt = read_interrupt(word)?;
+    Ok(Command::Break(Breakpoint::Interrupt(rupt)))
+}
+
+fn read_break_write(words: &[u8]) -> Result<Command, CommandFault>
+    ensures breaks { result ≡ break_write (words_of words.now) }
+    ensures range { IfOk result IsCommandInRange }
+{
+    let (channel, rest) = next_word(words).ok_or(CommandFault::Usage(CommandName::Break))?;
+    let channel = read_written_channel(channel)?;
+    read_break_word(channel, rest)
+}
+
+/// Parses the word after the channel of a write, if there is one.
+#[tactic(auto, unfolding(crate::specs::Command::break_write_of, crate::specs::Command::IsCommandInRange, crate::specs::Command::IsBreakpointInRange))]
+fn read_break_word(channel: u16, words: &[u8]) -> Result<Command, CommandFault>
+    requires { IsIoChannel channel }
+    ensures breaks { result ≡ break_write_of channel (words_of words.now) }
+    ensures range { IfOk result IsCommandInRange }
+{
+    let Some((word, rest)) = next_word(words) else {
+        return Ok(Command::Break(Breakpoint::Write(channel)));
+    };
+    let word = read_word(word)?;
+    alone(
+        Command::Break(Breakpoint::Word { channel, word }),
+        CommandName::Break,
+        rest,
+    )
+}
+
+#[tactic(auto, unfolding(crate::specs::Command::delete_of, crate::specs::Command::IsCommandInRange))]
+fn read_delete(words: &[u8]) -> Result<Command, CommandFault>
+    ensures delete { result ≡ delete_of (words_of words.now) }
+    ensures range { IfOk result IsCommandInRange }
+{
+    let number = only_word(CommandName::Delete, words)?;
+    let number = read_cycles(number)?;
+    Ok(Command::Delete(number))
+}
+
+#[tactic(auto, unfolding(crate::specs::Command::continue_of, crate::specs::Command::IsCommandInRange))]
+fn read_continue(words: &[u8]) -> Result<Command, CommandFault>
+    ensures on { result ≡ continue_of (words_of words.now) }
+    ensures range { IfOk result IsCommandInRange }
+{
+    let within = read_within(CommandName::Continue, words)?;
+    Ok(Command::Continue(within))
+}
+
+#[tactic(auto, unfolding(crate::specs::Command::quiet_of, crate::specs::Command::IsCommandInRange))]
+fn read_quiet(words: &[u8]) -> Result<Command, CommandFault>
+    ensures quiet { result ≡ quiet_of (words_of words.now) }
+    ensures range { IfOk result IsCommandInRange }
+{
+    let Some((first, rest)) = next_word(words) else {
+        return Ok(Command::Quiet(true));
+    };
+    if !is_word(first, "off") {
+        return Err(CommandFault::Usage(CommandName::Quiet));
+    }
+    alone(Command::Quiet(false), CommandName::Quiet, rest)
 }
 
 #[tactic(auto, unfolding(crate::specs::Command::cells_of, crate::specs::Command::IsCommandInRange))]
@@ -266,12 +430,23 @@ fn read_cells(names: &Option<SymbolTable>, words: &[u8]) -> Result<Command, Comm
 {
     let (place, rest) = next_word(words).ok_or(CommandFault::Usage(CommandName::Cell))?;
     let first = read_cell(names, place)?;
-    let count = read_cells_after(first, rest)?;
+    let count = read_cells_after(CommandName::Cell, first, rest)?;
     Ok(Command::Cells { first, count })
 }
 
+#[tactic(auto, unfolding(crate::specs::Command::print_of, crate::specs::Command::IsCommandInRange))]
+fn read_print(names: &Option<SymbolTable>, words: &[u8]) -> Result<Command, CommandFault>
+    ensures print { result ≡ print_of names.now (words_of words.now) }
+    ensures range { IfOk result IsCommandInRange }
+{
+    let (place, rest) = next_word(words).ok_or(CommandFault::Usage(CommandName::Print))?;
+    let first = read_cell(names, place)?;
+    let count = read_cells_after(CommandName::Print, first, rest)?;
+    Ok(Command::Print { first, count })
+}
+
 #[tactic(auto, unfolding(crate::specs::Command::channel_of, crate::specs::Command::IsCommandInRange))]
-fn read_channel_asked(words: &[u8]) -> Result<Command, CommandFault>
+fn read_channel_query(words: &[u8]) -> Result<Command, CommandFault>
     ensures channel { result ≡ channel_of (words_of words.now) }
     ensures range { IfOk result IsCommandInRange }
 {
@@ -281,11 +456,133 @@ fn read_channel_asked(words: &[u8]) -> Result<Command, CommandFault>
 }
 
 #[tactic(auto, unfolding(crate::specs::Command::back_of, crate::specs::Command::IsCommandInRange))]
-fn read_back(words: &[u8]) -> Result<Command, CommandFault>
-    ensures back { result ≡ back_of (words_of words.now) }
+fn read_back(names: &Option<SymbolTable>, words: &[u8]) -> Result<Command, CommandFault>
+    ensures back { result ≡ back_of names.now (words_of words.now) }
     ensures range { IfOk result IsCommandInRange }
 {
+    let (first, rest) = next_word(words).ok_or(CommandFault::Usage(CommandName::Back))?;
+    if is_word(first, "step") {
+        return read_back_step(rest);
+    }
+    if is_word(first, "until") {
+        return read_back_until(names, rest);
+    }
     let cycle = only_word(CommandName::Back, words)?;
     let cycle = read_cycles(cycle)?;
     Ok(Command::Back(cycle))
+}
+
+#[tactic(auto, unfolding(crate::specs::Command::back_step, crate::specs::Command::IsCommandInRange))]
+fn read_back_step(words: &[u8]) -> Result<Command, CommandFault>
+    ensures back { result ≡ back_step (words_of words.now) }
+    ensures range { IfOk result IsCommandInRange }
+{
+    if next_word(words).is_none() {
+        return Ok(last_hit(agc_session::Breakpoint::Boundary));
+    }
+    let boundaries = only_word(CommandName::Back, words)?;
+    let count = read_cycles(boundaries)?;
+    if count == 0 {
+        return Err(CommandFault::NoStep);
+    }
+    Ok(Command::BackTo {
+        what: agc_session::Breakpoint::Boundary,
+        count,
+    })
+}
+
+#[tactic(auto, unfolding(crate::specs::Command::back_until, crate::specs::Command::IsCommandInRange))]
+fn read_back_until(names: &Option<SymbolTable>, words: &[u8]) -> Result<Command, CommandFault>
+    ensures back { result ≡ back_until names.now (words_of words.now) }
+    ensures range { IfOk result IsCommandInRange }
+{
+    let (first, rest) = next_word(words).ok_or(CommandFault::Usage(CommandName::Back))?;
+    if is_word(first, "write") {
+        read_back_write(rest)
+    } else if is_word(first, "cell") {
+        read_back_cell(names, rest)
+    } else if is_word(first, "interrupt") {
+        read_back_interrupt(rest)
+    } else if is_word(first, "panel") {
+        alone(
+            last_hit(agc_session::Breakpoint::Panel),
+            CommandName::Back,
+            rest,
+        )
+    } else {
+        read_back_place(names, words)
+    }
+}
+
+/// Returns the search for the last hit.
+#[tactic(auto, unfolding(crate::specs::Command::IsCommandInRange))]
+fn last_hit(what: agc_session::Breakpoint) -> Command
+    requires { IsSoughtInRange what }
+    ensures command { result ≡ last_hit what }
+    ensures range { IsCommandInRange result }
+{
+    Command::BackTo { what, count: 1 }
+}
+
+fn read_back_write(words: &[u8]) -> Result<Command, CommandFault>
+    ensures back { result ≡ back_write (words_of words.now) }
+    ensures range { IfOk result IsCommandInRange }
+{
+    let (channel, rest) = next_word(words).ok_or(CommandFault::Usage(CommandName::Back))?;
+    let channel = read_written_channel(channel)?;
+    read_back_word(channel, rest)
+}
+
+/// Parses the word after the channel of a write to search, if there is one.
+#[tactic(auto, unfolding(crate::specs::Command::back_write_of, crate::specs::Command::IsCommandInRange))]
+fn read_back_word(channel: u16, words: &[u8]) -> Result<Command, CommandFault>
+    ensures back { result ≡ back_write_of channel (words_of words.now) }
+    ensures range { IfOk result IsCommandInRange }
+{
+    let channel = Some(channel);
+    let Some((word, rest)) = next_word(words) else {
+        return Ok(last_hit(agc_session::Breakpoint::Write {
+            channel,
+            word: None,
+        }));
+    };
+    let word = Some(read_word(word)?);
+    alone(
+        last_hit(agc_session::Breakpoint::Write { channel, word }),
+        CommandName::Back,
+        rest,
+    )
+}
+
+#[tactic(auto, unfolding(crate::specs::Command::IsCommandInRange))]
+fn read_back_cell(names: &Option<SymbolTable>, words: &[u8]) -> Result<Command, CommandFault>
+    ensures back { result ≡ back_cell names.now (words_of words.now) }
+    ensures range { IfOk result IsCommandInRange }
+{
+    let word = only_word(CommandName::Back, words)?;
+    let cell = read_cell(names, word)?;
+    Ok(last_hit(agc_session::Breakpoint::Cell(cell)))
+}
+
+#[tactic(auto, unfolding(crate::specs::Command::back_interrupt, crate::specs::Command::IsCommandInRange))]
+fn read_back_interrupt(words: &[u8]) -> Result<Command, CommandFault>
+    ensures back { result ≡ back_interrupt (words_of words.now) }
+    ensures range { IfOk result IsCommandInRange }
+{
+    if next_word(words).is_none() {
+        return Ok(last_hit(agc_session::Breakpoint::Interrupt(None)));
+    }
+    let word = only_word(CommandName::Back, words)?;
+    let rupt = read_interrupt(word)?;
+    Ok(last_hit(agc_session::Breakpoint::Interrupt(Some(rupt))))
+}
+
+#[tactic(auto, unfolding(crate::specs::Command::IsCommandInRange))]
+fn read_back_place(names: &Option<SymbolTable>, words: &[u8]) -> Result<Command, CommandFault>
+    ensures back { result ≡ back_place names.now (words_of words.now) }
+    ensures range { IfOk result IsCommandInRange }
+{
+    let word = only_word(CommandName::Back, words)?;
+    let place = read_place(names, word)?;
+    Ok(last_hit(agc_session::Breakpoint::Order(place)))
 }

@@ -21,7 +21,7 @@ pub struct BlockSender {
     /// The number of items in a full block: the places of the block or of the ring, whichever is less.
     full: usize,
     /// The number of writes already announced to the gate.
-    told: u64,
+    reported: u64,
 }
 
 impl Model for BlockSender {
@@ -53,7 +53,7 @@ impl BlockSender {
             sender,
             block: ArrayVec::new(),
             full,
-            told: 0,
+            reported: 0,
         }
     }
 
@@ -65,7 +65,7 @@ impl BlockSender {
     {
         self.block.push(Item::Write(write));
         if self.block.len() == self.full {
-            self.told = tell(gate, self.told, self.block.len());
+            self.reported = tell(gate, self.reported, self.block.len());
             send(rt, &mut self.sender, &mut self.block);
         }
     }
@@ -77,10 +77,10 @@ impl BlockSender {
         let BlockSender {
             mut sender,
             mut block,
-            told,
+            reported,
             ..
         } = self;
-        tell(gate, told, block.len());
+        tell(gate, reported, block.len());
         block.push(Item::End);
         send(rt, &mut sender, &mut block);
         sender
@@ -88,11 +88,11 @@ impl BlockSender {
 }
 
 /// Announces this many more writes to the gate, in order; returns the number announced so far.
-fn tell<G: Gate>(gate: &G, told: u64, writes: usize) -> u64 {
+fn tell<G: Gate>(gate: &G, reported: u64, writes: usize) -> u64 {
     for n in 0..writes as u64 {
-        gate.before_send(told.saturating_add(n + 1));
+        gate.before_send(reported.saturating_add(n + 1));
     }
-    told.saturating_add(writes as u64)
+    reported.saturating_add(writes as u64)
 }
 
 /// Sends a block whole, and empties it.

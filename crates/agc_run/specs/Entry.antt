@@ -12,7 +12,7 @@ use Rattle.agc_machine.specs.State.{State, start_state}
 use Rattle.agc_machine.specs.StopAddress.{stop_address_of}
 use Rattle.agc_load.specs.Files.{Files, events_in, keys_steps_where, rope_steps, script_steps}
 use Rattle.agc_load.specs.Keys.{keys_of}
-use Rattle.agc_load.specs.Options.{said_by}
+use Rattle.agc_load.specs.Options.{parsed_by}
 use Rattle.agc_load.specs.Prepare.{run_steps, start_steps}
 use Rattle.agc_pipe.specs.declared.shown.ShowFault.{ShowFault}
 use Rattle.agc_pipe.specs.declared.shown.ShowFault.TheVariants as show
@@ -37,7 +37,7 @@ session_steps options files =
 unfoldable pub machine_of : Options → Files → State
 machine_of options files =
     start_state (rope_words options.form files.rope) (events_in (script_of files.script))
-    options.limit (said_by stop_address_of options.until)
+    options.limit (parsed_by stop_address_of options.until)
 
 -- the refusal for a run that failed
 abbrev pub show_refusal : ShowFault → LoadFault

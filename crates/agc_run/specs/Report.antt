@@ -12,18 +12,18 @@ use Rattle.agc_panel.specs.Tables.{WatchedTables, tables_of}
 use Rattle.agc_panel.specs.WatchSpec.{spec_of}
 use Rattle.agc_panel.specs.declared.watch_spec.WatchSpec.{WatchSpec}
 use Rattle.agc_pipe.specs.Keys.{key_in}
-use Rattle.agc_load.specs.Options.{said_by}
+use Rattle.agc_load.specs.Options.{parsed_by}
 use Rattle.agc_cli.specs.declared.session_options.Options.{Options}
 use Rattle.agc_run.specs.declared.report.LiveKeys.{LiveKeys}
 use Rattle.agc_run.specs.declared.report.Report.{Report}
 
 -- the channel writes, if the log is requested
-abbrev pub log_asked : Bool → List ChannelWrite → Option (List ChannelWrite)
-log_asked asked writes = if asked then Some writes else None
+abbrev pub log_requested : Bool → List ChannelWrite → Option (List ChannelWrite)
+log_requested requested writes = if requested then Some writes else None
 
 -- the tables of a memory, if any places are watched
-abbrev pub tables_asked : Option WatchSpec → Memory → Option WatchedTables
-tables_asked watch memory = option_map (tables_of memory) watch
+abbrev pub tables_requested : Option WatchSpec → Memory → Option WatchedTables
+tables_requested watch memory = option_map (tables_of memory) watch
 
 -- A report of a run: the panel, the stop, and what the options request; and the live keys, if any.
 pub record IsReport (options : Options) (run : Run) (live : Option LiveKeys)
@@ -32,9 +32,9 @@ pub record IsReport (options : Options) (run : Run) (live : Option LiveKeys)
   pub stop : run.last.stopped ≡ Some report.stop
   pub cycle : report.cycle ≡ run.last.cycle
   pub writes : report.writes ≡ length run.writes
-  pub log : report.log ≡ log_asked options.log run.writes
+  pub log : report.log ≡ log_requested options.log run.writes
   pub keys : report.keys ≡ live
-  pub tables : report.tables ≡ tables_asked (said_by spec_of options.watch) run.last.processor.store
+  pub tables : report.tables ≡ tables_requested (parsed_by spec_of options.watch) run.last.processor.store
 
 -- A report of a run with live keys: that of the run on the script with a tape's keys among its
 -- events, the tape, which a live run takes, and how many keys are left, which follow those of the

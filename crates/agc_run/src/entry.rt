@@ -5,9 +5,9 @@ ghost use Rattle.agc_panel.specs.WatchSpec.{spec_of};
 ghost use Rattle.agc_run.specs.Entry.{IsAccepted, IsAnswered, IsKeysReport, IsPrinted};
 ghost use Rattle.agc_run.specs.Entry.{IsReported, IsRunReport, session_steps};
 ghost use Rattle.agc_load.specs.Files.{given_files, keys_steps};
-ghost use Rattle.agc_load.specs.Options.{said_by};
+ghost use Rattle.agc_load.specs.Options.{parsed_by};
 ghost use Rattle.agc_load.specs.Prepare.{run_steps};
-ghost use Rattle.agc_load.specs.Steps.{ComesOf, IsTold};
+ghost use Rattle.agc_load.specs.Steps.{ComesOf, IsOutcome};
 ghost use Rattle.agc_load.specs.Fault.{refusal_line};
 ghost use Rattle.agc_load.specs.declared.fault.LoadFault.{LoadFault};
 
@@ -56,7 +56,7 @@ where
     ensures refused { result ≡ REFUSED → (r : LoadFault)
         × Appends (E.contents err.old) (E.contents err.new) (refusal_line r)
         × IfSome (given_files options.now (R.remaining rope.old) (S.remaining script.old)
-        (K.remaining keys.old)) (λ files. IsTold (session_steps options.now files) r) }
+        (K.remaining keys.old)) (λ files. IsOutcome (session_steps options.now files) r) }
     ensures stdout_unchanged { result ≡ REFUSED → Keeps (W.contents out.old) (W.contents out.new) }
 
     // Whichever write failed, the other stream is unchanged.
@@ -128,7 +128,7 @@ fn plain_report<H: Threads + Wait + Sync, G: Gate + Sync>(
 ) -> Result<Report, LoadFault>
     requires live { options.now.live ≡ false }
     requires fresh { prepared.machine.begun ≡ false }
-    requires watch { prepared.watch ≡ said_by spec_of options.now.watch }
+    requires watch { prepared.watch ≡ parsed_by spec_of options.now.watch }
     ensures { ComesOf (run_steps options.now) (IsRunReport options.now prepared.machine) result }
 {
     let Loaded { machine, watch } = prepared;
@@ -147,7 +147,7 @@ fn live_report<H: Threads + Wait + Sync, K: Read, G: Gate + Sync>(
 ) -> Result<Report, LoadFault>
     requires live { options.now.live ≡ true }
     requires fresh { prepared.machine.begun ≡ false }
-    requires watch { prepared.watch ≡ said_by spec_of options.now.watch }
+    requires watch { prepared.watch ≡ parsed_by spec_of options.now.watch }
     ensures report { IfSome (K.remaining keys.old)
         (λ file. ComesOf (keys_steps file ++ run_steps options.now)
         (IsKeysReport options.now prepared.machine file) result) }

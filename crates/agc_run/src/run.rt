@@ -3,9 +3,9 @@ ghost use Rattle.std.specs.Prelude.{◌≡◌, ◌⊎◌, ◌<◌, ◌^◌, All,
 ghost use Rattle.agc_machine.specs.Run.{Run, run_of};
 ghost use Rattle.agc_panel.specs.WatchSpec.{spec_of};
 ghost use Rattle.agc_pipe.specs.Shown.{ShowsRun};
-ghost use Rattle.agc_load.specs.Options.{said_by};
+ghost use Rattle.agc_load.specs.Options.{parsed_by};
 ghost use Rattle.agc_run.specs.Entry.{show_refusal};
-ghost use Rattle.agc_run.specs.Report.{IsLiveReport, IsReport, log_asked, tables_asked};
+ghost use Rattle.agc_run.specs.Report.{IsLiveReport, IsReport, log_requested, tables_requested};
 ghost use Rattle.agc_load.specs.declared.fault.LoadFault.TheVariants as refusal;
 
 use crate::report::{LiveKeys, Log, Report};
@@ -33,7 +33,7 @@ pub fn report_run<H: Threads + Wait + Sync, G: Gate + Sync>(
     gate: &G,
 ) -> Result<Report, LoadFault>
     requires fresh { machine.begun ≡ false }
-    requires watch { run.now.watch ≡ said_by spec_of options.now.watch }
+    requires watch { run.now.watch ≡ parsed_by spec_of options.now.watch }
     ensures report { IfOk result (IsReport options.now (run_of machine) None) }
     ensures refused { IfErr result (λ r. (r ≡ LoadFault.Thread) ⊎ (r ≡ LoadFault.Memory)) }
 {
@@ -56,7 +56,7 @@ pub fn report_live_run<H: Threads + Wait + Sync, G: Gate + Sync>(
 ) -> Result<Report, LoadFault>
     requires fresh { machine.begun ≡ false }
     requires spacing { spacing ≡ options.now.spacing }
-    requires watch { run.now.watch ≡ said_by spec_of options.now.watch }
+    requires watch { run.now.watch ≡ parsed_by spec_of options.now.watch }
     ensures report { IfOk result (IsLiveReport options.now machine keys.items) }
     ensures refused { IfErr result (λ r. (r ≡ LoadFault.Thread) ⊎ (r ≡ LoadFault.Memory)) }
 {
@@ -90,7 +90,7 @@ fn report_shown(
     watch: &Option<CheckedSpec>,
 ) -> Report
     requires channels { All (λ write. write.channel < 2 ^ 9) shown.log.items }
-    requires watch { watch.now ≡ said_by spec_of options.now.watch }
+    requires watch { watch.now ≡ parsed_by spec_of options.now.watch }
     ensures { (run : Run) → ShowsRun run shown → IsReport options.now run keys result }
 {
     let tables = watched_tables(&shown.store, watch);
@@ -106,23 +106,27 @@ fn report_shown(
         stop,
         cycle,
         writes: log.len(),
-        log: asked_log(options.log, log),
+        log: requested_log(options.log, log),
         keys,
         tables,
     }
 }
 
 /// Returns the log if it was requested.
-fn asked_log(asked: bool, writes: Vec<ChannelWrite>) -> Option<Log>
+fn requested_log(requested: bool, writes: Vec<ChannelWrite>) -> Option<Log>
     requires { All (λ write. write.channel < 2 ^ 9) writes.items }
-    ensures { result ≡ log_asked asked writes.items }
+    ensures { result ≡ log_requested requested writes.items }
 {
-    if asked { Some(Log::new(writes)) } else { None }
+    if requested {
+        Some(Log::new(writes))
+    } else {
+        None
+    }
 }
 
 /// Returns the watched tables, if any.
 fn watched_tables(store: &Store, places: &Option<CheckedSpec>) -> Option<Tables>
-    ensures { result ≡ tables_asked places.now store.now }
+    ensures { result ≡ tables_requested places.now store.now }
 {
     match places {
         Some(places) => Some(Tables::read(store, places)),

@@ -1,9 +1,9 @@
 //! Checks the options of the ring, of live keys and of the watcher before a run.
 ghost use Rattle.std.specs.Prelude.{◌≡◌, ◌⊎◌, false, true, IfOk, OnOk, MatchResult, None, Some};
 ghost use Rattle.agc_panel.specs.WatchSpec.{spec_of};
-ghost use Rattle.agc_load.specs.Options.{said_by};
+ghost use Rattle.agc_load.specs.Options.{parsed_by};
 ghost use Rattle.agc_load.specs.Prepare.{run_steps, slots_refusal, spacing_refusal, tables_refusal};
-ghost use Rattle.agc_load.specs.Steps.{IsTold, refusal_in};
+ghost use Rattle.agc_load.specs.Steps.{IsOutcome, refusal_in};
 ghost use Rattle.agc_load.specs.declared.fault.LoadFault.TheVariants as refusal;
 
 use crate::run::show_refusal;
@@ -31,9 +31,9 @@ pub fn check_run<H: Threads>(
     watch: &Option<WatchSpec>,
 ) -> Result<RunOptions, LoadFault>
     requires live { options.now.live ≡ false }
-    requires watch { watch.now ≡ said_by spec_of options.now.watch }
+    requires watch { watch.now ≡ parsed_by spec_of options.now.watch }
     ensures checked { MatchResult result (λ _. refusal_in (run_steps options.now) ≡ None)
-        (IsTold (run_steps options.now)) }
+        (IsOutcome (run_steps options.now)) }
     ensures slots { OnOk result (slots_refusal options.now.slots ≡ None) }
     ensures spacing { OnOk result (spacing_refusal options.now.live options.now.spacing ≡ None) }
     ensures tables { OnOk result (tables_refusal watch.now ≡ None) }
@@ -53,9 +53,9 @@ pub fn check_live_run<H: Threads>(
     watch: &Option<WatchSpec>,
 ) -> Result<(RunOptions, Spacing), LoadFault>
     requires live { options.now.live ≡ true }
-    requires watch { watch.now ≡ said_by spec_of options.now.watch }
+    requires watch { watch.now ≡ parsed_by spec_of options.now.watch }
     ensures checked { MatchResult result (λ _. refusal_in (run_steps options.now) ≡ None)
-        (IsTold (run_steps options.now)) }
+        (IsOutcome (run_steps options.now)) }
     ensures slots { OnOk result (slots_refusal options.now.slots ≡ None) }
     ensures spacing { OnOk result (spacing_refusal options.now.live options.now.spacing ≡ None) }
     ensures tables { OnOk result (tables_refusal watch.now ≡ None) }

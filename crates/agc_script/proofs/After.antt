@@ -7,7 +7,7 @@ use Rattle.std.proofs.lemmas.List.{append-nil, take_at, get_or_at, flat_map_more
 use Rattle.std.proofs.lemmas.List.Elements.{filter_map-append}
 use Rattle.agc_script.specs.declared.line.Repeat.{Repeat}
 use Rattle.agc_script.specs.declared.fault.FaultKind.{FaultKind}
-use Rattle.agc_script.specs.Parse.{events_said, start_said}
+use Rattle.agc_script.specs.Parse.{events_parsed, start_parsed}
 use Rattle.agc_script.specs.Injection.{start_of, last_start, events_of_line, events_of_lines}
 use Rattle.agc_script.specs.Fault.{has_fault, fault_at, AreFaultless}
 
@@ -34,12 +34,12 @@ last_pushed first [] start = refl
 last_pushed first (x ∷ starts) start = last_pushed (Some x) starts start
 
 -- the start that the next line is compared with
-pub next_start : (done : List (List ℕ)) (line : List ℕ) (said : Option Repeat) → start_of line ≡ option_map (λ repeat. repeat.start) said
-    → start_said (last_start done) said ≡ last_start (done ++ line ∷ [])
+pub next_start : (done : List (List ℕ)) (line : List ℕ) (parsed : Option Repeat) → start_of line ≡ option_map (λ repeat. repeat.start) parsed
+    → start_parsed (last_start done) parsed ≡ last_start (done ++ line ∷ [])
 next_start done line None e = rw (filter_map-append start_of done (line ∷ []), e, append-nil (filter_map start_of done))
 next_start done line (Some repeat) e = rw (filter_map-append start_of done (line ∷ []), e, last_pushed None (filter_map start_of done) repeat.start)
 
 -- the events before the next line
-pub next_events : (done : List (List ℕ)) (line : List ℕ) (said : Option Repeat) → events_said said ≡ events_of_line line
-    → events_of_lines done ++ events_said said ≡ events_of_lines (done ++ line ∷ [])
-next_events done line said e = rw e (flat_map_more events_of_line [] done line)
+pub next_events : (done : List (List ℕ)) (line : List ℕ) (parsed : Option Repeat) → events_parsed parsed ≡ events_of_line line
+    → events_of_lines done ++ events_parsed parsed ≡ events_of_lines (done ++ line ∷ [])
+next_events done line parsed e = rw e (flat_map_more events_of_line [] done line)

@@ -6,18 +6,18 @@ use Rattle.agc_script.specs.declared.grammar.Command.TheVariants as command
 use Rattle.agc_script.specs.declared.key.Key.{Key}
 use Rattle.agc_script.specs.Key.{key_named}
 use Rattle.agc_script.specs.Grammar.{command_named, direction_named}
-use Rattle.agc_script.specs.Command.{one_of, key_of, pro_of, said_by, command_of}
+use Rattle.agc_script.specs.Command.{one_of, key_of, pro_of, parsed_by, command_of}
 use Rattle.agc_script.specs.Fault.{numbers_after, numbers_of}
 use Rattle.agc_script.proofs.Numbers.{Judged, JudgedBy, input_judged, pulse_judged, raise_judged, poke_judged}
 
 -- `key NAME`
 key_known : (a : List ℕ) (key : Option Key) → key_named a ≡ key → Judged (a ∷ []) command.Key
-unfolding said_by key_of one_of numbers_after
+unfolding parsed_by key_of one_of numbers_after
 key_known a None e = rw e
 key_known a (Some key) e = rw e
 
 key_judged : (words : List (List ℕ)) → Judged words command.Key
-unfolding said_by key_of one_of numbers_after
+unfolding parsed_by key_of one_of numbers_after
 key_judged [] = refl
 key_judged (a ∷ []) = key_known a (key_named a) refl
 key_judged (a ∷ b ∷ []) = refl
@@ -26,12 +26,12 @@ key_judged (a ∷ b ∷ c ∷ d ∷ words) = refl
 
 -- `pro down` and `pro up`
 pro_known : (a : List ℕ) (down : Option Bool) → direction_named a ≡ down → Judged (a ∷ []) command.Pro
-unfolding said_by pro_of one_of numbers_after
+unfolding parsed_by pro_of one_of numbers_after
 pro_known a None e = rw e
 pro_known a (Some down) e = rw e
 
 pro_judged : (words : List (List ℕ)) → Judged words command.Pro
-unfolding said_by pro_of one_of numbers_after
+unfolding parsed_by pro_of one_of numbers_after
 pro_judged [] = refl
 pro_judged (a ∷ []) = pro_known a (direction_named a) refl
 pro_judged (a ∷ b ∷ []) = refl

@@ -9,7 +9,7 @@ use Rattle.agc_word.specs.Numeral.{is_digit}
 use Rattle.agc_word.specs.Number.{Number, number_from_pattern, pattern_of}
 use Rattle.agc_word.specs.declared.pulse.Pulse.{Pulse}
 use Rattle.agc_word.specs.declared.pulse.Pulse.TheVariants as pulse
-use Rattle.agc_script.specs.Command.{command_of, input_event, input_of, key_of, number_in, one_of, poke_event, poke_of_words, pro_of, pulse_event, pulse_of, raise_event, raise_of, said_by, three_of, two_of}
+use Rattle.agc_script.specs.Command.{command_of, input_event, input_of, key_of, number_in, one_of, poke_event, poke_of_words, pro_of, pulse_event, pulse_of, raise_event, raise_of, parsed_by, three_of, two_of}
 use Rattle.agc_script.specs.Event.{IsNarrow, IsWhatInRange}
 use Rattle.agc_script.specs.Grammar.{all_commands, command_name, command_named, direction_name, direction_named, directions, pulse_named, pulses}
 use Rattle.agc_script.specs.Key.{all_keys, key_named, name_of}
@@ -188,7 +188,7 @@ are_words (what.Poke bank offset value) h =
 
 -- the meaning of the words
 pub says : (what : What) → IsWhatInRange what → command_of (name_word what ∷ arguments what) ≡ Ok what
-unfolding IsWhatInRange command_of command_named all_commands command_name said_by key_of pro_of input_of pulse_of raise_of poke_of_words one_of two_of three_of input_event pulse_event raise_event poke_event
+unfolding IsWhatInRange command_of command_named all_commands command_name parsed_by key_of pro_of input_of pulse_of raise_of poke_of_words one_of two_of three_of input_event pulse_event raise_event poke_event
 says (what.Key key) h = rw (key_back key).1 refl
 says (what.Pro down) h = rw (direction_back down).1 refl
 says (what.Input channel value) h =

@@ -33,9 +33,9 @@ counted before n from to h =
           rw w.0 (rw (lt-leb (from + (most_events - before) * n) to (omega arith)))
     ]
 
-room : (m : Bool) (said : Option Repeat) → result_err (if m then Err TooMany else Ok said) ≡ (if m then Some TooMany else None)
-room true said = refl
-room false said = refl
+room : (m : Bool) (parsed : Option Repeat) → result_err (if m then Err TooMany else Ok parsed) ≡ (if m then Some TooMany else None)
+room true parsed = refl
+room false parsed = refl
 
 pub bounded : (before n from to : ℕ) (what : What) → ((n == 0) || nat_lt to from) ≡ false
     → result_err (within_bound before (record { start = from; period = n; times = (to - from) / n + 1; what = what }))

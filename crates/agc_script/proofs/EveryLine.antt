@@ -69,5 +69,5 @@ every_says last [] repeat h = cc
 every_says last (n ∷ []) repeat h = short_says last n (cycle_of n) repeat h
 every_says last (n ∷ from ∷ []) repeat h = two_say last (n ∷ from ∷ []) (cycle_of n) (cycle_of from) repeat h
 every_says last (n ∷ from ∷ to ∷ command) repeat h =
-    let said = cycles_say last (cycle_of n) (cycle_of from) (cycle_of to) (command_of command) repeat h in
-    record { start = said.start; events = said.events }
+    let parsed = cycles_say last (cycle_of n) (cycle_of from) (cycle_of to) (command_of command) repeat h in
+    record { start = parsed.start; events = parsed.events }

@@ -85,7 +85,7 @@ none_is_memory false false false false false false kind h = λ e. cc
 
 other_than_memory : (r : Result (Option Repeat) FaultKind) (six : Option FaultKind) → result_err r ≡ six → ((kind : FaultKind) → Some kind ≡ six → kind ≢ Memory)
     → IfErr r (λ kind. kind ≢ Memory)
-other_than_memory (Ok said) six h never = tt
+other_than_memory (Ok parsed) six h never = tt
 other_than_memory (Err kind) six h never = never kind h
 
 pub words_other : (last before : ℕ) (words : List (List ℕ)) → IfErr (words_meaning last before words) (λ kind. kind ≢ Memory)

@@ -10,7 +10,7 @@ use Rattle.agc_script.specs.declared.fault.FaultKind.TheVariants.{Memory}
 use Rattle.agc_script.specs.declared.fault.ScriptFault.{ScriptFault}
 use Rattle.agc_word.specs.Text.{words_of}
 use Rattle.agc_script.specs.Line.{meaning_of}
-use Rattle.agc_script.specs.Parse.{events_said, start_said, taken, reading}
+use Rattle.agc_script.specs.Parse.{events_parsed, start_parsed, taken, reading}
 use Rattle.agc_script.specs.Injection.{spelt_out, start_of, last_start, events_of_line, events_of_lines}
 use Rattle.agc_script.specs.Fault.{known_and, words_have, has_fault, AreFaultless, IsFirstFault}
 use Rattle.agc_script.proofs.Faults.{line_judged}
@@ -57,19 +57,19 @@ fault_read done rest line n kind e h m =
     }
 
 -- the lines up to one more, which is not faulty
-one_more : (done rest : List (List ℕ)) (line : List ℕ) (said : Option Repeat) → AreFaultless (done ++ line ∷ rest) (length done)
-    → meaning_of (last_start done) (length (events_of_lines done)) line ≡ Ok said
+one_more : (done rest : List (List ℕ)) (line : List ℕ) (parsed : Option Repeat) → AreFaultless (done ++ line ∷ rest) (length done)
+    → meaning_of (last_start done) (length (events_of_lines done)) line ≡ Ok parsed
     → AreFaultless ((done ++ line ∷ []) ++ rest) (length (done ++ line ∷ []))
-one_more done rest line said h m =
+one_more done rest line parsed h m =
     let judged = judged_by done line None (ap (λ (r : Result (Option Repeat) FaultKind). result_err r) m) in
     rw (append_assoc done (line ∷ []) rest, length_push done line)
     (more_faultless (done ++ line ∷ rest) (length done) h (λ kind. at_line done rest line (length done + 1) kind refl ∙ judged kind))
 
 -- a line as it is taken in
-taken_said : (last : ℕ) (events : List Event) (line : List ℕ) (said : Option Repeat) → meaning_of last (length events) line ≡ Ok said
-    → taken last events line ≡ Ok (start_said last said, events ++ events_said said)
+taken_parsed : (last : ℕ) (events : List Event) (line : List ℕ) (parsed : Option Repeat) → meaning_of last (length events) line ≡ Ok parsed
+    → taken last events line ≡ Ok (start_parsed last parsed, events ++ events_parsed parsed)
 unfolding taken
-taken_said last events line said m = rw m
+taken_parsed last events line parsed m = rw m
 
 fault_taken : (n last : ℕ) (events : List Event) (line : List ℕ) (lines : List (List ℕ)) (kind : FaultKind) → meaning_of last (length events) line ≡ Err kind
     → reading n last events (line ∷ lines) ≡ Err (record { line = n; kind = kind })
@@ -86,12 +86,12 @@ line_read : (done rest : List (List ℕ)) (line : List ℕ) (n : ℕ) (m : Resul
 unfolding start_of events_of_line
 line_read done rest line n (Err kind) m e h go =
     rw (fault_taken n (last_start done) (events_of_lines done) line rest kind m) (fault_read done rest line n kind e h m)
-line_read done rest line n (Ok said) m e h go =
-    let says = line_says (last_start done) (length (events_of_lines done)) line said m in
-    let next = go (omega (arith, length_push done line)) (one_more done rest line said h m) in
+line_read done rest line n (Ok parsed) m e h go =
+    let says = line_says (last_start done) (length (events_of_lines done)) line parsed m in
+    let next = go (omega (arith, length_push done line)) (one_more done rest line parsed h m) in
     let whole = rw (append_assoc done (line ∷ []) rest) at next in
-    let read = next_lines n _ _ _ _ line rest (taken_said (last_start done) (events_of_lines done) line said m) in
-    rw (read, next_start done line said says.start, next_events done line said says.events) whole
+    let read = next_lines n _ _ _ _ line rest (taken_parsed (last_start done) (events_of_lines done) line parsed m) in
+    rw (read, next_start done line parsed says.start, next_events done line parsed says.events) whole
 
 reads : (rest done : List (List ℕ)) (n : ℕ) → n ≡ length done + 1 → AreFaultless (done ++ rest) (length done)
     → Reads (done ++ rest) (reading n (last_start done) (events_of_lines done) rest)

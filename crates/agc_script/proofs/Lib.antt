@@ -14,7 +14,7 @@ pub mod EveryLine
 pub mod Sayings
 pub mod After
 pub mod FirstFaults
-pub mod Told
+pub mod Reported
 pub mod Merging
 pub mod OneMerge
 pub mod Ranges

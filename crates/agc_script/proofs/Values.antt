@@ -12,7 +12,7 @@ use Rattle.agc_script.specs.declared.event.What.{What}
 use Rattle.agc_script.specs.declared.fault.FaultKind.TheVariants.{OutOfRange}
 use Rattle.agc_script.specs.Line.{repeat_of}
 use Rattle.agc_script.specs.Parse.{events_of}
-use Rattle.agc_script.specs.Injection.{cycles_said, said_at}
+use Rattle.agc_script.specs.Injection.{cycles_parsed, parsed_at}
 use Rattle.agc_script.proofs.Counts.{spans}
 
 longer : (f : ℕ → ℕ) (k : ℕ) → map f (range_with_len 0 (suc k)) ≡ map f (range_with_len 0 k) ++ f k ∷ []
@@ -46,8 +46,8 @@ map_twice g f [] = refl
 map_twice g f (x ∷ xs) = ap (λ (rest : List Event). g (f x) ∷ rest) (map_twice g f xs)
 
 -- the times of a line are those that TO reaches
-reached : (n from to : ℕ) → 0 < n → from ≤ to → cycles_said (n, from, to) ≡ map (λ i. from + i * n) (range_with_len 0 ((to - from) / n + 1))
-unfolding cycles_said
+reached : (n from to : ℕ) → 0 < n → from ≤ to → cycles_parsed (n, from, to) ≡ map (λ i. from + i * n) (range_with_len 0 ((to - from) / n + 1))
+unfolding cycles_parsed
 reached n from to some up =
     let few : (to - from) / n * 1 ≤ (to - from) / n * n = mul-le-mul_left ((to - from) / n) some in
     kept (λ cycle. nat_le cycle to) (λ i. from + i * n) ((to - from) / n + 1) (to + 1 - from) (omega arith)
@@ -55,21 +55,21 @@ reached n from to some up =
     (λ i l. let m : ((to - from) / n + 1) * n ≤ i * n = mul-le-mul_right n l in lt-leb (from + i * n) to (omega arith))
 
 pub repeated_events : (n from to : ℕ) (what : What) → 0 < n → from ≤ to
-    → events_of (record { start = from; period = n; times = (to - from) / n + 1; what = what }) ≡ map (said_at what) (cycles_said (n, from, to))
+    → events_of (record { start = from; period = n; times = (to - from) / n + 1; what = what }) ≡ map (parsed_at what) (cycles_parsed (n, from, to))
 unfolding events_of
 repeated_events n from to what some up =
-    rw (reached n from to some up) (map_twice (said_at what) (λ i. from + i * n) (range_with_len 0 ((to - from) / n + 1)))
+    rw (reached n from to some up) (map_twice (parsed_at what) (λ i. from + i * n) (range_with_len 0 ((to - from) / n + 1)))
 
 -- the event at a position: at FROM plus that many times N, unless that is past TO
 pub nth_event : (n from to i : ℕ) (what : What) → 0 < n → from ≤ to
     → slice_get (events_of (record { start = from; period = n; times = (to - from) / n + 1; what = what })) i
-    ≡ (if nat_le (from + i * n) to then Some (said_at what (from + i * n)) else None)
+    ≡ (if nat_le (from + i * n) to then Some (parsed_at what (from + i * n)) else None)
 unfolding events_of
 nth_event n from to i what some up =
-    let f : ℕ → Event = λ k. said_at what (from + k * n) in
+    let f : ℕ → Event = λ k. parsed_at what (from + k * n) in
     let times : ℕ = (to - from) / n + 1 in
     let len : length (map f (range_with_len 0 ((to - from) / n + 1))) ≡ (to - from) / n + 1 = length-map-range_with_len f 0 ((to - from) / n + 1) in
-    elim (cases_lt i ((to - from) / n + 1)) as (λ _. slice_get (map f (range_with_len 0 ((to - from) / n + 1))) i ≡ (if nat_le (from + i * n) to then Some (said_at what (from + i * n)) else None)) [
+    elim (cases_lt i ((to - from) / n + 1)) as (λ _. slice_get (map f (range_with_len 0 ((to - from) / n + 1))) i ≡ (if nat_le (from + i * n) to then Some (parsed_at what (from + i * n)) else None)) [
       | inl l ↦
           let near : i ≤ (to - from) / n = omega arith in
           let m : i * n ≤ (to - from) / n * n = mul-le-mul_right n near in
@@ -86,11 +86,11 @@ nth_event n from to i what some up =
 -- the events of `every N FROM TO` and a command
 nth_if : (z : Bool) (n from to i : ℕ) (what : What) → ((n == 0) || nat_lt to from) ≡ z
     → IfOk (if z then Err OutOfRange else Ok (record { start = from; period = n; times = (to - from) / n + 1; what = what }))
-    (λ repeat. slice_get (events_of repeat) i ≡ (if nat_le (from + i * n) to then Some (said_at what (from + i * n)) else None))
+    (λ repeat. slice_get (events_of repeat) i ≡ (if nat_le (from + i * n) to then Some (parsed_at what (from + i * n)) else None))
 nth_if true n from to i what z = tt
 nth_if false n from to i what z = let s = spans n from to z in nth_event n from to i what s.0 s.1
 
 pub nth_of_every : (n from to i : ℕ) (what : What)
-    → IfOk (repeat_of n from to what) (λ repeat. slice_get (events_of repeat) i ≡ (if nat_le (from + i * n) to then Some (said_at what (from + i * n)) else None))
+    → IfOk (repeat_of n from to what) (λ repeat. slice_get (events_of repeat) i ≡ (if nat_le (from + i * n) to then Some (parsed_at what (from + i * n)) else None))
 unfolding repeat_of
 nth_of_every n from to i what = nth_if ((n == 0) || nat_lt to from) n from to i what refl

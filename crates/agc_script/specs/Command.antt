@@ -132,15 +132,15 @@ poke_of_words words =
     and_then (and_then (or_unknown (three_of words)) three_octals) (λ n. poke_event n.0.0 n.0.1 n.1)
 
 -- the meaning of a command by the words after its name
-unfoldable pub said_by : List (List ℕ) → Command → Result What FaultKind
-said_by words command.Key = key_of words
-said_by words command.Pro = pro_of words
-said_by words command.Input = input_of words
-said_by words command.Pulse = pulse_of words
-said_by words command.Raise = raise_of words
-said_by words command.Poke = poke_of_words words
+unfoldable pub parsed_by : List (List ℕ) → Command → Result What FaultKind
+parsed_by words command.Key = key_of words
+parsed_by words command.Pro = pro_of words
+parsed_by words command.Input = input_of words
+parsed_by words command.Pulse = pulse_of words
+parsed_by words command.Raise = raise_of words
+parsed_by words command.Poke = poke_of_words words
 
 -- a command and its arguments
 unfoldable pub command_of : List (List ℕ) → Result What FaultKind
 command_of [] = Err UnknownWord
-command_of (name ∷ words) = and_then (or_unknown (command_named name)) (said_by words)
+command_of (name ∷ words) = and_then (or_unknown (command_named name)) (parsed_by words)

@@ -46,17 +46,17 @@ abbrev pub last_start : List (List ℕ) → ℕ
 last_start lines = unwrap_or (last_or None (filter_map start_of lines)) 0
 
 -- The cycles of a line: FROM, FROM + N, FROM + 2N and so on, those that are no later than TO.
-unfoldable pub cycles_said : ℕ × ℕ × ℕ → List ℕ
-cycles_said t =
+unfoldable pub cycles_parsed : ℕ × ℕ × ℕ → List ℕ
+cycles_parsed t =
     filter (λ cycle. nat_le cycle t.2) (map (λ i. t.1 + i * t.0) (range_with_len 0 (t.2 + 1 - t.1)))
 
 -- the event of a command at a cycle
-abbrev pub said_at : What → ℕ → Event
-said_at what cycle = record { cycle = cycle; what = what }
+abbrev pub parsed_at : What → ℕ → Event
+parsed_at what cycle = record { cycle = cycle; what = what }
 
 -- the events of a command at the cycles of its line, if both are right
 abbrev pub events_at : Option (ℕ × ℕ × ℕ) → Result What FaultKind → List Event
-events_at (Some t) (Ok what) = map (said_at what) (cycles_said t)
+events_at (Some t) (Ok what) = map (parsed_at what) (cycles_parsed t)
 events_at t what = []
 
 abbrev pub events_spelt : Option (List (List ℕ)) → List Event

@@ -61,15 +61,15 @@ repeat_of period start end event =
 
 -- A line `every N FROM TO` and a command, with as many of these words as there are. The meaning of
 -- the command after the three numbers ..
-abbrev pub every_said : ℕ → List (List ℕ) → ℕ → ℕ → ℕ → Result Repeat FaultKind
-every_said last command period start end =
+abbrev pub every_parsed : ℕ → List (List ℕ) → ℕ → ℕ → ℕ → Result Repeat FaultKind
+every_parsed last command period start end =
     and_then (and_then (in_turn last start) (λ _. command_of command)) (repeat_of period start end)
 
 -- .. of TO and all after it, after N and FROM ..
 abbrev pub to_of : ℕ → List (List ℕ) → ℕ → ℕ → Result Repeat FaultKind
 to_of last [] period start = and_then (in_turn last start) (λ _. Err UnknownWord)
 to_of last (to ∷ command) period start =
-    and_then (cycle_word to) (every_said last command period start)
+    and_then (cycle_word to) (every_parsed last command period start)
 
 -- .. of FROM and all after it, after N ..
 abbrev pub from_of : ℕ → List (List ℕ) → ℕ → Result Repeat FaultKind

@@ -19,20 +19,20 @@ unfoldable pub events_of : Repeat → List Event
 events_of repeat = map (event_at repeat) (range_with_len 0 repeat.times)
 
 -- the events of a line's meaning, and the start that later lines are compared with
-abbrev pub events_said : Option Repeat → List Event
-events_said None = []
-events_said (Some repeat) = events_of repeat
+abbrev pub events_parsed : Option Repeat → List Event
+events_parsed None = []
+events_parsed (Some repeat) = events_of repeat
 
-abbrev pub start_said : ℕ → Option Repeat → ℕ
-start_said last None = last
-start_said last (Some repeat) = repeat.start
+abbrev pub start_parsed : ℕ → Option Repeat → ℕ
+start_parsed last None = last
+start_parsed last (Some repeat) = repeat.start
 
 -- The start and the events after one more line; the last event line started at `last`, and these
 -- events come before.
 unfoldable pub taken : ℕ → List Event → List ℕ → Result (ℕ × List Event) FaultKind
 taken last events line =
     and_then (meaning_of last (length events) line)
-    (λ said. Ok (start_said last said, events ++ events_said said))
+    (λ parsed. Ok (start_parsed last parsed, events ++ events_parsed parsed))
 
 -- The events of the lines, in the order of the lines, or the first faulty line with its lowest kind
 -- of fault; n is the number of the first line.

@@ -18,7 +18,7 @@ use agc_word::{Narrow, Pulse, next_word};
 
 /// Parses a command and its arguments, the part of a script line after the cycle. An error is the
 /// lowest kind of fault in the words, in the order of [`FaultKind`].
-#[tactic(auto, unfolding(crate::specs::Command::command_of, crate::specs::Command::said_by))]
+#[tactic(auto, unfolding(crate::specs::Command::command_of, crate::specs::Command::parsed_by))]
 pub fn read_command(text: &[u8]) -> Result<What, FaultKind>
     ensures command { result ≡ command_of (words_of text.now) }
     ensures range { IfOk result IsWhatInRange }

@@ -10,7 +10,7 @@ ghost use Rattle.agc_script.specs.Grammar.{argument_count, ranges_of};
 ghost use Rattle.agc_script.specs.Laws.{first_number, with_ranges};
 ghost use Rattle.agc_script.specs.Line.{repeat_of};
 ghost use Rattle.agc_script.specs.Parse.{events_of};
-ghost use Rattle.agc_script.specs.Injection.{said_at};
+ghost use Rattle.agc_script.specs.Injection.{parsed_at};
 ghost use Rattle.agc_script.specs.Merge.{joined, IsMerge};
 ghost use Rattle.agc_script.specs.Command.{command_of};
 ghost use Rattle.agc_script.specs.Event.{IsWhatInRange};
@@ -24,7 +24,7 @@ ghost use Rattle.agc_script.specs.Written.{script_text, what_text};
 pub fn every_goes_as_far_as_to()
     ensures { (n from to i : ℕ) (what : What) → IfOk (repeat_of n from to what)
         (λ repeat. slice_get (events_of repeat) i
-        ≡ (if nat_le (from + i * n) to then Some (said_at what (from + i * n)) else None)) }
+        ≡ (if nat_le (from + i * n) to then Some (parsed_at what (from + i * n)) else None)) }
 {}
 
 /// A merge compares a script's first event with the first injected one (an event of another script, or a live key). It

@@ -37,9 +37,9 @@ pub(crate) fn read_line(last: u64, before: usize, line: &[u8]) -> Result<Option<
     requires { before ≤ most_events }
     ensures meaning { result ≡ meaning_of last before line.now }
     ensures kind { IfErr result (λ kind. kind ≢ FaultKind.Memory) }
-    ensures range { IfOk result (λ said. IfSome said IsRepeatInRange) }
+    ensures range { IfOk result (λ parsed. IfSome parsed IsRepeatInRange) }
     ensures room { IfOk result
-        (λ said. IfSome said (λ repeat. before + repeat.times ≤ most_events)) }
+        (λ parsed. IfSome parsed (λ repeat. before + repeat.times ≤ most_events)) }
 {
     if line.len() > LONGEST_LINE {
         Err(FaultKind::LineTooLong)
@@ -61,9 +61,9 @@ pub fn has_high_byte(line: &[u8]) -> bool
 fn read_words(last: u64, before: usize, line: &[u8]) -> Result<Option<Repeat>, FaultKind>
     requires { before ≤ most_events }
     ensures meaning { result ≡ words_meaning last before (words_of line.now) }
-    ensures range { IfOk result (λ said. IfSome said IsRepeatInRange) }
+    ensures range { IfOk result (λ parsed. IfSome parsed IsRepeatInRange) }
     ensures room { IfOk result
-        (λ said. IfSome said (λ repeat. before + repeat.times ≤ most_events)) }
+        (λ parsed. IfSome parsed (λ repeat. before + repeat.times ≤ most_events)) }
 {
     let Some((first, words)) = next_word(line) else {
         return Ok(None);
@@ -85,9 +85,9 @@ fn bounded(before: usize, repeat: Repeat) -> Result<Option<Repeat>, FaultKind>
     requires before { before ≤ most_events }
     requires range { IsRepeatInRange repeat }
     ensures bound { result ≡ within_bound before repeat }
-    ensures range { IfOk result (λ said. IfSome said IsRepeatInRange) }
+    ensures range { IfOk result (λ parsed. IfSome parsed IsRepeatInRange) }
     ensures room { IfOk result
-        (λ said. IfSome said (λ repeat. before + repeat.times ≤ most_events)) }
+        (λ parsed. IfSome parsed (λ repeat. before + repeat.times ≤ most_events)) }
 {
     if before as u64 + repeat.times > MOST_EVENTS as u64 {
         return Err(FaultKind::TooMany);

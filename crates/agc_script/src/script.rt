@@ -7,7 +7,7 @@ ghost use Rattle.agc_word.specs.Text.{lines_of};
 ghost use Rattle.agc_script.specs.Injection.{events_of_lines};
 ghost use Rattle.agc_script.specs.Fault.{AreFaultless, IsFirstFault};
 ghost use Rattle.agc_script.specs.Laws.{IsArrangement};
-ghost use Rattle.agc_script.specs.Injection.{said_at};
+ghost use Rattle.agc_script.specs.Injection.{parsed_at};
 ghost use Rattle.agc_script.specs.Script.{before, IsNotBefore, IsScript};
 ghost use Rattle.agc_script.specs.Parse.{script_of, IsSoundLine};
 ghost use Rattle.agc_script.specs.Merge.{joined, key_event, merged, IsMerge, too_many, no_memory};
@@ -138,7 +138,7 @@ impl Script {
         requires later { IsNotBefore self.old cycle }
         requires range { cycle ≤ last_cycle }
         requires what { IsWhatInRange what }
-        ensures ok { OnOk result (self.new ≡ self.old ++ said_at what cycle ∷ []) }
+        ensures ok { OnOk result (self.new ≡ self.old ++ parsed_at what cycle ∷ []) }
         ensures err { OnErr result (self.new ≡ self.old) }
         ensures many { IsErrOf result too_many ↔ (length self.old ≡ most_events) }
         ensures memory { IfErr result (λ fault. fault ≢ too_many → fault ≡ no_memory) }

@@ -76,11 +76,11 @@ injected_again c base retained injected o p =
     ∙ ap (λ (m : List Event). joined (joined m one) more) (all_parts c base retained o)
     ∙ all_parts c (joined base retained) injected p
 
-told_again : (c : ℕ) (s : SessionState) → IsSession s → IsInOrder s.retained → IsInOrder s.injected → joined (script_before c s) (discarded c s) ≡ script_of s
-told_again c s h o p = injected_again c s.base s.retained s.injected o p ∙ ap (λ (script : List Event). joined script s.injected) (sym h.known)
+reported_again : (c : ℕ) (s : SessionState) → IsSession s → IsInOrder s.retained → IsInOrder s.injected → joined (script_before c s) (discarded c s) ≡ script_of s
+reported_again c s h o p = injected_again c s.base s.retained s.injected o p ∙ ap (λ (script : List Event). joined script s.injected) (sym h.known)
 
 pub injects_again : (c : ℕ) (inside now : SessionState) (script : List Event) → inside ≡ now → IsSession inside → IsInOrder inside.retained → IsInOrder inside.injected
     → script ≡ script_before c now → joined script (discarded c now) ≡ script_of now
 injects_again c inside now script v h o p e =
     ap (λ (known : List Event). joined known (discarded c now)) e
-    ∙ subst (λ (s : SessionState). joined (script_before c s) (discarded c s) ≡ script_of s) v (told_again c inside h o p)
+    ∙ subst (λ (s : SessionState). joined (script_before c s) (discarded c s) ≡ script_of s) v (reported_again c inside h o p)

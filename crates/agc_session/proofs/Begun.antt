@@ -49,16 +49,16 @@ same_start script injected now later writes h =
     ∙ ap (λ (l : ℕ). start_state later.processor.store.fixed script l None) (sym (same.1 ∙ limit_at_start now.processor.store.fixed script now.limit))
 
 -- the start state whose script includes the injected events
-told_start : (script injected : List Event) (now : State) → with_tape injected (start_with script now) ≡ start_with (joined script injected) now
+reported_start : (script injected : List Event) (now : State) → with_tape injected (start_with script now) ≡ start_with (joined script injected) now
 unfolding start_state
-told_start script injected now = refl
+reported_start script injected now = refl
 
 -- the plain run of the session's script
 pub replayed : (s : SessionState) (h : IsSession s)
     → chain (replicate (length h.live.lives) None) (start_with (script_of s) s.now) ≡ chain h.live.lives (start_with s.script s.now)
 replayed s h =
     let start = start_with s.script s.now in
-    let taped : with_tape s.injected start ≡ start_with (script_of s) s.now = told_start s.script s.injected s.now in
+    let taped : with_tape s.injected start ≡ start_with (script_of s) s.now = reported_start s.script s.injected s.now in
     ap (λ (t : State). chain (replicate (length h.live.lives) None) t) (sym taped)
     ∙ ap (λ (g : List Event). chain (replicate (length h.live.lives) None) (with_tape g start)) h.live.taped ∙ chain_replays h.live.lives start h.live.wanted
 
@@ -72,11 +72,11 @@ replays s h =
     }
 
 -- the script, if memory suffices
-pub when_told : (joined_or : Result (List Event) ScriptFault) (scripts : Option (List Event)) (inside now : SessionState) → scripts ≡ result_ok joined_or
+pub when_reported : (joined_or : Result (List Event) ScriptFault) (scripts : Option (List Event)) (inside now : SessionState) → scripts ≡ result_ok joined_or
     → IfOk joined_or (λ script. script ≡ script_of inside) → inside ≡ now → IsSession inside → IfSome scripts (λ script. IsReplay script now)
-when_told (Ok script) scripts inside now e h v s =
+when_reported (Ok script) scripts inside now e h v s =
     rw e (subst (λ (t : SessionState). IsReplay script t) v (rw h (replays inside s)))
-when_told (Err fault) scripts inside now e h v s = rw e tt
+when_reported (Err fault) scripts inside now e h v s = rw e tt
 
 -- a script joined with the empty one
 pub when_copied : (joined_or : Result (List Event) ScriptFault) (scripts : Option (List Event)) (script none : List Event) → scripts ≡ result_ok joined_or

@@ -60,7 +60,7 @@ events_at_start : (words : List Number) (events : List Event) (limit : ℕ) → 
 unfolding start_state
 events_at_start words events limit = refl
 
-with_events : (words : List Number) (events other : List Event) (limit : ℕ) → record (start_state words events limit None) { events = other } ≡ start_state words other limit None
+pub with_events : (words : List Number) (events other : List Event) (limit : ℕ) → record (start_state words events limit None) { events = other } ≡ start_state words other limit None
 unfolding start_state
 with_events words events other limit = refl
 

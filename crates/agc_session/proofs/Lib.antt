@@ -6,3 +6,11 @@ pub mod Joins
 pub mod Again
 pub mod OneRun
 pub mod Written
+pub mod Boundaries
+pub mod Hits
+pub mod Counting
+pub mod Back
+pub mod RunTo
+pub mod Places
+pub mod Writes
+pub mod Advancing

@@ -12,7 +12,7 @@ use Rattle.agc_machine.specs.State.{State, start_state}
 use Rattle.agc_panel.specs.Face.{panel_of}
 use Rattle.agc_session.specs.Session.{ComesTo, IsInjectedAgain, IsReplay, SessionState, plain_run, start_with, script_of}
 
-after_is_last : (n : ℕ) (s : State) → after n s ≡ (chain (replicate n None) s).last
+pub after_is_last : (n : ℕ) (s : State) → after n s ≡ (chain (replicate n None) s).last
 unfolding after chain
 after_is_last zero s = refl
 after_is_last (suc n) s = after_is_last n (boundary None s).0

@@ -38,19 +38,10 @@ pub fn with_session_args<'a>(
     command: Command<'a>,
     script: Arg<'a>,
 ) -> Result<Command<'a>, AllocError> {
-    let rope = rope_file(alloc).help(
-        "Rope file: 16-bit words, high byte first, at most 36 banks of 1024",
-    );
-    let script = script.help(
-        "Script file: events from outside, one a line, in the order of their cycles",
-    );
-    let form = form_option(alloc).help(
-        "Order of the rope's banks: 2, 3, 0, 1, 4 to 43 (octal); or 0 to 43, with parity",
-    );
-    let command = with_parameter(command, rope)?;
+    let command = with_parameter(command, rope_file(alloc))?;
     let command = with_parameter(command, script)?;
     let command = with_parameter(command, limit_option(alloc))?;
-    with_parameter(command, form)
+    with_parameter(command, form_option(alloc))
 }
 
 /// Returns the `--limit` option of a session. Its default is the last possible cycle.
@@ -58,7 +49,6 @@ fn limit_option<'a>(alloc: Global) -> Arg<'a> {
     agc_cli::limit_option(alloc)
         .required(false)
         .default_value("1000000000000")
-        .help("Stop at this cycle, 85333 a second: decimal, 1 to 1000000000000")
 }
 
 /// Returns the session's arguments among the parsed ones.

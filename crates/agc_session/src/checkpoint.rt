@@ -99,7 +99,7 @@ impl Checkpoints {
 
 impl Checkpoint {
     /// Returns whether the run of a script leads to this copy.
-    fn is_on_run_of(&self, script: &Script) -> bool
+    pub(crate) fn is_on_run_of(&self, script: &Script) -> bool
         ensures { IsTrue result → Fits script.now self.now }
     {
         let taken = self.taken.len();

@@ -2,13 +2,16 @@
 #![tactic(auto)]
 
 mod arguments;
+mod breakpoint;
 mod checkpoint;
 mod fault;
 pub mod laws;
+mod search;
 mod session;
 mod writing;
 
 pub use arguments::{SessionArgs, open_session, session_args, session_from, with_session_args};
+pub use breakpoint::Breakpoint;
 pub use fault::{BeginFault, InjectFault, RewindFailed};
 pub use session::{Rewound, Session};
 pub use writing::LINE_ROOM;

@@ -1,11 +1,11 @@
 //! The interactive session: a machine, the panel that its writes make, the events injected so far, and copies of the
 //! machine to go back to.
-ghost use Rattle.std.specs.Prelude.{◌≡◌, ◌+◌, ◌<◌, ◌≤◌, ◌↔◌, List, [], ◌∷◌, ◌++◌, All, length, None, Some};
-ghost use Rattle.std.specs.Prelude.{IfOk, IfErr, IfSome, IsErrOf, IsOk, OnOk, OnErr};
+ghost use Rattle.std.specs.Prelude.{◌≡◌, ◌⊎◌, ◌+◌, ◌<◌, ◌≤◌, ◌↔◌, false, IsSome, List, [], ◌∷◌, ◌++◌, All, length, None, Some};
+ghost use Rattle.std.specs.Prelude.{IfOk, IfErr, IfSome, IsErrOf, IsOk, IsTrue, OnOk, OnErr};
 ghost use Rattle.std.specs.Io.KnownBytes.{Appends};
 ghost use Rattle.agc_word.specs.declared.channel_write.ChannelWrite.{ChannelWrite};
 ghost use Rattle.agc_script.specs.Event.{IsWhatInRange, last_cycle, most_events};
-ghost use Rattle.agc_script.specs.Injection.{said_at};
+ghost use Rattle.agc_script.specs.Injection.{parsed_at};
 ghost use Rattle.agc_script.specs.Merge.{joined};
 ghost use Rattle.agc_script.specs.Script.{IsInOrder, IsNotBefore};
 ghost use Rattle.agc_script.specs.Written.{script_text};
@@ -13,20 +13,26 @@ ghost use Rattle.agc_machine.specs.Boundary.{boundary, WantsKey};
 ghost use Rattle.agc_machine.specs.Laws.{HasChannel};
 ghost use Rattle.agc_machine.specs.Run.{next_before};
 ghost use Rattle.agc_machine.specs.State.{start_state};
+ghost use Rattle.agc_machine.specs.declared.answer.Stepped.{Stepped};
 ghost use Rattle.agc_machine.specs.Replay.{writes_in};
 ghost use Rattle.agc_panel.specs.Face.{panel_of};
+ghost use Rattle.agc_session.specs.Breakpoint.{Ends, HasRunTo, IsBreakpointInRange, IsFoundBack};
 ghost use Rattle.agc_session.specs.Checkpoints.{IsCheckpoint, IsOnWay, counted};
 ghost use Rattle.agc_session.specs.Session.{HasGone, HasReached, IsReplay, injected_now, shown_after, start_with};
 ghost use Rattle.agc_session.specs.Session.{discarded, retained_before, script_of, script_before};
 
+use crate::breakpoint::{
+    Breakpoint, has_changed, is_order_next, is_panel_change, is_service_next, is_write_of, word_of,
+};
 use crate::checkpoint::{Checkpoint, Checkpoints};
 use crate::fault::{BeginFault, InjectFault, RewindFailed};
+use crate::search::search_back;
 use crate::writing::write_joined;
 use agc_machine::{LimitFault, Machine, Stepped};
 use agc_panel::Panel;
 use agc_script::{MOST_EVENTS, Script, What};
 use agc_store::Rope;
-use std::alloc::Global;
+use std::alloc::{AllocError, Global};
 use std::io::{self, Write};
 use std::marker::Model;
 
@@ -396,6 +402,90 @@ impl Session {
         })
     }
 
+    /// Returns the cycle at which the last boundary before now began that hits a breakpoint: with `count` 2 the last but
+    /// one, and so on. Returns `None` if there were fewer. Boundaries of a stopped machine do not count. Runs copies of
+    /// the machine, and fails when memory runs out.
+    pub fn last_hit(
+        &self,
+        alloc: Global,
+        breakpoint: Breakpoint,
+        count: u64,
+    ) -> Result<Option<u64>, AllocError>
+        requires some { 0 < count }
+        requires range { IsBreakpointInRange breakpoint }
+        ensures { IfOk result (IsFoundBack breakpoint count self.now) }
+    {
+        let script = self.script(alloc).ok_or(AllocError)?;
+        search_back(
+            alloc,
+            &breakpoint,
+            count,
+            &self.machine,
+            &self.checkpoints,
+            &script,
+        )
+    }
+
+    /// Runs to the first boundary that hits a breakpoint, and returns true; for an order, to just before it. Returns
+    /// false if a boundary ends at `cycle` or later, or the machine stops, before that. Takes no boundary if the cycle
+    /// is reached already.
+    pub fn go_until(&mut self, breakpoint: Breakpoint, cycle: u64) -> bool
+        requires { IsBreakpointInRange breakpoint }
+        ensures { HasRunTo breakpoint cycle self.old self.new result }
+    {
+        while self.is_short_of(cycle) {
+            if self.step_to(&breakpoint) {
+                return true;
+            }
+        }
+        false
+    }
+
+    /// Returns whether the machine has neither reached a cycle nor stopped.
+    fn is_short_of(&self, cycle: u64) -> bool
+        ensures short { IsTrue result → (self.now.now.cycle < cycle) × (self.now.now.stopped ≡ None) }
+        ensures ended { result ≡ false → (cycle ≤ self.now.now.cycle) ⊎ IsSome self.now.now.stopped }
+    {
+        self.machine().cycle() < cycle && self.machine().stopped().is_none()
+    }
+
+    /// Takes one boundary, and returns whether a run forward ends there.
+    fn step_to(&mut self, breakpoint: &Breakpoint) -> bool
+        requires { IsBreakpointInRange breakpoint.now }
+        ensures gone { (answer : Stepped) × HasGone self.old (boundary None self.old.now) answer self.new }
+        ensures ends { IsTrue result ↔ Ends breakpoint.now self.old.panel self.old.now }
+    {
+        match breakpoint {
+            Breakpoint::Boundary => {
+                self.step();
+                true
+            }
+            Breakpoint::Order(place) => {
+                self.step();
+                is_order_next(self.machine(), *place)
+            }
+            Breakpoint::Cell(cell) => {
+                let before = word_of(self.machine().store(), *cell);
+                self.step();
+                has_changed(self.machine().store(), *cell, before)
+            }
+            Breakpoint::Write { channel, word } => {
+                let stepped = self.step();
+                is_write_of(&stepped, *channel, word)
+            }
+            Breakpoint::Interrupt(which) => {
+                let hit = is_service_next(self.machine(), *which);
+                self.step();
+                hit
+            }
+            Breakpoint::Panel => {
+                let before = *self.panel();
+                let stepped = self.step();
+                is_panel_change(&stepped, &before, self.panel())
+            }
+        }
+    }
+
     /// Returns the number of events in the script of the session.
     pub fn events(&self) -> usize
         ensures { result ≡ length self.now.script + length self.now.injected }
@@ -489,7 +579,7 @@ fn keep(injected: &mut Script, cycle: u64, what: What) -> Result<(), InjectFault
     requires later { IsNotBefore injected.old cycle }
     requires range { cycle ≤ last_cycle }
     requires what { IsWhatInRange what }
-    ensures ok { OnOk result (injected.new ≡ injected.old ++ said_at what cycle ∷ []) }
+    ensures ok { OnOk result (injected.new ≡ injected.old ++ parsed_at what cycle ∷ []) }
     ensures err { OnErr result (injected.new ≡ injected.old) }
     ensures fault { IfErr result (λ fault. fault ≡ InjectFault.Memory) }
 {
@@ -500,7 +590,7 @@ fn keep(injected: &mut Script, cycle: u64, what: What) -> Result<(), InjectFault
 }
 
 /// Returns a copy of the script, or `None` if memory runs out.
-fn copied(alloc: Global, script: &Script) -> Option<Script>
+pub(crate) fn copied(alloc: Global, script: &Script) -> Option<Script>
     ensures { IfSome result (λ copy. copy ≡ script.now) }
 {
     script.join(alloc, &Script::empty(alloc)).ok()

@@ -1,9 +1,12 @@
 //! Tests of what is typed to and injected into a running machine, worked out by hand.
 mod answer;
+mod back;
+mod breakpoints;
 mod conversation;
 mod operator;
 mod picture;
 mod request;
+mod search;
 mod session;
 
 use agc_script::Script;
@@ -46,9 +49,9 @@ fn session_of(rt: &(impl AllocGlobal + Abort), listing: &str, script: &str, limi
 }
 
 /// Checks that a script was exported, and that this is its text.
-fn has_text(rt: &(impl AllocGlobal + Abort), told: Option<Script>, wanted: &str) {
+fn has_text(rt: &(impl AllocGlobal + Abort), reported: Option<Script>, wanted: &str) {
     let mut text = String::new(rt.alloc());
-    let script = told.expect(rt, "memory");
+    let script = reported.expect(rt, "memory");
     assert!(rt; script.push_text(&mut text).is_ok());
     equal(rt, text.as_str(), wanted);
 }

@@ -1,4 +1,7 @@
 pub mod Resolved
+pub mod RopeReads
 pub mod Starts
 pub mod StopRead
 pub mod Tables
+mod NamedLines
+mod SurePlace

@@ -12,6 +12,7 @@ use Rattle.agc_listing.specs.declared.place.Place.TheVariants as printed
 use Rattle.agc_listing.specs.Location.{cell_address, location_at}
 use Rattle.agc_listing.specs.declared.location.Location.{Location}
 use Rattle.agc_listing.specs.declared.location.Location.TheVariants as location
+use Rattle.agc_study_args.specs.Joined.{joined}
 use Rattle.agc_symbols.specs.Lookup.{resolve}
 use Rattle.agc_symbols.specs.Symbols.{Symbol}
 
@@ -23,7 +24,7 @@ stop_place (location.Erasable cell) = printed.Fixed (cell / erasable_bank_size) 
 -- the location that a text names with symbols, unless it reads as a stop address
 abbrev pub stop_unread : Option StopAddress → List Symbol → List ℕ → Option Location
 stop_unread (Some stop) names text = None
-stop_unread None names text = resolve (Some names) text
+stop_unread None names text = resolve (Some names) (joined text)
 
 abbrev pub stop_with : Option (List Symbol) → List ℕ → Option Location
 stop_with (Some names) text = stop_unread (stop_address_of text) names text

@@ -31,6 +31,8 @@ pub enum Args {
 pub struct RunOptions {
     /// The form of the rope file.
     pub form: RopeForm,
+    /// Whether words with wrong parity are read too (`--ignore-parity`).
+    pub ignores_parity: bool,
     /// The cycle at which the run stops at the latest.
     pub limit: u64,
     /// The value of `--until`.
@@ -114,6 +116,8 @@ pub struct ProfileArgs {
     pub layout: Layout,
     /// Whether to print every word of the rope, including the words that never ran.
     pub is_whole: bool,
+    /// The symbol file (`--names`).
+    pub names: Option<String>,
 }
 
 /// Arguments of `jobs`: a run whose Executive tables are printed.
@@ -125,6 +129,8 @@ pub struct JobsArgs {
     pub watch: String,
     /// The range of cycles in which changes are printed.
     pub span: Span,
+    /// The symbol file (`--names`).
+    pub names: Option<String>,
 }
 
 /// Arguments of `compare`: two runs.
@@ -134,6 +140,8 @@ pub struct CompareArgs {
     /// The files of the right run.
     pub other: RunFiles,
     pub options: RunOptions,
+    /// The form of the right run's rope file (`--form-b`).
+    pub other_form: RopeForm,
     /// How to compare what the runs show; `None` compares them boundary by boundary.
     pub shown: Option<ObservedArgs>,
     /// The symbol file of both runs, or only of the left one if the right one has its own.
@@ -181,6 +189,8 @@ pub struct RepairArgs {
     pub rope: String,
     /// The most repairs to print for each word.
     pub most: usize,
+    /// Whether the file has parity bits even if none of them is 1 (`--form parity`).
+    pub has_parity: bool,
 }
 
 /// Arguments of `patch`: a rope file, and the words to put into it.
@@ -200,4 +210,6 @@ pub struct WordsArgs {
     pub form: RopeForm,
     /// The form of the other rope file.
     pub other_form: RopeForm,
+    /// Whether words with wrong parity are read too (`--ignore-parity`).
+    pub ignores_parity: bool,
 }

@@ -1,6 +1,6 @@
 //! Marks the names of channels in the symbol file of a source, in which they have cells like the names of places.
 use agc_asm::extracode_named;
-use agc_listing::{Location, cut_label, is_listed, location_named, next_said};
+use agc_listing::{Location, cut_label, is_listed, location_named, next_parsed};
 use agc_order::Takes;
 use agc_symbols::push_channel_line;
 use agc_word::without_return;
@@ -56,8 +56,8 @@ fn push_line(
 
 /// Returns the channel that the cell of a line would be, 0 to 777 octal, and the name.
 fn channel_of(line: &[u8]) -> Option<(u16, &[u8])> {
-    let (place, rest) = next_said(line)?;
-    let (name, _) = next_said(rest)?;
+    let (place, rest) = next_parsed(line)?;
+    let (name, _) = next_parsed(rest)?;
     match location_named(place)? {
         Location::Erasable(cell) if cell < 0o1000 => Some((cell as u16, name)),
         _ => None,
@@ -73,10 +73,10 @@ fn uses_in(alloc: Global, source: &[u8]) -> Result<BTreeMap<&[u8], Uses>, AllocE
             continue;
         }
         let (_, body) = cut_label(line);
-        let Some((order, operand)) = next_said(body) else {
+        let Some((order, operand)) = next_parsed(body) else {
             continue;
         };
-        if let Some((name, _)) = next_said(operand) {
+        if let Some((name, _)) = next_parsed(operand) {
             let is_channel = takes_channel(order);
             let mut used = uses.get(name).copied().unwrap_or(Uses {
                 as_channel: false,

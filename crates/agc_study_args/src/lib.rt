@@ -4,10 +4,12 @@
 mod args;
 mod channel_names;
 mod conversion;
-mod findings;
+mod joined;
 mod laws;
 mod locations;
+mod named_list;
 mod read_file;
+mod rope_read;
 mod runs;
 mod symbol_output;
 mod until;
@@ -18,11 +20,12 @@ pub use args::{
     ObservedArgs, PatchArgs, ProfileArgs, RepairArgs, RunOptions, TraceArgs, WeaveArgs, WordsArgs,
 };
 pub use conversion::{ConvertedRope, convert_rope};
-pub use findings::{mark_bad_words, push_findings, push_reading, push_repairs};
-pub use laws::a_run_stops_at_the_resolved_location;
+pub use laws::{a_listed_operand_is_addressed, a_run_stops_at_the_resolved_location};
 pub use locations::{LocationOption, resolve_locations};
+pub use named_list::list_with_names;
 pub use read_file::{ReadFile, open_file, remark_on_file};
-pub use runs::{RunInputs, Start, open_run, read_machine, read_start};
+pub use rope_read::{RopeRead, read_any_rope};
+pub use runs::{RunInputs, Start, open_run, read_machine, read_machine_as, read_start};
 pub use symbol_output::{check_names_path, write_names};
 pub use until::resolve_until;
 pub use words_apart::text_of_words_apart;

@@ -45,6 +45,15 @@ impl<'a, F> ReadFile<'a, F> {
         }
     }
 
+    /// Writes a line with the path and the number of words with wrong parity that were read, if there are any.
+    pub fn remark_wrong<N: Write>(&self, alloc: Global, wrong: usize, remarks: &mut N) {
+        if wrong > 0 {
+            if let Ok(line) = wrong_line(alloc, self.path, wrong) {
+                let _written = remarks.write_all(line.as_bytes());
+            }
+        }
+    }
+
     /// Keeps a reason, unless there is one already.
     fn keep_fault(&mut self, fault: io::Error)
         ensures { self.new ≡ record self.old { fault = first_fault self.old.fault fault } }
@@ -114,12 +123,25 @@ pub fn remark_on_file<N: Write>(alloc: Global, path: &str, reason: &io::Error, r
 }
 
 fn file_line(alloc: Global, path: &str, reason: &io::Error) -> Result<String, AllocError> {
+    let mut line = line_about(alloc, path)?;
+    writeln!(line, "{reason}")?;
+    Ok(line)
+}
+
+fn wrong_line(alloc: Global, path: &str, wrong: usize) -> Result<String, AllocError> {
+    let mut line = line_about(alloc, path)?;
+    writeln!(line, "words with wrong parity: {wrong}, ignored")?;
+    Ok(line)
+}
+
+/// Returns the beginning of a line about a file.
+fn line_about(alloc: Global, path: &str) -> Result<String, AllocError> {
     let mut line = String::new(alloc);
     line.push_str("agc-study: ")?;
     for c in path.chars() {
         push_printable(&mut line, c)?;
     }
-    writeln!(line, ": {reason}")?;
+    line.push_str(": ")?;
     Ok(line)
 }
 

@@ -1,20 +1,21 @@
 //! Opens and reads a rope and a script, and makes the machine to run and the tables to watch in its run.
-ghost use Rattle.std.specs.Prelude.{◌≡◌, IfErr, IfOk, MatchResult, None, Some, false, option_copied};
+ghost use Rattle.std.specs.Prelude.{◌≡◌, IfErr, IfOk, MatchResult, None, OnOk, Some, false, option_copied};
 ghost use Rattle.agc_machine.specs.State.{start_state};
 ghost use Rattle.agc_machine.specs.StopAddress.{stop_address_of};
-ghost use Rattle.agc_study_args.specs.Started.{AreWatched, IsRefused, IsStarted, watched_steps};
-ghost use Rattle.agc_load.specs.Options.{said_by};
+ghost use Rattle.agc_study_args.specs.Started.{AreWatched, AreWrong, IsRefused, IsStarted, in_form, watched_steps};
+ghost use Rattle.agc_load.specs.Options.{parsed_by};
 ghost use Rattle.agc_load.specs.Prepare.{tables_refusal};
 ghost use Rattle.agc_load.specs.Steps.{ComesOf};
 
 use crate::args::RunOptions;
 use crate::read_file::{ReadFile, open_file};
+use crate::rope_read::{RopeRead, read_any_rope};
 use agc_io::{ROPE_BYTES, TEXT_BYTES};
-use agc_load::{LoadFault, Loaded, load, read_rope, read_script};
+use agc_load::{LoadFault, Loaded, load, read_script};
 use agc_machine::Machine;
 use agc_panel::{CheckedSpec, WatchSpec};
 use agc_script::Script;
-use agc_store::Rope;
+use agc_store::{Rope, RopeForm};
 use agc_timeline::RunFiles;
 use std::alloc::Global;
 use std::io::{Read, Write};
@@ -25,12 +26,16 @@ use std::rt::Files;
 pub struct RunInputs<R> {
     pub rope: R,
     pub script: R,
+    /// The number of words with wrong parity that were read.
+    pub wrong: usize,
 }
 
 impl<F> RunInputs<ReadFile<'_, F>> {
-    /// Writes a line for each of the files that could not be read.
+    /// Writes a line for each of the files that could not be read, and one for a rope with words of wrong parity that
+    /// were read.
     pub fn remark_fault<N: Write>(&self, alloc: Global, remarks: &mut N) {
         self.rope.remark_fault(alloc, remarks);
+        self.rope.remark_wrong(alloc, self.wrong, remarks);
         self.script.remark_fault(alloc, remarks);
     }
 }
@@ -40,6 +45,7 @@ pub fn open_run<'a, R: Files>(rt: &R, files: &'a RunFiles) -> RunInputs<ReadFile
     RunInputs {
         rope: open_file(rt, &files.rope, ROPE_BYTES),
         script: open_file(rt, &files.script, TEXT_BYTES),
+        wrong: 0,
     }
 }
 
@@ -60,10 +66,29 @@ pub fn read_machine<R: Read>(
     ensures started { IfOk result (IsStarted options.now None
         (R.remaining inputs.old.rope) (R.remaining inputs.old.script)) }
     ensures fresh { IfOk result (λ machine. machine.begun ≡ false) }
+    ensures wrong { OnOk result (AreWrong options.now (R.remaining inputs.old.rope) inputs.new.wrong) }
     ensures refused { IfErr result (IsRefused options.now None
         (R.remaining inputs.old.rope) (R.remaining inputs.old.script)) }
 {
-    let start = read_start(alloc, options, None, inputs)?;
+    read_machine_as(alloc, options, options.form, inputs)
+}
+
+/// Does the same for a rope in another form.
+pub fn read_machine_as<R: Read>(
+    alloc: Global,
+    options: &RunOptions,
+    form: RopeForm,
+    inputs: &mut RunInputs<R>,
+) -> Result<Machine, LoadFault>
+    ensures started { IfOk result (IsStarted (in_form form options.now) None
+        (R.remaining inputs.old.rope) (R.remaining inputs.old.script)) }
+    ensures fresh { IfOk result (λ machine. machine.begun ≡ false) }
+    ensures wrong { OnOk result (AreWrong (in_form form options.now)
+        (R.remaining inputs.old.rope) inputs.new.wrong) }
+    ensures refused { IfErr result (IsRefused (in_form form options.now) None
+        (R.remaining inputs.old.rope) (R.remaining inputs.old.script)) }
+{
+    let start = read_start_as(alloc, options, form, None, inputs)?;
     Ok(start.machine)
 }
 
@@ -79,10 +104,34 @@ pub fn read_start<R: Read>(
         (R.remaining inputs.old.rope) (R.remaining inputs.old.script) start.machine) }
     ensures fresh { IfOk result (λ start. start.machine.begun ≡ false) }
     ensures tables { IfOk result (λ start. AreWatched (option_copied watch.entry) start.tables) }
+    ensures wrong { OnOk result (AreWrong options.now (R.remaining inputs.old.rope) inputs.new.wrong) }
     ensures refused { IfErr result (IsRefused options.now (option_copied watch.entry)
         (R.remaining inputs.old.rope) (R.remaining inputs.old.script)) }
 {
-    let rope = read_rope(alloc, options.form, &mut inputs.rope)?;
+    read_start_as(alloc, options, options.form, watch, inputs)
+}
+
+/// Does the same for a rope in another form.
+fn read_start_as<R: Read>(
+    alloc: Global,
+    options: &RunOptions,
+    form: RopeForm,
+    watch: Option<&String>,
+    inputs: &mut RunInputs<R>,
+) -> Result<Start, LoadFault>
+    ensures started { IfOk result (λ start. IsStarted (in_form form options.now)
+        (option_copied watch.entry) (R.remaining inputs.old.rope) (R.remaining inputs.old.script)
+        start.machine) }
+    ensures fresh { IfOk result (λ start. start.machine.begun ≡ false) }
+    ensures tables { IfOk result (λ start. AreWatched (option_copied watch.entry) start.tables) }
+    ensures wrong { OnOk result (AreWrong (in_form form options.now)
+        (R.remaining inputs.old.rope) inputs.new.wrong) }
+    ensures refused { IfErr result (IsRefused (in_form form options.now) (option_copied watch.entry)
+        (R.remaining inputs.old.rope) (R.remaining inputs.old.script)) }
+{
+    let read = read_any_rope(alloc, form, options.ignores_parity, &mut inputs.rope)?;
+    let RopeRead { rope, wrong } = read;
+    inputs.wrong = wrong.len();
     let script = read_script(alloc, &mut inputs.script)?;
     start_watched(rope, script, options, watch)
 }
@@ -96,7 +145,7 @@ fn start_watched(
 ) -> Result<Start, LoadFault>
     ensures started { ComesOf (watched_steps options.now (option_copied watch.entry))
         (λ start. start.machine
-        ≡ start_state rope script options.now.limit (said_by stop_address_of options.now.until)) result }
+        ≡ start_state rope script options.now.limit (parsed_by stop_address_of options.now.until)) result }
     ensures fresh { IfOk result (λ start. start.machine.begun ≡ false) }
     ensures tables { IfOk result (λ start. AreWatched (option_copied watch.entry) start.tables) }
 {

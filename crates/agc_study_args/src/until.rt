@@ -4,6 +4,7 @@ ghost use Rattle.agc_listing.specs.Place.{IsInPrint, place_text};
 ghost use Rattle.agc_listing.specs.Location.{IsWithin};
 ghost use Rattle.agc_study_args.specs.Until.{IsUntilWith, stop_place, stop_with, until_with};
 
+use crate::joined::joined;
 use agc_listing::{Location, Place, cell_address, listed_address, push_place};
 use agc_machine::StopAddress;
 use agc_store::place::{ERASABLE_BANK_SIZE, bank_of};
@@ -45,21 +46,26 @@ fn resolved_text(
 ) -> Result<String, AllocError>
     ensures { IfOk result (λ resolved. string_bytes resolved ≡ until_with names.now text.now) }
 {
-    match place_of_stop(names, text) {
+    match place_of_stop(alloc, names, text)? {
         Some(at) => stop_text(alloc, at),
         None => String::from_str(alloc, text),
     }
 }
 
 /// Returns the location that a text names by a symbol, unless it reads as a stop address.
-fn place_of_stop(names: &Option<SymbolTable>, text: &str) -> Option<Location>
-    ensures place { result ≡ stop_with names.now text.now }
-    ensures range { IfSome result IsWithin }
+fn place_of_stop(
+    alloc: Global,
+    names: &Option<SymbolTable>,
+    text: &str,
+) -> Result<Option<Location>, AllocError>
+    ensures place { IfOk result (λ at. at ≡ stop_with names.now text.now) }
+    ensures range { IfOk result (λ at. IfSome at IsWithin) }
 {
     if names.is_none() || StopAddress::read(text).is_some() {
-        return None;
+        return Ok(None);
     }
-    resolve(names, text.as_bytes())
+    let whole = joined(alloc, text.as_bytes())?;
+    Ok(resolve(names, whole.as_slice()))
 }
 
 /// Returns a location in the form that `--until` takes.

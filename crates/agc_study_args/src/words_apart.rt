@@ -1,6 +1,6 @@
 //! Prints the words of two ropes that differ, and blocks of words that moved.
-use agc_diff::{MovedBlock, moved_blocks, places_apart};
-use agc_listing::{Place, leads_on, listed_address, next_is_extracode, push_order, push_place};
+use agc_check::{MovedBlock, moved_blocks, places_apart, push_rope_place};
+use agc_listing::{leads_on, next_is_extracode, push_order};
 use agc_store::Store;
 use agc_store::place::{FIXED_BANKS, FIXED_WORDS, bank_of};
 use agc_word::Narrow;
@@ -99,18 +99,6 @@ fn push_counts(alloc: Global, text: &mut String, apart: &[usize]) -> Result<(), 
         if *count > 0 {
             writeln!(text, "bank {bank:02o}: {count} words differ")?;
         }
-    }
-    Ok(())
-}
-
-/// Appends a place of a rope as listings name it.
-pub(crate) fn push_rope_place(text: &mut String, place: usize) -> Result<(), AllocError> {
-    if place < FIXED_WORDS as usize {
-        let listed = Place::Fixed {
-            bank: bank_of(place as u32),
-            address: listed_address(place),
-        };
-        push_place(text, listed)?;
     }
     Ok(())
 }

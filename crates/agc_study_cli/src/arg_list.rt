@@ -1,5 +1,5 @@
 //! Builders for the subcommands of a command line and for the positional arguments and options of each.
-use clap::{Arg, ArgAction, Command};
+use clap::{Arg, ArgAction, Command, value_parser};
 use std::alloc::{AllocError, Global};
 
 /// Builds the list of subcommands.
@@ -143,6 +143,12 @@ impl<'a> ArgList<'a> {
 
     pub fn option(self, name: &'a str, shown: &'a str, help: &'a str) -> ArgList<'a> {
         let arg = option(self.alloc, name, shown, help);
+        self.with(arg)
+    }
+
+    /// Adds an option with a decimal number.
+    pub fn number(self, name: &'a str, shown: &'a str, help: &'a str) -> ArgList<'a> {
+        let arg = option(self.alloc, name, shown, help).value_parser(value_parser!(u64));
         self.with(arg)
     }
 

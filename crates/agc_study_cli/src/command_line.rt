@@ -1,7 +1,10 @@
 //! The `clap` definition of the command line: the subcommands with their files and options.
 use crate::arg_list::{ArgList, Subcommands, flag, named, option, repeated};
 use crate::restore::READINGS;
-use agc_cli::FORMS;
+use agc_cli::{
+    FORMS, form_option, limit_option, names_option, rope_file, script_file, until_option,
+    watch_option,
+};
 use clap::{ArgAction, Command};
 use std::alloc::{AllocError, Global};
 
@@ -91,6 +94,7 @@ impl<'a> Subcommands<'a> {
             .script_file(true)
             .limit_option()
             .form_option()
+            .wrong_parity_option()
             .until_named()
             .cycle_option("from", FIRST_PRINTED)
             .cycle_option("to", LAST_PRINTED)
@@ -118,8 +122,9 @@ impl<'a> Subcommands<'a> {
             .rope_file(true)
             .script_file(true)
             .limit_option()
+            .wrong_parity_option()
             .form_option()
-            .until_option()
+            .until_named()
             .cycle_option(
                 "from",
                 "First machine cycle to count: decimal; 0 if left out",
@@ -129,7 +134,10 @@ impl<'a> Subcommands<'a> {
                 "Last machine cycle to count: decimal; the stop if left out",
             )
             .whole_option()
-            .csv_option();
+            .csv_option()
+            .names_option(
+                "Show names from this file (a line each, PLACE NAME), and sum by routine",
+            );
         self.with(
             "profile",
             "Runs a rope and a script, and prints how often each word ran and where the cycles went.",
@@ -144,10 +152,14 @@ impl<'a> Subcommands<'a> {
             .script_file(true)
             .limit_option()
             .watch_option(true)
+            .wrong_parity_option()
             .form_option()
-            .until_option()
+            .until_named()
             .cycle_option("from", FIRST_PRINTED)
-            .cycle_option("to", LAST_PRINTED);
+            .cycle_option("to", LAST_PRINTED)
+            .names_option(
+                "Show names of jobs and tasks from this file: a line for each, PLACE NAME",
+            );
         self.with(
             "jobs",
             "Runs a rope and a script, and prints each change of the Executive's tables.",
@@ -166,6 +178,7 @@ impl<'a> Subcommands<'a> {
             .words_option()
             .form_option()
             .other_form_option()
+            .wrong_parity_option()
             .until_named()
             .by_option()
             .brief_option()
@@ -186,6 +199,7 @@ impl<'a> Subcommands<'a> {
             .other_script(false)
             .limit_option()
             .form_option()
+            .wrong_parity_option()
             .until_named()
             .cycle_option(
                 "from",
@@ -226,11 +240,14 @@ impl<'a> Subcommands<'a> {
     }
 
     fn repair_command(self) -> Subcommands<'a> {
-        let words = ArgList::none(self.alloc).rope_file(true).option(
-            "most",
-            "N",
-            "Print at most N repairs of each word: decimal; 16 if left out",
-        );
+        let words = ArgList::none(self.alloc)
+            .rope_file(true)
+            .number(
+                "most",
+                "N",
+                "Print at most N repairs of each word: decimal; 16 if left out",
+            )
+            .repaired_form();
         self.with(
             "repair",
             "Prints the repairs by one bit of each word with wrong parity, in a rope file with parity, as a patch.",
@@ -266,6 +283,17 @@ impl<'a> ArgList<'a> {
         self.with(arg)
     }
 
+    fn repaired_form(self) -> ArgList<'a> {
+        let arg = option(
+            self.alloc,
+            "form",
+            "FORM",
+            "Layout of the rope file: only parity, also if no parity bit is 1",
+        )
+        .value_parser(FORMS.as_slice());
+        self.with(arg)
+    }
+
     fn ignore_parity_option(self) -> ArgList<'a> {
         self.flag(
             "ignore-parity",
@@ -273,20 +301,17 @@ impl<'a> ArgList<'a> {
         )
     }
 
+    /// Adds `--ignore-parity` for a subcommand that writes no rope.
+    fn wrong_parity_option(self) -> ArgList<'a> {
+        self.flag(
+            "ignore-parity",
+            "Read a rope in the form with parity whatever its parity bits",
+        )
+    }
+
     /// Adds a file of two runs, which `--words` does without.
     fn run_file(self, id: &'a str, shown: &'a str, help: &'a str) -> ArgList<'a> {
         let arg = named(self.alloc, id, shown, help).required_unless_present("words");
-        self.with_tied(arg)
-    }
-
-    fn limit_of_runs(self) -> ArgList<'a> {
-        let arg = option(
-            self.alloc,
-            "limit",
-            "N",
-            "Stop at this machine cycle (85,333 a second): decimal, 1 to 1000000000000",
-        )
-        .required_unless_present("words");
         self.with_tied(arg)
     }
 
@@ -307,21 +332,9 @@ impl<'a> ArgList<'a> {
             self.alloc,
             "form-b",
             "FORM",
-            "Layout of the second rope file of --words, if it is another",
+            "Layout of the second rope file, if it is another",
         )
-        .value_parser(FORMS.as_slice())
-        .requires_arg("words");
-        self.with_tied(arg)
-    }
-
-    fn watch_option(self, is_required: bool) -> ArgList<'a> {
-        let arg = option(
-            self.alloc,
-            "watch",
-            "SPEC",
-            "Octal: CORE_BANK,CORE_OFFSET,SETS,LST1_BANK,LST1_OFFSET,LST2_BANK,LST2_OFFSET",
-        )
-        .required(is_required);
+        .value_parser(FORMS.as_slice());
         self.with(arg)
     }
 
@@ -392,45 +405,8 @@ impl<'a> ArgList<'a> {
         )
     }
 
-    fn script_file(self, is_required: bool) -> ArgList<'a> {
-        self.file(
-            "script",
-            "SCRIPT",
-            "Script file: a line for each event, in order of their machine cycles",
-            is_required,
-        )
-    }
-
-    fn limit_option(self) -> ArgList<'a> {
-        let arg = option(
-            self.alloc,
-            "limit",
-            "N",
-            "Stop at this machine cycle (85,333 a second): decimal, 1 to 1000000000000",
-        )
-        .required(true);
-        self.with(arg)
-    }
-
-    fn until_option(self) -> ArgList<'a> {
-        self.option(
-            "until",
-            "BANK,ADDR",
-            "Stop before the order here runs: octal, BANK 0 to 47, ADDR 0 to 7777",
-        )
-    }
-
-    /// Adds `--until` for a subcommand that also takes `--names`.
-    fn until_named(self) -> ArgList<'a> {
-        self.option(
-            "until",
-            "BANK,ADDR",
-            "Stop before the order here runs: octal, BANK 0 to 47, ADDR 0 to 7777, or a name",
-        )
-    }
-
     fn cycle_option(self, name: &'a str, help: &'a str) -> ArgList<'a> {
-        self.option(name, "CYCLE", help)
+        self.number(name, "CYCLE", help)
     }
 
     fn only_option(self) -> ArgList<'a> {
@@ -477,26 +453,11 @@ impl<'a> ArgList<'a> {
     }
 
     fn last_option(self) -> ArgList<'a> {
-        self.option(
+        self.number(
             "last",
             "N",
             "Print only the last N of these lines, at the end of the run: decimal",
         )
-    }
-
-    fn names_option(self, help: &'a str) -> ArgList<'a> {
-        self.option("names", "FILE", help)
-    }
-
-    fn names_of_runs(self) -> ArgList<'a> {
-        let arg = repeated(
-            self.alloc,
-            "names",
-            "FILE",
-            "Show names from this file: a line for each, PLACE NAME; repeat it for the second run",
-        )
-        .conflicts_with("by");
-        self.with_tied(arg)
     }
 
     fn write_names_option(self) -> ArgList<'a> {
@@ -517,15 +478,6 @@ impl<'a> ArgList<'a> {
         self.with_tied(arg)
     }
 
-    fn rope_file(self, is_required: bool) -> ArgList<'a> {
-        self.file(
-            "rope",
-            "ROPE",
-            "Rope file: 16-bit words, the high byte first",
-            is_required,
-        )
-    }
-
     fn text_file(self) -> ArgList<'a> {
         self.file(
             "text",
@@ -533,18 +485,6 @@ impl<'a> ArgList<'a> {
             "Source, or text as list prints it; # starts a comment",
             true,
         )
-    }
-
-    fn form_option(self) -> ArgList<'a> {
-        let arg = option(
-            self.alloc,
-            "form",
-            "FORM",
-            "Layout of the rope file: octal banks 2, 3, 0, 1, 4 to 43, or 0 to 43 with odd parity",
-        )
-        .default_value("classic")
-        .value_parser(FORMS.as_slice());
-        self.with(arg)
     }
 
     fn keys_option(self) -> ArgList<'a> {
@@ -586,6 +526,62 @@ impl<'a> ArgList<'a> {
         )
         .value_parser(STYLES.as_slice())
         .conflicts_with("source");
+        self.with_tied(arg)
+    }
+
+    fn rope_file(self, is_required: bool) -> ArgList<'a> {
+        let arg = rope_file(self.alloc).required(is_required);
+        self.with(arg)
+    }
+
+    fn script_file(self, is_required: bool) -> ArgList<'a> {
+        let arg = script_file(self.alloc).required(is_required);
+        self.with(arg)
+    }
+
+    fn limit_option(self) -> ArgList<'a> {
+        let arg = limit_option(self.alloc);
+        self.with(arg)
+    }
+
+    /// Adds `--limit` for two runs, which `--words` does without.
+    fn limit_of_runs(self) -> ArgList<'a> {
+        let arg = limit_option(self.alloc)
+            .required(false)
+            .required_unless_present("words");
+        self.with_tied(arg)
+    }
+
+    fn form_option(self) -> ArgList<'a> {
+        let arg = form_option(self.alloc);
+        self.with(arg)
+    }
+
+    fn watch_option(self, is_required: bool) -> ArgList<'a> {
+        let arg = watch_option(self.alloc).required(is_required);
+        self.with(arg)
+    }
+
+    /// Adds `--until` for a subcommand that also takes `--names`.
+    fn until_named(self) -> ArgList<'a> {
+        let arg = until_option(self.alloc).help(
+            "Stop before the order here runs: octal, BANK 0 to 47, ADDR 0 to 7777, or a name",
+        );
+        self.with(arg)
+    }
+
+    fn names_option(self, help: &'a str) -> ArgList<'a> {
+        let arg = names_option(self.alloc).help(help);
+        self.with(arg)
+    }
+
+    fn names_of_runs(self) -> ArgList<'a> {
+        let arg = names_option(self.alloc)
+            .action(ArgAction::Append)
+            .help(
+                "Show names from this file: a line for each, PLACE NAME; repeat it for the second run",
+            )
+            .conflicts_with("by");
         self.with_tied(arg)
     }
 }

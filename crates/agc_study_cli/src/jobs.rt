@@ -1,7 +1,7 @@
 //! Parses the arguments of `jobs`.
 use crate::runs::{files_of, options_of};
 use crate::values::span_of;
-use agc_cli::{ArgsFault, path_of};
+use agc_cli::{ArgsFault, path_of, text_of};
 use agc_study_args::{Args, JobsArgs};
 use clap::ArgMatches;
 use std::alloc::Global;
@@ -13,5 +13,6 @@ pub(crate) fn jobs_args(alloc: Global, given: &ArgMatches<'_>) -> Result<Args, A
         options: options_of(alloc, given)?,
         watch: path_of(alloc, given, "watch")?,
         span: span_of(alloc, given)?,
+        names: text_of(alloc, given, "names")?,
     }))
 }

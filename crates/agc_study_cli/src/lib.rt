@@ -4,7 +4,6 @@
 mod arg_list;
 mod command_line;
 mod jobs;
-mod mistakes;
 mod profile;
 mod restore;
 mod runs;

@@ -1,7 +1,7 @@
 //! Parses the arguments of `profile`.
 use crate::runs::{files_of, options_of};
 use crate::values::span_of;
-use agc_cli::ArgsFault;
+use agc_cli::{ArgsFault, text_of};
 use agc_profile::Layout;
 use agc_study_args::{Args, ProfileArgs};
 use clap::ArgMatches;
@@ -19,5 +19,6 @@ pub(crate) fn profile_args(alloc: Global, given: &ArgMatches<'_>) -> Result<Args
             Layout::Columns
         },
         is_whole: given.get_flag("whole"),
+        names: text_of(alloc, given, "names")?,
     }))
 }

@@ -1,7 +1,8 @@
 //! Parses the arguments of `convert`, `repair`, `patch` and `compare --words`.
-use crate::values::number_in;
+use crate::runs::other_form_of;
+use crate::values::refused;
 use agc_check::{ParityBit, Reading};
-use agc_cli::{ArgsFault, form_of, path_of};
+use agc_cli::{ArgsFault, form_of, number_of, path_of};
 use agc_store::RopeForm;
 use agc_study_args::{Args, ConvertArgs, PatchArgs, RepairArgs, WordsArgs};
 use clap::ArgMatches;
@@ -47,12 +48,23 @@ fn reading_of(name: Option<&str>, is_swapped: bool) -> Reading {
 }
 
 pub(crate) fn repair_args(alloc: Global, given: &ArgMatches<'_>) -> Result<Args, ArgsFault> {
-    let form = "write a whole decimal number of repairs";
-    let most = number_in(alloc, given.get_str("most"), "--most <N>", form)?;
     Ok(Args::Repair(RepairArgs {
         rope: path_of(alloc, given, "rope")?,
-        most: most.unwrap_or(MOST_REPAIRS).min(MOST_REPAIRS) as usize,
+        most: number_of(given, "most", MOST_REPAIRS).min(MOST_REPAIRS) as usize,
+        has_parity: is_parity_form(alloc, given.get_str("form"))?,
     }))
+}
+
+/// Returns whether `--form parity` is given to `repair`; it takes no other form.
+fn is_parity_form(alloc: Global, form: Option<&str>) -> Result<bool, ArgsFault> {
+    match form {
+        None => Ok(false),
+        Some("parity") => Ok(true),
+        Some(form) => {
+            let why = "this form has no parity bits";
+            Err(refused(alloc, form, "--form <FORM>", why))
+        }
+    }
 }
 
 pub(crate) fn patch_args(alloc: Global, given: &ArgMatches<'_>) -> Result<Args, ArgsFault> {
@@ -68,15 +80,11 @@ pub(crate) fn words_args(alloc: Global, given: &ArgMatches<'_>) -> Result<Option
     let Some([rope, other]) = given.get_strs("words") else {
         return Ok(None);
     };
-    let form = form_of(given);
     Ok(Some(Args::Words(WordsArgs {
         rope: String::from_str(alloc, rope)?,
         other: String::from_str(alloc, other)?,
-        form,
-        other_form: match given.get_str("form-b") {
-            Some("parity") => RopeForm::Parity,
-            Some(_) => RopeForm::Classic,
-            None => form,
-        },
+        form: form_of(given),
+        other_form: other_form_of(given),
+        ignores_parity: given.get_flag("ignore-parity"),
     })))
 }

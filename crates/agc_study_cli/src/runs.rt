@@ -1,18 +1,28 @@
 //! Parses the arguments that the subcommands share: the files of a run, and where it ends.
-use crate::values::limit_of;
-use agc_cli::{ArgsFault, form_of, path_of, text_of};
+use agc_cli::{form_of, number_of, path_of, text_of};
+use agc_store::RopeForm;
 use agc_study_args::RunOptions;
 use agc_timeline::RunFiles;
 use clap::ArgMatches;
 use std::alloc::{AllocError, Global};
 
 /// Parses how a run begins and where it stops.
-pub(crate) fn options_of(alloc: Global, given: &ArgMatches<'_>) -> Result<RunOptions, ArgsFault> {
+pub(crate) fn options_of(alloc: Global, given: &ArgMatches<'_>) -> Result<RunOptions, AllocError> {
     Ok(RunOptions {
         form: form_of(given),
-        limit: limit_of(alloc, given)?,
+        ignores_parity: given.get_flag("ignore-parity"),
+        limit: number_of(given, "limit", 0),
         until: text_of(alloc, given, "until")?,
     })
+}
+
+/// Parses the form of the right rope: that of the left one if it has none of its own.
+pub(crate) fn other_form_of(given: &ArgMatches<'_>) -> RopeForm {
+    match given.get_str("form-b") {
+        Some("parity") => RopeForm::Parity,
+        Some(_) => RopeForm::Classic,
+        None => form_of(given),
+    }
 }
 
 /// Parses the files of a run; if there are two, of the left one.

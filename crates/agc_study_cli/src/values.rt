@@ -1,59 +1,24 @@
 //! Parses the values of options: numbers, and the repeatable filters of a trace.
 use agc_asm::is_order;
 use agc_check::nearest_order;
-use agc_cli::ArgsFault;
+use agc_cli::{ArgsFault, number_of};
 use agc_study_args::NAME;
 use agc_trace::Span;
 use agc_word::read_octal;
 use clap::ArgMatches;
 use std::alloc::{AllocError, Global};
 
-/// How a limit is written.
-const LIMIT_FORM: &str = "write a whole decimal number of cycles, 1 to 1000000000000";
-
-/// How another cycle is written.
-const CYCLE_FORM: &str = "write a whole decimal number of cycles";
-
-/// How a number of lines is written.
-const LINES_FORM: &str = "write a whole decimal number of lines";
-
-/// Parses `--limit`.
-pub(crate) fn limit_of(alloc: Global, given: &ArgMatches<'_>) -> Result<u64, ArgsFault> {
-    let limit = number_in(alloc, given.get_str("limit"), "--limit <N>", LIMIT_FORM)?;
-    Ok(limit.unwrap_or(0))
-}
-
-/// Parses `--last`.
-pub(crate) fn last_of(alloc: Global, given: &ArgMatches<'_>) -> Result<Option<u64>, ArgsFault> {
-    number_in(alloc, given.get_str("last"), "--last <N>", LINES_FORM)
-}
-
 /// Parses `--from` and `--to`; the range must contain a cycle.
 pub(crate) fn span_of(alloc: Global, given: &ArgMatches<'_>) -> Result<Span, ArgsFault> {
-    let from = number_in(alloc, given.get_str("from"), "--from <CYCLE>", CYCLE_FORM)?;
-    let to = number_in(alloc, given.get_str("to"), "--to <CYCLE>", CYCLE_FORM)?;
-    let (from, to) = (from.unwrap_or(0), to.unwrap_or(u64::MAX));
+    let (from, to) = (
+        number_of(given, "from", 0),
+        number_of(given, "to", u64::MAX),
+    );
     if to < from {
         let text = format!(in alloc; "{NAME}: empty range: --to {to} is before --from {from}\n")?;
         return Err(ArgsFault::Command(text));
     }
     Ok(Span { from, to })
-}
-
-/// Parses the value of an option that takes a number.
-pub(crate) fn number_in(
-    alloc: Global,
-    text: Option<&str>,
-    option: &str,
-    form: &str,
-) -> Result<Option<u64>, ArgsFault> {
-    let Some(text) = text else {
-        return Ok(None);
-    };
-    match text.parse::<u64>() {
-        Ok(number) => Ok(Some(number)),
-        Err(_) => Err(refused(alloc, text, option, form)),
-    }
 }
 
 /// Returns the values of an option that are parsed later, with the symbol file.

@@ -1,62 +1,59 @@
 //! Parses the words of a command line into the arguments of a subcommand.
 use crate::command_line::command;
 use crate::jobs::jobs_args;
-use crate::mistakes::without_tip;
 use crate::profile::profile_args;
 use crate::restore::{convert_args, patch_args, repair_args, words_args};
-use crate::runs::{files_of, options_of, other_files_of};
+use crate::runs::{files_of, options_of, other_files_of, other_form_of};
 use crate::shown::{shown_of, with_channel_form};
-use crate::values::{channel_names_of, channels_of, last_of, orders_of, span_of, texts_of};
-use agc_cli::{
-    ArgsFault, WordsFault, answer_version, fault_of, form_of, path_of, text_of, words_of,
-};
+use crate::values::{channel_names_of, channels_of, orders_of, span_of, texts_of};
+use agc_cli::{ArgsFault, form_of, mistake_of, path_of, text_of};
 use agc_study_args::{
     Args, CheckArgs, CompareArgs, FilmArgs, ListArgs, ListStyle, NAME, TraceArgs, WeaveArgs,
 };
 use agc_timeline::{Part, RunFiles};
 use agc_trace::{Notation, Only, Selection, Span};
-use clap::ArgMatches;
+use clap::{ArgMatches, Command};
 use std::alloc::{AllocError, Global};
 use std::rt::Env;
 
+/// The command line of the program, with the arguments of a subcommand.
+#[derive(Drop)]
+struct CommandLine {
+    args: Args,
+}
+
+impl agc_cli::Args for CommandLine {
+    const NAME: &'static str = NAME;
+
+    fn command<'a>(alloc: Global) -> Result<Command<'a>, AllocError> {
+        command(alloc)
+    }
+
+    fn from_matches(alloc: Global, matches: &ArgMatches<'_>) -> Result<CommandLine, ArgsFault> {
+        let args = args_in(alloc, matches)?;
+        Ok(CommandLine { args })
+    }
+
+    fn parse<'a>(alloc: Global, words: &'a [&'a str]) -> Result<CommandLine, ArgsFault> {
+        match command(alloc)?.try_get_matches_from(words) {
+            Ok(matches) => agc_cli::Args::from_matches(alloc, &matches),
+            Err(error) => Err(with_channel_form(alloc, words, mistake_of(alloc, &error))),
+        }
+    }
+}
+
 /// Parses the command line of the process.
 pub fn parse_env<R: Env + AllocGlobal>(rt: &R) -> Result<Args, ArgsFault> {
-    let alloc = rt.alloc();
-    match words_of(rt) {
-        Ok(words) => {
-            answer_version(alloc, NAME, words.as_slice())?;
-            parse(alloc, texts_of_words(alloc, words.as_slice())?.as_slice())
-        }
-        Err(WordsFault::NotText(number)) => Err(not_text(alloc, number)),
-        Err(WordsFault::Memory) => Err(ArgsFault::Memory),
-    }
-}
-
-/// Returns the words as text.
-fn texts_of_words<'a>(alloc: Global, words: &'a [String]) -> Result<Vec<&'a str>, AllocError> {
-    words.iter().map(|word| word.as_str()).collect(alloc)
-}
-
-/// Returns the error for a word that is not text. The number of the word counts from 1 after the program name.
-fn not_text(alloc: Global, number: usize) -> ArgsFault {
-    match format!(in alloc;
-        "error: word {number} is not text\n\nUsage: {NAME} <COMMAND>\n\nFor more information, try '--help'.\n"
-    ) {
-        Ok(text) => ArgsFault::Command(text),
-        Err(_) => ArgsFault::Memory,
-    }
+    args_of_line(agc_cli::parse_env(rt))
 }
 
 /// Parses the words of a command line; the first word is the program name.
 pub fn parse<'a>(alloc: Global, words: &'a [&'a str]) -> Result<Args, ArgsFault> {
-    let command = command(alloc)?;
-    match command.try_get_matches_from(words) {
-        Ok(matches) => args_in(alloc, &matches),
-        Err(error) => {
-            let fault = without_tip(alloc, fault_of(alloc, &error));
-            Err(with_channel_form(alloc, words, fault))
-        }
-    }
+    args_of_line(<CommandLine as agc_cli::Args>::parse(alloc, words))
+}
+
+fn args_of_line(line: Result<CommandLine, ArgsFault>) -> Result<Args, ArgsFault> {
+    Ok(line?.args)
 }
 
 fn args_in(alloc: Global, matches: &ArgMatches<'_>) -> Result<Args, ArgsFault> {
@@ -182,7 +179,7 @@ fn selection_of(alloc: Global, given: &ArgMatches<'_>) -> Result<Selection, Args
         orders: orders_of(alloc, given)?,
         channels: channels_of(alloc, given)?,
         cells: Vec::new(alloc),
-        last: last_of(alloc, given)?,
+        last: given.get_one::<u64>("last"),
     })
 }
 
@@ -195,6 +192,7 @@ fn compare_args(alloc: Global, given: &ArgMatches<'_>) -> Result<Args, ArgsFault
         files: files_of(alloc, given)?,
         other: other_files_of(alloc, given)?,
         options: options_of(alloc, given)?,
+        other_form: other_form_of(given),
         shown: shown_of(alloc, given)?,
         names: text_of(alloc, given, "names")?,
         other_names,

@@ -86,8 +86,8 @@ fn joined(rt: &(impl AllocGlobal + Abort), texts: &[&str]) -> String {
 }
 
 /// Checks that two values are equal, in the named row.
-fn same<T: PartialEq + Debug + Drop>(rt: &impl Abort, told: T, wanted: T, row: &str) {
-    assert_eq!(rt; told, wanted, "{row}");
+fn same<T: PartialEq + Debug + Drop>(rt: &impl Abort, reported: T, wanted: T, row: &str) {
+    assert_eq!(rt; reported, wanted, "{row}");
 }
 
 /// Checks a condition, in the named row.
@@ -97,9 +97,9 @@ fn holds(rt: &impl Abort, it: bool, row: &str) {
 
 /// Checks the lines of a text.
 fn has_lines(rt: &impl Abort, text: &str, lines: &[&str]) {
-    let mut told = text.lines();
+    let mut reported = text.lines();
     for line in lines {
-        same(rt, told.next(), Some(*line), "line");
+        same(rt, reported.next(), Some(*line), "line");
     }
-    same(rt, told.next(), None, "end");
+    same(rt, reported.next(), None, "end");
 }

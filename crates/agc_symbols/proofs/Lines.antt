@@ -13,10 +13,10 @@ use Rattle.agc_symbols.specs.declared.fault.NameFault.{NameFault}
 use Rattle.agc_symbols.specs.declared.fault.SymbolTableFault.TheVariants as trouble
 
 -- a line without a fault
-pub next_named : (n : ℕ) (names : List Symbol) (line : List ℕ) (lines : List (List ℕ)) (said : Option Symbol) → line_named line ≡ Ok said
-    → names_from n names (line ∷ lines) ≡ names_from (n + 1) (names_with names said) lines
+pub next_named : (n : ℕ) (names : List Symbol) (line : List ℕ) (lines : List (List ℕ)) (parsed : Option Symbol) → line_named line ≡ Ok parsed
+    → names_from n names (line ∷ lines) ≡ names_from (n + 1) (names_with names parsed) lines
 unfolding names_from
-next_named n names line lines said e = rw (e, names_from)
+next_named n names line lines parsed e = rw (e, names_from)
 
 -- a faulty line
 pub faulty_named : (text : List ℕ) (n : ℕ) (names : List Symbol) (line : List ℕ) (lines : List (List ℕ)) (why : NameFault)

@@ -12,7 +12,7 @@ use Rattle.agc_listing.specs.Line.{is_no_text}
 use Rattle.agc_listing.proofs.LinesBack.{no_lines_of}
 use Rattle.agc_listing.proofs.Prints.{all_text, is_solid, no_blank}
 use Rattle.agc_word.specs.Text.{is_blank, is_empty_part, is_line_feed, lines_of, without_empty_end, words_of}
-use Rattle.agc_listing.specs.Text.{is_name, said_by}
+use Rattle.agc_listing.specs.Text.{is_name, parsed_by}
 use Rattle.agc_listing.specs.declared.location.Location.{Location}
 use Rattle.agc_symbols.specs.Symbols.{Symbol, is_place_name, line_named, names_from, names_in}
 use Rattle.agc_symbols.specs.Writing.{AreSayable, IsSayable, line_for, names_text}
@@ -83,8 +83,8 @@ word_before : (part rest : List ℕ) → list_all is_solid part ≡ true → is_
 unfolding words_of
 word_before part rest solid some = rw (slice_split_at is_blank part 0x20 rest (no_blank part solid) refl, some) refl
 
-body_says : (at : Location) (name : List ℕ) → said_by (line_body at name) ≡ location_text at ∷ said_by name
-unfolding said_by
+body_says : (at : Location) (name : List ℕ) → parsed_by (line_body at name) ≡ location_text at ∷ parsed_by name
+unfolding parsed_by
 body_says at name = rw (word_before (location_text at) name (location_solid at) (location_some at), location_no_comment at) refl
 
 line_read : (named : Symbol) → IsSayable named → line_named (line_body named.place named.name) ≡ Ok (Some named)

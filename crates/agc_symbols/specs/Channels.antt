@@ -2,9 +2,9 @@
 use Rattle.std.specs.Prelude.{ℕ, ◌==◌, List, [], ◌∷◌, find, Option, Some, None, option_map, if◌then◌else◌}
 use Rattle.std.specs.List.{flat_map}
 use Rattle.agc_word.specs.Text.{lines_of}
-use Rattle.agc_listing.specs.Text.{said_by}
+use Rattle.agc_listing.specs.Text.{parsed_by}
 use Rattle.agc_symbols.specs.Symbols.{channel_named, is_place_name}
-use Rattle.agc_symbols.specs.declared.line.SaidChannel.{SaidChannel}
+use Rattle.agc_symbols.specs.declared.line.ParsedChannel.{ParsedChannel}
 
 -- a name and its channel
 pub record ChannelSymbol : Type 0 where
@@ -23,7 +23,7 @@ channel_in_words (first ∷ []) = None
 channel_in_words [] = None
 
 unfoldable pub channel_on : List ℕ → Option ChannelSymbol
-channel_on line = channel_in_words (said_by line)
+channel_on line = channel_in_words (parsed_by line)
 
 abbrev pub named_if : Option ChannelSymbol → List ChannelSymbol
 named_if (Some named) = named ∷ []
@@ -42,5 +42,5 @@ name_of_channel names channel =
     option_map (λ named. named.name) (find (λ named. named.channel == channel) names)
 
 -- a line as the code returns it
-abbrev pub channel_said : SaidChannel → ChannelSymbol
-channel_said said = record { channel = said.channel; name = said.name.now }
+abbrev pub channel_parsed : ParsedChannel → ChannelSymbol
+channel_parsed parsed = record { channel = parsed.channel; name = parsed.name.now }

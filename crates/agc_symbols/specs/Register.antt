@@ -1,5 +1,5 @@
--- The computer's own names for cells, which questions have without a symbol file.
-use Rattle.std.specs.Prelude.{ℕ, List, [], ◌∷◌, Option, Some, None, find, codes}
+-- The computer's own names for cells.
+use Rattle.std.specs.Prelude.{ℕ, Bool, true, false, List, [], ◌∷◌, Option, Some, None, find, codes}
 use Rattle.std.specs.Str.{bytes_eq}
 use Rattle.agc_store.specs.Places.{a_cell, l_cell, q_cell, eb_cell, fb_cell, z_cell, bb_cell, zero_cell}
 use Rattle.agc_store.specs.Places.{zrupt_cell, brupt_cell, cyr_cell, sr_cell, cyl_cell, edop_cell}
@@ -47,6 +47,13 @@ register_name register.Pipay = codes "PIPAY"
 register_name register.Pipaz = codes "PIPAZ"
 register_name register.Inlink = codes "INLINK"
 register_name register.Rnrad = codes "RNRAD"
+
+-- the registers of the banks have short names too, which sources do not have
+abbrev pub is_short : Register → Bool
+is_short register.Eb = true
+is_short register.Fb = true
+is_short register.Bb = true
+is_short r = false
 
 -- their cells
 unfoldable pub register_cell : Register → ℕ

@@ -19,14 +19,14 @@ is_between names text at =
 unfoldable pub dash_between : Option (List Symbol) → List ℕ → Option ℕ
 dash_between names text = find (is_between names text) (range_with_len 0 (length text))
 
-abbrev pub two_said : Option (List Symbol) → RangeFault → List ℕ → Option ℕ → Result LocationRange RangeFault
-two_said names why text (Some at) =
+abbrev pub two_parsed : Option (List Symbol) → RangeFault → List ℕ → Option ℕ → Result LocationRange RangeFault
+two_parsed names why text (Some at) =
     two_places (resolve names (take at text)) (resolve names (drop (at + 1) text))
-two_said names why text None = Err why
+two_parsed names why text None = Err why
 
 abbrev pub one_or_two : Option (List Symbol) → RangeFault → List ℕ → Option Location → Result LocationRange RangeFault
 one_or_two names why text (Some place) = one_place (Some place)
-one_or_two names why text None = two_said names why text (dash_between names text)
+one_or_two names why text None = two_parsed names why text (dash_between names text)
 
 -- `LOOP`, `LOOP+3` or `LOOP-3`; if the whole text is not a location, two of one bank: `LOOP-4177`, `LOOP-LOOP+7`
 unfoldable pub places_called : Option (List Symbol) → RangeFault → List ℕ → Result LocationRange RangeFault

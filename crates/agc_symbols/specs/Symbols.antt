@@ -6,13 +6,13 @@ use Rattle.agc_word.specs.Numeral.{octal_number}
 use Rattle.agc_word.specs.Text.{lines_of}
 use Rattle.agc_listing.specs.Line.{is_no_text}
 use Rattle.agc_listing.specs.Location.{location_named}
-use Rattle.agc_listing.specs.Text.{is_name, said_by}
+use Rattle.agc_listing.specs.Text.{is_name, parsed_by}
 use Rattle.agc_listing.specs.declared.location.Location.{Location}
 use Rattle.agc_symbols.specs.declared.fault.NameFault.{NameFault}
 use Rattle.agc_symbols.specs.declared.fault.NameFault.TheVariants as fault
 use Rattle.agc_symbols.specs.declared.fault.SymbolTableFault.{SymbolTableFault}
 use Rattle.agc_symbols.specs.declared.fault.SymbolTableFault.TheVariants as trouble
-use Rattle.agc_symbols.specs.declared.line.Said.{Said}
+use Rattle.agc_symbols.specs.declared.line.Parsed.{Parsed}
 
 -- a name and its location
 pub record Symbol : Type 0 where
@@ -67,7 +67,7 @@ words_named (first ∷ words) = name_at (location_named first) first words
 -- what a line means for places: a place and its name, or nothing, as for a channel and its name
 unfoldable pub line_named : List ℕ → Result (Option Symbol) NameFault
 line_named line =
-    if list_any is_no_text line then Err fault.NotText else words_named (said_by line)
+    if list_any is_no_text line then Err fault.NotText else words_named (parsed_by line)
 
 -- these names, and the name of a line if it has one
 abbrev pub names_with : List Symbol → Option Symbol → List Symbol
@@ -79,7 +79,7 @@ unfoldable pub names_from : ℕ → List Symbol → List (List ℕ) → Result (
 names_from n names [] = Ok names
 names_from n names (line ∷ lines) =
     elim (line_named line) [
-      | Ok said ↦ names_from (n + 1) (names_with names said) lines
+      | Ok parsed ↦ names_from (n + 1) (names_with names parsed) lines
       | Err why ↦ Err (trouble.Line n why)
     ]
 
@@ -88,13 +88,13 @@ unfoldable pub names_in : List ℕ → Result (List Symbol) SymbolTableFault
 names_in text = names_from 1 [] (lines_of text)
 
 -- a line as the code returns it
-abbrev pub said_named : Said → Symbol
-said_named said = record { place = said.place; name = said.name.now }
+abbrev pub parsed_named : Parsed → Symbol
+parsed_named parsed = record { place = parsed.place; name = parsed.name.now }
 
-abbrev pub option_named : Option Said → Option Symbol
-option_named (Some said) = Some (said_named said)
+abbrev pub option_named : Option Parsed → Option Symbol
+option_named (Some parsed) = Some (parsed_named parsed)
 option_named None = None
 
-abbrev pub as_named : Result (Option Said) NameFault → Result (Option Symbol) NameFault
-as_named (Ok said) = Ok (option_named said)
+abbrev pub as_named : Result (Option Parsed) NameFault → Result (Option Symbol) NameFault
+as_named (Ok parsed) = Ok (option_named parsed)
 as_named (Err why) = Err why

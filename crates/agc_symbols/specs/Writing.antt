@@ -9,7 +9,7 @@ use Rattle.agc_listing.specs.Place.{place_text}
 use Rattle.agc_listing.specs.declared.place.Place.{Place}
 use Rattle.agc_listing.specs.declared.place.Place.TheVariants as printed
 use Rattle.agc_listing.specs.Location.{IsWithin, cell_address}
-use Rattle.agc_listing.specs.Text.{said_by}
+use Rattle.agc_listing.specs.Text.{parsed_by}
 use Rattle.agc_listing.specs.declared.location.Location.{Location}
 use Rattle.agc_listing.specs.declared.location.Location.TheVariants as location
 use Rattle.agc_symbols.specs.Symbols.{Symbol, is_place_name}
@@ -49,7 +49,7 @@ names_text names = flat_map line_for names
 pub record IsSayable (named : Symbol) : Type 0 where
   pub place : IsWithin named.place
   pub name : is_place_name named.name ≡ true
-  pub word : said_by named.name ≡ named.name ∷ []
+  pub word : parsed_by named.name ≡ named.name ∷ []
 
 abbrev pub AreSayable : List Symbol → Type 0
 AreSayable [] = Unit {0}

@@ -2,7 +2,7 @@
 ghost use Rattle.std.specs.Prelude.{◌≡◌, ◌++◌, IfOk, IfSome, OnOk, option_map};
 ghost use Rattle.agc_symbols.specs.Channels.{channels_in, channels_on, name_of_channel};
 
-use crate::line::{SaidChannel, channel_on};
+use crate::line::{ParsedChannel, channel_on};
 use agc_word::next_line;
 use std::alloc::{AllocError, Global};
 use std::marker::Model;
@@ -113,7 +113,7 @@ impl ChannelTable {
 fn add_channel(alloc: Global, names: &mut Vec<ChannelName>, line: &[u8]) -> Result<(), AllocError>
     ensures { OnOk result (names.new.items ≡ names.old.items ++ channels_on line.now) }
 {
-    if let Some(SaidChannel { channel, name }) = channel_on(line) {
+    if let Some(ParsedChannel { channel, name }) = channel_on(line) {
         names.push(ChannelName::new(alloc, channel, name)?)?;
     }
     Ok(())

@@ -9,7 +9,7 @@ ghost use Rattle.agc_listing.specs.declared.location.Location.{Location};
 /// The name printed for a place is one of the names, at the place or below it in the same bank, at most 100 octal away.
 /// No such name is nearer, and none that comes earlier is at the same place. If a place has no name printed, no name is
 /// that near.
-pub fn the_nearest_name_is_told()
+pub fn the_nearest_name_is_reported()
     ensures { (names : List Symbol) (at : Location)
         → MatchOption (nearest names at) (NoneReaches names at) (IsNearest names at) }
 {}

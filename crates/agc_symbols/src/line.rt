@@ -1,37 +1,37 @@
 //! Parses a line of a symbol file: a place and its name, a channel and its name, or nothing.
 ghost use Rattle.std.specs.Prelude.{◌≡◌, ◌<◌, option_map, IfSome, Some, None, if◌then◌else◌};
-ghost use Rattle.agc_symbols.specs.Channels.{channel_on, channel_said};
+ghost use Rattle.agc_symbols.specs.Channels.{channel_on, channel_parsed};
 ghost use Rattle.agc_symbols.specs.Symbols.{as_named, channel_named, is_place_name, line_named};
 ghost use Rattle.agc_symbols.specs.Symbols.{name_after, name_after_channel};
-ghost use Rattle.agc_listing.specs.Text.{said_by};
+ghost use Rattle.agc_listing.specs.Text.{parsed_by};
 
 use crate::fault::NameFault;
-use agc_listing::{Location, has_other_byte, is_name, location_named, next_said};
+use agc_listing::{Location, has_other_byte, is_name, location_named, next_parsed};
 use agc_word::read_octal;
 
 /// A place and its name, as read from a line.
 #[derive(Clone, Copy)]
-pub(crate) struct Said<'a> {
+pub(crate) struct Parsed<'a> {
     pub place: Location,
     pub name: &'a str,
 }
 
 /// A channel and its name, as read from a line.
 #[derive(Clone, Copy)]
-pub(crate) struct SaidChannel<'a> {
+pub(crate) struct ParsedChannel<'a> {
     pub channel: u16,
     pub name: &'a str,
 }
 
 /// Parses a line for its place, or returns its first fault. The line of a channel has no place.
 #[tactic(auto, unfolding(crate::specs::Symbols::line_named))]
-pub(crate) fn read_line(line: &[u8]) -> Result<Option<Said<'_>>, NameFault>
+pub(crate) fn read_line(line: &[u8]) -> Result<Option<Parsed<'_>>, NameFault>
     ensures { as_named result ≡ line_named line.now }
 {
     if has_other_byte(line) {
         return Err(NameFault::NotText);
     }
-    let Some((first, rest)) = next_said(line) else {
+    let Some((first, rest)) = next_parsed(line) else {
         return Ok(None);
     };
     match location_named(first) {
@@ -41,19 +41,19 @@ pub(crate) fn read_line(line: &[u8]) -> Result<Option<Said<'_>>, NameFault>
 }
 
 /// Checks the line of a channel: its name must follow, and no further word.
-fn no_place<'a>(first: &[u8], rest: &'a [u8]) -> Result<Option<Said<'a>>, NameFault>
-    ensures { as_named result ≡ name_after_channel (channel_named first.now) (said_by rest.now) }
+fn no_place<'a>(first: &[u8], rest: &'a [u8]) -> Result<Option<Parsed<'a>>, NameFault>
+    ensures { as_named result ≡ name_after_channel (channel_named first.now) (parsed_by rest.now) }
 {
     if channel_named(first).is_none() {
         return Err(NameFault::BadPlace);
     }
-    let Some((word, more)) = next_said(rest) else {
+    let Some((word, more)) = next_parsed(rest) else {
         return Err(NameFault::BadName);
     };
     if !is_place_name(word) {
         return Err(NameFault::BadName);
     }
-    match next_said(more) {
+    match next_parsed(more) {
         Some(_) => Err(NameFault::MoreWords),
         None => Ok(None),
     }
@@ -73,32 +73,32 @@ fn channel_named(word: &[u8]) -> Option<u64>
 
 /// Returns the channel of a line and its name, if it is such a line.
 #[tactic(auto, unfolding(crate::specs::Channels::channel_on))]
-pub(crate) fn channel_on(line: &[u8]) -> Option<SaidChannel<'_>>
-    ensures { option_map channel_said result ≡ channel_on line.now }
+pub(crate) fn channel_on(line: &[u8]) -> Option<ParsedChannel<'_>>
+    ensures { option_map channel_parsed result ≡ channel_on line.now }
 {
-    let (first, rest) = next_said(line)?;
+    let (first, rest) = next_parsed(line)?;
     let channel = channel_named(first)?;
-    let (word, _) = next_said(rest)?;
+    let (word, _) = next_parsed(rest)?;
     let name = name_in(word)?;
-    Some(SaidChannel {
+    Some(ParsedChannel {
         channel: channel as u16,
         name,
     })
 }
 
 /// Parses the name after a place.
-fn read_name(place: Location, rest: &[u8]) -> Result<Option<Said<'_>>, NameFault>
-    ensures { as_named result ≡ name_after place (said_by rest.now) }
+fn read_name(place: Location, rest: &[u8]) -> Result<Option<Parsed<'_>>, NameFault>
+    ensures { as_named result ≡ name_after place (parsed_by rest.now) }
 {
-    let Some((word, more)) = next_said(rest) else {
+    let Some((word, more)) = next_parsed(rest) else {
         return Err(NameFault::BadName);
     };
     let Some(name) = name_in(word) else {
         return Err(NameFault::BadName);
     };
-    match next_said(more) {
+    match next_parsed(more) {
         Some(_) => Err(NameFault::MoreWords),
-        None => Ok(Some(Said { place, name })),
+        None => Ok(Some(Parsed { place, name })),
     }
 }
 

@@ -1,13 +1,13 @@
-//! The computer's own names for cells: registers, editing registers and counters, as questions have them.
+//! The computer's own names for cells: registers, editing registers and counters.
 ghost use Rattle.std.specs.Prelude.{◌≡◌, ◌<◌};
 ghost use Rattle.agc_store.specs.Places.{erasable_cells};
-ghost use Rattle.agc_symbols.specs.Register.{register_cell, register_name, register_named};
+ghost use Rattle.agc_symbols.specs.Register.{is_short, register_cell, register_name, register_named};
 
 use agc_store::place;
 
-/// A cell with a name of its own.
+/// A name of the computer's own for a cell. The registers of the banks have two, such as EBANK and EB.
 #[derive(Clone, Copy, Debug, PartialEq, Eq)]
-pub(crate) enum Register {
+pub enum Register {
     A,
     L,
     Q,
@@ -46,7 +46,7 @@ pub(crate) enum Register {
 }
 
 impl Register {
-    /// Every cell with a name of its own, once.
+    /// Every name, once.
     pub const ALL: [Register; 35] = [
         Register::A,
         Register::L,
@@ -85,7 +85,7 @@ impl Register {
         Register::Rnrad,
     ];
 
-    /// Returns the cell with this name.
+    /// Returns the register, editing register or counter with this name.
     #[tactic(auto, unfolding(crate::specs::Register::register_named, crate::specs::Register::all_registers))]
     pub fn from_name(name: &[u8]) -> Option<Register>
         ensures { result ≡ register_named name.now }
@@ -96,6 +96,7 @@ impl Register {
             .find(|register| register.name().as_bytes() == name)
     }
 
+    /// Returns the name, in capitals.
     #[tactic(auto, unfolding(crate::specs::Register::register_name))]
     pub fn name(self) -> &'static str
         ensures { result.now ≡ register_name self }
@@ -139,6 +140,14 @@ impl Register {
         }
     }
 
+    /// Returns whether the name is a short one, EB, FB or BB: sources have only the long ones.
+    pub fn is_short(self) -> bool
+        ensures { result ≡ is_short self }
+    {
+        matches!(self, Register::Eb | Register::Fb | Register::Bb)
+    }
+
+    /// Returns the address of the cell in erasable memory.
     #[tactic(auto, unfolding(crate::specs::Register::register_cell))]
     pub fn cell(self) -> u32
         ensures cell { result ≡ register_cell self }

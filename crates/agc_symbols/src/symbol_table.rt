@@ -9,7 +9,7 @@ ghost use Rattle.agc_symbols.specs.declared.fault.SymbolTableFault.TheVariants.{
 use crate::channel_table::ChannelTable;
 use crate::fault::SymbolTableFault;
 use crate::index::first_names;
-use crate::line::{Said, read_line};
+use crate::line::{Parsed, read_line};
 use crate::location::{is_single, number_of, room_below};
 use crate::place_name::PlaceName;
 use agc_listing::Location;
@@ -155,7 +155,7 @@ fn read_names(alloc: Global, text: &[u8]) -> Result<Vec<PlaceName>, SymbolTableF
     while let Some((line, after)) = next_line(rest) {
         lines += 1;
         match read_line(line) {
-            Ok(said) => add_said(alloc, &mut names, said)?,
+            Ok(parsed) => add_parsed(alloc, &mut names, parsed)?,
             Err(fault) => return Err(SymbolTableFault::Line(lines, fault)),
         }
         rest = after;
@@ -164,14 +164,14 @@ fn read_names(alloc: Global, text: &[u8]) -> Result<Vec<PlaceName>, SymbolTableF
 }
 
 /// Adds the name of a line, if it has one.
-fn add_said(
+fn add_parsed(
     alloc: Global,
     names: &mut Vec<PlaceName>,
-    said: Option<Said<'_>>,
+    parsed: Option<Parsed<'_>>,
 ) -> Result<(), AllocError>
-    ensures { OnOk result (names.new.items ≡ names_with names.old.items (option_named said.entry)) }
+    ensures { OnOk result (names.new.items ≡ names_with names.old.items (option_named parsed.entry)) }
 {
-    if let Some(Said { place, name }) = said {
+    if let Some(Parsed { place, name }) = parsed {
         names.push(PlaceName::new(alloc, place, name)?)?;
     }
     Ok(())

@@ -6,6 +6,7 @@ use Rattle.std.specs.Str.{bytes_eq}
 use Rattle.agc_machine.specs.Laws.{after}
 use Rattle.agc_machine.specs.State.{State}
 use Rattle.agc_panel.specs.declared.watch_spec.WatchSpec.{WatchSpec}
+use Rattle.agc_symbols.specs.Symbols.{Symbol}
 use Rattle.agc_timeline.specs.ChangeLaws.{shown_at, tables_at, up_to}
 use Rattle.agc_timeline.specs.Changes.{Sight, changes, changes_in, is_in, shown_after, sight_of, sights_in}
 use Rattle.agc_timeline.specs.Lines.{change_text, changed_lines, changes_text, jobs_text, lines_in}
@@ -18,14 +19,14 @@ use Rattle.agc_timeline.proofs.Laid.{are_apart, laid}
 use Rattle.agc_timeline.proofs.TableLines.{have_names, names_are_apart, table_names}
 
 -- the text is that of the printed changes
-text_of : (shown : List ℕ) (sights : List Sight) → changes_text shown sights ≡ flat_map printed_text (printed shown sights)
+text_of : (names : Option (List Symbol)) (shown : List ℕ) (sights : List Sight) → changes_text names shown sights ≡ flat_map (printed_text names) (printed shown sights)
 unfolding changes_text change_text printed
-text_of shown [] = refl
-text_of shown (sight ∷ sights) = ap (λ (text : List ℕ). change_text shown sight ++ text) (text_of sight.text sights)
+text_of names shown [] = refl
+text_of names shown (sight ∷ sights) = ap (λ (text : List ℕ). change_text names shown sight ++ text) (text_of names sight.text sights)
 
-pub text_is_printed : (span : Span) (spec : WatchSpec) (s : State) → jobs_text span spec s ≡ flat_map printed_text (jobs_printed span spec s)
+pub text_is_printed : (names : Option (List Symbol)) (span : Span) (spec : WatchSpec) (s : State) → jobs_text names span spec s ≡ flat_map (printed_text names) (jobs_printed span spec s)
 unfolding jobs_text
-text_is_printed span spec s = text_of [] (changes_in span spec s)
+text_is_printed names span spec s = text_of names [] (changes_in span spec s)
 
 same_choice : (b : Bool) (line : List ℕ) (xs ys : List (List ℕ)) → xs ≡ ys → (if b then xs else line ∷ xs) ≡ (if false || not b then line ∷ ys else ys)
 same_choice true line xs ys e = e
@@ -46,8 +47,8 @@ no_lines : lines_in [] ≡ []
 unfolding lines_in
 no_lines = refl
 
-abbrev pub told : List Sight → List (ℕ × List (List ℕ))
-told sights = map (λ (sight : Sight). (sight.cycle, lines_in sight.text)) sights
+abbrev pub reported : List Sight → List (ℕ × List (List ℕ))
+reported sights = map (λ (sight : Sight). (sight.cycle, lines_in sight.text)) sights
 
 module _ (names : List (List ℕ)) (apart : are_apart names ≡ true) where
   abbrev Has : List ℕ → Type 0
@@ -62,7 +63,7 @@ module _ (names : List (List ℕ)) (apart : are_apart names ≡ true) where
       ap (fold (with_line entry_name) (lines_in old)) (same_lines (lines_in old) (lines_in new))
       ∙ laid entry_name false (lines_in old) (lines_in new) (e ∙ sym f) (ap are_apart f ∙ apart)
 
-  go_on : (shown : List ℕ) (sights : List Sight) → Has shown → AllHave sights → applied_after (lines_in shown) (printed shown sights) ≡ told sights
+  go_on : (shown : List ℕ) (sights : List Sight) → Has shown → AllHave sights → applied_after (lines_in shown) (printed shown sights) ≡ reported sights
   unfolding applied_after printed
   go_on shown [] e h = refl
   go_on shown (sight ∷ sights) e h =
@@ -70,7 +71,7 @@ module _ (names : List (List ℕ)) (apart : are_apart names ≡ true) where
       ap (λ (lines : List (List ℕ)). (sight.cycle, lines) ∷ applied_after lines (printed sight.text sights)) here
       ∙ ap (λ (rest : List (ℕ × List (List ℕ))). (sight.cycle, lines_in sight.text) ∷ rest) (go_on sight.text sights h.0 h.1)
 
-  all_applied : (sights : List Sight) → AllHave sights → applied (printed [] sights) ≡ told sights
+  all_applied : (sights : List Sight) → AllHave sights → applied (printed [] sights) ≡ reported sights
   unfolding applied printed
   all_applied [] h = refl
   all_applied (sight ∷ sights) h =
@@ -113,7 +114,7 @@ printed_is_applied span spec s l =
 
 -- the lines at a cycle are those of the last change up to then
 abbrev last_lines : Option (List (List ℕ)) → List Sight → ℕ → Option (List (List ℕ))
-last_lines lines sights cycle = last_or lines (map (λ (at, lines). lines) (filter (λ (at, lines). nat_le at cycle) (told sights)))
+last_lines lines sights cycle = last_or lines (map (λ (at, lines). lines) (filter (λ (at, lines). nat_le at cycle) (reported sights)))
 
 last_by : (b : Bool) (shown : List ℕ) (sight : Sight) (sights : List Sight) (cycle : ℕ) → nat_le sight.cycle cycle ≡ b →
     last_lines (Some (lines_in sight.text)) sights cycle ≡ Some (lines_in (shown_after sight.text (up_to cycle sights))) →

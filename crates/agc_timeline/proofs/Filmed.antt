@@ -41,6 +41,6 @@ by_test true stop stopped h = h refl
 by_test false stop stopped h = refl
 
 -- the stop that is recorded for a part's end
-pub stop_told : (cycle : ℕ) (u : State) (stop : Option Stop) → (u.cycle ≤ cycle → stop ≡ u.stopped) →
+pub stop_reported : (cycle : ℕ) (u : State) (stop : Option Stop) → (u.cycle ≤ cycle → stop ≡ u.stopped) →
     (if nat_le u.cycle cycle then stop else None) ≡ (if nat_le u.cycle cycle then u.stopped else None)
-stop_told cycle u stop h = by_test (nat_le u.cycle cycle) stop u.stopped (λ t. h (grind (arith, nat_tests)))
+stop_reported cycle u stop h = by_test (nat_le u.cycle cycle) stop u.stopped (λ t. h (grind (arith, nat_tests)))

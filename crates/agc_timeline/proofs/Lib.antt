@@ -18,7 +18,7 @@ pub mod Cuts
 pub mod PanelAt
 pub mod ShownPanel
 pub mod Laid
-pub mod Told
+pub mod Reported
 pub mod Unpacked
 pub mod Added
 pub mod Differ
@@ -28,3 +28,4 @@ pub mod Apart
 pub mod WatchedFilm
 pub mod TableLines
 pub mod Applied
+pub mod LinePlaces

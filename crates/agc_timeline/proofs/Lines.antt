@@ -1,8 +1,9 @@
 -- The lines of a text one by one, and what is printed of them.
-use Rattle.std.proofs.Common.{◌≡◌, ℕ, suc, ◌+◌, ◌<◌, List, [], ◌∷◌, ◌++◌, length, length-drop, drop, take, Bool, true, false, refl, ap, sym, ◌∙◌, append_assoc, append-nil, arith}
+use Rattle.std.proofs.Common.{◌≡◌, ℕ, suc, ◌+◌, ◌<◌, List, [], ◌∷◌, ◌++◌, length, length-drop, drop, take, Bool, true, false, refl, ap, sym, ◌∙◌, append_assoc, append-nil, arith, Option}
 use Rattle.std.specs.Prelude.{if◌then◌else◌, cond, flat_map, not, ◌==◌}
 use Rattle.std.specs.List.{after_first, before_first, position_or_len}
 use Rattle.std.specs.Str.{bytes_eq}
+use Rattle.agc_symbols.specs.Symbols.{Symbol}
 use Rattle.agc_timeline.specs.Lines.{changed_lines, line_at, lines_at, lines_in, onto_first}
 
 abbrev pub is_feed : ℕ → Bool
@@ -59,33 +60,33 @@ pub shorter_after : (text : List ℕ) → position_or_len is_feed text < length 
 shorter_after text l = omega (arith, length-drop (position_or_len is_feed text + 1) text)
 
 -- What is printed of lines one by one.
-both_by : (b : Bool) (cycle : ℕ) (line text : List ℕ) (lines : List (List ℕ)) →
-    (text ++ (if b then [] else line_at cycle line)) ++ flat_map (line_at cycle) lines ≡ text ++ flat_map (line_at cycle) (if b then lines else line ∷ lines)
-both_by true cycle line text lines = ap (λ (front : List ℕ). front ++ flat_map (line_at cycle) lines) (append-nil text)
-both_by false cycle line text lines = append_assoc text (line_at cycle line) (flat_map (line_at cycle) lines)
+both_by : (names : Option (List Symbol)) (b : Bool) (cycle : ℕ) (line text : List ℕ) (lines : List (List ℕ)) →
+    (text ++ (if b then [] else line_at names cycle line)) ++ flat_map (line_at names cycle) lines ≡ text ++ flat_map (line_at names cycle) (if b then lines else line ∷ lines)
+both_by names true cycle line text lines = ap (λ (front : List ℕ). front ++ flat_map (line_at names cycle) lines) (append-nil text)
+both_by names false cycle line text lines = append_assoc text (line_at names cycle line) (flat_map (line_at names cycle) lines)
 
-pub both_pushed : (cycle : ℕ) (old line text new : List ℕ) (olds lines befores afters : List (List ℕ)) → befores ≡ old ∷ olds → afters ≡ line ∷ lines →
-    new ≡ text ++ (if bytes_eq old line then [] else line_at cycle line) → new ++ lines_at cycle olds lines ≡ text ++ lines_at cycle befores afters
+pub both_pushed : (names : Option (List Symbol)) (cycle : ℕ) (old line text new : List ℕ) (olds lines befores afters : List (List ℕ)) → befores ≡ old ∷ olds → afters ≡ line ∷ lines →
+    new ≡ text ++ (if bytes_eq old line then [] else line_at names cycle line) → new ++ lines_at names cycle olds lines ≡ text ++ lines_at names cycle befores afters
 unfolding changed_lines
-both_pushed cycle old line text new olds lines befores afters b a e =
-    rw (b, a, e) (both_by (bytes_eq old line) cycle line text (changed_lines olds lines))
+both_pushed names cycle old line text new olds lines befores afters b a e =
+    rw (b, a, e) (both_by names (bytes_eq old line) cycle line text (changed_lines olds lines))
 
 all_new : (lines : List (List ℕ)) → changed_lines [] lines ≡ lines
 unfolding changed_lines
 all_new [] = refl
 all_new (line ∷ lines) = refl
 
-pub new_pushed : (cycle : ℕ) (line text new : List ℕ) (lines befores afters : List (List ℕ)) → befores ≡ [] → afters ≡ line ∷ lines →
-    new ≡ text ++ line_at cycle line → new ++ lines_at cycle befores lines ≡ text ++ lines_at cycle befores afters
-new_pushed cycle line text new lines befores afters b a e =
+pub new_pushed : (names : Option (List Symbol)) (cycle : ℕ) (line text new : List ℕ) (lines befores afters : List (List ℕ)) → befores ≡ [] → afters ≡ line ∷ lines →
+    new ≡ text ++ line_at names cycle line → new ++ lines_at names cycle befores lines ≡ text ++ lines_at names cycle befores afters
+new_pushed names cycle line text new lines befores afters b a e =
     rw (b, a, e)
-    (ap (λ (told : List (List ℕ)). (text ++ line_at cycle line) ++ flat_map (line_at cycle) told) (all_new lines)
-    ∙ append_assoc text (line_at cycle line) (flat_map (line_at cycle) lines)
-    ∙ ap (λ (told : List (List ℕ)). text ++ flat_map (line_at cycle) told) (sym (all_new (line ∷ lines))))
+    (ap (λ (reported : List (List ℕ)). (text ++ line_at names cycle line) ++ flat_map (line_at names cycle) reported) (all_new lines)
+    ∙ append_assoc text (line_at names cycle line) (flat_map (line_at names cycle) lines)
+    ∙ ap (λ (reported : List (List ℕ)). text ++ flat_map (line_at names cycle) reported) (sym (all_new (line ∷ lines))))
 
-pub none_pushed : (cycle : ℕ) (text : List ℕ) (befores afters : List (List ℕ)) → afters ≡ [] → text ≡ text ++ lines_at cycle befores afters
+pub none_pushed : (names : Option (List Symbol)) (cycle : ℕ) (text : List ℕ) (befores afters : List (List ℕ)) → afters ≡ [] → text ≡ text ++ lines_at names cycle befores afters
 unfolding changed_lines
-none_pushed cycle text befores afters a = rw a (sym (append-nil text))
+none_pushed names cycle text befores afters a = rw a (sym (append-nil text))
 
 pub line_of_whole : (text : List ℕ) → position_or_len is_feed text ≡ length text → 0 < length text → (line rest : List ℕ) → line ≡ text → rest ≡ [] →
     lines_in text ≡ line ∷ lines_in rest

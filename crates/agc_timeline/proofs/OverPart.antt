@@ -15,10 +15,10 @@ use Rattle.agc_panel.specs.declared.watch_spec.WatchSpec.{WatchSpec}
 use Rattle.agc_store.specs.Memory.{Memory}
 use Rattle.agc_timeline.specs.Changes.{Sight, is_in, shown_after, sight_of, sights_in}
 use Rattle.agc_timeline.specs.Film.{Telling, after_first, film_of, film_text, held_at}
-use Rattle.agc_timeline.specs.Lines.{change_text, lines_at, lines_in, told_of}
+use Rattle.agc_timeline.specs.Lines.{change_text, lines_at, lines_in, reported_of}
 use Rattle.agc_timeline.specs.States.{states_of}
 use Rattle.agc_trace.specs.declared.span.Span.{Span}
-use Rattle.agc_timeline.proofs.OneByOne.{no_change, told_append, told_by_first, told_none, told_one}
+use Rattle.agc_timeline.proofs.OneByOne.{no_change, reported_append, reported_by_first, reported_none, reported_one}
 use Rattle.agc_timeline.proofs.Sights.{after_stop, none_past, seen, sights_end, sights_go_on, unseen}
 
 -- the text of the tables of a machine's memory
@@ -51,11 +51,11 @@ module _ (span : Span) (spec : WatchSpec) where
   abbrev rest : State → List Sight
   rest s = sights_in span spec (states_of s)
 
-  pub told_out : (shown : List ℕ) (s : State) → is_in span s ≡ false → told_of shown (one s) ≡ []
-  told_out shown s e = ap (λ (xs : List Sight). told_of shown xs) (unseen span spec s e) ∙ told_none shown
+  pub reported_out : (shown : List ℕ) (s : State) → is_in span s ≡ false → reported_of None shown (one s) ≡ []
+  reported_out shown s e = ap (λ (xs : List Sight). reported_of None shown xs) (unseen span spec s e) ∙ reported_none None shown
 
-  pub told_in : (shown : List ℕ) (s : State) → is_in span s ≡ true → told_of shown (one s) ≡ change_text shown (sight_of spec s)
-  told_in shown s e = ap (λ (xs : List Sight). told_of shown xs) (seen span spec s e) ∙ told_one shown (sight_of spec s)
+  pub reported_in : (shown : List ℕ) (s : State) → is_in span s ≡ true → reported_of None shown (one s) ≡ change_text None shown (sight_of spec s)
+  reported_in shown s e = ap (λ (xs : List Sight). reported_of None shown xs) (seen span spec s e) ∙ reported_one None shown (sight_of spec s)
 
   pub shown_out : (shown : List ℕ) (s : State) → is_in span s ≡ false → shown_after shown (one s) ≡ shown
   shown_out shown s e = ap (λ (xs : List Sight). shown_after shown xs) (unseen span spec s e)
@@ -68,9 +68,9 @@ module _ (span : Span) (spec : WatchSpec) where
   again_by true shown s e = shown_in (shown_after shown (one s)) s e ∙ sym (shown_in shown s e)
   again_by false shown s e = shown_out (shown_after shown (one s)) s e
 
-  told_again_by : (b : Bool) (shown : List ℕ) (s : State) → is_in span s ≡ b → told_of (shown_after shown (one s)) (one s) ≡ []
-  told_again_by true shown s e = told_in (shown_after shown (one s)) s e ∙ no_change (shown_after shown (one s)) (sight_of spec s) (shown_in shown s e)
-  told_again_by false shown s e = told_out (shown_after shown (one s)) s e
+  reported_again_by : (b : Bool) (shown : List ℕ) (s : State) → is_in span s ≡ b → reported_of None (shown_after shown (one s)) (one s) ≡ []
+  reported_again_by true shown s e = reported_in (shown_after shown (one s)) s e ∙ no_change None (shown_after shown (one s)) (sight_of spec s) (shown_in shown s e)
+  reported_again_by false shown s e = reported_out (shown_after shown (one s)) s e
 
   -- what is shown in the end: after a state, what those after it show
   shown_by : (b : Bool) (shown : List ℕ) (s : State) → is_some s.stopped ≡ b →
@@ -90,75 +90,75 @@ module _ (span : Span) (spec : WatchSpec) where
       ∙ sym (shown_by (is_some s.stopped) shown s refl)
 
   -- and what is printed
-  told_by : (b : Bool) (shown : List ℕ) (s : State) → is_some s.stopped ≡ b →
-      told_of shown (rest s) ≡ told_of shown (one s) ++ told_of (shown_after shown (one s)) (rest (boundary None s).0)
-  told_by true shown s e =
+  reported_by : (b : Bool) (shown : List ℕ) (s : State) → is_some s.stopped ≡ b →
+      reported_of None shown (rest s) ≡ reported_of None shown (one s) ++ reported_of None (shown_after shown (one s)) (rest (boundary None s).0)
+  reported_by true shown s e =
       let all : rest s ≡ one s = sights_end span spec s e in
-      ap (λ (xs : List Sight). told_of shown xs) all ∙ sym (append-nil (told_of shown (one s)))
-      ∙ ap (λ (text : List ℕ). told_of shown (one s) ++ text)
-      (sym (told_again_by (is_in span s) shown s refl)
-      ∙ ap (λ (xs : List Sight). told_of (shown_after shown (one s)) xs) (sym all)
-      ∙ ap (λ (t : State). told_of (shown_after shown (one s)) (rest t)) (sym (after_stop span spec s.stopped s refl e)))
-  told_by false shown s e =
-      ap (λ (xs : List Sight). told_of shown xs) (sights_go_on span spec s e) ∙ told_append shown (one s) (rest (boundary None s).0)
+      ap (λ (xs : List Sight). reported_of None shown xs) all ∙ sym (append-nil (reported_of None shown (one s)))
+      ∙ ap (λ (text : List ℕ). reported_of None shown (one s) ++ text)
+      (sym (reported_again_by (is_in span s) shown s refl)
+      ∙ ap (λ (xs : List Sight). reported_of None (shown_after shown (one s)) xs) (sym all)
+      ∙ ap (λ (t : State). reported_of None (shown_after shown (one s)) (rest t)) (sym (after_stop span spec s.stopped s refl e)))
+  reported_by false shown s e =
+      ap (λ (xs : List Sight). reported_of None shown xs) (sights_go_on span spec s e) ∙ reported_append None shown (one s) (rest (boundary None s).0)
 
-  pub told_next : (told text : List ℕ) (shown next : List ℕ) (s t : State) → t ≡ (boundary None s).0 → next ≡ shown_after shown (one s) →
-      text ≡ told ++ told_of shown (one s) → text ++ told_of next (rest t) ≡ told ++ told_of shown (rest s)
-  told_next told text shown next s t e f h =
-      ap (λ (bytes : List ℕ). bytes ++ told_of next (rest t)) h
-      ∙ append_assoc told (told_of shown (one s)) (told_of next (rest t))
-      ∙ ap (λ (bytes : List ℕ). told ++ bytes)
-      (ap (λ (u : State). told_of shown (one s) ++ told_of next (rest u)) e
-      ∙ ap (λ (bytes : List ℕ). told_of shown (one s) ++ told_of bytes (rest (boundary None s).0)) f
-      ∙ sym (told_by (is_some s.stopped) shown s refl))
+  pub reported_next : (reported text : List ℕ) (shown next : List ℕ) (s t : State) → t ≡ (boundary None s).0 → next ≡ shown_after shown (one s) →
+      text ≡ reported ++ reported_of None shown (one s) → text ++ reported_of None next (rest t) ≡ reported ++ reported_of None shown (rest s)
+  reported_next reported text shown next s t e f h =
+      ap (λ (bytes : List ℕ). bytes ++ reported_of None next (rest t)) h
+      ∙ append_assoc reported (reported_of None shown (one s)) (reported_of None next (rest t))
+      ∙ ap (λ (bytes : List ℕ). reported ++ bytes)
+      (ap (λ (u : State). reported_of None shown (one s) ++ reported_of None next (rest u)) e
+      ∙ ap (λ (bytes : List ℕ). reported_of None shown (one s) ++ reported_of None bytes (rest (boundary None s).0)) f
+      ∙ sym (reported_by (is_some s.stopped) shown s refl))
 
   -- at the end of the run, and past the span
   pub shown_last : (shown next : List ℕ) (s : State) (why : Stop) → s.stopped ≡ Some why → next ≡ shown_after shown (one s) → next ≡ shown_after shown (rest s)
   shown_last shown next s why e f =
       f ∙ ap (λ (xs : List Sight). shown_after shown xs) (sym (sights_end span spec s (ap is_some e)))
 
-  pub told_last : (told text : List ℕ) (shown : List ℕ) (s : State) (why : Stop) → s.stopped ≡ Some why → text ≡ told ++ told_of shown (one s) →
-      text ≡ told ++ told_of shown (rest s)
-  told_last told text shown s why e f =
-      f ∙ ap (λ (xs : List Sight). told ++ told_of shown xs) (sym (sights_end span spec s (ap is_some e)))
+  pub reported_last : (reported text : List ℕ) (shown : List ℕ) (s : State) (why : Stop) → s.stopped ≡ Some why → text ≡ reported ++ reported_of None shown (one s) →
+      text ≡ reported ++ reported_of None shown (rest s)
+  reported_last reported text shown s why e f =
+      f ∙ ap (λ (xs : List Sight). reported ++ reported_of None shown xs) (sym (sights_end span spec s (ap is_some e)))
 
   pub shown_past : (shown : List ℕ) (s : State) → span.to < s.cycle → shown ≡ shown_after shown (rest s)
   shown_past shown s l = sym (ap (λ (xs : List Sight). shown_after shown xs) (none_past span spec s l))
 
-  pub told_past : (told : List ℕ) (shown : List ℕ) (s : State) → span.to < s.cycle → told ≡ told ++ told_of shown (rest s)
-  told_past told shown s l =
-      sym (ap (λ (xs : List Sight). told ++ told_of shown xs) (none_past span spec s l) ∙ ap (λ (bytes : List ℕ). told ++ bytes) (told_none shown) ∙ append-nil told)
+  pub reported_past : (reported : List ℕ) (shown : List ℕ) (s : State) → span.to < s.cycle → reported ≡ reported ++ reported_of None shown (rest s)
+  reported_past reported shown s l =
+      sym (ap (λ (xs : List Sight). reported ++ reported_of None shown xs) (none_past span spec s l) ∙ ap (λ (bytes : List ℕ). reported ++ bytes) (reported_none None shown) ∙ append-nil reported)
 
 -- the lines of a part, from the first ones on
-pub film_told : (span : Span) (spec : WatchSpec) (s t : State) (opening : List ℕ) → opening ≡ held_at spec span.from s →
+pub film_reported : (span : Span) (spec : WatchSpec) (s t : State) (opening : List ℕ) → opening ≡ held_at spec span.from s →
     sights_in (after_first span) spec (states_of t) ≡ sights_in (after_first span) spec (states_of s) →
-    change_text [] (record { cycle = span.from; text = opening }) ++ told_of opening (sights_in (after_first span) spec (states_of t)) ≡ film_text span spec s
+    change_text None [] (record { cycle = span.from; text = opening }) ++ reported_of None opening (sights_in (after_first span) spec (states_of t)) ≡ film_text span spec s
 unfolding film_text film_of
-film_told span spec s t opening e f =
-    ap (λ (xs : List Sight). change_text [] (record { cycle = span.from; text = opening }) ++ told_of opening xs) f
-    ∙ ap (λ (text : List ℕ). change_text [] (record { cycle = span.from; text = text }) ++ told_of text (sights_in (after_first span) spec (states_of s))) e
-    ∙ sym (told_by_first [] (record { cycle = span.from; text = held_at spec span.from s }) (sights_in (after_first span) spec (states_of s)))
+film_reported span spec s t opening e f =
+    ap (λ (xs : List Sight). change_text None [] (record { cycle = span.from; text = opening }) ++ reported_of None opening xs) f
+    ∙ ap (λ (text : List ℕ). change_text None [] (record { cycle = span.from; text = text }) ++ reported_of None text (sights_in (after_first span) spec (states_of s))) e
+    ∙ sym (reported_by_first None [] (record { cycle = span.from; text = held_at spec span.from s }) (sights_in (after_first span) spec (states_of s)))
 
 abbrev telling : List ℕ → List ℕ → Telling
 telling shown text = record { shown = shown; text = text }
 
 -- the first lines of a part: those of its opening, after nothing
-pub begun : (cycle : ℕ) (shown bytes opening : List ℕ) → shown ≡ opening → bytes ≡ change_text [] (record { cycle = cycle; text = opening }) →
-    telling shown bytes ≡ record { shown = opening; text = change_text [] (record { cycle = cycle; text = opening }) }
+pub begun : (cycle : ℕ) (shown bytes opening : List ℕ) → shown ≡ opening → bytes ≡ change_text None [] (record { cycle = cycle; text = opening }) →
+    telling shown bytes ≡ record { shown = opening; text = change_text None [] (record { cycle = cycle; text = opening }) }
 begun cycle shown bytes opening e f =
     ap (λ (t : List ℕ). telling t bytes) e ∙ ap (λ (t : List ℕ). telling opening t) f
 
-pub first_lines : (cycle : ℕ) (before text told opening : List ℕ) → before ≡ [] → told ≡ lines_at cycle (lines_in before) (lines_in text) → text ≡ opening →
-    told ≡ change_text [] (record { cycle = cycle; text = opening })
+pub first_lines : (cycle : ℕ) (before text reported opening : List ℕ) → before ≡ [] → reported ≡ lines_at None cycle (lines_in before) (lines_in text) → text ≡ opening →
+    reported ≡ change_text None [] (record { cycle = cycle; text = opening })
 unfolding change_text
-first_lines cycle before text told opening b e f =
-    e ∙ ap (λ (t : List ℕ). lines_at cycle (lines_in t) (lines_in text)) b ∙ ap (λ (t : List ℕ). lines_at cycle (lines_in []) (lines_in t)) f
+first_lines cycle before text reported opening b e f =
+    e ∙ ap (λ (t : List ℕ). lines_at None cycle (lines_in t) (lines_in text)) b ∙ ap (λ (t : List ℕ). lines_at None cycle (lines_in []) (lines_in t)) f
 
-pub no_lines : (cycle : ℕ) (told opening : List ℕ) → told ≡ [] → opening ≡ [] → told ≡ change_text [] (record { cycle = cycle; text = opening })
-no_lines cycle told opening e f = e ∙ sym (no_change [] (record { cycle = cycle; text = opening }) (sym f))
+pub no_lines : (cycle : ℕ) (reported opening : List ℕ) → reported ≡ [] → opening ≡ [] → reported ≡ change_text None [] (record { cycle = cycle; text = opening })
+no_lines cycle reported opening e f = e ∙ sym (no_change None [] (record { cycle = cycle; text = opening }) (sym f))
 
 -- the lines that changed are the text of the change
-pub told_of_change : (s : State) (spec : WatchSpec) (cycle : ℕ) (shown text told lines : List ℕ) → cycle ≡ s.cycle → text ≡ (sight_of spec s).text →
-    told ≡ lines_at cycle (lines_in shown) (lines_in text) → lines ≡ told → lines ≡ change_text shown (sight_of spec s)
+pub reported_of_change : (s : State) (spec : WatchSpec) (cycle : ℕ) (shown text reported lines : List ℕ) → cycle ≡ s.cycle → text ≡ (sight_of spec s).text →
+    reported ≡ lines_at None cycle (lines_in shown) (lines_in text) → lines ≡ reported → lines ≡ change_text None shown (sight_of spec s)
 unfolding change_text
-told_of_change s spec cycle shown text told lines c t e f = f ∙ e ∙ rw (c, t) refl
+reported_of_change s spec cycle shown text reported lines c t e f = f ∙ e ∙ rw (c, t) refl

@@ -10,12 +10,12 @@ use Rattle.agc_panel.specs.Text.{flash_line, lamps_line, pair_line, panel_lines,
 use Rattle.agc_panel.specs.declared.face.Face.{Face}
 use Rattle.agc_timeline.specs.Frames.{shown_after}
 use Rattle.agc_timeline.specs.Laws.{frames_of_run, writes_up_to}
-use Rattle.agc_timeline.specs.Packed.{blank_lines, is_keyframe, lines_written, name_of, packed, packed_from, told, text_at, unpacked, unpacked_after, with_line}
+use Rattle.agc_timeline.specs.Packed.{blank_lines, is_keyframe, lines_written, name_of, packed, packed_from, reported, text_at, unpacked, unpacked_after, with_line}
 use Rattle.agc_timeline.specs.declared.frame.Frame.{Frame}
 use Rattle.agc_timeline.specs.declared.part.Part.{Part}
 use Rattle.agc_timeline.proofs.Laid.{all_written, are_apart, laid}
 use Rattle.agc_timeline.proofs.ShownPanel.{film_is_the_panel}
-use Rattle.agc_timeline.proofs.Told.{told_is_shown}
+use Rattle.agc_timeline.proofs.Reported.{reported_is_shown}
 
 -- the names of a panel's lines
 abbrev names : List (List ℕ)
@@ -56,7 +56,7 @@ laid_over whole shown before lines e h (inr k) =
     ap (λ (olds : List (List ℕ)). fold (with_line name_of) shown (lines_written whole olds lines)) (sym k) ∙ laid name_of whole shown lines e h
 
 unpack_from : (place : ℕ) (shown before : List (List ℕ)) (frames : List Frame) → map name_of shown ≡ names →
-    (is_keyframe place ≡ true) ⊎ (shown ≡ before) → unpacked_after shown (packed_from place before frames) ≡ told frames
+    (is_keyframe place ≡ true) ⊎ (shown ≡ before) → unpacked_after shown (packed_from place before frames) ≡ reported frames
 unfolding packed_from unpacked_after
 unpack_from place shown before [] e k = refl
 unpack_from place shown before (frame ∷ frames) e k =
@@ -86,7 +86,7 @@ drop_packed (suc n) place before (frame ∷ frames) =
 keyframe_at : (k : ℕ) → is_keyframe (0 + 1024 * k) ≡ true
 keyframe_at k = let none : (0 + 1024 * k) % 1024 ≡ 0 = ap (λ (n : ℕ). n % 1024) (omega arith) ∙ mul-mod_right 1024 k in grind (arith, nat_tests)
 
-pub unpacking_gives : (frames : List Frame) (k : ℕ) → unpacked (drop (1024 * k) (packed frames)) ≡ told (drop (1024 * k) frames)
+pub unpacking_gives : (frames : List Frame) (k : ℕ) → unpacked (drop (1024 * k) (packed frames)) ≡ reported (drop (1024 * k) frames)
 unfolding unpacked packed
 unpacking_gives frames k =
     ap (unpacked_after blank_lines) (drop_packed (1024 * k) 0 blank_lines frames)
@@ -97,4 +97,4 @@ pub page_is_the_panel : (s : State) (part : Part) (cycle : ℕ) → part.from �
     text_at (unpacked (packed (frames_of_run part s))) cycle ≡ shown_after (writes_up_to cycle s)
 page_is_the_panel s part cycle l h =
     ap (λ (texts : List (ℕ × List ℕ)). text_at texts cycle) (unpacking_gives (frames_of_run part s) 0)
-    ∙ told_is_shown (frames_of_run part s) cycle ∙ film_is_the_panel s part cycle l h
+    ∙ reported_is_shown (frames_of_run part s) cycle ∙ film_is_the_panel s part cycle l h

@@ -11,6 +11,6 @@ if_ok (Ok x) f h = f x h
 if_ok (Err y) f h = tt
 
 -- a recording with tables has its lines
-pub has_lines : (tables : Option (String Global)) (told : String Global) (lines : List ℕ) → tables ≡ Some told → string_bytes told ≡ lines
+pub has_lines : (tables : Option (String Global)) (reported : String Global) (lines : List ℕ) → tables ≡ Some reported → string_bytes reported ≡ lines
     → HasLines tables lines
-has_lines tables told lines same told_so = rw same told_so
+has_lines tables reported lines same reported_so = rw same reported_so

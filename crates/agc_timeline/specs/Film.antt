@@ -31,7 +31,7 @@ film_of span spec s =
 
 -- their lines in print
 unfoldable pub film_text : Span → WatchSpec → State → List ℕ
-film_text span spec s = changes_text [] (film_of span spec s)
+film_text span spec s = changes_text None [] (film_of span spec s)
 
 -- the text of the tables shown last, and the lines written up to then
 pub record Telling : Type 0 where

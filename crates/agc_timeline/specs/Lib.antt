@@ -1,5 +1,6 @@
 pub mod States
 pub mod Changes
+pub mod LinePlace
 pub mod Lines
 pub mod ChangeLaws
 pub mod Film

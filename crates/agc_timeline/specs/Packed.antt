@@ -63,8 +63,8 @@ unfoldable pub unpacked : List Packed → List (ℕ × List ℕ)
 unpacked frames = unpacked_after blank_lines frames
 
 -- the cycle of each frame, and what it shows
-abbrev pub told : List Frame → List (ℕ × List ℕ)
-told frames = map (λ frame. (frame.cycle, panel_text frame.panel)) frames
+abbrev pub reported : List Frame → List (ℕ × List ℕ)
+reported frames = map (λ frame. (frame.cycle, panel_text frame.panel)) frames
 
 -- what is shown at a cycle: the last text up to then, or that of the blank panel
 unfoldable pub text_at : List (ℕ × List ℕ) → ℕ → List ℕ

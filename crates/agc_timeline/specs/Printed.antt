@@ -1,10 +1,11 @@
 -- The printed changes of the tables, and how they are applied: the first has all lines, and each later line takes the
 -- place of the one of the same entry.
-use Rattle.std.specs.Prelude.{ℕ, ◌==◌, nat_le, if◌then◌else◌, List, [], ◌∷◌, ◌++◌, codes, filter, flat_map, fold, map, unwrap_or, None}
+use Rattle.std.specs.Prelude.{ℕ, ◌==◌, nat_le, if◌then◌else◌, List, [], ◌∷◌, ◌++◌, codes, filter, flat_map, fold, map, unwrap_or, Option, None}
 use Rattle.std.specs.List.{last_or}
 use Rattle.std.specs.Str.{bytes_eq}
 use Rattle.agc_machine.specs.State.{State}
 use Rattle.agc_panel.specs.declared.watch_spec.WatchSpec.{WatchSpec}
+use Rattle.agc_symbols.specs.Symbols.{Symbol}
 use Rattle.agc_timeline.specs.Changes.{Sight, changes_in}
 use Rattle.agc_timeline.specs.Lines.{changed_lines, line_at, lines_in}
 use Rattle.agc_timeline.specs.Packed.{Packed, name_of, with_line}
@@ -21,9 +22,9 @@ printed shown (sight ∷ sights) =
 abbrev pub jobs_printed : Span → WatchSpec → State → List Packed
 jobs_printed span spec s = printed [] (changes_in span spec s)
 
--- the text of a change: each line after its cycle
-abbrev pub printed_text : Packed → List ℕ
-printed_text change = flat_map (line_at change.cycle) change.lines
+-- the text of a change: each line after its cycle and, with names, before the name of its place
+abbrev pub printed_text : Option (List Symbol) → Packed → List ℕ
+printed_text names change = flat_map (line_at names change.cycle) change.lines
 
 -- a line without its first word
 unfoldable pub after_name : List ℕ → List ℕ

@@ -12,5 +12,5 @@ span_of part = record { from = part.from; to = last_of part }
 
 -- a recording has tables, with these lines
 abbrev pub HasLines : Option (String Global) → List ℕ → Type 0
-HasLines (Some told) lines = string_bytes told ≡ lines
+HasLines (Some reported) lines = string_bytes reported ≡ lines
 HasLines None lines = ⊥

@@ -3,40 +3,49 @@ ghost use Rattle.std.specs.Prelude.{◌≡◌, ◌∷◌, ◌++◌, ◌<◌, [],
 ghost use Rattle.std.specs.Str.{bytes_eq};
 ghost use Rattle.agc_timeline.specs.Lines.{line_at, lines_at, lines_in};
 
+use crate::job_place::push_name_after;
+use agc_symbols::SymbolTable;
 use std::alloc::{AllocError, Global};
 
-/// Returns the lines of `after` that differ from those in the same places of `before`, each with the cycle before it
-/// and a line feed after it. Fails if memory runs out.
+/// Returns the lines of `after` that differ from those in the same places of `before`, each with the cycle before it,
+/// and the name of its place, if there are names, and a line feed after it. Fails if memory runs out.
 pub(crate) fn changed_lines(
     alloc: Global,
+    names: &Option<SymbolTable>,
     cycle: u64,
     before: &str,
     after: &str,
 ) -> Result<String, AllocError>
-    ensures { IfOk result (λ told. string_bytes told
-        ≡ lines_at cycle (lines_in before.now) (lines_in after.now)) }
+    ensures { IfOk result (λ reported. string_bytes reported
+        ≡ lines_at names.now cycle (lines_in before.now) (lines_in after.now)) }
 {
-    let mut told = String::new(alloc);
-    push_changed(&mut told, cycle, before, after)?;
-    Ok(told)
+    let mut reported = String::new(alloc);
+    push_changed(&mut reported, names, cycle, before, after)?;
+    Ok(reported)
 }
 
 /// Adds the lines of `after` that differ from those in the same places of `before`.
-fn push_changed(told: &mut String, cycle: u64, before: &str, after: &str) -> Result<(), AllocError>
-    ensures { OnOk result (string_bytes told.new ≡ string_bytes told.old
-        ++ lines_at cycle (lines_in before.now) (lines_in after.now)) }
+fn push_changed(
+    reported: &mut String,
+    names: &Option<SymbolTable>,
+    cycle: u64,
+    before: &str,
+    after: &str,
+) -> Result<(), AllocError>
+    ensures { OnOk result (string_bytes reported.new ≡ string_bytes reported.old
+        ++ lines_at names.now cycle (lines_in before.now) (lines_in after.now)) }
 {
     let mut before = before;
     let mut after = after;
     loop {
         match (first_line(before), first_line(after)) {
             (Some((old, olds)), Some((line, lines))) => {
-                push_where_other(told, cycle, old, line)?;
+                push_where_other(reported, names, cycle, old, line)?;
                 before = olds;
                 after = lines;
             }
             (None, Some((line, lines))) => {
-                push_line(told, cycle, line)?;
+                push_line(reported, names, cycle, line)?;
                 after = lines;
             }
             (Some(_), None) => return Ok(()),
@@ -46,22 +55,36 @@ fn push_changed(told: &mut String, cycle: u64, before: &str, after: &str) -> Res
 }
 
 /// Adds a line if it changed.
-fn push_where_other(told: &mut String, cycle: u64, old: &str, line: &str) -> Result<(), AllocError>
-    ensures { OnOk result (string_bytes told.new ≡ string_bytes told.old
-        ++ (if bytes_eq old.now line.now then [] else line_at cycle line.now)) }
+fn push_where_other(
+    reported: &mut String,
+    names: &Option<SymbolTable>,
+    cycle: u64,
+    old: &str,
+    line: &str,
+) -> Result<(), AllocError>
+    ensures { OnOk result (string_bytes reported.new ≡ string_bytes reported.old
+        ++ (if bytes_eq old.now line.now then [] else line_at names.now cycle line.now)) }
 {
     if old != line {
-        push_line(told, cycle, line)?;
+        push_line(reported, names, cycle, line)?;
     }
     Ok(())
 }
 
-/// Adds a line with the cycle before it.
+/// Adds a line with the cycle before it and, if there are names, the name of its place after it.
 #[tactic(auto, unfolding(crate::specs::Lines::line_at))]
-fn push_line(told: &mut String, cycle: u64, line: &str) -> Result<(), AllocError>
-    ensures { OnOk result (string_bytes told.new ≡ string_bytes told.old ++ line_at cycle line.now) }
+fn push_line(
+    reported: &mut String,
+    names: &Option<SymbolTable>,
+    cycle: u64,
+    line: &str,
+) -> Result<(), AllocError>
+    ensures { OnOk result (string_bytes reported.new
+        ≡ string_bytes reported.old ++ line_at names.now cycle line.now) }
 {
-    writeln!(told, "{cycle} {line}")
+    write!(reported, "{cycle} {line}")?;
+    push_name_after(reported, names, line)?;
+    reported.push_str("\n")
 }
 
 /// Returns the first line of a text without its line feed, and the text after it, or `None` for a text without a

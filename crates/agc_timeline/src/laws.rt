@@ -4,7 +4,7 @@ ghost use Rattle.std.specs.Prelude.{◌≡◌, ◌≤◌, ℕ, ◌*◌, List, []
 ghost use Rattle.agc_machine.specs.State.{State};
 ghost use Rattle.agc_timeline.specs.Frames.{shown_after, shown_at};
 ghost use Rattle.agc_timeline.specs.Laws.{AreCuts, frames_of_run, writes_up_to};
-ghost use Rattle.agc_timeline.specs.Packed.{packed, told, text_at, unpacked};
+ghost use Rattle.agc_timeline.specs.Packed.{packed, reported, text_at, unpacked};
 ghost use Rattle.agc_timeline.specs.Divergence.{PartAt, first_difference};
 ghost use Rattle.agc_timeline.specs.declared.frame.Frame.{Frame};
 ghost use Rattle.agc_timeline.specs.declared.part.Part.{Part};
@@ -36,7 +36,7 @@ pub fn films_part_at_the_first_difference()
 #[tactic(auto, using(crate::proofs::Unpacked::unpacking_gives))]
 pub fn unpacking_gives_the_frames()
     ensures { (frames : List Frame) (k : ℕ)
-        → unpacked (drop (1024 * k) (packed frames)) ≡ told (drop (1024 * k) frames) }
+        → unpacked (drop (1024 * k) (packed frames)) ≡ reported (drop (1024 * k) frames) }
 {}
 
 /// The written film of a part, unpacked, shows at each cycle of the part what the panel shows after the writes of the

@@ -5,6 +5,7 @@ pub mod change_laws;
 mod changed_lines;
 mod divergence;
 mod frame;
+mod job_place;
 mod key_event;
 pub mod laws;
 mod packing;
@@ -21,6 +22,7 @@ mod watching;
 
 pub use divergence::first_difference;
 pub use frame::Frame;
+pub use job_place::line_place;
 pub use key_event::{Button, KeyEvent};
 pub use page::{HEAD, TABLES, TAIL, push_tail};
 pub use page_text::{push_film, push_film_pair};

@@ -3,6 +3,7 @@ ghost use Rattle.std.specs.Prelude.{◌≡◌, IsTrue};
 
 use crate::changed_lines::changed_lines;
 use agc_panel::{CoreSet, Job, Tables, Task};
+use agc_symbols::SymbolTable;
 use agc_word::Narrow;
 use std::alloc::{AllocError, Global};
 use std::marker::Model;
@@ -50,24 +51,25 @@ impl Shown {
         }
     }
 
-    /// Takes the tables at a cycle, and returns their changed lines. Fails if memory runs out.
+    /// Takes the tables at a cycle, and returns their changed lines, with these names. Fails if memory runs out.
     pub(crate) fn take(
         &mut self,
         alloc: Global,
+        names: &Option<SymbolTable>,
         cycle: u64,
         tables: Tables,
     ) -> Result<String, AllocError>
-        ensures told { IfOk result (λ told. string_bytes told
-            ≡ lines_at cycle (lines_in self.old) (lines_in (tables_text tables))) }
+        ensures reported { IfOk result (λ reported. string_bytes reported
+            ≡ lines_at names.now cycle (lines_in self.old) (lines_in (tables_text tables))) }
         ensures shown { OnOk result (self.new ≡ tables_text tables) }
     {
         let text = tables.text(alloc)?;
-        let told = changed_lines(alloc, cycle, self.text.as_str(), text.as_str())?;
+        let reported = changed_lines(alloc, names, cycle, self.text.as_str(), text.as_str())?;
         *self = Shown {
             tables: Some(tables),
             text,
         };
-        Ok(told)
+        Ok(reported)
     }
 }
 

@@ -63,10 +63,10 @@ impl Model for TablesFilm {
 }
 
 impl TablesFilm {
-    ghost use Rattle.std.specs.Prelude.{◌≡◌, ◌++◌, [], ◌∷◌, IfOk, OnOk, string_bytes};
+    ghost use Rattle.std.specs.Prelude.{◌≡◌, ◌++◌, [], ◌∷◌, IfOk, None, OnOk, string_bytes};
     ghost use Rattle.agc_timeline.specs.Changes.{shown_after, sight_of, sights_in};
     ghost use Rattle.agc_timeline.specs.Film.{after_first};
-    ghost use Rattle.agc_timeline.specs.Lines.{change_text, told_of};
+    ghost use Rattle.agc_timeline.specs.Lines.{change_text, reported_of};
 
     /// Begins at a cycle with these tables. Fails if memory runs out.
     pub fn begin(
@@ -76,12 +76,12 @@ impl TablesFilm {
     ) -> Result<TablesFilm, AllocError>
         ensures { IfOk result (λ film. film ≡ record {
           shown = opening;
-          text = change_text [] (record { cycle = cycle; text = opening });
+          text = change_text None [] (record { cycle = cycle; text = opening });
         }) }
     {
         let mut shown = Shown::nothing(alloc);
         let text = match opening.tables {
-            Some(tables) => shown.take(alloc, cycle, tables)?,
+            Some(tables) => shown.take(alloc, &None, cycle, tables)?,
             None => String::new(alloc),
         };
         Ok(TablesFilm { shown, text })
@@ -98,7 +98,7 @@ impl TablesFilm {
     ) -> Result<(), AllocError>
         ensures shown { OnOk result (self.new.shown ≡ shown_after self.old.shown
             (sights_in (after_first span) spec.now (machine.now ∷ []))) }
-        ensures text { OnOk result (self.new.text ≡ self.old.text ++ told_of self.old.shown
+        ensures text { OnOk result (self.new.text ≡ self.old.text ++ reported_of None self.old.shown
             (sights_in (after_first span) spec.now (machine.now ∷ []))) }
     {
         if span.has_later(machine.cycle()) {
@@ -117,14 +117,14 @@ impl TablesFilm {
     ) -> Result<(), AllocError>
         ensures shown { OnOk result (self.new.shown ≡ (sight_of spec.now machine.now).text) }
         ensures text { OnOk result (self.new.text ≡ self.old.text
-            ++ change_text self.old.shown (sight_of spec.now machine.now)) }
+            ++ change_text None self.old.shown (sight_of spec.now machine.now)) }
     {
         let tables = Tables::read(machine.store(), spec);
         if self.shown.is_of(&tables) {
             return Ok(());
         }
-        let told = self.shown.take(alloc, machine.cycle(), tables)?;
-        self.text.push_str(told.as_str())?;
+        let reported = self.shown.take(alloc, &None, machine.cycle(), tables)?;
+        self.text.push_str(reported.as_str())?;
         Ok(())
     }
 

@@ -1,11 +1,11 @@
 //! Records a part of a run with the Executive's tables beside the panel.
-ghost use Rattle.std.specs.Prelude.{◌≡◌, ◌+◌, ◌≤◌, ◌++◌, ℕ, IfOk};
+ghost use Rattle.std.specs.Prelude.{◌≡◌, ◌+◌, ◌≤◌, ◌++◌, ℕ, IfOk, None};
 ghost use Rattle.agc_timeline.specs.Recording.{IsRecordingOf};
 ghost use Rattle.agc_timeline.specs.Watched.{HasLines, span_of};
 ghost use Rattle.agc_timeline.specs.Run.{HasOpened, HasRecorded, past};
 ghost use Rattle.agc_timeline.specs.Changes.{shown_after, sights_in};
 ghost use Rattle.agc_timeline.specs.Film.{after_first, film_text, until};
-ghost use Rattle.agc_timeline.specs.Lines.{told_of};
+ghost use Rattle.agc_timeline.specs.Lines.{reported_of};
 ghost use Rattle.agc_timeline.specs.States.{states_of};
 
 use crate::part::Part;
@@ -109,7 +109,7 @@ fn record<P: Progress>(
     ensures stop { IfOk result
         (λ stop. machine.new.cycle ≤ span.to → stop ≡ machine.new.stopped) }
     ensures tables { IfOk result (λ _. tables.new.text ≡ tables.old.text
-        ++ told_of tables.old.shown
+        ++ reported_of None tables.old.shown
         (sights_in (after_first span) spec.now (states_of machine.old))) }
 {
     let mut mark = 0;

@@ -17,7 +17,8 @@ use Rattle.agc_symbols.specs.Channels.{ChannelSymbol, name_of_channel}
 use Rattle.agc_symbols.specs.Symbols.{Symbol}
 use Rattle.agc_trace.specs.Change.{changes_text}
 use Rattle.agc_trace.specs.Line.{entry_text, happening_text, order_place, registers_text, shown_text}
-use Rattle.agc_trace.specs.Operand.{mnemonic_of, place_named, word_at}
+use Rattle.agc_listing.specs.Location.{location_in}
+use Rattle.agc_trace.specs.Operand.{mnemonic_of, word_at}
 use Rattle.agc_trace.specs.OperandLaws.{IsBare, IsInRope}
 use Rattle.agc_trace.specs.OperandLine.{called_or, digits_of, entry_in_form, happening_in_form, operand_called, order_in_form, watched_line}
 use Rattle.agc_trace.specs.Watch.{Watched}
@@ -93,6 +94,6 @@ unfolding word_at
 read_by true m address h = refl
 read_by false m address h = read_fixed _ (fixed_place m address) m refl h
 
-pub reads_place : (m : Memory) (address : ℕ) → IsInRope (place_named m address) → word_at m (place_named m address) ≡ read_of m address
-unfolding place_named read_of
+pub reads_place : (m : Memory) (address : ℕ) → IsInRope (location_in m address) → word_at m (location_in m address) ≡ read_of m address
+unfolding location_in read_of
 reads_place m address h = read_by (is_erasable address) m address h

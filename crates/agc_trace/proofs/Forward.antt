@@ -12,10 +12,10 @@ use Rattle.agc_trace.specs.Trace.{entries_left, is_stop, trace_of, trace_within}
 use Rattle.agc_trace.specs.TraceLaws.{NeverGoBack}
 use Rattle.agc_trace.specs.declared.entry.Entry.{Entry}
 
-shorter_by : (b : Bool) (n : ℕ) (entry : Entry) (rest : List Entry) (told : Option Entry) → suc n < length (entry ∷ (if b then [] else rest)) →
-    (n < length rest → slice_get rest n ≡ told) → slice_get (entry ∷ (if b then [] else rest)) (suc n) ≡ told
-shorter_by true n entry rest told l h = absurd (omega arith)
-shorter_by false n entry rest told l h = h (omega arith)
+shorter_by : (b : Bool) (n : ℕ) (entry : Entry) (rest : List Entry) (reported : Option Entry) → suc n < length (entry ∷ (if b then [] else rest)) →
+    (n < length rest → slice_get rest n ≡ reported) → slice_get (entry ∷ (if b then [] else rest)) (suc n) ≡ reported
+shorter_by true n entry rest reported l h = absurd (omega arith)
+shorter_by false n entry rest reported l h = h (omega arith)
 
 entry_within : (fuel n : ℕ) (s : State) → n < length (trace_within fuel s) → slice_get (trace_within fuel s) n ≡ Some (entry_of (after n s))
 unfolding trace_within after
@@ -25,9 +25,9 @@ entry_within (suc fuel) (suc n) s l =
     shorter_by (is_stop (upcoming_of s)) n (entry_of s) (trace_within fuel (boundary None s).0) _ l (entry_within fuel n (boundary None s).0)
 
 -- each entry is that of the boundary that comes after as many others
-pub entry_is_told : (n : ℕ) (s : State) → n < length (trace_of s) → slice_get (trace_of s) n ≡ Some (entry_of (after n s))
+pub entry_is_reported : (n : ℕ) (s : State) → n < length (trace_of s) → slice_get (trace_of s) n ≡ Some (entry_of (after n s))
 unfolding trace_of
-entry_is_told n s l = entry_within (entries_left s) n s l
+entry_is_reported n s l = entry_within (entries_left s) n s l
 
 from_earlier : (from later : ℕ) (entries : List Entry) → from ≤ later → NeverGoBack later entries → NeverGoBack from entries
 from_earlier from later [] l h = tt

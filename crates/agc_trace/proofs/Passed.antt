@@ -12,7 +12,7 @@ use Rattle.agc_listing.specs.declared.location_range.LocationRange.{LocationRang
 use Rattle.agc_trace.specs.Change.{changes_between, is_named, named_below, named_cells, seen_in}
 use Rattle.agc_trace.specs.Entry.{entry_of}
 use Rattle.agc_trace.specs.Passing.{is_met_by, is_passed}
-use Rattle.agc_trace.specs.Selection.{changes_one, is_answer, is_asked, is_between, is_called, is_of_kinds, is_selected, runs_at, selected, touches}
+use Rattle.agc_trace.specs.Selection.{changes_one, is_answer, is_any_met, is_between, is_called, is_of_kinds, is_selected, runs_at, selected, touches}
 use Rattle.agc_trace.specs.Service.{service_at_stop, served}
 use Rattle.agc_trace.specs.Touched.{is_away, touched_by}
 use Rattle.agc_store.specs.Places.{erasable_cells}
@@ -27,7 +27,7 @@ use Rattle.agc_trace.proofs.Changes.{again_in, none_again, none_changed}
 use Rattle.agc_trace.proofs.Lines.{no_entry}
 use Rattle.agc_trace.proofs.Range.{begins}
 use Rattle.agc_trace.proofs.Services.{left_after}
-use Rattle.agc_trace.proofs.Steps.{fewer_entries, tells}
+use Rattle.agc_trace.proofs.Steps.{fewer_entries, reports}
 use Rattle.agc_trace.proofs.Watches.{watch_by_entry, watch_goes_on, watches}
 
 both : (a b : Bool) → (a && b) ≡ true → (a ≡ true) × (b ≡ true)
@@ -108,13 +108,13 @@ module _ (w : Selection) where
       (if b then (not (is_stop (upcoming_of s)) && not (is_met_by w (upcoming_of s))) else is_away w.cells.items (touched_by (erasable_bank s.processor.store.erasable) (upcoming_of s))) ≡ true →
       is_answer w entry changes ≡ false
   unanswered true s entry changes l f h e =
-      unmet (is_of_kinds w.only entry) (is_asked (λ places. runs_at places entry.happening) w.places.items)
-      (is_asked (λ name. is_called (string_bytes name) entry.happening) w.orders.items) (is_asked (λ channel. touches channel entry.happening) w.channels.items)
+      unmet (is_of_kinds w.only entry) (is_any_met (λ places. runs_at places entry.happening) w.places.items)
+      (is_any_met (λ name. is_called (string_bytes name) entry.happening) w.orders.items) (is_any_met (λ channel. touches channel entry.happening) w.channels.items)
       (changes_one w.cells.items changes)
       (ap (λ (u : Upcoming). not (is_met_by w u)) f ∙ (both (not (is_stop (upcoming_of s))) (not (is_met_by w (upcoming_of s))) e).1)
   unanswered false s entry changes l f h e =
-      unchanged (is_of_kinds w.only entry) (is_asked (λ places. runs_at places entry.happening) w.places.items)
-      (is_asked (λ name. is_called (string_bytes name) entry.happening) w.orders.items) (is_asked (λ channel. touches channel entry.happening) w.channels.items)
+      unchanged (is_of_kinds w.only entry) (is_any_met (λ places. runs_at places entry.happening) w.places.items)
+      (is_any_met (λ name. is_called (string_bytes name) entry.happening) w.orders.items) (is_any_met (λ channel. touches channel entry.happening) w.channels.items)
       (changes_one w.cells.items changes)
       (ap (λ (b : Bool). b || not (length changes == 0)) l ∙ ap (λ (xs : List Change). not (length xs == 0)) (h ∙ nothing_changed s e))
 
@@ -123,7 +123,7 @@ module _ (w : Selection) where
     stays = goes_by (length w.cells.items == 0) (erasable_bank s.processor.store.erasable) (upcoming_of s) passed
 
     happens : (watched_of (named_cells w.cells.items) s).entry.happening ≡ upcoming_of s
-    happens = ap (λ (x : Entry). x.happening) (watches (named_cells w.cells.items) s) ∙ tells s
+    happens = ap (λ (x : Entry). x.happening) (watches (named_cells w.cells.items) s) ∙ reports s
 
     unselected : is_selected w (watched_of (named_cells w.cells.items) s) ≡ false
     unfolding is_selected
@@ -158,9 +158,9 @@ module _ (w : Selection) where
         service_at_stop w after (trace_of t) ≡ service_at_stop w before (trace_of s)
     service_stays before after cycle u e f l h =
         ap (λ (o : Option Service). service_at_stop w o (trace_of t))
-        (h ∙ ap (λ (v : Upcoming). if nat_le w.from cycle then served cycle v before else before) (e ∙ sym (tells s))
+        (h ∙ ap (λ (v : Upcoming). if nat_le w.from cycle then served cycle v before else before) (e ∙ sym (reports s))
         ∙ ap (λ (n : ℕ). if nat_le w.from n then served n (entry_of s).happening before else before) (f ∙ sym (begins s)))
-        ∙ left_after w before s t (entry_of s) refl next l (ap is_stop (tells s) ∙ stays s passed)
+        ∙ left_after w before s t (entry_of s) refl next l (ap is_stop (reports s) ∙ stays s passed)
 
     pub fewer_stay : entries_left t < entries_left s
     fewer_stay = subst (λ (x : State). entries_left x < entries_left s) (sym next) (fewer_entries s (stays s passed))

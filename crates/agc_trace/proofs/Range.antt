@@ -18,8 +18,8 @@ use Rattle.agc_trace.specs.Watch.{Watched, watch_of, watched_of}
 use Rattle.agc_trace.specs.declared.entry.Entry.{Entry}
 use Rattle.agc_trace.specs.declared.selection.Selection.{Selection}
 use Rattle.agc_trace.proofs.Lines.{entries_at_stop, no_entry}
-use Rattle.agc_trace.proofs.Watches.{watch_by_entry, watch_goes_on, watch_tells_trace, watches}
-use Rattle.agc_trace.proofs.Stops.{stop_stays, stopped_tells}
+use Rattle.agc_trace.proofs.Watches.{watch_by_entry, watch_goes_on, watch_reports_trace, watches}
+use Rattle.agc_trace.proofs.Stops.{stop_stays, stopped_reports}
 use Rattle.agc_trace.proofs.Forward.{trace_goes_forward}
 
 none_of : (b : Bool) → (b && false) ≡ false
@@ -54,7 +54,7 @@ module _ (w : Selection) where
     -- after the last cycle no entry is selected
     pub no_late_entries : (s : State) → w.to < s.cycle → selected w (watch_of cells s) ≡ []
     no_late_entries s l =
-        none_late s.cycle (watch_of cells s) l (subst (λ (xs : List Entry). NeverGoBack s.cycle xs) (sym (watch_tells_trace cells s)) (trace_goes_forward s))
+        none_late s.cycle (watch_of cells s) l (subst (λ (xs : List Entry). NeverGoBack s.cycle xs) (sym (watch_reports_trace cells s)) (trace_goes_forward s))
 
     begins_watched : (s : State) → s.cycle < w.from → (watched_of cells s).entry.cycle < w.from
     begins_watched s l = subst (λ (c : ℕ). c < w.from) (sym (ap (λ (x : Entry). x.cycle) (watches cells s) ∙ begins s)) l
@@ -68,7 +68,7 @@ module _ (w : Selection) where
         selected w (watch_of cells (boundary None s).0) ≡ selected w (watch_of cells s)
     early_by true s f l =
         let stays = stop_stays s f in
-        nothing_at_stop (boundary None s).0 (subst (λ (c : ℕ). c < w.from) (sym stays.cycle) l) (stopped_tells (boundary None s).0 stays.why stays.stopped)
+        nothing_at_stop (boundary None s).0 (subst (λ (c : ℕ). c < w.from) (sym stays.cycle) l) (stopped_reports (boundary None s).0 stays.why stays.stopped)
         ∙ sym (nothing_at_stop s l f)
     early_by false s f l =
         let unseen : is_selected w (watched_of cells s) ≡ false = too_early (watched_of cells s) (begins_watched s l) in
@@ -81,9 +81,9 @@ module _ (w : Selection) where
     no_early_entry s l = early_by (is_stop (upcoming_of s)) s refl l
 
 -- What a boundary before a cycle leaves unchanged, the run to that cycle leaves unchanged.
-module _ {X : Type 0} (told : State → X) (from : ℕ) (stays : (s : State) → s.cycle < from → told (boundary None s).0 ≡ told s) where
+module _ {X : Type 0} (reported : State → X) (from : ℕ) (stays : (s : State) → s.cycle < from → reported (boundary None s).0 ≡ reported s) where
   abbrev pub IsStillOf : State → State × Stepped → Type 0
-  IsStillOf s r = told r.0 ≡ told s
+  IsStillOf s r = reported r.0 ≡ reported s
 
   either_way : (b : Bool) (s t : State) (way : State × Stepped) → IsStillOf s (t, stepped.Quiet) → (b ≡ false → IsStillOf t way) →
       IsStillOf s (if b then (t, stepped.Quiet) else way)
@@ -102,7 +102,7 @@ module _ {X : Type 0} (told : State → X) (from : ℕ) (stays : (s : State) →
   way_within zero end s l k = refl
   way_within (suc n) end s l k = way_by n end s (boundary None s) l (stays s k) (λ t m. way_within n end t l m)
 
-  pub stays_before : (end : ℕ) (s t : State) (answer : Stepped) → end ≤ from → s.cycle < from → (t, answer) ≡ next_before end s → told t ≡ told s
+  pub stays_before : (end : ℕ) (s t : State) (answer : Stepped) → end ≤ from → s.cycle < from → (t, answer) ≡ next_before end s → reported t ≡ reported s
   unfolding next_before
   stays_before end s t answer l k e = subst (λ (r : State × Stepped). IsStillOf s r) (sym e) (way_within (boundaries_left s) end s l k)
 

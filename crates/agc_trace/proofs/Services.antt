@@ -13,8 +13,8 @@ use Rattle.agc_trace.specs.declared.entry.Entry.{Entry}
 use Rattle.agc_trace.specs.declared.selection.Selection.{Selection}
 use Rattle.agc_trace.specs.declared.service.Service.{Service}
 use Rattle.agc_trace.proofs.Range.{begins, stays_before}
-use Rattle.agc_trace.proofs.Steps.{rest_goes_on, tells, told_by, trace_by_entry}
-use Rattle.agc_trace.proofs.Stops.{stop_stays, stopped_tells}
+use Rattle.agc_trace.proofs.Steps.{rest_goes_on, reports, reported_by, trace_by_entry}
+use Rattle.agc_trace.proofs.Stops.{stop_stays, stopped_reports}
 use Rattle.agc_trace.proofs.Forward.{never_earlier}
 use Rattle.agc_machine.proofs.Chain.{boundary_falls}
 
@@ -52,13 +52,13 @@ module _ (w : Selection) where
       ap (λ (x : Entry). nat_le x.cycle w.to) e ∙ ap (λ (c : ℕ). nat_le c w.to) (begins s) ∙ within_range in
       sym (ap (λ (xs : List Entry). service_at_stop w before xs) (trace_by_entry s)
       ∙ ap (λ (xs : List Entry). service_at_stop w before (entry_of s ∷ xs))
-      (rest_goes_on (is_stop (upcoming_of s)) (trace_of (boundary None s).0) (told_by false s entry e f))
+      (rest_goes_on (is_stop (upcoming_of s)) (trace_of (boundary None s).0) (reported_by false s entry e f))
       ∙ ap (λ (x : Entry). service_at_stop w before (x ∷ trace_of (boundary None s).0)) (sym e)
       ∙ within before entry (trace_of (boundary None s).0) true false short f
       ∙ ap (λ (u : State). service_at_stop w (service_after w before entry) (trace_of u)) (sym next))
 
-  told : (b : Bool) (s : State) → is_stop (upcoming_of s) ≡ b → is_stop (entry_of s).happening ≡ b
-  told b s f = ap is_stop (tells s) ∙ f
+  reported : (b : Bool) (s : State) → is_stop (upcoming_of s) ≡ b → is_stop (entry_of s).happening ≡ b
+  reported b s f = ap is_stop (reports s) ∙ f
 
   late : (s : State) → nat_le s.cycle w.to ≡ false → w.to < s.cycle
   late s e = grind (arith, nat_tests)
@@ -79,11 +79,11 @@ module _ (w : Selection) where
   early_by true true s e f l =
       let stays = stop_stays s f in
       left_at_stop None (boundary None s).0 (entry_of (boundary None s).0) refl (omega (arith, stays.cycle, soon s e))
-      (told true (boundary None s).0 (stopped_tells (boundary None s).0 stays.why stays.stopped))
-      ∙ sym (left_at_stop None s (entry_of s) refl (soon s e) (told true s f))
+      (reported true (boundary None s).0 (stopped_reports (boundary None s).0 stays.why stays.stopped))
+      ∙ sym (left_at_stop None s (entry_of s) refl (soon s e) (reported true s f))
   early_by true false s e f l =
       ap (λ (o : Option Service). service_at_stop w o (trace_of (boundary None s).0)) (sym (unseen s l))
-      ∙ left_after None s (boundary None s).0 (entry_of s) refl refl (soon s e) (told false s f)
+      ∙ left_after None s (boundary None s).0 (entry_of s) refl refl (soon s e) (reported false s f)
 
   -- before the range no service begins
   pub no_early_service : (s : State) → s.cycle < w.from → service_left w (trace_of (boundary None s).0) ≡ service_left w (trace_of s)

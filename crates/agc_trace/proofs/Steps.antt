@@ -82,15 +82,15 @@ pub rest_ends : (b : Bool) (xs : List Entry) → b ≡ true → (if b then [] el
 rest_ends true xs e = refl
 rest_ends false xs e = cc
 
-pub tells : (s : State) → (entry_of s).happening ≡ upcoming_of s
+pub reports : (s : State) → (entry_of s).happening ≡ upcoming_of s
 unfolding entry_of
-tells s = refl
+reports s = refl
 
-pub told_by : (b : Bool) (s : State) (entry : Entry) → entry ≡ entry_of s → is_stop entry.happening ≡ b → is_stop (upcoming_of s) ≡ b
-told_by b s entry e f = ap is_stop (sym (tells s) ∙ ap (λ (x : Entry). x.happening) (sym e)) ∙ f
+pub reported_by : (b : Bool) (s : State) (entry : Entry) → entry ≡ entry_of s → is_stop entry.happening ≡ b → is_stop (upcoming_of s) ≡ b
+reported_by b s entry e f = ap is_stop (sym (reports s) ∙ ap (λ (x : Entry). x.happening) (sym e)) ∙ f
 
 -- a boundary that was taken and is not a stop leaves fewer entries
 pub fewer_after_entry : (s t : State) (entry : Entry) → entry ≡ entry_of s → t ≡ (boundary None s).0 → is_stop entry.happening ≡ false →
     entries_left t < entries_left s
 fewer_after_entry s t entry e f h =
-    subst (λ (u : State). entries_left u < entries_left s) (sym f) (fewer_entries s (told_by false s entry e h))
+    subst (λ (u : State). entries_left u < entries_left s) (sym f) (fewer_entries s (reported_by false s entry e h))

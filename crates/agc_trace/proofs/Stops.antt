@@ -1,7 +1,7 @@
 -- What a stop changes, and that a trace ends with it.
 use Rattle.std.proofs.Common.{◌≡◌, ℕ, ◌≤◌, suc, zero, List, [], ◌∷◌, Option, Some, None, Bool, true, false, refl, ap, sym, ◌∙◌, subst, arith}
 use Rattle.std.specs.Prelude.{if◌then◌else◌}
-use Rattle.agc_machine.specs.Boundary.{boundary, ComesAsTold, carried_out, upcoming_of}
+use Rattle.agc_machine.specs.Boundary.{boundary, HappensNext, carried_out, upcoming_of}
 use Rattle.agc_machine.specs.Laws.{Falls}
 use Rattle.agc_machine.specs.Run.{run_of}
 use Rattle.agc_machine.specs.State.{State}
@@ -15,37 +15,37 @@ use Rattle.agc_machine.specs.Run.{Run, while_writing}
 use Rattle.agc_machine.proofs.Cases.{upcoming_comes}
 use Rattle.agc_trace.specs.Entry.{entry_of, write_shown}
 use Rattle.agc_trace.specs.Trace.{entries_left, is_stop, trace_of, trace_within}
-use Rattle.agc_trace.specs.TraceLaws.{EndsWithStop, TellsStop}
+use Rattle.agc_trace.specs.TraceLaws.{EndsWithStop, ReportsStop}
 use Rattle.agc_trace.specs.declared.entry.Entry.{Entry}
 use Rattle.agc_trace.proofs.Steps.{fewer_entries, some_entry}
 
 -- the entry is a stop, and the boundary changes nothing but that
-pub record Stays (s : State) (told : Upcoming) (r : State × Stepped) : Type 0 where
+pub record Stays (s : State) (reported : Upcoming) (r : State × Stepped) : Type 0 where
   pub why : Stop
-  pub happening : told ≡ upcoming.Stop why
+  pub happening : reported ≡ upcoming.Stop why
   pub answer : r ≡ (r.0, stepped.Stopped why)
   pub stopped : r.0.stopped ≡ Some why
   pub cycle : r.0.cycle ≡ s.cycle
 
-stop_done : (told : Upcoming) (s : State) (r : State × Stepped) → r ≡ carried_out told (record s { begun = true }) → is_stop told ≡ true → Stays s told r
+stop_done : (reported : Upcoming) (s : State) (r : State × Stepped) → r ≡ carried_out reported (record s { begun = true }) → is_stop reported ≡ true → Stays s reported r
 stop_done (upcoming.Stop why) s r e f = rw e (record { why = why; happening = refl; answer = refl; stopped = refl; cycle = refl })
 stop_done (upcoming.Event what) s r e f = cc
 stop_done (upcoming.Timer t) s r e f = cc
 stop_done (upcoming.Interrupt i) s r e f = cc
 stop_done (upcoming.Order order) s r e f = cc
 
-stays_by : (o : Option Stop) (s : State) (told : Upcoming) (r : State × Stepped) → s.stopped ≡ o → r ≡ boundary None s → ComesAsTold s told → is_stop told ≡ true → Stays s told r
-stays_by (Some why) s told r o e c f =
+stays_by : (o : Option Stop) (s : State) (reported : Upcoming) (r : State × Stepped) → s.stopped ≡ o → r ≡ boundary None s → HappensNext s reported → is_stop reported ≡ true → Stays s reported r
+stays_by (Some why) s reported r o e c f =
     rw (e ∙ stopped_stays s why o) (record { why = why; happening = c.stays why o; answer = refl; stopped = o; cycle = refl })
-stays_by None s told r o e c f = stop_done told s r (e ∙ c.comes o) f
+stays_by None s reported r o e c f = stop_done reported s r (e ∙ c.comes o) f
 
 -- the boundary of a stop
 pub stop_stays : (s : State) → is_stop (upcoming_of s) ≡ true → Stays s (upcoming_of s) (boundary None s)
 stop_stays s f = stays_by s.stopped s (upcoming_of s) (boundary None s) refl refl (upcoming_comes s) f
 
 -- a stopped machine returns its stop
-pub stopped_tells : (s : State) (why : Stop) → s.stopped ≡ Some why → is_stop (upcoming_of s) ≡ true
-stopped_tells s why e = ap is_stop ((upcoming_comes s).stays why e)
+pub stopped_reports : (s : State) (why : Stop) → s.stopped ≡ Some why → is_stop (upcoming_of s) ≡ true
+stopped_reports s why e = ap is_stop ((upcoming_comes s).stays why e)
 
 stopped_last : (s : State) (why : Stop) → s.stopped ≡ Some why → (run_of s).last ≡ s
 stopped_last s why e = ap (λ (run : Run). run.last) (run_at_stop s s why (sym (next_of_stopped s why e)))
@@ -61,9 +61,9 @@ last_by s (t, stepped.Stopped why) e f =
 last_goes_on : (s : State) → (run_of s).last ≡ (run_of (boundary None s).0).last
 last_goes_on s = last_by s (boundary None s) refl (boundary_falls s)
 
-tells_stop : (s : State) → is_stop (upcoming_of s) ≡ true → TellsStop (boundary None s).0 (entry_of s)
+reports_stop : (s : State) → is_stop (upcoming_of s) ≡ true → ReportsStop (boundary None s).0 (entry_of s)
 unfolding entry_of
-tells_stop s f =
+reports_stop s f =
     let stays = stop_stays s f in
     record {
       why = stays.why;
@@ -89,7 +89,7 @@ happens s = refl
 
 ends_by : (b : Bool) (s : State) (rest : List Entry) → is_stop (upcoming_of s) ≡ b → (b ≡ false → EndsWithStop (run_of s).last rest) →
     EndsWithStop (run_of s).last (entry_of s ∷ (if b then [] else rest))
-ends_by true s rest f h = subst (λ (last : State). TellsStop last (entry_of s)) (sym (last_at_stop s f)) (tells_stop s f)
+ends_by true s rest f h = subst (λ (last : State). ReportsStop last (entry_of s)) (sym (last_at_stop s f)) (reports_stop s f)
 ends_by false s rest f h = ends_later (run_of s).last (entry_of s) rest (ap is_stop (happens s) ∙ f) (h refl)
 
 ends_within : (n : ℕ) (s : State) → entries_left s ≤ n → EndsWithStop (run_of s).last (trace_within n s)

@@ -7,7 +7,7 @@ use Rattle.agc_trace.specs.Entry.{entry_of}
 use Rattle.agc_trace.specs.Trace.{entries_left, is_stop, trace_of, trace_within}
 use Rattle.agc_trace.specs.Watch.{Watched, watch_of, watch_within, watched_of}
 use Rattle.agc_trace.specs.declared.entry.Entry.{Entry}
-use Rattle.agc_trace.proofs.Steps.{fewer_entries, some_entry, told_by}
+use Rattle.agc_trace.proofs.Steps.{fewer_entries, some_entry, reported_by}
 
 -- whether the watch goes on after its first boundary
 pub watch_goes_on : (b : Bool) (xs : List Watched) → b ≡ false → (if b then [] else xs) ≡ xs
@@ -34,7 +34,7 @@ module _ (cells : List ℕ) where
   watches s = refl
 
   pub watched_by : (b : Bool) (s : State) (entry : Watched) → entry ≡ watched_of cells s → is_stop entry.entry.happening ≡ b → is_stop (upcoming_of s) ≡ b
-  watched_by b s entry e f = told_by b s entry.entry (ap (λ (x : Watched). x.entry) e ∙ watches s) f
+  watched_by b s entry e f = reported_by b s entry.entry (ap (λ (x : Watched). x.entry) e ∙ watches s) f
 
   -- if the bound is large enough, a larger one makes no difference
   same_watch : (n m : ℕ) (s : State) → entries_left s ≤ n → entries_left s ≤ m → watch_within cells n s ≡ watch_within cells m s
@@ -53,14 +53,14 @@ module _ (cells : List ℕ) where
       ∙ same_rest (is_stop (upcoming_of s)) (watched_of cells s) _ _
       (λ f. same_watch (entries_left s) (entries_left (boundary None s).0) (boundary None s).0 (omega (arith, fewer_entries s f)) (omega arith))
 
-  tells_within : (n : ℕ) (s : State) → map (λ (y : Watched). y.entry) (watch_within cells n s) ≡ trace_within n s
+  reports_within : (n : ℕ) (s : State) → map (λ (y : Watched). y.entry) (watch_within cells n s) ≡ trace_within n s
   unfolding watch_within trace_within
-  tells_within zero s = refl
-  tells_within (suc n) s =
+  reports_within zero s = refl
+  reports_within (suc n) s =
       same_entries (is_stop (upcoming_of s)) (watched_of cells s) (entry_of s) (watch_within cells n (boundary None s).0) (trace_within n (boundary None s).0)
-      (watches s) (tells_within n (boundary None s).0)
+      (watches s) (reports_within n (boundary None s).0)
 
   -- the entries of a watch are the trace, whatever cells are watched
-  pub watch_tells_trace : (s : State) → map (λ (y : Watched). y.entry) (watch_of cells s) ≡ trace_of s
+  pub watch_reports_trace : (s : State) → map (λ (y : Watched). y.entry) (watch_of cells s) ≡ trace_of s
   unfolding watch_of trace_of
-  watch_tells_trace s = tells_within (entries_left s) s
+  watch_reports_trace s = reports_within (entries_left s) s

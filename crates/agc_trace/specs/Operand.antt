@@ -3,7 +3,7 @@
 use Rattle.std.specs.Prelude.{ℕ, ◌+◌, ◌%◌, ◌<◌, nat_lt, Bool, true, false, List, None, if◌then◌else◌}
 use Rattle.agc_word.specs.Arithmetic.{narrow_of}
 use Rattle.agc_word.specs.Number.{Number, pattern_of}
-use Rattle.agc_store.specs.Memory.{Memory, cell_at, erasable_place, fixed_at, fixed_place, is_erasable, nothing}
+use Rattle.agc_store.specs.Memory.{Memory, cell_at, fixed_at, nothing}
 use Rattle.agc_store.specs.Places.{erasable_cells, fixed_words}
 use Rattle.agc_order.specs.Order.{basic_of, extracode_of}
 use Rattle.agc_order.specs.Row.{basic_row, extracode_row}
@@ -19,6 +19,7 @@ use Rattle.agc_machine.specs.State.{State}
 use Rattle.agc_machine.specs.declared.upcoming.InHand.{InHand}
 use Rattle.agc_machine.specs.declared.upcoming.Upcoming.{Upcoming}
 use Rattle.agc_machine.specs.declared.upcoming.Upcoming.TheVariants as upcoming
+use Rattle.agc_listing.specs.Location.{IsReadable, location_in}
 use Rattle.agc_listing.specs.declared.location.Location.{Location}
 use Rattle.agc_listing.specs.declared.location.Location.TheVariants as location
 use Rattle.agc_trace.specs.declared.operand.Addressed.{Addressed}
@@ -42,23 +43,16 @@ takes_of order =
     then (extracode_row (extracode_of (pattern_of 15 order.word))).takes
     else (basic_row (basic_of (pattern_of 15 order.word))).takes
 
--- the place that an address names in a memory: EB, FB and the superbank select the banks in the two windows
-unfoldable pub place_named : Memory → ℕ → Location
-place_named m address =
-    if is_erasable address
-    then location.Erasable (erasable_place m.erasable address)
-    else location.Fixed (fixed_place m address)
-
 -- what an operand field names. A double word has its upper word one below the lower one, which the order's word names.
 abbrev pub field_named : Memory → Takes → ℕ → Addressed
 field_named m takes.Nothing word = addressed.Nothing
-field_named m takes.Erasable word = addressed.Word (place_named m (word % 0o2000))
+field_named m takes.Erasable word = addressed.Word (location_in m (word % 0o2000))
 field_named m takes.ErasablePair word =
-    addressed.Pair (place_named m ((word % 0o2000 + 0o1777) % 0o2000)) (place_named m (word % 0o2000))
-field_named m takes.Fixed word = addressed.Target (place_named m (word % 0o10000))
-field_named m takes.Memory word = addressed.Word (place_named m (word % 0o10000))
+    addressed.Pair (location_in m ((word % 0o2000 + 0o1777) % 0o2000)) (location_in m (word % 0o2000))
+field_named m takes.Fixed word = addressed.Target (location_in m (word % 0o10000))
+field_named m takes.Memory word = addressed.Word (location_in m (word % 0o10000))
 field_named m takes.MemoryPair word =
-    addressed.Pair (place_named m ((word % 0o10000 + 0o7777) % 0o10000)) (place_named m (word % 0o10000))
+    addressed.Pair (location_in m ((word % 0o10000 + 0o7777) % 0o10000)) (location_in m (word % 0o10000))
 field_named m takes.Channel word = addressed.Channel (word % 0o1000)
 
 -- TC goes to the place that it names, and EDRUPT has no channel
@@ -73,7 +67,7 @@ is_edrupt _ = false
 abbrev pub basic_named : Memory → Basic → ℕ → Addressed
 basic_named m order word =
     if is_tc order
-    then addressed.Target (place_named m (word % 0o10000))
+    then addressed.Target (location_in m (word % 0o10000))
     else field_named m (basic_row order).takes word
 
 abbrev pub extracode_named : Memory → Extracode → ℕ → Addressed
@@ -140,11 +134,7 @@ operand_again t (operand.Pair upper lower) =
     operand.Pair (word_again t upper) (word_again t lower)
 operand_again t (operand.Channel channel) = operand.Channel (channel_again t channel)
 
--- a place whose word can be read: a cell of the 2048, or any fixed place
-abbrev pub IsReadable : Location → Type 0
-IsReadable (location.Erasable cell) = cell < erasable_cells
-IsReadable (location.Fixed place) = Unit {0}
-
+-- an operand whose word can be read
 abbrev pub CanBeRead : Addressed → Type 0
 CanBeRead addressed.Nothing = Unit {0}
 CanBeRead (addressed.Target at) = Unit {0}

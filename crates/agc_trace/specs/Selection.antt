@@ -109,8 +109,8 @@ touches channel (upcoming.Timer t) = false
 touches channel (upcoming.Interrupt r) = false
 
 -- one of several conditions is met; without any, everything is
-abbrev pub is_asked : {A : Type 0} → (A → Bool) → List A → Bool
-is_asked test several = (length several == 0) || list_any test several
+abbrev pub is_any_met : {A : Type 0} → (A → Bool) → List A → Bool
+is_any_met test several = (length several == 0) || list_any test several
 
 -- a boundary that changes a watched cell; without watched cells, any
 abbrev pub changes_one : List LocationRange → List Change → Bool
@@ -119,9 +119,9 @@ changes_one cells changes = (length cells == 0) || not (length changes == 0)
 -- an entry that meets every condition
 abbrev pub is_answer : Selection → Entry → List Change → Bool
 is_answer s entry changes =
-    is_of_kinds s.only entry && is_asked (λ places. runs_at places entry.happening) s.places.items
-    && is_asked (λ name. is_called (string_bytes name) entry.happening) s.orders.items
-    && is_asked (λ channel. touches channel entry.happening) s.channels.items
+    is_of_kinds s.only entry && is_any_met (λ places. runs_at places entry.happening) s.places.items
+    && is_any_met (λ name. is_called (string_bytes name) entry.happening) s.orders.items
+    && is_any_met (λ channel. touches channel entry.happening) s.channels.items
     && changes_one s.cells.items changes
 
 -- an entry whose boundary begins in the range of cycles

@@ -14,7 +14,7 @@ NeverGoBack from (entry ∷ entries) = (from ≤ entry.cycle) × NeverGoBack ent
 
 -- an entry is the stop of a run that has come to this state: its reason, at the state's cycle, with
 -- the registers that the run leaves
-pub record TellsStop (last : State) (entry : Entry) : Type 0 where
+pub record ReportsStop (last : State) (entry : Entry) : Type 0 where
   pub why : Stop
   pub stopped : last.stopped ≡ Some why
   pub happening : entry.happening ≡ upcoming.Stop why
@@ -25,6 +25,6 @@ pub record TellsStop (last : State) (entry : Entry) : Type 0 where
 -- the last entry is the stop of this state, and no entry before it is a stop
 abbrev pub EndsWithStop : State → List Entry → Type 0
 EndsWithStop last [] = ⊥
-EndsWithStop last (entry ∷ []) = TellsStop last entry
+EndsWithStop last (entry ∷ []) = ReportsStop last entry
 EndsWithStop last (entry ∷ next ∷ entries) =
     (is_stop entry.happening ≡ false) × EndsWithStop last (next ∷ entries)

@@ -10,7 +10,7 @@ ghost use Rattle.agc_trace.specs.Watch.{FitsWatched};
 
 use crate::change::{Change, next_watched, see_named};
 use crate::line_form::LineForm;
-use crate::passing::pass_unasked;
+use crate::passing::pass_unrequested;
 use crate::recorded::Recorded;
 use crate::selection::Selection;
 use crate::service::{Service, service_after};
@@ -88,7 +88,7 @@ fn keep_last<P: Progress>(
         }
         service = service_after(selection, service, &recorded.entry);
         mark = report_at(mark, recorded.entry.cycle, progress);
-        service = pass_unasked(machine, selection, service, &mut mark, progress);
+        service = pass_unrequested(machine, selection, service, &mut mark, progress);
     }
     Ok(None)
 }

@@ -7,7 +7,8 @@ ghost use Rattle.agc_store.specs.Memory.{Memory, read_of};
 ghost use Rattle.agc_trace.specs.Change.{changes_text};
 ghost use Rattle.agc_trace.specs.Entry.{entry_of};
 ghost use Rattle.agc_trace.specs.Line.{entry_text};
-ghost use Rattle.agc_trace.specs.Operand.{place_named, word_at};
+ghost use Rattle.agc_listing.specs.Location.{location_in};
+ghost use Rattle.agc_trace.specs.Operand.{word_at};
 ghost use Rattle.agc_trace.specs.OperandLaws.{IsBare, IsInRope};
 ghost use Rattle.agc_trace.specs.OperandLine.{watched_line};
 ghost use Rattle.agc_trace.specs.Trace.{trace_of};
@@ -16,7 +17,7 @@ ghost use Rattle.agc_trace.specs.Watch.{Watched, watch_of};
 ghost use Rattle.agc_trace.specs.declared.line_form.LineForm.{LineForm};
 
 /// Entry n of a trace, counted from 0, is the boundary that comes after n others.
-pub fn an_entry_tells_its_boundary()
+pub fn an_entry_reports_its_boundary()
     ensures { (n : ℕ) (s : State) → n < length (trace_of s)
         → slice_get (trace_of s) n ≡ Some (entry_of (after n s)) }
 {}
@@ -33,7 +34,7 @@ pub fn a_trace_never_goes_back()
 {}
 
 /// The entries of a watch are those of the trace, each once and in order, whatever cells are watched.
-pub fn a_watch_tells_the_trace()
+pub fn a_watch_reports_the_trace()
     ensures { (cells : List ℕ) (s : State) → map (λ watched. watched.entry) (watch_of cells s) ≡ trace_of s }
 {}
 
@@ -47,6 +48,6 @@ pub fn a_form_without_names_changes_no_line()
 /// The place of an operand is the one that its address reads: what the operand held is the word that the order finds at
 /// its address. Banks above 43 octal are left out.
 pub fn an_address_reads_its_place()
-    ensures { (m : Memory) (address : ℕ) → IsInRope (place_named m address)
-        → word_at m (place_named m address) ≡ read_of m address }
+    ensures { (m : Memory) (address : ℕ) → IsInRope (location_in m address)
+        → word_at m (location_in m address) ≡ read_of m address }
 {}

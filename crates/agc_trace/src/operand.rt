@@ -1,13 +1,11 @@
 //! Finds the operand of the order in hand, and reads what it holds before and after a boundary.
-ghost use Rattle.std.specs.Prelude.{◌≡◌, ◌+◌, ◌*◌, ◌<◌};
+ghost use Rattle.std.specs.Prelude.{◌≡◌, ◌<◌};
 ghost use Rattle.agc_word.specs.Number.{pattern_of};
 ghost use Rattle.agc_order.specs.Row.{basic_row, extracode_row};
-ghost use Rattle.agc_store.specs.Memory.{erasable_bank};
-ghost use Rattle.agc_store.specs.Places.{erasable_bank_size, erasable_cells};
+ghost use Rattle.agc_listing.specs.Location.{IsReadable};
 ghost use Rattle.agc_trace.specs.Operand.{
   CanBeRead,
   CanBeReadAgain,
-  IsReadable,
   addressed_by,
   basic_named,
   channel_again,
@@ -17,18 +15,15 @@ ghost use Rattle.agc_trace.specs.Operand.{
   held_word,
   operand_again,
   operand_between,
-  place_named,
   takes_of,
   word_again,
   word_at,
 };
 
-use agc_listing::{Cell, Location};
+use agc_listing::{Cell, Location, location_in};
 use agc_machine::{InHand, Machine, Upcoming};
 use agc_order::{Basic, Extracode, Takes};
-use agc_store::place::{
-    ERASABLE_BANK_SIZE, ERASABLE_WINDOW, FIXED_FIXED, FIXED_WINDOW, FIXED_WORDS, place_of,
-};
+use agc_store::place::FIXED_WORDS;
 use agc_store::{Addr, Store};
 use agc_word::{Narrow, Wide, widen};
 
@@ -115,7 +110,7 @@ fn basic_named(order: Basic, word: Narrow, store: &Store) -> Addressed
     ensures range { CanBeRead result }
 {
     if matches!(order, Basic::Tc) {
-        Addressed::Target(place_named(store, Addr::of_word(word)))
+        Addressed::Target(location_in(store, Addr::of_word(word)))
     } else {
         field_named(order.row().takes, word, store)
     }
@@ -140,49 +135,19 @@ fn field_named(takes: Takes, word: Narrow, store: &Store) -> Addressed
     let address = Addr::of_word(word);
     match takes {
         Takes::Nothing => Addressed::Nothing,
-        Takes::Erasable => Addressed::Word(place_named(store, address.low_ten())),
+        Takes::Erasable => Addressed::Word(location_in(store, address.low_ten())),
         Takes::ErasablePair => Addressed::Pair(
-            place_named(store, address.previous_low_ten()),
-            place_named(store, address.low_ten()),
+            location_in(store, address.previous_low_ten()),
+            location_in(store, address.low_ten()),
         ),
-        Takes::Fixed => Addressed::Target(place_named(store, address)),
-        Takes::Memory => Addressed::Word(place_named(store, address)),
+        Takes::Fixed => Addressed::Target(location_in(store, address)),
+        Takes::Memory => Addressed::Word(location_in(store, address)),
         Takes::MemoryPair => Addressed::Pair(
-            place_named(store, address.previous()),
-            place_named(store, address),
+            location_in(store, address.previous()),
+            location_in(store, address),
         ),
         Takes::Channel => Addressed::Channel(word.bits() % 0o1000),
     }
-}
-
-/// Returns the place that an address names.
-#[tactic(auto, unfolding(crate::specs::Operand::place_named, agc_store::specs::Memory::erasable_place, agc_store::specs::Memory::fixed_place))]
-fn place_named(store: &Store, address: Addr) -> Location
-    ensures place { result ≡ place_named store.now address }
-    ensures range { IsReadable result }
-{
-    let address = address.bits();
-    match address {
-        0..ERASABLE_WINDOW => Location::Erasable(u32::from(address)),
-        ERASABLE_WINDOW..FIXED_WINDOW => Location::Erasable(u32::from(cell_in_window(
-            store,
-            address - ERASABLE_WINDOW,
-        ))),
-        FIXED_WINDOW..FIXED_FIXED => Location::Fixed(place_of(
-            store.selected_bank(),
-            address - FIXED_WINDOW,
-        )),
-        _ => Location::Fixed(u32::from(address)),
-    }
-}
-
-/// Returns the cell at an offset of the bank in EB.
-fn cell_in_window(store: &Store, offset: u16) -> u16
-    requires { offset < erasable_bank_size }
-    ensures cell { result ≡ erasable_bank_size * erasable_bank store.now.erasable + offset }
-    ensures range { result < erasable_cells }
-{
-    ERASABLE_BANK_SIZE * u16::from(store.erasable_bank()) + offset
 }
 
 /// Returns the word at a place.

@@ -16,7 +16,7 @@ use agc_machine::{Machine, Upcoming};
 /// Steps over boundaries as long as it is known in advance that they have no line. Returns the interrupt service in
 /// progress then, given the one before. The loop is a function of its own, so that its state stays in registers.
 #[inline(never)]
-pub(crate) fn pass_unasked<P: Progress>(
+pub(crate) fn pass_unrequested<P: Progress>(
     machine: &mut Machine,
     selection: &Selection,
     before: Option<Service>,

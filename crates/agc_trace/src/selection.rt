@@ -4,7 +4,7 @@ ghost use Rattle.std.specs.List.{list_any};
 ghost use Rattle.agc_trace.specs.Operand.{mnemonic_of};
 ghost use Rattle.agc_trace.specs.Selection.{
   ends_service,
-  is_asked,
+  is_any_met,
   is_called,
   is_channel_order,
   is_interrupt,
@@ -104,7 +104,7 @@ fn is_of_kinds(only: Option<Only>, entry: &Entry) -> bool
 
 /// Returns whether the order is at one of several places, or none are selected.
 fn runs_at_one(several: &[LocationRange], happening: Upcoming) -> bool
-    ensures { result ≡ is_asked (λ places. runs_at places happening) several.now }
+    ensures { result ≡ is_any_met (λ places. runs_at places happening) several.now }
 {
     several.is_empty() || runs_at_any(several, happening)
 }
@@ -128,7 +128,7 @@ fn runs_at(places: LocationRange, happening: Upcoming) -> bool
 
 /// Returns whether the order has one of several mnemonics, or none are selected.
 fn is_called_one(several: &[String], happening: Upcoming) -> bool
-    ensures { result ≡ is_asked (λ name. is_called (string_bytes name) happening) several.now }
+    ensures { result ≡ is_any_met (λ name. is_called (string_bytes name) happening) several.now }
 {
     several.is_empty() || is_called_any(several, happening)
 }
@@ -165,7 +165,7 @@ pub(crate) fn mnemonic_of(order: InHand) -> &'static str
 
 /// Returns whether the order reads or writes one of several channels, or none are selected.
 fn touches_one(several: &[u16], happening: Upcoming) -> bool
-    ensures { result ≡ is_asked (λ channel. touches channel happening) several.now }
+    ensures { result ≡ is_any_met (λ channel. touches channel happening) several.now }
 {
     several.is_empty() || touches_any(several, happening)
 }

@@ -12,7 +12,7 @@ use crate::change::{Change, next_watched, see_named};
 use crate::last::write_last;
 use crate::line_form::LineForm;
 use crate::operand_line::push_watched_line;
-use crate::passing::pass_unasked;
+use crate::passing::pass_unrequested;
 use crate::recorded::Recorded;
 use crate::selection::Selection;
 use crate::service::{Service, service_after};
@@ -110,7 +110,7 @@ fn write_lines<W: Write, P: Progress>(
         }
         service = service_after(selection, service, &recorded.entry);
         mark = report_at(mark, recorded.entry.cycle, progress);
-        service = pass_unasked(machine, selection, service, &mut mark, progress);
+        service = pass_unrequested(machine, selection, service, &mut mark, progress);
     }
     Ok(None)
 }

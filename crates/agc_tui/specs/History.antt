@@ -1,5 +1,5 @@
--- The last boundaries of a session, as trace entries.
-use Rattle.std.specs.Prelude.{ℕ, List, [], ◌∷◌, ◌++◌, Some, None}
+-- The last boundaries of a session, as trace entries in folded lines.
+use Rattle.std.specs.Prelude.{ℕ, List, Some, None}
 use Rattle.circular_buffer.specs.Buffer.{keep_last}
 use Rattle.agc_script.specs.declared.event.What.{What}
 use Rattle.agc_machine.specs.Boundary.{boundary}
@@ -7,14 +7,16 @@ use Rattle.agc_machine.specs.State.{State}
 use Rattle.agc_machine.specs.declared.upcoming.Upcoming.TheVariants as upcoming
 use Rattle.agc_trace.specs.Entry.{registers_of}
 use Rattle.agc_trace.specs.declared.entry.Entry.{Entry}
+use Rattle.agc_tui.specs.Fold.{added}
+use Rattle.agc_tui.specs.declared.fold.Line.{Line}
 
--- the number of boundaries kept
+-- the number of lines kept
 abbrev pub most_recent : ℕ
 most_recent = 12
 
--- one more boundary, in place of the oldest one if the history is full
-abbrev pub with_last : Entry → List Entry → List Entry
-with_last entry history = keep_last most_recent (history ++ entry ∷ [])
+-- one more boundary; the oldest line goes if there are too many
+abbrev pub with_last : Entry → List Line → List Line
+with_last entry history = keep_last most_recent (added entry history)
 
 -- the boundary of an event injected now, which writes nothing
 unfoldable pub given_entry : What → State → Entry

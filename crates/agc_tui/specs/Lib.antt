@@ -4,5 +4,9 @@ pub mod Lamps
 pub mod Face
 pub mod Keyboard
 pub mod Picture
+pub mod Pace
+pub mod Fold
 pub mod History
 pub mod Inspector
+pub mod Search
+pub mod Operator

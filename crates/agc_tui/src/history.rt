@@ -1,41 +1,43 @@
-//! Records the last boundaries of a session, as trace entries.
-ghost use Rattle.std.specs.Prelude.{◌≡◌, ◌==◌, ◌++◌, [], ◌∷◌, All, IfOk, OnOk, OnErr, None, flat_map, length, string_bytes};
+//! Records the last boundaries of a session, as trace entries in folded lines.
+ghost use Rattle.std.specs.Prelude.{◌≡◌, ◌==◌, ◌++◌, ◌∷◌, ◌-◌, take, [], All, IfOk, IfSome, OnOk, OnErr, None, flat_map, length, option_copied, string_bytes};
 ghost use Rattle.circular_buffer.specs.Buffer.{buffer, keep_last};
 ghost use Rattle.agc_script.specs.Event.{IsWhatInRange};
 ghost use Rattle.agc_machine.specs.Boundary.{boundary};
 ghost use Rattle.agc_session.specs.Session.{HasGone, injected_now};
 ghost use Rattle.agc_trace.specs.Entry.{FitsLine, entry_of, write_shown};
-ghost use Rattle.agc_tui.specs.Inspector.{boundary_line};
+ghost use Rattle.agc_tui.specs.Fold.{Fits, added, counted_up, history_line};
 ghost use Rattle.agc_tui.specs.History.{given_entry, with_last};
 
+use crate::fold::{Line, push_history_line};
 use agc_machine::{Stepped, Upcoming};
 use agc_script::What;
 use agc_session::{InjectFault, Session};
-use agc_trace::{Entry, push_line, registers_in, write_shown};
+use agc_symbols::SymbolTable;
+use agc_trace::{Entry, registers_in, write_shown};
 use circular_buffer::HeapCircularBuffer;
 use std::alloc::{AllocError, Global};
 use std::marker::Model;
 
-/// The number of boundaries kept.
+/// The number of lines kept.
 pub const KEPT: usize = 12;
 
-/// The last boundaries of a session, in order.
+/// The last boundaries of a session, in order: a line each, or one line for the equal ones of an idle loop.
 #[derive(Drop)]
 pub struct History {
-    entries: HeapCircularBuffer<Entry>,
+    lines: HeapCircularBuffer<Line>,
 }
 
 impl Model for History {
     ghost use Rattle.std.specs.Prelude.{◌≡◌, List, All};
-    ghost use Rattle.agc_trace.specs.Entry.{FitsLine};
-    ghost use Rattle.agc_trace.specs.declared.entry.Entry.{Entry};
+    ghost use Rattle.agc_tui.specs.Fold.{Fits};
     ghost use Rattle.agc_tui.specs.History.{most_recent};
+    ghost use Rattle.agc_tui.specs.declared.fold.Line.{Line};
 
-    ghost Value = { List Entry };
+    ghost Value = { List Line };
 
-    ghost view = { λ history. history.entries.items };
+    ghost view = { λ history. history.lines.items };
 
-    ghost invariant = { λ history. All FitsLine history.entries.items × (history.entries.capacity ≡ most_recent) };
+    ghost invariant = { λ history. All Fits history.lines.items × (history.lines.capacity ≡ most_recent) };
 }
 
 impl History {
@@ -43,8 +45,8 @@ impl History {
     pub fn new(alloc: Global) -> Result<History, AllocError>
         ensures { IfOk result (λ history. history ≡ []) }
     {
-        let entries = HeapCircularBuffer::with_capacity(alloc, KEPT)?;
-        Ok(History { entries })
+        let lines = HeapCircularBuffer::with_capacity(alloc, KEPT)?;
+        Ok(History { lines })
     }
 
     /// Takes one boundary of a session and records it as the last one.
@@ -64,7 +66,7 @@ impl History {
             write,
             registers: registers_in(session.machine().store()),
         };
-        push_last(&mut self.entries, entry);
+        push_entry(&mut self.lines, entry);
     }
 
     /// Injects an event into a session, and records its boundary as the last one.
@@ -89,7 +91,7 @@ impl History {
             write,
             registers,
         };
-        push_last(&mut self.entries, entry);
+        push_entry(&mut self.lines, entry);
         Ok(())
     }
 
@@ -97,29 +99,48 @@ impl History {
     pub fn forget(&mut self)
         ensures { self.new ≡ [] }
     {
-        self.entries.clear();
+        self.lines.clear();
     }
 
     /// Returns whether no boundary is recorded.
     pub fn is_empty(&self) -> bool
         ensures { result ≡ (length self.now == 0) }
     {
-        self.entries.is_empty()
+        self.lines.is_empty()
     }
 
-    /// Adds the lines of the last boundaries, `most` at most. Fails if memory runs out.
+    /// Adds the last lines, `most` at most, with the names of places if there are any. Fails if memory runs out.
     pub(crate) fn push_last(
         &self,
         alloc: Global,
         text: &mut String,
+        names: &Option<SymbolTable>,
         most: usize,
     ) -> Result<(), AllocError>
         ensures { OnOk result (string_bytes text.new
-            ≡ string_bytes text.old ++ flat_map boundary_line (keep_last most self.now)) }
+            ≡ string_bytes text.old ++ flat_map (history_line names.now) (keep_last most self.now)) }
     {
-        let entries = self.entries.to_vec(alloc)?;
-        let first = entries.len().saturating_sub(most);
-        push_boundaries(text, &entries[first..])
+        let lines = self.lines.to_vec(alloc)?;
+        let first = lines.len().saturating_sub(most);
+        push_lines(text, names, &lines[first..])
+    }
+}
+
+/// Appends a boundary: the last line counts up, or the boundary gets a line of its own, in place of the oldest one if the
+/// buffer is full.
+#[tactic(auto, unfolding(crate::specs::Fold::added), using(crate::proofs::Fits::kept_fit, crate::proofs::Fits::replaced_fit))]
+fn push_entry(lines: &mut HeapCircularBuffer<Line>, entry: Entry)
+    requires before { All Fits lines.old.items }
+    requires entry { FitsLine entry }
+    ensures lines { lines.new ≡ buffer
+        (keep_last lines.old.capacity (added entry lines.old.items)) lines.old.capacity }
+    ensures fit { All Fits lines.new.items }
+{
+    // The proof needs the type of an event spelled out here.
+    let _event = event_in(&entry.happening);
+    match counted_up(lines.back(), &entry) {
+        Some(line) => replace_last(lines, line),
+        None => push_last(lines, Line::alone(entry)),
     }
 }
 
@@ -131,6 +152,26 @@ fn push_last<T: Drop>(items: &mut HeapCircularBuffer<T>, item: T)
     items.push_back(item);
 }
 
+/// Replaces the last item.
+fn replace_last<T: Drop>(items: &mut HeapCircularBuffer<T>, item: T)
+    ensures { items.new ≡ buffer
+        (keep_last items.old.capacity (take (length items.old.items - 1) items.old.items ++ item ∷ [])) items.old.capacity }
+{
+    items.pop_back();
+    items.push_back(item);
+}
+
+/// Returns a last line with one more boundary, or `None` if that needs a line of its own.
+fn counted_up(line: Option<&Line>, entry: &Entry) -> Option<Line>
+    ensures line { result ≡ counted_up (option_copied line.entry) entry.now }
+    ensures last { IfSome result (λ line. line.last ≡ entry.now) }
+{
+    match line {
+        Some(line) => line.with(entry),
+        None => None,
+    }
+}
+
 /// Returns the event that comes next, if one does.
 fn event_in(happening: &Upcoming) -> Option<What> {
     match happening {
@@ -139,25 +180,18 @@ fn event_in(happening: &Upcoming) -> Option<What> {
     }
 }
 
-/// Adds the lines of these boundaries.
-fn push_boundaries(text: &mut String, entries: &[Entry]) -> Result<(), AllocError>
-    requires { All FitsLine entries.now }
+/// Adds these lines, with the names of places if there are any.
+fn push_lines(
+    text: &mut String,
+    names: &Option<SymbolTable>,
+    lines: &[Line],
+) -> Result<(), AllocError>
+    requires { All Fits lines.now }
     ensures { OnOk result (string_bytes text.new
-        ≡ string_bytes text.old ++ flat_map boundary_line entries.now) }
+        ≡ string_bytes text.old ++ flat_map (history_line names.now) lines.now) }
 {
-    for entry in entries {
-        push_boundary(text, entry)?;
+    for line in lines {
+        push_history_line(text, names, line)?;
     }
     Ok(())
-}
-
-/// Adds the line of a boundary.
-#[tactic(auto, unfolding(crate::specs::Inspector::boundary_line))]
-fn push_boundary(text: &mut String, entry: &Entry) -> Result<(), AllocError>
-    requires { FitsLine entry.now }
-    ensures { OnOk result (string_bytes text.new
-        ≡ string_bytes text.old ++ boundary_line entry.now) }
-{
-    text.push_str(" ")?;
-    push_line(text, entry)
 }

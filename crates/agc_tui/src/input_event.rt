@@ -1,5 +1,6 @@
 //! Decodes typed bytes: keys of the DSKY, commands to the program, and the terminal's own reports.
 use crate::keyboard::Button;
+use crate::search::Search;
 
 /// An event decoded from the terminal's bytes.
 #[derive(Clone, Copy, Debug, PartialEq, Eq)]
@@ -12,6 +13,8 @@ pub enum InputEvent {
     Step,
     /// Go back in time.
     Back,
+    /// Search in time.
+    Search(Search),
     Faster,
     Slower,
     /// Show or hide the inspector.
@@ -125,10 +128,16 @@ fn event_of(byte: u8) -> Option<InputEvent> {
         b't' => Some(InputEvent::Tables),
         b's' => Some(InputEvent::Save),
         b'q' | 0x03 | 0x04 => Some(InputEvent::Quit),
-        _ => match Button::from_byte(byte) {
-            Some(button) => Some(InputEvent::Key(button)),
-            None => None,
-        },
+        _ => key_or_search(byte),
+    }
+}
+
+/// Returns the key of the DSKY or the search that a byte types.
+fn key_or_search(byte: u8) -> Option<InputEvent> {
+    match (Button::from_byte(byte), Search::from_byte(byte)) {
+        (Some(button), _) => Some(InputEvent::Key(button)),
+        (None, Some(search)) => Some(InputEvent::Search(search)),
+        (None, None) => None,
     }
 }
 

@@ -7,35 +7,41 @@ use crate::history::History;
 use agc_machine::Machine;
 use agc_panel::{WatchSpec, watch};
 use agc_session::Session;
-use agc_trace::{push_next_line, push_registers_line};
+use agc_symbols::SymbolTable;
+use agc_trace::{push_next_line_with, push_registers_line};
 use std::alloc::{AllocError, Global};
 
-/// Adds the last boundaries of a session, `most` at most, its registers, and what comes next, each a line after a
-/// space. Fails if memory runs out.
+/// Adds the last boundaries of a session, in `most` lines at most, its registers, and what comes next, each a line after
+/// a space. With a symbol table, the name of an order's place stands beside it. Fails if memory runs out.
 pub fn push_inspector(
     alloc: Global,
     text: &mut String,
+    names: &Option<SymbolTable>,
     history: &History,
     most: usize,
     session: &Session,
 ) -> Result<(), AllocError>
     ensures { OnOk result (string_bytes text.new
-        ≡ string_bytes text.old ++ inspector most history.now session.now.now) }
+        ≡ string_bytes text.old ++ inspector names.now most history.now session.now.now) }
 {
-    history.push_last(alloc, text, most)?;
-    push_state(text, session.machine())
+    history.push_last(alloc, text, names, most)?;
+    push_state(text, names, session.machine())
 }
 
 /// Adds the registers, and what comes next.
 #[tactic(auto, unfolding(crate::specs::Inspector::state_lines))]
-fn push_state(text: &mut String, machine: &Machine) -> Result<(), AllocError>
+fn push_state(
+    text: &mut String,
+    names: &Option<SymbolTable>,
+    machine: &Machine,
+) -> Result<(), AllocError>
     ensures { OnOk result (string_bytes text.new
-        ≡ string_bytes text.old ++ state_lines machine.now) }
+        ≡ string_bytes text.old ++ state_lines names.now machine.now) }
 {
     text.push_str(" ")?;
     push_registers_line(text, machine.store())?;
     text.push_str(" ")?;
-    push_next_line(text, machine.upcoming())
+    push_next_line_with(text, names, machine.upcoming())
 }
 
 /// Adds the Executive's tables of a session, as `agc` prints them. Fails if memory runs out or the places of the

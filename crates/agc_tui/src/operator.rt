@@ -1,15 +1,17 @@
 //! The operator: queues typed keys and presses each one when the machine can accept it.
-ghost use Rattle.std.specs.Prelude.{OnOk};
+ghost use Rattle.std.specs.Prelude.{◌≡◌, ◌^◌, ◌-◌, [], false, true, IfOk, IfSome, IsSome, IsTrue, None, OnErr, OnOk, Some};
 ghost use Rattle.std.specs.Io.KnownBytes.{Appends};
 ghost use Rattle.agc_script.specs.Event.{IsWhatInRange};
 ghost use Rattle.agc_script.specs.Written.{script_text};
+ghost use Rattle.agc_session.specs.Breakpoint.{HasRunTo, IsBreakpointInRange, IsFoundBack};
 ghost use Rattle.agc_session.specs.Session.{script_of};
+ghost use Rattle.agc_tui.specs.Operator.{HasBegunBack, HasSought, IsCutAt, IsIdle, IsRerunOf, Keeps, is_held};
 
 use crate::history::{History, KEPT};
 use crate::keyboard::Button;
 use agc_machine::{Machine, Stop};
 use agc_script::{MOST_EVENTS, Script, What};
-use agc_session::{InjectFault, Session};
+use agc_session::{Breakpoint, InjectFault, Session};
 use std::alloc::{AllocError, Global};
 use std::io::{self, Write};
 
@@ -20,8 +22,9 @@ const SPACING: u64 = 8_533;
 /// The number of cycles that PRO is held: a fifth of a second.
 const PRO_HELD: u64 = 17_067;
 
-/// The most cycles that the boundaries of a full history take: no boundary takes more than six.
-const RECENT_CYCLES: u64 = 72;
+/// The last cycles of a rerun, a tenth of a second, whose boundaries are taken one by one: they fill a history, because no
+/// boundary takes more than six, and count an idle loop.
+const RECENT_CYCLES: u64 = 8_533;
 
 /// A key press.
 #[derive(Clone, Copy, Debug, PartialEq, Eq)]
@@ -38,6 +41,8 @@ struct Press {
 struct Rerun {
     /// The cycle that it runs to.
     to: u64,
+    /// Whether it takes the events of that cycle too.
+    with_events: bool,
     /// The cycle of the session at its end, and the limit with which `agc` gets as far.
     end: u64,
     limit: u64,
@@ -111,17 +116,16 @@ impl Operator {
         let cycle = self.cycle();
         match self.machine().stopped() {
             Some(Stop::Limit) => cycle.max(1),
-            None if !self.has_just_pressed() => cycle.max(1),
-            _ => cycle.saturating_add(1),
+            None => self.limit_at(cycle),
+            Some(_) => cycle.saturating_add(1),
         }
     }
 
-    /// Returns whether a key was pressed, or PRO released, at the present cycle.
-    fn has_just_pressed(&self) -> bool {
-        let cycle = self.cycle();
+    /// Returns the limit with which `agc` gets to a cycle, and takes a key that was pressed last at it.
+    fn limit_at(&self, cycle: u64) -> u64 {
         match self.pressed.last() {
-            Some(last) => last.released.unwrap_or(last.cycle) == cycle,
-            None => false,
+            Some(last) if last.released.unwrap_or(last.cycle) == cycle => cycle.saturating_add(1),
+            _ => cycle.max(1),
         }
     }
 
@@ -132,10 +136,22 @@ impl Operator {
             if cycle <= self.cycle() || self.has_stopped() {
                 return Ok(());
             }
-            let next = cycle.min(self.next_due());
+            let next = self.next_pause(cycle);
             self.run_to(next);
         }
         Ok(())
+    }
+
+    /// Presses the keys that are due, and runs to the first boundary that hits a breakpoint, but not past `cycle`, the stop
+    /// or the cycle at which the next key is due. Returns whether one has hit.
+    pub fn seek(&mut self, breakpoint: Breakpoint, cycle: u64) -> Result<bool, InjectFault>
+        requires { IsBreakpointInRange breakpoint }
+        ensures sought { IfOk result (HasSought breakpoint cycle self.old self.new.session) }
+        ensures kept { Keeps self.old.session self.new.session }
+    {
+        self.press_due()?;
+        let end = self.next_pause(cycle);
+        Ok(self.run_until(breakpoint, end))
     }
 
     /// Takes one boundary, after the keys that are due.
@@ -159,11 +175,24 @@ impl Operator {
         self.session.go_to(cycle);
     }
 
+    /// Runs to the first boundary that hits a breakpoint, or to `cycle` or the stop, without recording boundaries. Returns
+    /// whether one has hit.
+    fn run_until(&mut self, breakpoint: Breakpoint, cycle: u64) -> bool
+        requires { IsBreakpointInRange breakpoint }
+        ensures { HasRunTo breakpoint cycle self.old.session self.new.session result }
+    {
+        self.history.forget();
+        self.session.go_until(breakpoint, cycle)
+    }
+
     /// Takes one boundary, or none if the machine has stopped.
-    fn take_boundary(&mut self) {
-        if !self.has_stopped() {
-            self.history.step(&mut self.session);
+    fn take_boundary(&mut self)
+        ensures { Keeps self.old.session self.new.session }
+    {
+        if self.has_stopped() {
+            return;
         }
+        self.history.step(&mut self.session);
     }
 
     /// Runs to `cycle` or to the stop, and takes the last boundaries one by one so that they are recorded.
@@ -183,12 +212,21 @@ impl Operator {
     }
 
     /// Returns the cycle at which the next key is pressed or PRO released, or the largest number if nothing is due.
-    fn next_due(&self) -> u64 {
+    fn next_due(&self) -> u64
+        ensures { IsIdle self.now → result ≡ 2 ^ 64 - 1 }
+    {
         let up = self.release_due().unwrap_or(u64::MAX);
         match self.waiting.first() {
             Some(_) if up == u64::MAX => self.press_possible(),
             _ => up,
         }
+    }
+
+    /// Returns a cycle, or the one at which the next key is due if that is sooner.
+    fn next_pause(&self, cycle: u64) -> u64
+        ensures { IsIdle self.now → result ≡ cycle }
+    {
+        cycle.min(self.next_due())
     }
 
     /// Returns the cycle from which on a key may be pressed: some time after the last press, or after the release of
@@ -201,7 +239,9 @@ impl Operator {
     }
 
     /// Returns the cycle at which PRO is released, if it is down.
-    fn release_due(&self) -> Option<u64> {
+    fn release_due(&self) -> Option<u64>
+        ensures { IsSome result → IsTrue (is_held self.now.pressed.items) }
+    {
         match self.pressed.last() {
             Some(
                 Press {
@@ -216,7 +256,11 @@ impl Operator {
 
     /// Releases PRO if that is due, and presses the next key if possible. A machine that has stopped takes no keys,
     /// so those that wait are dropped.
-    fn press_due(&mut self) -> Result<(), InjectFault> {
+    fn press_due(&mut self) -> Result<(), InjectFault>
+        ensures kept { Keeps self.old.session self.new.session }
+        ensures same { IsIdle self.old → self.new.session ≡ self.old.session }
+        ensures idle { IsIdle self.old → IsIdle self.new }
+    {
         if self.has_stopped() {
             self.waiting.clear();
             return Ok(());
@@ -238,33 +282,32 @@ impl Operator {
     /// Releases PRO. If the event cannot be injected, PRO still counts as released, so that it does not hold up the
     /// machine.
     #[tactic(auto, unfolding(agc_script::specs::Event::IsWhatInRange))]
-    fn release(&mut self) -> Result<(), InjectFault> {
+    fn release(&mut self) -> Result<(), InjectFault>
+        ensures { Keeps self.old.session self.new.session }
+    {
         let injected = self.inject(What::Pro(false));
         let cycle = self.cycle();
-        if let Some(last) = self.pressed.last_mut() {
-            last.released = Some(cycle);
-        }
+        release_last(&mut self.pressed, cycle);
         injected
     }
 
     /// Presses the first waiting key, if there is one. If that fails, drops all that wait.
-    fn press_first(&mut self) -> Result<(), InjectFault> {
+    fn press_first(&mut self) -> Result<(), InjectFault>
+        ensures kept { Keeps self.old.session self.new.session }
+        ensures none { self.old.waiting.items ≡ [] → self.new ≡ self.old }
+    {
         let Some(button) = self.waiting.first().copied() else {
             return Ok(());
         };
         let pressed = self.press(button);
-        match pressed {
-            Ok(()) if !self.waiting.is_empty() => {
-                self.waiting.remove(0);
-            }
-            Ok(()) => {}
-            Err(_) => self.waiting.clear(),
-        }
+        drop_first(&mut self.waiting, pressed.is_ok());
         pressed
     }
 
     /// Presses a key, and records that.
-    fn press(&mut self, button: Button) -> Result<(), InjectFault> {
+    fn press(&mut self, button: Button) -> Result<(), InjectFault>
+        ensures { Keeps self.old.session self.new.session }
+    {
         if self.pressed.reserve(1).is_err() {
             return Err(InjectFault::Memory);
         }
@@ -284,15 +327,24 @@ impl Operator {
     /// Injects an event, after the events of the script that are due.
     fn inject(&mut self, what: What) -> Result<(), InjectFault>
         requires { IsWhatInRange what }
+        ensures { Keeps self.old.session self.new.session }
     {
         self.session.make_room()?;
+        self.take_events();
+        self.history.inject(&mut self.session, what)?;
+        Ok(())
+    }
+
+    /// Takes the events that are due at the present cycle.
+    fn take_events(&mut self)
+        ensures { Keeps self.old.session self.new.session }
+    {
         for _event in 0..2 * MOST_EVENTS {
             if self.machine().wants_key() || self.has_stopped() {
-                break;
+                return;
             }
             self.take_boundary();
         }
-        self.history.inject(&mut self.session, what)
     }
 
     /// Begins to go back to `cycle`, and discards the keys pressed at it or later and all that wait. A PRO that was down
@@ -301,27 +353,91 @@ impl Operator {
     pub fn back(self, alloc: Global, cycle: u64) -> (Operator, bool) {
         let rerun = Rerun {
             to: cycle,
+            with_events: false,
             end: cycle,
             limit: cycle.max(1),
         };
+        self.return_to(alloc, cycle, rerun)
+    }
+
+    /// Begins to go back to where the last boundary before now began that hits a breakpoint, and discards the keys pressed
+    /// after that and all that wait. [`rerun`](Operator::rerun) does the rest. Returns the cycle. If there was no such
+    /// boundary, or memory ran out, nothing has changed.
+    pub fn back_to_last(
+        self,
+        alloc: Global,
+        breakpoint: Breakpoint,
+    ) -> (Operator, Result<Option<u64>, AllocError>)
+        requires { IsBreakpointInRange breakpoint }
+        ensures found { IfOk result.1 (IsFoundBack breakpoint 1 self.session) }
+        ensures back { IfOk result.1 (λ found. IfSome found (λ cycle. HasBegunBack cycle self result.0)) }
+        ensures none { IfOk result.1 (λ found. found ≡ None → result.0 ≡ self) }
+        ensures memory { OnErr result.1 (result.0 ≡ self) }
+    {
+        match self.session.last_hit(alloc, breakpoint, 1) {
+            Ok(Some(cycle)) => {
+                let (operator, is_new) = self.back_to_events(alloc, cycle);
+                if is_new {
+                    (operator, Ok(Some(cycle)))
+                } else {
+                    (operator, Err(AllocError))
+                }
+            }
+            Ok(None) => (self, Ok(None)),
+            Err(AllocError) => (self, Err(AllocError)),
+        }
+    }
+
+    /// Begins to go back to after the events of a cycle. Returns false if memory ran out; then nothing has changed.
+    fn back_to_events(self, alloc: Global, cycle: u64) -> (Operator, bool)
+        ensures back { result.1 ≡ true → HasBegunBack cycle self result.0 }
+        ensures memory { result.1 ≡ false → result.0 ≡ self }
+    {
+        let rerun = Rerun {
+            to: cycle,
+            with_events: true,
+            end: cycle,
+            limit: cycle.max(1),
+        };
+        let after = cycle.saturating_add(1);
+        self.return_to(alloc, after, rerun)
+    }
+
+    /// Begins a rerun that goes back, and discards the keys pressed at `cycle` or later and all that wait.
+    fn return_to(self, alloc: Global, cycle: u64, rerun: Rerun) -> (Operator, bool)
+        ensures cut { result.1 ≡ true → IsCutAt cycle self.session result.0.session }
+        ensures rerun { result.1 ≡ true → IsRerunOf rerun result.0 }
+        ensures memory { result.1 ≡ false → result.0 ≡ self }
+    {
         let (mut operator, is_new) = self.rewind(alloc, cycle, rerun);
         if is_new {
             operator.waiting.clear();
             forget_from(&mut operator.pressed, cycle);
+            operator.rerun = Some(Rerun {
+                limit: operator.limit_at(rerun.end),
+                ..rerun
+            });
+            return (operator, true);
         }
-        (operator, is_new)
+        (operator, false)
     }
 
-    /// Begins to rebuild an empty history of a stopped machine, by a rerun to its stop. If memory runs out, nothing has
+    /// Begins to rebuild an empty history, by a rerun to the present cycle or to the stop. If memory runs out, nothing has
     /// changed.
     pub fn rebuild_history(self, alloc: Global) -> Operator {
-        let stop = self.cycle();
-        if !self.has_stopped() || !self.history.is_empty() {
+        let end = self.cycle();
+        let to = if self.has_stopped() {
+            end.saturating_add(1)
+        } else {
+            end
+        };
+        if to == 0 || self.rerun.is_some() || !self.history.is_empty() {
             return self;
         }
         let rerun = Rerun {
-            to: stop.saturating_add(1),
-            end: stop,
+            to,
+            with_events: false,
+            end,
             limit: self.limit_to_repeat(),
         };
         let (operator, _is_new) = self.rewind(alloc, u64::MAX, rerun);
@@ -347,13 +463,20 @@ impl Operator {
             self.run_to(next);
         } else {
             self.come_to(rerun.to);
+            if rerun.with_events {
+                self.take_events();
+            }
             self.rerun = None;
         }
     }
 
     /// Takes the session back without the events injected at `cycle` or later, to the newest copy from which a rerun comes
     /// to all its last boundaries. Returns false if memory ran out; then nothing has changed.
-    fn rewind(self, alloc: Global, cycle: u64, rerun: Rerun) -> (Operator, bool) {
+    fn rewind(self, alloc: Global, cycle: u64, rerun: Rerun) -> (Operator, bool)
+        ensures cut { result.1 ≡ true → IsCutAt cycle self.session result.0.session }
+        ensures rerun { result.1 ≡ true → result.0.rerun ≡ Some rerun }
+        ensures memory { result.1 ≡ false → result.0 ≡ self }
+    {
         let Operator {
             session,
             mut history,
@@ -362,21 +485,29 @@ impl Operator {
             rerun: before,
         } = self;
         let first_recent = rerun.to.saturating_sub(RECENT_CYCLES);
-        let (session, is_new) = match session.rewind_near(alloc, cycle, first_recent) {
-            Ok(rewound) => (rewound.session, true),
-            Err(same) => (same.session, false),
-        };
-        if is_new {
-            history.forget();
+        match session.rewind_near(alloc, cycle, first_recent) {
+            Ok(rewound) => {
+                history.forget();
+                let operator = Operator {
+                    session: rewound.session,
+                    history,
+                    waiting,
+                    pressed,
+                    rerun: Some(rerun),
+                };
+                (operator, true)
+            }
+            Err(same) => {
+                let operator = Operator {
+                    session: same.session,
+                    history,
+                    waiting,
+                    pressed,
+                    rerun: before,
+                };
+                (operator, false)
+            }
         }
-        let operator = Operator {
-            session,
-            history,
-            waiting,
-            pressed,
-            rerun: if is_new { Some(rerun) } else { before },
-        };
-        (operator, is_new)
     }
 
     /// Returns the number of keys pressed.
@@ -404,6 +535,22 @@ impl Operator {
             (script_text (script_of self.now.session))) }
     {
         self.session.write_script(line, out)
+    }
+}
+
+/// Drops the first waiting key, which was pressed, or all if it was refused.
+fn drop_first(waiting: &mut Vec<Button>, is_pressed: bool) {
+    if is_pressed && !waiting.is_empty() {
+        waiting.remove(0);
+    } else {
+        waiting.clear();
+    }
+}
+
+/// Sets the cycle at which the key that was pressed last was released.
+fn release_last(pressed: &mut [Press], cycle: u64) {
+    if let Some(last) = pressed.last_mut() {
+        last.released = Some(cycle);
     }
 }
 

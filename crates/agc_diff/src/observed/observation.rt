@@ -5,7 +5,8 @@ ghost use Rattle.agc_panel.specs.Text.{panel_text};
 ghost use Rattle.agc_diff.specs.Observation.{InPrint, OnChannel, changed_panel, look_of, shown_at, word_of};
 
 use crate::observed::diff_by::DiffBy;
-use agc_panel::{Panel, show_alike};
+use crate::observed::face::show_same;
+use agc_panel::Panel;
 use agc_word::{ChannelWrite, Narrow};
 use std::alloc::{AllocError, Global};
 
@@ -73,7 +74,7 @@ fn changed_panel(
 ) -> Result<Option<Observation>, AllocError>
     ensures { IfOk result (λ shown. shown ≡ changed_panel before.now after.now cycle) }
 {
-    if show_alike(alloc, before, after)? {
+    if show_same(alloc, before, after)? {
         return Ok(None);
     }
     Ok(Some(Observation {
@@ -110,6 +111,6 @@ fn shows_panel(alloc: Global, sight: Observed, wanted: &Panel) -> Result<bool, A
 {
     match sight {
         Observed::Word { .. } => Ok(false),
-        Observed::Panel(panel) => show_alike(alloc, wanted, &panel),
+        Observed::Panel(panel) => show_same(alloc, wanted, &panel),
     }
 }

@@ -1,5 +1,5 @@
 //! Tests command lines: the worked ones, defaults, and the two forms of an option.
-use agc_cli::{ArgsFault, Options, fault_of, not_text, parse_args};
+use agc_cli::{ArgsFault, Options, fault_of, parse_args};
 use agc_store::RopeForm;
 use clap::Command;
 use std::process::Abort;

@@ -1,8 +1,8 @@
 //! Tests the ring: slots, blocks, and what is left when both ends come together.
 mod live;
 mod memory;
+mod reported;
 mod shown;
-mod told;
 
 ghost use Rattle.std.specs.Prelude.{◌≡◌};
 ghost use Rattle.agc_ring.specs.Item.{IsOutside};

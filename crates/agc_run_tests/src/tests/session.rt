@@ -47,7 +47,12 @@ STOP Limit CYCLE 10 WRITES 1
 }
 
 /// Checks the status of a session with a ring of `slots` slots, and what it writes to its two streams.
-fn ends(rt: &impl Host, slots: usize, mut rope: &[u8], (status, told, refused): (u8, &str, &str)) {
+fn ends(
+    rt: &impl Host,
+    slots: usize,
+    mut rope: &[u8],
+    (status, reported, refused): (u8, &str, &str),
+) {
     let (mut script, mut keys): (&[u8], &[u8]) = (b"", b"");
     let mut out = Vec::new(rt.alloc());
     let mut err = Vec::new(rt.alloc());
@@ -64,7 +69,7 @@ fn ends(rt: &impl Host, slots: usize, mut rope: &[u8], (status, told, refused): 
         &mut err,
     );
     let is_so = ended == status
-        && out.as_slice() == told.as_bytes()
+        && out.as_slice() == reported.as_bytes()
         && err.as_slice() == refused.as_bytes();
     assert!(rt; is_so, "{slots} slots");
 }

@@ -67,7 +67,7 @@ fn many(rt: &(impl AllocGlobal + Abort), byte: u8, times: usize) -> Vec<u8> {
 
 /// A session: the words after `agc rope script`, its rope, and the bytes of its other files.
 #[derive(Clone, Copy)]
-struct Asked<'a> {
+struct Requested<'a> {
     line: &'a str,
     rope: GivenRope<'a>,
     script: &'a [u8],
@@ -75,8 +75,8 @@ struct Asked<'a> {
 }
 
 /// Returns a session on the words of a listing, without live keys.
-fn without_keys<'a>(line: &'a str, listing: &'a str, script: &'a [u8]) -> Asked<'a> {
-    Asked {
+fn without_keys<'a>(line: &'a str, listing: &'a str, script: &'a [u8]) -> Requested<'a> {
+    Requested {
         line,
         rope: GivenRope::Listing(listing),
         script,
@@ -85,8 +85,8 @@ fn without_keys<'a>(line: &'a str, listing: &'a str, script: &'a [u8]) -> Asked<
 }
 
 /// Returns a session on the bytes of a rope file, without live keys.
-fn on_file<'a>(line: &'a str, file: &'a [u8], script: &'a [u8]) -> Asked<'a> {
-    Asked {
+fn on_file<'a>(line: &'a str, file: &'a [u8], script: &'a [u8]) -> Requested<'a> {
+    Requested {
         line,
         rope: GivenRope::File(file),
         script,
@@ -95,7 +95,7 @@ fn on_file<'a>(line: &'a str, file: &'a [u8], script: &'a [u8]) -> Asked<'a> {
 }
 
 /// Returns an idle run of ten cycles on a script.
-fn idle_on(script: &[u8]) -> Asked<'_> {
+fn idle_on(script: &[u8]) -> Requested<'_> {
     without_keys("--limit 10", IDLE, script)
 }
 
@@ -122,17 +122,22 @@ fn options(rt: &(impl AllocGlobal + Abort), line: &str) -> Options {
 }
 
 /// Runs a session over memory through a gate.
-fn run_gated<G: Gate + Sync>(rt: &impl Host, asked: Asked<'_>, gate: &G) -> Ended {
-    match asked.rope {
-        GivenRope::Listing(listing) => run_on(rt, asked, file_of(rt, listing).as_slice(), gate),
-        GivenRope::File(file) => run_on(rt, asked, file, gate),
+fn run_gated<G: Gate + Sync>(rt: &impl Host, requested: Requested<'_>, gate: &G) -> Ended {
+    match requested.rope {
+        GivenRope::Listing(listing) => run_on(rt, requested, file_of(rt, listing).as_slice(), gate),
+        GivenRope::File(file) => run_on(rt, requested, file, gate),
     }
 }
 
 /// Does the same on the bytes of its rope.
-fn run_on<G: Gate + Sync>(rt: &impl Host, asked: Asked<'_>, mut rope: &[u8], gate: &G) -> Ended {
-    let (mut script, mut keys) = (asked.script, asked.keys);
-    run_files(rt, asked.line, &mut rope, &mut script, &mut keys, gate)
+fn run_on<G: Gate + Sync>(
+    rt: &impl Host,
+    requested: Requested<'_>,
+    mut rope: &[u8],
+    gate: &G,
+) -> Ended {
+    let (mut script, mut keys) = (requested.script, requested.keys);
+    run_files(rt, requested.line, &mut rope, &mut script, &mut keys, gate)
 }
 
 /// Runs a session on these files through a gate.
@@ -186,21 +191,21 @@ fn status_of<W: Write, E: Write>(
 }
 
 /// Runs a session over memory, and checks its status and what it wrote.
-fn ends(rt: &impl Host, asked: Asked<'_>, status: u8, out: &str, err: &str) {
-    let ended = run_gated(rt, asked, &Open);
-    has_ended(rt, asked.line, &ended, status, out, err);
+fn ends(rt: &impl Host, requested: Requested<'_>, status: u8, out: &str, err: &str) {
+    let ended = run_gated(rt, requested, &Open);
+    has_ended(rt, requested.line, &ended, status, out, err);
 }
 
 /// Does the same for a run that stops: checks PROG's digits, the text after `STOP `, and what follows.
-fn stops(rt: &impl Host, asked: Asked<'_>, prog: &str, after: &str) {
+fn stops(rt: &impl Host, requested: Requested<'_>, prog: &str, after: &str) {
     let out = format!(in rt.alloc(); "PROG {prog}\n{REST}STOP {after}").expect(rt, "memory");
-    ends(rt, asked, OK, out.as_str(), "");
+    ends(rt, requested, OK, out.as_str(), "");
 }
 
 /// Does the same for a session that is rejected with this line.
-fn refuses(rt: &impl Host, asked: Asked<'_>, err: &str) {
+fn refuses(rt: &impl Host, requested: Requested<'_>, err: &str) {
     let err = format!(in rt.alloc(); "agc: {err}\n").expect(rt, "memory");
-    ends(rt, asked, REFUSED, "", err.as_str());
+    ends(rt, requested, REFUSED, "", err.as_str());
 }
 
 /// Checks the status of a session and what it wrote.
@@ -217,11 +222,11 @@ fn has_ended(rt: &impl Abort, line: &str, ended: &Ended, status: u8, out: &str, 
 }
 
 /// Checks that a session ended with this error line, or with a text if there is no line.
-fn ends_with(rt: &impl Abort, ended: &Ended, told: &str) {
-    let status = if told.is_empty() { OK } else { REFUSED };
-    assert!(rt; ended.err.as_slice() == told.as_bytes(), "{told}");
-    assert!(rt; ended.status == status, "{told}");
-    assert!(rt; ended.out.is_empty() != told.is_empty());
+fn ends_with(rt: &impl Abort, ended: &Ended, reported: &str) {
+    let status = if reported.is_empty() { OK } else { REFUSED };
+    assert!(rt; ended.err.as_slice() == reported.as_bytes(), "{reported}");
+    assert!(rt; ended.status == status, "{reported}");
+    assert!(rt; ended.out.is_empty() != reported.is_empty());
 }
 
 /// Returns the text of a session that ended at a stop and wrote no error.

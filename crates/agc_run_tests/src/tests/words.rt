@@ -1,5 +1,5 @@
 //! Tests words that are text and words that are not, from a list that replaces the system's.
-use agc_cli::{ArgsFault, options};
+use agc_cli::{ArgsFault, Options, parse_env};
 use std::env::FillError;
 use std::process::Abort;
 use std::rt::Env;
@@ -33,7 +33,7 @@ impl Env for Words<'_> {
 
 /// Returns the error text for these words.
 fn mistake(rt: &(impl AllocGlobal + Abort), words: &[&[u8]]) -> String {
-    match options(&(Words { words }, rt.alloc())) {
+    match parse_env::<Options, _>(&(Words { words }, rt.alloc())) {
         Err(ArgsFault::Command(text)) => text,
         _ => panic!(rt; "no mistake"),
     }
@@ -42,7 +42,7 @@ fn mistake(rt: &(impl AllocGlobal + Abort), words: &[&[u8]]) -> String {
 #[test]
 fn words_that_are_text(rt: HostRuntime) {
     let words = [b"agc".as_slice(), b"r", b"s", b"--limit", b"10"];
-    let options = options(&(Words { words: &words }, rt.alloc())).ok();
+    let options = parse_env::<Options, _>(&(Words { words: &words }, rt.alloc())).ok();
     let options = options.expect(&rt, "a good command line");
     assert!(rt; options.rope.as_str() == "r" && options.script.as_str() == "s");
     assert_eq!(rt; options.limit, 10);

@@ -10,10 +10,10 @@ fn answers(
     rt: &(impl AllocGlobal + Abort),
     listing: &str,
     script: &str,
-    said: &[u8],
+    parsed: &[u8],
     wanted: &str,
 ) {
-    answers_with(rt, &None, listing, script, said, wanted);
+    answers_with(rt, &None, listing, script, parsed, wanted);
 }
 
 /// Checks the answers to a text, with symbols.
@@ -22,11 +22,11 @@ fn answers_with(
     names: &Option<SymbolTable>,
     listing: &str,
     script: &str,
-    said: &[u8],
+    parsed: &[u8],
     wanted: &str,
 ) {
     let session = session_of(rt, listing, script, 1000);
-    let mut input = said;
+    let mut input = parsed;
     let mut output = Vec::new(rt.alloc());
     let ended = run_repl(rt.alloc(), session, names, &mut input, &mut output);
     equal(rt, ended, Ok(()));
@@ -45,7 +45,7 @@ fn joined(rt: &(impl AllocGlobal + Abort), parts: &[&[u8]]) -> Vec<u8> {
 
 #[test]
 fn ten_lines_are_answered_in_turn(rt: HostRuntime) {
-    let said = b"go to 3\nnext\nstep\nwrites\nkey VERB\n\ngo 10\nscript\nback 3\nwrites\n";
+    let parsed = b"go to 3\nnext\nstep\nwrites\nkey VERB\n\ngo 10\nscript\nback 3\nwrites\n";
     let wanted = "at 3
 next 4002 01010 WRITE 010
 at 3
@@ -62,12 +62,12 @@ at 3
 writes 0
 at 3
 ";
-    answers(&rt, RELAY_WORD, "", said, wanted);
+    answers(&rt, RELAY_WORD, "", parsed, wanted);
 }
 
 #[test]
-fn a_run_is_told_until_its_stop(rt: HostRuntime) {
-    let said = b"until write 10\nuntil 4002\ngo 9\ngo 9\nkey VERB\nback 0\n";
+fn a_run_is_reported_until_its_stop(rt: HostRuntime) {
+    let parsed = b"until write 10\nuntil 4002\ngo 9\ngo 9\nkey VERB\nback 0\n";
     let wanted = "write 1 010 00000
 came yes
 at 3
@@ -78,12 +78,12 @@ stop Edrupt at 4
 error: Stopped: the machine takes no event any more
 at 0
 ";
-    answers(&rt, EDRUPT, "", said, wanted);
+    answers(&rt, EDRUPT, "", parsed, wanted);
 }
 
 #[test]
 fn what_is_given_comes_after_the_events_that_are_due(rt: HostRuntime) {
-    let said =
+    let parsed =
         b"poke 0 100 1\nuntil cell 101 within 3\npoke 0 101 2\ncell 100 2\nscript\ngo to 1000\nkey VERB\n";
     let wanted = "at 0
 came no
@@ -99,12 +99,12 @@ at 3
 at 1000
 error: Stopped: the machine takes no event any more
 ";
-    answers(&rt, IDLE, "0 poke 0 100 7\n", said, wanted);
+    answers(&rt, IDLE, "0 poke 0 100 7\n", parsed, wanted);
 }
 
 #[test]
 fn a_line_of_121_bytes_is_refused_once(rt: HostRuntime) {
-    let said = joined(
+    let parsed = joined(
         &rt,
         &[
             &[b' '; 121],
@@ -119,7 +119,7 @@ fn a_line_of_121_bytes_is_refused_once(rt: HostRuntime) {
 at 0
 error: LineTooLong: a line has at most 120 bytes
 ";
-    answers(&rt, DIVISION, "", said.as_slice(), wanted);
+    answers(&rt, DIVISION, "", parsed.as_slice(), wanted);
 }
 
 #[test]
@@ -127,20 +127,40 @@ fn a_last_line_needs_no_line_feed(rt: HostRuntime) {
     answers(&rt, IDLE, "", b"# nothing\r\ngo 5", "at 0\nat 5\n");
 }
 
-/// The order that writes is one word past OUT.
+/// The order that writes is one word past OUT. NONE is three edits from OUT, and as many from END.
 #[test]
 fn orders_show_the_names_of_their_places(rt: HostRuntime) {
     let names = SymbolTable::read(rt.alloc(), b"4001 OUT\n4003 END\n").ok();
-    let said = b"until OUT+1\nnext\nstep\nuntil NONE\nuntil END within 0\n";
+    let parsed = b"until OUT+1\nnext\nstep\nuntil NONE\ncell ZRUP\nuntil END within 0\n";
     let wanted = "came yes
 at 3
 next 4002 OUT +1       01010 WRITE 010
 at 3
 3 4002 OUT +1       01010 WRITE 010 > 010 54171 | A 154171 L 00000 Q 000000 Z 4004 EB 0 FB 00
 at 5
-error: BadPlace: a place is octal, such as 0100, 4100, 12,2000 or E3,1400, or a name of --names
+error: BadPlace: unknown name; did you mean OUT?
+error: BadPlace: unknown name; did you mean ZRUPT?
 came no
 at 5
 ";
-    answers_with(&rt, &names, RELAY_WORD, "", said, wanted);
+    answers_with(&rt, &names, RELAY_WORD, "", parsed, wanted);
+}
+
+/// KEYRUPT1 has its words from 4024 on, four past KEYS. When it came, the order at WAIT was in hand.
+#[test]
+fn a_machine_is_at_an_order_or_in_a_service(rt: HostRuntime) {
+    let names = SymbolTable::read(rt.alloc(), b"4000 WAIT\n4020 KEYS\n").ok();
+    let parsed = b"go 5\nwhere\nkey VERB\ngo 1\nwhere\nwhere x\n";
+    let wanted = "at 5
+where 4000 WAIT
+at 5
+at 5
+at 8
+where 4024 KEYS +4
+service interrupted 4000 WAIT
+at 8
+error: Usage: where
+";
+    answers_with(&rt, &names, IDLE, "", parsed, wanted);
+    answers(&rt, IDLE, "", b"where\n", "where 4000\nat 0\n");
 }

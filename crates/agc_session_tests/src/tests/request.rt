@@ -2,7 +2,7 @@
 use super::equal_at;
 use agc_listing::Location;
 use agc_panel::{Table, WatchFault, WatchSpec};
-use agc_repl::{Breakpoint, Command, CommandFault, CommandName, parse_command};
+use agc_repl::{Breakpoint, Command, CommandFault, CommandName, Meant, parse_command};
 use agc_script::{FaultKind, Key, What};
 use agc_symbols::SymbolTable;
 use agc_word::Narrow;
@@ -218,8 +218,31 @@ fn a_name_stands_for_its_place(rt: HostRuntime) {
     shows_cells(&rt, &names, b"cell END-1", 0o3776, 1);
     reads(&rt, &names, b"cell END+1", Err(CommandFault::BadPlace));
     reads(&rt, &names, b"cell LOOP", Err(CommandFault::NotErasable));
-    reads(&rt, &names, b"until loop", Err(CommandFault::BadPlace));
     refuses(&rt, b"until LOOP", CommandFault::BadPlace);
+}
+
+/// An unknown name is answered by the nearest: `CUONT` is two changes from COUNT, and `TINE2` one from TIME2, number 21
+/// of the computer's own. Numbers, words with a comma and words of nine letters are no names.
+#[test]
+fn the_nearest_name_was_meant(rt: HostRuntime) {
+    let text = b"4071 LOOP\nE3,1500 COUNT\nE7,1777 END\n4100 TIMED\n";
+    let names = SymbolTable::read(rt.alloc(), text).ok();
+    meant(&rt, &names, b"until loop", Meant::Symbol(0));
+    meant(&rt, &names, b"break CUONT+2", Meant::Symbol(1));
+    meant(&rt, &names, b"print COUNT2 5", Meant::Symbol(1));
+    meant(&rt, &names, b"watch EDN", Meant::Symbol(2));
+    meant(&rt, &names, b"cell TIME", Meant::Symbol(3));
+    meant(&rt, &names, b"break cell TINE2", Meant::Own(21));
+    meant(&rt, &names, b"until cell NRAD", Meant::Own(34));
+    reads(&rt, &names, b"cell COUNTINGS", Err(CommandFault::BadPlace));
+    reads(&rt, &names, b"cell COUNT,1", Err(CommandFault::BadPlace));
+    reads(&rt, &names, b"cell 9999", Err(CommandFault::BadPlace));
+    refuses(&rt, b"cell TIME", CommandFault::BadPlace);
+}
+
+/// Checks that a line with symbols has an unknown name, and which one was meant.
+fn meant(rt: &impl Abort, names: &Option<SymbolTable>, line: &[u8], name: Meant) {
+    reads(rt, names, line, Err(CommandFault::UnknownName(name)));
 }
 
 /// Checks that a line with symbols runs until the order at a location.

@@ -20,7 +20,7 @@ fn press_at(rt: &impl Abort, session: &mut Session, cycle: u64, key: Key) {
 }
 
 /// Checks the text of the session's script, exported and written.
-fn tells(rt: &(impl AllocGlobal + Abort), session: &Session, wanted: &str) {
+fn reports(rt: &(impl AllocGlobal + Abort), session: &Session, wanted: &str) {
     has_text(rt, session.script(rt.alloc()), wanted);
     writes(rt, session, wanted);
     equal(rt, session.events(), wanted.lines().count());
@@ -50,7 +50,7 @@ fn back(rt: &(impl AllocGlobal + Abort), session: Session, cycle: u64) -> Sessio
 /// The program jumps to itself, one cycle a turn. A key at 4 comes after the script's own event of 4.
 #[test]
 #[tactic(auto, unfolding(agc_script::specs::Event::IsWhatInRange))]
-fn what_is_given_is_told(rt: HostRuntime) {
+fn what_is_injected_is_reported(rt: HostRuntime) {
     let mut session = session_of(&rt, IDLE, "4 pro down\n9 pro up\n", 20);
     session.go_to(4);
     is_at(&rt, &session, 4);
@@ -59,12 +59,12 @@ fn what_is_given_is_told(rt: HostRuntime) {
     press(&rt, &mut session, Key::Verb, Ok(()));
     equal(&rt, session.inject(What::Raise(9)), Ok(()));
     let want = "4 pro down\n4 key VERB\n4 raise 9\n9 pro up\n";
-    tells(&rt, &session, want);
+    reports(&rt, &session, want);
     session.go_to(100);
     equal(&rt, session.step(), Stepped::Stopped(Stop::Limit));
     is_at(&rt, &session, 20);
     press(&rt, &mut session, Key::Noun, Err(InjectFault::Unwanted));
-    tells(&rt, &session, want);
+    reports(&rt, &session, want);
 }
 
 /// Rewinding to 6 retains the key of 2 and discards the one of 6; what is injected again is in the script again.
@@ -76,17 +76,17 @@ fn what_was_given_later_is_gone(rt: HostRuntime) {
     press_at(&rt, &mut session, 2, Key::One);
     press_at(&rt, &mut session, 6, Key::Two);
     press_at(&rt, &mut session, 9, Key::Three);
-    tells(&rt, &session, whole);
+    reports(&rt, &session, whole);
     let mut session = back(&rt, session, 6);
-    tells(&rt, &session, "2 key 1\n");
+    reports(&rt, &session, "2 key 1\n");
     is_at(&rt, &session, 6);
     press(&rt, &mut session, Key::Two, Ok(()));
     press_at(&rt, &mut session, 9, Key::Three);
-    tells(&rt, &session, whole);
+    reports(&rt, &session, whole);
     let session = back(&rt, session, 8);
-    tells(&rt, &session, "2 key 1\n6 key 2\n");
+    reports(&rt, &session, "2 key 1\n6 key 2\n");
     let session = back(&rt, session, 2);
-    tells(&rt, &session, "");
+    reports(&rt, &session, "");
 }
 
 /// CA 4004, EXTEND, WRITE 10 of 54005, which shows digits in PROG; then a jump to itself. The write comes at cycle 3;
@@ -156,15 +156,15 @@ fn copies_are_gone_back_to(rt: HostRuntime) {
     turn_pro_at(&rt, &mut session, 700_000, false);
     session.go_to(1_000_000);
     let session = near(&rt, session, 800_000, 786_432, 1);
-    tells(&rt, &session, "300000 pro down\n700000 pro up\n");
+    reports(&rt, &session, "300000 pro down\n700000 pro up\n");
     let session = near(&rt, session, 700_000, 524_288, 1);
     equal(&rt, session.panel().face(), digits);
-    tells(&rt, &session, "300000 pro down\n");
+    reports(&rt, &session, "300000 pro down\n");
     let session = near(&rt, session, 524_288, 0, 0);
     equal(&rt, session.panel().face(), blank);
-    tells(&rt, &session, "300000 pro down\n");
+    reports(&rt, &session, "300000 pro down\n");
     let mut session = back(&rt, session, 300_000);
-    tells(&rt, &session, "");
+    reports(&rt, &session, "");
     is_at(&rt, &session, 300_000);
     session.go_to(300_100);
     equal(&rt, session.panel().face(), digits);

@@ -32,22 +32,22 @@ fn reads(rt: &impl Abort, report: &Report, text: &str, is_sound: bool) {
 }
 
 /// Checks the report on a script beside a sound rope, after the report on the rope.
-fn told(rt: &(impl AllocGlobal + Abort), script: &[u8], text: &str, is_sound: bool) {
+fn reported(rt: &(impl AllocGlobal + Abort), script: &[u8], text: &str, is_sound: bool) {
     let report = report(rt, RopeForm::Classic, ROPE.as_slice(), script);
     let wanted = joined(rt, &[HOLDS, text]);
     reads(rt, &report, wanted.as_str(), is_sound);
 }
 
 /// Checks the report on each of these scripts.
-fn tells(rt: &(impl AllocGlobal + Abort), scripts: &[(&[u8], &str)]) {
+fn reports(rt: &(impl AllocGlobal + Abort), scripts: &[(&[u8], &str)]) {
     for (script, text) in scripts {
-        told(rt, script, text, text.starts_with("script: "));
+        reported(rt, script, text, text.starts_with("script: "));
     }
 }
 
 #[test]
 fn sound_scripts(rt: HostRuntime) {
-    tells(
+    reports(
         &rt,
         &[
             (b"", "script: events 0\n"),
@@ -66,7 +66,7 @@ fn sound_scripts(rt: HostRuntime) {
 
 #[test]
 fn lines_and_cycles(rt: HostRuntime) {
-    tells(
+    reports(
         &rt,
         &[
             (
@@ -120,7 +120,7 @@ fn lines_and_cycles(rt: HostRuntime) {
 
 #[test]
 fn names(rt: HostRuntime) {
-    tells(
+    reports(
         &rt,
         &[
             (
@@ -173,7 +173,7 @@ fn names(rt: HostRuntime) {
 
 #[test]
 fn numbers(rt: HostRuntime) {
-    tells(
+    reports(
         &rt,
         &[
             (
@@ -211,7 +211,7 @@ fn numbers(rt: HostRuntime) {
 /// The numbers of a command after `every`: the cycles before it are not among them.
 #[test]
 fn numbers_after_every(rt: HostRuntime) {
-    tells(
+    reports(
         &rt,
         &[
             (
@@ -250,7 +250,7 @@ fn a_long_line_is_cut(rt: HostRuntime) {
             " ..\n    the line has 121 bytes; at most 120 are allowed, comments included\n",
         ],
     );
-    told(&rt, script.as_slice(), text.as_str(), false);
+    reported(&rt, script.as_slice(), text.as_str(), false);
 }
 
 /// Checks that a rope is rejected with this text, beside a script without events.
@@ -294,8 +294,8 @@ static SERVED: &str =
     "4004 50017\n4010 50017\n4014 50017\n4020 50017\n4024 50017\n4030 50017\n4034 50017\n4040 50017\n4044 50017\n4050 50017\n";
 
 /// Checks the report on the rope of a text in both forms, beside a script without events.
-fn rope_holds(rt: &(impl AllocGlobal + Abort), text: &str, told: &str) {
-    let wanted = joined(rt, &[told, "script: events 0\n"]);
+fn rope_holds(rt: &(impl AllocGlobal + Abort), text: &str, reported: &str) {
+    let wanted = joined(rt, &[reported, "script: events 0\n"]);
     for form in [RopeForm::Classic, RopeForm::Parity] {
         let file = weave(rt.alloc(), form, text.as_bytes())
             .ok()
@@ -309,7 +309,7 @@ fn rope_holds(rt: &(impl AllocGlobal + Abort), text: &str, told: &str) {
 /// banks; a word of +0 counts as no word. Whatever the vectors hold, the file is sound.
 #[test]
 fn vectors_without_an_order(rt: HostRuntime) {
-    for (text, told) in [
+    for (text, reported) in [
         (SERVED, "rope: words 10, banks 1\n"),
         (
             "4010 50017\n4014 50017\n4020 50017\n4024 50017\n4030 50017\n4034 50017\n4040 50017\n4044 50017\n4050 50017\n",
@@ -328,7 +328,7 @@ fn vectors_without_an_order(rt: HostRuntime) {
             "rope: words 12, banks 2\n    these interrupt vectors are empty, and an interrupt there runs off into the registers: 4010\n",
         ),
     ] {
-        rope_holds(&rt, text, told);
+        rope_holds(&rt, text, reported);
     }
 }
 
@@ -393,8 +393,8 @@ fn key_texts(rt: HostRuntime) {
             "keys: BadKey\n    word 2: unknown key `\\303`; did you mean `0`?\n",
         ),
     ];
-    for (text, told) in texts {
-        keys_tell(&rt, text, told);
+    for (text, reported) in texts {
+        keys_tell(&rt, text, reported);
     }
 }
 
@@ -415,7 +415,7 @@ fn a_long_key_is_cut(rt: HostRuntime) {
 }
 
 /// Checks the report on the text of a rope.
-fn listing_tells(rt: &(impl AllocGlobal + Abort), listing: &[u8], text: &str) {
+fn listing_reports(rt: &(impl AllocGlobal + Abort), listing: &[u8], text: &str) {
     let report = check_listing(rt.alloc(), listing).ok().expect(rt, "memory");
     reads(rt, &report, text, text == "text: no fault\n");
 }
@@ -469,8 +469,8 @@ fn listings(rt: HostRuntime) {
         ),
         (b"# ~ \x7F", "text: no fault\n"),
     ];
-    for (text, told) in texts {
-        listing_tells(&rt, text, told);
+    for (text, reported) in texts {
+        listing_reports(&rt, text, reported);
     }
 }
 
@@ -494,7 +494,7 @@ fn pointing(
 fn points(rt: &(impl AllocGlobal + Abort), sources: &[(&str, &str, usize, &str)]) {
     for (source, sentence, column, word) in sources {
         let wanted = pointing(rt, source, sentence, *column, word);
-        listing_tells(rt, source.as_bytes(), wanted.as_str());
+        listing_reports(rt, source.as_bytes(), wanted.as_str());
     }
 }
 

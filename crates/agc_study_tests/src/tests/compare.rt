@@ -3,15 +3,21 @@ use super::{has_lines, machine_of};
 use agc_diff::{SideNames, compare, push_comparison};
 use agc_io::NoProgress;
 use agc_machine::Machine;
+use agc_symbols::SymbolTable;
 use std::alloc::{AllocError, Global};
 use std::process::Abort;
 
-/// Returns the report on two runs.
-fn report_of(alloc: Global, left: &mut Machine, right: &mut Machine) -> Result<String, AllocError> {
+/// Returns the report on two runs, with these names for both.
+fn report_of(
+    alloc: Global,
+    names: &Option<SymbolTable>,
+    left: &mut Machine,
+    right: &mut Machine,
+) -> Result<String, AllocError> {
     let comparison = compare(alloc, left, right, &mut NoProgress)?;
     let names = SideNames {
-        left: &None,
-        right: &None,
+        left: names,
+        right: names,
     };
     let mut text = String::new(alloc);
     push_comparison(&mut text, names, &comparison)?;
@@ -19,17 +25,27 @@ fn report_of(alloc: Global, left: &mut Machine, right: &mut Machine) -> Result<S
 }
 
 /// Returns the report on the runs of two listings up to cycle 8, each with its script.
-fn report(rt: &(impl AllocGlobal + Abort), left: (&str, &str), right: (&str, &str)) -> String {
+fn report(
+    rt: &(impl AllocGlobal + Abort),
+    names: &Option<SymbolTable>,
+    left: (&str, &str),
+    right: (&str, &str),
+) -> String {
     let mut left = machine_of(rt, left.0, left.1, 8);
     let mut right = machine_of(rt, right.0, right.1, 8);
-    report_of(rt.alloc(), &mut left, &mut right)
+    report_of(rt.alloc(), names, &mut left, &mut right)
         .ok()
         .expect(rt, "memory")
 }
 
 /// Checks the lines of the report on two such runs.
-fn tells(rt: &(impl AllocGlobal + Abort), left: (&str, &str), right: (&str, &str), lines: &[&str]) {
-    has_lines(rt, report(rt, left, right).as_str(), lines);
+fn reports(
+    rt: &(impl AllocGlobal + Abort),
+    left: (&str, &str),
+    right: (&str, &str),
+    lines: &[&str],
+) {
+    has_lines(rt, report(rt, &None, left, right).as_str(), lines);
 }
 
 /// Shows a program's number, and waits.
@@ -53,7 +69,7 @@ static OTHER: &str = "
 /// The orders begin at 0, 2, 3, 5, 6 and 7, and the limit stops at 8: seven boundaries.
 #[test]
 fn the_same(rt: HostRuntime) {
-    let text = report(&rt, (PROG, ""), (PROG, ""));
+    let text = report(&rt, &None, (PROG, ""), (PROG, ""));
     assert_eq!(rt;
         text.as_str(),
         "The runs are the same: 7 boundaries, 1 write, stop at cycle 8\n"
@@ -63,7 +79,7 @@ fn the_same(rt: HostRuntime) {
 /// The first order leaves another word in A.
 #[test]
 fn another_word(rt: HostRuntime) {
-    tells(
+    reports(
         &rt,
         (PROG, ""),
         (OTHER, ""),
@@ -104,7 +120,7 @@ static INHIBITED: &str = "
 /// 0, 2, 3, 4, 5, 6 and 7.
 #[test]
 fn another_order(rt: HostRuntime) {
-    tells(
+    reports(
         &rt,
         (ALLOWED, ""),
         (INHIBITED, ""),
@@ -157,7 +173,7 @@ fn registers_and_cells(rt: HostRuntime) {
         CALLS_LATER,
         "7 poke 2 377 00002\n7 poke 3 0 00004\n7 poke 7 377 00000\n",
     );
-    tells(
+    reports(
         &rt,
         left,
         right,
@@ -175,6 +191,49 @@ fn registers_and_cells(rt: HostRuntime) {
             "1377 00001 00002",
             "E3,1400 00003 00004",
             "E7,1777 77777 00000",
+            "< stop Limit at cycle 8",
+            "> stop Limit at cycle 8",
+        ],
+    );
+}
+
+/// Names for cells: A's, one seven words below the last cell under the window, one of the first cell of a bank, and one
+/// of the last cell of another bank.
+static CELL_NAMES: &str = "0000 ACC
+1370 CELLS
+E3,1400 BANKED
+E6,1777 OTHER
+";
+
+/// The cells of the test above with their names. A register has only its own name, and no name is of another bank.
+#[test]
+fn names_of_cells(rt: HostRuntime) {
+    let names = SymbolTable::read(rt.alloc(), CELL_NAMES.as_bytes()).ok();
+    let left = (
+        CALLS,
+        "7 poke 2 377 00001\n7 poke 3 0 00003\n7 poke 7 377 77777\n",
+    );
+    let right = (
+        CALLS_LATER,
+        "7 poke 2 377 00002\n7 poke 3 0 00004\n7 poke 7 377 00000\n",
+    );
+    has_lines(
+        &rt,
+        report(&rt, &names, left, right).as_str(),
+        &[
+            "The runs part at boundary 7, cycle 6 and 6:",
+            "  1 4001              00003 RELINT | A 000000 L 00000 Q 000000 Z 4003 EB 0 FB 00",
+            "  2 4002              00003 RELINT | A 000000 L 00000 Q 000000 Z 4004 EB 0 FB 00",
+            "  3 4003              00003 RELINT | A 000000 L 00000 Q 000000 Z 4005 EB 0 FB 00",
+            "  4 4004              00003 RELINT | A 000000 L 00000 Q 000000 Z 4006 EB 0 FB 00",
+            "  5 4005              00003 RELINT | A 000000 L 00000 Q 000000 Z 4007 EB 0 FB 00",
+            "< 6 4006              04010 TC 4010 | A 000000 L 00000 Q 004007 Z 4011 EB 0 FB 00",
+            "> 6 4006              14007 TCF 4007 | A 000000 L 00000 Q 000000 Z 4010 EB 0 FB 00",
+            "The cells that differ at the stops:",
+            "0002              004007 004010",
+            "1377 CELLS +7     00001 00002",
+            "E3,1400 BANKED       00003 00004",
+            "E7,1777              77777 00000",
             "< stop Limit at cycle 8",
             "> stop Limit at cycle 8",
         ],

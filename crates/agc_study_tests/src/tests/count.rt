@@ -1,7 +1,8 @@
 //! Tests the profile of a small program, worked out by hand.
 use super::{machine_of, same};
 use agc_io::NoProgress;
-use agc_profile::{Layout, Profile, Tally, count, push_profile};
+use agc_profile::{Layout, Profile, ProfileForm, Tally, count, push_profile};
+use agc_symbols::SymbolTable;
 use agc_trace::Span;
 use std::process::Abort;
 
@@ -33,21 +34,36 @@ fn counted(rt: &(impl AllocGlobal + Abort), listing: &str, from: u64, to: u64) -
         .expect(rt, "memory")
 }
 
-/// Returns the same in print.
+/// Returns the same in print, with the names of a text.
 fn printed(
     rt: &(impl AllocGlobal + Abort),
     layout: Layout,
     listing: &str,
+    names: Option<&str>,
     from: u64,
     to: u64,
 ) -> String {
+    let form = ProfileForm {
+        layout,
+        is_whole: false,
+        names: names_of(rt, names),
+    };
     let counts = counted(rt, listing, from, to);
     let machine = machine_of(rt, listing, "", 10);
     let mut text = String::new(rt.alloc());
-    push_profile(&mut text, layout, false, &counts, machine.store())
+    push_profile(&mut text, &form, &counts, machine.store())
         .ok()
         .expect(rt, "memory");
     text
+}
+
+/// Returns the names of a text, if there is one.
+fn names_of(rt: &(impl AllocGlobal + Abort), text: Option<&str>) -> Option<SymbolTable> {
+    let text = text?;
+    let names = SymbolTable::read(rt.alloc(), text.as_bytes())
+        .ok()
+        .expect(rt, "names");
+    Some(names)
 }
 
 fn tally(times: u64, cycles: u64) -> Tally {
@@ -71,7 +87,7 @@ fn words_of_a_run(rt: HostRuntime) {
 /// A part of the run, in print.
 #[test]
 fn a_part_in_print(rt: HostRuntime) {
-    let text = printed(&rt, Layout::Csv, WRITES, 3, 5);
+    let text = printed(&rt, Layout::Csv, WRITES, None, 3, 5);
     assert_eq!(rt;
         text.as_str(),
         "kind,name,order,times,cycles,data
@@ -94,7 +110,7 @@ word,\"02,4003\",14003 TCF 4003,1,1,0
 /// Code, data and dead words of a rope, in print: DCA reads two words, INCR a cell, and TS reads none.
 #[test]
 fn words_that_are_read(rt: HostRuntime) {
-    let text = printed(&rt, Layout::Columns, READS, 0, u64::MAX);
+    let text = printed(&rt, Layout::Columns, READS, None, 0, u64::MAX);
     assert!(rt;
         text.as_str().ends_with(
             "             0               0             1  word 0100
@@ -105,6 +121,49 @@ fn words_that_are_read(rt: HostRuntime) {
              2               2             0  word 02,4004 14004 TCF 4004
              0               0             1  word 02,4007 00001 TC 0001
              0               0             1  word 02,4010 00002 TC 0002
+"
+        )
+    );
+}
+
+/// The sums by routine, and places with names: OTHER is the last place of bank 01, so it is no name of 4000.
+#[test]
+fn routines_in_print(rt: HostRuntime) {
+    let names = Some("4001 GO\n4003 LOOP\n01,3777 OTHER\n03,6000 FAR\n");
+    let text = printed(&rt, Layout::Columns, WRITES, names, 0, u64::MAX);
+    assert!(rt;
+        text.as_str().ends_with(
+            "             8              10             -  bank 02
+             1               2             -  routine 02 20.0%
+             2               3             -  routine 02,4001 GO 30.0%
+             5               5             -  routine 02,4003 LOOP 50.0%
+             1               2             0  word 02,4000              34004 CA 4004
+             1               1             0  word 02,4001 GO           00006 EXTEND
+             1               2             0  word 02,4002 GO +1        01010 WRITE 010
+             5               5             0  word 02,4003 LOOP         14003 TCF 4003
+             0               0             1  word 02,4004 LOOP +1      54171 TS 0171
+"
+        )
+    );
+}
+
+/// Comma-separated values with a quote in a name, which is doubled, and a cell with a name.
+#[test]
+fn routines_as_values(rt: HostRuntime) {
+    let names = Some("4000 A\"B\n0100 COUNT\n");
+    let text = printed(&rt, Layout::Csv, READS, names, 0, u64::MAX);
+    assert!(rt;
+        text.as_str().ends_with(
+            "bank,\"02\",,6,10,
+routine,\"02,4000 A\"\"B\",100.0%,6,10,
+word,\"0100 COUNT\",,0,0,1
+word,\"02,4000 A\"\"B\",00006 EXTEND,1,1,0
+word,\"02,4001 A\"\"B +1\",34010 DCA 4007,1,3,0
+word,\"02,4002 A\"\"B +2\",24100 INCR 0100,1,2,0
+word,\"02,4003 A\"\"B +3\",54101 TS 0101,1,2,0
+word,\"02,4004 A\"\"B +4\",14004 TCF 4004,2,2,0
+word,\"02,4007 A\"\"B +7\",00001 TC 0001,0,0,1
+word,\"02,4010 A\"\"B +8\",00002 TC 0002,0,0,1
 "
         )
     );

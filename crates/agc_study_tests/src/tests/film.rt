@@ -1,5 +1,5 @@
 //! Tests films of small programs, worked out by hand. The numbers are octal, except for cycles.
-use super::progress::was_told;
+use super::progress::was_reported;
 use super::{has_lines, machine_of, owned, same};
 use agc_io::NoProgress;
 use agc_machine::Stop;
@@ -38,8 +38,8 @@ fn begins_and_ends(rt: &impl Abort, recording: &Recording, first: u64, last: u64
 
 /// Checks the number of frames of a recording, and its stop and cycle at the end.
 fn stops(rt: &impl Abort, recording: &Recording, frames: usize, stop: Option<Stop>, cycle: u64) {
-    let told = (recording.frames.len(), recording.stop, recording.cycle);
-    same(rt, told, (frames, stop, cycle), "stop");
+    let reported = (recording.frames.len(), recording.stop, recording.cycle);
+    same(rt, reported, (frames, stop, cycle), "stop");
 }
 
 /// Returns two files with these names.
@@ -273,11 +273,11 @@ fn parts_at(
     push_film_pair(&mut page, 20, &one, left, &other, right)
         .ok()
         .expect(rt, "memory");
-    assert_eq!(rt; told_parting(rt, page.as_str()), divergence);
+    assert_eq!(rt; reported_parting(rt, page.as_str()), divergence);
 }
 
 /// Returns what a page says about where two runs diverge.
-fn told_parting<'a>(rt: &impl Abort, page: &'a str) -> &'a str {
+fn reported_parting<'a>(rt: &impl Abort, page: &'a str) -> &'a str {
     let (_, after) = page.split_once("id=\"parting\">").expect(rt, "a block");
     let (cycle, _) = after.split_once("</script>").expect(rt, "its end");
     cycle
@@ -299,13 +299,13 @@ fn two_runs(rt: HostRuntime) {
 /// The first order ends at cycle 2, past the film's first cycle, and the second one at 3. From cycle 11 on each order
 /// takes one cycle, so progress is reported at 2, 3, 1000003 and 2000003, in decimal.
 #[test]
-fn tells_how_far_it_has_come(rt: HostRuntime) {
+fn reports_how_far_it_has_come(rt: HostRuntime) {
     let mut machine = machine_of(&rt, PROG, "", 2_500_000);
-    let mut told = RecordingProgress::new(rt.alloc());
-    let recording = film(rt.alloc(), &mut machine, Part::whole(), &mut told)
+    let mut reported = RecordingProgress::new(rt.alloc());
+    let recording = film(rt.alloc(), &mut machine, Part::whole(), &mut reported)
         .ok()
         .expect(&rt, "memory");
     same(&rt, recording.stop, Some(Stop::Limit), "stop");
     same(&rt, recording.frames.len(), 2, "frames");
-    was_told(&rt, &told, &[2, 3, 1_000_003, 2_000_003]);
+    was_reported(&rt, &reported, &[2, 3, 1_000_003, 2_000_003]);
 }

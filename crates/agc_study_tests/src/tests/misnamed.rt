@@ -7,18 +7,18 @@ use agc_order::Basic;
 use std::process::Abort;
 
 /// Checks the first mismatch in a text.
-fn tells(rt: &(impl AllocGlobal + Abort), text: &str, told: &str) {
+fn reports(rt: &(impl AllocGlobal + Abort), text: &str, reported: &str) {
     let misnamed = first_misnamed(text.as_bytes()).expect(rt, "a remark");
     let line = misnamed_line(rt.alloc(), misnamed)
         .ok()
         .expect(rt, "memory");
-    same(rt, line.as_str(), told, "line");
+    same(rt, line.as_str(), reported, "line");
 }
 
 /// A mnemonic that is not the word's, as a basic order or as an extracode.
 #[test]
-fn other_orders_are_told(rt: HostRuntime) {
-    for (text, told) in [
+fn other_orders_are_reported(rt: HostRuntime) {
+    for (text, reported) in [
         (
             "4000 34004 CS 4004\n",
             "agc-study: text line 1: the word 34004 is CA 4004, not CS\n",
@@ -52,7 +52,7 @@ fn other_orders_are_told(rt: HostRuntime) {
             "agc-study: text line 2: the word 34004 is CA 4004, not TCF\n",
         ),
     ] {
-        tells(&rt, text, told);
+        reports(&rt, text, reported);
     }
 }
 

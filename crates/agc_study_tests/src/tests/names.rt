@@ -1,6 +1,12 @@
 //! Tests symbols of locations, worked out by hand.
-use super::same;
+use super::{has_lines, owned, rope_of, same};
+use agc_cli::ArgsFault;
 use agc_listing::{Location, LocationRange, RangeFault};
+use agc_store::Store;
+use agc_study_args::{
+    Args, a_listed_operand_is_addressed, list_with_names, resolve_locations, resolve_until,
+};
+use agc_study_cli::parse;
 use agc_symbols::{
     ChannelTable, NameFault, SymbolFileFault, SymbolTable, SymbolTableFault, push_channel_line,
     push_column, push_name_line, push_named, read_names, resolve, resolve_cells, resolve_range,
@@ -50,7 +56,7 @@ fn a_place_goes_by_the_nearest_name(rt: HostRuntime) {
 }
 
 #[test]
-fn each_fault_is_told(rt: HostRuntime) {
+fn each_fault_is_reported(rt: HostRuntime) {
     for (text, line, fault) in [
         ("4000 A\n\n4001 B # \x07", 3, NameFault::NotText),
         ("2000 A", 1, NameFault::BadPlace),
@@ -118,6 +124,118 @@ fn names_stand_beside_places(rt: HostRuntime) {
     assert!(rt; lines.as_slice() == b"E3,1407 COUNT\n02,4071 LOOP\n".as_slice());
 }
 
+static LISTED: &str = "
+4000 34062 CA 4062
+4001 54100 TS 0100
+4002 00006 EXTEND
+4003 01010 WRITE 010
+4004 12000 TCF 2000
+4005 55400 TS 1400
+05,2001 12000 TCF 2000
+05,2002 14060 TCF 4060
+";
+
+static OPERANDS: &str =
+    "4060 KEYIN\n0100 RUN\nC010 OUT0\n05,2000 HERE\nE0,1400 FAR\n02,4000 START\n";
+
+/// A name is shown where no bank is in doubt. Bank 02 may run while any bank is in the window, and EB selects cell 1400.
+#[test]
+fn operands_of_a_listing_have_names(rt: HostRuntime) {
+    let names = SymbolTable::read(rt.alloc(), OPERANDS.as_bytes())
+        .ok()
+        .expect(&rt, "names");
+    let (names, _) = names.split(rt.alloc());
+    let channels = ChannelTable::read(rt.alloc(), OPERANDS.as_bytes())
+        .ok()
+        .expect(&rt, "channels");
+    let store = Store::new(rope_of(&rt, LISTED));
+    let text = list_with_names(rt.alloc(), &names, &channels, &store, None)
+        .ok()
+        .expect(&rt, "memory");
+    has_lines(
+        &rt,
+        text.as_str(),
+        &[
+            "02,4000 START        34062 CA KEYIN +2",
+            "02,4001 START +1     54100 TS RUN",
+            "02,4002 START +2     00006 EXTEND",
+            "02,4003 START +3     01010 WRITE OUT0",
+            "02,4004 START +4     12000 TCF 2000",
+            "02,4005 START +5     55400 TS 1400",
+            "05,2001 HERE +1      12000 TCF HERE",
+            "05,2002 HERE +2      14060 TCF KEYIN",
+        ],
+    );
+    a_listed_operand_is_addressed();
+}
+
+/// Returns why `trace` refuses a value with these names; nothing if it does not.
+fn refusal<'x>(rt: &(impl AllocGlobal + Abort), option: &'x str, value: &'x str) -> String {
+    let line = [
+        "agc-study",
+        "trace",
+        "rope",
+        "script",
+        "--limit",
+        "9",
+        option,
+        value,
+    ];
+    let mut args = match parse(rt.alloc(), line.as_slice()) {
+        Ok(Args::Trace(args)) => Some(args),
+        Ok(_other) => None,
+        Err(_why) => None,
+    }
+    .expect(rt, value);
+    let names = SymbolTable::read(rt.alloc(), OPERANDS.as_bytes()).ok();
+    let channels = ChannelTable::read(rt.alloc(), OPERANDS.as_bytes())
+        .ok()
+        .expect(rt, "channels");
+    match resolve_locations(rt.alloc(), &names, &channels, &mut args) {
+        Err(ArgsFault::Command(text)) => text,
+        Err(_other) => String::new(rt.alloc()),
+        Ok(_done) => String::new(rt.alloc()),
+    }
+}
+
+/// The name of a channel is no place, and that of a place no channel.
+#[test]
+fn channels_and_places_are_told_apart(rt: HostRuntime) {
+    for (option, value, why) in [
+        ("--cell", "RUN", ""),
+        ("--cell", "RUN +1", ""),
+        ("--at", "KEYIN -1-KEYIN +2", ""),
+        ("--channel", "OUT0", ""),
+        (
+            "--at",
+            "KEYIN + 1",
+            "error: invalid value 'KEYIN + 1' for '--at <PLACES>': no such place, and no such name in the file of --names\n\nFor more information, try '--help'.\n",
+        ),
+        (
+            "--cell",
+            "OUT0",
+            "error: invalid value 'OUT0' for '--cell <PLACES>': this names a channel: see --channel\n\nFor more information, try '--help'.\n",
+        ),
+        (
+            "--at",
+            "OUT0",
+            "error: invalid value 'OUT0' for '--at <PLACES>': this names a channel: see --channel\n\nFor more information, try '--help'.\n",
+        ),
+        (
+            "--channel",
+            "RUN",
+            "error: invalid value 'RUN' for '--channel <CCC>': this names a place: see --cell and --at\n\nFor more information, try '--help'.\n",
+        ),
+        (
+            "--channel",
+            "1000",
+            "error: invalid value '1000' for '--channel <CCC>': a channel is one to three octal digits, 0 to 777, or a name of --names\n\nFor more information, try '--help'.\n",
+        ),
+    ] {
+        same(&rt, refusal(&rt, option, value).as_str(), why, value);
+    }
+}
+
 /// 10 words are 12 octal. A word that is written as a location is that location, and cells end at 3777.
 #[test]
 fn a_word_stands_for_a_place(rt: HostRuntime) {
@@ -137,6 +255,24 @@ fn a_word_stands_for_a_place(rt: HostRuntime) {
     ] {
         same(&rt, resolve(&names, word.as_bytes()), place, word);
         same(&rt, resolve(&None, word.as_bytes()), alone, word);
+    }
+}
+
+/// The offset of `--until` may stand apart; KEYIN is 4060, and 10 words are 12 octal.
+#[test]
+fn a_stop_has_an_offset(rt: HostRuntime) {
+    let names = SymbolTable::read(rt.alloc(), OPERANDS.as_bytes()).ok();
+    for (text, place) in [
+        ("KEYIN +10", "02,4072"),
+        ("KEYIN+10", "02,4072"),
+        ("KEYIN 10", "KEYIN 10"),
+    ] {
+        let mut until = Some(owned(&rt, text));
+        resolve_until(rt.alloc(), &names, &mut until)
+            .ok()
+            .expect(&rt, "memory");
+        let until = until.expect(&rt, "a text");
+        same(&rt, until.as_str(), place, text);
     }
 }
 
@@ -164,8 +300,8 @@ fn a_question_says_places(rt: HostRuntime) {
         ("4100-4177", 0o4100, 0o4177),
     ] {
         let (first, last) = (Location::Fixed(first), Location::Fixed(last));
-        let said = resolve_range(&names, text.as_bytes());
-        same(&rt, said, Ok(LocationRange { first, last }), text);
+        let parsed = resolve_range(&names, text.as_bytes());
+        same(&rt, parsed, Ok(LocationRange { first, last }), text);
     }
     for (text, fault) in [
         ("NOWHERE", RangeFault::BadPlace),
@@ -196,8 +332,8 @@ fn a_question_says_cells(rt: HostRuntime) {
         ("BEFORE-BEFORE+1", 0o100, 0o101),
     ] {
         let (first, last) = (Location::Erasable(first), Location::Erasable(last));
-        let said = resolve_cells(&names, text.as_bytes());
-        same(&rt, said, Ok(LocationRange { first, last }), text);
+        let parsed = resolve_cells(&names, text.as_bytes());
+        same(&rt, parsed, Ok(LocationRange { first, last }), text);
         let alone = resolve_cells(&None, text.as_bytes());
         same(&rt, alone, Err(RangeFault::BadPlace), text);
     }

@@ -8,8 +8,8 @@ use agc_trace::{LineForm, trace};
 use std::process::Abort;
 
 /// Checks the reported cycles.
-pub(super) fn was_told(rt: &impl Abort, told: &RecordingProgress, cycles: &[u64]) {
-    assert!(rt; told.cycles() == cycles);
+pub(super) fn was_reported(rt: &impl Abort, reported: &RecordingProgress, cycles: &[u64]) {
+    assert!(rt; reported.cycles() == cycles);
 }
 
 /// Returns a run in which each boundary takes one cycle, because TIME1 does not overflow in it.
@@ -20,10 +20,10 @@ fn idle(rt: &(impl AllocGlobal + Abort)) -> Machine {
 /// On the way to the range, progress is reported at the start and after a million cycles; and again at the range's
 /// first line.
 #[test]
-fn a_trace_tells_how_far_it_has_come(rt: HostRuntime) {
+fn a_trace_reports_how_far_it_has_come(rt: HostRuntime) {
     let mut machine = idle(&rt);
     let selection = between(&rt, 1_100_000, 1_100_010, None);
-    let mut told = RecordingProgress::new(rt.alloc());
+    let mut reported = RecordingProgress::new(rt.alloc());
     let mut out = Vec::new(rt.alloc());
     let traced = trace(
         rt.alloc(),
@@ -31,29 +31,29 @@ fn a_trace_tells_how_far_it_has_come(rt: HostRuntime) {
         &selection,
         &LineForm::new(rt.alloc(), None, None),
         &mut out,
-        &mut told,
+        &mut reported,
     );
     assert!(rt; traced.is_ok());
-    was_told(&rt, &told, &[0, 1_000_000, 1_100_000]);
+    was_reported(&rt, &reported, &[0, 1_000_000, 1_100_000]);
 }
 
 /// Two runs that are the same: progress is reported at the start, and after a million cycles.
 #[test]
-fn a_comparison_tells_how_far_it_has_come(rt: HostRuntime) {
+fn a_comparison_reports_how_far_it_has_come(rt: HostRuntime) {
     let (mut left, mut right) = (idle(&rt), idle(&rt));
-    let mut told = RecordingProgress::new(rt.alloc());
-    let comparison = compare(rt.alloc(), &mut left, &mut right, &mut told)
+    let mut reported = RecordingProgress::new(rt.alloc());
+    let comparison = compare(rt.alloc(), &mut left, &mut right, &mut reported)
         .ok()
         .expect(&rt, "memory");
     assert!(rt; comparison.is_same());
-    was_told(&rt, &told, &[0, 1_000_000]);
+    was_reported(&rt, &reported, &[0, 1_000_000]);
 }
 
 /// Progress is reported at the first cycle, and then at the first cycle that is at least a million after the last
 /// report.
 #[test]
-fn told_from_mark_to_mark(rt: HostRuntime) {
-    let mut told = RecordingProgress::new(rt.alloc());
+fn reported_from_mark_to_mark(rt: HostRuntime) {
+    let mut reported = RecordingProgress::new(rt.alloc());
     let mut mark = 0;
     for (cycle, times, last) in [
         (7, 1, 7),
@@ -64,8 +64,8 @@ fn told_from_mark_to_mark(rt: HostRuntime) {
         (5_000_000, 3, 5_000_000),
         (5_999_999, 3, 5_000_000),
     ] {
-        mark = report_at(mark, cycle, &mut told);
-        let cycles = told.cycles();
+        mark = report_at(mark, cycle, &mut reported);
+        let cycles = reported.cycles();
         same(
             &rt,
             (cycles.len(), cycles.last().copied()),

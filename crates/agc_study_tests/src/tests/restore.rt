@@ -1,16 +1,15 @@
 //! Tests what restores a damaged rope, worked out by hand.
 use super::{rope_of, same};
 use agc_check::{
-    BadWord, BankSum, ParityBit, Reading, SumFit, apply_patch, bad_words, convert,
-    converting_there_and_back, file_of_words, file_words, files_hold_their_words, fit_of,
-    is_bad_parity, is_legal, right_parity, sum_in_bank, the_missing_word_makes_the_sum, word_sum,
-    words_make_their_file,
-};
-use agc_diff::{
-    MovedBlock, Reach, follow_orders, moved_blocks, places_apart, repairs, score_readings,
+    BadWord, BankSum, MovedBlock, ParityBit, Reach, Reading, SumFit, apply_patch, bad_words,
+    convert, converting_there_and_back, file_of_words, file_words, files_hold_their_words, fit_of,
+    follow_orders, is_bad_parity, is_legal, moved_blocks, places_apart, repairs, right_parity,
+    score_readings, sum_in_bank, the_missing_word_makes_the_sum, word_sum, words_make_their_file,
 };
 use agc_listing::{LineFault, WeaveFault};
-use agc_store::{RopeForm, Store};
+use agc_load::LoadFault;
+use agc_store::{RopeFault, RopeForm, Store};
+use agc_study_args::{RopeRead, read_any_rope};
 use agc_word::Narrow;
 use std::process::Abort;
 
@@ -67,6 +66,45 @@ fn words_with_wrong_parity(rt: HostRuntime) {
         .expect(&rt, "memory");
     let wanted = [0x70, 0x09, 0x00, 0x00, 0x00, 0x02];
     same(&rt, right.as_slice(), wanted.as_slice(), "right");
+}
+
+/// Checks how a file in the form with parity is refused.
+fn is_refused(
+    rt: &(impl AllocGlobal + Abort),
+    file: &[u8],
+    ignores_parity: bool,
+    fault: RopeFault,
+) {
+    let mut reader = file;
+    let read = read_any_rope(rt.alloc(), RopeForm::Parity, ignores_parity, &mut reader);
+    same(rt, read.err(), Some(LoadFault::Rope(fault)), "refused");
+}
+
+/// 7008 hex is 34004 octal with parity bit 0, and has four one bits.
+#[test]
+fn damaged_ropes_are_read(rt: HostRuntime) {
+    let mut file = [0x70, 0x08, 0x00, 0x0D].as_slice();
+    let read = read_any_rope(rt.alloc(), RopeForm::Parity, true, &mut file)
+        .ok()
+        .expect(&rt, "a rope");
+    let RopeRead { rope, wrong } = read;
+    let wanted = [BadWord {
+        place: 0,
+        word: 0x7008,
+    }];
+    same(&rt, wrong.as_slice(), wanted.as_slice(), "wrong");
+    let store = Store::new(rope);
+    same(&rt, store.fixed_at(0), narrow(0o34004), "its bits");
+    same(&rt, store.fixed_at(1), narrow(0o00006), "the next word");
+    let parity = RopeFault::Parity { bank: 0, offset: 0 };
+    is_refused(&rt, [0x70, 0x08].as_slice(), false, parity);
+    is_refused(&rt, [0x70].as_slice(), true, RopeFault::OddLength);
+    is_refused(&rt, [].as_slice(), true, RopeFault::Empty);
+    let mut file = [0x70, 0x08].as_slice();
+    let read = read_any_rope(rt.alloc(), RopeForm::Classic, true, &mut file)
+        .ok()
+        .expect(&rt, "a rope");
+    same(&rt, read.wrong.len(), 0, "no parity");
 }
 
 #[test]
@@ -155,14 +193,14 @@ fn patches(rt: HostRuntime) {
             WeaveFault::Line(1, LineFault::BadAddress),
         ),
     ] {
-        let told = apply_patch(
+        let reported = apply_patch(
             rt.alloc(),
             RopeForm::Classic,
             words.as_slice(),
             text.as_bytes(),
         )
         .err();
-        same(&rt, told, Some(fault), text);
+        same(&rt, reported, Some(fault), text);
     }
 }
 
@@ -260,8 +298,8 @@ fn orders_that_are_reached(rt: HostRuntime) {
         starts: 1,
         unreached: 1,
     };
-    let told = follow_orders(rt.alloc(), &store).ok().expect(&rt, "memory");
-    same(&rt, told, wanted, "reach");
+    let reported = follow_orders(rt.alloc(), &store).ok().expect(&rt, "memory");
+    same(&rt, reported, wanted, "reach");
     let scores = score_readings(rt.alloc(), [0x0008, 0x3006, 0x0002, 0x3006].as_slice())
         .ok()
         .expect(&rt, "memory");

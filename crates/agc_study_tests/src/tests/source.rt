@@ -41,8 +41,8 @@ fn source_of(rt: &(impl AllocGlobal + Abort), store: &Store, bank: Option<u8>) -
 
 /// Checks that the line with this number has this fault, and that it is reported.
 fn refuses(rt: &(impl AllocGlobal + Abort), line: usize, fault: SourceFault, source: &str) {
-    let told = assemble(rt.alloc(), RopeForm::Classic, source.as_bytes()).err();
-    assert_eq!(rt; told, Some(AssemblyFault::Line(line, fault)));
+    let reported = assemble(rt.alloc(), RopeForm::Classic, source.as_bytes()).err();
+    assert_eq!(rt; reported, Some(AssemblyFault::Line(line, fault)));
 }
 
 /// A name stands for the location of its line, in either direction, and a text begins at 4000.
@@ -323,7 +323,7 @@ fn faults_of_places(rt: HostRuntime) {
 
 /// If one pass finds two faults, the first is reported, and names come before words.
 #[test]
-fn the_first_fault_is_told(rt: HostRuntime) {
+fn the_first_fault_is_reported(rt: HostRuntime) {
     refuses(&rt, 1, SourceFault::UnknownName, " CA ONE\n CA TWO\n");
     refuses(
         &rt,

@@ -1,7 +1,7 @@
 //! Tests the program on its command lines, with files that do not exist; `examples/study` runs it on files.
 mod ends;
 
-use super::{holds, owned, same};
+use super::{holds, owned, repeated, same};
 use agc_analysis::{
     AnalysisFault, DiffOutcome, FilmPage, Streams, TraceError, Woven, answer, check_files,
     check_key_file, check_listing_file, check_with, compare_files, film_files, last_cycle,
@@ -20,7 +20,7 @@ use agc_study_args::{
 };
 use agc_study_cli::parse;
 use agc_timeline::{Part, RunFiles};
-use agc_trace::Span;
+use agc_trace::{LineForm, Span};
 use std::io::{self, ErrorKind, Read};
 use std::process::Abort;
 use std::rt::Files;
@@ -131,6 +131,7 @@ fn mistakes(rt: HostRuntime) {
         "agc-study convert",
         "agc-study convert rope --to best",
         "agc-study repair rope --most many",
+        "agc-study repair rope --form classic",
         "agc-study patch rope",
         "agc-study compare --words rope",
         "agc-study check rope script more",
@@ -178,15 +179,15 @@ fn mistakes_are_explained(rt: HostRuntime) {
     for (line, sentence) in [
         (
             "agc-study profile rope script --limit 1e6",
-            "error: invalid value '1e6' for '--limit <N>': write a whole decimal number of cycles, 1 to 1000000000000\n",
+            "error: invalid value '1e6' for '--limit <N>': write a whole decimal number, such as 1000000\n",
         ),
         (
             "agc-study profile rope script --limit 10 --to 99999999999999999999",
-            "error: invalid value '99999999999999999999' for '--to <CYCLE>': write a whole decimal number of cycles\n",
+            "error: invalid value '99999999999999999999' for '--to <CYCLE>': write a whole decimal number, at most 18446744073709551615\n",
         ),
         (
             "agc-study trace rope script --limit 10 --last 0x10",
-            "error: invalid value '0x10' for '--last <N>': write a whole decimal number of lines\n",
+            "error: invalid value '0x10' for '--last <N>': write a whole decimal number, such as 1000000\n",
         ),
         (
             "agc-study compare rope script rope script --limit 10 --by channel 010",
@@ -202,19 +203,19 @@ fn mistakes_are_explained(rt: HostRuntime) {
 }
 
 /// Checks the error line of a command line, and the remark on the file `nothing` beside it.
-fn lacks_nothing(rt: &(impl AllocGlobal + Files + Abort), line: &str, told: &str) {
+fn lacks_nothing(rt: &(impl AllocGlobal + Files + Abort), line: &str, reported: &str) {
     let ended = program(rt, line);
     let remark = ended.remarks.as_str();
     same(rt, ended.status, 2, line);
     holds(rt, ended.out.is_empty(), line);
-    same(rt, ended.err.as_str(), told, line);
+    same(rt, ended.err.as_str(), reported, line);
     holds(rt, remark.starts_with("agc-study: nothing: "), line);
 }
 
 /// Files that do not exist, with a remark beside the error.
 #[test]
 fn troubles(rt: HostRuntime) {
-    for (line, told) in [
+    for (line, reported) in [
         ("agc-study list nothing", "agc-study: cannot read rope\n"),
         ("agc-study weave nothing", "agc-study: cannot read text\n"),
         (
@@ -246,7 +247,7 @@ fn troubles(rt: HostRuntime) {
             "agc-study: cannot read names\n",
         ),
     ] {
-        lacks_nothing(&rt, line, told);
+        lacks_nothing(&rt, line, reported);
     }
 }
 
@@ -260,9 +261,9 @@ fn a_bank_is_checked_first(rt: HostRuntime) {
         "agc-study list nothing --style yul --bank 44",
     ] {
         let ended = program(&rt, line);
-        let told = "agc-study: no such bank: --bank is one or two octal digits, 00 to 43\n";
+        let reported = "agc-study: no such bank: --bank is one or two octal digits, 00 to 43\n";
         same(&rt, ended.status, 2, line);
-        same(&rt, ended.err.as_str(), told, line);
+        same(&rt, ended.err.as_str(), reported, line);
         holds(&rt, ended.remarks.is_empty(), line);
     }
 }
@@ -278,7 +279,8 @@ fn listed(rt: &impl AllocGlobal, rope: &[u8], style: ListStyle) -> Result<Vec<u8
         ignores_parity: false,
     };
     let mut rope = rope;
-    text_of_rope(rt.alloc(), &args, &None, &mut rope)
+    let form = LineForm::new(rt.alloc(), None, None);
+    text_of_rope(rt.alloc(), &args, &form, &mut rope)
 }
 
 /// A rope of two words, and one that ends within a word.
@@ -327,8 +329,8 @@ fn a_file_keeps_its_fault(rt: HostRuntime) {
         (5, Ok(bytes), "agc-study: the file: file too large\n"),
         (6, Err(denied), "agc-study: the file: permission denied\n"),
     ] {
-        let told = remark_on(&rt, limit, opened);
-        same(&rt, told.as_str(), remark, remark);
+        let reported = remark_on(&rt, limit, opened);
+        same(&rt, reported.as_str(), remark, remark);
     }
 }
 
@@ -351,15 +353,19 @@ fn a_text_is_woven(rt: HostRuntime) {
 
 /// Checks a rope and a script.
 fn checked(rt: &impl AllocGlobal, rope: &[u8], script: &[u8]) -> Result<Report, AnalysisFault> {
-    let mut inputs = RunInputs { rope, script };
+    let mut inputs = RunInputs {
+        rope,
+        script,
+        wrong: 0,
+    };
     check_files(rt.alloc(), RopeForm::Classic, &mut inputs)
 }
 
 /// Checks how a report is written, with this status.
-fn is_written(rt: &(impl AllocGlobal + Abort), report: &Report, status: u8, told: &str) {
+fn is_written(rt: &(impl AllocGlobal + Abort), report: &Report, status: u8, reported: &str) {
     let mut out = Vec::new(rt.alloc());
-    same(rt, write_report(report, &mut out), status, told);
-    same(rt, out.as_slice(), told.as_bytes(), told);
+    same(rt, write_report(report, &mut out), status, reported);
+    same(rt, out.as_slice(), reported.as_bytes(), reported);
 }
 
 /// The status shows whether a file is at fault, and the report is on standard output.
@@ -377,11 +383,11 @@ fn files_are_checked(rt: HostRuntime) {
             "rope: words 1, banks 1\n    these interrupt vectors are empty, and an interrupt there runs off into the registers: 4004 4010 4014 4020 4024 4030 4034 4040 4044 4050\nscript line 1: OutOfRange\n    7 raise 0\n    `0` is out of range: 1 to 10 decimal\n",
         ),
     ];
-    for (script, status, told) in scripts {
+    for (script, status, reported) in scripts {
         let report = checked(&rt, &[0x70, 0x08], script)
             .ok()
             .expect(&rt, "a report");
-        is_written(&rt, &report, status, told);
+        is_written(&rt, &report, status, reported);
     }
 }
 
@@ -412,11 +418,11 @@ fn keys_and_listings_are_checked(rt: HostRuntime) {
             "text line 1: BadWord\n    4000 1400\n    column 6: `1400` is not a word: five octal digits\n",
         ),
     ];
-    for (keys, listing, keys_told, listing_told) in texts {
+    for (keys, listing, keys_reported, listing_reported) in texts {
         let report = key_report(&rt, keys);
-        same(&rt, report.text.as_str(), keys_told, "keys");
+        same(&rt, report.text.as_str(), keys_reported, "keys");
         let report = listing_report(&rt, listing);
-        same(&rt, report.text.as_str(), listing_told, "listing");
+        same(&rt, report.text.as_str(), listing_reported, "listing");
     }
 }
 
@@ -424,7 +430,11 @@ fn keys_and_listings_are_checked(rt: HostRuntime) {
 fn report_with(rt: &(impl AllocGlobal + Abort), keys: &[u8]) -> Report {
     let more = Some(key_report(rt, keys));
     let (rope, script): (&[u8], &[u8]) = (&[0x70, 0x08], b"");
-    let mut inputs = RunInputs { rope, script };
+    let mut inputs = RunInputs {
+        rope,
+        script,
+        wrong: 0,
+    };
     check_with(rt.alloc(), RopeForm::Classic, &mut inputs, &more)
         .ok()
         .expect(rt, "a report")
@@ -441,8 +451,8 @@ fn ends_with(rt: &(impl AllocGlobal + Abort), report: &Report, status: u8, last:
 
 /// The report on other files comes last, and their fault makes the whole report faulty.
 #[test]
-fn other_files_are_told_last(rt: HostRuntime) {
-    for (keys, status, told) in [
+fn other_files_are_reported_last(rt: HostRuntime) {
+    for (keys, status, reported) in [
         (b"ENTR".as_slice(), 0, "\nscript: events 0\nkeys: 1\n"),
         (
             b"ENTER".as_slice(),
@@ -450,7 +460,7 @@ fn other_files_are_told_last(rt: HostRuntime) {
             "\nscript: events 0\nkeys: BadKey\n    word 1: unknown key `ENTER`; did you mean `ENTR`?\n",
         ),
     ] {
-        ends_with(&rt, &report_with(&rt, keys), status, told);
+        ends_with(&rt, &report_with(&rt, keys), status, reported);
     }
 }
 
@@ -458,6 +468,7 @@ fn other_files_are_told_last(rt: HostRuntime) {
 fn options(limit: u64) -> RunOptions {
     RunOptions {
         form: RopeForm::Classic,
+        ignores_parity: false,
         limit,
         until: None,
     }
@@ -477,6 +488,7 @@ fn comparing(rt: &impl AllocGlobal, limit: u64) -> CompareArgs {
         files: no_files(rt),
         other: no_files(rt),
         options: options(limit),
+        other_form: RopeForm::Classic,
         shown: None,
         names: None,
         other_names: None,
@@ -491,10 +503,15 @@ fn compared(
     limit: u64,
 ) -> Result<DiffOutcome, AnalysisFault> {
     let script: &[u8] = b"";
-    let mut left = RunInputs { rope: left, script };
+    let mut left = RunInputs {
+        rope: left,
+        script,
+        wrong: 0,
+    };
     let mut right = RunInputs {
         rope: right,
         script,
+        wrong: 0,
     };
     let names = SideNames {
         left: &None,
@@ -512,10 +529,10 @@ fn compared(
 }
 
 /// Checks how a comparison begins, with this status.
-fn begins(rt: &(impl AllocGlobal + Abort), found: &DiffOutcome, status: u8, told: &str) {
+fn begins(rt: &(impl AllocGlobal + Abort), found: &DiffOutcome, status: u8, reported: &str) {
     let mut out = Vec::new(rt.alloc());
-    same(rt, write_outcome(found, &mut out), status, told);
-    holds(rt, found.text.as_str().starts_with(told), told);
+    same(rt, write_outcome(found, &mut out), status, reported);
+    holds(rt, found.text.as_str().starts_with(reported), reported);
 }
 
 /// TCF 4000 alone, beside itself and beside a rope that jumps to 4001, where there is a word of +0.
@@ -533,19 +550,97 @@ fn runs_are_compared(rt: HostRuntime) {
             "The runs part at boundary 1, cycle 0 and 0:\n",
         ),
     ];
-    for (other, status, told) in others {
+    for (other, status, reported) in others {
         let found = compared(&rt, &[0x30, 0x00], other, 2)
             .ok()
             .expect(&rt, "a comparison");
-        begins(&rt, &found, status, told);
+        begins(&rt, &found, status, reported);
     }
 }
 
+/// Compares TCF 4000 in the classic form with the same order in the form with parity, in this form.
+fn compared_in(
+    rt: &(impl AllocGlobal + Abort),
+    form: RopeForm,
+    ignores_parity: bool,
+    last: u8,
+) -> Result<DiffOutcome, AnalysisFault> {
+    let mut rope = repeated(rt, 0, 4096);
+    rope.push(0x30).ok().expect(rt, "memory");
+    rope.push(last).ok().expect(rt, "memory");
+    let (left, script): (&[u8], &[u8]) = (&[0x30, 0x00], b"");
+    let mut left = RunInputs {
+        rope: left,
+        script,
+        wrong: 0,
+    };
+    let mut right = RunInputs {
+        rope: rope.as_slice(),
+        script,
+        wrong: 0,
+    };
+    let names = SideNames {
+        left: &None,
+        right: &None,
+    };
+    let mut args = comparing(rt, 2);
+    args.other_form = form;
+    args.options.ignores_parity = ignores_parity;
+    let compared = compare_files(
+        rt.alloc(),
+        &args,
+        names,
+        &mut left,
+        &mut right,
+        &mut NoProgress,
+    );
+    same(rt, left.wrong, 0, "left");
+    let wrong = usize::from(compared.is_ok() && form == RopeForm::Parity && last == 0);
+    same(rt, right.wrong, wrong, "right");
+    compared
+}
+
+/// 3001 hex has three one bits, and 3000 two. In the classic form the order is at 00,2000, and nothing at 4000.
+#[test]
+fn runs_in_two_forms_are_compared(rt: HostRuntime) {
+    for (form, ignores_parity, last, status, reported) in [
+        (
+            RopeForm::Parity,
+            false,
+            1,
+            0,
+            "The runs are the same: 3 boundaries, 0 writes, stop at cycle 2\n",
+        ),
+        (
+            RopeForm::Parity,
+            true,
+            0,
+            0,
+            "The runs are the same: 3 boundaries, 0 writes, stop at cycle 2\n",
+        ),
+        (
+            RopeForm::Classic,
+            true,
+            1,
+            1,
+            "The runs part at boundary 1, cycle 0 and 0:\n",
+        ),
+    ] {
+        let found = compared_in(&rt, form, ignores_parity, last)
+            .ok()
+            .expect(&rt, "a comparison");
+        begins(&rt, &found, status, reported);
+    }
+    let trouble = compared_in(&rt, RopeForm::Parity, false, 0).err();
+    let reported = "agc-study: other run: rope: Parity; agc-study check explains it\n";
+    is_in_line(&rt, trouble.expect(&rt, reported), reported);
+}
+
 /// Checks the line that explains why two runs are not compared.
-fn is_in_line(rt: &(impl AllocGlobal + Abort), trouble: AnalysisFault, told: &str) {
+fn is_in_line(rt: &(impl AllocGlobal + Abort), trouble: AnalysisFault, reported: &str) {
     let mut err = Vec::new(rt.alloc());
-    holds(rt, trouble.write_to(&mut err).is_ok(), told);
-    same(rt, err.as_slice(), told.as_bytes(), told);
+    holds(rt, trouble.write_to(&mut err).is_ok(), reported);
+    same(rt, err.as_slice(), reported.as_bytes(), reported);
 }
 
 /// An empty rope is reported as usual for the left run, and as the other run's for the right run; a limit of 0
@@ -572,9 +667,9 @@ fn the_run_at_fault_is_named(rt: HostRuntime) {
             "agc-study: limit: Zero; --limit is 1 to 1000000000000 cycles\n",
         ),
     ];
-    for (left, right, limit, told) in ropes {
+    for (left, right, limit, reported) in ropes {
         let trouble = compared(&rt, left, right, limit).err();
-        is_in_line(&rt, trouble.expect(&rt, told), told);
+        is_in_line(&rt, trouble.expect(&rt, reported), reported);
     }
 }
 
@@ -596,7 +691,11 @@ fn filmed(
     rope: &[u8],
     script: &[u8],
 ) -> Result<FilmPage, LoadFault> {
-    let mut inputs = RunInputs { rope, script };
+    let mut inputs = RunInputs {
+        rope,
+        script,
+        wrong: 0,
+    };
     film_files(rt.alloc(), args, &mut inputs, &mut NoProgress)
 }
 
@@ -613,12 +712,12 @@ fn runs_are_filmed(rt: HostRuntime) {
         .ok()
         .expect(&rt, "a page");
     same(&rt, page.frames, 1, "frames");
-    for told in [
+    for reported in [
         "\nrope prog12\nscript pro\nlimit 10\n",
         "\nframe 3\nPROG 12\nVERB __\n",
         "\nkey 7 PRO\nstop 10 Limit\n",
     ] {
-        holds(&rt, page.text.as_str().contains(told), told);
+        holds(&rt, page.text.as_str().contains(reported), reported);
     }
     holds(&rt, !page.text.as_str().contains("frame 7"), "frame 7");
 }
@@ -630,6 +729,7 @@ fn watching(rt: &(impl AllocGlobal + Abort), watch: &str) -> JobsArgs {
         options: options(10),
         watch: owned(rt, watch),
         span: Span { from: 10, to: 10 },
+        names: None,
     }
 }
 
@@ -641,30 +741,34 @@ fn watched(
     out: &mut Vec<u8>,
 ) -> Result<u64, TraceError> {
     let script: &[u8] = b"";
-    let mut inputs = RunInputs { rope, script };
-    let machine = watch_files(rt.alloc(), args, &mut inputs, out, &mut NoProgress)?;
+    let mut inputs = RunInputs {
+        rope,
+        script,
+        wrong: 0,
+    };
+    let machine = watch_files(rt.alloc(), args, &None, &mut inputs, out, &mut NoProgress)?;
     Ok(machine.cycle())
 }
 
 /// Checks the error line of an incomplete result, with this status.
-fn is_told(rt: &(impl AllocGlobal + Abort), error: TraceError, status: u8, told: &str) {
+fn is_reported(rt: &(impl AllocGlobal + Abort), error: TraceError, status: u8, reported: &str) {
     let mut err = Vec::new(rt.alloc());
-    same(rt, status_of_trace_error(error, &mut err), status, told);
-    same(rt, err.as_slice(), told.as_bytes(), told);
+    same(rt, status_of_trace_error(error, &mut err), status, reported);
+    same(rt, err.as_slice(), reported.as_bytes(), reported);
 }
 
 /// Checks that no tables of a run are written, and the error line.
-fn is_not_watched(rt: &(impl AllocGlobal + Abort), args: &JobsArgs, rope: &[u8], told: &str) {
+fn is_not_watched(rt: &(impl AllocGlobal + Abort), args: &JobsArgs, rope: &[u8], reported: &str) {
     let mut out = Vec::new(rt.alloc());
     let error = watched(rt, args, rope, &mut out).err();
-    is_told(rt, error.expect(rt, told), 2, told);
-    holds(rt, out.is_empty(), told);
+    is_reported(rt, error.expect(rt, reported), 2, reported);
+    holds(rt, out.is_empty(), reported);
 }
 
 /// If a run's tables are requested, the text of `--watch` is checked after the files.
 #[test]
 fn tables_are_watched(rt: HostRuntime) {
-    for (rope, watch, told) in [
+    for (rope, watch, reported) in [
         (
             &[0x30, 0x00][..],
             "7,0,0,7,0,7",
@@ -681,7 +785,7 @@ fn tables_are_watched(rt: HostRuntime) {
             "agc-study: rope: Empty; agc-study check explains it\n",
         ),
     ] {
-        is_not_watched(&rt, &watching(&rt, watch), rope, told);
+        is_not_watched(&rt, &watching(&rt, watch), rope, reported);
     }
     let mut out = Vec::new(rt.alloc());
     let args = watching(&rt, "7,0,0,7,0,7,0");
@@ -693,8 +797,8 @@ fn tables_are_watched(rt: HostRuntime) {
 /// As in `agc`, the text of `--watch` is checked before that of `--until`, and the addresses of the tables after
 /// both.
 #[test]
-fn the_text_of_watch_is_told_before_that_of_until(rt: HostRuntime) {
-    for (watch, told) in [
+fn the_text_of_watch_is_reported_before_that_of_until(rt: HostRuntime) {
+    for (watch, reported) in [
         (
             "7,0,0,7,0,7",
             "agc-study: watch: BadSpec; --watch is seven octal numbers with commas between them\n",
@@ -706,7 +810,7 @@ fn the_text_of_watch_is_told_before_that_of_until(rt: HostRuntime) {
     ] {
         let mut args = watching(&rt, watch);
         args.options.until = Some(owned(&rt, "7"));
-        is_not_watched(&rt, &args, &[0x30, 0x00], told);
+        is_not_watched(&rt, &args, &[0x30, 0x00], reported);
     }
 }
 
@@ -720,19 +824,19 @@ fn filming_tables(rt: &(impl AllocGlobal + Abort), watch: &str) -> FilmArgs {
 }
 
 /// Checks that a run is not filmed with these tables, and the error line.
-fn is_not_filmed(rt: &(impl AllocGlobal + Abort), rope: &[u8], watch: &str, told: &str) {
+fn is_not_filmed(rt: &(impl AllocGlobal + Abort), rope: &[u8], watch: &str, reported: &str) {
     let refusal = filmed(rt, &filming_tables(rt, watch), rope, b"").err();
-    let trouble = AnalysisFault::Refused(refusal.expect(rt, told));
+    let trouble = AnalysisFault::Refused(refusal.expect(rt, reported));
     let mut err = Vec::new(rt.alloc());
-    same(rt, trouble.report_to(&mut err), 2, told);
-    same(rt, err.as_slice(), told.as_bytes(), told);
+    same(rt, trouble.report_to(&mut err), 2, reported);
+    same(rt, err.as_slice(), reported.as_bytes(), reported);
 }
 
 /// If a film shows a run's tables, the text of `--watch` is checked after the files; the tables begin at the first
 /// cycle of the film.
 #[test]
 fn tables_are_filmed(rt: HostRuntime) {
-    for (rope, watch, told) in [
+    for (rope, watch, reported) in [
         (
             &[0x30, 0x00][..],
             "7,0,0,7,0,7",
@@ -749,7 +853,7 @@ fn tables_are_filmed(rt: HostRuntime) {
             "agc-study: rope: Empty; agc-study check explains it\n",
         ),
     ] {
-        is_not_filmed(&rt, rope, watch, told);
+        is_not_filmed(&rt, rope, watch, reported);
     }
     let args = filming_tables(&rt, "7,0,0,7,0,7,0");
     let page = filmed(&rt, &args, &[0x30, 0x00], b"")

@@ -20,7 +20,7 @@ fn traced(
 ) -> String {
     let mut machine = machine_of(rt, listing, script, limit);
     let mut out = Vec::new(rt.alloc());
-    let told = trace(
+    let reported = trace(
         rt.alloc(),
         &mut machine,
         selection,
@@ -28,7 +28,7 @@ fn traced(
         &mut out,
         &mut NoProgress,
     );
-    assert!(rt; told.is_ok());
+    assert!(rt; reported.is_ok());
     String::from_utf8(out).ok().expect(rt, "a text")
 }
 
@@ -393,8 +393,8 @@ fn services_at_the_stop(rt: HostRuntime) {
         (20, 21, u64::MAX, None, None),
         (20, 5, 3, None, None),
     ] {
-        let told = service_left(&rt, limit, &between(&rt, from, to, only));
-        assert_eq!(rt; told, left, "{limit} {from} {to}");
+        let reported = service_left(&rt, limit, &between(&rt, from, to, only));
+        assert_eq!(rt; reported, left, "{limit} {from} {to}");
     }
 }
 

@@ -69,7 +69,9 @@ kbd { padding: 0 4px; border: 1px solid #6a6d68; border-radius: 3px; font: inher
 <button id='end'>End</button>
 <button id='difference' hidden>\u{2260} First difference</button>
 <label>Speed <select id='speed'>
-<option value='1'>1\u{d7} the machine\u{2019}s own</option>
+<option value='0.01'>1/100\u{d7}</option>
+<option value='0.1'>1/10\u{d7}</option>
+<option value='1' selected>1\u{d7} the machine\u{2019}s own</option>
 <option value='10'>10\u{d7}</option>
 <option value='100'>100\u{d7}</option>
 <option value='1000'>1000\u{d7}</option>
@@ -77,5 +79,5 @@ kbd { padding: 0 4px; border: 1px solid #6a6d68; border-radius: 3px; font: inher
 <output id='clock'></output>
 </div>
 </section>
-<p id='help'><kbd>Space</kbd> plays and stops, <kbd>\u{2190}</kbd> <kbd>\u{2192}</kbd> go from change to change, <kbd>Home</kbd> and <kbd>End</kbd> to the ends, <kbd>D</kbd> to the first difference, <kbd>1</kbd> to <kbd>4</kbd> set the speed. On the strip: below the line a stroke for each change, above it one for each key.</p>
+<p id='help'><kbd>Space</kbd> plays and stops, <kbd>\u{2190}</kbd> <kbd>\u{2192}</kbd> go from change to change, <kbd>Home</kbd> and <kbd>End</kbd> to the ends, <kbd>D</kbd> to the first difference, <kbd>1</kbd> to <kbd>4</kbd> set the speed, <kbd>&lt;</kbd> and <kbd>&gt;</kbd> lower and raise it. On the strip: below the line a stroke for each change, above it one for each key.</p>
 ";

@@ -4,7 +4,7 @@ use Rattle.agc_analysis.proofs.compares.compare_with.Goals as goal
 
 pub returns-in-Ok-clause-compared : goal.returns-in-Ok-clause-compared
 returns-in-Ok-clause-compared g c =
-    IfOk-weaker c.compare_as.result _ _ (λ outcome tells. (c.in-Ok.right, c.in-Ok.ensures.started, tells)) c.compare_as.ensures.tells
+    IfOk-weaker c.compare_as.result _ _ (λ outcome reports. (c.in-Ok.right, c.in-Ok.ensures.started, reports)) c.compare_as.ensures.reports
 
 pub returns-in-Ok-clause-refused : goal.returns-in-Ok-clause-refused
 returns-in-Ok-clause-refused g c = IfErr-weaker c.compare_as.result _ _ (λ t is. inl is) c.compare_as.ensures.refused

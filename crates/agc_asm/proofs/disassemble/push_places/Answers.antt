@@ -21,7 +21,7 @@ loop-place-preserved c =
     let next = c.read_next-read.ensures in
     record {
       text = text_more c.args.bank words place c.loop-place.read.follows c.loop-place.read.wanted c.loop-place.read.extracode word _ _ _
-          h.follows h.wanted h.extracode is h.text c.in_ok-push_place_said.ensures;
+          h.follows h.wanted h.extracode is h.text c.in_ok-push_text_at_place.ensures;
       follows = follows_next words place c.read_next-read.result.follows word is next.follows;
       wanted = wanted_next words place c.loop-place.read.wanted c.loop-place.read.extracode c.read_next-read.result.wanted word h.wanted h.extracode is next.wanted;
       extracode = extracode_next words place c.loop-place.read.extracode c.read_next-read.result.extracode word h.extracode is next.extracode;

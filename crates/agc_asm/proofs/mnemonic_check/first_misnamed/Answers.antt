@@ -1,11 +1,11 @@
 use Rattle.std.proofs.Common.{◌∙◌, ◌+◌, arith, sym}
-use Rattle.agc_asm.proofs.FirstMisnamed.{next_line, no_line, told_line}
+use Rattle.agc_asm.proofs.FirstMisnamed.{next_line, no_line, reported_line}
 use Rattle.agc_asm.proofs.mnemonic_check.first_misnamed.Goals as goal
 
 pub returns-in-Some-misnamed_at : goal.returns-in-Some-misnamed_at
 returns-in-Some-misnamed_at c =
     let same = rw c.in-Some.ensures.lines at c.loop-line.invariant.same in
-    sym (told_line _ _ _ _ _ same (sym c.in-Some-misnamed_at.ensures))
+    sym (reported_line _ _ _ _ _ same (sym c.in-Some-misnamed_at.ensures))
 
 pub loop-line-preserved : goal.loop-line-preserved
 loop-line-preserved c =

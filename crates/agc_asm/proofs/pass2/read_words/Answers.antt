@@ -20,7 +20,7 @@ pub loop-line-preserved : goal.loop-line-preserved
 loop-line-preserved c =
     let woven = rw c.plain_line.ensures at c.in-Ok.ensures.woven in
     let same = rw c.in-Some.ensures.lines at c.loop-line.invariant.same in
-    let next = next_woven (c.loop-line.lines + 1) _ c.loop-line.state c.loop-line.builder _ _ _ c.in-Ok.step (sym woven) c.in_ok-add_words-in-Ok.ensures.said in
+    let next = next_woven (c.loop-line.lines + 1) _ c.loop-line.state c.loop-line.builder _ _ _ c.in-Ok.step (sym woven) c.in_ok-add_words-in-Ok.ensures.parsed in
     record {
       same = sym next ∙ same;
       bytes = omega (arith, c.in-Some.ensures.shorter);

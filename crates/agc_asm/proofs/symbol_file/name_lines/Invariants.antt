@@ -2,12 +2,12 @@ use Rattle.std.specs.Prelude.{length}
 use Rattle.agc_word.specs.Text.{lines_of}
 use Rattle.agc_asm.specs.LocationCounter.{IsAt}
 use Rattle.agc_asm.specs.Name.{naming_of}
-use Rattle.agc_asm.proofs.ToldNames.{IsTold}
+use Rattle.agc_asm.proofs.ReportedNames.{IsOutcome}
 use Rattle.agc_asm.proofs.symbol_file.name_lines.Given as goal
 
 abbrev pub invariant-loop-line : goal.invariant-loop-line
 invariant-loop-line l = record {
-  told : IsTold l.fn.text (naming_of l.names) l.counter (lines_of l.rest) l.told.items;
+  reported : IsOutcome l.fn.text (naming_of l.names) l.counter (lines_of l.rest) l.reported.items;
   at : IsAt l.counter.at;
 }
 

@@ -2,7 +2,7 @@ use Rattle.std.proofs.Common.{◌≡◌, ◌≤◌, length, arith}
 use Rattle.std.specs.Prelude.{Some}
 use Rattle.std.proofs.lemmas.Result.{IfOk-weaker, IfErr-weaker}
 use Rattle.agc_load.specs.Keys.{keys_of}
-use Rattle.agc_load.proofs.Denied.{keys_known_accepted, keys_known_memory, keys_known_told, keys_known_unread}
+use Rattle.agc_load.proofs.Denied.{keys_known_accepted, keys_known_memory, keys_known_reported, keys_known_unread}
 use Rattle.agc_io.proofs.Whole.{of_all}
 use Rattle.agc_load.proofs.files.read_keys.Goals as goal
 
@@ -24,7 +24,7 @@ returns-clause-refused g c =
     let refused = rw c.as_slice.ensures.value at c.keys_named.ensures.refused in
     let few : length c.in-Ok.bytes.items ≤ 65536 = omega (arith, c.in-Ok.bytes.ok.0, c.in-Ok.ensures.bound) in
     IfErr-weaker c.keys_named.result _ _
-    (λ r e. keys_known_told _ _ c.in-Ok.bytes.items r c.in-Ok.ensures.bytes c.in-Ok.ensures.end few e) refused
+    (λ r e. keys_known_reported _ _ c.in-Ok.bytes.items r c.in-Ok.ensures.bytes c.in-Ok.ensures.end few e) refused
 
 pub returns-in-Err-CannotRead-clause-refused : goal.returns-in-Err-CannotRead-clause-refused
 returns-in-Err-CannotRead-clause-refused g c =

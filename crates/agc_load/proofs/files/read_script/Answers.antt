@@ -2,7 +2,7 @@ use Rattle.std.proofs.Common.{◌≡◌, ◌≤◌, length, arith}
 use Rattle.std.proofs.lemmas.Result.{IfOk-weaker, IfErr-weaker}
 use Rattle.agc_script.specs.Parse.{script_of}
 use Rattle.agc_load.specs.Files.{events_in}
-use Rattle.agc_load.proofs.Denied.{script_known_accepted, script_known_memory, script_known_told, script_known_unread}
+use Rattle.agc_load.proofs.Denied.{script_known_accepted, script_known_memory, script_known_reported, script_known_unread}
 use Rattle.agc_io.proofs.Whole.{of_all}
 use Rattle.agc_load.proofs.files.read_script.Goals as goal
 
@@ -24,7 +24,7 @@ returns-clause-refused g c =
     let refused = rw c.as_slice.ensures.value at c.script_of.ensures.refused in
     let few : length c.in-Ok.bytes.items ≤ 16777216 = omega (arith, c.in-Ok.bytes.ok.0, c.in-Ok.ensures.bound) in
     IfErr-weaker c.script_of.result _ _
-    (λ r e. script_known_told _ _ c.in-Ok.bytes.items r c.in-Ok.ensures.bytes c.in-Ok.ensures.end few e) refused
+    (λ r e. script_known_reported _ _ c.in-Ok.bytes.items r c.in-Ok.ensures.bytes c.in-Ok.ensures.end few e) refused
 
 pub returns-in-Err-CannotRead-clause-refused : goal.returns-in-Err-CannotRead-clause-refused
 returns-in-Err-CannotRead-clause-refused g c =

@@ -9,6 +9,6 @@ loop-place-init c = (no_lines _ _, extracode_first c.args.store.now.fixed)
 pub loop-place-preserved : goal.loop-place-preserved
 loop-place-preserved c =
     let extracode = c.leads_on-extracode.ensures ∙ c.loop-place.invariant.1 in (
-      more_words c.args.layout c.args.whole c.args.counts.now c.args.store.now.fixed c.loop-place.place _ _ _ _ _ _ _ extracode c.word_at-word.ensures c.at-tally.ensures c.at-reads.ensures c.loop-place.invariant.0 c.in_ok-push_word.ensures,
+      more_words c.args.form.now c.args.counts.now c.args.store.now.fixed c.loop-place.place _ _ _ _ _ _ _ extracode c.word_at-word.ensures c.at-tally.ensures c.at-reads.ensures c.loop-place.invariant.0 c.in_ok-push_word.ensures,
       extracode_next c.args.store.now.fixed c.loop-place.place c.leads_on-extracode.result c.next_is_extracode-leads.result c.word_at-word.result extracode c.word_at-word.ensures c.next_is_extracode-leads.ensures,
     )

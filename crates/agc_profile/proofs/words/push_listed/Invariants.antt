@@ -7,5 +7,5 @@ use Rattle.agc_profile.proofs.words.push_listed.Given as goal
 -- the lines so far, and whether the next word is an extracode
 abbrev pub invariant-loop-place : goal.invariant-loop-place
 invariant-loop-place l =
-    (string_bytes l.text ≡ string_bytes l.initial.text ++ lines_below l.place (word_line l.layout l.whole l.counts l.store.fixed))
+    (string_bytes l.text ≡ string_bytes l.initial.text ++ lines_below l.place (word_line l.form l.counts l.store.fixed))
     × (l.leads && not (starts_run l.place) ≡ is_extracode_at l.store.fixed l.place)

@@ -4,13 +4,13 @@ use Rattle.agc_trace.specs.NamedLine.{line_with}
 use Rattle.agc_trace.proofs.Lines.{written_whole}
 use Rattle.agc_repl.specs.Repl.{after_boundaries}
 use Rattle.agc_repl.proofs.Beginning.{begun, not_memory}
-use Rattle.agc_repl.proofs.Going.{goes_then, stays_put}
-use Rattle.agc_repl.proofs.Stepping.{all_taken, boundaries_on, no_boundaries, none_after_stop, none_taken, one_said, stop_said}
+use Rattle.agc_repl.proofs.Going.{runs_then, stays_run}
+use Rattle.agc_repl.proofs.Stepping.{all_taken, boundaries_on, no_boundaries, none_after_stop, none_taken, one_parsed, stop_parsed}
 use Rattle.agc_repl.proofs.Telling.{grows_then, pushed, stays_known}
 use Rattle.agc_repl.proofs.commands.step.Goals as goal
 
 pub loop-boundary-init : goal.loop-boundary-init
-loop-boundary-init g c = (none_taken c.args.names.now _ _ c.args.repl.now.session.now _ (omega arith), ap (λ (n : ℕ). after_boundaries n c.args.repl.now) (omega arith), stays_put _, stays_known _)
+loop-boundary-init g c = (none_taken c.args.names.now _ _ c.args.repl.now.session.now _ (omega arith), ap (λ (n : ℕ). after_boundaries n c.args.repl.now) (omega arith), stays_run _, stays_known _)
 
 pub returns-then-is_stop-clause-lines : goal.returns-then-is_stop-clause-lines
 returns-then-is_stop-clause-lines g c =
@@ -18,7 +18,7 @@ returns-then-is_stop-clause-lines g c =
     pushed (g.W.Write.contents c.loop-boundary.output) (g.W.Write.contents c.write_part.new.output) (string_bytes c.loop-boundary.text)
     (string_bytes c.push_line_with.new.text) (string_bytes c.write_part.new.text) (line_with c.args.names.now c.next_entry-entry.result)
     c.in_ok-push_line_with.ensures c.in_ok-write_part.ensures.same in
-    stop_said c.args.names.now _ (c.args.boundaries - (c.loop-boundary._boundary + 1)) _ c.next_entry-entry.result _ _ _ _
+    stop_parsed c.args.names.now _ (c.args.boundaries - (c.loop-boundary._boundary + 1)) _ c.next_entry-entry.result _ _ _ _
     (omega (arith, c.loop-boundary-test.true)) c.next_entry-entry.ensures.entry
     (sym c.is_stop.ensures ∙ c.if-is_stop.true) c.loop-boundary.invariant.0 line
 
@@ -28,12 +28,12 @@ loop-boundary-preserved g c =
     pushed (g.W.Write.contents c.loop-boundary.output) (g.W.Write.contents c.write_part.new.output) (string_bytes c.loop-boundary.text)
     (string_bytes c.push_line_with.new.text) (string_bytes c.write_part.new.text) (line_with c.args.names.now c.next_entry-entry.result)
     c.in_ok-push_line_with.ensures c.in_ok-write_part.ensures.same in (
-      one_said c.args.names.now _ (c.args.boundaries - (c.loop-boundary._boundary + 1)) _ _ c.next_entry-entry.result _ _ _ _
+      one_parsed c.args.names.now _ (c.args.boundaries - (c.loop-boundary._boundary + 1)) _ _ c.next_entry-entry.result _ _ _ _
           (omega (arith, c.loop-boundary-test.true)) c.next_entry-entry.ensures.entry c.next_entry-entry.ensures.now
           (sym c.is_stop.ensures ∙ c.if-is_stop.false) c.loop-boundary.invariant.0 line,
       sym (boundaries_on _ (c.args.boundaries - (c.loop-boundary._boundary + 1)) c.loop-boundary.repl c.next_entry-entry.new.repl (omega (arith, c.loop-boundary-test.true))
           c.next_entry-entry.ensures.now c.next_entry-entry.ensures.shown) ∙ c.loop-boundary.invariant.1,
-      goes_then _ _ _ c.loop-boundary.invariant.2 c.next_entry-entry.ensures.on,
+      runs_then _ _ _ c.loop-boundary.invariant.2 c.next_entry-entry.ensures.on,
       grows_then _ _ _ c.loop-boundary.invariant.3 (c.in_ok-write_part.ensures.grows (λ e. cc)),
     )
 
@@ -53,16 +53,16 @@ returns-clause-gone g c =
     sym (no_boundaries _ c.loop-boundary.repl (omega (arith, c.loop-boundary-test.false))) ∙ c.loop-boundary.invariant.1
 
 pub returns-then-is_stop-clause-on : goal.returns-then-is_stop-clause-on
-returns-then-is_stop-clause-on g c = goes_then _ _ _ c.loop-boundary.invariant.2 c.next_entry-entry.ensures.on
+returns-then-is_stop-clause-on g c = runs_then _ _ _ c.loop-boundary.invariant.2 c.next_entry-entry.ensures.on
 
 pub returns-then-is_stop-clause-grows : goal.returns-then-is_stop-clause-grows
 returns-then-is_stop-clause-grows g c never = grows_then _ _ _ c.loop-boundary.invariant.3 (c.in_ok-write_part.ensures.grows (λ e. cc))
 
 pub returns-in_err-push_line_with-clause-on : goal.returns-in_err-push_line_with-clause-on
-returns-in_err-push_line_with-clause-on g c = goes_then _ _ _ c.loop-boundary.invariant.2 c.next_entry-entry.ensures.on
+returns-in_err-push_line_with-clause-on g c = runs_then _ _ _ c.loop-boundary.invariant.2 c.next_entry-entry.ensures.on
 
 pub returns-in_err-write_part-clause-on : goal.returns-in_err-write_part-clause-on
-returns-in_err-write_part-clause-on g c = goes_then _ _ _ c.loop-boundary.invariant.2 c.next_entry-entry.ensures.on
+returns-in_err-write_part-clause-on g c = runs_then _ _ _ c.loop-boundary.invariant.2 c.next_entry-entry.ensures.on
 
 pub returns-in_err-write_part-clause-grows : goal.returns-in_err-write_part-clause-grows
 returns-in_err-write_part-clause-grows g c never =

@@ -2,7 +2,7 @@ use Rattle.std.proofs.Common.{◌≡◌, ◌-◌, string_bytes}
 use Rattle.std.specs.Io.KnownBytes.{append_known}
 use Rattle.agc_trace.proofs.Lines.{IsWritten}
 use Rattle.agc_repl.specs.Answered.{Grows}
-use Rattle.agc_repl.specs.Repl.{GoesOn, after_boundaries}
+use Rattle.agc_repl.specs.Repl.{RunsOn, after_boundaries}
 use Rattle.agc_repl.proofs.Stepping.{lines}
 use Rattle.agc_repl.proofs.commands.step.Given as goal
 
@@ -12,5 +12,5 @@ invariant-loop-boundary g l =
     (append_known (g.W.Write.contents l.output) (string_bytes l.text))
     (lines l.fn.names (l.boundaries - l._boundary) l.repl.session.now) (lines l.fn.names l.boundaries l.initial.repl.session.now)
     × (after_boundaries (l.boundaries - l._boundary) l.repl ≡ after_boundaries l.boundaries l.initial.repl)
-    × GoesOn l.initial.repl.session l.repl.session
+    × RunsOn l.initial.repl l.repl
     × Grows (g.W.Write.contents l.initial.output) (g.W.Write.contents l.output)

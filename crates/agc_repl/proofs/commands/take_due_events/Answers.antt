@@ -13,11 +13,11 @@ loop-event-init c = (refl, stays_put _)
 pub loop-event-preserved : goal.loop-event-preserved
 loop-event-preserved c =
     let so_far = c.loop-event.invariant in
-    let comes = c.upcoming.ensures.told ∙ ap upcoming_of c.machine.ensures in
+    let comes = c.upcoming.ensures.reported ∙ ap upcoming_of c.machine.ensures in
     let event : is_event c.upcoming.result ≡ true = ap is_event c.in-Event.is in (
       due_more _ (65537 - (c.loop-event._event + 1)) c.args.repl.now _ _ _ c.upcoming.result _ (omega (arith, c.loop-event-test.true)) comes event
           c.step.ensures.boundary c.step.ensures.shown so_far.0,
-      goes_then _ _ _ so_far.1 c.step.ensures.on,
+      goes_then _ _ _ so_far.1 c.step.ensures.on.session,
     )
 
 pub returns-clause-taken : goal.returns-clause-taken
@@ -26,6 +26,6 @@ returns-clause-taken c =
 
 pub returns-in_default-clause-taken : goal.returns-in_default-clause-taken
 returns-in_default-clause-taken c =
-    let comes = c.upcoming.ensures.told ∙ ap upcoming_of c.machine.ensures in
+    let comes = c.upcoming.ensures.reported ∙ ap upcoming_of c.machine.ensures in
     let none : is_event (upcoming_of c.loop-event.repl.session.now) ≡ false = ap is_event (sym comes) ∙ not_event c.upcoming.result c.in_default.not-Event in
     ap (λ (s : SessionState). record c.loop-event.repl { session = s }) (sym (due_ends (65537 - c.loop-event._event) c.loop-event.repl.session none)) ∙ c.loop-event.invariant.0

@@ -15,10 +15,10 @@ pub returns-in-Ok-execute : goal.returns-in-Ok-execute
 returns-in-Ok-execute g c =
     when_ok c.write_text-in-Ok-execute.result c.write_text-in-Ok-execute.ensures.ok
     (λ written. inl (
-      c.in-Ok-execute.ensures.said.0,
+      c.in-Ok-execute.ensures.parsed.0,
       all_written (g.W.Write.contents c.args.output.now) (g.W.Write.contents c.execute.new.output)
           (g.W.Write.contents c.write_text-in-Ok-execute.new.output) (string_bytes c.in-Ok.text) (string_bytes c.execute.new.text) c.deref.result.now _
-          c.in-Ok.ensures.bytes c.deref.ensures c.in-Ok-execute.ensures.said.1 written,
+          c.in-Ok.ensures.bytes c.deref.ensures c.in-Ok-execute.ensures.parsed.1 written,
     ))
 
 pub returns : goal.returns

@@ -4,8 +4,8 @@ use Rattle.agc_run.specs.Entry.{IsKeysReport}
 use Rattle.agc_load.specs.Files.{keys_steps}
 use Rattle.agc_load.specs.Prepare.{run_steps}
 use Rattle.agc_run.proofs.Printed.{with_keys}
-use Rattle.agc_run.proofs.Refused.{run_told}
-use Rattle.agc_load.proofs.Told.{known_any, known_first, known_later}
+use Rattle.agc_run.proofs.Refused.{run_reported}
+use Rattle.agc_load.proofs.Reported.{known_any, known_first, known_later}
 use Rattle.agc_run.proofs.entry.live_report.Goals as goal
 
 pub returns-in_err-keys-clause-report : goal.returns-in_err-keys-clause-report
@@ -27,4 +27,4 @@ returns-clause-report g c =
     (with_keys c.args.options.now c.args.prepared.machine _ c.in_ok-keys.keys.items c.report_live_run.result c.in_ok-run.ensures.checked
     c.in_ok-keys.ensures.keys c.report_live_run.ensures.report
     (IfErr-weaker c.report_live_run.result _ _
-    (λ r h. run_told c.args.options.now r c.in_ok-run.ensures.slots c.in_ok-run.ensures.spacing tables h) c.report_live_run.ensures.refused))
+    (λ r h. run_reported c.args.options.now r c.in_ok-run.ensures.slots c.in_ok-run.ensures.spacing tables h) c.report_live_run.ensures.refused))

@@ -16,7 +16,7 @@ fn reading_limits(rt: HostRuntime) {
 }
 
 /// Returns a run of ten cycles on this rope.
-fn as_rope(rope: &[u8]) -> Asked<'_> {
+fn as_rope(rope: &[u8]) -> Requested<'_> {
     on_file("--limit 10", rope, b"")
 }
 

@@ -7,8 +7,8 @@ use agc_test_support::{KeyRendezvous, Slow};
 const TURNS: u32 = 1_000_000;
 
 /// Returns a session with live keys on the relay word.
-fn relayed<'a>(line: &'a str, keys: &'a [u8]) -> Asked<'a> {
-    Asked {
+fn relayed<'a>(line: &'a str, keys: &'a [u8]) -> Requested<'a> {
+    Requested {
         line,
         rope: GivenRope::Listing(RELAY_WORD),
         script: b"",
@@ -93,12 +93,12 @@ fn keys_are_not_read(rt: HostRuntime) {
 }
 
 /// Checks that a session whose keys cannot be read ends with this error line, or without one.
-fn ends_unread(rt: &impl Host, line: &str, told: &str) {
+fn ends_unread(rt: &impl Host, line: &str, reported: &str) {
     let file = file_of(rt, IDLE);
     let (mut rope, mut script): (&[u8], &[u8]) = (file.as_slice(), b"");
     let mut keys = Source::new(b"FOO", 4, 1);
     let ended = run_files(rt, line, &mut rope, &mut script, &mut keys, &Open);
-    ends_with(rt, &ended, told);
+    ends_with(rt, &ended, reported);
 }
 
 /// The watcher's text comes after the remaining keys.
@@ -180,13 +180,13 @@ fn text_of_pressed<G: Gate + Sync>(rt: &impl Host, spacing: u64, gate: &G) -> St
     let line = format!(in rt.alloc(); "--limit 100000 --log --live --spacing {spacing}").expect(
         rt, "memory",
     );
-    let asked = Asked {
+    let requested = Requested {
         line: line.as_str(),
         rope: GivenRope::Listing(KEYED_WRITES),
         script: b"",
         keys: b"VERB 3 5\n",
     };
-    let ended = run_gated(rt, asked, gate);
+    let ended = run_gated(rt, requested, gate);
     text_of(rt, line.as_str(), ended)
 }
 

@@ -25,8 +25,8 @@ pub fn leaves(rt: &impl Host, run: Run<'_>) {
         rt, "memory",
     );
     let after = lines_after(rt, run);
-    let asked = without_keys(line.as_str(), run.listing, run.script.as_bytes());
-    stops(rt, asked, "__", after.as_str());
+    let requested = without_keys(line.as_str(), run.listing, run.script.as_bytes());
+    stops(rt, requested, "__", after.as_str());
 }
 
 /// Returns its text after `STOP `.

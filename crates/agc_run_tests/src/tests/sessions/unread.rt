@@ -5,14 +5,14 @@ use agc_io::WRITE_FAILED;
 
 /// Runs the relay word with `0 raise 1` and one live key, from sources of few bytes a read that each fail at one
 /// read.
-fn reads_fail(rt: &impl Host, fails_at: [u32; 3], told: &str) {
+fn reads_fail(rt: &impl Host, fails_at: [u32; 3], reported: &str) {
     let file = file_of(rt, RELAY_WORD);
     let mut rope = Source::new(file.as_slice(), 4, fails_at[0]);
     let mut script = Source::new(b"0 raise 1", 4, fails_at[1]);
     let mut keys = Source::new(b" \tKEYREL\n", 4, fails_at[2]);
     let line = "--limit 2 --live";
     let ended = run_files(rt, line, &mut rope, &mut script, &mut keys, &Open);
-    ends_with(rt, &ended, told);
+    ends_with(rt, &ended, reported);
     let all_read = rope.is_at_end() && script.is_at_end() && keys.is_at_end();
     assert!(rt; ended.status == REFUSED || all_read);
 }

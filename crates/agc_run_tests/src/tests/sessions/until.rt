@@ -189,13 +189,13 @@ fn run_to_the_service<G: Gate + Sync>(
     let line = format!(in rt.alloc(); "--limit {limit} --log --live --until 0,4024").expect(
         rt, "memory",
     );
-    let asked = Asked {
+    let requested = Requested {
         line: line.as_str(),
         rope: GivenRope::Listing(listing),
         script: b"",
         keys: b"VERB 3",
     };
-    let ended = run_gated(rt, asked, gate);
+    let ended = run_gated(rt, requested, gate);
     text_of(rt, line.as_str(), ended)
 }
 

@@ -1,6 +1,6 @@
 use Rattle.std.proofs.Common.{arith, sym, ◌∙◌}
 use Rattle.agc_script.proofs.Lines.{next_lines, faulty_line, takable_line, all_lines}
-use Rattle.agc_script.proofs.Told.{first_fault, sound_line, faultless_file}
+use Rattle.agc_script.proofs.Reported.{first_fault, sound_line, faultless_file}
 use Rattle.agc_script.proofs.parse.read_lines.Goals as goal
 
 pub returns-in-Err-clause-fault : goal.returns-in-Err-clause-fault

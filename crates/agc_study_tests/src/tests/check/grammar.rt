@@ -27,7 +27,7 @@ fn taken(rt: &(impl AllocGlobal + Abort), script: &str) {
 }
 
 /// Returns the report on a script of one line.
-fn told_of_line(
+fn reported_of_line(
     rt: &(impl AllocGlobal + Abort),
     script: &str,
     kind: FaultKind,
@@ -41,8 +41,8 @@ fn told_of_line(
 /// Checks that a script of one line is rejected for this kind of fault, and how it is reported.
 fn refused(rt: &(impl AllocGlobal + Abort), script: &str, kind: FaultKind, why: &str) {
     same(rt, fault_of(rt, script), Some(kind), script);
-    let text = told_of_line(rt, script, kind, why);
-    told(rt, script.as_bytes(), text.as_str(), false);
+    let text = reported_of_line(rt, script, kind, why);
+    reported(rt, script.as_bytes(), text.as_str(), false);
 }
 
 /// A range of the grammar: the line is a cycle, the words before a number, the number, and the words after it.
@@ -185,7 +185,7 @@ fn tables(rt: HostRuntime) {
 }
 
 /// Returns the report on a line with one word too many for its command.
-fn form_told(rt: &(impl AllocGlobal + Abort), usage: &str, command: Command) -> String {
+fn form_reported(rt: &(impl AllocGlobal + Abort), usage: &str, command: Command) -> String {
     let given = command.argument_count().saturating_add(1);
     format!(in rt.alloc(); "write `{usage}`: here are {given} words after the command")
         .ok()
@@ -196,7 +196,7 @@ fn form_told(rt: &(impl AllocGlobal + Abort), usage: &str, command: Command) -> 
 fn has_form(rt: &(impl AllocGlobal + Abort), right: &str, usage: &str, command: Command) {
     taken(rt, joined(rt, &["0 ", right]).as_str());
     let line = joined(rt, &["0 ", right, " 0"]);
-    let why = form_told(rt, usage, command);
+    let why = form_reported(rt, usage, command);
     refused(rt, line.as_str(), FaultKind::UnknownWord, why.as_str());
 }
 

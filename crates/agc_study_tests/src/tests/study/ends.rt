@@ -13,7 +13,7 @@ use std::io::{self, ErrorKind, Write};
 /// The error line and the status of an incomplete trace.
 #[test]
 fn traces_end(rt: HostRuntime) {
-    for (error, status, told) in [
+    for (error, status, reported) in [
         (
             TraceError::Refused(LoadFault::BadUntilSpec),
             2,
@@ -31,8 +31,8 @@ fn traces_end(rt: HostRuntime) {
             "agc-study: memory\n",
         ),
     ] {
-        is_told(&rt, error, status, told);
-        same(&rt, status_of_trace_error(error, &mut Full), 3, told);
+        is_reported(&rt, error, status, reported);
+        same(&rt, status_of_trace_error(error, &mut Full), 3, reported);
     }
 }
 
@@ -83,7 +83,11 @@ fn service_of(
     limit: u64,
     out: &mut impl Write,
 ) -> Result<Option<Service>, TraceError> {
-    let mut inputs = RunInputs { rope, script };
+    let mut inputs = RunInputs {
+        rope,
+        script,
+        wrong: 0,
+    };
     let args = tracing(rt, limit);
     let form = LineForm::new(rt.alloc(), None, None);
     let traced = trace_files(rt.alloc(), &args, &form, &mut inputs, out, &mut NoProgress)?;
@@ -92,7 +96,7 @@ fn service_of(
 
 /// The key comes at 2, its interrupt is taken there, and the service has not ended at 6.
 #[test]
-fn a_service_is_told(rt: HostRuntime) {
+fn a_service_is_reported(rt: HostRuntime) {
     let rope = serves(&rt);
     let mut out = Vec::new(rt.alloc());
     let service = service_of(&rt, rope.as_slice(), b"2 key VERB", 6, &mut out);

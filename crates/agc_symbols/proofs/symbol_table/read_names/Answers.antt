@@ -11,9 +11,9 @@ returns-in-Err-clause-fault c = λ other.
 pub loop-line-preserved : goal.loop-line-preserved
 loop-line-preserved c =
     let same = rw c.in-Some.ensures.lines at c.loop-line.invariant.same in
-    let next = next_named (c.loop-line.lines + 1) c.loop-line.names.items _ _ (option_named c.in-Ok.said) (sym c.in-Ok.ensures) in
+    let next = next_named (c.loop-line.lines + 1) c.loop-line.names.items _ _ (option_named c.in-Ok.parsed) (sym c.in-Ok.ensures) in
     record {
-      same = rw c.in_ok-add_said-in-Ok.ensures (sym next ∙ same);
+      same = rw c.in_ok-add_parsed-in-Ok.ensures (sym next ∙ same);
       bytes = omega (arith, c.in-Some.ensures.shorter);
     }
 

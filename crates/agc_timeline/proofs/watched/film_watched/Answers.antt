@@ -1,9 +1,9 @@
-use Rattle.std.proofs.Common.{◌≡◌, List, ℕ, ◌++◌, rules, ap, ◌∙◌, arith}
+use Rattle.std.proofs.Common.{◌≡◌, List, ℕ, None, ◌++◌, rules, ap, ◌∙◌, arith}
 use Rattle.agc_timeline.specs.Changes.{shown_after, sights_in}
 use Rattle.agc_timeline.specs.Film.{Telling, after_first, held_at, until}
-use Rattle.agc_timeline.specs.Lines.{told_of}
+use Rattle.agc_timeline.specs.Lines.{reported_of}
 use Rattle.agc_timeline.specs.States.{states_of}
-use Rattle.agc_timeline.proofs.OverPart.{film_told}
+use Rattle.agc_timeline.proofs.OverPart.{film_reported}
 use Rattle.agc_timeline.specs.Frames.{last_of}
 use Rattle.agc_timeline.specs.Recording.{end_of}
 use Rattle.agc_timeline.specs.Watched.{span_of}
@@ -31,10 +31,10 @@ returns-clause-tables g c =
     let spec = c.args.spec.now in
     let start = c.args.machine.now in
     let met = c.open-panel.new.machine in
-    let told = rw (c.last.ensures) at c.in_ok-stop.ensures.tables in
+    let reported = rw (c.last.ensures) at c.in_ok-stop.ensures.tables in
     let opening : c.open-panel.new.opening ≡ held_at spec span.from start =
     c.open-panel.ensures.tables ∙ ap (λ (t : List ℕ). shown_after t (sights_in (until span.from) spec (states_of start))) c.nothing-opening.ensures in
-    let lines = c.into_text.ensures ∙ told
-    ∙ ap (λ (t : Telling). t.text ++ told_of t.shown (sights_in (after_first span) spec (states_of met))) c.in_ok-tables.ensures
-    ∙ film_told span spec start met c.open-panel.new.opening opening (c.open-panel.ensures.later span.to) in
+    let lines = c.into_text.ensures ∙ reported
+    ∙ ap (λ (t : Telling). t.text ++ reported_of None t.shown (sights_in (after_first span) spec (states_of met))) c.in_ok-tables.ensures
+    ∙ film_reported span spec start met c.open-panel.new.opening opening (c.open-panel.ensures.later span.to) in
     if_ok c.recording_up_to.result (λ recording same. has_lines recording.tables c.into_text.result _ same lines) c.recording_up_to.ensures.tables

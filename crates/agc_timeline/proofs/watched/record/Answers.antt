@@ -1,7 +1,7 @@
 use Rattle.std.proofs.Common.{sym, ◌∙◌, arith}
 use Rattle.agc_machine.proofs.Before.{fewer_after_way}
 use Rattle.agc_timeline.specs.Film.{after_first}
-use Rattle.agc_timeline.proofs.OverPart.{one_boundary, told_last, told_next, told_past}
+use Rattle.agc_timeline.proofs.OverPart.{one_boundary, reported_last, reported_next, reported_past}
 use Rattle.agc_timeline.proofs.RecordedFilm.{ends_at_cycle, ends_at_stop, fewer_after_way_write, passed_at_cycle, passed_at_stop, passing_quiet, passing_write, stopped_at}
 use Rattle.agc_timeline.proofs.watched.record.Goals as goal
 
@@ -17,7 +17,7 @@ loop-alloc-preserved-in-Quiet g c =
         passing_quiet 0 _ _ _ _ so_far.0 (omega arith) (omega (arith, c.cycle.ensures.cycle, c.loop-alloc-test.true)) on_way so_far.1,
         so_far.2,
       ),
-      told_next (after_first c.args.span) c.args.spec.now _ _ _ _ _ _ (one_boundary _ _ _ on_way) c.in_ok-look.ensures.shown c.in_ok-look.ensures.text
+      reported_next (after_first c.args.span) c.args.spec.now _ _ _ _ _ _ (one_boundary _ _ _ on_way) c.in_ok-look.ensures.shown c.in_ok-look.ensures.text
           ∙ c.loop-alloc.invariant.1,
     )
 
@@ -33,7 +33,7 @@ loop-alloc-preserved g c =
         passing_write 0 _ _ _ _ so_far.0 _ (omega arith) (omega (arith, c.cycle.ensures.cycle, c.loop-alloc-test.true)) on_way so_far.1,
         λ from before h. c.in_ok-take-in-Wrote.ensures from before so_far.0 (so_far.2 from before h),
       ),
-      told_next (after_first c.args.span) c.args.spec.now _ _ _ _ _ _ (one_boundary _ _ _ on_way) c.in_ok-look.ensures.shown c.in_ok-look.ensures.text
+      reported_next (after_first c.args.span) c.args.spec.now _ _ _ _ _ _ (one_boundary _ _ _ on_way) c.in_ok-look.ensures.shown c.in_ok-look.ensures.text
           ∙ c.loop-alloc.invariant.1,
     )
 
@@ -58,8 +58,8 @@ returns-in-Stopped-clause-stop g c = λ l. sym (stopped_at _ _ _ _ c.in-Stopped.
 pub returns-in-Stopped-clause-tables : goal.returns-in-Stopped-clause-tables
 returns-in-Stopped-clause-tables g c =
     let on_way = c.in-Stopped.ensures.next in
-    told_last (after_first c.args.span) c.args.spec.now _ _ _ _ _ (stopped_at _ _ _ _ on_way) c.in_ok-look-in-Stopped.ensures.text
-    ∙ told_next (after_first c.args.span) c.args.spec.now _ _ _ _ _ _ (one_boundary _ _ _ on_way) c.in_ok-look.ensures.shown c.in_ok-look.ensures.text
+    reported_last (after_first c.args.span) c.args.spec.now _ _ _ _ _ (stopped_at _ _ _ _ on_way) c.in_ok-look-in-Stopped.ensures.text
+    ∙ reported_next (after_first c.args.span) c.args.spec.now _ _ _ _ _ _ (one_boundary _ _ _ on_way) c.in_ok-look.ensures.shown c.in_ok-look.ensures.text
     ∙ c.loop-alloc.invariant.1
 
 pub returns-clause-recorded : goal.returns-clause-recorded
@@ -78,4 +78,4 @@ returns-clause-machine g c =
 
 pub returns-clause-tables : goal.returns-clause-tables
 returns-clause-tables g c =
-    told_past (after_first c.args.span) c.args.spec.now _ _ _ (omega (arith, c.cycle.ensures.cycle, c.loop-alloc-test.false)) ∙ c.loop-alloc.invariant.1
+    reported_past (after_first c.args.span) c.args.spec.now _ _ _ (omega (arith, c.cycle.ensures.cycle, c.loop-alloc-test.false)) ∙ c.loop-alloc.invariant.1

@@ -6,7 +6,7 @@ use Rattle.agc_machine.specs.declared.answer.Stepped.{Stepped}
 use Rattle.agc_machine.specs.declared.answer.Stop.{Stop}
 use Rattle.agc_trace.specs.Trace.{entries_left}
 use Rattle.agc_io.proofs.Begun.{any_err}
-use Rattle.agc_timeline.proofs.OneByOne.{last_told, nothing_told, past_told, state_begun, state_told}
+use Rattle.agc_timeline.proofs.OneByOne.{last_reported, nothing_reported, past_reported, state_begun, state_reported}
 use Rattle.agc_timeline.proofs.States.{fewer_states}
 use Rattle.agc_timeline.proofs.watching.write_in_span.Goals as goal
 
@@ -22,11 +22,11 @@ fewer_after : (s t : State) → t ≡ (boundary None s).0 → is_some s.stopped 
 fewer_after s t e f = subst (λ (u : State). entries_left u < entries_left s) (sym e) (fewer_states s f)
 
 pub loop-alloc-init : goal.loop-alloc-init
-loop-alloc-init g c = nothing_told c.args.span c.args.spec.now _ _ _ c.nothing-shown.ensures
+loop-alloc-init g c = nothing_reported c.args.names.now c.args.span c.args.spec.now _ _ _ c.nothing-shown.ensures
 
 pub returns-then-is_some-clause-lines : goal.returns-then-is_some-clause-lines
 returns-then-is_some-clause-lines g c =
-    last_told c.args.span c.args.spec.now _ _ _ _ _ _
+    last_reported c.args.names.now c.args.span c.args.spec.now _ _ _ _ _ _
     (stopped_by _ c.is_some.result _ c.loop-alloc.machine c.stopped.ensures c.is_some.ensures c.if-is_some.true)
     c.loop-alloc.invariant c.in_ok-write_state.ensures.lines
 
@@ -37,15 +37,15 @@ loop-alloc-smaller g c =
 
 pub loop-alloc-preserved : goal.loop-alloc-preserved
 loop-alloc-preserved g c =
-    state_told c.args.span c.args.spec.now _ _ _ _ _ c.loop-alloc.machine _ _
+    state_reported c.args.names.now c.args.span c.args.spec.now _ _ _ _ _ c.loop-alloc.machine _ _
     (stopped_by _ c.is_some.result _ c.loop-alloc.machine c.stopped.ensures c.is_some.ensures c.if-is_some.false)
     (stepped_to c.loop-alloc.machine _ c.step.result c.step.ensures.boundary)
     c.loop-alloc.invariant c.in_ok-write_state.ensures.lines c.in_ok-write_state.ensures.shown
 
 pub returns-clause-lines : goal.returns-clause-lines
 returns-clause-lines g c =
-    past_told c.args.span c.args.spec.now _ _ _ _ _ (omega (arith, c.cycle.ensures.cycle, c.loop-alloc-test.false)) c.loop-alloc.invariant
+    past_reported c.args.names.now c.args.span c.args.spec.now _ _ _ _ _ (omega (arith, c.cycle.ensures.cycle, c.loop-alloc-test.false)) c.loop-alloc.invariant
 
 pub returns-in_err-write_state-clause-cut : goal.returns-in_err-write_state-clause-cut
 returns-in_err-write_state-clause-cut g c =
-    any_err _ (state_begun c.args.span c.args.spec.now _ _ _ _ c.loop-alloc.machine _ c.loop-alloc.invariant c.in_err-write_state.ensures.cut)
+    any_err _ (state_begun c.args.names.now c.args.span c.args.spec.now _ _ _ _ c.loop-alloc.machine _ c.loop-alloc.invariant c.in_err-write_state.ensures.cut)

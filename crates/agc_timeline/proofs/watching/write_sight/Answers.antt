@@ -1,4 +1,4 @@
-use Rattle.std.proofs.Common.{◌≡◌, ap, ◌∙◌, subst, refl, ℕ, List}
+use Rattle.std.proofs.Common.{◌≡◌, ap, ◌∙◌, subst, refl, ℕ, List, Option}
 use Rattle.std.specs.Io.KnownBytes.{Appends}
 use Rattle.agc_store.specs.Memory.{Memory}
 use Rattle.agc_panel.specs.Tables.{WatchedTables, tables_of}
@@ -6,6 +6,7 @@ use Rattle.agc_panel.specs.TablesText.{tables_text}
 use Rattle.agc_panel.specs.Watcher.{watch_text}
 use Rattle.agc_panel.specs.declared.watch_spec.WatchSpec.{WatchSpec}
 use Rattle.agc_machine.specs.State.{State}
+use Rattle.agc_symbols.specs.Symbols.{Symbol}
 use Rattle.agc_timeline.specs.Changes.{sight_of}
 use Rattle.agc_timeline.specs.Lines.{change_text, lines_at, lines_in}
 use Rattle.agc_timeline.proofs.OneByOne.{nothing_new, on_ok}
@@ -19,14 +20,14 @@ unfolding watch_text
 text_of s m spec tables e f = ap tables_text f ∙ ap (λ (n : Memory). tables_text (tables_of n spec)) e
 
 -- the lines that changed are what is told of the change
-told_of_change : (s : State) (spec : WatchSpec) (cycle : ℕ) (shown text told lines : List ℕ) → cycle ≡ s.cycle → text ≡ (sight_of spec s).text →
-    told ≡ lines_at cycle (lines_in shown) (lines_in text) → lines ≡ told → lines ≡ change_text shown (sight_of spec s)
+reported_of_change : (names : Option (List Symbol)) (s : State) (spec : WatchSpec) (cycle : ℕ) (shown text reported lines : List ℕ) → cycle ≡ s.cycle → text ≡ (sight_of spec s).text →
+    reported ≡ lines_at names cycle (lines_in shown) (lines_in text) → lines ≡ reported → lines ≡ change_text names shown (sight_of spec s)
 unfolding change_text
-told_of_change s spec cycle shown text told lines c t e f = f ∙ e ∙ rw (c, t) refl
+reported_of_change names s spec cycle shown text reported lines c t e f = f ∙ e ∙ rw (c, t) refl
 
 pub returns-then-is_of-clause-lines : goal.returns-then-is_of-clause-lines
 returns-then-is_of-clause-lines g c =
-    nothing_new _ c.args.shown.now (sight_of c.args.spec.now c.args.machine.now)
+    nothing_new c.args.names.now _ c.args.shown.now (sight_of c.args.spec.now c.args.machine.now)
     (c.is_of.ensures c.if-is_of.true ∙ text_of c.args.machine.now c.store.result.now c.args.spec.now c.read-tables.result c.store.ensures c.read-tables.ensures)
 
 pub returns-then-is_of-clause-shown : goal.returns-then-is_of-clause-shown
@@ -36,9 +37,9 @@ returns-then-is_of-clause-shown g c =
 pub returns-in-Ok-clause-lines : goal.returns-in-Ok-clause-lines
 returns-in-Ok-clause-lines g c =
     let text = text_of c.args.machine.now c.store.result.now c.args.spec.now c.read-tables.result c.store.ensures c.read-tables.ensures in
-    let told = told_of_change c.args.machine.now c.args.spec.now c.cycle.result c.args.shown.now (tables_text c.read-tables.result) _ c.as_str.result.now c.cycle.ensures.cycle text
-    c.in-Ok.ensures.told c.as_str.ensures.value in
-    on_ok c.write_lines.result (λ h. subst (λ (lines : List ℕ). Appends (g.W.Write.contents c.args.out.now) (g.W.Write.contents c.write_lines.new.out) lines) told h)
+    let reported = reported_of_change c.args.names.now c.args.machine.now c.args.spec.now c.cycle.result c.args.shown.now (tables_text c.read-tables.result) _ c.as_str.result.now c.cycle.ensures.cycle text
+    c.in-Ok.ensures.reported c.as_str.ensures.value in
+    on_ok c.write_lines.result (λ h. subst (λ (lines : List ℕ). Appends (g.W.Write.contents c.args.out.now) (g.W.Write.contents c.write_lines.new.out) lines) reported h)
     c.write_lines.ensures.lines
 
 pub returns-in-Ok-clause-shown : goal.returns-in-Ok-clause-shown
@@ -49,9 +50,9 @@ returns-in-Ok-clause-shown g c =
 pub returns-in-Ok-clause-cut : goal.returns-in-Ok-clause-cut
 returns-in-Ok-clause-cut g c =
     let text = text_of c.args.machine.now c.store.result.now c.args.spec.now c.read-tables.result c.store.ensures c.read-tables.ensures in
-    let told = told_of_change c.args.machine.now c.args.spec.now c.cycle.result c.args.shown.now (tables_text c.read-tables.result) _ c.as_str.result.now c.cycle.ensures.cycle text
-    c.in-Ok.ensures.told c.as_str.ensures.value in
-    on_err c.write_lines.result (λ h. begun_as _ _ c.as_str.result.now _ told h) c.write_lines.ensures.cut
+    let reported = reported_of_change c.args.names.now c.args.machine.now c.args.spec.now c.cycle.result c.args.shown.now (tables_text c.read-tables.result) _ c.as_str.result.now c.cycle.ensures.cycle text
+    c.in-Ok.ensures.reported c.as_str.ensures.value in
+    on_err c.write_lines.result (λ h. begun_as _ _ c.as_str.result.now _ reported h) c.write_lines.ensures.cut
 
 pub returns-in-Err-clause-cut : goal.returns-in-Err-clause-cut
 returns-in-Err-clause-cut g c = none_begun _ _

@@ -4,7 +4,7 @@ use Rattle.agc_machine.specs.State.{State}
 use Rattle.agc_timeline.specs.Changes.{is_in}
 use Rattle.agc_trace.specs.declared.span.Span.{Span}
 use Rattle.agc_io.proofs.Begun.{on_err}
-use Rattle.agc_timeline.proofs.OneByOne.{begun_inside, on_ok, shown_inside, shown_outside, told_inside, told_outside}
+use Rattle.agc_timeline.proofs.OneByOne.{begun_inside, on_ok, shown_inside, shown_outside, reported_inside, reported_outside}
 use Rattle.agc_timeline.proofs.watching.write_state.Goals as goal
 
 -- a state is in the span where its cycle is one of it
@@ -14,7 +14,7 @@ is_in_by b has span s cycle e f h = ap (λ (n : ℕ). nat_le span.from n && nat_
 pub returns-then-has-clause-lines : goal.returns-then-has-clause-lines
 returns-then-has-clause-lines g c =
     let inside = is_in_by _ c.has.result c.args.span c.args.machine.now c.cycle.result c.cycle.ensures.cycle c.has.ensures c.if-has.true in
-    on_ok c.write_sight.result (told_inside c.args.span c.args.spec.now _ _ c.args.shown.now c.args.machine.now inside) c.write_sight.ensures.lines
+    on_ok c.write_sight.result (reported_inside c.args.names.now c.args.span c.args.spec.now _ _ c.args.shown.now c.args.machine.now inside) c.write_sight.ensures.lines
 
 pub returns-then-has-clause-shown : goal.returns-then-has-clause-shown
 returns-then-has-clause-shown g c =
@@ -23,7 +23,7 @@ returns-then-has-clause-shown g c =
 
 pub returns-else-has-clause-lines : goal.returns-else-has-clause-lines
 returns-else-has-clause-lines g c =
-    told_outside c.args.span c.args.spec.now _ c.args.shown.now c.args.machine.now
+    reported_outside c.args.names.now c.args.span c.args.spec.now _ c.args.shown.now c.args.machine.now
     (is_in_by _ c.has.result c.args.span c.args.machine.now c.cycle.result c.cycle.ensures.cycle c.has.ensures c.if-has.false)
 
 pub returns-else-has-clause-shown : goal.returns-else-has-clause-shown
@@ -34,4 +34,4 @@ returns-else-has-clause-shown g c =
 pub returns-then-has-clause-cut : goal.returns-then-has-clause-cut
 returns-then-has-clause-cut g c =
     let inside = is_in_by _ c.has.result c.args.span c.args.machine.now c.cycle.result c.cycle.ensures.cycle c.has.ensures c.if-has.true in
-    on_err c.write_sight.result (begun_inside c.args.span c.args.spec.now _ _ c.args.shown.now c.args.machine.now inside) c.write_sight.ensures.cut
+    on_err c.write_sight.result (begun_inside c.args.names.now c.args.span c.args.spec.now _ _ c.args.shown.now c.args.machine.now inside) c.write_sight.ensures.cut

@@ -26,18 +26,18 @@ loop-alloc-init g c = record { kept = nothing_kept _ _ _ c.requires; fits = sear
 pub loop-alloc-smaller : goal.loop-alloc-smaller
 loop-alloc-smaller g c =
     let fewer = fewer_after_entry _ _ c.in_ok-recorded.recorded.entry c.in_ok-recorded.ensures.entry c.next_watched.ensures.after (sym c.is_stop.ensures ∙ c.if-is_stop.false) in
-    omega (arith, c.pass_unasked-service.ensures.fewer, fewer)
+    omega (arith, c.pass_unrequested-service.ensures.fewer, fewer)
 
 pub loop-alloc-preserved : goal.loop-alloc-preserved
 loop-alloc-preserved g c = record {
-  kept = rw c.pass_unasked-service.ensures.entries (entry_kept c.args.selection.now _ _ _ _ _ _ _ _ (shown_is _ _ _ _ _ c.as_slice-in-loop-alloc.ensures.value c.in_ok-recorded.ensures.watched) c.next_watched.ensures.after
+  kept = rw c.pass_unrequested-service.ensures.entries (entry_kept c.args.selection.now _ _ _ _ _ _ _ _ (shown_is _ _ _ _ _ c.as_slice-in-loop-alloc.ensures.value c.in_ok-recorded.ensures.watched) c.next_watched.ensures.after
       (sym c.is_stop.ensures ∙ c.if-is_stop.false) c.loop-alloc.invariant.kept c.in_ok-keep_selected.ensures.kept);
   fits = c.in_ok-keep_selected.ensures.fits;
-  service = c.pass_unasked-service.ensures.service ∙ rw c.service_after-service.ensures
+  service = c.pass_unrequested-service.ensures.service ∙ rw c.service_after-service.ensures
       (left_after c.args.selection.now _ _ _ c.in_ok-recorded.recorded.entry c.in_ok-recorded.ensures.entry c.next_watched.ensures.after
       (omega (arith, c.cycle.ensures.cycle, c.loop-alloc-test.true)) (sym c.is_stop.ensures ∙ c.if-is_stop.false)
       ∙ c.loop-alloc.invariant.service);
-  seen = c.in_ok-recorded.ensures.seen ∙ sym c.pass_unasked-service.ensures.seen;
+  seen = c.in_ok-recorded.ensures.seen ∙ sym c.pass_unrequested-service.ensures.seen;
 }
 
 pub returns-clause-entries : goal.returns-clause-entries

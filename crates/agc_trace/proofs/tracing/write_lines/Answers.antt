@@ -23,17 +23,17 @@ returns-then-is_stop-clause-service g c =
 pub loop-alloc-smaller : goal.loop-alloc-smaller
 loop-alloc-smaller g c =
     let fewer = fewer_after_entry _ _ c.in_ok-recorded.recorded.entry c.in_ok-recorded.ensures.entry c.next_watched.ensures.after (sym c.is_stop.ensures ∙ c.if-is_stop.false) in
-    omega (arith, c.pass_unasked-service.ensures.fewer, fewer)
+    omega (arith, c.pass_unrequested-service.ensures.fewer, fewer)
 
 pub loop-alloc-preserved : goal.loop-alloc-preserved
 loop-alloc-preserved g c = record {
-  written = rw c.pass_unasked-service.ensures.entries (line_written c.args.form.now c.args.selection.now _ _ _ _ _ _ _ _ (shown_is _ _ _ _ _ c.as_slice-in-loop-alloc.ensures.value c.in_ok-recorded.ensures.watched) c.next_watched.ensures.after
+  written = rw c.pass_unrequested-service.ensures.entries (line_written c.args.form.now c.args.selection.now _ _ _ _ _ _ _ _ (shown_is _ _ _ _ _ c.as_slice-in-loop-alloc.ensures.value c.in_ok-recorded.ensures.watched) c.next_watched.ensures.after
       (sym c.is_stop.ensures ∙ c.if-is_stop.false) c.loop-alloc.invariant.written c.in_ok-write_selected.ensures.line);
-  service = c.pass_unasked-service.ensures.service ∙ rw c.service_after-service.ensures
+  service = c.pass_unrequested-service.ensures.service ∙ rw c.service_after-service.ensures
       (left_after c.args.selection.now _ _ _ c.in_ok-recorded.recorded.entry c.in_ok-recorded.ensures.entry c.next_watched.ensures.after
       (omega (arith, c.cycle.ensures.cycle, c.loop-alloc-test.true)) (sym c.is_stop.ensures ∙ c.if-is_stop.false)
       ∙ c.loop-alloc.invariant.service);
-  seen = c.in_ok-recorded.ensures.seen ∙ sym c.pass_unasked-service.ensures.seen;
+  seen = c.in_ok-recorded.ensures.seen ∙ sym c.pass_unrequested-service.ensures.seen;
 }
 
 pub returns-clause-lines : goal.returns-clause-lines

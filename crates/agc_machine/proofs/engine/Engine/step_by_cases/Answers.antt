@@ -10,12 +10,12 @@ use Rattle.agc_machine.proofs.engine.Engine.step_by_cases.Goals as goal
 
 pub carry_out-requires-clause-applies : goal.carry_out-requires-clause-applies
 carry_out-requires-clause-applies c =
-    applies_begun (state_of c.args.self.now) _ c.in_default-stopped.is c.upcoming_by_cases-next.ensures.told
+    applies_begun (state_of c.args.self.now) _ c.in_default-stopped.is c.upcoming_by_cases-next.ensures.reported
 
 pub returns-clause-step : goal.returns-clause-step
 returns-clause-step c =
     let s = state_of c.args.self.now in
-    c.carry_out.ensures.step ∙ ap (λ (u : Upcoming). carried_out u (begun s)) c.upcoming_by_cases-next.ensures.told
+    c.carry_out.ensures.step ∙ ap (λ (u : Upcoming). carried_out u (begun s)) c.upcoming_by_cases-next.ensures.reported
     ∙ sym ((upcoming_comes s).comes c.in_default-stopped.is) ∙ ap (λ (live : Option What). boundary live s) (sym c.in_default.is)
 
 pub returns-in-Some-clause-step : goal.returns-in-Some-clause-step

@@ -8,8 +8,8 @@ use Rattle.agc_machine.specs.declared.upcoming.Upcoming.TheVariants as upcoming
 use Rattle.agc_machine.proofs.Stillness.{bare_upcoming}
 use Rattle.agc_machine.proofs.engine.Engine.upcoming.Goals as goal
 
-pub returns-then-eq-clause-told : goal.returns-then-eq-clause-told
-returns-then-eq-clause-told c =
+pub returns-then-eq-clause-reported : goal.returns-then-eq-clause-reported
+returns-then-eq-clause-reported c =
     let m = c.args.self.now in
     let some : 0 < m.quiet_until = omega arith in
     let bare : m.pace ≡ pace.Bare = search rules in

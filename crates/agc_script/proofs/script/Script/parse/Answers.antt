@@ -3,7 +3,7 @@ use Rattle.std.proofs.lemmas.List.Sorted.{All-permutation, length_permutation}
 use Rattle.agc_script.specs.Event.{IsInRange}
 use Rattle.agc_script.proofs.Arranged.{arranged-in_order}
 use Rattle.agc_script.proofs.Lines.{whole_file, last_line}
-use Rattle.agc_script.proofs.Told.{sound_line, arranged_file}
+use Rattle.agc_script.proofs.Reported.{sound_line, arranged_file}
 use Rattle.agc_script.proofs.script.Script.parse.Goals as goal
 
 pub invariant_of-result : goal.invariant_of-result

@@ -1,5 +1,5 @@
-use Rattle.agc_session.proofs.Begun.{when_told}
+use Rattle.agc_session.proofs.Begun.{when_reported}
 use Rattle.agc_session.proofs.session.Session.script.Goals as goal
 
 pub returns-clause-replay : goal.returns-clause-replay
-returns-clause-replay c = when_told c.join.result _ _ _ c.ok.ensures.value c.join.ensures.ok c.self.view_is c.self.invariant.session
+returns-clause-replay c = when_reported c.join.result _ _ _ c.ok.ensures.value c.join.ensures.ok c.self.view_is c.self.invariant.session

@@ -13,7 +13,7 @@ returns c =
           let opens = ap tables_text w.in-Some.tables-is ∙ sym (ap opening_text w.in-Some.is) ∙ c.opening.view_is in
           begun c.args.cycle _ _ c.args.opening (w.shown-is ∙ w.in_ok-text-in-Some.ensures.shown ∙ opens)
           (ap (λ (t : String Global). string_bytes t) w.text-is
-          ∙ first_lines c.args.cycle c.nothing-shown.result _ _ c.args.opening c.nothing-shown.ensures w.in_ok-text-in-Some.ensures.told opens)
+          ∙ first_lines c.args.cycle c.nothing-shown.result _ _ c.args.opening c.nothing-shown.ensures w.in_ok-text-in-Some.ensures.reported opens)
       | in-None w ↦
           let opens = sym c.opening.view_is ∙ ap opening_text w.in-None.is in
           begun c.args.cycle _ _ c.args.opening (w.shown-is ∙ c.nothing-shown.ensures ∙ sym opens)

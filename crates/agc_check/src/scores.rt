@@ -1,0 +1,111 @@
+//! Scores the readings of an unknown rope file: which order of banks, place of the parity bit and order of bytes fits it
+//! best.
+ghost use Rattle.std.specs.Prelude.{◌≤◌, length};
+ghost use Rattle.agc_store.specs.Places.{fixed_words};
+
+use crate::parity::{is_bad_parity, right_parity};
+use crate::reading::{ParityBit, Reading, convert};
+use crate::rope_bytes::file_of_words;
+use crate::walk::{Reach, follow_orders};
+use agc_store::place::FIXED_WORDS;
+use agc_store::{Rope, RopeForm, Store};
+use std::alloc::{AllocError, Global};
+
+/// How well a reading fits the words of a file.
+#[derive(Clone, Copy, Debug, PartialEq, Eq)]
+pub struct Score {
+    pub reading: Reading,
+    /// Per cent of the words that are not 0 whose parity is right, or whose unused bit is 0.
+    pub bits: usize,
+    /// What is reached in the rope that the file holds in this reading.
+    pub reach: Reach,
+    /// The legal orders that are reached less four for each other place that is reached, weighed by how far `bits` is
+    /// above one half.
+    pub points: usize,
+}
+
+/// Returns the score of each of the twelve readings of a file's words. The words past the last of a rope are left out.
+/// Fails if out of memory.
+pub fn score_readings(alloc: Global, words: &[u16]) -> Result<Vec<Score>, AllocError> {
+    let words = if words.len() > FIXED_WORDS as usize {
+        let (rope, _) = words.split_at(FIXED_WORDS as usize);
+        rope
+    } else {
+        words
+    };
+    let mut scores = Vec::new(alloc);
+    for is_swapped in [false, true] {
+        for parity in [ParityBit::Unused, ParityBit::Last, ParityBit::First] {
+            for order in [RopeForm::Classic, RopeForm::Parity] {
+                let reading = Reading {
+                    order,
+                    parity,
+                    is_swapped,
+                };
+                scores.push(score_of(alloc, reading, words)?)?;
+            }
+        }
+    }
+    Ok(scores)
+}
+
+/// Returns the score of a reading.
+fn score_of(alloc: Global, reading: Reading, words: &[u16]) -> Result<Score, AllocError>
+    requires { length words.now ≤ fixed_words }
+{
+    let last = match reading.parity {
+        ParityBit::Unused => ParityBit::Unused,
+        ParityBit::Last | ParityBit::First => ParityBit::Last,
+    };
+    let plain = Reading {
+        order: RopeForm::Parity,
+        parity: last,
+        is_swapped: false,
+    };
+    let meant = convert(alloc, reading, plain, words)?;
+    let bits = bits_right(meant.as_slice(), last);
+    let reach = reach_of(alloc, meant.as_slice())?;
+    Ok(Score {
+        reading,
+        bits,
+        reach,
+        points: points_of(bits, reach),
+    })
+}
+
+/// Returns per cent of the words that are not 0 whose last bit is as it should be.
+fn bits_right(words: &[u16], parity: ParityBit) -> usize {
+    let count = words.iter().filter(|word| **word != 0).count();
+    let right = words
+        .iter()
+        .filter(|word| **word != 0 && is_bit_right(**word, parity))
+        .count();
+    if count == 0 {
+        0
+    } else {
+        right.saturating_mul(100) / count
+    }
+}
+
+fn is_bit_right(word: u16, parity: ParityBit) -> bool {
+    match parity {
+        ParityBit::Unused => word % 2 == 0,
+        ParityBit::Last | ParityBit::First => !is_bad_parity(word),
+    }
+}
+
+/// Returns what is reached in the rope of these words, each with its parity bit last.
+fn reach_of(alloc: Global, words: &[u16]) -> Result<Reach, AllocError> {
+    let file = file_of_words(alloc, words)?;
+    let right = right_parity(alloc, file.as_slice())?;
+    match Rope::read_as(alloc, RopeForm::Parity, right.as_slice()) {
+        Ok(rope) => follow_orders(alloc, &Store::new(rope)),
+        Err(_) => Err(AllocError),
+    }
+}
+
+fn points_of(bits: usize, reach: Reach) -> usize {
+    let illegal = reach.reached.saturating_sub(reach.legal);
+    let orders = reach.legal.saturating_sub(illegal.saturating_mul(4));
+    orders.saturating_mul(bits.saturating_sub(50)) / 50
+}

@@ -1,0 +1,218 @@
+//! Follows the orders of a rope from 4000 and the interrupt vectors, and counts those that look right.
+use crate::legal::is_legal;
+use agc_order::{Basic, Extracode};
+use agc_store::Store;
+use agc_store::place::{FIXED_BANK_SIZE, FIXED_FIXED, FIXED_WINDOW, FIXED_WORDS};
+use agc_word::Narrow;
+use std::alloc::{AllocError, Global};
+
+/// The starts of a program: 4000, where it begins, and ten interrupt vectors, four words apart.
+const STARTS: usize = 11;
+
+/// DXCH FB and DXCH Z, and TS Z: jumps to a place that only the run knows.
+const FAR_JUMPS: [u16; 3] = [0o52005, 0o52006, 0o54005];
+
+/// How a rope reads if its orders are followed. A jump to another bank is not followed.
+#[derive(Clone, Copy, Debug, PartialEq, Eq)]
+pub struct Reach {
+    /// The words that are not +0.
+    pub words: usize,
+    /// The places that are reached. A place counts twice if it is reached as a basic order and as an extracode.
+    pub reached: usize,
+    /// Those with a legal order.
+    pub legal: usize,
+    /// The starts, 4000 and the vectors, that have a legal order; at most eleven.
+    pub starts: usize,
+    /// The words that are not +0 and not reached.
+    pub unreached: usize,
+}
+
+/// A place to be followed, as a basic order or as an extracode.
+#[derive(Clone, Copy, Debug, PartialEq, Eq)]
+struct Step {
+    place: usize,
+    extracode: bool,
+}
+
+/// The places that are reached so far.
+#[derive(Drop)]
+struct Walk {
+    /// For each place, whether it is reached as a basic order, and then for each place as an extracode.
+    seen: Vec<bool>,
+    /// Places that are reached and not followed yet.
+    open: Vec<Step>,
+}
+
+/// Follows the orders of the rope in a store. Fails if out of memory.
+pub fn follow_orders(alloc: Global, store: &Store) -> Result<Reach, AllocError> {
+    let mut walk = Walk {
+        seen: vec![in alloc; false; 2 * FIXED_WORDS as usize]?,
+        open: Vec::new(alloc),
+    };
+    let mut reach = Reach {
+        words: 0,
+        reached: 0,
+        legal: 0,
+        starts: 0,
+        unreached: 0,
+    };
+    for start in 0..STARTS {
+        let place = FIXED_FIXED as usize + 4 * start;
+        if is_order(store, place, false) {
+            reach.starts = reach.starts.saturating_add(1);
+            visit(&mut walk, place, false)?;
+        }
+    }
+    for _ in 0..2 * FIXED_WORDS {
+        let Some(step) = walk.open.pop() else {
+            break;
+        };
+        reach.reached = reach.reached.saturating_add(1);
+        if is_order(store, step.place, step.extracode) {
+            reach.legal = reach.legal.saturating_add(1);
+            follow(&mut walk, store, step)?;
+        }
+    }
+    count_words(&mut reach, &walk, store);
+    Ok(reach)
+}
+
+/// Returns whether a place has a word that is not +0, and it is legal there.
+fn is_order(store: &Store, place: usize, extracode: bool) -> bool {
+    if place >= FIXED_WORDS as usize {
+        return false;
+    }
+    let word = store.fixed_at(place);
+    word.bits() != 0 && is_legal(store, place, extracode, word)
+}
+
+/// Notes a place that is reached, unless it was reached before.
+fn visit(walk: &mut Walk, place: usize, extracode: bool) -> Result<(), AllocError> {
+    if place >= FIXED_WORDS as usize {
+        return Ok(());
+    }
+    let index = if extracode {
+        place + FIXED_WORDS as usize
+    } else {
+        place
+    };
+    if let Some(seen) = walk.seen.get_mut(index) {
+        if !*seen {
+            *seen = true;
+            walk.open.push(Step { place, extracode })?;
+        }
+    }
+    Ok(())
+}
+
+/// Notes the places to which an order leads.
+fn follow(walk: &mut Walk, store: &Store, step: Step) -> Result<(), AllocError> {
+    if step.place >= FIXED_WORDS as usize {
+        return Ok(());
+    }
+    let word = store.fixed_at(step.place);
+    if step.extracode {
+        follow_extracode(walk, step.place, word)
+    } else {
+        follow_basic(walk, step.place, word)
+    }
+}
+
+/// Notes the places to which a basic order leads.
+fn follow_basic(walk: &mut Walk, place: usize, word: Narrow) -> Result<(), AllocError> {
+    let bits = word.bits();
+    match Basic::named_by(word) {
+        Basic::Tc if bits < FIXED_WINDOW => Ok(()),
+        Basic::Tc => {
+            visit_target(walk, place, bits)?;
+            visit_next(walk, place, 1, false)
+        }
+        Basic::Tcf => visit_target(walk, place, bits),
+        Basic::Resume => Ok(()),
+        Basic::Extend => visit_next(walk, place, 1, true),
+        Basic::Ccs => {
+            for skip in 1..5 {
+                visit_next(walk, place, skip, false)?;
+            }
+            Ok(())
+        }
+        Basic::Dxch | Basic::Ts if FAR_JUMPS.contains(&bits) => Ok(()),
+        Basic::Ts => {
+            visit_next(walk, place, 1, false)?;
+            visit_next(walk, place, 2, false)
+        }
+        _ => visit_next(walk, place, 1, false),
+    }
+}
+
+/// Notes the places to which an extracode leads.
+fn follow_extracode(walk: &mut Walk, place: usize, word: Narrow) -> Result<(), AllocError> {
+    match Extracode::named_by(word) {
+        Extracode::Edrupt => Ok(()),
+        Extracode::Index => visit_next(walk, place, 1, true),
+        Extracode::Bzf | Extracode::Bzmf => {
+            visit_target(walk, place, word.bits())?;
+            visit_next(walk, place, 1, false)
+        }
+        _ => visit_next(walk, place, 1, false),
+    }
+}
+
+/// Notes a place of the same bank that comes some words later. Bank 03 follows bank 02.
+fn visit_next(
+    walk: &mut Walk,
+    place: usize,
+    skip: usize,
+    extracode: bool,
+) -> Result<(), AllocError> {
+    let next = place.saturating_add(skip);
+    if is_beside(place, next) {
+        visit(walk, next, extracode)
+    } else {
+        Ok(())
+    }
+}
+
+/// Returns whether two places are in the same bank, or both in banks 02 and 03.
+fn is_beside(place: usize, next: usize) -> bool {
+    let size = FIXED_BANK_SIZE as usize;
+    place / size == next / size || is_in_fixed_fixed(place) && is_in_fixed_fixed(next)
+}
+
+fn is_in_fixed_fixed(place: usize) -> bool {
+    FIXED_FIXED as usize <= place && place < 0o10000
+}
+
+/// Notes the place that a jump names, if it is in the same bank or in banks 02 and 03.
+fn visit_target(walk: &mut Walk, place: usize, bits: u16) -> Result<(), AllocError> {
+    let size = FIXED_BANK_SIZE as usize;
+    let address = usize::from(bits % 0o10000);
+    if address >= FIXED_FIXED as usize {
+        visit(walk, address, false)
+    } else if address >= FIXED_WINDOW as usize && !is_in_fixed_fixed(place) {
+        visit(
+            walk,
+            (place / size * size).saturating_add(address % size),
+            false,
+        )
+    } else {
+        Ok(())
+    }
+}
+
+/// Counts the words that are not +0, and those that are not reached.
+fn count_words(reach: &mut Reach, walk: &Walk, store: &Store) {
+    let size = FIXED_WORDS as usize;
+    for place in 0..size {
+        if store.fixed_at(place).bits() != 0 {
+            reach.words = reach.words.saturating_add(1);
+            if !is_seen(walk, place) && !is_seen(walk, place + size) {
+                reach.unreached = reach.unreached.saturating_add(1);
+            }
+        }
+    }
+}
+
+fn is_seen(walk: &Walk, index: usize) -> bool {
+    walk.seen.get(index).copied().unwrap_or(false)
+}

@@ -1,0 +1,55 @@
+-- A search back is answered by what it means.
+use Rattle.std.specs.Prelude.{◌≡◌, ◌<◌, ℕ, List, [], Option, None, Some, Ok, Err, IfOk, IfSome, codes}
+use Rattle.std.specs.Io.KnownBytes.{Appends}
+use Rattle.std.proofs.Common.{refl, ap, sym, subst, ◌∙◌, inl, inr}
+use Rattle.agc_repl.specs.Answered.{IsAnswered, IsHandled, IsItself, Means, Request, missed}
+use Rattle.agc_repl.specs.Command.{IsCommandInRange}
+use Rattle.agc_repl.specs.declared.command.Command.{Command}
+use Rattle.agc_repl.specs.declared.command.Command.TheVariants as command
+use Rattle.agc_repl.specs.declared.fault.CommandFault.{CommandFault}
+use Rattle.agc_repl.specs.declared.repl.Repl.{Repl}
+use Rattle.agc_session.specs.Breakpoint.{IsBreakpointInRange as IsSoughtInRange, IsFoundBack}
+use Rattle.agc_session.specs.declared.breakpoint.Breakpoint.{Breakpoint as SessionBreakpoint}
+use Rattle.agc_repl.proofs.Answering.{ran_out}
+use Rattle.agc_repl.proofs.Beginning.{nothing_begun}
+use Rattle.agc_symbols.specs.Symbols.{Symbol}
+
+means_itself : (request : Request) (s : Repl) → IsItself request → Means request s request
+means_itself (Ok (Some (command.BackTo what count))) s h = absurd h
+means_itself request s h = refl
+
+pub handled_itself : (names : Option (List Symbol)) (request : Request) (s t : Repl) (old new : Option (List ℕ)) → IsItself request
+    → IsAnswered names request s t old new → IsHandled names request s t old new
+handled_itself names request s t old new h k = inl (request, means_itself request s h, k)
+
+-- a search back found a cycle, or none, or memory ran out
+pub found_handled : (names : Option (List Symbol)) (what : SessionBreakpoint) (count cycle : ℕ) (s t : Repl) (old new : Option (List ℕ)) → IsFoundBack what count s.session (Some cycle)
+    → IsAnswered names (Ok (Some (command.Back cycle))) s t old new → IsHandled names (Ok (Some (command.BackTo what count))) s t old new
+found_handled names what count cycle s t old new h k = inl (Ok (Some (command.Back cycle)), (Some cycle, h, refl), k)
+
+pub missed_handled : (names : Option (List Symbol)) (what : SessionBreakpoint) (count : ℕ) (s t : Repl) (old new : Option (List ℕ)) → IsFoundBack what count s.session None
+    → IsAnswered names (Err (missed what)) s t old new → IsHandled names (Ok (Some (command.BackTo what count))) s t old new
+missed_handled names what count s t old new h k = inl (Err (missed what), (None, h, refl), k)
+
+pub short_handled : (names : Option (List Symbol)) (what : SessionBreakpoint) (count : ℕ) (s t : Repl) (old new : Option (List ℕ))
+    → (t ≡ s) × Appends old new (codes "error: memory\n") → IsHandled names (Ok (Some (command.BackTo what count))) s t old new
+short_handled names what count s t old new h =
+    inr (ran_out names (Ok (Some (command.BackTo what count))) s t [] old old new h.0 refl (nothing_begun _ old) h.1)
+
+-- what the arms of a match know
+pub found_as : (what : SessionBreakpoint) (count : ℕ) (s : Repl) (parsed found : Option ℕ) → parsed ≡ found → IsFoundBack what count s.session parsed → IsFoundBack what count s.session found
+found_as what count s parsed found e h = subst (IsFoundBack what count s.session) e h
+
+pub fault_as : (names : Option (List Symbol)) (a b : CommandFault) (s t : Repl) (old new : Option (List ℕ)) → a ≡ b
+    → IsAnswered names (Err a) s t old new → IsAnswered names (Err b) s t old new
+fault_as names a b s t old new e h = subst (λ (why : CommandFault). IsAnswered names (Err why) s t old new) e h
+
+pub search_in_range : (request : Request) (parsed : Option Command) (c : Command) (what : SessionBreakpoint) (count : ℕ) → request ≡ Ok parsed → parsed ≡ Some c → c ≡ command.BackTo what count
+    → IfOk request (λ read. IfSome read IsCommandInRange) → (0 < count) × IsSoughtInRange what
+unfolding IsCommandInRange
+search_in_range request parsed c what count e f h k = rw (e, f, h) at k
+
+pub handled_as : (names : Option (List Symbol)) (request : Request) (parsed : Option Command) (c : Command) (what : SessionBreakpoint) (count : ℕ) (s t : Repl) (old new : Option (List ℕ)) → request ≡ Ok parsed
+    → parsed ≡ Some c → c ≡ command.BackTo what count → IsHandled names (Ok (Some (command.BackTo what count))) s t old new → IsHandled names request s t old new
+handled_as names request parsed c what count s t old new e f h k =
+    subst (λ (r : Request). IsHandled names r s t old new) (sym (e ∙ ap Ok (f ∙ ap Some h))) k

@@ -1,0 +1,157 @@
+//! Prints where the machine is.
+ghost use Rattle.std.specs.Prelude.{◌≡◌, ◌++◌, ◌<◌, ◌%◌, ◌+◌, OnOk, codes, string_bytes};
+ghost use Rattle.agc_listing.specs.Place.{IsInPrint};
+ghost use Rattle.agc_machine.specs.Boundary.{bank_of_address, in_hand};
+ghost use Rattle.agc_store.specs.Places.{fixed_window};
+ghost use Rattle.agc_trace.specs.Line.{order_place};
+ghost use Rattle.agc_symbols.specs.Nearest.{nearest};
+ghost use Rattle.agc_repl.specs.Whereabouts.{
+  after_blank,
+  interrupted_address,
+  name_beside,
+  place_line,
+  service_text,
+  where_text,
+};
+
+use agc_listing::{Location, Place, location_at, push_place};
+use agc_machine::Machine;
+use agc_store::place::{ERASABLE_WINDOW, FIXED_FIXED, FIXED_WINDOW, ZRUPT};
+use agc_store::{Addr, Store};
+use agc_symbols::{SymbolTable, push_nearby};
+use std::alloc::AllocError;
+
+/// Adds the line of the order in hand, and while the service of an interrupt runs, that of the order interrupted.
+#[tactic(auto, unfolding(crate::specs::Whereabouts::where_text))]
+pub(crate) fn push_where(
+    text: &mut String,
+    names: &Option<SymbolTable>,
+    machine: &Machine,
+) -> Result<(), AllocError>
+    ensures { OnOk result
+        (string_bytes text.new ≡ string_bytes text.old ++ where_text names.now machine.now) }
+{
+    text.push_str("where ")?;
+    push_place_line(text, names, machine, address_in_hand(machine))?;
+    push_service(text, names, machine)
+}
+
+/// Returns the address of the order in hand: one before Z.
+#[tactic(auto, unfolding(agc_machine::specs::Boundary::in_hand))]
+fn address_in_hand(machine: &Machine) -> Addr
+    ensures { result ≡ (in_hand machine.now.processor).address }
+{
+    machine.store().z().previous()
+}
+
+/// Adds the line of the order interrupted, while a service runs.
+fn push_service(
+    text: &mut String,
+    names: &Option<SymbolTable>,
+    machine: &Machine,
+) -> Result<(), AllocError>
+    ensures { OnOk result (string_bytes text.new
+        ≡ string_bytes text.old ++ service_text names.now machine.now.processor) }
+{
+    if machine.serving() {
+        push_interrupted(text, names, machine)
+    } else {
+        Ok(())
+    }
+}
+
+/// Adds the line of the order interrupted.
+fn push_interrupted(
+    text: &mut String,
+    names: &Option<SymbolTable>,
+    machine: &Machine,
+) -> Result<(), AllocError>
+    ensures { OnOk result (string_bytes text.new ≡ string_bytes text.old ++ codes "service interrupted "
+        ++ place_line names.now machine.now.processor (interrupted_address machine.now.processor.store)) }
+{
+    text.push_str("service interrupted ")?;
+    push_place_line(text, names, machine, interrupted_address(machine.store()))
+}
+
+/// Returns the address of the order that an interrupt came before: one before that in ZRUPT.
+#[tactic(auto, unfolding(crate::specs::Whereabouts::interrupted_address))]
+fn interrupted_address(store: &Store) -> Addr
+    ensures { result ≡ interrupted_address store.now }
+{
+    Addr::wrapped(store.cell(0, ZRUPT).bits()).previous()
+}
+
+/// Adds the place that an address names with the present banks, with its nearest name if there is one.
+#[tactic(auto, unfolding(crate::specs::Whereabouts::place_line))]
+fn push_place_line(
+    text: &mut String,
+    names: &Option<SymbolTable>,
+    machine: &Machine,
+    address: Addr,
+) -> Result<(), AllocError>
+    ensures { OnOk result (string_bytes text.new
+        ≡ string_bytes text.old ++ place_line names.now machine.now.processor address) }
+{
+    let bank = bank_of_address(machine, address);
+    push_place(text, order_place(bank, address))?;
+    push_name_beside(text, names, location_at(bank, address))?;
+    text.push_str("\n")
+}
+
+/// Returns the bank that an address is in, in the two windows; elsewhere 0.
+fn bank_of_address(machine: &Machine, address: Addr) -> u8
+    ensures bank { result ≡ bank_of_address address machine.now.processor }
+    ensures range { result < 0o50 }
+    ensures erasable { address < fixed_window → result < 0o10 }
+{
+    match address.bits() {
+        0..ERASABLE_WINDOW => 0,
+        ERASABLE_WINDOW..FIXED_WINDOW => machine.store().erasable_bank(),
+        FIXED_WINDOW..FIXED_FIXED => machine.store().selected_bank(),
+        _ => 0,
+    }
+}
+
+/// Returns the place of an order, as traces print it.
+fn order_place(bank: u8, address: Addr) -> Place
+    requires bank { bank < 0o50 }
+    requires erasable { address < fixed_window → bank < 0o10 }
+    ensures place { result ≡ order_place bank address }
+    ensures range { IsInPrint result }
+{
+    let address = address.bits();
+    match address {
+        ERASABLE_WINDOW..FIXED_WINDOW => Place::Erasable { bank, address },
+        FIXED_WINDOW..FIXED_FIXED => Place::Fixed { bank, address },
+        _ => Place::Plain(address),
+    }
+}
+
+/// Adds a space and the nearest name of a place, if there are symbols and it has one.
+fn push_name_beside(
+    text: &mut String,
+    names: &Option<SymbolTable>,
+    at: Location,
+) -> Result<(), AllocError>
+    ensures { OnOk result
+        (string_bytes text.new ≡ string_bytes text.old ++ name_beside names.now at) }
+{
+    match names {
+        Some(names) => push_nearest(text, names, at),
+        None => Ok(()),
+    }
+}
+
+/// Adds a space and the nearest name of a place, if it has one.
+fn push_nearest(text: &mut String, names: &SymbolTable, at: Location) -> Result<(), AllocError>
+    ensures { OnOk result
+        (string_bytes text.new ≡ string_bytes text.old ++ after_blank (nearest names.now at)) }
+{
+    match names.named_at(at) {
+        Some(near) => {
+            text.push_str(" ")?;
+            push_nearby(text, near)
+        }
+        None => Ok(()),
+    }
+}

@@ -1,0 +1,15 @@
+use Rattle.std.proofs.Common.{arith, refl}
+use Rattle.agc_session.proofs.Counting.{finds_earlier, finds_fewer, finds_last}
+use Rattle.agc_session.proofs.search.search_stretch.Goals as goal
+
+pub returns-then-all-wanted-clause-searched : goal.returns-then-all-wanted-clause-searched
+returns-then-all-wanted-clause-searched c = λ n at.
+    finds_fewer _ n _ _ _ _ _ (c.in_ok-all.ensures n at) c.is_short.ensures c.if-all-wanted.true
+
+pub returns-then-wanted-eq1-clause-searched : goal.returns-then-wanted-eq1-clause-searched
+returns-then-wanted-eq1-clause-searched c = λ n at.
+    finds_last _ n _ _ _ _ _ (c.in_ok-all.ensures n at) c.is_short.ensures c.if-wanted-eq1.true (omega (arith, c.if-all-wanted.false))
+
+pub returns-clause-searched : goal.returns-clause-searched
+returns-clause-searched c = λ n at.
+    finds_earlier _ n _ _ _ _ _ _ _ (c.in_ok-all.ensures n at) c.is_short.ensures (c.in_ok-first.ensures n at) c.requires.some (omega (arith, c.if-all-wanted.false)) refl

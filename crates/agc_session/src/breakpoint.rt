@@ -1,0 +1,334 @@
+//! What a run forward or a search back stops at, and whether a boundary hits it.
+ghost use Rattle.std.specs.Prelude.{◌≡◌, ◌∷◌, [], ◌↔◌, ◌<◌, IsTrue, not, true, false};
+ghost use Rattle.agc_machine.specs.Boundary.{boundary, upcoming_of};
+ghost use Rattle.agc_machine.specs.State.{State};
+ghost use Rattle.agc_panel.specs.Face.{face_after};
+ghost use Rattle.agc_session.specs.Search.{IsOnWrite};
+ghost use Rattle.agc_session.specs.Session.{shown_after};
+ghost use Rattle.agc_session.specs.Breakpoint.{
+  Meets,
+  both_or_none,
+  is_channel_of,
+  is_order_at,
+  is_panel_change,
+  is_service_of,
+  is_value_of,
+  is_wanted,
+  is_write_of,
+  panel_after,
+  place_number,
+  same_digit,
+  same_lamp,
+  same_lamps,
+  same_location,
+  same_pair,
+  same_register,
+  same_word,
+  shows_same,
+  window_address,
+  word_at,
+};
+ghost use Rattle.agc_store.specs.Places.{erasable_cells};
+ghost use Rattle.agc_word.specs.Number.{pattern_of};
+
+use agc_listing::{Location, location_at};
+use agc_machine::{Machine, Stepped, Upcoming};
+use agc_panel::{Digit, Face, Lamp, Lamps, Pair, Panel, Register};
+use agc_processor::Rupt;
+use agc_store::Store;
+use agc_store::place::ERASABLE_BANK_SIZE;
+use agc_word::{ChannelWrite, Narrow};
+
+/// What a run, forward or backward, stops at.
+#[derive(Clone, Copy, Debug, PartialEq, Eq)]
+pub enum Breakpoint {
+    /// Every boundary.
+    Boundary,
+    /// The order at this place.
+    Order(Location),
+    /// A change of this cell, with overflow corrected. Its number is 400 octal times its bank, plus its offset.
+    Cell(u16),
+    /// A channel write: to this channel, or to any, and of this word, or of any.
+    Write {
+        channel: Option<u16>,
+        word: Option<Narrow>,
+    },
+    /// The start of the service of this interrupt, or of any.
+    Interrupt(Option<Rupt>),
+    /// A change of the panel.
+    Panel,
+}
+
+/// Takes one boundary, and returns whether the order at a place ran. The panel shows its write.
+#[inline(always)]
+#[tactic(auto, unfolding(crate::specs::Breakpoint::Meets))]
+pub(crate) fn step_order(place: Location, machine: &mut Machine, panel: &mut Panel) -> bool
+    ensures now { machine.new ≡ (boundary None machine.old).0 }
+    ensures panel { panel.new ≡ panel_after panel.old machine.old }
+    ensures hit { IsTrue result ↔ Meets (Breakpoint.Order place) panel.old machine.old }
+{
+    let hit = is_order_next(machine, place);
+    pass(machine, panel);
+    hit
+}
+
+/// Takes one boundary, and returns whether the service of this interrupt, or of any, began. The panel shows its write.
+#[inline(always)]
+#[tactic(auto, unfolding(crate::specs::Breakpoint::Meets))]
+pub(crate) fn step_service(which: Option<Rupt>, machine: &mut Machine, panel: &mut Panel) -> bool
+    ensures now { machine.new ≡ (boundary None machine.old).0 }
+    ensures panel { panel.new ≡ panel_after panel.old machine.old }
+    ensures hit { IsTrue result ↔ Meets (Breakpoint.Interrupt which) panel.old machine.old }
+{
+    let hit = is_service_next(machine, which);
+    pass(machine, panel);
+    hit
+}
+
+/// Takes one boundary, and returns whether a cell, which had this word, has another. The panel shows its write.
+#[inline(always)]
+#[tactic(auto, unfolding(crate::specs::Breakpoint::Meets))]
+pub(crate) fn step_cell(cell: u16, before: Narrow, machine: &mut Machine, panel: &mut Panel) -> bool
+    requires range { cell < erasable_cells }
+    requires before { pattern_of 15 before ≡ pattern_of 15 (word_at cell machine.old.processor.store) }
+    ensures now { machine.new ≡ (boundary None machine.old).0 }
+    ensures panel { panel.new ≡ panel_after panel.old machine.old }
+    ensures hit { IsTrue result ↔ Meets (Breakpoint.Cell cell) panel.old machine.old }
+    ensures same { result ≡ false → pattern_of 15 before ≡ pattern_of 15 (word_at cell machine.new.processor.store) }
+{
+    pass(machine, panel);
+    has_changed(machine.store(), cell, before)
+}
+
+/// Returns whether a boundary that returned a write hits a breakpoint on a write.
+#[tactic(auto, unfolding(crate::specs::Breakpoint::Meets))]
+pub(crate) fn is_hit_by_write(
+    breakpoint: &Breakpoint,
+    write: &ChannelWrite,
+    before: &Panel,
+    now: &Panel,
+) -> bool
+    requires on { IsOnWrite breakpoint.now }
+    requires shown { now.now ≡ face_after before.now (write.now ∷ []) }
+    ensures { (s : State) → (boundary None s).1 ≡ Stepped.Wrote write.now → (IsTrue result ↔ Meets breakpoint.now before.now s) }
+{
+    match breakpoint {
+        Breakpoint::Write { channel, word } => {
+            is_channel_of(*channel, write.channel) && is_value_of(word, write.value)
+        }
+        Breakpoint::Panel => !shows_same(&now.face(), &before.face()),
+        _ => false,
+    }
+}
+
+/// Takes one boundary. The panel shows its write.
+#[inline(always)]
+pub(crate) fn pass(machine: &mut Machine, panel: &mut Panel)
+    ensures now { machine.new ≡ (boundary None machine.old).0 }
+    ensures panel { panel.new ≡ panel_after panel.old machine.old }
+{
+    if let Stepped::Wrote(write) = machine.step(None) {
+        panel.take(&write);
+    }
+}
+
+/// Returns whether a boundary changed what the panel shows.
+pub(crate) fn is_panel_change(stepped: &Stepped, before: &Panel, now: &Panel) -> bool
+    requires { now.now ≡ shown_after stepped.now before.now }
+    ensures { result ≡ is_panel_change before.now stepped.now }
+{
+    match stepped {
+        Stepped::Wrote(_) => !shows_same(&now.face(), &before.face()),
+        Stepped::Quiet => false,
+        Stepped::Stopped(_) => false,
+    }
+}
+
+/// Returns whether two panels show the same.
+#[tactic(auto, unfolding(crate::specs::Breakpoint::shows_same))]
+fn shows_same(one: &Face, other: &Face) -> bool
+    ensures { result ≡ shows_same one.now other.now }
+{
+    same_pair(&one.program, &other.program)
+        && same_pair(&one.verb, &other.verb)
+        && same_pair(&one.noun, &other.noun)
+        && same_register(&one.r1, &other.r1)
+        && same_register(&one.r2, &other.r2)
+        && same_register(&one.r3, &other.r3)
+        && both_or_none(one.flash, other.flash)
+        && same_lamps(&one.lamps, &other.lamps)
+}
+
+fn same_pair(one: &Pair, other: &Pair) -> bool
+    ensures { result ≡ same_pair one.now other.now }
+{
+    same_digit(one.left, other.left) && same_digit(one.right, other.right)
+}
+
+fn same_register(one: &Register, other: &Register) -> bool
+    ensures { result ≡ same_register one.now other.now }
+{
+    both_or_none(one.plus, other.plus)
+        && both_or_none(one.minus, other.minus)
+        && same_digit(one.d1, other.d1)
+        && same_digit(one.d2, other.d2)
+        && same_digit(one.d3, other.d3)
+        && same_digit(one.d4, other.d4)
+        && same_digit(one.d5, other.d5)
+}
+
+fn same_lamps(one: &Lamps, other: &Lamps) -> bool
+    ensures { result ≡ same_lamps one.now other.now }
+{
+    same_lamp(one, other, Lamp::CompActy)
+        && same_lamp(one, other, Lamp::UplinkActy)
+        && same_lamp(one, other, Lamp::NoAtt)
+        && same_lamp(one, other, Lamp::Temp)
+        && same_lamp(one, other, Lamp::GimbalLock)
+        && same_lamp(one, other, Lamp::Prog)
+        && same_lamp(one, other, Lamp::KeyRel)
+        && same_lamp(one, other, Lamp::OprErr)
+        && same_lamp(one, other, Lamp::Tracker)
+        && same_lamp(one, other, Lamp::Alt)
+        && same_lamp(one, other, Lamp::Vel)
+        && same_lamp(one, other, Lamp::Iss)
+}
+
+fn same_lamp(one: &Lamps, other: &Lamps, lamp: Lamp) -> bool
+    ensures { result ≡ same_lamp one.now other.now lamp }
+{
+    both_or_none(one.is_lit(lamp), other.is_lit(lamp))
+}
+
+fn same_digit(one: Digit, other: Digit) -> bool
+    ensures { result ≡ same_digit one other }
+{
+    one.glyph() == other.glyph()
+}
+
+fn both_or_none(one: bool, other: bool) -> bool
+    ensures { result ≡ both_or_none one other }
+{
+    if one { other } else { !other }
+}
+
+/// Returns whether the order at a place comes next. Z rules out nearly all orders at once.
+#[inline(always)]
+pub(crate) fn is_order_next(machine: &Machine, place: Location) -> bool
+    ensures { result ≡ is_order_at place (upcoming_of machine.now) }
+{
+    may_come_next(machine, place) && is_order_in_hand(machine, place)
+}
+
+/// Returns whether Z is one past an address of a place: its own, or the one in the window of its bank.
+#[inline(always)]
+fn may_come_next(machine: &Machine, place: Location) -> bool
+    ensures { is_order_at place (upcoming_of machine.now) ≡ true → result ≡ true }
+{
+    let address = u32::from(machine.store().z().previous().bits());
+    address == place_number(place) || address == window_address(place)
+}
+
+/// Returns the address of a location in the window of its bank.
+#[inline(always)]
+fn window_address(place: Location) -> u32
+    ensures { result ≡ window_address place }
+{
+    match place {
+        Location::Fixed(number) => 0o2000 + number % 0o2000,
+        Location::Erasable(number) => 0o1400 + number % 0o400,
+    }
+}
+
+/// Returns the number of a location in its part of the memory.
+#[inline(always)]
+fn place_number(place: Location) -> u32
+    ensures { result ≡ place_number place }
+{
+    match place {
+        Location::Fixed(number) => number,
+        Location::Erasable(number) => number,
+    }
+}
+
+/// Returns whether the order at a place comes next.
+fn is_order_in_hand(machine: &Machine, place: Location) -> bool
+    ensures { result ≡ is_order_at place (upcoming_of machine.now) }
+{
+    match machine.upcoming() {
+        Upcoming::Order(order) => is_at(location_at(order.bank, order.address), place),
+        _ => false,
+    }
+}
+
+/// Returns whether the service of this interrupt, or of any, comes next.
+pub(crate) fn is_service_next(machine: &Machine, which: Option<Rupt>) -> bool
+    ensures { result ≡ is_service_of which (upcoming_of machine.now) }
+{
+    match machine.upcoming() {
+        Upcoming::Interrupt(rupt) => is_wanted(which, rupt),
+        _ => false,
+    }
+}
+
+fn is_wanted(which: Option<Rupt>, rupt: Rupt) -> bool
+    ensures { result ≡ is_wanted which rupt }
+{
+    match which {
+        Some(which) => rupt.number() == which.number(),
+        None => true,
+    }
+}
+
+/// Returns whether a boundary wrote to this channel, or to any, this word, or any.
+pub(crate) fn is_write_of(stepped: &Stepped, channel: Option<u16>, word: &Option<Narrow>) -> bool
+    ensures { result ≡ is_write_of channel word.now stepped.now }
+{
+    match stepped {
+        Stepped::Wrote(write) => {
+            is_channel_of(channel, write.channel) && is_value_of(word, write.value)
+        }
+        Stepped::Quiet | Stepped::Stopped(_) => false,
+    }
+}
+
+fn is_channel_of(wanted: Option<u16>, channel: u16) -> bool
+    ensures { result ≡ is_channel_of wanted channel }
+{
+    match wanted {
+        Some(wanted) => channel == wanted,
+        None => true,
+    }
+}
+
+fn is_value_of(wanted: &Option<Narrow>, value: Narrow) -> bool
+    ensures { result ≡ is_value_of wanted.now value }
+{
+    match wanted {
+        Some(wanted) => value == *wanted,
+        None => true,
+    }
+}
+
+/// Returns whether two places are the same.
+fn is_at(here: Location, there: Location) -> bool
+    ensures { result ≡ same_location here there }
+{
+    here == there
+}
+
+/// Returns whether a cell has another word than before.
+pub(crate) fn has_changed(store: &Store, cell: u16, before: Narrow) -> bool
+    requires { cell < erasable_cells }
+    ensures { result ≡ not (same_word (word_at cell store.now) before) }
+{
+    word_of(store, cell) != before
+}
+
+/// Returns the word of a cell by its number.
+pub(crate) fn word_of(store: &Store, cell: u16) -> Narrow
+    requires { cell < erasable_cells }
+    ensures { result ≡ word_at cell store.now }
+{
+    store.cell((cell / ERASABLE_BANK_SIZE) as u8, cell % ERASABLE_BANK_SIZE)
+}

@@ -1,0 +1,381 @@
+//! Searches a run back from now: stretch by stretch between copies of the machine, the newest one first.
+ghost use Rattle.std.specs.Prelude.{◌≡◌, ◌⊎◌, IsSome, ℕ, ◌+◌, ◌<◌, ◌≤◌, List, [], All, IfOk, IfSome, IsTrue, length, drop, None, ◌↔◌};
+ghost use Rattle.agc_machine.specs.Laws.{after};
+ghost use Rattle.agc_machine.specs.State.{State, start_state};
+ghost use Rattle.agc_session.specs.Breakpoint.{IsBreakpointInRange, IsFoundFrom};
+ghost use Rattle.agc_session.specs.Checkpoints.{Fits, IsCheckpoint};
+ghost use Rattle.agc_session.specs.Search.{HasAdvanced, HasCounted, HasSearched, IsAt, IsFewerThan, IsOnWrite, resumed, span};
+ghost use Rattle.agc_session.specs.Session.{start_with};
+ghost use Rattle.agc_script.specs.declared.event.Event.{Event};
+ghost use Rattle.agc_panel.specs.Face.{panel_of};
+ghost use Rattle.agc_store.specs.Places.{erasable_cells};
+
+use crate::breakpoint::{
+    Breakpoint, is_hit_by_write, pass, step_cell, step_order, step_service, word_of,
+};
+use crate::checkpoint::{Checkpoint, Checkpoints};
+use crate::session::copied;
+use agc_listing::Location;
+use agc_machine::{Machine, Stepped};
+use agc_panel::Panel;
+use agc_processor::Rupt;
+use agc_script::Script;
+use std::alloc::{AllocError, Global};
+
+/// A point of a run. The boundaries of one cycle differ by the events left and by the stop.
+#[derive(Clone, Copy)]
+pub(crate) struct Point {
+    cycle: u64,
+    /// The number of events left.
+    left: usize,
+    stopped: bool,
+}
+
+/// The hits of a stretch.
+#[derive(Clone, Copy)]
+pub(crate) struct Counted {
+    number: u64,
+    /// The cycle of the last one, if there is one.
+    last: u64,
+}
+
+/// What a stretch says of the hit with a number, counted back from its end.
+#[derive(Clone, Copy)]
+pub(crate) enum Found {
+    /// It began at this cycle.
+    At(u64),
+    /// The stretch has only this number of hits.
+    Fewer(u64),
+}
+
+impl Point {
+    /// Returns the point at which a machine is.
+    fn of(machine: &Machine) -> Point
+        ensures { IsAt result machine.now }
+    {
+        Point {
+            cycle: machine.cycle(),
+            left: machine.events_left().len(),
+            stopped: machine.stopped().is_some(),
+        }
+    }
+
+    /// Returns whether a machine is at this point.
+    fn is_at(self, machine: &Machine) -> bool
+        ensures { IsTrue result ↔ IsAt self machine.now }
+    {
+        machine.cycle() == self.cycle
+            && machine.events_left().len() == self.left
+            && machine.stopped().is_some() == self.stopped
+    }
+}
+
+/// Returns the cycle of the hit with the number `count`, counted back from a machine, or `None` if there are fewer.
+/// The run of `script` leads to the machine. Fails when memory runs out.
+pub(crate) fn search_back(
+    alloc: Global,
+    breakpoint: &Breakpoint,
+    count: u64,
+    now: &Machine,
+    checkpoints: &Checkpoints,
+    script: &Script,
+) -> Result<Option<u64>, AllocError>
+    requires some { 0 < count }
+    requires range { IsBreakpointInRange breakpoint.now }
+    requires right { All (IsCheckpoint now.now.processor.store.fixed now.now.limit) checkpoints.now.copies.items }
+    ensures { IfOk result (λ found. (n : ℕ) → after n (start_with script.now now.now) ≡ now.now
+        → IsFoundFrom breakpoint.now count (start_with script.now now.now) now.now found) }
+{
+    let mut wanted = count;
+    let mut end = Point::of(now);
+    let mut place = checkpoints.copies.len();
+    while 0 < place {
+        place -= 1;
+        let copy = &checkpoints.copies[place];
+        if is_before(copy, script, end) {
+            match search_stretch(alloc, breakpoint, wanted, copy, script, end)? {
+                Found::At(cycle) => return Ok(Some(cycle)),
+                Found::Fewer(number) => {
+                    wanted -= number;
+                    end = begin_of(copy, script);
+                }
+            }
+        }
+    }
+    let start = start_of(alloc, now).ok_or(AllocError)?;
+    match search_stretch(alloc, breakpoint, wanted, &start, script, end)? {
+        Found::At(cycle) => Ok(Some(cycle)),
+        Found::Fewer(_) => Ok(None),
+    }
+}
+
+/// Returns whether the run of a script leads to a copy, and before a point.
+fn is_before(copy: &Checkpoint, script: &Script, end: Point) -> bool
+    ensures fits { IsTrue result → Fits script.now copy.now }
+    ensures before { IsTrue result → copy.now.machine.cycle < end.cycle }
+{
+    copy.machine.cycle() < end.cycle && copy.is_on_run_of(script)
+}
+
+/// Returns the point at which the run of a script resumes from a copy.
+fn begin_of(copy: &Checkpoint, script: &Script) -> Point
+    requires { length copy.now.taken ≤ length script.now }
+    ensures { IsAt result (resumed script.now copy.now) }
+{
+    Point {
+        cycle: copy.machine.cycle(),
+        left: script.len() - copy.taken.len(),
+        stopped: copy.machine.stopped().is_some(),
+    }
+}
+
+/// Returns a copy of the start of a machine's run.
+fn start_of(alloc: Global, machine: &Machine) -> Option<Checkpoint>
+    ensures taken { IfSome result (λ copy. copy.taken ≡ []) }
+    ensures start { (script : List Event) → IfSome result (λ copy. resumed script copy ≡ start_with script machine.now) }
+    ensures panel { IfSome result (λ copy. copy.panel ≡ panel_of []) }
+{
+    let machine = machine.copy_with(alloc, Script::empty(alloc))?;
+    Some(Checkpoint {
+        machine: machine.restart_with(Script::empty(alloc)),
+        panel: Panel::new(),
+        writes: 0,
+        taken: Script::empty(alloc),
+    })
+}
+
+/// Searches the stretch from a copy to a point for the hit with a number, counted back from the point. Runs it once
+/// more if that is not the last one.
+fn search_stretch(
+    alloc: Global,
+    breakpoint: &Breakpoint,
+    wanted: u64,
+    from: &Checkpoint,
+    script: &Script,
+    end: Point,
+) -> Result<Found, AllocError>
+    requires some { 0 < wanted }
+    requires range { IsBreakpointInRange breakpoint.now }
+    requires taken { length from.now.taken ≤ length script.now }
+    ensures searched { IfOk result (λ found. (n : ℕ) → IsAt end (after n (resumed script.now from.now))
+        → HasSearched breakpoint.now wanted n from.now.panel (resumed script.now from.now) found) }
+    ensures fewer { IfOk result (IsFewerThan wanted) }
+{
+    is_short(from, script);
+    let all = count_from(alloc, breakpoint, u64::MAX, from, script, end)?;
+    if all.number < wanted {
+        return Ok(Found::Fewer(all.number));
+    }
+    if wanted == 1 {
+        return Ok(Found::At(all.last));
+    }
+    let first = count_from(
+        alloc,
+        breakpoint,
+        all.number - wanted + 1,
+        from,
+        script,
+        end,
+    )?;
+    Ok(Found::At(first.last))
+}
+
+/// Shows the proof that a machine takes fewer boundaries than a `u64` can count. Does nothing at run time.
+fn is_short(from: &Checkpoint, script: &Script)
+    ensures { span (resumed script.now from.now) < 18446744073709551615 }
+{
+    let _events = script.len();
+    let _wanted = from.machine.wants_key();
+}
+
+/// Runs a copy of the machine to a point, or to the hit with the number `most` if that comes first.
+fn count_from(
+    alloc: Global,
+    breakpoint: &Breakpoint,
+    most: u64,
+    from: &Checkpoint,
+    script: &Script,
+    end: Point,
+) -> Result<Counted, AllocError>
+    requires some { 0 < most }
+    requires range { IsBreakpointInRange breakpoint.now }
+    requires taken { length from.now.taken ≤ length script.now }
+    ensures { IfOk result (λ hits. (n : ℕ) → IsAt end (after n (resumed script.now from.now))
+        → HasCounted breakpoint.now n most from.now.panel (resumed script.now from.now) hits) }
+{
+    let mut machine = resume_copy(alloc, from, script).ok_or(AllocError)?;
+    let mut panel = from.panel;
+    Ok(count_hits(breakpoint, most, &mut machine, &mut panel, end))
+}
+
+/// Returns the machine of a copy, with the events of a script that it has not taken.
+fn resume_copy(alloc: Global, from: &Checkpoint, script: &Script) -> Option<Machine>
+    requires { length from.now.taken ≤ length script.now }
+    ensures { IfSome result (λ machine. machine ≡ resumed script.now from.now) }
+{
+    let events = copied(alloc, script)?;
+    let machine = from.machine.copy_with(alloc, Script::empty(alloc))?;
+    Some(machine.resume_with(events, from.taken.len()))
+}
+
+/// Runs a machine to a point ahead, or to the hit with the number `most` if that comes first, and counts the hits.
+fn count_hits(
+    breakpoint: &Breakpoint,
+    most: u64,
+    machine: &mut Machine,
+    panel: &mut Panel,
+    end: Point,
+) -> Counted
+    requires some { 0 < most }
+    requires range { IsBreakpointInRange breakpoint.now }
+    ensures { (n : ℕ) → IsAt end (after n machine.old)
+        → HasCounted breakpoint.now n most panel.old machine.old result }
+{
+    let mut hits = Counted { number: 0, last: 0 };
+    while !has_ended(machine, end) {
+        if let Some(cycle) = advance(breakpoint, machine, panel, end) {
+            hits = Counted {
+                number: hits.number + 1,
+                last: cycle,
+            };
+            if hits.number == most {
+                return hits;
+            }
+        }
+    }
+    hits
+}
+
+/// Takes one boundary or more to a point ahead, but none after a hit. Returns the cycle of the hit, if there is one.
+fn advance(
+    breakpoint: &Breakpoint,
+    machine: &mut Machine,
+    panel: &mut Panel,
+    end: Point,
+) -> Option<u64>
+    requires range { IsBreakpointInRange breakpoint.now }
+    requires runs { machine.old.stopped ≡ None }
+    ensures { HasAdvanced breakpoint.now end.cycle panel.old panel.new machine.old machine.new result }
+{
+    match breakpoint {
+        Breakpoint::Boundary => Some(advance_by_one(machine, panel, end.cycle)),
+        Breakpoint::Order(place) => advance_to_order(*place, machine, panel, end.cycle),
+        Breakpoint::Cell(cell) => advance_to_change(*cell, machine, panel, end.cycle),
+        Breakpoint::Interrupt(which) => advance_to_service(*which, machine, panel, end.cycle),
+        Breakpoint::Write { .. } | Breakpoint::Panel => {
+            advance_to_write(breakpoint, machine, panel, end.cycle)
+        }
+    }
+}
+
+/// Takes one boundary, and returns the cycle at which it began.
+fn advance_by_one(machine: &mut Machine, panel: &mut Panel, end: u64) -> u64
+    requires runs { machine.old.stopped ≡ None }
+    ensures { HasAdvanced Breakpoint.Boundary end panel.old panel.new machine.old machine.new (Some result) }
+{
+    let cycle = machine.cycle();
+    pass(machine, panel);
+    cycle
+}
+
+/// Runs to after the order at a place, or to the first boundary that ends at a cycle or later, or to the stop.
+fn advance_to_order(
+    place: Location,
+    machine: &mut Machine,
+    panel: &mut Panel,
+    end: u64,
+) -> Option<u64>
+    requires runs { machine.old.stopped ≡ None }
+    ensures { HasAdvanced (Breakpoint.Order place) end panel.old panel.new machine.old machine.new result }
+{
+    loop {
+        let cycle = machine.cycle();
+        if step_order(place, machine, panel) {
+            return Some(cycle);
+        }
+        if !is_short_of(machine, end) {
+            return None;
+        }
+    }
+}
+
+/// Runs to after the start of the service of this interrupt, or of any, or to the first boundary that ends at a cycle
+/// or later, or to the stop.
+fn advance_to_service(
+    which: Option<Rupt>,
+    machine: &mut Machine,
+    panel: &mut Panel,
+    end: u64,
+) -> Option<u64>
+    requires runs { machine.old.stopped ≡ None }
+    ensures { HasAdvanced (Breakpoint.Interrupt which) end panel.old panel.new machine.old machine.new result }
+{
+    loop {
+        let cycle = machine.cycle();
+        if step_service(which, machine, panel) {
+            return Some(cycle);
+        }
+        if !is_short_of(machine, end) {
+            return None;
+        }
+    }
+}
+
+/// Runs to after a change of a cell, or to the first boundary that ends at a cycle or later, or to the stop.
+fn advance_to_change(cell: u16, machine: &mut Machine, panel: &mut Panel, end: u64) -> Option<u64>
+    requires range { cell < erasable_cells }
+    requires runs { machine.old.stopped ≡ None }
+    ensures { HasAdvanced (Breakpoint.Cell cell) end panel.old panel.new machine.old machine.new result }
+{
+    let word = word_of(machine.store(), cell);
+    loop {
+        let cycle = machine.cycle();
+        if step_cell(cell, word, machine, panel) {
+            return Some(cycle);
+        }
+        if !is_short_of(machine, end) {
+            return None;
+        }
+    }
+}
+
+/// Returns whether a machine has neither reached a cycle nor stopped.
+#[inline(always)]
+fn is_short_of(machine: &Machine, cycle: u64) -> bool
+    ensures before { IsTrue result → machine.now.cycle < cycle }
+    ensures runs { IsTrue result → machine.now.stopped ≡ None }
+{
+    machine.cycle() < cycle && machine.stopped().is_none()
+}
+
+/// Runs to the next write, or to the first boundary that ends at a cycle or later.
+fn advance_to_write(
+    breakpoint: &Breakpoint,
+    machine: &mut Machine,
+    panel: &mut Panel,
+    end: u64,
+) -> Option<u64>
+    requires { IsOnWrite breakpoint.now }
+    ensures { HasAdvanced breakpoint.now end panel.old panel.new machine.old machine.new result }
+{
+    match machine.next_write_before(end) {
+        Stepped::Wrote(write) => {
+            let before = *panel;
+            panel.take(&write);
+            if is_hit_by_write(breakpoint, &write, &before, panel) {
+                Some(write.cycle)
+            } else {
+                None
+            }
+        }
+        Stepped::Quiet => None,
+        Stepped::Stopped(_) => None,
+    }
+}
+
+/// Returns whether a machine is at a point, or has stopped.
+fn has_ended(machine: &Machine, end: Point) -> bool
+    ensures { IsTrue result ↔ (IsAt end machine.now ⊎ IsSome machine.now.stopped) }
+{
+    machine.stopped().is_some() || end.is_at(machine)
+}

@@ -1,0 +1,158 @@
+//! Tests searches back in the console. The texts were worked out by hand from the programs and the cycles of their
+//! orders.
+use super::search::TURN;
+use super::{equal, equal_at, session_of};
+use agc_listing::Location;
+use agc_repl::{Command, CommandFault, CommandName, parse_command, run_repl};
+use agc_session::Breakpoint;
+use agc_test_support::RELAY_WORD;
+use agc_word::Narrow;
+use std::process::Abort;
+use std::str;
+
+/// Checks the answers to a text, up to a limit.
+fn answers(
+    rt: &(impl AllocGlobal + Abort),
+    listing: &str,
+    limit: u64,
+    parsed: &[u8],
+    wanted: &str,
+) {
+    let session = session_of(rt, listing, "", limit);
+    let mut input = parsed;
+    let mut output = Vec::new(rt.alloc());
+    let ended = run_repl(rt.alloc(), session, &None, &mut input, &mut output);
+    equal(rt, ended, Ok(()));
+    let text = String::from_utf8(output).ok().expect(rt, "ASCII");
+    equal(rt, text.as_str(), wanted);
+}
+
+/// Orders begin at 0, 2, 3, 5 and so on, six cycles a turn: INCR 100, EXTEND, WRITE 10 and TCF. At 12 two INCRs are
+/// done.
+#[test]
+fn each_search_goes_back(rt: HostRuntime) {
+    let parsed =
+        b"quiet\ngo to 20\nback until 4002\nnext\ngo to 20\nback until cell 100\nback until cell 100\nprint 100
+back until write 10\nback until write 10 1\nback step\nback step 2\nback step 4\nback step 3
+back step\nback until interrupt\nback until panel\n";
+    let wanted = "at 0
+at 20
+at 15
+next 4002 01010 WRITE 010
+at 15
+at 20
+at 18
+at 12
+print 0100 00002 2
+at 12
+at 9
+error: NotHit: no boundary before now hits it
+at 8
+at 5
+error: NotHit: there are fewer boundaries before now
+at 0
+error: NotHit: there are fewer boundaries before now
+error: NotHit: no boundary before now hits it
+error: NotHit: no boundary before now hits it
+";
+    answers(&rt, TURN, 1000, parsed, wanted);
+}
+
+/// The key and its interrupt begin at 20, RESUME at 23, and the stop at 31. Going back to 20 drops the key.
+#[test]
+fn a_stopped_session_goes_back(rt: HostRuntime) {
+    let parsed = b"quiet\ngo to 20\nkey 1\ngo to 100\nback until 4024\nscript\ngo to 100\nback step
+back until interrupt KEYRUPT1\nscript\nback until interrupt KEYRUPT1\n";
+    let wanted = "at 0
+at 20
+at 20
+stop Limit at 31
+at 23
+20 key 1
+at 23
+stop Limit at 31
+at 31
+at 20
+at 20
+error: NotHit: no boundary before now hits it
+";
+    answers(&rt, TURN, 31, parsed, wanted);
+}
+
+/// The write at 3 changes the panel.
+#[test]
+fn a_change_of_the_panel_is_found(rt: HostRuntime) {
+    let parsed = b"go to 10\nback until panel\nback until write 10 54171\n";
+    let wanted = "write 3 010 54171
+at 10
+at 3
+error: NotHit: no boundary before now hits it
+";
+    answers(&rt, RELAY_WORD, 1000, parsed, wanted);
+}
+
+/// Checks how a line is parsed.
+fn reads(rt: &impl Abort, line: &[u8], wanted: Result<Option<Command>, CommandFault>) {
+    equal_at(
+        rt,
+        str::from_utf8(line).ok(),
+        parse_command(&None, line),
+        wanted,
+    );
+}
+
+/// Checks that a line searches back for this hit, counted from the last one.
+fn searches(rt: &impl Abort, line: &[u8], what: Breakpoint, count: u64) {
+    reads(rt, line, Ok(Some(Command::BackTo { what, count })));
+}
+
+fn refuses(rt: &impl Abort, line: &[u8], fault: CommandFault) {
+    reads(rt, line, Err(fault));
+}
+
+/// Checks that a line has another number of words than `back` takes.
+fn is_misused(rt: &impl Abort, line: &[u8]) {
+    refuses(rt, line, CommandFault::Usage(CommandName::Back));
+}
+
+#[test]
+fn searches_are_read(rt: HostRuntime) {
+    let order = Breakpoint::Order(Location::Fixed(0o4001));
+    let channel = Some(0o10);
+    let word = Some(Narrow::with_bits(0o44017));
+    searches(&rt, b"back step", Breakpoint::Boundary, 1);
+    searches(&rt, b"back step 12", Breakpoint::Boundary, 12);
+    searches(&rt, b"back until 4001", order, 1);
+    searches(&rt, b"back until cell 100", Breakpoint::Cell(0o100), 1);
+    searches(&rt, b"back until interrupt", Breakpoint::Interrupt(None), 1);
+    searches(&rt, b"back until panel", Breakpoint::Panel, 1);
+    let any = Breakpoint::Write {
+        channel,
+        word: None,
+    };
+    searches(&rt, b"back until write 10", any, 1);
+    let one = Breakpoint::Write { channel, word };
+    searches(&rt, b"back until write 10 44017", one, 1);
+}
+
+#[test]
+fn wrong_searches_are_refused(rt: HostRuntime) {
+    refuses(&rt, b"back step 0", CommandFault::NoStep);
+    refuses(&rt, b"back step x", CommandFault::BadNumber);
+    refuses(&rt, b"back steps", CommandFault::BadNumber);
+    refuses(&rt, b"back until 1400", CommandFault::BadPlace);
+    refuses(&rt, b"back until cell 4001", CommandFault::NotErasable);
+    refuses(&rt, b"back until write 4", CommandFault::NoWrites);
+    refuses(&rt, b"back until write 10 8", CommandFault::BadWord);
+    refuses(&rt, b"back until interrupt T9", CommandFault::BadInterrupt);
+    is_misused(&rt, b"back");
+    is_misused(&rt, b"back 5 6");
+    is_misused(&rt, b"back step 1 2");
+    is_misused(&rt, b"back until");
+    is_misused(&rt, b"back until 4001 within 5");
+    is_misused(&rt, b"back until write");
+    is_misused(&rt, b"back until write 10 1 2");
+    is_misused(&rt, b"back until cell");
+    is_misused(&rt, b"back until interrupt T4RUPT 1");
+    is_misused(&rt, b"back until panel 1");
+}

@@ -1,0 +1,76 @@
+//! Tests breakpoints, quiet runs and printed cells; the texts were worked out by hand from the program and its cycles.
+use super::{equal, session_of};
+use agc_repl::run_repl;
+use agc_test_support::RELAY_WORD;
+use std::process::Abort;
+
+/// Checks the answers to a text in a session of the program that writes a word to the relays at cycle 3.
+fn answers(rt: &(impl AllocGlobal + Abort), parsed: &[u8], wanted: &str) {
+    let session = session_of(rt, RELAY_WORD, "", 1000);
+    let mut input = parsed;
+    let mut output = Vec::new(rt.alloc());
+    let ended = run_repl(rt.alloc(), session, &None, &mut input, &mut output);
+    equal(rt, ended, Ok(()));
+    let text = String::from_utf8(output).ok().expect(rt, "ASCII");
+    equal(rt, text.as_str(), wanted);
+}
+
+#[test]
+fn a_run_goes_on_to_each_breakpoint(rt: HostRuntime) {
+    let parsed =
+        b"break write 10 54171\nbreak 4002\ncontinue\ncontinue\nquiet\nback 0\ncontinue\ncontinue\n";
+    let wanted = "break 1 write 010 54171
+at 0
+break 2 order 02,4002
+at 0
+hit 2 order 02,4002
+at 3
+write 3 010 54171
+hit 1 write 010 54171
+at 5
+at 5
+at 0
+hit 2 order 02,4002
+at 3
+hit 1 write 010 54171
+at 5
+";
+    answers(&rt, parsed, wanted);
+}
+
+#[test]
+fn breakpoints_are_listed_and_deleted(rt: HostRuntime) {
+    let parsed =
+        b"break interrupt T4RUPT\nwatch TIME4\ndelete 1\ndelete 1\nbreak 12,2000\nbreaks\ncontinue within 3\n";
+    let wanted = "break 1 interrupt T4RUPT
+at 0
+break 2 cell 0027
+at 0
+at 0
+error: NoBreakpoint: no breakpoint has this number; breaks lists them
+break 3 order 12,2000
+at 0
+break 2 cell 0027
+break 3 order 12,2000
+at 0
+hit none
+at 3
+";
+    answers(&rt, parsed, wanted);
+}
+
+#[test]
+fn cells_are_printed_in_octal_and_decimal(rt: HostRuntime) {
+    let parsed = b"poke 0 100 77765\npoke 0 101 77777\npoke 0 102 12\nprint 100 3\nprint 103\n";
+    let wanted = "at 0
+at 0
+at 0
+print 0100 77765 -10
+print 0101 77777 -0
+print 0102 00012 10
+at 0
+print 0103 00000 0
+at 0
+";
+    answers(&rt, parsed, wanted);
+}

@@ -1,5 +1,0 @@
-use Rattle.agc_trace.proofs.Forward.{entry_is_told}
-use Rattle.agc_trace.proofs.laws.an_entry_tells_its_boundary.Goals as goal
-
-pub returns : goal.returns
-returns c = entry_is_told

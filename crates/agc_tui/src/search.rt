@@ -1,0 +1,61 @@
+//! The searches in time: which byte types which, and what each looks for.
+ghost use Rattle.std.specs.Prelude.{◌≡◌};
+ghost use Rattle.agc_session.specs.Breakpoint.{IsBreakpointInRange};
+ghost use Rattle.agc_tui.specs.Search.{breakpoint_of, search_of};
+
+use agc_session::Breakpoint;
+
+/// What a search looks for.
+#[derive(Clone, Copy, Debug, PartialEq, Eq)]
+pub enum Target {
+    /// The service of an interrupt.
+    Interrupt,
+    /// A channel write.
+    Write,
+    /// A change of the panel.
+    Panel,
+}
+
+/// A search in time.
+#[derive(Clone, Copy, Debug, PartialEq, Eq)]
+pub enum Search {
+    /// Forward, to just after the next one.
+    Next(Target),
+    /// Back, to the beginning of the last one before now.
+    Previous(Target),
+}
+
+impl Target {
+    /// Returns the breakpoint that stands for it.
+    pub fn breakpoint(self) -> Breakpoint
+        ensures value { result ≡ breakpoint_of self }
+        ensures range { IsBreakpointInRange result }
+    {
+        match self {
+            Target::Interrupt => Breakpoint::Interrupt(None),
+            Target::Write => Breakpoint::Write {
+                channel: None,
+                word: None,
+            },
+            Target::Panel => Breakpoint::Panel,
+        }
+    }
+}
+
+impl Search {
+    /// Returns the search that a byte types: `u` interrupt, `w` channel write, `d` the panel; in capitals, back.
+    #[tactic(auto, unfolding(crate::specs::Search::search_of))]
+    pub fn from_byte(byte: u8) -> Option<Search>
+        ensures { result ≡ search_of byte }
+    {
+        match byte {
+            b'u' => Some(Search::Next(Target::Interrupt)),
+            b'w' => Some(Search::Next(Target::Write)),
+            b'd' => Some(Search::Next(Target::Panel)),
+            b'U' => Some(Search::Previous(Target::Interrupt)),
+            b'W' => Some(Search::Previous(Target::Write)),
+            b'D' => Some(Search::Previous(Target::Panel)),
+            _ => None,
+        }
+    }
+}
