@@ -26,7 +26,10 @@ import tempfile
 from types import TracebackType
 from typing import IO, Callable, Dict, Iterator, List, NamedTuple, Optional, Sequence, Type, Union
 
-__all__ = ["Answer", "Came", "Console", "Ended", "Error", "Refused", "Registers", "Write"]
+__all__ = [
+    "Answer", "Breakpoint", "Came", "Console", "Ended", "Error", "Hit", "Location", "Number", "Refused", "Registers", "Where",
+    "Write",
+]
 
 __version__ = "1.0.0"
 
@@ -105,6 +108,45 @@ class Came(NamedTuple):
     writes: List[Write]
 
 
+class Breakpoint(NamedTuple):
+    """A numbered breakpoint: its number, and what it stops at, as the console prints it: "order 02,4071", "write 010 44017",
+    "cell 0100" or "interrupt T4RUPT"."""
+
+    number: int
+    what: str
+
+
+class Hit(NamedTuple):
+    """How a run to a breakpoint ended: the breakpoint that was hit, None if there was none, and the channel writes on the
+    way."""
+
+    breakpoint: Optional[Breakpoint]
+    writes: List[Write]
+
+
+class Number(NamedTuple):
+    """A cell as a number: its place as the console prints it, its word, and the word as a signed decimal number. That is
+    text, because +0 and -0 are two numbers: "0" and "-0"."""
+
+    place: str
+    word: int
+    decimal: str
+
+
+class Location(NamedTuple):
+    """A place as the console prints it, and its name, as "KEYIN" or "KEYIN+10"; None if no name is near it."""
+
+    place: str
+    name: Optional[str]
+
+
+class Where(NamedTuple):
+    """Where the program is: the location of the next order and, during a service, that of the interrupted order."""
+
+    order: Location
+    interrupted: Optional[Location]
+
+
 class Console:
     """A machine to sit before. Of `with`, it is closed at the end."""
 
@@ -138,6 +180,7 @@ class Console:
         """Why the machine has stopped: Limit, DivisionUndefined or Edrupt; None while it runs."""
         self.on_answer: Optional[Callable[[str, Answer], None]] = None
         """Called with each command and its answer, if set; not for refused commands."""
+        self._quiet = False
         self._owner = os.getpid()
         self._base: List[Event] = []
         self._injected: List[Event] = []
@@ -225,7 +268,9 @@ class Console:
             cycle = answer.cycle - cost
             self._injected.append(Event(cycle, f"{cycle} {' '.join(words)}"))
         elif words[0] == "back":
-            self._injected = [event for event in self._injected if event.cycle < int(words[1])]
+            self._injected = [event for event in self._injected if event.cycle < answer.cycle]
+        elif words[0] == "quiet":
+            self._quiet = words[1:] != ["off"]
 
     def _answer(self) -> Answer:
         lines = []
@@ -285,11 +330,59 @@ class Console:
         answer = self.say(f"until {what}{bound}")
         return Came("came yes" in answer.lines, _writes(answer))
 
+    # breakpoints
+
+    def break_at(self, place: Place) -> Breakpoint:
+        """Sets a breakpoint at the order at a place: `continue_` stops before that order."""
+        return self._break(_place(place))
+
+    def break_write(self, channel: int, word: Optional[int] = None) -> Breakpoint:
+        """Sets a breakpoint at a write to a channel, 5 to 0o777, of this word if one is named: `continue_` stops after it."""
+        return self._break(_with_word(f"write {channel:o}", word))
+
+    def break_cell(self, place: Place) -> Breakpoint:
+        """Sets a breakpoint at a change of a cell: `continue_` stops after it. Writing the same word again is no change."""
+        return self._break(f"cell {_place(place)}")
+
+    watch = break_cell
+
+    def break_interrupt(self, name: str) -> Breakpoint:
+        """Sets a breakpoint at an interrupt, as "T4RUPT" or "KEYRUPT1": `continue_` stops before it is taken."""
+        return self._break(f"interrupt {name}")
+
+    def _break(self, what: str) -> Breakpoint:
+        return _breakpoint(self.say(f"break {what}").lines[0])
+
+    def breaks(self) -> List[Breakpoint]:
+        """Returns the breakpoints by their numbers."""
+        return [_breakpoint(line) for line in self.say("breaks").lines]
+
+    def delete(self, breakpoint: Union[int, Breakpoint]) -> None:
+        """Deletes a breakpoint, or the one with this number."""
+        number = breakpoint.number if isinstance(breakpoint, Breakpoint) else breakpoint
+        self.say(f"delete {number}")
+
+    def continue_(self, within: Optional[int] = None) -> Hit:
+        """Runs to the first breakpoint that is hit; 1,000,000 cycles at most, or as many as are named. It takes one boundary
+        at least, so that it leaves the place at which it stopped before."""
+        answer = self.say("continue" if within is None else f"continue within {within}")
+        hits = [line for line in answer.lines if line.startswith("hit ")]
+        return Hit(None if hits == ["hit none"] else _breakpoint(hits[0]), _writes(answer))
+
+    def quiet(self, on: bool = True) -> None:
+        """From now on methods that run the machine return no channel writes; `quiet(False)` ends that. `writes` needs them,
+        and raises ValueError while the console is quiet."""
+        if not isinstance(on, bool):
+            raise TypeError("quiet or not: True or False")
+        self.say("quiet" if on else "quiet off")
+
     def writes(self, until: int = LAST_CYCLE, channel: Optional[int] = None) -> Iterator[Write]:
         """Yields the next channel writes, one by one, up to a cycle or the stop. With `channel`, only those of that
         channel, and the machine runs to each one as it is taken, so that events can be injected after it. Without, the
         machine runs a hundredth of a second at a time, and is behind all writes of it as the first is yielded."""
         while self.stop is None and self.cycle < until:
+            if self._quiet:
+                raise ValueError("the console is quiet: it prints no writes")
             left = until - self.cycle
             if channel is None:
                 yield from self.go(min(left, 853))
@@ -300,6 +393,40 @@ class Console:
     def back(self, cycle: int) -> None:
         """Goes back to the state before a cycle that is not ahead. Events injected from it on are dropped."""
         self.say(f"back {cycle}")
+
+    def back_until(self, place: Place) -> bool:
+        """Goes back to the last time that the order at a place was in hand. The methods `back_until_..` and `back_step` drop
+        events as `back` does, and return whether there was one before now; if not, they change nothing."""
+        return self._back(f"until {_place(place)}")
+
+    def back_until_write(self, channel: int, word: Optional[int] = None) -> bool:
+        """Goes back to before the last write to a channel, 5 to 0o777, of this word if one is named."""
+        return self._back(_with_word(f"until write {channel:o}", word))
+
+    def back_until_cell(self, place: Place) -> bool:
+        """Goes back to before the last change of a cell."""
+        return self._back(f"until cell {_place(place)}")
+
+    def back_until_interrupt(self, name: Optional[str] = None) -> bool:
+        """Goes back to before the last interrupt was taken, or the last one of this name."""
+        return self._back("until interrupt" if name is None else f"until interrupt {name}")
+
+    def back_until_panel(self) -> bool:
+        """Goes back to before the last change of the panel."""
+        return self._back("until panel")
+
+    def back_step(self, boundaries: int = 1) -> bool:
+        """Goes back by this number of boundaries, or a little more: to the first boundary of the same cycle."""
+        return self._back(f"step {boundaries}")
+
+    def _back(self, what: str) -> bool:
+        try:
+            self.say(f"back {what}")
+        except Refused as refused:
+            if str(refused).startswith("NotHit:"):
+                return False
+            raise
+        return True
 
     # what happens to the machine, now
 
@@ -347,6 +474,11 @@ class Console:
         """What comes next, in a trace's words: "4000 14000 TCF 4000", or "- interrupt KEYRUPT1"."""
         return self.say("next").lines[0].split(" ", 1)[1]
 
+    def where(self) -> Where:
+        """Where the program is. Names need a file of names."""
+        order, *service = self.say("where").lines
+        return Where(_location(order.split(" ")[1:]), _location(service[0].split(" ")[2:]) if service else None)
+
     def cell(self, place: Place) -> int:
         """The word of a cell of erasable memory: 0o100, "0100" or "E3,1400"."""
         return self.cells(place, 1)[0]
@@ -354,6 +486,11 @@ class Console:
     def cells(self, place: Place, count: int) -> List[int]:
         """The words of `count` cells, from this one on."""
         return [int(line.rsplit(" ", 1)[1], 8) for line in self.say(f"cell {_place(place)} {count}").lines]
+
+    def print(self, place: Place, count: int = 1) -> List[Number]:
+        """Returns `count` cells from this one on as words and as signed decimal numbers."""
+        parts = [line.split(" ") for line in self.say(f"print {_place(place)} {count}").lines]
+        return [Number(place, int(word, 8), decimal) for _, place, word, decimal in parts]
 
     def channel(self, channel: int) -> int:
         """The word of a channel."""
@@ -372,6 +509,12 @@ class Console:
         except Ended:
             lines = [event.line for event in heapq.merge(self._base, self._injected, key=lambda event: event.cycle)]
         return "".join(line + "\n" for line in lines)
+
+    def save(self, file: Path) -> None:
+        """Writes `script` to a new file. If there is such a file, FileExistsError is raised, and it stays as it is."""
+        script = self.script()
+        with open(file, "x", encoding="ascii") as saved:
+            saved.write(script)
 
 
 def _line(command: str) -> bytes:
@@ -392,6 +535,22 @@ def _event_of(line: str) -> Event:
 def _place(place: Place) -> str:
     """A place as the console reads it."""
     return f"{place:04o}" if isinstance(place, int) else place
+
+
+def _with_word(command: str, word: Optional[int]) -> str:
+    """A command with a word after it, if one is named."""
+    return command if word is None else f"{command} {word:05o}"
+
+
+def _location(words: List[str]) -> Location:
+    """The location of words like "4104 KEYIN +10", in which the name may be missing."""
+    return Location(words[0], "".join(words[1:]) or None)
+
+
+def _breakpoint(line: str) -> Breakpoint:
+    """The breakpoint of a line like "break 2 write 010" or "hit 2 write 010"."""
+    _, number, what = line.split(" ", 2)
+    return Breakpoint(int(number), what)
 
 
 def _writes(answer: Answer) -> List[Write]:

@@ -341,6 +341,7 @@ COMMANDS: Dict[str, Callable[[Server, Dict[str, Any]], None]] = {
     "speed": lambda server, body: server.session.set_speed(item(body, "times", int)),
     "step": lambda server, body: server.session.step(),
     "go": lambda server, body: server.session.go_there(item(body, "cycle", int), is_sure(body)),
+    "back": lambda server, body: server.session.go_back_to_change(is_sure(body)),
     "undo": lambda server, body: server.session.undo(is_sure(body)),
     "break": lambda server, body: server.session.add_breakpoint(item(body, "place", str)),
     "unbreak": lambda server, body: server.session.remove_breakpoint(item(body, "place", str)),

@@ -208,6 +208,11 @@ class Session:
         and the user was not asked."""
         self.call(lambda: self._go_there(cycle, sure))
 
+    def go_back_to_change(self, sure: bool = False) -> None:
+        """Goes back to before the last change of the panel; time stops. Raises `Sure` as `go_there` does, and `Unable` if the
+        panel has not changed yet."""
+        self.call(lambda: self._go_back_to_change(sure))
+
     def undo(self, sure: bool = False) -> None:
         """Restores what the last going back dropped."""
         self.call(lambda: self._take_back(sure))
@@ -511,6 +516,16 @@ class Session:
             self._go_ahead(min(cycle, self.furthest))
         else:
             self._pause()
+
+    def _go_back_to_change(self, sure: bool) -> None:
+        if self.ended is not None:
+            raise Unable(self.ended)
+        # Another console looks for it, because this one would drop events without consent.
+        with self._copy_of_machine(self._script(), self.console.cycle) as other:
+            if not other.back_until_panel():
+                raise Unable("the panel has not changed before now")
+            cycle = other.cycle
+        self._go_back(cycle, sure)
 
     def _go_ahead(self, cycle: int) -> None:
         """Goes on to a cycle as fast as it can, with keys and ticks on the way, and keeps the last boundaries."""

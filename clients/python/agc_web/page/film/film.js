@@ -94,10 +94,18 @@ const ACTIONS = {
   end: () => go(end),
   difference: () => { if (parting >= 0) go(parting); },
 };
+const SPEED_KEYS = ['', '', '1', '2', '3', '4']; // those of the speeds, the slowest first
+const SPEED_STEPS = { '<': -1, '>': 1 };
 const SHORTCUTS = { ' ': 'play', ArrowLeft: 'previous', ArrowRight: 'next', Home: 'start', End: 'end', d: 'difference', D: 'difference' };
 
+// the place among the speeds that a key sets, or -1
+function speedOf(key) {
+  const step = SPEED_STEPS[key];
+  return step ? Math.min(Math.max(find('speed').selectedIndex + step, 0), SPEED_KEYS.length - 1) : SPEED_KEYS.indexOf(key);
+}
+
 function onKey(event) {
-  const place = '1234'.indexOf(event.key);
+  const place = speedOf(event.key);
   const name = SHORTCUTS[event.key];
   const onButton = event.target.tagName === 'BUTTON' && event.key === ' ';
   if (onButton || event.target.tagName === 'SELECT' || event.ctrlKey || event.altKey || event.metaKey) return;

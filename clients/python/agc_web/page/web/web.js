@@ -91,6 +91,7 @@ const playOrPause = () => ask(now.playing ? 'pause' : 'play');
 const step = () => ask('step');
 const undo = () => { if (now.undo !== null) ask('undo'); };
 const back = (seconds) => ask('go', { cycle: Math.max(0, Math.round(now.cycle - seconds * CYCLES_A_SECOND)) });
+const backToChange = () => ask('back');
 
 function changeSpeed(by) {
   const times = SPEED_STEPS[SPEED_STEPS.indexOf(now.speed) + by];
@@ -109,6 +110,7 @@ const SHORTCUTS = {
   Backspace: () => back(now.playing ? 1 : 0.1),
   '<': () => changeSpeed(-1),
   '>': () => changeSpeed(1),
+  D: backToChange,
   u: undo,
   '?': () => find('help').showModal(),
 };
@@ -152,6 +154,7 @@ function start() {
   find('help-button').addEventListener('click', () => find('help').showModal());
   find('speed').addEventListener('change', () => ask('speed', { times: Number(find('speed').value) }));
   for (const button of document.querySelectorAll('[data-back]')) button.addEventListener('click', () => back(Number(button.dataset.back)));
+  find('back-to-change').addEventListener('click', backToChange);
   find('slider').addEventListener('input', () => {
     sliding = true;
     setText(find('seconds'), `${(find('slider').value / CYCLES_A_SECOND).toFixed(3)} s`);
