@@ -121,7 +121,7 @@ def double(value):
 
 def load(craft):
     """The erasable load: bank, offset and word of each cell."""
-    state = [craft.way, craft.known_height, 64 * craft.forward, 64 * craft.up, 8500]
+    state = [-craft.way, 64 * craft.forward, craft.known_height, 64 * craft.up, 8500]
     words = [word for value in state for word in double(value)]
     return [(3, offset, word) for offset, word in enumerate(words)] + [(0, CDUY, craft.angle() % 32768)]
 
