@@ -8,7 +8,7 @@ import subprocess
 import sys
 import tempfile
 
-from agc import Came, Console, Ended, Refused, Registers, Write
+from agc import Breakpoint, Came, Console, Ended, Hit, Location, Number, Refused, Registers, Where, Write
 
 program, console, top = sys.argv[1:4]
 passed = 0
@@ -182,6 +182,102 @@ def try_names():
         judge("a name for a cell", 0, agc.cell("COUNT+1"))
 
 
+def a_countdown():
+    """The countdown of examples/debugging, with its names; the cycles are those of its source."""
+    return example("debugging", script=script_of("debugging"), names=os.path.join(top, "examples", "debugging", "names"))
+
+
+def try_breakpoints():
+    """breakpoints of each kind, in the countdown"""
+    with a_countdown() as agc:
+        lamp = Breakpoint(1, "write 011 00100")
+        write = Breakpoint(2, "write 010 30031")
+        order = Breakpoint(3, "order 02,4066")
+        cell = Breakpoint(4, "cell 0100")
+        interrupt = Breakpoint(5, "interrupt T4RUPT")
+        judge("a breakpoint at the write that lights a lamp", lamp, agc.break_write(0o11, 0o100))
+        judge("at a write of a word", write, agc.break_write(0o10, 0o30031))
+        judge("at an order", order, agc.break_at("TICK"))
+        judge("at a cell", cell, agc.watch("LEFT"))
+        judge("at an interrupt", interrupt, agc.break_interrupt("T4RUPT"))
+        judge("breakpoints run nothing", 0, agc.cycle)
+        judge("the cell changes", (Hit(cell, []), 5), (agc.continue_(), agc.cycle))
+        agc.delete(cell)
+        judge("not within so many cycles", (Hit(None, [Write(11, 0o10, 0o30033)]), 105), (agc.continue_(100), agc.cycle))
+        judge("the interrupt comes next", (Hit(interrupt, []), 85121), (agc.continue_(), agc.cycle))
+        judge("its name", "- interrupt T4RUPT", agc.next())
+        judge("the order comes next", (Hit(order, []), 85125), (agc.continue_(), agc.cycle))
+        judge("the write has come", (Hit(write, [Write(85144, 0o10, 0o30031)]), 85146), (agc.continue_(), agc.cycle))
+        judge("those that are left", [lamp, write, order, interrupt], agc.breaks())
+        for number in (2, 3, 5):
+            agc.delete(number)
+        no_number = "NoBreakpoint: no breakpoint has this number; breaks lists them"
+        judge("a number that is gone", no_number, raised(Refused, agc.delete, 2))
+        rest = [Write(170478, 0o10, 0o30003), Write(255811, 0o10, 0o30025), Write(300010, 0o11, 0o100)]
+        judge("the lamp", (Hit(lamp, rest), 300012), (agc.continue_(), agc.cycle))
+        judge("a number is given once", Breakpoint(6, "write 010"), agc.break_write(0o10))
+        wrong = raised(Refused, agc.break_interrupt, "T4")
+        judge("no such interrupt", "BadInterrupt", wrong.split(":")[0])
+
+
+def try_backwards():
+    """ways back to what happened last, in the countdown; the cycles are those of its source"""
+    wait = Location("4065", "WAIT")
+    with a_countdown() as agc:
+        judge("where it begins", Where(Location("4000", None), None), agc.where())
+        judge("nothing has happened", [False] * 3, [agc.back_step(), agc.back_until("4000"), agc.back_until_cell("LEFT")])
+        agc.go_to(400000)
+        judge("while it waits", Where(wait, None), agc.where())
+        judge("back to the lamp", (True, 300010), (agc.back_until_panel(), agc.cycle))
+        judge("within a service", Where(Location("4114", "LIGHT+1"), wait), agc.where())
+        judge("one boundary back", (True, 300009), (agc.back_step(), agc.cycle))
+        judge("three more", (True, 300004), (agc.back_step(3), agc.cycle))
+        judge("back to a change of a cell", (True, 255803), (agc.back_until_cell("LEFT"), agc.cycle))
+        judge("it has not come yet", 1, agc.cell("LEFT"))
+        judge("at an order that may be wrong", Where(Location("4074", "TICK+6"), wait), agc.where())
+        judge("back to an order", (True, 255792), (agc.back_until("TICK"), agc.cycle))
+        judge("by its address", (True, 170459), (agc.back_until(0o4066), agc.cycle))
+        judge("back to an interrupt", (True, 170455), (agc.back_until_interrupt("T4RUPT"), agc.cycle))
+        judge("and to the one before", (True, 85121), (agc.back_until_interrupt(), agc.cycle))
+        judge("no such word was written", (False, 85121), (agc.back_until_write(0o10, 0o30003), agc.cycle))
+        judge("back to the write of a word", (True, 11), (agc.back_until_write(0o10, 0o30033), agc.cycle))
+        judge("nothing was written before", (False, 11), (agc.back_until_write(0o10), agc.cycle))
+        judge("so many boundaries back are none", (False, 11), (agc.back_step(1000), agc.cycle))
+        for call, word, fault in (
+            (agc.back_until_write, 4, "BadChannel"), (agc.back_until_cell, "START", "NotErasable"), (agc.back_until, "NOWHERE", "BadPlace"),
+            (agc.back_until_interrupt, "T4", "BadInterrupt"), (agc.back_step, -1, "BadNumber"),
+        ):
+            judge(f"a fault: {word}", fault, raised(Refused, call, word).split(":")[0])
+        judge("and nothing is done", 11, agc.cycle)
+    with example("division", limit=100) as agc:
+        agc.go(100)
+        judge("back from a stop", (True, 3, None), (agc.back_until_write(0o10), agc.cycle, agc.stop))
+
+
+def try_numbers():
+    """cells as numbers"""
+    with a_countdown() as agc:
+        agc.until_cell("LEFT")
+        judge("a positive number", [Number("0100", 3, "3")], agc.print("LEFT"))
+        agc.poke(0, 0o100, 0o77777)
+        agc.poke(0, 0o101, 0o77775)
+        wanted = [Number("0100", 0o77777, "-0"), Number("0101", 0o77775, "-2"), Number("0102", 0, "0")]
+        judge("-0, a negative number and +0", wanted, agc.print(0o100, 3))
+
+
+def try_quiet():
+    """a console that prints no writes"""
+    with a_countdown() as agc:
+        agc.quiet()
+        judge("no writes", ([], Came(True, [])), (agc.go(100), agc.until_write(0o10)))
+        judge("they have happened", 2, agc.count_of_writes())
+        quiet = "the console is quiet: it prints no writes"
+        judge("a loop over writes", quiet, raised(ValueError, lambda: list(agc.writes(until=200000))))
+        judge("quiet by a name", "quiet or not: True or False", raised(TypeError, agc.quiet, "off"))
+        agc.quiet(False)
+        judge("writes again", [Write(170478, 0o10, 0o30003)], list(agc.writes(until=200000)))
+
+
 def try_odd_words():
     """what cannot be sent, and files whose names look like options"""
     with example("keys") as agc:
@@ -271,6 +367,9 @@ def try_left_scripts():
             agc.raise_interrupt(8)
             agc.back(45)
             agc.input(0o31, 7)
+            agc.step(3)
+            agc.raise_interrupt(8)
+            agc.back_until("4000")
             raised(Refused, agc.key, "ENTER")
             told = agc.script()
         # the idle order takes one cycle, and so the machine stands at each of these cycles
@@ -279,6 +378,23 @@ def try_left_scripts():
             "40 pro down\n45 input 31 00007\n60 input 30 00005\n"
         )
         judge("the script of events before, between and after the script's own", (wanted, wanted), (told, agc.script()))
+
+
+def try_save():
+    """the script in a file"""
+    with tempfile.TemporaryDirectory() as folder:
+        name = os.path.join(folder, "saved")
+        with example("keys") as agc:
+            agc.go(10)
+            agc.key("4")
+            agc.save(name)
+            agc.key("5")
+            judge("a file that exists", True, "exists" in raised(FileExistsError, agc.save, name))
+            with open(name) as saved:
+                judge("the saved script stays", "10 key 4\n", saved.read())
+        agc.save(name + "2")
+        with Console(os.path.join(top, "examples", "keys", "rope"), name + "2", program=console) as again:
+            judge("the saved script is the session's", agc.script(), again.script())
 
 
 def try_versions():
@@ -300,7 +416,8 @@ def try_versions():
 
 
 for each in (
-    try_versions, try_keys, try_events, try_until, try_writes, try_names, try_odd_words, try_children, try_left_scripts, try_faults,
+    try_versions, try_keys, try_events, try_until, try_writes, try_names, try_breakpoints, try_backwards, try_numbers,
+    try_quiet, try_odd_words, try_children, try_left_scripts, try_save, try_faults,
 ):
     try:
         each()

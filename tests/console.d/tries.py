@@ -11,7 +11,9 @@ import sys
 import time
 
 import session as cases
+from places import try_places
 from reading import faults_of, wrong_line
+from searches import search
 from session import Session, judge, meaning
 from walks import walk
 
@@ -93,9 +95,19 @@ def a_cell(dice):
     return dice.choice(["100", "101", "27", "0", "E3,1400", "777"])
 
 
+def a_breakpoint(dice):
+    interrupt = dice.choice(["T4RUPT", "KEYRUPT1", "RUPT10"])
+    return dice.choice([a_place(dice), "write 10", "write 11 00001", f"cell {a_cell(dice)}", f"interrupt {interrupt}"])
+
+
+def a_way_back(dice, cycle):
+    until = dice.choice(["interrupt", "panel", *(a_breakpoint(dice) for _ in range(6))])
+    return dice.choice([f"back {dice.randrange(cycle + 500)}", f"back until {until}", "back step", f"back step {dice.randrange(1, 60)}"])
+
+
 def a_command(dice, cycle):
     """Any command, wrong ones among them, and now and then none."""
-    kind = dice.randrange(20)
+    kind = dice.randrange(22)
     within = dice.choice(["", f" within {dice.randrange(5000)}"])
     if kind < 4:
         return f"go {dice.choice([0, 1, 7, 100, 853, 5000, 30000])}"
@@ -111,12 +123,17 @@ def a_command(dice, cycle):
         return f"until cell {a_cell(dice)} within {dice.randrange(5000)}"
     if kind < 14:
         return an_event(dice)
-    if kind == 14 and dice.random() < 0.5:
-        return f"back {dice.randrange(cycle + 500)}"
+    if kind == 14:
+        return a_way_back(dice, cycle)
     if kind == 15:
-        return dice.choice(["panel", "registers", "next", "writes", "script", "help", f"watch {TABLES}", "", "# so"])
+        looks = ["panel", "registers", "next", "where", "writes", "script", "help", f"watch {TABLES}", "", "# so"]
+        return dice.choice(looks)
     if kind == 16:
         return dice.choice([f"cell {a_cell(dice)}", f"cell 100 {dice.randrange(1, 9)}", "channel 10", "channel 777"])
+    if kind == 17:
+        return dice.choice([f"break {a_breakpoint(dice)}", "breaks", f"print {a_cell(dice)}"])
+    if kind < 20:
+        return f"continue within {dice.randrange(5000)}"
     return wrong_line(dice)
 
 
@@ -152,13 +169,19 @@ class Told:
 
     def take_back(self, command):
         """What was given at the cycle or later is dropped, and so is what was written."""
-        cycle = int(command.split()[1])
+        cycle = cycle_of(command, self.session.cycle)
         for event in self.given:
             if event[0] >= cycle:
                 self.script.remove(event)
         self.given = [event for event in self.given if event[0] < cycle]
         judge(f"the script after {command}", self.script, self.asked())
         self.writes = [write for write in self.writes if int(write.split()[0]) < cycle]
+
+
+def cycle_of(command, cycle):
+    """The cycle that a `back C` names. The other ways back end at the one at which something began."""
+    named = command.split()[1]
+    return int(named) if named.isdigit() else cycle
 
 
 def try_wrong_line(session, line):
@@ -180,8 +203,9 @@ def goes_on(session, dice, limit):
             continue
         before = session.cycle, session.stop
         lines = session.say(command)
-        if command.startswith("back ") and int(command.split()[1]) > before[0]:
-            judge(f"a cycle ahead: {command} at {before[0]}", (None, "Ahead"), (lines, session.error.split(":")[0]))
+        if command.startswith("back ") and (lines is None or cycle_of(command, before[0]) > before[0]):
+            fault = "Ahead" if cycle_of(command, -1) > before[0] else "NotHit"
+            judge(f"{command} at {before[0]} is refused", (None, fault), (lines, (session.error or "").split(":")[0]))
             session.say("")
             judge("nothing is done", before, (session.cycle, session.stop))
         elif lines is None:
@@ -287,11 +311,25 @@ def try_full_script():
     judge("the end of a full script", (b"", 0), session.close())
 
 
+def try_full_breakpoints():
+    """There are 64 breakpoints at most. One that is deleted makes room, and its number is not given again."""
+    session = Session(console, [os.path.join(top, "examples", "keys", "rope"), os.devnull])
+    set_ones = [session.say("break write 10") for _ in range(64)]
+    judge("64 breakpoints", [[f"break {number} write 010"] for number in range(1, 65)], set_ones)
+    full = "TooManyBreakpoints: there are at most 64; delete N makes room"
+    judge("one more", (None, full), (session.say("break 4000"), session.error))
+    judge("none is lost", 64, len(session.say("breaks")))
+    judge("room again", ([], ["break 65 order 02,4000"]), (session.say("delete 64"), session.say("break 4000")))
+    judge("the last one", ["break 65 order 02,4000"], session.say("breaks")[-1:])
+    judge("the end of 64 breakpoints", (b"", 0), session.close())
+
+
 def try_an_hour_back():
-    """An hour of machine time, and back to its middle and to its start. How long it takes is told."""
+    """An hour of machine time, and back to its middle and to its start, also by a search. How long it takes is told."""
     session = Session(console, [os.path.join(top, "examples", "keys", "rope"), os.devnull])
     session.say("key 4")
-    for command, cycle in (("go 307200000", 307200000), ("back 307199999", 307199999), ("back 0", 0)):
+    commands = ("go 307200000", 307200000), ("back 307199999", 307199999), ("back until cell 101", 7), ("back 0", 0)
+    for command, cycle in commands:
         begun = time.monotonic()
         lines = session.say(command)
         took = time.monotonic() - begun
@@ -306,11 +344,14 @@ for each in seeds:
         try_seed(each)
         dice = random.Random(-1 - each)
         walk(console, study, files_of(dice, each)[0], dice, an_event, scratch)
+        search(console, study, *files_of(dice, each), dice, an_event, scratch)
     except (EOFError, IndexError, subprocess.CalledProcessError) as error:
         judge(f"seed {each}", "answers", repr(error))
 if len(sys.argv) == 6:
     try_odd_uses()
     try_full_script()
+    try_full_breakpoints()
+    try_places(console, study, top)
     try_an_hour_back()
 print(f"{cases.passed} passed, {cases.failed} failed")
 sys.exit(cases.failed > 0)

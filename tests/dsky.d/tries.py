@@ -124,7 +124,7 @@ class Terminal:
 
     def saved(self, name):
         """Types s, and returns the text of the file."""
-        self.type("<" if self.screen.number("SPEED") == 1 else "<>")
+        self.type("<>")
         self.until("no remark is left", lambda screen: last_line(screen) != " saved")
         self.type("s")
         self.until("not saved", lambda screen: last_line(screen) == " saved")
@@ -220,7 +220,7 @@ def is_idle(screen):
 
 
 def speed_of(screen):
-    found = re.search(r"SPEED (\w+)", screen.text())
+    found = re.search(r"SPEED (\S+)", screen.text())
     return found and found[1]
 
 
@@ -926,9 +926,9 @@ def boundaries_on(screen):
     return [line[1:] for line in lines if re.match(r" \d+ .* \| A [0-7]{6} ", line)], [line[6:] for line in lines if line.startswith(" next ")]
 
 
-def boundaries_by(rope, script, cycle, limit):
+def boundaries_by(rope, script, cycle, limit, names=()):
     """The boundaries that agc-study traces up to a cycle, an event at it among them, and what comes next."""
-    words = [study, "trace", rope, written("stepped", script), "--limit", str(limit), "--from", str(max(0, cycle - 100))]
+    words = [study, "trace", rope, written("stepped", script), "--limit", str(limit), "--from", str(max(0, cycle - SPACING - 100)), *names]
     lines = subprocess.run(words, capture_output=True, text=True).stdout.splitlines()
     taken = 0
     while taken < len(lines) and (int(lines[taken].split()[0]) < cycle or lines[taken].startswith(f"{cycle} - event ")):
@@ -937,11 +937,37 @@ def boundaries_by(rope, script, cycle, limit):
     return lines[:taken], coming
 
 
-def shows_boundaries(name, terminal, rope, save, most=12):
-    """The screen of a session whose time has stopped shows the last boundaries of the run, so many, and what comes next."""
+def folded(lines):
+    """The lines of a trace, in which an order that is repeated with nothing in between is one line with its count."""
+    out, counts, gap = [], [], 0
+    for line in lines:
+        cycle, rest = line.split(" ", 1)
+        repeats = bool(out) and out[-1][1] == rest and not rest.startswith("- ") and " > " not in rest
+        if repeats and (counts[-1] == 1 or int(cycle) - out[-1][0] == gap):
+            gap = int(cycle) - out[-1][0]
+            out[-1] = (int(cycle), rest)
+            counts[-1] += 1
+        else:
+            out.append((int(cycle), rest))
+            counts.append(1)
+    return [f"{cycle} {rest}" if count == 1 else f"{cycle} {rest.replace(' | ', f' x {count} | ', 1)}" for (cycle, rest), count in zip(out, counts)]
+
+
+def counted(lines):
+    """How many boundaries these lines stand for."""
+    return sum(int(found[1]) if (found := re.search(r" x (\d+) \|", line)) else 1 for line in lines)
+
+
+def shows_boundaries(name, terminal, rope, save, most=12, taken=None, names=()):
+    """The screen of a session whose time has stopped shows the last boundaries of the run, in so many lines at most, and what
+    comes next; with `taken` it shows so many boundaries."""
     script, cycle = terminal.saved(save), terminal.screen.cycle()
-    lines, coming = boundaries_by(rope, script, cycle, cycle + 100)
-    judge(name, ([line[: terminal.screen.columns - 2].rstrip() for line in lines[-most:]], coming), boundaries_on(terminal.screen))
+    lines, coming = boundaries_by(rope, script, cycle, cycle + 100, names)
+    shown = boundaries_on(terminal.screen)
+    number = counted(shown[0])
+    wanted = [line[: terminal.screen.columns - 2].rstrip() for line in folded(lines[-number:])]
+    judge(name, (wanted, coming), shown)
+    judge(f"{name}: how many", True, 0 < len(shown[0]) <= most and taken in (None, number))
     judge(f"{name}: sequences", [], terminal.screen.faults)
 
 
@@ -957,18 +983,18 @@ def try_boundaries():
         terminal.until("NOUN 47", lambda screen: screen.fields()["NOUN"] == "47")
         judge("no boundaries while time goes", [], boundaries_on(terminal.screen)[0])
         terminal.pause()
-        shows_boundaries("where time stops", terminal, KEYS_ROPE, save)
+        shows_boundaries("where time stops", terminal, KEYS_ROPE, save, taken=12)
         for step in range(5):
             cycle = terminal.screen.cycle()
             terminal.type(".")
             terminal.until("no step", lambda screen: screen.cycle() > cycle)
-            shows_boundaries(f"step {step}", terminal, KEYS_ROPE, save)
+            shows_boundaries(f"step {step}", terminal, KEYS_ROPE, save, taken=13 + step)
         terminal.type(" ")
         terminal.until("no going on", lambda screen: not is_paused(screen) and screen.cycle() > cycle + SPACING)
         terminal.pause()
         terminal.type("1")
         terminal.until("no key", lambda screen: any(" - event key 1 " in line for line in boundaries_on(screen)[0]))
-        shows_boundaries("where a key goes down", terminal, KEYS_ROPE, save)
+        shows_boundaries("where a key goes down", terminal, KEYS_ROPE, save, taken=13)
         for step in range(14):
             cycle = terminal.screen.cycle()
             terminal.type(".")
@@ -1014,7 +1040,8 @@ def try_boundaries():
             judge(f"{name}: a stop", f" - stop {ended} |", lines[-1][lines[-1].index(" -") : lines[-1].index("|") + 1])
             # An order that stops the machine is a boundary by itself, and the stop stands before it for ever.
             taken = lines if ended == "Limit" else lines[:-1]
-            judge(name, (taken[-12:], [f"- stop {ended}"]), boundaries_on(terminal.screen))
+            shown, coming = boundaries_on(terminal.screen)
+            judge(name, (12, folded(taken[-counted(shown) :]), [f"- stop {ended}"]), (len(shown), shown, coming))
             judge(f"{name}: PRO", ["down", "up"], [line.split()[2] for line in told.splitlines() if " pro " in line])
             judge(f"{name}: the end", (0, told), (terminal.quit()[0], read(save)))
         finally:
@@ -1042,7 +1069,7 @@ def try_speeds():
     try:
         terminal.begun()
         for key, speed in [(">", "10"), (">", "100"), (">", "1000"), (">", "max"), (">", "max"), ("<", "1000"), ("<", "100"),
-                           ("<", "10"), ("<", "1"), ("<", "1")]:
+                           ("<", "10"), ("<", "1"), ("<", "1/10"), ("<", "1/100"), ("<", "1/100"), (">", "1/10"), (">", "1")]:
             terminal.type(key)
             terminal.until(f"{key} does not lead to {speed}", lambda screen: speed_of(screen) == speed)
             judge(f"{key} leads to {speed}", speed, speed_of(terminal.screen))
@@ -1078,6 +1105,200 @@ def try_speeds():
         judge("no key after the stop", (0, ["4"], 100000), (status, keys_of(told(text)[0]), told(text)[1]))
     finally:
         terminal.close()
+
+
+def try_slow_speeds():
+    """At 1/10 and 1/100 a second of the clock has 8,533 and 853 cycles. A key goes down at once, and slows nothing down."""
+    for speed, a_second in (("1/10", 8533.3), ("1/100", 853.3)):
+        terminal = Terminal([KEYS_ROPE, "--speed", speed])
+        try:
+            terminal.begun()
+            judge(f"{speed}: its name", speed, speed_of(terminal.screen))
+            first, begun = terminal.screen.cycle(), time.monotonic()
+            terminal.type("4")
+            while time.monotonic() < begun + 3:
+                terminal.type(b"\x1b[A" if time.monotonic() < begun + 2 else "ii")
+                terminal.take(0.02)
+            seconds = time.monotonic() - begun
+            cycles = terminal.screen.cycle() - first
+            judge(f"{speed}: {cycles} cycles in {seconds:.2f} seconds", True, abs(cycles - a_second * seconds) < a_second * 0.15)
+            judge(f"{speed}: keeps up", None, terminal.screen.number("RUNS AT"))
+            status, text = terminal.quit()
+            key = cycles_of(told(text)[0])[0]
+            judge(f"{speed}: the key", (0, True), (status, key < first + 0.2 * a_second))
+        finally:
+            terminal.close()
+
+
+# Sends PROG 12 twice, at cycles 4 and 7, and then jumps to itself for ever; its interrupts go back at once.
+SENDS = "4000 15000\n5000 35020\n5001 00006\n5002 01010\n5003 00006\n5004 01010\n5005 15005\n5020 54171\n"
+SENDS += "".join(f"{0o4004 + 4 * vector:o} 50017\n" for vector in range(10))
+
+
+def goes_to(terminal, key, cycle):
+    """A key takes a session whose time stands to a cycle."""
+    terminal.type(key)
+    terminal.until(f"{key!r} does not lead to {cycle}", lambda screen: screen.cycle() == cycle and rerun_of(screen) is None)
+
+
+def try_names_and_counts():
+    """Names beside orders, and the turns of an idle loop on one line. CA 5020 begins at cycle 1, the first EXTEND at 3, the first
+    WRITE at 4, the second at 7; each takes two cycles. Then the loop takes one cycle a turn, as a timer's step does."""
+    made = subprocess.run([study, "weave", written("sends.words", SENDS)], capture_output=True)
+    rope = os.path.join(scratch, "sends.rope")
+    with open(rope, "wb") as file:
+        file.write(made.stdout)
+    names = written("sends.names", "4000 START\n5000 SEND\n5005 IDLE\nC010 OUT0\n")
+    terminal = Terminal([rope, "--limit", "844807", "--names", names, "--speed", "max"], (40, 132))
+    try:
+        terminal.begun()
+        terminal.type("i")
+        # TIME4 is last stepped at 10,135,040 pulses, of which a cycle has 12, so at cycle 844587, TIME1 and TIME3 at 10,137,600,
+        # so at 844800 and after it
+        terminal.until("no boundaries", lambda screen: boundaries_on(screen)[0] and rerun_of(screen) is None)
+        judge("the idle loop", [
+            "844799 5005 IDLE         15005 TCF 5005 x 212 | A 154171 L 00000 Q 000000 Z 5006 EB 0 FB 00",
+            "844800 - timer TIME1 | A 154171 L 00000 Q 000000 Z 5006 EB 0 FB 00",
+            "844801 - timer TIME3 | A 154171 L 00000 Q 000000 Z 5006 EB 0 FB 00",
+            "844806 5005 IDLE         15005 TCF 5005 x 5 | A 154171 L 00000 Q 000000 Z 5006 EB 0 FB 00",
+            "844807 - stop Limit | A 154171 L 00000 Q 000000 Z 5006 EB 0 FB 00",
+        ], boundaries_on(terminal.screen)[0][-5:])
+        terminal.type(" ")
+        cycle = 844807
+        while cycle > 0:
+            cycle = max(0, cycle - SPACING)
+            goes_to(terminal, b"\x7f", cycle)
+        for cycle in (1, 3, 4, 6, 7, 9, 10, 11):
+            goes_to(terminal, ".", cycle)
+        judge("the lines with names", [
+            "0 4000 START        15000 TCF 5000 | A 000000 L 00000 Q 000000 Z 5001 EB 0 FB 00",
+            "1 5000 SEND         35020 CA 5020 | A 154171 L 00000 Q 000000 Z 5002 EB 0 FB 00",
+            "3 5001 SEND +1      00006 EXTEND | A 154171 L 00000 Q 000000 Z 5003 EB 0 FB 00",
+            "4 5002 SEND +2      01010 WRITE 010 > 010 54171 | A 154171 L 00000 Q 000000 Z 5004 EB 0 FB 00",
+            "6 5003 SEND +3      00006 EXTEND | A 154171 L 00000 Q 000000 Z 5005 EB 0 FB 00",
+            "7 5004 SEND +4      01010 WRITE 010 > 010 54171 | A 154171 L 00000 Q 000000 Z 5006 EB 0 FB 00",
+            "10 5005 IDLE         15005 TCF 5005 x 2 | A 154171 L 00000 Q 000000 Z 5006 EB 0 FB 00",
+        ], boundaries_on(terminal.screen)[0])
+        judge("what comes next", ["5005 IDLE         15005 TCF 5005"], boundaries_on(terminal.screen)[1])
+        # a key is a boundary between two turns
+        terminal.type("4")
+        terminal.until("no key", lambda screen: any(" - event key 4 " in line for line in boundaries_on(screen)[0]))
+        judge("a key after two turns", True, " TCF 5005 x 2 |" in boundaries_on(terminal.screen)[0][-2])
+        judge("names: the end", (0, []), (terminal.quit()[0], terminal.screen.faults))
+    finally:
+        terminal.close()
+
+
+def finds(terminal, key, cycle, remark):
+    """A key searches in time: time stands at a cycle then, and a remark says so."""
+    goes_to(terminal, key, cycle)
+    terminal.until(f"{key!r} does not say {remark!r}", lambda screen: last_line(screen) == f" {remark}" and is_paused(screen))
+    judge(f"{key!r} leads to {cycle}", cycle, terminal.screen.cycle())
+
+
+def try_searches():
+    """Each search stands after the next boundary that hits, or before the last one, with the keys that came before it. The
+    first WRITE of SENDS, from 4 to 6, changes the panel, the second, from 7 to 9, does not. A key at 7 interrupts after it."""
+    made = subprocess.run([study, "weave", written("searched.words", SENDS)], capture_output=True)
+    rope, save = os.path.join(scratch, "searched.rope"), os.path.join(scratch, "searched")
+    with open(rope, "wb") as file:
+        file.write(made.stdout)
+    terminal = Terminal([rope, "--limit", "844807", "--speed", "max", "--save", save], (40, 132))
+    try:
+        terminal.begun()
+        terminal.until("no stop", lambda screen: " CYCLE 844807 STOP Limit" in screen.text())
+        for key, cycle, remark in (
+            ("D", 4, "found: just before a change of the panel"),
+            ("W", 4, "no channel write before now"),
+            ("d", 6, "found: just after a change of the panel"),
+            ("w", 9, "found: just after a channel write"),
+            ("U", 9, "no interrupt before now"),
+            ("u", 844807, "no interrupt before the stop"),
+            ("W", 7, "found: just before a channel write"),
+        ):
+            finds(terminal, key, cycle, remark)
+        terminal.type("4")
+        judge("a key before the write", "7 key 4\n", terminal.saved(save))
+        for key, cycle, remark in (
+            ("u", 12, "found: just after an interrupt"),
+            ("U", 9, "found: just before an interrupt"),
+            ("W", 7, "found: just before a channel write"),
+            ("d", 844807, "no change of the panel before the stop"),
+            ("U", 9, "found: just before an interrupt"),
+        ):
+            finds(terminal, key, cycle, remark)
+            judge(f"the key at {cycle}", "7 key 4\n", terminal.saved(save))
+        terminal.type("i")
+        terminal.until("no boundaries", lambda screen: boundaries_on(screen)[0])
+        shows_boundaries("before the interrupt", terminal, rope, save)
+        finds(terminal, "u", 12, "found: just after an interrupt")
+        terminal.until("no boundaries", lambda screen: boundaries_on(screen)[0] and rerun_of(screen) is None)
+        judge("the interrupt is the last one", "9 - interrupt KEYRUPT1", boundaries_on(terminal.screen)[0][-1].split(" |")[0])
+        finds(terminal, "D", 4, "found: just before a change of the panel")
+        judge("the key is undone", "", terminal.saved(save))
+        judge("searches: the end", (0, []), (terminal.quit()[0], terminal.screen.faults))
+    finally:
+        terminal.close()
+
+
+def try_long_search():
+    """A search stops the time that runs, and ends after 100,000,000 cycles. Keys are heard meanwhile."""
+    terminal = Terminal([KEYS_ROPE])
+    try:
+        terminal.begun()
+        terminal.type("w")
+        terminal.until("no pause", is_paused)
+        terminal.until("no end of the search", lambda screen: last_line(screen) == " no channel write in 100000000 cycles")
+        cycle = terminal.screen.cycle()
+        judge("a search of 100,000,000 cycles", True, 100_000_000 <= cycle < 101_000_000)
+        begun = time.monotonic()
+        terminal.type("d")
+        terminal.until("no search", lambda screen: last_line(screen).startswith(" searching for a change of the panel;"))
+        terminal.type(" ")
+        terminal.until("the search goes on", lambda screen: last_line(screen) == " search ended")
+        judge("a search is ended at once", True, time.monotonic() < begun + 1)
+        terminal.type("u4")
+        terminal.until("no search by u", lambda screen: last_line(screen) == " found: just after an interrupt")
+        terminal.type("w")
+        terminal.until("no search by w", lambda screen: last_line(screen) == " found: just after a channel write")
+        judge("a key while a search goes on", "_4", terminal.screen.fields()["NOUN"])
+        terminal.type("w")
+        begun = time.monotonic()
+        judge("control-C in a search", (0, ["4"]), (terminal.quit(b"\x03")[0], keys_of(told(terminal.screen.plain.replace("\r\n", "\n"))[0])))
+        judge("control-C is heard at once", True, time.monotonic() < begun + 1.5)
+    finally:
+        terminal.close()
+
+
+def try_lesson():
+    """The way of docs/DEBUGGING.md: from OPR ERR back to the 0 in R1, and the order before it that makes -0."""
+    folder = os.path.join(top, "examples", "debugging")
+    words = [os.path.join(folder, name) for name in ("rope", "script")]
+    terminal = Terminal([*words, "--names", os.path.join(folder, "names"), "--limit", "400000"], (40, 132))
+    try:
+        terminal.begun()
+        terminal.until("no OPR ERR", lambda screen: "OPR ERR" in screen.lamps())
+        finds(terminal, "D", 300010, "found: just before a change of the panel")
+        judge("no lamp yet", False, "OPR ERR" in terminal.screen.lamps())
+        finds(terminal, "D", 255811, "found: just before a change of the panel")
+        judge("R1 before", "_____1", terminal.screen.fields()["R1"])
+        terminal.type("i")
+        terminal.until("no boundaries", lambda screen: boundaries_on(screen)[0])
+        judge("the order at fault", ["255803 4074 TICK +6      26100 ADS 0100 | A 177777 L 00000 Q 000003 Z 4076 EB 0 FB 00"],
+              [line for line in boundaries_on(terminal.screen)[0] if "ADS 0100" in line])
+        judge("the lesson: the end", (0, []), (terminal.quit()[0], terminal.screen.faults))
+    finally:
+        terminal.close()
+
+
+def try_names():
+    """A file of names that cannot be used is refused."""
+    nowhere, pipe = os.path.join(scratch, "no-names"), os.path.join(scratch, "pipe-of-names")
+    os.mkfifo(pipe)
+    wrong = written("wrong.names", "4000 LOOP\n4001\n")
+    is_refused("no names", [KEYS_ROPE, "--names", nowhere], f"{nowhere}: cannot read names")
+    is_refused("wrong names", [KEYS_ROPE, "--names", wrong], f"{wrong}: names line 2: after the place comes a name: 1 to 8 characters, no comma, not only digits and signs")
+    is_refused("a pipe of names", [KEYS_ROPE, "--names", pipe], f"{pipe}: a pipe, and no key is heard while it is read; write it to a file first")
 
 
 def try_idleness():
@@ -1116,7 +1337,7 @@ for each in (LARGE, SMALL):
         attempt(f"{face} at {each}", try_face, f"{face} at {each[0]} lines", made, keys, each)
 for each in (
     try_unsaved, try_saving, try_full_disk, try_two_sessions, try_little_memory, try_last_keys, try_told_names, try_leaving, try_ink, try_no_terminal, try_resizing, try_script, try_refusals, try_many_keys, try_going_back,
-    try_a_long_way_back, try_boundaries, try_start, try_speeds, try_idleness,
+    try_a_long_way_back, try_boundaries, try_start, try_speeds, try_slow_speeds, try_names_and_counts, try_searches, try_long_search, try_lesson, try_names, try_idleness,
 ):
     attempt(each.__name__, each)
 print(f"{passed} passed, {failed} failed")

@@ -36,7 +36,9 @@ KEYBOARD = [['VERB', 'NOUN'], ['+', '-', '0'], ['7', '4', '1'], ['8', '5', '2'],
 HALF_LOWER = {'VERB': '+', 'NOUN': '-', 'ENTR': 'CLR', 'RSET': 'PRO'}
 
 A_SECOND = 1024000 / 12  # cycles
-SPEEDS = {'1×': 1, '10×': 10, '100×': 100, '1000×': 1000}
+# The speeds from the slowest on, and the keys that set each from 1×.
+SPEEDS = {'1/100×': 0.01, '1/10×': 0.1, '1×': 1, '10×': 10, '100×': 100, '1000×': 1000}
+SPEED_KEYS = {'1/100×': ['<<', '<<<'], '1/10×': ['<', '<<>'], '1×': ['1', '<>'], '10×': ['2', '>'], '100×': ['3', '>>'], '1000×': ['4', '>>>>', '3>']}
 CONTROLS = ('apart', 'strip', 'time', 'start', 'previous', 'play', 'next', 'end', 'difference', 'speed', 'clock')
 TABLES_PART = (16, 25)  # of the tables
 PART = (140000, 265000)  # the first and the last cycle of the part that tests/film films
@@ -614,17 +616,18 @@ def try_speeds(tries):
     """How fast the film plays, by the browser's own clock, and which keys set that."""
     tries.open(tries.page('speeds.html', left=run([(10, panel(PROG='11'))], stop=1000000000000)))
     tries.check('the speed at first', '1× the machine’s own', tries.look('speed()'))
-    for key, (label, times) in enumerate(SPEEDS.items(), 1):
-        for how in ('key', 'list'):
-            tries.look(f"choose('{'1×' if times > 1 else '10×'}')")
-            if how == 'key':
-                tries.press(str(key))
-            else:
+    for label, times in SPEEDS.items():
+        for how in (*SPEED_KEYS[label], 'the list'):
+            tries.look(f"choose('{'10×' if how in ('1', 'the list') and times == 1 else '1×'}')")
+            if how == 'the list':
                 tries.look(f"choose('{label}')")
-            tries.check(f'the speed by {how} {key}', label, tries.look('speed()').split(' ')[0])
+            else:
+                tries.press(*how)
+            tries.check(f'the speed by {how}', label, tries.look('speed()').split(' ')[0])
             tries.press('Home')
             tries.click('play')
-            seen = tries.look('pictures(12)')
+            # so many that the cycle, a whole number, tells the speed within a hundredth
+            seen = tries.look(f'pictures({12 if times >= 1 else 30 if times > 0.01 else 60})')
             tries.click('play')
             cycles, seconds = seen[-1][1] - seen[0][1], (seen[-1][0] - seen[0][0]) / 1000
             tries.near(f'cycles a second at {label} by {how}', 1, cycles / seconds / A_SECOND / times, 0.01)

@@ -1,4 +1,5 @@
-"""Compares what `agc-study profile` tells with a slow count over the lines of the plain trace."""
+"""Compares what `agc-study profile` tells with a slow count over the lines of the plain trace, and with names a
+slow sum over its words."""
 
 import csv
 import random
@@ -143,6 +144,107 @@ def agrees(rope, script, limit, first, last):
     return same
 
 
+def location_of(place):
+    """The memory of a place that a count prints, and its number there: a word of the rope, or a cell."""
+    bank, _, address = place.rpartition(",")
+    number = int(address, 8)
+    if not bank:
+        return "E", number
+    if bank[0] == "E":
+        return "E", 0o400 * int(bank[1:], 8) + number % 0o400
+    return "F", 0o2000 * int(bank, 8) + number % 0o2000
+
+
+def shown(memory, number):
+    """The place with this number, as a count prints it."""
+    if memory == "E":
+        return f"{number:04o}" if number < 0o1400 else f"E{number // 0o400:o},{0o1400 + number % 0o400:04o}"
+    bank = number // 0o2000
+    return f"{bank:02o},{number if bank in (2, 3) else 0o2000 + number % 0o2000:04o}"
+
+
+def size_of(memory):
+    return 0o400 if memory == "E" else 0o2000
+
+
+def name_of(names, memory, number):
+    """The nearest name at or below a place in its bank, up to 64 words away; of a register or counter only its own."""
+    near = [(number - at, index, name) for index, (kind, at, name) in enumerate(names)
+            if kind == memory and at // size_of(memory) == number // size_of(memory) and 0 <= number - at <= 64]
+    if not near:
+        return ""
+    offset, _, name = min(near)
+    if memory == "E" and number < 0o61 and offset:
+        return ""
+    return f"{name} +{offset}" if offset else name
+
+
+def routine_of(names, memory, number):
+    """The number at which the routine of a place begins, and what a count prints of it."""
+    bank = number // size_of(memory)
+    starts = [at for kind, at, _ in names if kind == memory and at // size_of(memory) == bank and at <= number]
+    if not starts:
+        return size_of(memory) * bank, f"E{bank:o}" if memory == "E" else f"{bank:02o}"
+    return max(starts), f"{shown(memory, max(starts))} {name_of(names, memory, max(starts))}"
+
+
+def with_names(rows, names):
+    """The rows of a count with names, from those without."""
+    sums, total = {}, next(int(row["cycles"]) for row in rows if row["name"] == "orders")
+    for row in rows:
+        if row["kind"] == "word" and (int(row["times"]) or int(row["cycles"])):
+            memory, number = location_of(row["name"])
+            first, name = routine_of(names, memory, number)
+            before = sums.get((memory, first, name), (0, 0))
+            sums[memory, first, name] = before[0] + int(row["times"]), before[1] + int(row["cycles"])
+    routines = []
+    for (memory, first, name), (times, cycles) in sorted(sums.items()):
+        tenths = 1000 * cycles // total if total else 0
+        share = f"{tenths // 10}.{tenths % 10}%"
+        routines.append({"kind": "routine", "name": name, "order": share, "times": str(times), "cycles": str(cycles), "data": ""})
+    words = []
+    for row in rows:
+        if row["kind"] == "word":
+            words.append({**row, "name": f"{row['name']} {name_of(names, *location_of(row['name']))}".rstrip()})
+    return [row for row in rows if row["kind"] != "word"] + routines + words
+
+
+def column_of(row):
+    """The line of a row in columns: the name of a word with an order is padded."""
+    label = row["name"]
+    if row["kind"] == "word" and row["order"]:
+        place, _, name = label.partition(" ")
+        label = f"{place} {name:12}"
+    return f"{row['times']:>14}{row['cycles']:>16}{row['data'] or '-':>14}  {row['kind']} {label} {row['order']}".rstrip(" ")
+
+
+def some_names(rows, chance):
+    """Names at some of the places that ran, near them, and anywhere, a few of them twice."""
+    places = [location_of(row["name"]) for row in rows if row["kind"] == "word"]
+    names = []
+    for index in range(chance.randrange(1, 12)):
+        memory, number = chance.choice(places) if places and index % 4 else ("FE"[index % 2], chance.randrange(0o4000))
+        number = max(0, number + chance.choice((0, 0, -1, 1, -3, -70)))
+        names.append((memory, min(number, 0o3777 if memory == "E" else 0o107777), chance.choice((f"N{index}", f'A"{index}', "SAME", "-X-Y"))))
+    return names
+
+
+def agrees_with_names(rope, script, limit, first, last, folder, chance):
+    """Names after places, and sums by routine, against those that the count without names gives."""
+    words = ["profile", rope, script, "--limit", str(limit), "--from", str(first), "--to", str(last)]
+    rows = list(csv.DictReader(run([*words, "--csv"]).splitlines()))
+    names = some_names(rows, chance)
+    file = folder / "names"
+    file.write_text("".join(f"{shown(memory, at)} {name}\n" for memory, at, name in names))
+    told = list(csv.DictReader(run([*words, "--csv", "--names", str(file)]).splitlines()))
+    columns = run([*words, "--names", str(file)]).splitlines()[1:]
+    wanted = with_names(rows, names)
+    same = told == wanted and columns == [column_of(row) for row in wanted]
+    if not same:
+        print("names:", rope, script, limit, first, last, names, file=sys.stderr)
+    return same
+
+
 def main():
     chance = random.Random(SEED)
     answers = []
@@ -150,10 +252,15 @@ def main():
         for first, last in ((0, limit), (limit // 3, limit // 2), (100, 100)):
             answers.append(agrees(EXAMPLES / name / "rope", EXAMPLES / name / "script", limit, first, last))
     with tempfile.TemporaryDirectory() as scratch:
+        for name, limit in RUNS:
+            files = EXAMPLES / name / "rope", EXAMPLES / name / "script"
+            for first, last in ((0, limit), (limit // 3, limit // 2)):
+                answers.append(agrees_with_names(*files, limit, first, last, Path(scratch), chance))
         for _ in range(TRIES):
             rope, script = written(Path(scratch), chance)
             first = chance.choice((0, 0, chance.randrange(1000)))
             answers.append(agrees(rope, script, 2000, first, chance.choice((2000, first + chance.randrange(800)))))
+            answers.append(agrees_with_names(rope, script, 2000, first, 2000, Path(scratch), chance))
     print(f"{sum(answers)} passed, {len(answers) - sum(answers)} failed")
     return 0 if answers and all(answers) else 1
 

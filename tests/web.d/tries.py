@@ -329,7 +329,35 @@ def try_back(page, rope, script):
     judge('the boundaries are listed there', True, 0 < end - int(line_of(page, '#history li', 99).split(' ')[0]) < 9)
     page.type('u')
     judge('undo that', (end, script), (page.see(CYCLE, end), page.site.script()))
-    judge('a second undo has nothing to do', True, page.value("document.getElementById('undo').hidden"))
+    judge('a second undo has nothing to do', True, page.see("document.getElementById('undo').hidden", True))
+
+
+def try_changes():
+    """Back to what the panel of a countdown showed before; the cycles are those of its source's writes."""
+    site = started(example('debugging', 'rope'), example('debugging', 'script'))
+    page = Page(site)
+    site.do('speed', times=10)
+    site.do('break', place='write 11')
+    site.do('play')
+    judge('after the write that lights the lamp', 300012, page.see(CYCLE, 300012))
+    page.click('#back-to-change')
+    judge('before it', 300010, page.see(CYCLE, 300010))
+    page.type('D')
+    judge('before the write of R1', 255811, page.see(CYCLE, 255811))
+    site.do('key', name='1')
+    script = site.script()
+    page.type('D')
+    page.answer(False)
+    judge('who stays keeps the key', (255811, script), (page.see(CYCLE, 255811), site.script()))
+    page.type('D')
+    page.answer(True)
+    judge('before the write of the digit before', (170478, 1), (page.see(CYCLE, 170478), len(keys_in(site.script()))))
+    page.click('#undo')
+    judge('undo brings the key back', (255811, script), (page.see(CYCLE, 255811), site.script()))
+    site.do('go', cycle=11, sure=True)
+    judge('nothing has changed yet', (409, 11), (site.do('back'), site.state()['time']['cycle']))
+    page.close()
+    site.end()
 
 
 def drag(page, part, start=1):
@@ -895,6 +923,8 @@ def try_end():
     with open(saved) as file:
         judge('the script is saved', (script, ['key VERB', 'key 1', 'key 6']), (file.read(), keys_in(script)))
     judge('agc shows the same', wanted, agc_panel(rope, script, cycle)[0])
+    # A process that has ended stays in /proc for a moment.
+    wait(lambda: not any(os.path.exists(f'/proc/{number}') for number in children))
     judge('no process is left', [], [number for number in children if os.path.exists(f'/proc/{number}')])
     judge('the page says that it is over', True, wait(lambda: 'cannot be reached' in page.text('trouble')))
     page.close()
@@ -1041,7 +1071,7 @@ def try_random():
 
 def random_act(session, chance):
     """Does something at random; returns what."""
-    name = chance.choice(['press', 'press', 'press', 'play', 'play', 'step', 'back', 'on', 'undo', 'break', 'speed'])
+    name = chance.choice(['press', 'press', 'press', 'play', 'play', 'step', 'back', 'change', 'on', 'undo', 'break', 'speed'])
     cycle = session.console.cycle
     if name == 'back' and cycle == 0:
         name = 'press'
@@ -1055,6 +1085,9 @@ def random_act(session, chance):
             session.pause()
         elif name == 'back':
             session.go_there(max(0, cycle - chance.choice([1, 3, 100, 5000, 20000, 10 ** 6])), True)
+        elif name == 'change':
+            session.go_back_to_change(True)
+            return 'back'
         elif name == 'on':
             session.go_there(cycle + chance.choice([1, 399, 401, 5000]))
         elif name == 'undo':
@@ -1145,8 +1178,8 @@ def picture(page, name):
 
 
 TRIES = (
-    try_session, try_pro, try_keys_rope, try_sizes, try_policy, try_refusals, try_pace, try_rate, try_latency, try_killed, try_end,
-    try_command, try_lander, try_names_and_pictures, try_stop, try_random, try_face, try_client, try_install,
+    try_session, try_changes, try_pro, try_keys_rope, try_sizes, try_policy, try_refusals, try_pace, try_rate, try_latency,
+    try_killed, try_end, try_command, try_lander, try_names_and_pictures, try_stop, try_random, try_face, try_client, try_install,
 )
 
 
