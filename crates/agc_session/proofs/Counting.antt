@@ -110,6 +110,22 @@ one_boundary b cycle panel shown s t hit e p h = record {
   hits = hits_of_one b panel s (cycles_of hit) h;
 }
 
+-- an earlier cycle says more
+begins_within : (n cycle end : ℕ) (s : State) → cycle ≤ end → BeginBefore n cycle s → BeginBefore n end s
+unfolding BeginBefore
+begins_within zero cycle end s l h = tt
+begins_within (suc n) cycle end s l h = (omega (arith, l, h.0), begins_within n cycle end (boundary None s).0 l h.1)
+
+pub advances_within : (b : Breakpoint) (cycle end : ℕ) (panel shown : Face) (s t : State) (hit : Option ℕ) → cycle ≤ end
+    → HasAdvanced b cycle panel shown s t hit → HasAdvanced b end panel shown s t hit
+advances_within b cycle end panel shown s t hit l a = record {
+  more = a.more;
+  now = a.now;
+  panel_now = a.panel_now;
+  before = begins_within a.more cycle end (boundary None s).0 l a.before;
+  hits = a.hits;
+}
+
 -- fewer boundaries are left after it
 pub span_advances : (b : Breakpoint) (cycle : ℕ) (panel shown : Face) (s t : State) (hit : Option ℕ) → s.stopped ≡ None
     → HasAdvanced b cycle panel shown s t hit → span t < span s

@@ -1,4 +1,4 @@
-//! Why a session cannot start, cannot take an event, or cannot rewind.
+//! Why a session cannot start, cannot take an event, cannot rewind, or cannot search.
 use crate::session::Session;
 use agc_machine::LimitFault;
 use thiserror::Error;
@@ -23,6 +23,16 @@ pub enum InjectFault {
     TooMany,
     #[error("memory")]
     Memory,
+}
+
+/// Why a search has no answer. The session is unchanged.
+#[derive(Clone, Copy, Debug, PartialEq, Eq, Error)]
+pub enum SearchFault {
+    #[error("memory")]
+    Memory,
+    /// The caller cancelled it.
+    #[error("cancelled")]
+    Cancelled,
 }
 
 /// A rewind that ran out of memory, with the unchanged session.

@@ -3,6 +3,7 @@
 
 mod arguments;
 mod breakpoint;
+mod cancellation;
 mod checkpoint;
 mod fault;
 pub mod laws;
@@ -12,6 +13,7 @@ mod writing;
 
 pub use arguments::{SessionArgs, open_session, session_args, session_from, with_session_args};
 pub use breakpoint::Breakpoint;
-pub use fault::{BeginFault, InjectFault, RewindFailed};
+pub use cancellation::{Cancellation, NoCancellation};
+pub use fault::{BeginFault, InjectFault, RewindFailed, SearchFault};
 pub use session::{Rewound, Session};
 pub use writing::LINE_ROOM;

@@ -13,14 +13,19 @@ ghost use Rattle.agc_store.specs.Places.{erasable_cells};
 use crate::breakpoint::{
     Breakpoint, is_hit_by_write, pass, step_cell, step_order, step_service, word_of,
 };
+use crate::cancellation::Cancellation;
 use crate::checkpoint::{Checkpoint, Checkpoints};
+use crate::fault::SearchFault;
 use crate::session::copied;
 use agc_listing::Location;
 use agc_machine::{Machine, Stepped};
 use agc_panel::Panel;
 use agc_processor::Rupt;
 use agc_script::Script;
-use std::alloc::{AllocError, Global};
+use std::alloc::Global;
+
+/// The most cycles between two questions whether a search is cancelled: some 50 milliseconds of a fast processor.
+const SLICE: u64 = 2_000_000;
 
 /// A point of a run. The boundaries of one cycle differ by the events left and by the stop.
 #[derive(Clone, Copy)]
@@ -29,6 +34,13 @@ pub(crate) struct Point {
     /// The number of events left.
     left: usize,
     stopped: bool,
+}
+
+/// The hit with a number, in a stretch that ends at a point.
+#[derive(Clone, Copy)]
+pub(crate) struct Wanted {
+    number: u64,
+    end: Point,
 }
 
 /// The hits of a stretch.
@@ -71,21 +83,22 @@ impl Point {
 }
 
 /// Returns the cycle of the hit with the number `count`, counted back from a machine, or `None` if there are fewer.
-/// The run of `script` leads to the machine. Fails when memory runs out.
-pub(crate) fn search_back(
-    alloc: Global,
+/// The run of `script` leads to the machine. Fails when memory runs out or the search is cancelled.
+pub(crate) fn search_back<C: Cancellation>(
     breakpoint: &Breakpoint,
     count: u64,
     now: &Machine,
     checkpoints: &Checkpoints,
     script: &Script,
-) -> Result<Option<u64>, AllocError>
+    cancellation: &mut C,
+) -> Result<Option<u64>, SearchFault>
     requires some { 0 < count }
     requires range { IsBreakpointInRange breakpoint.now }
     requires right { All (IsCheckpoint now.now.processor.store.fixed now.now.limit) checkpoints.now.copies.items }
     ensures { IfOk result (λ found. (n : ℕ) → after n (start_with script.now now.now) ≡ now.now
         → IsFoundFrom breakpoint.now count (start_with script.now now.now) now.now found) }
 {
+    let alloc = *checkpoints.copies.allocator();
     let mut wanted = count;
     let mut end = Point::of(now);
     let mut place = checkpoints.copies.len();
@@ -93,7 +106,11 @@ pub(crate) fn search_back(
         place -= 1;
         let copy = &checkpoints.copies[place];
         if is_before(copy, script, end) {
-            match search_stretch(alloc, breakpoint, wanted, copy, script, end)? {
+            let hit = Wanted {
+                number: wanted,
+                end,
+            };
+            match search_stretch(alloc, breakpoint, hit, copy, script, cancellation)? {
                 Found::At(cycle) => return Ok(Some(cycle)),
                 Found::Fewer(number) => {
                     wanted -= number;
@@ -102,8 +119,12 @@ pub(crate) fn search_back(
             }
         }
     }
-    let start = start_of(alloc, now).ok_or(AllocError)?;
-    match search_stretch(alloc, breakpoint, wanted, &start, script, end)? {
+    let start = start_of(alloc, now).ok_or(SearchFault::Memory)?;
+    let hit = Wanted {
+        number: wanted,
+        end,
+    };
+    match search_stretch(alloc, breakpoint, hit, &start, script, cancellation)? {
         Found::At(cycle) => Ok(Some(cycle)),
         Found::Fewer(_) => Ok(None),
     }
@@ -146,37 +167,39 @@ fn start_of(alloc: Global, machine: &Machine) -> Option<Checkpoint>
 
 /// Searches the stretch from a copy to a point for the hit with a number, counted back from the point. Runs it once
 /// more if that is not the last one.
-fn search_stretch(
+fn search_stretch<C: Cancellation>(
     alloc: Global,
     breakpoint: &Breakpoint,
-    wanted: u64,
+    wanted: Wanted,
     from: &Checkpoint,
     script: &Script,
-    end: Point,
-) -> Result<Found, AllocError>
-    requires some { 0 < wanted }
+    cancellation: &mut C,
+) -> Result<Found, SearchFault>
+    requires some { 0 < wanted.number }
     requires range { IsBreakpointInRange breakpoint.now }
     requires taken { length from.now.taken ≤ length script.now }
-    ensures searched { IfOk result (λ found. (n : ℕ) → IsAt end (after n (resumed script.now from.now))
-        → HasSearched breakpoint.now wanted n from.now.panel (resumed script.now from.now) found) }
-    ensures fewer { IfOk result (IsFewerThan wanted) }
+    ensures searched { IfOk result (λ found. (n : ℕ) → IsAt wanted.end (after n (resumed script.now from.now))
+        → HasSearched breakpoint.now wanted.number n from.now.panel (resumed script.now from.now) found) }
+    ensures fewer { IfOk result (IsFewerThan wanted.number) }
 {
     is_short(from, script);
-    let all = count_from(alloc, breakpoint, u64::MAX, from, script, end)?;
-    if all.number < wanted {
+    let Wanted { number, end } = wanted;
+    let last = Wanted {
+        number: u64::MAX,
+        end,
+    };
+    let all = count_from(alloc, breakpoint, last, from, script, cancellation)?;
+    if all.number < number {
         return Ok(Found::Fewer(all.number));
     }
-    if wanted == 1 {
+    if number == 1 {
         return Ok(Found::At(all.last));
     }
-    let first = count_from(
-        alloc,
-        breakpoint,
-        all.number - wanted + 1,
-        from,
-        script,
+    let hit = Wanted {
+        number: all.number - number + 1,
         end,
-    )?;
+    };
+    let first = count_from(alloc, breakpoint, hit, from, script, cancellation)?;
     Ok(Found::At(first.last))
 }
 
@@ -188,24 +211,24 @@ fn is_short(from: &Checkpoint, script: &Script)
     let _wanted = from.machine.wants_key();
 }
 
-/// Runs a copy of the machine to a point, or to the hit with the number `most` if that comes first.
-fn count_from(
+/// Runs a copy of the machine to a point, or to the hit with a number if that comes first.
+fn count_from<C: Cancellation>(
     alloc: Global,
     breakpoint: &Breakpoint,
-    most: u64,
+    wanted: Wanted,
     from: &Checkpoint,
     script: &Script,
-    end: Point,
-) -> Result<Counted, AllocError>
-    requires some { 0 < most }
+    cancellation: &mut C,
+) -> Result<Counted, SearchFault>
+    requires some { 0 < wanted.number }
     requires range { IsBreakpointInRange breakpoint.now }
     requires taken { length from.now.taken ≤ length script.now }
-    ensures { IfOk result (λ hits. (n : ℕ) → IsAt end (after n (resumed script.now from.now))
-        → HasCounted breakpoint.now n most from.now.panel (resumed script.now from.now) hits) }
+    ensures { IfOk result (λ hits. (n : ℕ) → IsAt wanted.end (after n (resumed script.now from.now))
+        → HasCounted breakpoint.now n wanted.number from.now.panel (resumed script.now from.now) hits) }
 {
-    let mut machine = resume_copy(alloc, from, script).ok_or(AllocError)?;
+    let mut machine = resume_copy(alloc, from, script).ok_or(SearchFault::Memory)?;
     let mut panel = from.panel;
-    Ok(count_hits(breakpoint, most, &mut machine, &mut panel, end))
+    count_hits(breakpoint, wanted, &mut machine, &mut panel, cancellation)
 }
 
 /// Returns the machine of a copy, with the events of a script that it has not taken.
@@ -218,52 +241,71 @@ fn resume_copy(alloc: Global, from: &Checkpoint, script: &Script) -> Option<Mach
     Some(machine.resume_with(events, from.taken.len()))
 }
 
-/// Runs a machine to a point ahead, or to the hit with the number `most` if that comes first, and counts the hits.
-fn count_hits(
+/// Runs a machine to a point ahead, or to the hit with a number if that comes first, and counts the hits.
+fn count_hits<C: Cancellation>(
     breakpoint: &Breakpoint,
-    most: u64,
+    wanted: Wanted,
     machine: &mut Machine,
     panel: &mut Panel,
-    end: Point,
-) -> Counted
-    requires some { 0 < most }
+    cancellation: &mut C,
+) -> Result<Counted, SearchFault>
+    requires some { 0 < wanted.number }
     requires range { IsBreakpointInRange breakpoint.now }
-    ensures { (n : ℕ) → IsAt end (after n machine.old)
-        → HasCounted breakpoint.now n most panel.old machine.old result }
+    ensures { IfOk result (λ hits. (n : ℕ) → IsAt wanted.end (after n machine.old)
+        → HasCounted breakpoint.now n wanted.number panel.old machine.old hits) }
 {
+    let Wanted { number: most, end } = wanted;
     let mut hits = Counted { number: 0, last: 0 };
+    let mut pause = machine.cycle();
     while !has_ended(machine, end) {
-        if let Some(cycle) = advance(breakpoint, machine, panel, end) {
+        pause = next_pause(pause, machine.cycle(), cancellation)?;
+        if let Some(cycle) = advance(breakpoint, machine, panel, end.cycle.min(pause)) {
             hits = Counted {
                 number: hits.number + 1,
                 last: cycle,
             };
             if hits.number == most {
-                return hits;
+                return Ok(hits);
             }
         }
     }
-    hits
+    Ok(hits)
 }
 
-/// Takes one boundary or more to a point ahead, but none after a hit. Returns the cycle of the hit, if there is one.
+/// Returns the cycle of the next pause, at which it is time to ask whether a search is cancelled. Asks if the pause has
+/// come.
+fn next_pause<C: Cancellation>(
+    pause: u64,
+    cycle: u64,
+    cancellation: &mut C,
+) -> Result<u64, SearchFault> {
+    if cycle < pause {
+        return Ok(pause);
+    }
+    if cancellation.is_cancelled() {
+        return Err(SearchFault::Cancelled);
+    }
+    Ok(cycle.saturating_add(SLICE))
+}
+
+/// Takes one boundary or more to a cycle, but none after a hit. Returns the cycle of the hit, if there is one.
 fn advance(
     breakpoint: &Breakpoint,
     machine: &mut Machine,
     panel: &mut Panel,
-    end: Point,
+    end: u64,
 ) -> Option<u64>
     requires range { IsBreakpointInRange breakpoint.now }
     requires runs { machine.old.stopped ≡ None }
-    ensures { HasAdvanced breakpoint.now end.cycle panel.old panel.new machine.old machine.new result }
+    ensures { HasAdvanced breakpoint.now end panel.old panel.new machine.old machine.new result }
 {
     match breakpoint {
-        Breakpoint::Boundary => Some(advance_by_one(machine, panel, end.cycle)),
-        Breakpoint::Order(place) => advance_to_order(*place, machine, panel, end.cycle),
-        Breakpoint::Cell(cell) => advance_to_change(*cell, machine, panel, end.cycle),
-        Breakpoint::Interrupt(which) => advance_to_service(*which, machine, panel, end.cycle),
+        Breakpoint::Boundary => Some(advance_by_one(machine, panel, end)),
+        Breakpoint::Order(place) => advance_to_order(*place, machine, panel, end),
+        Breakpoint::Cell(cell) => advance_to_change(*cell, machine, panel, end),
+        Breakpoint::Interrupt(which) => advance_to_service(*which, machine, panel, end),
         Breakpoint::Write { .. } | Breakpoint::Panel => {
-            advance_to_write(breakpoint, machine, panel, end.cycle)
+            advance_to_write(breakpoint, machine, panel, end)
         }
     }
 }

@@ -24,8 +24,9 @@ ghost use Rattle.agc_session.specs.Session.{discarded, retained_before, script_o
 use crate::breakpoint::{
     Breakpoint, has_changed, is_order_next, is_panel_change, is_service_next, is_write_of, word_of,
 };
+use crate::cancellation::{Cancellation, NoCancellation};
 use crate::checkpoint::{Checkpoint, Checkpoints};
-use crate::fault::{BeginFault, InjectFault, RewindFailed};
+use crate::fault::{BeginFault, InjectFault, RewindFailed, SearchFault};
 use crate::search::search_back;
 use crate::writing::write_joined;
 use agc_machine::{LimitFault, Machine, Stepped};
@@ -415,14 +416,33 @@ impl Session {
         requires range { IsBreakpointInRange breakpoint }
         ensures { IfOk result (IsFoundBack breakpoint count self.now) }
     {
-        let script = self.script(alloc).ok_or(AllocError)?;
+        match self.last_hit_unless(alloc, breakpoint, count, &mut NoCancellation) {
+            Ok(found) => Ok(found),
+            Err(_) => Err(AllocError),
+        }
+    }
+
+    /// Does the same unless it is cancelled. Asks whether it is at the start, and after a stretch that takes some 50
+    /// milliseconds.
+    pub fn last_hit_unless<C: Cancellation>(
+        &self,
+        alloc: Global,
+        breakpoint: Breakpoint,
+        count: u64,
+        cancellation: &mut C,
+    ) -> Result<Option<u64>, SearchFault>
+        requires some { 0 < count }
+        requires range { IsBreakpointInRange breakpoint }
+        ensures { IfOk result (IsFoundBack breakpoint count self.now) }
+    {
+        let script = self.script(alloc).ok_or(SearchFault::Memory)?;
         search_back(
-            alloc,
             &breakpoint,
             count,
             &self.machine,
             &self.checkpoints,
             &script,
+            cancellation,
         )
     }
 

@@ -4,10 +4,10 @@ use Rattle.agc_session.specs.Search.{IsAt, IsCounting, span}
 use Rattle.agc_session.proofs.search.count_hits.Given as goal
 
 abbrev pub invariant-loop-end : goal.invariant-loop-end
-invariant-loop-end l = record {
+invariant-loop-end g l = record {
   counting : (n : ℕ) → IsAt l.end (after n l.initial.machine) → IsCounting l.breakpoint n l.initial.panel l.panel l.initial.machine l.machine l.hits;
   few : l.hits.number < l.most;
 }
 
 abbrev pub decreases-loop-end : goal.decreases-loop-end
-decreases-loop-end l = span l.machine
+decreases-loop-end g l = span l.machine

@@ -8,14 +8,14 @@ use Rattle.agc_session.proofs.Back.{copy_at, copy_found, copy_searched, searchin
 use Rattle.agc_session.proofs.search.search_back.Goals as goal
 
 pub loop-place-init : goal.loop-place-init
-loop-place-init c = record {
+loop-place-init g c = record {
   searching = λ n e. searching_starts c.args.breakpoint.now c.args.count n _ c.args.now.now _ c.requires.some c.of-end.ensures e;
   some = c.requires.some;
   bound = omega (arith, c.len-place.ensures);
 }
 
 pub returns-in-At : goal.returns-in-At
-returns-in-At c = λ n e.
+returns-in-At g c = λ n e.
     let words = c.args.now.now.processor.store.fixed in
     let limit = c.args.now.now.limit in
     let copy = c.index-copy.result.now in
@@ -28,7 +28,7 @@ returns-in-At c = λ n e.
     (c.loop-place.invariant.searching n e)
 
 pub loop-place-preserved-in-Fewer : goal.loop-place-preserved-in-Fewer
-loop-place-preserved-in-Fewer c =
+loop-place-preserved-in-Fewer g c =
     let words = c.args.now.now.processor.store.fixed in
     let limit = c.args.now.now.limit in
     let copy = c.index-copy.result.now in
@@ -47,7 +47,7 @@ loop-place-preserved-in-Fewer c =
     }
 
 pub returns-in-At-2 : goal.returns-in-At-2
-returns-in-At-2 c = λ n e.
+returns-in-At-2 g c = λ n e.
     let copy = c.in_ok-start.start in
     let script = c.args.script.now in
     start_found c.args.breakpoint.now c.args.count c.loop-place.wanted script c.args.now.now c.loop-place.end c.in-At-2.cycle copy
@@ -57,7 +57,7 @@ returns-in-At-2 c = λ n e.
     (c.loop-place.invariant.searching n e)
 
 pub returns : goal.returns
-returns c = λ n e.
+returns g c = λ n e.
     let copy = c.in_ok-start.start in
     let script = c.args.script.now in
     start_fewer c.args.breakpoint.now c.args.count c.loop-place.wanted script c.args.now.now c.loop-place.end c.in-Fewer-2.field-0 copy
