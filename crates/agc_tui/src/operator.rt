@@ -11,7 +11,7 @@ use crate::history::{History, KEPT};
 use crate::keyboard::Button;
 use agc_machine::{Machine, Stop};
 use agc_script::{MOST_EVENTS, Script, What};
-use agc_session::{Breakpoint, InjectFault, Session};
+use agc_session::{Breakpoint, Cancellation, InjectFault, SearchFault, Session};
 use std::alloc::{AllocError, Global};
 use std::io::{self, Write};
 
@@ -362,29 +362,33 @@ impl Operator {
 
     /// Begins to go back to where the last boundary before now began that hits a breakpoint, and discards the keys pressed
     /// after that and all that wait. [`rerun`](Operator::rerun) does the rest. Returns the cycle. If there was no such
-    /// boundary, or memory ran out, nothing has changed.
-    pub fn back_to_last(
+    /// boundary, the search was cancelled or memory ran out, nothing has changed.
+    pub fn back_to_last<C: Cancellation>(
         self,
         alloc: Global,
         breakpoint: Breakpoint,
-    ) -> (Operator, Result<Option<u64>, AllocError>)
+        cancellation: &mut C,
+    ) -> (Operator, Result<Option<u64>, SearchFault>)
         requires { IsBreakpointInRange breakpoint }
         ensures found { IfOk result.1 (IsFoundBack breakpoint 1 self.session) }
         ensures back { IfOk result.1 (λ found. IfSome found (λ cycle. HasBegunBack cycle self result.0)) }
         ensures none { IfOk result.1 (λ found. found ≡ None → result.0 ≡ self) }
-        ensures memory { OnErr result.1 (result.0 ≡ self) }
+        ensures fault { OnErr result.1 (result.0 ≡ self) }
     {
-        match self.session.last_hit(alloc, breakpoint, 1) {
+        match self
+            .session
+            .last_hit_unless(alloc, breakpoint, 1, cancellation)
+        {
             Ok(Some(cycle)) => {
                 let (operator, is_new) = self.back_to_events(alloc, cycle);
                 if is_new {
                     (operator, Ok(Some(cycle)))
                 } else {
-                    (operator, Err(AllocError))
+                    (operator, Err(SearchFault::Memory))
                 }
             }
             Ok(None) => (self, Ok(None)),
-            Err(AllocError) => (self, Err(AllocError)),
+            Err(fault) => (self, Err(fault)),
         }
     }
 
