@@ -1270,6 +1270,44 @@ def try_long_search():
         terminal.close()
 
 
+def searches_back(terminal, typed):
+    """Begins a search back that goes on for seconds, and waits until the screen says so. Returns when it was typed."""
+    begun = time.monotonic()
+    terminal.type(typed)
+    terminal.until("no search back", lambda screen: last_line(screen) == " searching back; space ends the search" and is_paused(screen))
+    return begun
+
+
+def try_ending_a_search_back():
+    """A search back over a long run hears what ends it: space, which changes nothing, q and control-C, also if they come
+    together with it. It loses no key."""
+    made = subprocess.run([study, "weave", written("quiet.words", COUNTS)], capture_output=True)
+    rope, save = os.path.join(scratch, "quiet.rope"), os.path.join(scratch, "quiet")
+    with open(rope, "wb") as file:
+        file.write(made.stdout)
+    for name, typed, by in (("q", b"D", b"q"), ("control-C", b"D", b"\x03"), ("q with D", b"Dq", b"")):
+        terminal = Terminal([rope, "--speed", "max", "--save", save, "--force"])
+        try:
+            terminal.begun()
+            terminal.type("4")
+            end = time.monotonic() + 8
+            while time.monotonic() < end:
+                terminal.take(0.05)
+            cycle = terminal.pause()
+            begun = searches_back(terminal, "D")
+            terminal.type("5 ")
+            terminal.until("the search back goes on", lambda screen: last_line(screen) == " search ended")
+            judge(f"space in a search back, before {name}: heard at once", True, time.monotonic() < begun + 1.5)
+            judge(f"space in a search back, before {name}: no change", (cycle, True), (terminal.screen.cycle(), is_paused(terminal.screen)))
+            begun = searches_back(terminal, typed)
+            status = terminal.quit(by)[0]
+            judge(f"{name} in a search back: heard at once", True, time.monotonic() < begun + 1.5)
+            judge(f"{name} in a search back: the end", (0, ["4", "5"]), (status, keys_of(read(save))))
+            judge(f"{name} in a search back: the terminal", (True, []), (terminal.is_put_back(), terminal.screen.faults))
+        finally:
+            terminal.close()
+
+
 def try_lesson():
     """The way of docs/DEBUGGING.md: from OPR ERR back to the 0 in R1, and the order before it that makes -0."""
     folder = os.path.join(top, "examples", "debugging")
@@ -1337,7 +1375,7 @@ for each in (LARGE, SMALL):
         attempt(f"{face} at {each}", try_face, f"{face} at {each[0]} lines", made, keys, each)
 for each in (
     try_unsaved, try_saving, try_full_disk, try_two_sessions, try_little_memory, try_last_keys, try_told_names, try_leaving, try_ink, try_no_terminal, try_resizing, try_script, try_refusals, try_many_keys, try_going_back,
-    try_a_long_way_back, try_boundaries, try_start, try_speeds, try_slow_speeds, try_names_and_counts, try_searches, try_long_search, try_lesson, try_names, try_idleness,
+    try_a_long_way_back, try_boundaries, try_start, try_speeds, try_slow_speeds, try_names_and_counts, try_searches, try_long_search, try_ending_a_search_back, try_lesson, try_names, try_idleness,
 ):
     attempt(each.__name__, each)
 print(f"{passed} passed, {failed} failed")

@@ -1,16 +1,17 @@
 //! The event loop: reads keys, runs the machine and draws the screen, at most a hundred times a second.
 use crate::screen::{Content, DrawFault, Screen, ask_size};
 use crate::seeking::{
-    Seeking, found_ahead, found_behind, none_ahead, none_before_stop, none_behind, searching,
+    SEARCHING_BACK, Seeking, found_ahead, found_behind, none_ahead, none_before_stop, none_behind,
+    searching,
 };
 use agc_panel::WatchSpec;
-use agc_session::InjectFault;
+use agc_session::{Cancellation, InjectFault, SearchFault};
 use agc_tui::{
     Button, Decoder, InputEvent, Operator, Pacer, Ratio, Search, Speed, Target, cycles_in,
     micros_of,
 };
 use std::alloc::Global;
-use std::io::{Read, Write};
+use std::io::Write;
 use std::thread;
 use std::time::{Clock, Duration};
 
@@ -63,6 +64,8 @@ pub struct EventLoop {
     remark: &'static str,
     /// The search forward that has not ended yet.
     seeking: Option<Seeking>,
+    /// A search back goes on, or was cancelled by a byte that is not handled yet.
+    is_searching_back: bool,
     runs_at: Option<u64>,
     /// The time of the clock and the cycle of the last request for the terminal's size.
     requested: u64,
@@ -105,6 +108,7 @@ impl EventLoop {
             are_tables: false,
             remark: "",
             seeking: None,
+            is_searching_back: false,
             runs_at: None,
             requested: micros,
             requested_at: cycle,
@@ -148,7 +152,7 @@ impl EventLoop {
             InputEvent::Search(Search::Previous(target)) => return Action::BackToLast(target),
             InputEvent::Search(Search::Next(target)) => self.begin_search(clock, target),
             InputEvent::Key(button) => self.type_key(button),
-            InputEvent::Pause | InputEvent::Step if self.seeking.is_some() => {
+            InputEvent::Pause | InputEvent::Step if self.is_searching() => {
                 self.end_search(clock, "search ended")
             }
             InputEvent::Pause => self.pause_or_go_on(clock),
@@ -230,6 +234,11 @@ impl EventLoop {
         self.begin_pace(clock);
     }
 
+    /// Returns whether a search has not ended yet.
+    fn is_searching(&self) -> bool {
+        self.is_searching_back || self.seeking.is_some()
+    }
+
     /// Stops time, and begins to search forward. During a rerun does nothing.
     fn begin_search<C: Clock>(&mut self, clock: &C, target: Target) {
         if self.operator.rerun_end().is_some() {
@@ -239,9 +248,10 @@ impl EventLoop {
         self.seeking = Some(Seeking::new(target, self.operator.cycle()));
     }
 
-    /// Ends a search forward with a remark.
+    /// Ends a search with a remark.
     fn end_search<C: Clock>(&mut self, clock: &C, remark: &'static str) {
         self.seeking = None;
+        self.is_searching_back = false;
         self.remark = remark;
         self.requested = micros_of(clock);
         self.requested_at = self.operator.cycle();
@@ -284,7 +294,7 @@ impl EventLoop {
     /// Begins a rerun that rebuilds the history, if the inspector is shown and time or the machine has stopped.
     pub fn look_inside(self, alloc: Global) -> EventLoop {
         let stands = self.pacer.is_paused() || self.operator.has_stopped();
-        if !self.is_inside || !stands || self.seeking.is_some() {
+        if !self.is_inside || !stands || self.is_searching() {
             return self;
         }
         let operator = self.operator.rebuild_history(alloc);
@@ -328,6 +338,7 @@ impl EventLoop {
                 "cannot go back: out of memory"
             },
             seeking: None,
+            is_searching_back: false,
             runs_at: None,
             requested,
             requested_at,
@@ -338,24 +349,46 @@ impl EventLoop {
         event_loop
     }
 
-    /// Stops time, and begins to go back to the last one before now. During a rerun does nothing.
-    pub fn back_to_last<C: Clock>(self, alloc: Global, clock: &C, target: Target) -> EventLoop {
+    /// Stops time, and begins to search back; [`back_to_last`](EventLoop::back_to_last) does the rest. Returns false during
+    /// a rerun, and then does nothing.
+    pub fn begin_search_back<C: Clock>(&mut self, clock: &C) -> bool {
         if self.operator.rerun_end().is_some() {
-            return self;
+            return false;
         }
-        let (operator, found) = self.operator.back_to_last(alloc, target.breakpoint());
+        self.hold(clock);
+        self.seeking = None;
+        self.is_searching_back = true;
+        true
+    }
+
+    /// Searches back, and begins to go back to the last one before now. If the search is cancelled, the byte that did it
+    /// ends it once it is handled.
+    pub fn back_to_last<T: Clock, C: Cancellation>(
+        self,
+        alloc: Global,
+        clock: &T,
+        target: Target,
+        cancellation: &mut C,
+    ) -> EventLoop {
+        let (operator, found) = self
+            .operator
+            .back_to_last(alloc, target.breakpoint(), cancellation);
         let mut event_loop = EventLoop { operator, ..self };
         event_loop.presses = event_loop.operator.presses();
-        event_loop.hold(clock);
-        event_loop.end_search(
-            clock,
-            match found {
-                Ok(Some(_)) => found_behind(target),
-                Ok(None) => none_behind(target),
-                Err(_) => "cannot search: out of memory",
-            },
-        );
+        match found {
+            Ok(Some(_)) => event_loop.end_search(clock, found_behind(target)),
+            Ok(None) => event_loop.end_search(clock, none_behind(target)),
+            Err(SearchFault::Memory) => {
+                event_loop.end_search(clock, "cannot search: out of memory")
+            }
+            Err(SearchFault::Cancelled) => {}
+        }
         event_loop
+    }
+
+    /// Returns the decoder of the bytes that were handled.
+    pub fn decoder(&self) -> Decoder {
+        self.decoder
     }
 
     /// Runs the machine to the cycle that is due now, or as far as it gets within a turn. Goes on with a rerun or a search
@@ -446,6 +479,7 @@ impl EventLoop {
             tables: if self.are_tables { self.watch } else { None },
             remark: match self.seeking {
                 Some(seeking) => searching(seeking.target),
+                None if self.is_searching_back => SEARCHING_BACK,
                 None => self.remark,
             },
         };
@@ -477,14 +511,6 @@ impl EventLoop {
             Some(ratio) if ratio.times as u64 * 9 / 10 <= times => None,
             _ => Some(times),
         };
-    }
-}
-
-/// Reads what was typed, without waiting. Returns `None` if the terminal is gone.
-pub fn read_input<K: Read>(keys: &mut K, buffer: &mut [u8]) -> Option<usize> {
-    match keys.read(buffer) {
-        Ok(count) => Some(count),
-        Err(_) => None,
     }
 }
 

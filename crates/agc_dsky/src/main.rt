@@ -8,6 +8,7 @@ mod quoting;
 mod saving;
 mod screen;
 mod seeking;
+mod typed;
 mod words;
 
 use agc_cli::{ArgsFault, exit_usage, parse_env};
@@ -16,10 +17,10 @@ use agc_load::LoadFault;
 use agc_panel::WatchSpec;
 use agc_session::open_session;
 use agc_symbols::{SymbolTable, names_at};
-use agc_tui::{ColorMode, Operator};
+use agc_tui::{ColorMode, Operator, Target};
 use ending::Ending;
 use error::Error;
-use event_loop::{Action, Ended, EventLoop, read_input, rest};
+use event_loop::{Action, Ended, EventLoop, rest};
 use saving::SaveFile;
 use screen::{DrawFault, Screen};
 use std::io::{IsTerminal, Read, Write};
@@ -28,6 +29,7 @@ use std::process::ExitCode;
 use std::rt::{Env, Files};
 use std::time::Clock;
 use std::{env, fs, process};
+use typed::{Listener, Typed};
 use words::Dsky;
 
 /// Where the program runs.
@@ -230,24 +232,15 @@ fn sit<R, K: Read, W: Write>(
 where
     R: Files + Clock + AllocGlobal,
 {
-    let mut buffer = [0u8; 256];
+    let mut typed = Typed::new();
     for _turn in 0..u64::MAX {
-        let Some(count) = read_input(keys, &mut buffer) else {
+        if !typed.read(keys) {
             return (event_loop, Ended::Gone);
-        };
-        for byte in buffer.iter().copied().take(count) {
-            match event_loop.take(rt, byte) {
-                Action::None => {}
-                Action::Back => event_loop = event_loop.back(rt.alloc(), rt),
-                Action::BackToLast(target) => {
-                    event_loop = event_loop.back_to_last(rt.alloc(), rt, target)
-                }
-                Action::Save => {
-                    let remark = save_now(rt, &event_loop.operator, ending);
-                    event_loop.say(remark);
-                }
-                Action::Quit => return (event_loop, Ended::Quit),
-            }
+        }
+        let (handled, ended) = handle_typed(rt, event_loop, ending, keys, &mut typed, out);
+        event_loop = handled;
+        if let Some(ended) = ended {
+            return (event_loop, ended);
         }
         event_loop.go_on(rt);
         event_loop = event_loop.look_inside(rt.alloc());
@@ -257,6 +250,58 @@ where
         rest(rt);
     }
     (event_loop, Ended::Quit)
+}
+
+/// Handles the bytes that were typed. Returns how the session ends, if one ends it.
+fn handle_typed<R, K: Read, W: Write>(
+    rt: &R,
+    mut event_loop: EventLoop,
+    ending: &mut Ending,
+    keys: &mut K,
+    typed: &mut Typed,
+    out: &mut W,
+) -> (EventLoop, Option<Ended>)
+where
+    R: Files + Clock + AllocGlobal,
+{
+    for _byte in 0..u64::MAX {
+        let Some(byte) = typed.take() else {
+            return (event_loop, None);
+        };
+        match event_loop.take(rt, byte) {
+            Action::None => {}
+            Action::Back => event_loop = event_loop.back(rt.alloc(), rt),
+            Action::BackToLast(target) => {
+                if event_loop.begin_search_back(rt) {
+                    if let Err(fault) = event_loop.draw(rt.alloc(), rt, out) {
+                        return (event_loop, Some(ended_by(fault)));
+                    }
+                    event_loop = search_back(rt, event_loop, target, keys, typed);
+                }
+            }
+            Action::Save => {
+                let remark = save_now(rt, &event_loop.operator, ending);
+                event_loop.say(remark);
+            }
+            Action::Quit => return (event_loop, Some(Ended::Quit)),
+        }
+    }
+    (event_loop, None)
+}
+
+/// Searches back, and listens to the keys meanwhile.
+fn search_back<R, K: Read>(
+    rt: &R,
+    event_loop: EventLoop,
+    target: Target,
+    keys: &mut K,
+    typed: &mut Typed,
+) -> EventLoop
+where
+    R: Clock + AllocGlobal,
+{
+    let mut listener = Listener::new(keys, typed, event_loop.decoder());
+    event_loop.back_to_last(rt.alloc(), rt, target, &mut listener)
 }
 
 /// Returns how a session ends that cannot be drawn.

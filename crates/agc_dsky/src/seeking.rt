@@ -4,6 +4,9 @@ use agc_tui::Target;
 /// The most cycles that a search forward runs: 20 minutes of the machine's time.
 const FARTHEST: u64 = 100_000_000;
 
+/// The remark while a search back goes on.
+pub const SEARCHING_BACK: &str = "searching back; space ends the search";
+
 /// A search forward.
 #[derive(Clone, Copy, Debug, PartialEq, Eq)]
 pub struct Seeking {

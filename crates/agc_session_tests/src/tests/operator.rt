@@ -2,7 +2,7 @@
 use super::search::TURN;
 use super::{equal, equal_at, has_text, session_of};
 use agc_script::Key;
-use agc_session::InjectFault;
+use agc_session::{Cancellation, InjectFault, NoCancellation, SearchFault};
 use agc_symbols::SymbolTable;
 use agc_test_support::IDLE;
 use agc_tui::{
@@ -315,7 +315,11 @@ fn seeks_back(
     wanted: Option<u64>,
     cycle: u64,
 ) -> Operator {
-    let (mut operator, found) = operator.back_to_last(rt.alloc(), target.breakpoint());
+    let (mut operator, found) = operator.back_to_last(
+        rt.alloc(),
+        target.breakpoint(),
+        &mut NoCancellation,
+    );
     equal_at(rt, target, found.ok().expect(rt, "memory"), wanted);
     operator.rerun(u64::MAX);
     equal_at(rt, target, operator.cycle(), cycle);
@@ -342,6 +346,31 @@ fn searches_end_at_hits(rt: HostRuntime) {
     let operator = seeks_back(&rt, operator, Target::Write, Some(45), 45);
     reports(&rt, &operator, "");
     equal(&rt, operator.limit_to_repeat(), 45);
+}
+
+/// Cancels each search.
+#[derive(Drop)]
+struct AlwaysCancelled;
+
+impl Cancellation for AlwaysCancelled {
+    fn is_cancelled(&mut self) -> bool {
+        true
+    }
+}
+
+/// A search back that is cancelled changes nothing.
+#[test]
+fn cancelled_searches_change_nothing(rt: HostRuntime) {
+    let mut operator = operator_with(&rt, TURN, "");
+    seeks(&rt, &mut operator, Target::Write, 100, true, 5);
+    type_key(&rt, &mut operator, Button::Coded(Key::One));
+    let breakpoint = Target::Write.breakpoint();
+    let (operator, found) = operator.back_to_last(rt.alloc(), breakpoint, &mut AlwaysCancelled);
+    equal(&rt, found, Err(SearchFault::Cancelled));
+    equal(&rt, operator.rerun_end(), None);
+    equal(&rt, operator.waiting(), 1);
+    let operator = seeks_back(&rt, operator, Target::Write, Some(3), 3);
+    equal(&rt, operator.waiting(), 0);
 }
 
 /// Waiting keys go down during a search forward, each at its time: the search pauses there.

@@ -5,7 +5,7 @@ ghost use Rattle.agc_session.specs.Breakpoint.{IsBreakpointInRange};
 use super::{equal, equal_at, session_of};
 use agc_listing::Location;
 use agc_script::{Key, What};
-use agc_session::{Breakpoint, Session};
+use agc_session::{Breakpoint, Cancellation, SearchFault, Session};
 use agc_test_support::RELAY_WORD;
 use agc_word::Narrow;
 use std::process::Abort;
@@ -149,6 +149,48 @@ fn stretches_are_searched_together(rt: HostRuntime) {
     finds(&rt, &session, Breakpoint::Panel, 1, Some(3));
     finds(&rt, &session, Breakpoint::Panel, 2, None);
     finds(&rt, &session, order(0o4001), 1, Some(2));
+}
+
+/// Cancels a search that asks more often than this.
+#[derive(Drop)]
+struct CancelAfter {
+    left: u32,
+}
+
+impl Cancellation for CancelAfter {
+    fn is_cancelled(&mut self) -> bool {
+        let is_over = self.left == 0;
+        self.left = self.left.saturating_sub(1);
+        is_over
+    }
+}
+
+/// Searches for an interrupt, of which there is none, and cancels the search if it asks too often.
+fn misses_unless(
+    rt: &(impl AllocGlobal + Abort),
+    session: &Session,
+    left: u32,
+    wanted: Result<Option<u64>, SearchFault>,
+) {
+    let mut cancellation = CancelAfter { left };
+    let breakpoint = Breakpoint::Interrupt(None);
+    let found = session.last_hit_unless(rt.alloc(), breakpoint, 1, &mut cancellation);
+    equal_at(rt, left, found, wanted);
+}
+
+/// A search asks at the start of each stretch whether it is cancelled. Copies are made at 262,144 and 524,288, so there
+/// are three stretches.
+#[test]
+fn searches_are_cancelled(rt: HostRuntime) {
+    let mut session = session_of(&rt, RELAY_WORD, "", 2_000_000);
+    session.go_to(20);
+    misses_unless(&rt, &session, 0, Err(SearchFault::Cancelled));
+    misses_unless(&rt, &session, 1, Ok(None));
+    session.go_to(600_000);
+    misses_unless(&rt, &session, 2, Err(SearchFault::Cancelled));
+    misses_unless(&rt, &session, 3, Ok(None));
+    finds(&rt, &session, Breakpoint::Interrupt(None), 1, None);
+    finds(&rt, &session, Breakpoint::Panel, 1, Some(3));
 }
 
 /// Checks where a run forward to a breakpoint ends, and whether it hit.
