@@ -8,8 +8,9 @@ use Rattle.agc_repl.specs.Fault.{fault_text_with}
 use Rattle.agc_repl.specs.declared.command.Command.{Command}
 use Rattle.agc_repl.specs.declared.command.Command.TheVariants as command
 use Rattle.agc_repl.specs.declared.command.Breakpoint.{Breakpoint}
+use Rattle.agc_repl.specs.declared.command.Trigger.{Trigger}
 use Rattle.agc_repl.specs.declared.fault.CommandFault.{CommandFault}
-use Rattle.agc_repl.specs.Command.{IsBreakpointInRange, IsCommandInRange}
+use Rattle.agc_repl.specs.Command.{IsTriggerInRange, IsCommandInRange}
 use Rattle.agc_script.specs.Event.{IsWhatInRange, most_events}
 use Rattle.agc_script.specs.declared.event.What.{What}
 use Rattle.agc_session.specs.Session.{injected_now}
@@ -293,21 +294,21 @@ when_left Q (Ok left) h f = f left h
 when_left Q (Err why) h f = tt
 
 -- a breakpoint that was set or not
-answered_full : (names : Option (List Symbol)) (what : Breakpoint) (s : Repl) → is_full s.settings ≡ true
+answered_full : (names : Option (List Symbol)) (what : Trigger) (s : Repl) → is_full s.settings ≡ true
     → answer_to names (Ok (Some (command.Break what))) s ≡ (s, error_line full_text)
 unfolding answer_to answered break_answer
 answered_full names what s e = if_reached (is_full s.settings) _ _ e
 
-answered_set : (names : Option (List Symbol)) (what : Breakpoint) (s : Repl) → is_full s.settings ≡ false
+answered_set : (names : Option (List Symbol)) (what : Trigger) (s : Repl) → is_full s.settings ≡ false
     → answer_to names (Ok (Some (command.Break what))) s ≡ breakpoint_set what s
 unfolding answer_to answered break_answer
 answered_set names what s e = if_ahead (is_full s.settings) _ _ e
 
-pub full_reported : (names : Option (List Symbol)) (what : Breakpoint) (s : Repl) (old new : Option (List ℕ)) → is_full s.settings ≡ true
+pub full_reported : (names : Option (List Symbol)) (what : Trigger) (s : Repl) (old new : Option (List ℕ)) → is_full s.settings ≡ true
     → Appends old new (error_line full_text) → IsAnswered names (Ok (Some (command.Break what))) s s old new
 full_reported names what s old new e h = inl (reports_same _ _ s old new (answered_full names what s e) (refl, h))
 
-pub set_reported : (names : Option (List Symbol)) (what : Breakpoint) (s t : Repl) (old new : Option (List ℕ)) → is_full s.settings ≡ false
+pub set_reported : (names : Option (List Symbol)) (what : Trigger) (s t : Repl) (old new : Option (List ℕ)) → is_full s.settings ≡ false
     → Sets what s t old new → IsAnswered names (Ok (Some (command.Break what))) s t old new
 set_reported names what s t old new e (inl h) = inl (reports_same _ _ t old new (answered_set names what s e) h)
 set_reported names what s t old new e (inr h) =
@@ -344,11 +345,11 @@ pub quiet_reported : (names : Option (List Symbol)) (quiet : Bool) (s t : Repl) 
 quiet_reported names quiet s t old new f h =
     inl (reports_same _ _ t old new (answered_quiet names quiet s) (f, subst (λ (u : Repl). Appends old new (last_line u)) f h))
 
-pub set_written : (what : Breakpoint) (s t : Repl) (text shown : List ℕ) (old new : Option (List ℕ)) → t ≡ record s { settings = with_breakpoint what s.settings }
+pub set_written : (what : Trigger) (s t : Repl) (text shown : List ℕ) (old new : Option (List ℕ)) → t ≡ record s { settings = with_breakpoint what s.settings }
     → text ≡ breakpoint_line (next_numbered what s.settings) ++ last_line s → shown ≡ text → Appends old new shown → Sets what s t old new
 set_written what s t text shown old new e f h k = inl (e, subst (Appends old new) (h ∙ f) k)
 
-pub breakpoint_in_range : (request : Request) (parsed : Option Command) (c : Command) (what : Breakpoint) → request ≡ Ok parsed → parsed ≡ Some c → c ≡ command.Break what
-    → IfOk request (λ read. IfSome read IsCommandInRange) → IsBreakpointInRange what
+pub breakpoint_in_range : (request : Request) (parsed : Option Command) (c : Command) (what : Trigger) → request ≡ Ok parsed → parsed ≡ Some c → c ≡ command.Break what
+    → IfOk request (λ read. IfSome read IsCommandInRange) → IsTriggerInRange what
 unfolding IsCommandInRange
 breakpoint_in_range request parsed c what e f h k = rw (e, f, h) at k

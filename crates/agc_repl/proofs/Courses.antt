@@ -11,14 +11,16 @@ use Rattle.agc_machine.specs.Run.{boundaries_left}
 use Rattle.agc_machine.specs.State.{State}
 use Rattle.agc_machine.specs.declared.answer.Stepped.{Stepped}
 use Rattle.agc_trace.proofs.Lines.{IsWritten, nothing_written, written_more, written_whole}
-use Rattle.agc_repl.specs.Command.{IsBreakpointInRange}
-use Rattle.agc_repl.specs.Course.{AreSound, Course, IsSound, armed_by, breakpoint_hit, course_on, course_to, course_within, hit_by, next_of, no_course}
+use Rattle.agc_panel.specs.declared.face.Face.{Face}
+use Rattle.agc_repl.specs.Command.{IsBreakpointInRange, IsTriggerInRange}
+use Rattle.agc_repl.specs.Course.{AreSound, Course, IsSound, armed_by, breakpoint_hit, course_on, course_to, course_within, hit_by, is_hit, next_of, no_course, target_in}
 use Rattle.agc_repl.specs.Repl.{gone_on, turns_left}
 use Rattle.agc_repl.specs.Settings.{AreInRange}
-use Rattle.agc_repl.specs.Stretch.{IsArmedInRange, armed_in, has_come, is_short_of, run_line, writes_text}
+use Rattle.agc_repl.specs.Stretch.{IsArmedInRange, is_short_of, run_line, writes_text}
 use Rattle.agc_repl.specs.declared.armed_breakpoint.Armed.{Armed}
-use Rattle.agc_repl.specs.declared.command.Breakpoint.{Breakpoint}
 use Rattle.agc_repl.specs.declared.command.Breakpoint.TheVariants as target
+use Rattle.agc_repl.specs.declared.command.Trigger.{Trigger}
+use Rattle.agc_repl.specs.declared.command.Trigger.TheVariants as trigger
 use Rattle.agc_repl.specs.declared.repl.Repl.{Repl}
 use Rattle.agc_repl.specs.declared.settings.Numbered.{Numbered}
 use Rattle.agc_repl.proofs.Going.{gone_at, no_more}
@@ -49,7 +51,7 @@ fewer_next cycle t b =
 
 -- a boundary, and then the rest
 on_from : List Armed → Repl → Course → Course
-on_from k t rest = course_on (hit_by k (next_of t).0.session.now (next_of t).1) (next_of t) rest
+on_from k t rest = course_on (hit_by k t.session.panel (next_of t).0.session.now (next_of t).1) (next_of t) rest
 
 -- with enough boundaries, more make no difference
 same_course : (n m : ℕ) (k : List Armed) (cycle : ℕ) (t : Repl) → turns_left t.session.now ≤ n → turns_left t.session.now ≤ m
@@ -89,19 +91,19 @@ next_is cycle t u answer h =
     ∙ ap (λ (x : Repl). (x, answer)) (sym h.shown)
 
 course_next : (k : List Armed) (cycle : ℕ) (t u : Repl) (answer : Stepped) → Takes cycle t u answer
-    → course_to k cycle t ≡ course_on (hit_by k u.session.now answer) (u, answer) (course_to k cycle u)
+    → course_to k cycle t ≡ course_on (hit_by k t.session.panel u.session.now answer) (u, answer) (course_to k cycle u)
 unfolding on_from
 course_next k cycle t u answer h =
     by_next k cycle t ∙ if_true (is_short_of cycle t.session.now) _ _ h.short
-    ∙ ap (λ (r : Repl × Stepped). course_on (hit_by k r.0.session.now r.1) r (course_to k cycle r.0)) (next_is cycle t u answer h)
+    ∙ ap (λ (r : Repl × Stepped). course_on (hit_by k t.session.panel r.0.session.now r.1) r (course_to k cycle r.0)) (next_is cycle t u answer h)
 
-course_then : (k : List Armed) (cycle : ℕ) (t u : Repl) (answer : Stepped) → Takes cycle t u answer → hit_by k u.session.now answer ≡ None
+course_then : (k : List Armed) (cycle : ℕ) (t u : Repl) (answer : Stepped) → Takes cycle t u answer → hit_by k t.session.panel u.session.now answer ≡ None
     → course_to k cycle t
     ≡ record { last = (course_to k cycle u).last; writes = writes_in (answer ∷ []) ++ (course_to k cycle u).writes; hit = (course_to k cycle u).hit }
 course_then k cycle t u answer h e =
     course_next k cycle t u answer h ∙ ap (λ (x : Option Numbered). course_on x (u, answer) (course_to k cycle u)) e
 
-course_there : (k : List Armed) (cycle : ℕ) (t u : Repl) (answer : Stepped) (b : Numbered) → Takes cycle t u answer → hit_by k u.session.now answer ≡ Some b
+course_there : (k : List Armed) (cycle : ℕ) (t u : Repl) (answer : Stepped) (b : Numbered) → Takes cycle t u answer → hit_by k t.session.panel u.session.now answer ≡ Some b
     → course_to k cycle t ≡ record { last = u; writes = writes_in (answer ∷ []); hit = Some b }
 course_there k cycle t u answer b h e =
     course_next k cycle t u answer h ∙ ap (λ (x : Option Numbered). course_on x (u, answer) (course_to k cycle u)) e
@@ -116,7 +118,7 @@ pub keeps_first : (quiet : Bool) (k : List Armed) (cycle : ℕ) (s : Repl) (know
 keeps_first quiet k cycle s known = record { last = refl; hit = refl; text = nothing_written known (writes_text quiet (course_to k cycle s).writes) }
 
 pub keeps_on : (quiet : Bool) (k : List Armed) (cycle : ℕ) (s t u : Repl) (answer : Stepped) (old mid new : Option (List ℕ)) → Keeps quiet k cycle s t old mid
-    → Takes cycle t u answer → hit_by k u.session.now answer ≡ None → Appends mid new (writes_text quiet (writes_in (answer ∷ []))) → Keeps quiet k cycle s u old new
+    → Takes cycle t u answer → hit_by k t.session.panel u.session.now answer ≡ None → Appends mid new (writes_text quiet (writes_in (answer ∷ []))) → Keeps quiet k cycle s u old new
 keeps_on quiet k cycle s t u answer old mid new f h e parsed =
     let rest = (course_to k cycle u).writes in
     let course = course_then k cycle t u answer h e in
@@ -137,7 +139,7 @@ pub record Ends (quiet : Bool) (k : List Armed) (cycle : ℕ) (s t : Repl) (hit 
   pub text : Appends old new (writes_text quiet (course_to k cycle s).writes)
 
 pub ends_there : (quiet : Bool) (k : List Armed) (cycle : ℕ) (s t u : Repl) (answer : Stepped) (b : Numbered) (old mid new : Option (List ℕ)) → Keeps quiet k cycle s t old mid
-    → Takes cycle t u answer → hit_by k u.session.now answer ≡ Some b → Appends mid new (writes_text quiet (writes_in (answer ∷ []))) → Ends quiet k cycle s u (Some b) old new
+    → Takes cycle t u answer → hit_by k t.session.panel u.session.now answer ≡ Some b → Appends mid new (writes_text quiet (writes_in (answer ∷ []))) → Ends quiet k cycle s u (Some b) old new
 ends_there quiet k cycle s t u answer b old mid new f h e parsed =
     let course = course_there k cycle t u answer b h e in
     let last : writes_text quiet (writes_in (answer ∷ [])) ≡ writes_text quiet (course_to k cycle t).writes =
@@ -161,19 +163,21 @@ ends_up quiet k cycle s t old new f e =
     }
 
 -- the breakpoints with their targets
-in_range : (s : State) (what : Breakpoint) → IsBreakpointInRange what → IsArmedInRange (armed_in s what)
-unfolding IsBreakpointInRange
-in_range s (target.Order place) h = tt
-in_range s (target.Write channel) h = tt
-in_range s (target.Word channel word) h = tt
-in_range s (target.Cell cell) h = h
-in_range s (target.Interrupt rupt) h = tt
+in_range : (s : State) (what : Trigger) → IsTriggerInRange what → IsArmedInRange (target_in s what)
+unfolding IsTriggerInRange IsBreakpointInRange
+in_range s (trigger.At (target.Order place)) h = tt
+in_range s (trigger.At (target.Write channel)) h = tt
+in_range s (trigger.At (target.Word channel word)) h = tt
+in_range s (trigger.At (target.Cell cell)) h = h
+in_range s (trigger.At (target.Interrupt rupt)) h = tt
+in_range s trigger.Panel h = tt
+in_range s (trigger.Shows line) h = tt
 
 all_in_range : (s : State) (breakpoints : List Numbered) → AreInRange breakpoints → AreSound (map (armed_by s) breakpoints)
 all_in_range s [] h = All-nil IsSound
 all_in_range s (b ∷ breakpoints) h =
-    let first : IsBreakpointInRange b.what = All-head (λ (x : Numbered). IsBreakpointInRange x.what) b breakpoints h in
-    let rest : AreInRange breakpoints = All-tail (λ (x : Numbered). IsBreakpointInRange x.what) b breakpoints h in
+    let first : IsTriggerInRange b.what = All-head (λ (x : Numbered). IsTriggerInRange x.what) b breakpoints h in
+    let rest : AreInRange breakpoints = All-tail (λ (x : Numbered). IsTriggerInRange x.what) b breakpoints h in
     All-cons IsSound (armed_by s b) (map (armed_by s) breakpoints) (first, in_range s b.what first) (all_in_range s breakpoints rest)
 
 pub armed_as : (s : State) (breakpoints : List Numbered) (armed : List Armed) → armed ≡ map (armed_by s) breakpoints → AreInRange breakpoints → AreSound armed
@@ -186,16 +190,16 @@ first_is b x rest e = rw e refl
 first_not : (b : Bool) (x : Armed) (rest : Option Armed) → b ≡ false → breakpoint_hit (cond b (Some x) rest) ≡ breakpoint_hit rest
 first_not b x rest e = rw e refl
 
-pub hit_there : (a : Armed) (xs rest : List Armed) (s : State) (answer : Stepped) → xs ≡ a ∷ rest → has_come a.target s answer ≡ true
-    → hit_by xs s answer ≡ Some a.breakpoint
+pub hit_there : (a : Armed) (xs rest : List Armed) (panel : Face) (s : State) (answer : Stepped) → xs ≡ a ∷ rest
+    → is_hit a.breakpoint.what a.target panel s answer ≡ true → hit_by xs panel s answer ≡ Some a.breakpoint
 unfolding hit_by
-hit_there a xs rest s answer e h = rw e (first_is (has_come a.target s answer) a _ h)
+hit_there a xs rest panel s answer e h = rw e (first_is (is_hit a.breakpoint.what a.target panel s answer) a _ h)
 
-pub pass_by : (a : Armed) (xs rest : List Armed) (s : State) (answer : Stepped) → xs ≡ a ∷ rest → has_come a.target s answer ≡ false
-    → hit_by xs s answer ≡ hit_by rest s answer
+pub pass_by : (a : Armed) (xs rest : List Armed) (panel : Face) (s : State) (answer : Stepped) → xs ≡ a ∷ rest
+    → is_hit a.breakpoint.what a.target panel s answer ≡ false → hit_by xs panel s answer ≡ hit_by rest panel s answer
 unfolding hit_by
-pass_by a xs rest s answer e h = rw e (first_not (has_come a.target s answer) a _ h)
+pass_by a xs rest panel s answer e h = rw e (first_not (is_hit a.breakpoint.what a.target panel s answer) a _ h)
 
-pub none_left : (xs : List Armed) (s : State) (answer : Stepped) → xs ≡ [] → hit_by xs s answer ≡ None
+pub none_left : (xs : List Armed) (panel : Face) (s : State) (answer : Stepped) → xs ≡ [] → hit_by xs panel s answer ≡ None
 unfolding hit_by
-none_left xs s answer e = rw e refl
+none_left xs panel s answer e = rw e refl

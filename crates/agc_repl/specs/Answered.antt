@@ -20,7 +20,7 @@ use Rattle.agc_repl.specs.Answer.{hit_line, end_line, error_line}
 use Rattle.agc_repl.specs.Course.{Course, all_armed, course_to, stop_line}
 use Rattle.agc_repl.specs.Queries.{shown_text}
 use Rattle.agc_repl.specs.Settings.{breakpoint_line, has_number, is_full, next_numbered, with_breakpoint, without_number}
-use Rattle.agc_repl.specs.declared.command.Breakpoint.{Breakpoint}
+use Rattle.agc_repl.specs.declared.command.Trigger.{Trigger}
 use Rattle.agc_repl.specs.Repl.{RunsOn, after_boundaries, after_due, after_stretch, gone_back, takes_event}
 use Rattle.agc_repl.specs.Stretch.{Stretch, armed_in, stretch_to, writes_text}
 use Rattle.agc_repl.specs.declared.armed_breakpoint.ArmedBreakpoint.TheVariants as armed
@@ -109,14 +109,14 @@ abbrev pub missing_text : List ℕ
 missing_text = codes "NoBreakpoint: no breakpoint has this number; breaks lists them"
 
 -- A breakpoint is set unless there are too many.
-abbrev pub breakpoint_set : Breakpoint → Repl → Answer
+abbrev pub breakpoint_set : Trigger → Repl → Answer
 breakpoint_set what t =
     ended (
       record t { settings = with_breakpoint what t.settings },
       breakpoint_line (next_numbered what t.settings),
     )
 
-unfoldable pub break_answer : Breakpoint → Repl → Answer
+unfoldable pub break_answer : Trigger → Repl → Answer
 break_answer what t =
     if is_full t.settings then (t, error_line full_text) else breakpoint_set what t
 
@@ -198,7 +198,7 @@ GoesBack cycle s t old new =
     Outputs (ended (gone_back cycle s, [])) t old new ⊎ ((t ≡ s) × Appends old new (codes "error: memory\n"))
 
 -- a breakpoint was set, or memory ran out and it was not
-abbrev pub Sets : Breakpoint → Repl → Repl → Option (List ℕ) → Option (List ℕ) → Type 0
+abbrev pub Sets : Trigger → Repl → Repl → Option (List ℕ) → Option (List ℕ) → Type 0
 Sets what s t old new =
     Outputs (breakpoint_set what s) t old new ⊎ ((t ≡ s) × Appends old new (codes "error: memory\n"))
 
@@ -223,6 +223,12 @@ IsHandled names request s t old new =
 abbrev pub IsItself : Request → Type 0
 IsItself (Ok (Some (command.BackTo what count))) = ⊥
 IsItself request = Unit {0}
+
+-- a request that does not go back
+abbrev pub IsInPlace : Request → Type 0
+IsInPlace (Ok (Some (command.Back cycle))) = ⊥
+IsInPlace (Ok (Some (command.BackTo what count))) = ⊥
+IsInPlace request = Unit {0}
 
 -- commands that neither go back, inject nor change the settings, which are executed separately
 abbrev pub IsPlain : Command → Type 0

@@ -3,6 +3,7 @@
 use Rattle.std.specs.Prelude.{◌≡◌, ℕ, ◌+◌, ◌≤◌, ◌<◌, ◌==◌, ◌||◌, nat_lt, is_none, is_some, Bool, true, false, List, [], ◌∷◌, length, codes, drop, position}
 use Rattle.std.specs.Prelude.{Option, Some, None, Result, Ok, Err, if◌then◌else◌}
 use Rattle.std.specs.List.{list_any}
+use Rattle.std.specs.Option.{ok_or}
 use Rattle.std.specs.Str.{bytes_eq}
 use Rattle.agc_panel.specs.WatchSpec.{watch_fault_of}
 use Rattle.agc_symbols.specs.Symbols.{Symbol}
@@ -23,12 +24,15 @@ use Rattle.agc_word.specs.Channels.{IsIoChannel, last_io_channel}
 use Rattle.agc_repl.specs.Name.{name_named}
 use Rattle.agc_repl.specs.Number.{interrupt_in, word_in}
 use Rattle.agc_repl.specs.Number.{channel_in, cycles_in, spec_in, written_channel_in}
+use Rattle.agc_repl.specs.PanelText.{line_in}
 use Rattle.agc_repl.specs.Place.{cell_in, cells_after, place_in}
 use Rattle.agc_repl.specs.Words.{alone, and_then, only_word}
 use Rattle.agc_repl.specs.declared.command.Command.{Command}
 use Rattle.agc_repl.specs.declared.command.Command.TheVariants as command
 use Rattle.agc_repl.specs.declared.command.Breakpoint.{Breakpoint}
 use Rattle.agc_repl.specs.declared.command.Breakpoint.TheVariants as target
+use Rattle.agc_repl.specs.declared.command.Trigger.{Trigger}
+use Rattle.agc_repl.specs.declared.command.Trigger.TheVariants as trigger
 use Rattle.agc_repl.specs.declared.fault.CommandFault.{CommandFault}
 use Rattle.agc_repl.specs.declared.fault.CommandFault.TheVariants as fault
 use Rattle.agc_repl.specs.declared.name.CommandName.{CommandName}
@@ -84,12 +88,16 @@ until_of names (first ∷ words) =
     else if bytes_eq first (codes "cell") then until_cell names words
     else and_then (place_in names first) (λ place. until_target (target.Order place) words)
 
+-- a breakpoint at what `until` can run to as well
+abbrev pub break_at : Breakpoint → Command
+break_at what = command.Break (trigger.At what)
+
 -- `break write CCC` and `break write CCC WORD`
 unfoldable pub break_write_of : ℕ → List (List ℕ) → Result Command CommandFault
-break_write_of channel [] = Ok (command.Break (target.Write channel))
+break_write_of channel [] = Ok (break_at (target.Write channel))
 break_write_of channel (word ∷ words) =
     and_then (word_in word)
-    (λ value. alone (command.Break (target.Word channel value)) name.Break words)
+    (λ value. alone (break_at (target.Word channel value)) name.Break words)
 
 abbrev pub break_write : List (List ℕ) → Result Command CommandFault
 break_write [] = Err (fault.Usage name.Break)
@@ -98,7 +106,7 @@ break_write (channel ∷ words) =
 
 -- a breakpoint at a cell
 abbrev pub break_at_cell : Option (List Symbol) → List ℕ → Result Command CommandFault
-break_at_cell names word = and_then (cell_in names word) (λ cell. Ok (command.Break (target.Cell cell)))
+break_at_cell names word = and_then (cell_in names word) (λ cell. Ok (break_at (target.Cell cell)))
 
 -- `break cell PLACE`
 abbrev pub break_cell : Option (List Symbol) → List (List ℕ) → Result Command CommandFault
@@ -108,21 +116,28 @@ break_cell names words = and_then (only_word name.Break words) (break_at_cell na
 abbrev pub break_interrupt : List (List ℕ) → Result Command CommandFault
 break_interrupt words =
     and_then (and_then (only_word name.Break words) interrupt_in)
-    (λ rupt. Ok (command.Break (target.Interrupt rupt)))
+    (λ rupt. Ok (break_at (target.Interrupt rupt)))
 
 -- `break PLACE`
 abbrev pub break_place : Option (List Symbol) → List (List ℕ) → Result Command CommandFault
 break_place names words =
     and_then (and_then (only_word name.Break words) (place_in names))
-    (λ place. Ok (command.Break (target.Order place)))
+    (λ place. Ok (break_at (target.Order place)))
 
--- `break PLACE`, or one of the three before
+-- `break panel` and `break panel TEXT`
+unfoldable pub break_panel : List (List ℕ) → Result Command CommandFault
+break_panel [] = Ok (command.Break trigger.Panel)
+break_panel (first ∷ words) =
+    and_then (ok_or (line_in (first ∷ words)) fault.BadLine) (λ line. Ok (command.Break (trigger.Shows line)))
+
+-- `break PLACE`, or one of the four before
 unfoldable pub break_of : Option (List Symbol) → List (List ℕ) → Result Command CommandFault
 break_of names [] = Err (fault.Usage name.Break)
 break_of names (first ∷ words) =
     if bytes_eq first (codes "write") then break_write words
     else if bytes_eq first (codes "cell") then break_cell names words
     else if bytes_eq first (codes "interrupt") then break_interrupt words
+    else if bytes_eq first (codes "panel") then break_panel words
     else break_place names (first ∷ words)
 
 -- `delete N`
@@ -330,12 +345,17 @@ IsBreakpointInRange (target.Word channel word) = IsIoChannel channel
 IsBreakpointInRange (target.Cell cell) = cell < erasable_cells
 IsBreakpointInRange (target.Interrupt rupt) = Unit {0}
 
+unfoldable pub IsTriggerInRange : Trigger → Type 0
+IsTriggerInRange (trigger.At what) = IsBreakpointInRange what
+IsTriggerInRange trigger.Panel = Unit {0}
+IsTriggerInRange (trigger.Shows line) = Unit {0}
+
 unfoldable pub IsCommandInRange : Command → Type 0
 IsCommandInRange (command.Go cycles) = cycles ≤ last_cycle
 IsCommandInRange (command.GoTo cycle) = cycle ≤ last_cycle
 IsCommandInRange (command.Step boundaries) = boundaries ≤ last_cycle
 IsCommandInRange (command.Until what within) = IsBreakpointInRange what × (within ≤ last_cycle)
-IsCommandInRange (command.Break what) = IsBreakpointInRange what
+IsCommandInRange (command.Break what) = IsTriggerInRange what
 IsCommandInRange (command.Continue within) = within ≤ last_cycle
 IsCommandInRange (command.Inject what) = IsWhatInRange what
 IsCommandInRange (command.Watch spec) = watch_fault_of spec ≡ None

@@ -26,6 +26,7 @@ fault_name fault.NoWrites = codes "BadChannel"
 fault_name fault.BadWord = codes "BadWord"
 fault_name fault.BadInterrupt = codes "BadInterrupt"
 fault_name fault.BadCount = codes "BadCount"
+fault_name fault.BadLine = codes "BadLine"
 fault_name (fault.BadEvent k) = codes "BadEvent"
 fault_name (fault.UnknownKey meant) = codes "BadEvent"
 fault_name fault.ProKey = codes "BadEvent"
@@ -79,6 +80,8 @@ fault_advice fault.BadInterrupt =
     codes "interrupts are T6RUPT, T5RUPT, T3RUPT, T4RUPT, KEYRUPT1, KEYRUPT2, UPRUPT, DOWNRUPT, RADARUPT and RUPT10"
 fault_advice fault.BadCount =
     codes "a number of cells is decimal, from 1 up to the last cell, E7,1777"
+fault_advice fault.BadLine =
+    codes "the panel shows PROG, VERB or NOUN and 2 digits, R1, R2 or R3 with a sign and 5 digits, FLASH on or off, or LAMPS and a lamp; _ is blank. Example: break panel R1 +00012"
 fault_advice (fault.BadEvent k) = event_advice k
 fault_advice (fault.UnknownKey meant) = key_advice meant
 fault_advice fault.ProKey = codes "PRO is a switch; use pro down, then pro up"

@@ -46,7 +46,7 @@ usage_text name.Step = codes "step, or step N"
 usage_text name.Until =
     codes "until PLACE, write CCC or cell PLACE [within N]"
 usage_text name.Break =
-    codes "break PLACE, write CCC [WORD], cell PLACE or interrupt NAME"
+    codes "break PLACE, write CCC [WORD], cell PLACE, interrupt NAME or panel [TEXT]"
 usage_text name.Breaks = codes "breaks"
 usage_text name.Delete = codes "delete N"
 usage_text name.Continue = codes "continue [within N]"

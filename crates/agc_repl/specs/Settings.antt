@@ -8,9 +8,12 @@ use Rattle.agc_listing.specs.Place.{place_text}
 use Rattle.agc_listing.specs.declared.location.Location.{Location}
 use Rattle.agc_listing.specs.declared.location.Location.TheVariants as location
 use Rattle.agc_processor.specs.Interrupt.{rupt_name}
-use Rattle.agc_repl.specs.Command.{IsBreakpointInRange}
+use Rattle.agc_repl.specs.Command.{IsTriggerInRange}
+use Rattle.agc_repl.specs.PanelText.{line_text}
 use Rattle.agc_repl.specs.declared.command.Breakpoint.{Breakpoint}
 use Rattle.agc_repl.specs.declared.command.Breakpoint.TheVariants as target
+use Rattle.agc_repl.specs.declared.command.Trigger.{Trigger}
+use Rattle.agc_repl.specs.declared.command.Trigger.TheVariants as trigger
 use Rattle.agc_repl.specs.declared.settings.Numbered.{Numbered}
 use Rattle.agc_word.specs.Octal.{octal_digits, word_digits}
 
@@ -33,11 +36,11 @@ is_full s = nat_le most_breakpoints (length s.breakpoints)
 abbrev pub next_number : SettingsState → ℕ
 next_number s = min (s.last + 1) (2 ^ 64 - 1)
 
-abbrev pub next_numbered : Breakpoint → SettingsState → Numbered
+abbrev pub next_numbered : Trigger → SettingsState → Numbered
 next_numbered what s = record { number = next_number s; what = what }
 
 -- one more breakpoint
-abbrev pub with_breakpoint : Breakpoint → SettingsState → SettingsState
+abbrev pub with_breakpoint : Trigger → SettingsState → SettingsState
 with_breakpoint what s =
     record s { breakpoints = s.breakpoints ++ next_numbered what s ∷ []; last = next_number s }
 
@@ -54,14 +57,14 @@ without_number number s = record s { breakpoints = without number s.breakpoints 
 
 -- each breakpoint is in its range
 abbrev pub AreInRange : List Numbered → Type 0
-AreInRange breakpoints = All (λ b. IsBreakpointInRange b.what) breakpoints
+AreInRange breakpoints = All (λ b. IsTriggerInRange b.what) breakpoints
 
 -- a place as traces print it
 abbrev pub location_text : Location → List ℕ
 location_text (location.Fixed place) = place_text (listed_place place)
 location_text (location.Erasable cell) = place_text (cell_place cell)
 
--- what a breakpoint is at
+-- what a breakpoint is at, in the words of `break`
 unfoldable pub breakpoint_text : Breakpoint → List ℕ
 breakpoint_text (target.Order place) = codes "order " ++ location_text place
 breakpoint_text (target.Write channel) = codes "write " ++ octal_digits 3 channel
@@ -70,9 +73,14 @@ breakpoint_text (target.Word channel word) =
 breakpoint_text (target.Cell cell) = codes "cell " ++ place_text (cell_place cell)
 breakpoint_text (target.Interrupt rupt) = codes "interrupt " ++ rupt_name rupt
 
+unfoldable pub trigger_text : Trigger → List ℕ
+trigger_text (trigger.At what) = breakpoint_text what
+trigger_text trigger.Panel = codes "panel"
+trigger_text (trigger.Shows line) = codes "panel " ++ line_text line
+
 -- a breakpoint's number and what it is at
 unfoldable pub numbered_text : Numbered → List ℕ
-numbered_text b = decimal b.number ++ codes " " ++ breakpoint_text b.what ++ codes "\n"
+numbered_text b = decimal b.number ++ codes " " ++ trigger_text b.what ++ codes "\n"
 
 -- the line of a breakpoint
 abbrev pub breakpoint_line : Numbered → List ℕ

@@ -15,7 +15,7 @@ ghost use Rattle.agc_word.specs.Channels.{last_io_channel};
 ghost use Rattle.agc_word.specs.Octal.{octal_digits};
 ghost use Rattle.agc_listing.specs.Location.{IsWithin};
 ghost use Rattle.agc_listing.specs.Place.{IsInPrint, place_text};
-ghost use Rattle.agc_repl.specs.Command.{IsBreakpointInRange};
+ghost use Rattle.agc_repl.specs.Command.{IsBreakpointInRange, IsTriggerInRange};
 ghost use Rattle.agc_repl.specs.Course.{stop_line};
 ghost use Rattle.agc_repl.specs.Fault.{fault_text, fault_text_with, name_meant, question};
 ghost use Rattle.agc_repl.specs.Settings.{
@@ -24,14 +24,16 @@ ghost use Rattle.agc_repl.specs.Settings.{
   breakpoint_text,
   location_text,
   numbered_text,
+  trigger_text,
 };
 ghost use Rattle.agc_repl.specs.Stretch.{run_line};
 ghost use Rattle.agc_trace.specs.OperandLine.{signed_text};
 ghost use Rattle.agc_store.specs.Places.{erasable_cells};
 
-use crate::command::Breakpoint;
+use crate::command::{Breakpoint, Trigger};
 use crate::fault::CommandFault;
 use crate::meant::name_meant;
+use crate::panel_line::push_panel_line;
 use crate::settings::Numbered;
 use agc_listing::{Cell, Location, Place, listed_address, push_place};
 use agc_machine::Stop;
@@ -227,7 +229,7 @@ pub(crate) fn push_breakpoint_line(
     text: &mut String,
     breakpoint: Numbered,
 ) -> Result<(), AllocError>
-    requires { IsBreakpointInRange breakpoint.what }
+    requires { IsTriggerInRange breakpoint.what }
     ensures { OnOk result
         (string_bytes text.new ≡ string_bytes text.old ++ breakpoint_line breakpoint) }
 {
@@ -252,7 +254,7 @@ pub(crate) fn push_breakpoint_lines(
 
 /// Adds the line that reports which breakpoint was hit, or that none was.
 pub(crate) fn push_stop_line(text: &mut String, hit: Option<Numbered>) -> Result<(), AllocError>
-    requires { IfSome hit (λ b. IsBreakpointInRange b.what) }
+    requires { IfSome hit (λ b. IsTriggerInRange b.what) }
     ensures { OnOk result (string_bytes text.new ≡ string_bytes text.old ++ stop_line hit) }
 {
     match hit {
@@ -267,17 +269,33 @@ pub(crate) fn push_stop_line(text: &mut String, hit: Option<Numbered>) -> Result
 /// Adds a breakpoint's number and what it is at.
 #[tactic(auto, unfolding(crate::specs::Settings::numbered_text))]
 fn push_numbered(text: &mut String, breakpoint: Numbered) -> Result<(), AllocError>
-    requires { IsBreakpointInRange breakpoint.what }
+    requires { IsTriggerInRange breakpoint.what }
     ensures { OnOk result
         (string_bytes text.new ≡ string_bytes text.old ++ numbered_text breakpoint) }
 {
     let number = breakpoint.number;
     write!(text, "{number} ")?;
-    push_breakpoint(text, breakpoint.what)?;
+    push_trigger(text, breakpoint.what)?;
     text.push_str("\n")
 }
 
 /// Adds what a breakpoint is at.
+#[tactic(auto, unfolding(crate::specs::Settings::trigger_text, crate::specs::Command::IsTriggerInRange))]
+fn push_trigger(text: &mut String, what: Trigger) -> Result<(), AllocError>
+    requires { IsTriggerInRange what }
+    ensures { OnOk result (string_bytes text.new ≡ string_bytes text.old ++ trigger_text what) }
+{
+    match what {
+        Trigger::At(what) => push_breakpoint(text, what),
+        Trigger::Panel => text.push_str("panel"),
+        Trigger::Shows(line) => {
+            text.push_str("panel ")?;
+            push_panel_line(text, line)
+        }
+    }
+}
+
+/// Adds a breakpoint in the words of `break`.
 #[tactic(auto, unfolding(crate::specs::Settings::breakpoint_text, crate::specs::Command::IsBreakpointInRange))]
 fn push_breakpoint(text: &mut String, what: Breakpoint) -> Result<(), AllocError>
     requires { IsBreakpointInRange what }

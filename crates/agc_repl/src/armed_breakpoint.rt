@@ -3,7 +3,8 @@ ghost use Rattle.std.specs.Prelude.{◌≡◌, ◌<◌, [], ◌∷◌, true};
 ghost use Rattle.agc_machine.specs.Boundary.{upcoming_of};
 ghost use Rattle.agc_machine.specs.Laws.{HasChannel};
 ghost use Rattle.agc_machine.specs.Replay.{writes_in};
-ghost use Rattle.agc_repl.specs.Command.{IsBreakpointInRange};
+ghost use Rattle.agc_repl.specs.Command.{IsBreakpointInRange, IsTriggerInRange};
+ghost use Rattle.agc_repl.specs.Course.{is_hit, target_in};
 ghost use Rattle.agc_store.specs.Places.{erasable_cells};
 ghost use Rattle.agc_repl.specs.Repl.{Advances, RunsOn, gone_on};
 ghost use Rattle.agc_repl.specs.Stretch.{
@@ -21,11 +22,13 @@ ghost use Rattle.agc_repl.specs.Stretch.{
   word_at,
 };
 
-use crate::command::Breakpoint;
+use crate::command::{Breakpoint, Trigger};
+use crate::panel_change::{is_line_new, is_panel_change};
 use crate::repl::Repl;
 use crate::settings::Numbered;
 use agc_listing::{Location, location_at};
 use agc_machine::{Machine, Stepped, Upcoming};
+use agc_panel::Panel;
 use agc_processor::Rupt;
 use agc_store::Store;
 use agc_store::place::ERASABLE_BANK_SIZE;
@@ -55,6 +58,20 @@ pub(crate) struct Armed {
     pub(crate) target: ArmedBreakpoint,
 }
 
+impl Armed {
+    /// Returns whether the last boundary hit the breakpoint, by the panel before it and the machine's present state.
+    pub(crate) fn is_hit(&self, before: &Panel, machine: &Machine, stepped: &Stepped) -> bool
+        requires { IsArmedInRange self.now.target }
+        ensures { result ≡ is_hit self.now.breakpoint.what self.now.target before.now machine.now stepped.now }
+    {
+        match &self.breakpoint.what {
+            Trigger::At(_) => self.target.has_come(machine, stepped),
+            Trigger::Panel => is_panel_change(before, stepped),
+            Trigger::Shows(line) => is_line_new(line, before, stepped),
+        }
+    }
+}
+
 impl ArmedBreakpoint {
     /// Returns the target of a breakpoint that is set now.
     #[tactic(auto, unfolding(crate::specs::Command::IsBreakpointInRange))]
@@ -72,6 +89,19 @@ impl ArmedBreakpoint {
                 cell,
                 before: word_of(machine.store(), cell),
             },
+        }
+    }
+
+    /// Returns the target of a numbered breakpoint that is set now; at the panel it needs none.
+    #[tactic(auto, unfolding(crate::specs::Command::IsTriggerInRange))]
+    pub(crate) fn of(machine: &Machine, what: Trigger) -> ArmedBreakpoint
+        requires { IsTriggerInRange what }
+        ensures armed { result ≡ target_in machine.now what }
+        ensures range { IsArmedInRange result }
+    {
+        match what {
+            Trigger::At(what) => ArmedBreakpoint::new(machine, what),
+            Trigger::Panel | Trigger::Shows(_) => ArmedBreakpoint::Nothing,
         }
     }
 

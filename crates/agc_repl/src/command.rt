@@ -1,11 +1,12 @@
 //! The parsed commands of the console.
+use crate::panel_line::PanelLine;
 use agc_listing::Location;
 use agc_panel::WatchSpec;
 use agc_processor::Rupt;
 use agc_script::What;
 use agc_word::Narrow;
 
-/// A breakpoint: what `until` and `continue` run to.
+/// What `until` runs to.
 #[derive(Clone, Copy, Debug, PartialEq, Eq)]
 pub enum Breakpoint {
     /// The order at this place is the next to execute.
@@ -18,6 +19,17 @@ pub enum Breakpoint {
     Cell(u16),
     /// This interrupt comes next.
     Interrupt(Rupt),
+}
+
+/// What hits a numbered breakpoint.
+#[derive(Clone, Copy, Debug, PartialEq, Eq)]
+pub enum Trigger {
+    /// What `until` can run to as well.
+    At(Breakpoint),
+    /// A channel write that changes what the panel shows.
+    Panel,
+    /// A channel write after which the panel shows this line, and before which it did not.
+    Shows(PanelLine),
 }
 
 /// A command of the console.
@@ -35,7 +47,7 @@ pub enum Command {
         within: u64,
     },
     /// Set a numbered breakpoint.
-    Break(Breakpoint),
+    Break(Trigger),
     /// List the numbered breakpoints.
     Breaks,
     /// Delete the breakpoint with this number.

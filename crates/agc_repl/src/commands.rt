@@ -8,7 +8,7 @@ ghost use Rattle.agc_session.specs.Session.{injected_now};
 ghost use Rattle.agc_trace.specs.Entry.{FitsLine, entry_of};
 ghost use Rattle.agc_trace.specs.NamedLine.{line_with};
 ghost use Rattle.agc_trace.specs.Trace.{trace_within};
-ghost use Rattle.agc_repl.specs.Command.{IsBreakpointInRange};
+ghost use Rattle.agc_repl.specs.Command.{IsBreakpointInRange, IsTriggerInRange};
 ghost use Rattle.agc_repl.specs.Answered.{Begins, Grows, Outputs, refusal_text, shown_course, shown_until, shown_stretch};
 ghost use Rattle.agc_repl.specs.Course.{AreSound, all_armed, armed_by, course_to, hit_by};
 ghost use Rattle.agc_repl.specs.Settings.{AreInRange};
@@ -25,6 +25,7 @@ use crate::output::write_part;
 use crate::repl::Repl;
 use crate::settings::Numbered;
 use agc_machine::{Machine, Stepped, Upcoming};
+use agc_panel::Panel;
 use agc_script::{MOST_EVENTS, What};
 use agc_session::InjectFault;
 use agc_symbols::SymbolTable;
@@ -264,7 +265,7 @@ fn arm_each(
 {
     let mut armed = Vec::new(alloc);
     for breakpoint in breakpoints {
-        let target: ArmedBreakpoint = ArmedBreakpoint::new(machine, breakpoint.what);
+        let target: ArmedBreakpoint = ArmedBreakpoint::of(machine, breakpoint.what);
         armed.push(Armed {
             breakpoint: *breakpoint,
             target,
@@ -310,7 +311,7 @@ fn continue_to<W: Write>(
     requires { AreSound armed.now }
     ensures gone { OnOk result (repl.new ≡ (course_to armed.now cycle repl.old).last) }
     ensures hit { IfOk result (λ hit. hit ≡ (course_to armed.now cycle repl.old).hit) }
-    ensures range { IfOk result (λ hit. IfSome hit (λ b. IsBreakpointInRange b.what)) }
+    ensures range { IfOk result (λ hit. IfSome hit (λ b. IsTriggerInRange b.what)) }
     ensures reported { OnOk result (Appends (append_known (W.contents output.old) (string_bytes text.old))
         (append_known (W.contents output.new) (string_bytes text.new))
         (writes_text quiet (course_to armed.now cycle repl.old).writes)) }
@@ -320,9 +321,10 @@ fn continue_to<W: Write>(
     ensures grows { (IsErrOf result ReplFault.Write → ⊥) → Grows (W.contents output.old) (W.contents output.new) }
 {
     while repl.is_before(cycle) {
+        let before = *repl.session.panel();
         let stepped = repl.step();
         tell(&stepped, quiet, text, output)?;
-        match hit_by(armed, repl.machine(), &stepped) {
+        match hit_by(armed, &before, repl.machine(), &stepped) {
             Some(breakpoint) => return Ok(Some(breakpoint)),
             None => {}
         }
@@ -330,15 +332,15 @@ fn continue_to<W: Write>(
     Ok(None)
 }
 
-/// Returns the first breakpoint that a boundary has hit.
+/// Returns the first breakpoint that a boundary has hit, by the panel before it.
 #[tactic(auto, unfolding(crate::specs::Course::hit_by))]
-fn hit_by(armed: &[Armed], machine: &Machine, stepped: &Stepped) -> Option<Numbered>
+fn hit_by(armed: &[Armed], before: &Panel, machine: &Machine, stepped: &Stepped) -> Option<Numbered>
     requires { AreSound armed.now }
-    ensures hit { result ≡ hit_by armed.now machine.now stepped.now }
-    ensures range { IfSome result (λ b. IsBreakpointInRange b.what) }
+    ensures hit { result ≡ hit_by armed.now before.now machine.now stepped.now }
+    ensures range { IfSome result (λ b. IsTriggerInRange b.what) }
 {
     for each in armed {
-        if each.target.has_come(machine, stepped) {
+        if each.is_hit(before, machine, stepped) {
             return Some(each.breakpoint);
         }
     }

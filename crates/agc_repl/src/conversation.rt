@@ -15,6 +15,7 @@ ghost use Rattle.agc_repl.specs.Answered.{
   Grows,
   IsAnswered,
   IsHandled,
+  IsInPlace,
   IsItself,
   IsLeft,
   IsPartOf,
@@ -25,10 +26,8 @@ ghost use Rattle.agc_repl.specs.Answered.{
   answer_to,
   answered,
   done,
-  full_text,
   last_line,
   missed,
-  missing_text,
   refusal_text,
 };
 ghost use Rattle.agc_repl.specs.Transcript.{AreAnswered, IsSessionOf, RanOut, requests_in};
@@ -37,12 +36,12 @@ ghost use Rattle.agc_repl.specs.Queries.{shown_text};
 ghost use Rattle.agc_repl.specs.Repl.{at_start};
 ghost use Rattle.agc_script.specs.Event.{IsWhatInRange};
 ghost use Rattle.agc_repl.specs.Fault.{fault_text_with};
-ghost use Rattle.agc_repl.specs.Command.{IsBreakpointInRange, IsCommandInRange};
+ghost use Rattle.agc_repl.specs.Command.{IsCommandInRange, IsTriggerInRange};
 ghost use Rattle.agc_repl.specs.Settings.{at_first, breakpoint_line, next_numbered, with_breakpoint};
 ghost use Rattle.agc_repl.specs.declared.conversation.ReplFault.TheVariants.{Memory};
 
 use crate::answer::{push_breakpoint_line, push_end_line, push_refusal_line};
-use crate::command::{Breakpoint, Command};
+use crate::command::{Command, Trigger};
 use crate::commands::{go, go_on_to, go_on_until, inject, refusal, step, until};
 use crate::fault::CommandFault;
 use crate::lines::{Request, next_request};
@@ -245,26 +244,31 @@ fn answer_itself<W: Write>(
 {
     match request {
         Ok(Some(Command::Back(cycle))) => rewind_to(alloc, names, repl, cycle, output),
-        Ok(Some(Command::Inject(what))) => {
-            let reported = answer_event(alloc, names, &mut repl, what, output);
+        in_place => {
+            let reported = answer_in_place(alloc, names, &mut repl, in_place, output);
             keep_if(reported, repl)
         }
-        Ok(Some(Command::Break(what))) => {
-            let reported = answer_break(alloc, names, &mut repl, what, output);
-            keep_if(reported, repl)
-        }
-        Ok(Some(Command::Delete(number))) => {
-            let reported = answer_delete(alloc, names, &mut repl, number, output);
-            keep_if(reported, repl)
-        }
-        Ok(Some(Command::Quiet(quiet))) => {
-            let reported = answer_quiet(alloc, names, &mut repl, quiet, output);
-            keep_if(reported, repl)
-        }
-        plain => {
-            let reported = answer_now(alloc, names, &mut repl, plain, output);
-            keep_if(reported, repl)
-        }
+    }
+}
+
+/// Answers a request that does not go back. If memory runs out, the answer ends by reporting it.
+fn answer_in_place<W: Write>(
+    alloc: Global,
+    names: &Option<SymbolTable>,
+    repl: &mut Repl,
+    request: Request,
+    output: &mut W,
+) -> Result<(), ReplFault>
+    requires range { IfOk request (λ parsed. IfSome parsed IsCommandInRange) }
+    requires place { IsInPlace request }
+    ensures { OnOk result (IsAnswered names.now request repl.old repl.new (W.contents output.old) (W.contents output.new)) }
+{
+    match request {
+        Ok(Some(Command::Inject(what))) => answer_event(alloc, names, repl, what, output),
+        Ok(Some(Command::Break(what))) => answer_break(alloc, names, repl, what, output),
+        Ok(Some(Command::Delete(number))) => answer_delete(alloc, names, repl, number, output),
+        Ok(Some(Command::Quiet(quiet))) => answer_quiet(alloc, names, repl, quiet, output),
+        plain => answer_now(alloc, names, repl, plain, output),
     }
 }
 
@@ -452,15 +456,18 @@ fn answer_break<W: Write>(
     alloc: Global,
     names: &Option<SymbolTable>,
     repl: &mut Repl,
-    what: Breakpoint,
+    what: Trigger,
     output: &mut W,
 ) -> Result<(), ReplFault>
-    requires { IsBreakpointInRange what }
+    requires { IsTriggerInRange what }
     ensures { OnOk result (IsAnswered names.now (Ok (Some (Command.Break what))) repl.old repl.new
         (W.contents output.old) (W.contents output.new)) }
 {
     if repl.settings.is_full() {
-        write_error_line(output, full())
+        write_error_line(
+            output,
+            "TooManyBreakpoints: there are at most 64; delete N makes room",
+        )
     } else {
         set_breakpoint(alloc, repl, what, output)
     }
@@ -470,10 +477,10 @@ fn answer_break<W: Write>(
 fn set_breakpoint<W: Write>(
     alloc: Global,
     repl: &mut Repl,
-    what: Breakpoint,
+    what: Trigger,
     output: &mut W,
 ) -> Result<(), ReplFault>
-    requires { IsBreakpointInRange what }
+    requires { IsTriggerInRange what }
     ensures { OnOk result (Sets what repl.old repl.new (W.contents output.old) (W.contents output.new)) }
 {
     match add_breakpoint(alloc, repl, &what) {
@@ -483,8 +490,8 @@ fn set_breakpoint<W: Write>(
 }
 
 /// Sets a breakpoint, and returns the answer. If memory runs out, it is not set.
-fn add_breakpoint(alloc: Global, repl: &mut Repl, what: &Breakpoint) -> Result<String, AllocError>
-    requires { IsBreakpointInRange what.now }
+fn add_breakpoint(alloc: Global, repl: &mut Repl, what: &Trigger) -> Result<String, AllocError>
+    requires { IsTriggerInRange what.now }
     ensures set { OnOk result
         (repl.new ≡ record repl.old { settings = with_breakpoint what.now repl.old.settings }) }
     ensures parsed { IfOk result (λ text. string_bytes text
@@ -505,13 +512,6 @@ fn add_breakpoint(alloc: Global, repl: &mut Repl, what: &Breakpoint) -> Result<S
     Ok(text)
 }
 
-/// Returns why no further breakpoint is set.
-fn full() -> &'static str
-    ensures { result.now ≡ full_text }
-{
-    "TooManyBreakpoints: there are at most 64; delete N makes room"
-}
-
 /// Deletes a breakpoint if there is one with this number, and answers.
 fn answer_delete<W: Write>(
     alloc: Global,
@@ -527,15 +527,11 @@ fn answer_delete<W: Write>(
         repl.settings.delete(number);
         write_end(alloc, repl, output)
     } else {
-        write_error_line(output, missing())
+        write_error_line(
+            output,
+            "NoBreakpoint: no breakpoint has this number; breaks lists them",
+        )
     }
-}
-
-/// Returns why no breakpoint is deleted.
-fn missing() -> &'static str
-    ensures { result.now ≡ missing_text }
-{
-    "NoBreakpoint: no breakpoint has this number; breaks lists them"
 }
 
 /// Lets runs print no channel writes, or print them again, and answers.

@@ -38,6 +38,8 @@ pub enum CommandFault {
     BadInterrupt,
     /// Not 1 to 6 decimal digits, or 0, or past the end of erasable memory.
     BadCount,
+    /// Not a line that the panel can show.
+    BadLine,
     /// The event has this fault.
     BadEvent(FaultKind),
     /// Not a key; this one was probably meant.
@@ -79,6 +81,7 @@ impl CommandFault {
             CommandFault::BadWord => "BadWord",
             CommandFault::BadInterrupt => "BadInterrupt",
             CommandFault::BadCount => "BadCount",
+            CommandFault::BadLine => "BadLine",
             CommandFault::BadEvent(_) => "BadEvent",
             CommandFault::UnknownKey(_) => "BadEvent",
             CommandFault::ProKey => "BadEvent",
@@ -114,6 +117,8 @@ impl CommandFault {
                 "interrupts are T6RUPT, T5RUPT, T3RUPT, T4RUPT, KEYRUPT1, KEYRUPT2, UPRUPT, DOWNRUPT, RADARUPT and RUPT10",
             CommandFault::BadCount =>
                 "a number of cells is decimal, from 1 up to the last cell, E7,1777",
+            CommandFault::BadLine =>
+                "the panel shows PROG, VERB or NOUN and 2 digits, R1, R2 or R3 with a sign and 5 digits, FLASH on or off, or LAMPS and a lamp; _ is blank. Example: break panel R1 +00012",
             CommandFault::BadEvent(kind) => event_advice(kind),
             CommandFault::UnknownKey(meant) => key_advice(meant),
             CommandFault::ProKey => "PRO is a switch; use pro down, then pro up",

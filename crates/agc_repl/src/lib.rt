@@ -14,6 +14,8 @@ mod meant;
 mod name;
 mod number;
 mod output;
+mod panel_change;
+mod panel_line;
 mod place;
 mod queries;
 mod repl;
@@ -26,11 +28,12 @@ pub use answer::{
     push_cell_lines, push_channel_line, push_end_line, push_error_line, push_fault_line,
     push_hit_line, push_print_lines, push_write_line, push_writes_line,
 };
-pub use command::{Breakpoint, Command};
+pub use command::{Breakpoint, Command, Trigger};
 pub use conversation::{ReplFault, run_repl};
 pub use fault::CommandFault;
 pub use help::push_help;
 pub use meant::Meant;
 pub use name::CommandName;
+pub use panel_line::{PanelLine, SignedDigits};
 pub use request::parse_command;
 pub use settings::Numbered;

@@ -104,7 +104,8 @@ impl CommandName {
             CommandName::Go => "go N, or go to C",
             CommandName::Step => "step, or step N",
             CommandName::Until => "until PLACE, write CCC or cell PLACE [within N]",
-            CommandName::Break => "break PLACE, write CCC [WORD], cell PLACE or interrupt NAME",
+            CommandName::Break =>
+                "break PLACE, write CCC [WORD], cell PLACE, interrupt NAME or panel [TEXT]",
             CommandName::Breaks => "breaks",
             CommandName::Delete => "delete N",
             CommandName::Continue => "continue [within N]",

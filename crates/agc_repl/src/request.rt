@@ -7,6 +7,7 @@ ghost use Rattle.agc_session.specs.Breakpoint.{IsBreakpointInRange as IsSoughtIn
 ghost use Rattle.agc_repl.specs.Command.{
   IsCommandInRange,
   IsBreakpointInRange,
+  IsTriggerInRange,
   back_cell,
   back_interrupt,
   back_of,
@@ -19,7 +20,9 @@ ghost use Rattle.agc_repl.specs.Command.{
   break_of,
   break_at_cell,
   break_cell,
+  break_at,
   break_interrupt,
+  break_panel,
   break_place,
   break_write,
   break_write_of,
@@ -47,12 +50,13 @@ ghost use Rattle.agc_repl.specs.Command.{
   words_request,
 };
 
-use crate::command::{Breakpoint, Command};
+use crate::command::{Breakpoint, Command, Trigger};
 use crate::fault::CommandFault;
 use crate::name::CommandName;
 use crate::number::{
     read_channel, read_cycles, read_interrupt, read_spec, read_word, read_written_channel,
 };
+use crate::panel_line::line_in;
 use crate::place::{read_cell, read_cells_after, read_place};
 use crate::words::{alone, is_word, only_word};
 use agc_listing::first_comma;
@@ -329,6 +333,8 @@ fn read_break(names: &Option<SymbolTable>, words: &[u8]) -> Result<Command, Comm
         read_break_at_cell(names, word)
     } else if is_word(first, "interrupt") {
         read_break_interrupt(rest)
+    } else if is_word(first, "panel") {
+        read_break_panel(rest)
     } else {
         read_break_place(names, words)
     }
@@ -341,7 +347,7 @@ fn read_break_place(names: &Option<SymbolTable>, words: &[u8]) -> Result<Command
 {
     let word = only_word(CommandName::Break, words)?;
     let place = read_place(names, word)?;
-    Ok(Command::Break(Breakpoint::Order(place)))
+    Ok(break_at(Breakpoint::Order(place)))
 }
 
 #[tactic(auto, unfolding(crate::specs::Command::IsCommandInRange, crate::specs::Command::IsBreakpointInRange))]
@@ -350,7 +356,7 @@ fn read_break_at_cell(names: &Option<SymbolTable>, word: &[u8]) -> Result<Comman
     ensures range { IfOk result IsCommandInRange }
 {
     let cell = read_cell(names, word)?;
-    Ok(Command::Break(Breakpoint::Cell(cell)))
+    Ok(break_at(Breakpoint::Cell(cell)))
 }
 
 #[tactic(auto, unfolding(crate::specs::Command::IsCommandInRange, crate::specs::Command::IsBreakpointInRange))]
@@ -360,7 +366,30 @@ fn read_break_interrupt(words: &[u8]) -> Result<Command, CommandFault>
 {
     let word = only_word(CommandName::Break, words)?;
     let rupt = read_interrupt(word)?;
-    Ok(Command::Break(Breakpoint::Interrupt(rupt)))
+    Ok(break_at(Breakpoint::Interrupt(rupt)))
+}
+
+/// Parses the words after `break panel`: none, or a line of the panel.
+#[tactic(auto, unfolding(crate::specs::Command::break_panel, crate::specs::Command::IsCommandInRange, crate::specs::Command::IsTriggerInRange))]
+fn read_break_panel(words: &[u8]) -> Result<Command, CommandFault>
+    ensures breaks { result ≡ break_panel (words_of words.now) }
+    ensures range { IfOk result IsCommandInRange }
+{
+    if next_word(words).is_none() {
+        return Ok(Command::Break(Trigger::Panel));
+    }
+    let line = line_in(words).ok_or(CommandFault::BadLine)?;
+    Ok(Command::Break(Trigger::Shows(line)))
+}
+
+/// Returns the command that sets a breakpoint at what `until` can run to as well.
+#[tactic(auto, unfolding(crate::specs::Command::IsCommandInRange, crate::specs::Command::IsTriggerInRange))]
+fn break_at(what: Breakpoint) -> Command
+    requires { IsBreakpointInRange what }
+    ensures breaks { result ≡ break_at what }
+    ensures range { IsCommandInRange result }
+{
+    Command::Break(Trigger::At(what))
 }
 
 fn read_break_write(words: &[u8]) -> Result<Command, CommandFault>
@@ -380,11 +409,11 @@ fn read_break_word(channel: u16, words: &[u8]) -> Result<Command, CommandFault>
     ensures range { IfOk result IsCommandInRange }
 {
     let Some((word, rest)) = next_word(words) else {
-        return Ok(Command::Break(Breakpoint::Write(channel)));
+        return Ok(break_at(Breakpoint::Write(channel)));
     };
     let word = read_word(word)?;
     alone(
-        Command::Break(Breakpoint::Word { channel, word }),
+        break_at(Breakpoint::Word { channel, word }),
         CommandName::Break,
         rest,
     )

@@ -60,6 +60,52 @@ at 3
 }
 
 #[test]
+fn the_panel_is_a_breakpoint(rt: HostRuntime) {
+    let parsed =
+        b"break panel PROG 12\nbreak panel PROG 1_\nbreak panel\ncontinue\nback 0\ndelete 1\ncontinue\nbreak panel R1 1\n";
+    let wanted = "break 1 panel PROG 12
+at 0
+break 2 panel PROG 1_
+at 0
+break 3 panel
+at 0
+write 3 010 54171
+hit 1 panel PROG 12
+at 5
+at 0
+at 0
+write 3 010 54171
+hit 3 panel
+at 5
+error: BadLine: the panel shows PROG, VERB or NOUN and 2 digits, R1, R2 or R3 with a sign and 5 digits, FLASH on or off, or LAMPS and a lamp; _ is blank. Example: break panel R1 +00012
+";
+    answers(&rt, parsed, wanted);
+}
+
+#[test]
+fn lines_of_the_panel_are_parsed(rt: HostRuntime) {
+    let parsed =
+        b"break panel VERB ?_\nbreak panel NOUN 90\nbreak panel R2 -12345\nbreak panel R3 _67890\nbreak panel FLASH off\nbreak panel LAMPS  UPLINK ACTY\nbreak panel LAMPS ISS\nbreak panel LAMPS ISS VEL\n";
+    let wanted = "break 1 panel VERB ?_
+at 0
+break 2 panel NOUN 90
+at 0
+break 3 panel R2 -12345
+at 0
+break 4 panel R3 _67890
+at 0
+break 5 panel FLASH off
+at 0
+break 6 panel LAMPS UPLINK ACTY
+at 0
+break 7 panel LAMPS ISS
+at 0
+error: BadLine: the panel shows PROG, VERB or NOUN and 2 digits, R1, R2 or R3 with a sign and 5 digits, FLASH on or off, or LAMPS and a lamp; _ is blank. Example: break panel R1 +00012
+";
+    answers(&rt, parsed, wanted);
+}
+
+#[test]
 fn cells_are_printed_in_octal_and_decimal(rt: HostRuntime) {
     let parsed = b"poke 0 100 77765\npoke 0 101 77777\npoke 0 102 12\nprint 100 3\nprint 103\n";
     let wanted = "at 0

@@ -1,6 +1,7 @@
-use Rattle.std.proofs.Common.{◌≡◌, ap, refl, sym, ◌∙◌, Some, None, string_bytes}
+use Rattle.std.proofs.Common.{◌≡◌, ap, sym, ◌∙◌, Some, None, string_bytes}
 use Rattle.std.proofs.lemmas.Result.{err_from_is_err_and}
 use Rattle.agc_machine.specs.State.{State}
+use Rattle.agc_panel.specs.declared.face.Face.{Face}
 use Rattle.agc_repl.specs.Course.{hit_by}
 use Rattle.agc_repl.proofs.Beginning.{begun, begun_kept}
 use Rattle.agc_repl.proofs.Courses.{Takes, ends_there, ends_up, keeps_first, keeps_on}
@@ -16,8 +17,9 @@ loop-repl-preserved g c =
     let so_far = c.loop-repl.invariant in
     let takes : Takes c.args.cycle c.loop-repl.repl c.step-stepped.new.self c.step-stepped.result =
     record { short = sym c.is_before.ensures ∙ c.loop-repl-test.true; boundary = c.step-stepped.ensures.boundary; shown = c.step-stepped.ensures.shown } in
-    let not_yet : hit_by c.args.armed.now c.step-stepped.new.self.session.now c.step-stepped.result ≡ None =
-    ap (λ (s : State). hit_by c.args.armed.now s c.step-stepped.result) (sym c.machine.ensures) ∙ sym c.hit_by.ensures.hit ∙ c.in-None.is in (
+    let not_yet : hit_by c.args.armed.now c.loop-repl.repl.session.panel c.step-stepped.new.self.session.now c.step-stepped.result ≡ None =
+    ap (λ (s : State). hit_by c.args.armed.now c.loop-repl.repl.session.panel s c.step-stepped.result) (sym c.machine.ensures)
+    ∙ ap (λ (panel : Face). hit_by c.args.armed.now panel c.machine.result.now c.step-stepped.result) (sym c.panel.ensures) ∙ sym c.hit_by.ensures.hit ∙ c.in-None.is in (
       keeps_on _ _ _ _ _ _ _ _ _ _ so_far.0 takes not_yet c.in_ok-tell.ensures.reported,
       runs_then _ _ _ so_far.1 c.step-stepped.ensures.on,
       grows_then _ _ _ so_far.2 (c.in_ok-tell.ensures.grows (λ e. cc)),
@@ -30,24 +32,27 @@ pub returns-in-Some-clause-gone : goal.returns-in-Some-clause-gone
 returns-in-Some-clause-gone g c =
     let takes : Takes c.args.cycle c.loop-repl.repl c.step-stepped.new.self c.step-stepped.result =
     record { short = sym c.is_before.ensures ∙ c.loop-repl-test.true; boundary = c.step-stepped.ensures.boundary; shown = c.step-stepped.ensures.shown } in
-    let there : hit_by c.args.armed.now c.step-stepped.new.self.session.now c.step-stepped.result ≡ Some c.in-Some.breakpoint =
-    ap (λ (s : State). hit_by c.args.armed.now s c.step-stepped.result) (sym c.machine.ensures) ∙ sym c.hit_by.ensures.hit ∙ c.in-Some.is in
+    let there : hit_by c.args.armed.now c.loop-repl.repl.session.panel c.step-stepped.new.self.session.now c.step-stepped.result ≡ Some c.in-Some.breakpoint =
+    ap (λ (s : State). hit_by c.args.armed.now c.loop-repl.repl.session.panel s c.step-stepped.result) (sym c.machine.ensures)
+    ∙ ap (λ (panel : Face). hit_by c.args.armed.now panel c.machine.result.now c.step-stepped.result) (sym c.panel.ensures) ∙ sym c.hit_by.ensures.hit ∙ c.in-Some.is in
     (ends_there _ _ _ _ _ _ _ _ _ _ _ c.loop-repl.invariant.0 takes there c.in_ok-tell.ensures.reported).last
 
 pub returns-in-Some-clause-hit : goal.returns-in-Some-clause-hit
 returns-in-Some-clause-hit g c =
     let takes : Takes c.args.cycle c.loop-repl.repl c.step-stepped.new.self c.step-stepped.result =
     record { short = sym c.is_before.ensures ∙ c.loop-repl-test.true; boundary = c.step-stepped.ensures.boundary; shown = c.step-stepped.ensures.shown } in
-    let there : hit_by c.args.armed.now c.step-stepped.new.self.session.now c.step-stepped.result ≡ Some c.in-Some.breakpoint =
-    ap (λ (s : State). hit_by c.args.armed.now s c.step-stepped.result) (sym c.machine.ensures) ∙ sym c.hit_by.ensures.hit ∙ c.in-Some.is in
+    let there : hit_by c.args.armed.now c.loop-repl.repl.session.panel c.step-stepped.new.self.session.now c.step-stepped.result ≡ Some c.in-Some.breakpoint =
+    ap (λ (s : State). hit_by c.args.armed.now c.loop-repl.repl.session.panel s c.step-stepped.result) (sym c.machine.ensures)
+    ∙ ap (λ (panel : Face). hit_by c.args.armed.now panel c.machine.result.now c.step-stepped.result) (sym c.panel.ensures) ∙ sym c.hit_by.ensures.hit ∙ c.in-Some.is in
     (ends_there _ _ _ _ _ _ _ _ _ _ _ c.loop-repl.invariant.0 takes there c.in_ok-tell.ensures.reported).hit_is
 
 pub returns-in-Some-clause-reported : goal.returns-in-Some-clause-reported
 returns-in-Some-clause-reported g c =
     let takes : Takes c.args.cycle c.loop-repl.repl c.step-stepped.new.self c.step-stepped.result =
     record { short = sym c.is_before.ensures ∙ c.loop-repl-test.true; boundary = c.step-stepped.ensures.boundary; shown = c.step-stepped.ensures.shown } in
-    let there : hit_by c.args.armed.now c.step-stepped.new.self.session.now c.step-stepped.result ≡ Some c.in-Some.breakpoint =
-    ap (λ (s : State). hit_by c.args.armed.now s c.step-stepped.result) (sym c.machine.ensures) ∙ sym c.hit_by.ensures.hit ∙ c.in-Some.is in
+    let there : hit_by c.args.armed.now c.loop-repl.repl.session.panel c.step-stepped.new.self.session.now c.step-stepped.result ≡ Some c.in-Some.breakpoint =
+    ap (λ (s : State). hit_by c.args.armed.now c.loop-repl.repl.session.panel s c.step-stepped.result) (sym c.machine.ensures)
+    ∙ ap (λ (panel : Face). hit_by c.args.armed.now panel c.machine.result.now c.step-stepped.result) (sym c.panel.ensures) ∙ sym c.hit_by.ensures.hit ∙ c.in-Some.is in
     (ends_there _ _ _ _ _ _ _ _ _ _ _ c.loop-repl.invariant.0 takes there c.in_ok-tell.ensures.reported).text
 
 pub returns-in-Some-clause-on : goal.returns-in-Some-clause-on

@@ -6,7 +6,7 @@ use Rattle.agc_repl.proofs.conversation.answer_break.Goals as goal
 pub returns-then-is_full : goal.returns-then-is_full
 returns-then-is_full g c =
     when_ok c.write_error_line.result c.write_error_line.ensures
-    (λ written. full_reported c.args.names.now c.args.what c.args.repl.now _ _ (sym c.is_full.ensures ∙ c.if-is_full.true) (rw (c.full.ensures) at written))
+    (λ written. full_reported c.args.names.now c.args.what c.args.repl.now _ _ (sym c.is_full.ensures ∙ c.if-is_full.true) written)
 
 pub returns-else-is_full : goal.returns-else-is_full
 returns-else-is_full g c =

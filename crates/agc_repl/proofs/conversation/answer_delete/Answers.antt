@@ -11,4 +11,4 @@ returns-then-has_number g c =
 pub returns-else-has_number : goal.returns-else-has_number
 returns-else-has_number g c =
     when_ok c.write_error_line.result c.write_error_line.ensures
-    (λ written. missing_reported c.args.names.now c.args.number c.args.repl.now _ _ (sym c.has_number.ensures ∙ c.if-has_number.false) (rw (c.missing.ensures) at written))
+    (λ written. missing_reported c.args.names.now c.args.number c.args.repl.now _ _ (sym c.has_number.ensures ∙ c.if-has_number.false) written)
