@@ -110,7 +110,7 @@ class Came(NamedTuple):
 
 class Breakpoint(NamedTuple):
     """A numbered breakpoint: its number, and what it stops at, as the console prints it: "order 02,4071", "write 010 44017",
-    "cell 0100" or "interrupt T4RUPT"."""
+    "cell 0100", "interrupt T4RUPT", "panel" or "panel R1 +00012"."""
 
     number: int
     what: str
@@ -349,6 +349,11 @@ class Console:
     def break_interrupt(self, name: str) -> Breakpoint:
         """Sets a breakpoint at an interrupt, as "T4RUPT" or "KEYRUPT1": `continue_` stops before it is taken."""
         return self._break(f"interrupt {name}")
+
+    def break_panel(self, text: Optional[str] = None) -> Breakpoint:
+        """Sets a breakpoint at a write that changes what the panel shows, or one that brings this line to it, as "PROG 12",
+        "R1 +00012", "FLASH on" or, for one lamp, "LAMPS OPR ERR": `continue_` stops after it."""
+        return self._break("panel" if text is None else f"panel {text}")
 
     def _break(self, what: str) -> Breakpoint:
         return _breakpoint(self.say(f"break {what}").lines[0])

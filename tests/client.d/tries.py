@@ -220,6 +220,25 @@ def try_breakpoints():
         judge("no such interrupt", "BadInterrupt", wrong.split(":")[0])
 
 
+def try_panel_breakpoints():
+    """breakpoints at the panel, in the countdown"""
+    with a_countdown() as agc:
+        lamp = Breakpoint(1, "panel LAMPS OPR ERR")
+        one = Breakpoint(2, "panel R1 _____1")
+        change = Breakpoint(3, "panel")
+        judge("a breakpoint at a lamp", lamp, agc.break_panel("LAMPS OPR ERR"))
+        judge("at a line", one, agc.break_panel("R1 _____1"))
+        counted = [Write(11, 0o10, 0o30033), Write(85144, 0o10, 0o30031), Write(170478, 0o10, 0o30003)]
+        judge("the line is shown", (Hit(one, counted), 170480), (agc.continue_(), agc.cycle))
+        judge("at any change", change, agc.break_panel())
+        judge("the panel changes", (Hit(change, [Write(255811, 0o10, 0o30025)]), 255813), (agc.continue_(), agc.cycle))
+        agc.delete(change)
+        judge("the lamp lights", (Hit(lamp, [Write(300010, 0o11, 0o100)]), 300012), (agc.continue_(), agc.cycle))
+        judge("both stay as they were", [lamp, one], agc.breaks())
+        wrong = raised(Refused, agc.break_panel, "R1 +1")
+        judge("no such line", "BadLine", wrong.split(":")[0])
+
+
 def try_backwards():
     """ways back to what happened last, in the countdown; the cycles are those of its source"""
     wait = Location("4065", "WAIT")
@@ -416,8 +435,8 @@ def try_versions():
 
 
 for each in (
-    try_versions, try_keys, try_events, try_until, try_writes, try_names, try_breakpoints, try_backwards, try_numbers,
-    try_quiet, try_odd_words, try_children, try_left_scripts, try_save, try_faults,
+    try_versions, try_keys, try_events, try_until, try_writes, try_names, try_breakpoints, try_panel_breakpoints,
+    try_backwards, try_numbers, try_quiet, try_odd_words, try_children, try_left_scripts, try_save, try_faults,
 ):
     try:
         each()

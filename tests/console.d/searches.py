@@ -61,6 +61,14 @@ def panel_of(fields):
     return (*lines, f"FLASH {'on' if fields.get('flash') else 'off'}", f"LAMPS {lit or 'none'}")
 
 
+def shows(panel, words):
+    """Whether the panel shows a line; for the lamps, whether this one is lit."""
+    text = " ".join(words)
+    if words[0] == "LAMPS":
+        return text[len("LAMPS ") :] in panel[-1][len("LAMPS ") :].split(", ")
+    return text in panel
+
+
 def corrected(word):
     """A word of sixteen bits without its overflow."""
     return word >> 1 & 0o40000 | word & 0o37777
@@ -196,7 +204,7 @@ class Reference:
 
     def hits(self, what, at):
         """Whether the boundary of a line hits a breakpoint: an order or an interrupt by what it is, a write by what it
-        writes, a cell or the panel by its change."""
+        writes, a cell or the panel by its change, a line of the panel if it is shown after it and was not before."""
         trace, kind = self.trace, what[0]
         if kind == "order":
             return trace.lines[at].place == whole_place(what[1])
@@ -205,6 +213,8 @@ class Reference:
         if kind == "write":
             write = trace.lines[at].write
             return write is not None and [int(word, 8) for word in what[1:]] in (list(write), [write[0]])
+        if kind == "panel" and what[1:]:
+            return shows(trace.panel(at + 1), what[1:]) and not shows(trace.panel(at), what[1:])
         if kind == "panel":
             return trace.panel(at) != trace.panel(at + 1)
         return trace.cell(what[1], at) != trace.cell(what[1], at + 1)
@@ -381,6 +391,9 @@ class Choices:
         self.places = [line.text.split()[1] for line in trace.lines if line.place is not None]
         self.writes = sorted({line.write for line in trace.lines if line.write}) or [(0o10, 0o44017)]
         self.interrupts = sorted({line.name for line in trace.lines if line.name.startswith("interrupt ")}) or ["interrupt T4RUPT"]
+        panels = {trace.panel(at) for at in range(len(trace.lines))}
+        self.shown = sorted({line for panel in panels for line in panel[:-1]})
+        self.lamps = sorted({lamp for panel in panels for lamp in LAMPS if shows(panel, ["LAMPS", lamp])}) or LAMPS
         self.cells = [place for place in CELLS if len({trace.cell(place, at) for at in range(len(trace.lines))}) > 1] or CELLS
 
     def mostly(self, seen, others):
@@ -403,8 +416,13 @@ class Choices:
         cell = f"cell {self.a_cell()}"
         return self.dice.choice([self.a_place(), self.a_write(), cell, self.an_interrupt()])
 
+    def a_panel(self):
+        """A change of the panel, or a line that it shows at some time."""
+        line = self.mostly(self.shown, ["PROG 12", "R1 +00012", "FLASH on"])
+        return self.dice.choice(["panel", f"panel {line}", f"panel {line}", f"panel LAMPS {self.mostly(self.lamps, LAMPS)}"])
+
     def sets_break(self):
-        what = self.a_breakpoint()
+        what = self.a_panel() if self.dice.random() < 0.3 else self.a_breakpoint()
         is_watch = what.startswith("cell ") and self.dice.random() < 0.5
         return f"watch {what[len('cell ') :]}" if is_watch else f"break {what}"
 

@@ -12,7 +12,7 @@ import time
 
 import session as cases
 from places import try_places
-from reading import faults_of, wrong_line
+from reading import LAMPS, faults_of, wrong_line
 from searches import search
 from session import Session, judge, meaning
 from walks import walk
@@ -100,6 +100,22 @@ def a_breakpoint(dice):
     return dice.choice([a_place(dice), "write 10", "write 11 00001", f"cell {a_cell(dice)}", f"interrupt {interrupt}"])
 
 
+def a_line(dice):
+    """A line of the panel."""
+    name = dice.choice(["PROG", "VERB", "NOUN", "R1", "R2", "R3", "FLASH", "LAMPS"])
+    if name == "LAMPS":
+        return f"LAMPS {dice.choice(LAMPS)}"
+    if name == "FLASH":
+        return f"FLASH {dice.choice(['on', 'off'])}"
+    digits = "".join(dice.choices("___0123456789?", k=2 if len(name) == 4 else 5))
+    return f"{name} {digits if len(name) == 4 else dice.choice('+-_') + digits}"
+
+
+def a_break(dice):
+    """What `break` takes."""
+    return dice.choice(["panel", f"panel {a_line(dice)}", *(a_breakpoint(dice) for _ in range(5))])
+
+
 def a_way_back(dice, cycle):
     until = dice.choice(["interrupt", "panel", *(a_breakpoint(dice) for _ in range(6))])
     return dice.choice([f"back {dice.randrange(cycle + 500)}", f"back until {until}", "back step", f"back step {dice.randrange(1, 60)}"])
@@ -131,7 +147,7 @@ def a_command(dice, cycle):
     if kind == 16:
         return dice.choice([f"cell {a_cell(dice)}", f"cell 100 {dice.randrange(1, 9)}", "channel 10", "channel 777"])
     if kind == 17:
-        return dice.choice([f"break {a_breakpoint(dice)}", "breaks", f"print {a_cell(dice)}"])
+        return dice.choice([f"break {a_break(dice)}", "breaks", f"print {a_cell(dice)}"])
     if kind < 20:
         return f"continue within {dice.randrange(5000)}"
     return wrong_line(dice)
