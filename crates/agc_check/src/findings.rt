@@ -274,7 +274,11 @@ fn push_bugger_words(text: &mut String, sum: BankSum) -> Result<(), AllocError> 
     if place < FIXED_WORDS as usize {
         text.push_str("; ")?;
         push_rope_place(text, place)?;
-        write!(text, " {number} or {complement} would make it so")?;
+        write!(text, " {number}")?;
+        if number.bits() != complement.bits() {
+            write!(text, " or {complement}")?;
+        }
+        text.push_str(" would make it so")?;
     }
     text.push_str("\n")
 }

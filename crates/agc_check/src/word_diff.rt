@@ -132,19 +132,25 @@ fn place_in(places: &Vec<usize>, at: usize) -> usize {
     places.as_slice().get(at).copied().unwrap_or(0)
 }
 
-/// Returns how many words of one rope from a place on are those of the other from a place on.
+/// Returns how many words of one rope from a place on are those of the other from a place on, up to the last one that
+/// is not +0.
 fn same_run(first: &Store, second: &Store, source: usize, target: usize) -> usize
     requires source { source < fixed_words }
     requires target { target < fixed_words }
     ensures { IsSameRun first.now.fixed second.now.fixed source target result }
 {
     let most = (FIXED_WORDS as usize - source).min(FIXED_WORDS as usize - target);
-    for count in 0..most {
-        if first.fixed_at(source + count).bits() != second.fixed_at(target + count).bits() {
+    let mut count = 0;
+    for at in 0..most {
+        let word = first.fixed_at(source + at).bits();
+        if word != second.fixed_at(target + at).bits() {
             return count;
         }
+        if word != 0 {
+            count = at + 1;
+        }
     }
-    most
+    count
 }
 
 /// Returns the places of each word of a rope. Fails if out of memory.

@@ -1,7 +1,10 @@
-use Rattle.std.specs.Prelude.{◌≡◌, ℕ, ◌+◌, ◌<◌}
+use Rattle.std.specs.Prelude.{◌≡◌, ℕ, ◌+◌, ◌<◌, ◌≤◌}
 use Rattle.agc_word.specs.Number.{pattern_of}
 use Rattle.agc_store.specs.Memory.{fixed_at}
 use Rattle.agc_check.proofs.word_diff.same_run.Given as goal
 
-abbrev pub invariant-loop-count : goal.invariant-loop-count
-invariant-loop-count l = (k : ℕ) → k < l.count → pattern_of 15 (fixed_at (l.source + k) l.first.fixed) ≡ pattern_of 15 (fixed_at (l.target + k) l.second.fixed)
+abbrev pub invariant-loop-at : goal.invariant-loop-at
+invariant-loop-at l = record {
+  same : (k : ℕ) → k < l.at → pattern_of 15 (fixed_at (l.source + k) l.first.fixed) ≡ pattern_of 15 (fixed_at (l.target + k) l.second.fixed);
+  within : l.count ≤ l.at;
+}
