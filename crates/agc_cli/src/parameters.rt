@@ -79,7 +79,7 @@ pub fn watch_option<'a>(alloc: Global) -> Arg<'a>
     Arg::new(alloc, "watch")
         .long("watch")
         .value_name("SPEC")
-        .help("Executive's tables: octal CORE_BANK,OFFSET,SETS,LST1_BANK,OFFSET,LST2_BANK,OFFSET")
+        .help("Tables, octal: CORE_BANK,OFFSET,SETS,LST1_BANK,OFFSET,LST2_BANK,OFFSET (0-7,0-377,0-20)")
 }
 
 /// Returns the option for the order before which a run stops.
