@@ -351,8 +351,8 @@ class Console:
         return self._break(f"interrupt {name}")
 
     def break_panel(self, text: Optional[str] = None) -> Breakpoint:
-        """Sets a breakpoint at a write that changes what the panel shows, or one that brings this line to it, as "PROG 12",
-        "R1 +00012", "FLASH on" or, for one lamp, "LAMPS OPR ERR": `continue_` stops after it."""
+        """Sets a breakpoint at a write that changes the panel, or that brings this line to it, as "PROG 12", "R1 +00012",
+        "FLASH on" or, for one lamp, "LAMPS OPR ERR": `continue_` stops after it."""
         return self._break("panel" if text is None else f"panel {text}")
 
     def _break(self, what: str) -> Breakpoint:
