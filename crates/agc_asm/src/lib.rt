@@ -21,6 +21,7 @@ mod operand;
 mod pass1;
 mod pass2;
 mod row;
+mod source_lines;
 mod symbol_file;
 mod unknown_operation;
 
@@ -42,4 +43,5 @@ pub use mnemonic::{Directive, basic_named, extracode_named, is_order};
 pub use mnemonic_check::{Misnamed, Written, first_misnamed};
 pub use names::Names;
 pub use row::{basic_word, extracode_word};
+pub use source_lines::word_lines;
 pub use symbol_file::name_lines;

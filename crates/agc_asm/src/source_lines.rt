@@ -1,0 +1,58 @@
+//! Finds the line of a source that puts each word into the rope.
+ghost use Rattle.std.specs.Prelude.{◌≡◌, IfOk, length};
+ghost use Rattle.agc_store.specs.Places.{fixed_words};
+
+use crate::body::plain_line;
+use crate::fault::AssemblyFault;
+use crate::pass1::read_names;
+use crate::pass2::{State, line_woven};
+use agc_listing::PlacedWord;
+use agc_store::place::FIXED_WORDS;
+use agc_word::next_line;
+use std::alloc::{AllocError, Global};
+
+/// Returns for each place of fixed memory the number of the source line that puts its word there, counted from 1; 0 if
+/// no line does. Fails with the first faulty line, but words at places that are taken are not found, or if out of
+/// memory.
+pub fn word_lines(alloc: Global, text: &[u8]) -> Result<Vec<usize>, AssemblyFault>
+    ensures { IfOk result (λ found. length found.items ≡ fixed_words) }
+{
+    let names = read_names(alloc, text)?;
+    let mut found = no_lines(alloc, FIXED_WORDS as usize)?;
+    let mut state = State::new();
+    let mut lines = 0;
+    let mut rest = text;
+    while let Some((line, after)) = next_line(rest) {
+        lines += 1;
+        match line_woven(&names, state, plain_line(line)) {
+            Ok(step) => {
+                state = step.state;
+                note_line(&mut found, lines, step.first);
+                note_line(&mut found, lines, step.second);
+            }
+            Err(fault) => return Err(AssemblyFault::Line(lines, fault)),
+        }
+        rest = after;
+    }
+    Ok(found)
+}
+
+/// Returns no line for each place.
+fn no_lines(alloc: Global, count: usize) -> Result<Vec<usize>, AllocError>
+    ensures { IfOk result (λ found. length found.items ≡ count) }
+{
+    let mut found = Vec::new(alloc);
+    found.resize(count, 0)?;
+    Ok(found)
+}
+
+/// Notes the line of a word.
+fn note_line(found: &mut Vec<usize>, number: usize, word: Option<PlacedWord>)
+    ensures { length found.new.items ≡ length found.old.items }
+{
+    if let Some(word) = word {
+        if let Some(line) = found.get_mut(word.place) {
+            *line = number;
+        }
+    }
+}
