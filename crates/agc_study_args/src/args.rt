@@ -202,11 +202,13 @@ pub struct PatchArgs {
     pub form: RopeForm,
 }
 
-/// Arguments of `compare --words`: two rope files.
+/// Arguments of `compare --words`: two rope files, or two sources.
 #[derive(Debug, Drop)]
 pub struct WordsArgs {
     pub rope: String,
     pub other: String,
+    /// Whether the files are sources (`--source`).
+    pub are_sources: bool,
     pub form: RopeForm,
     /// The form of the other rope file.
     pub other_form: RopeForm,

@@ -28,4 +28,4 @@ pub use rope_read::{RopeRead, read_any_rope};
 pub use runs::{RunInputs, Start, open_run, read_machine, read_machine_as, read_start};
 pub use symbol_output::{check_names_path, write_names};
 pub use until::resolve_until;
-pub use words_apart::text_of_words_apart;
+pub use words_apart::{LinedRope, text_of_words_apart};

@@ -1,4 +1,4 @@
-//! Prints the words of two ropes that differ, and blocks of words that moved.
+//! Prints the words of two ropes that differ, and blocks of words that moved, with the lines of their sources.
 use agc_check::{MovedBlock, moved_blocks, places_apart, push_rope_place};
 use agc_listing::{leads_on, next_is_extracode, push_order};
 use agc_store::Store;
@@ -9,53 +9,79 @@ use std::alloc::{AllocError, Global};
 /// The least number of words of a moved block.
 const LEAST_MOVED: usize = 8;
 
-/// Returns the text of the words that differ in two ropes; it is empty if all are the same. Fails if out of memory.
+/// A rope, and the lines of the source that it was assembled from.
+#[derive(Drop)]
+pub struct LinedRope {
+    pub store: Store,
+    /// For each place, the number of the line that put its word there, or 0; empty if the rope has no source.
+    pub lines: Vec<usize>,
+}
+
+impl LinedRope {
+    /// Returns the number of the line that put the word at a place there.
+    fn line_at(&self, place: usize) -> Option<usize> {
+        match self.lines.as_slice().get(place) {
+            Some(line) if *line > 0 => Some(*line),
+            _ => None,
+        }
+    }
+}
+
+/// Returns the text of the words that differ in two ropes; it is empty if all are the same. A word of a source has the
+/// number of its line. Fails if out of memory.
 pub fn text_of_words_apart(
     alloc: Global,
-    first: &Store,
-    second: &Store,
+    first: &LinedRope,
+    second: &LinedRope,
 ) -> Result<String, AllocError> {
     let mut text = String::new(alloc);
-    let apart = places_apart(alloc, first, second)?;
+    let apart = places_apart(alloc, &first.store, &second.store)?;
     if apart.is_empty() {
         return Ok(text);
     }
-    let blocks = moved_blocks(alloc, first, second, LEAST_MOVED)?;
+    let blocks = moved_blocks(alloc, &first.store, &second.store, LEAST_MOVED)?;
     for block in blocks.as_slice() {
-        push_block(&mut text, *block)?;
+        push_block(&mut text, first, second, *block)?;
     }
     push_words(&mut text, first, second, blocks.as_slice())?;
     push_counts(alloc, &mut text, apart.as_slice())?;
     Ok(text)
 }
 
-/// Appends where a block moved.
-fn push_block(text: &mut String, block: MovedBlock) -> Result<(), AllocError> {
+/// Appends where a block moved, with the lines of its first word.
+fn push_block(
+    text: &mut String,
+    first: &LinedRope,
+    second: &LinedRope,
+    block: MovedBlock,
+) -> Result<(), AllocError> {
     let count = block.count;
     push_rope_place(text, block.source)?;
+    push_line(text, first.line_at(block.source))?;
     text.push_str(" moved to ")?;
     push_rope_place(text, block.target)?;
+    push_line(text, second.line_at(block.target))?;
     writeln!(text, ": {count} words")
 }
 
 /// Appends a line for each place that differs and belongs to no moved block: the word and order of each rope.
 fn push_words(
     text: &mut String,
-    first: &Store,
-    second: &Store,
+    first: &LinedRope,
+    second: &LinedRope,
     blocks: &[MovedBlock],
 ) -> Result<(), AllocError> {
     let (mut left_leads, mut right_leads) = (false, false);
     for place in 0..FIXED_WORDS as usize {
-        let (left, right) = (first.fixed_at(place), second.fixed_at(place));
+        let (left, right) = (first.store.fixed_at(place), second.store.fixed_at(place));
         let left_extracode = leads_on(left_leads, place);
         let right_extracode = leads_on(right_leads, place);
         if left.bits() != right.bits() && !is_moved(blocks, place) {
             push_rope_place(text, place)?;
             text.push_str(": ")?;
-            push_word(text, left, left_extracode)?;
+            push_word(text, left, left_extracode, first.line_at(place))?;
             text.push_str(" | ")?;
-            push_word(text, right, right_extracode)?;
+            push_word(text, right, right_extracode, second.line_at(place))?;
             text.push_str("\n")?;
         }
         left_leads = next_is_extracode(left_extracode, left);
@@ -75,13 +101,27 @@ fn is_within(place: usize, start: usize, count: usize) -> bool {
     start <= place && place < start.saturating_add(count)
 }
 
-/// Appends a word and its order.
-fn push_word(text: &mut String, word: Narrow, extracode: bool) -> Result<(), AllocError> {
-    if word.bits() == 0 {
+/// Appends a word, its order and its line. A word +0 without a line is no word.
+fn push_word(
+    text: &mut String,
+    word: Narrow,
+    extracode: bool,
+    line: Option<usize>,
+) -> Result<(), AllocError> {
+    if word.bits() == 0 && line.is_none() {
         return text.push_str("no word");
     }
     write!(text, "{word} ")?;
-    push_order(text, extracode, word)
+    push_order(text, extracode, word)?;
+    push_line(text, line)
+}
+
+/// Appends the number of a line, if there is one.
+fn push_line(text: &mut String, line: Option<usize>) -> Result<(), AllocError> {
+    match line {
+        Some(line) => write!(text, " (line {line})"),
+        None => Ok(()),
+    }
 }
 
 /// Appends how many words of each bank differ.
