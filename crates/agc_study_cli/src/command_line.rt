@@ -5,7 +5,7 @@ use agc_cli::{
     FORMS, form_option, limit_option, names_option, rope_file, script_file, until_option,
     watch_option,
 };
-use clap::{ArgAction, Command};
+use clap::{Arg, ArgAction, Command};
 use std::alloc::{AllocError, Global};
 
 static KINDS: [&str; 3] = ["writes", "interrupts", "jumps"];
@@ -176,6 +176,7 @@ impl<'a> Subcommands<'a> {
             .run_file("other-script", "SCRIPT", "Script file of the second run")
             .limit_of_runs()
             .words_option()
+            .sources_option()
             .form_option()
             .other_form_option()
             .wrong_parity_option()
@@ -324,6 +325,11 @@ impl<'a> ArgList<'a> {
         )
         .num_args(2)
         .conflicts_with("rope");
+        self.with_tied(arg)
+    }
+
+    fn sources_option(self) -> ArgList<'a> {
+        let arg = sources_flag(self.alloc);
         self.with_tied(arg)
     }
 
@@ -584,4 +590,17 @@ impl<'a> ArgList<'a> {
             .conflicts_with("by");
         self.with_tied(arg)
     }
+}
+
+/// Returns `--source` of `compare`, which excludes the options of rope files.
+fn sources_flag<'a>(alloc: Global) -> Result<Arg<'a>, AllocError> {
+    flag(
+        alloc,
+        "source",
+        "With --words, compare two sources: print the number of each word's line too, decimal",
+    )
+    .requires_arg("words")?
+    .conflicts_with("form")?
+    .conflicts_with("form-b")?
+    .conflicts_with("ignore-parity")
 }

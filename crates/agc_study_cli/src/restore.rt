@@ -75,7 +75,7 @@ pub(crate) fn patch_args(alloc: Global, given: &ArgMatches<'_>) -> Result<Args, 
     }))
 }
 
-/// Parses the two ropes of `compare --words`, if they are given.
+/// Parses the two ropes or sources of `compare --words`, if they are given.
 pub(crate) fn words_args(alloc: Global, given: &ArgMatches<'_>) -> Result<Option<Args>, ArgsFault> {
     let Some([rope, other]) = given.get_strs("words") else {
         return Ok(None);
@@ -83,6 +83,7 @@ pub(crate) fn words_args(alloc: Global, given: &ArgMatches<'_>) -> Result<Option
     Ok(Some(Args::Words(WordsArgs {
         rope: String::from_str(alloc, rope)?,
         other: String::from_str(alloc, other)?,
+        are_sources: given.get_flag("source"),
         form: form_of(given),
         other_form: other_form_of(given),
         ignores_parity: given.get_flag("ignore-parity"),
