@@ -22,6 +22,11 @@ abbrev pub weave_text : AssemblyFault → List ℕ
 weave_text (source.Line n why) = codes "text line " ++ decimal n ++ codes ": " ++ fault_text why
 weave_text source.Memory = codes "memory"
 
+-- the same of the second text of two
+abbrev pub other_weave_text : AssemblyFault → List ℕ
+other_weave_text (source.Line n why) = codes "other text line " ++ decimal n ++ codes ": " ++ fault_text why
+other_weave_text source.Memory = codes "memory"
+
 -- what to do about a fault that `agc` reports by its name alone
 abbrev pub rope_remedy : RopeFault → List ℕ
 rope_remedy rope.Memory = codes ""
@@ -49,7 +54,9 @@ abbrev pub error_text : AnalysisFault → List ℕ
 error_text (analysis.Refused r) = refusal_text r ++ remedy_text r
 error_text (analysis.OtherRefused r) = codes "other run: " ++ refusal_text r ++ remedy_text r
 error_text analysis.CannotReadText = codes "cannot read text"
+error_text analysis.CannotReadOtherText = codes "cannot read other text"
 error_text (analysis.Text fault) = weave_text fault
+error_text (analysis.OtherText fault) = other_weave_text fault
 error_text analysis.BadBankSpec = codes "no such bank: --bank is one or two octal digits, 00 to 43"
 error_text (analysis.Unnamed r) = names_refusal_text r
 error_text analysis.NoParity =
@@ -74,3 +81,10 @@ other_error (refusal.CannotReadScript why) =
     analysis.OtherRefused (refusal.CannotReadScript why)
 other_error (refusal.Script why) = analysis.OtherRefused (refusal.Script why)
 other_error r = analysis.Refused r
+
+-- How an error of the second of two files is reported.
+abbrev pub second_error : AnalysisFault → AnalysisFault
+second_error (analysis.Refused r) = other_error r
+second_error analysis.CannotReadText = analysis.CannotReadOtherText
+second_error (analysis.Text fault) = analysis.OtherText fault
+second_error t = t

@@ -1,13 +1,17 @@
-//! Runs `compare --words`: writes the words of two ropes that differ.
+//! Runs `compare --words`: writes the words of two ropes or sources that differ.
 ghost use Rattle.std.specs.Prelude.{◌≡◌};
 ghost use Rattle.agc_analysis.specs.Ended.{EndsWith};
 
 use crate::fault::AnalysisFault;
+use crate::ropes::weave_text;
 use crate::streams::Streams;
-use agc_io::{OK, ROPE_BYTES, status_of, write_in_full};
+use agc_asm::word_lines;
+use agc_io::{OK, ROPE_BYTES, TEXT_BYTES, status_of, write_in_full};
 use agc_load::LoadFault;
-use agc_store::Store;
-use agc_study_args::{WordsArgs, open_file, read_any_rope, text_of_words_apart};
+use agc_store::{Rope, RopeForm, Store};
+use agc_study_args::{
+    LinedRope, RopeRead, WordsArgs, open_file, read_any_rope, text_of_words_apart,
+};
 use std::alloc::Global;
 use std::io::{Read, Write};
 use std::rt::Files;
@@ -15,7 +19,7 @@ use std::rt::Files;
 /// The exit status if words differ.
 const APART: u8 = 1;
 
-/// Compares the words of two ropes and writes those that differ.
+/// Compares the words of two ropes or sources and writes those that differ.
 pub fn run_words<R, W: Write, E: Write, N: Write, P>(
     rt: &R,
     args: &WordsArgs,
@@ -25,8 +29,8 @@ where
     R: Files + AllocGlobal,
     ensures ended { EndsWith W.contents E.contents result io.old io.new }
 {
-    let mut rope = open_file(rt, &args.rope, ROPE_BYTES);
-    let mut other = open_file(rt, &args.other, ROPE_BYTES);
+    let mut rope = open_file(rt, &args.rope, most_bytes(args));
+    let mut other = open_file(rt, &args.other, most_bytes(args));
     let status = match words_text(rt.alloc(), args, &mut rope, &mut other) {
         Ok(ComparedWords { text, wrong }) => {
             rope.remark_wrong(rt.alloc(), wrong.0, &mut io.remarks);
@@ -41,6 +45,15 @@ where
     status
 }
 
+/// Returns the most bytes that a file may have.
+fn most_bytes(args: &WordsArgs) -> usize {
+    if args.are_sources {
+        TEXT_BYTES
+    } else {
+        ROPE_BYTES
+    }
+}
+
 /// The words that differ in two ropes, as text.
 #[derive(Drop)]
 struct ComparedWords {
@@ -49,22 +62,70 @@ struct ComparedWords {
     wrong: (usize, usize),
 }
 
-/// Returns the text of the words that differ in two rope files.
+/// One of the two ropes, as it was read or assembled.
+#[derive(Drop)]
+struct Side {
+    rope: LinedRope,
+    /// The number of words with wrong parity.
+    wrong: usize,
+}
+
+/// Returns the text of the words that differ in two files.
 fn words_text<R: Read, S: Read>(
     alloc: Global,
     args: &WordsArgs,
     rope: &mut R,
     other: &mut S,
 ) -> Result<ComparedWords, AnalysisFault> {
-    let first = read_any_rope(alloc, args.form, args.ignores_parity, rope)?;
-    let second = match read_any_rope(alloc, args.other_form, args.ignores_parity, other) {
+    let first = read_side(alloc, args, args.form, rope)?;
+    let second = match read_side(alloc, args, args.other_form, other) {
         Ok(read) => read,
-        Err(fault) => return Err(AnalysisFault::of_other_run(fault)),
+        Err(fault) => return Err(fault.of_second()),
     };
-    let wrong = (first.wrong.len(), second.wrong.len());
-    let (first, second) = (Store::new(first.rope), Store::new(second.rope));
-    match text_of_words_apart(alloc, &first, &second) {
-        Ok(text) => Ok(ComparedWords { text, wrong }),
+    match text_of_words_apart(alloc, &first.rope, &second.rope) {
+        Ok(text) => Ok(ComparedWords {
+            text,
+            wrong: (first.wrong, second.wrong),
+        }),
         Err(_) => Err(AnalysisFault::Refused(LoadFault::Memory)),
+    }
+}
+
+/// Reads a rope file, or assembles a source.
+fn read_side<R: Read>(
+    alloc: Global,
+    args: &WordsArgs,
+    form: RopeForm,
+    reader: &mut R,
+) -> Result<Side, AnalysisFault> {
+    if args.are_sources {
+        return read_source(alloc, reader);
+    }
+    let RopeRead { rope, wrong } = read_any_rope(alloc, form, args.ignores_parity, reader)?;
+    Ok(Side {
+        rope: LinedRope {
+            store: Store::new(rope),
+            lines: Vec::new(alloc),
+        },
+        wrong: wrong.len(),
+    })
+}
+
+/// Assembles a source.
+fn read_source<R: Read>(alloc: Global, reader: &mut R) -> Result<Side, AnalysisFault> {
+    let woven = weave_text(alloc, RopeForm::Classic, reader)?;
+    let lines = match word_lines(alloc, woven.text.as_slice()) {
+        Ok(lines) => lines,
+        Err(fault) => return Err(AnalysisFault::Text(fault)),
+    };
+    match Rope::read_as(alloc, RopeForm::Classic, woven.bytes.as_slice()) {
+        Ok(rope) => Ok(Side {
+            rope: LinedRope {
+                store: Store::new(rope),
+                lines,
+            },
+            wrong: 0,
+        }),
+        Err(fault) => Err(AnalysisFault::Refused(LoadFault::Rope(fault))),
     }
 }

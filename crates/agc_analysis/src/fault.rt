@@ -2,7 +2,7 @@
 ghost use Rattle.std.specs.Prelude.{◌≡◌, ◌⊎◌, OnOk};
 ghost use Rattle.std.specs.Io.KnownBytes.{Appends};
 ghost use Rattle.agc_analysis.specs.Fault.{other_error, remedy_text, rope_remedy, script_remedy};
-ghost use Rattle.agc_analysis.specs.Fault.{error_line, watch_remedy};
+ghost use Rattle.agc_analysis.specs.Fault.{error_line, second_error, watch_remedy};
 ghost use Rattle.agc_analysis.specs.declared.fault.AnalysisFault.TheVariants as analysis;
 
 use agc_asm::AssemblyFault;
@@ -27,8 +27,12 @@ pub enum AnalysisFault {
     OtherRefused(LoadFault),
     /// The text file cannot be opened or read, or has more than 16,777,216 bytes.
     CannotReadText,
+    /// The second text of two, by the same rule.
+    CannotReadOtherText,
     /// The text does not assemble.
     Text(AssemblyFault),
+    /// The second text of two does not assemble.
+    OtherText(AssemblyFault),
     /// The value of `--bank` is not a bank.
     BadBankSpec,
     /// The symbol file is at fault.
@@ -48,6 +52,18 @@ impl AnalysisFault {
             | LoadFault::CannotReadScript(_)
             | LoadFault::Script(_) => AnalysisFault::OtherRefused(refusal),
             _ => AnalysisFault::Refused(refusal),
+        }
+    }
+
+    /// Returns this error as that of the second of two files.
+    pub fn of_second(self) -> AnalysisFault
+        ensures { result ≡ second_error self }
+    {
+        match self {
+            AnalysisFault::Refused(refusal) => AnalysisFault::of_other_run(refusal),
+            AnalysisFault::CannotReadText => AnalysisFault::CannotReadOtherText,
+            AnalysisFault::Text(fault) => AnalysisFault::OtherText(fault),
+            fault => fault,
         }
     }
 
@@ -90,10 +106,15 @@ impl fmt::Display for AnalysisFault {
                 write!(f, "other run: {refusal}{}", remedy(refusal))
             }
             AnalysisFault::CannotReadText => f.write_str("cannot read text"),
+            AnalysisFault::CannotReadOtherText => f.write_str("cannot read other text"),
             AnalysisFault::Text(AssemblyFault::Line(line, fault)) => {
                 write!(f, "text line {line}: {fault}")
             }
-            AnalysisFault::Text(AssemblyFault::Memory) => f.write_str("memory"),
+            AnalysisFault::OtherText(AssemblyFault::Line(line, fault)) => {
+                write!(f, "other text line {line}: {fault}")
+            }
+            AnalysisFault::Text(AssemblyFault::Memory)
+            | AnalysisFault::OtherText(AssemblyFault::Memory) => f.write_str("memory"),
             AnalysisFault::BadBankSpec => f.write_str(
                 "no such bank: --bank is one or two octal digits, 00 to 43",
             ),
