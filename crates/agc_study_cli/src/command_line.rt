@@ -12,9 +12,9 @@ static KINDS: [&str; 3] = ["writes", "interrupts", "jumps"];
 
 static STYLES: [&str; 1] = ["yul"];
 
-const FIRST_PRINTED: &str = "First machine cycle to print: decimal; 0 if left out";
+const FIRST_PRINTED: &str = "First machine cycle to print: decimal, from 0; 0 if left out";
 
-const LAST_PRINTED: &str = "Last machine cycle to print: decimal; the stop if left out";
+const LAST_PRINTED: &str = "Last machine cycle to print: decimal, from 0; the stop if left out";
 
 /// Returns the `clap` command of the program. A subcommand is required.
 pub fn command<'a>(alloc: Global) -> Result<Command<'a>, AllocError> {
@@ -127,11 +127,11 @@ impl<'a> Subcommands<'a> {
             .until_named()
             .cycle_option(
                 "from",
-                "First machine cycle to count: decimal; 0 if left out",
+                "First machine cycle to count: decimal, from 0; 0 if left out",
             )
             .cycle_option(
                 "to",
-                "Last machine cycle to count: decimal; the stop if left out",
+                "Last machine cycle to count: decimal, from 0; the stop if left out",
             )
             .whole_option()
             .csv_option()
@@ -204,11 +204,11 @@ impl<'a> Subcommands<'a> {
             .until_named()
             .cycle_option(
                 "from",
-                "First machine cycle of the film: decimal; 0 if left out",
+                "First machine cycle of the film: decimal, from 0; 0 if left out",
             )
             .cycle_option(
                 "to",
-                "Last machine cycle of the film: decimal; the stop if left out",
+                "Last machine cycle of the film: decimal, from 0; the stop if left out",
             )
             .watch_option(false)
             .names_option("Accept names from this file in --until: a line for each, PLACE NAME");
@@ -246,7 +246,7 @@ impl<'a> Subcommands<'a> {
             .number(
                 "most",
                 "N",
-                "Print at most N repairs of each word: decimal; 16 if left out",
+                "Print at most N repairs of each word: decimal, from 0; 16 if left out",
             )
             .repaired_form();
         self.with(
@@ -462,7 +462,7 @@ impl<'a> ArgList<'a> {
         self.number(
             "last",
             "N",
-            "Print only the last N of these lines, at the end of the run: decimal",
+            "Print only the last N of these lines, at the end of the run: decimal, from 0",
         )
     }
 
