@@ -16,3 +16,4 @@ pub mod Place
 pub mod InTime
 pub mod LiveTime
 pub mod Turns
+pub mod Orders

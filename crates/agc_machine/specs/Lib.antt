@@ -11,3 +11,4 @@ pub mod Replay
 pub mod Taken
 pub mod Live
 pub mod Idle
+pub mod OrderRun

@@ -200,7 +200,7 @@ impl Engine {
     /// Runs the order in hand at a cycle below `quiet_until`, when no interrupt is taken and the stop address is not in
     /// hand.
     #[inline(always)]
-    fn order_in_quiet(&mut self, cycle: u64) -> Paced
+    pub(crate) fn order_in_quiet(&mut self, cycle: u64) -> Paced
         requires sound { IsSound (engine_at cycle self.old) }
         requires quiet { cycle < self.old.quiet_until }
         requires uninterrupted { pending self.old.processor ≡ None }
