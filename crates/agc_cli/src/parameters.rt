@@ -79,7 +79,9 @@ pub fn watch_option<'a>(alloc: Global) -> Arg<'a>
     Arg::new(alloc, "watch")
         .long("watch")
         .value_name("SPEC")
-        .help("Tables, octal: CORE_BANK,OFFSET,SETS,LST1_BANK,OFFSET,LST2_BANK,OFFSET (0-7,0-377,0-20)")
+        .help(
+            "Tables, octal: CORE_BANK,OFFSET,SETS,LST1_BANK,OFFSET,LST2_BANK,OFFSET (0-7,0-377,0-20)",
+        )
 }
 
 /// Returns the option for the order before which a run stops.
