@@ -592,7 +592,8 @@ impl<'a> ArgList<'a> {
     }
 }
 
-/// Returns `--source` of `compare`, which excludes the options of rope files.
+/// Returns `--source` of `compare`. It excludes the rope of a run, beside which `--words` is not required, and the options
+/// of rope files.
 fn sources_flag<'a>(alloc: Global) -> Result<Arg<'a>, AllocError> {
     flag(
         alloc,
@@ -600,6 +601,7 @@ fn sources_flag<'a>(alloc: Global) -> Result<Arg<'a>, AllocError> {
         "With --words, compare two sources: print the number of each word's line too, decimal",
     )
     .requires_arg("words")?
+    .conflicts_with("rope")?
     .conflicts_with("form")?
     .conflicts_with("form-b")?
     .conflicts_with("ignore-parity")
