@@ -592,8 +592,8 @@ impl<'a> ArgList<'a> {
     }
 }
 
-/// Returns `--source` of `compare`. It excludes the rope of a run, beside which `--words` is not required, and the options
-/// of rope files.
+/// Returns `--source` of `compare`. It excludes the rope of a run, beside which `--words` is not required, and the
+/// options of rope files.
 fn sources_flag<'a>(alloc: Global) -> Result<Arg<'a>, AllocError> {
     flag(
         alloc,

@@ -15,6 +15,7 @@ mod rope_listing;
 mod source;
 mod study;
 mod trace;
+mod transcriptions;
 
 use agc_machine::Machine;
 use agc_script::Script;

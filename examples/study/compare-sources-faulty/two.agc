@@ -1,0 +1,3 @@
+        SETLOC  4100
+        CA      0100
+        TCF     WIAT
