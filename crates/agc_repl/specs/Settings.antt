@@ -64,7 +64,7 @@ abbrev pub location_text : Location → List ℕ
 location_text (location.Fixed place) = place_text (listed_place place)
 location_text (location.Erasable cell) = place_text (cell_place cell)
 
--- what a breakpoint is at, in the words of `break`
+-- what `until` can run to, and what a numbered breakpoint is at
 unfoldable pub breakpoint_text : Breakpoint → List ℕ
 breakpoint_text (target.Order place) = codes "order " ++ location_text place
 breakpoint_text (target.Write channel) = codes "write " ++ octal_digits 3 channel

@@ -295,7 +295,7 @@ fn push_trigger(text: &mut String, what: Trigger) -> Result<(), AllocError>
     }
 }
 
-/// Adds a breakpoint in the words of `break`.
+/// Adds what `until` can run to as well.
 #[tactic(auto, unfolding(crate::specs::Settings::breakpoint_text, crate::specs::Command::IsBreakpointInRange))]
 fn push_breakpoint(text: &mut String, what: Breakpoint) -> Result<(), AllocError>
     requires { IsBreakpointInRange what }
