@@ -1,18 +1,16 @@
 -- Boundaries without a hit, and then some more, up to a hit or to a cycle.
-use Rattle.std.specs.Prelude.{◌≡◌, ◌⊎◌, ℕ, zero, suc, ◌+◌, ◌<◌, [], ◌∷◌, Option, None, Some, IsTrue, Bool, true, false, not, nat_eq, ◌↔◌}
+use Rattle.std.specs.Prelude.{◌≡◌, ◌⊎◌, ℕ, zero, suc, ◌+◌, ◌<◌, [], ◌∷◌, Option, None, Some}
 use Rattle.std.proofs.Common.{refl, ap, sym, subst, ◌∙◌, arith, inl, inr}
-use Rattle.std.proofs.lemmas.Bool.{eqb-true}
-use Rattle.agc_word.specs.Number.{Number, pattern_of}
 use Rattle.agc_machine.specs.Boundary.{boundary}
 use Rattle.agc_machine.specs.Laws.{after}
 use Rattle.agc_machine.specs.State.{State}
 use Rattle.agc_panel.specs.declared.face.Face.{Face}
-use Rattle.agc_session.specs.Breakpoint.{AreHits, Meets, is_changed, panel_after, panel_later, same_word, word_at}
-use Rattle.agc_session.specs.Search.{HasAdvanced, cycles_of, span}
+use Rattle.agc_session.specs.Breakpoint.{AreHits, Meets, panel_after, panel_later}
+use Rattle.agc_session.specs.Search.{HasAdvanced, cycles_of}
 use Rattle.agc_session.specs.Session.{BeginBefore}
 use Rattle.agc_session.specs.declared.breakpoint.Breakpoint.{Breakpoint}
 use Rattle.agc_session.specs.declared.breakpoint.Breakpoint.TheVariants as breakpoint
-use Rattle.agc_session.proofs.Boundaries.{after_plus, panel_plus, span_falls}
+use Rattle.agc_session.proofs.Boundaries.{after_plus, panel_plus}
 use Rattle.agc_session.proofs.Counting.{one_boundary}
 use Rattle.agc_session.proofs.Hits.{hits_join}
 
@@ -54,11 +52,16 @@ advances_on b cycle panel shown later_shown s t u hit f l g =
       hits = subst (λ (k : ℕ). AreHits b k panel s (cycles_of hit)) (sym count) (hits_join b n m panel s [] (cycles_of hit) f.hits here);
     }
 
-advances : (b : Breakpoint) (cycle : ℕ) (panel shown later_shown : Face) (s t u : State) (hit : Option ℕ) → HasMissed b cycle panel shown s t
+pub advances : (b : Breakpoint) (cycle : ℕ) (panel shown later_shown : Face) (s t u : State) (hit : Option ℕ) → HasMissed b cycle panel shown s t
     → HasAdvanced b cycle shown later_shown t u hit → HasAdvanced b cycle panel later_shown s u hit
 advances b cycle panel shown later_shown s t u hit (inl (p, e)) g =
     subst (λ (x : State). HasAdvanced b cycle panel later_shown x u hit) e (subst (λ (x : Face). HasAdvanced b cycle x later_shown t u hit) p g)
 advances b cycle panel shown later_shown s t u hit (inr (f, l)) g = advances_on b cycle panel shown later_shown s t u hit f l g
+
+-- some more boundaries without a hit
+pub goes_on : (b : Breakpoint) (cycle : ℕ) (panel shown later_shown : Face) (s t u : State) → HasMissed b cycle panel shown s t
+    → HasAdvanced b cycle shown later_shown t u None → u.cycle < cycle → HasMissed b cycle panel later_shown s u
+goes_on b cycle panel shown later_shown s t u missed g l = inr (advances b cycle panel shown later_shown s t u None missed g, l)
 
 -- the next boundary hits
 pub ends_with_hit : (b : Breakpoint) (cycle : ℕ) (panel shown later_shown : Face) (s t u : State) (began : ℕ) → HasMissed b cycle panel shown s t
@@ -78,27 +81,6 @@ pub misses : (b : Breakpoint) (cycle : ℕ) (panel shown later_shown : Face) (s 
     → u ≡ (boundary None t).0 → later_shown ≡ panel_after shown t → (Meets b shown t → ⊥) → u.cycle < cycle → HasMissed b cycle panel later_shown s u
 misses b cycle panel shown later_shown s t u missed e p miss l = inr (ends_without b cycle panel shown later_shown s t u missed e p miss, l)
 
-pub span_goes_down : (t u : State) → t.stopped ≡ None → u ≡ (boundary None t).0 → span u < span t
-span_goes_down t u runs e = subst (λ (x : State). span x < span t) (sym e) (span_falls t runs)
-
 pub boundary_hits : (panel : Face) (s : State) → Meets breakpoint.Boundary panel s
 unfolding Meets
 boundary_hits panel s = tt
-
--- whether a cell has another word, by the bits of the one before
-pub cell_hit : (cell : ℕ) (panel : Face) (s t : State) (word : Number) (result : Bool) → t ≡ (boundary None s).0
-    → pattern_of 15 word ≡ pattern_of 15 (word_at cell s.processor.store) → result ≡ not (same_word (word_at cell t.processor.store) word)
-    → IsTrue result ↔ Meets (breakpoint.Cell cell) panel s
-unfolding Meets
-cell_hit cell panel s t word result e w r =
-    let same : result ≡ is_changed cell s.processor.store (boundary None s).0.processor.store =
-    r ∙ ap (λ (n : ℕ). not (nat_eq (pattern_of 15 (word_at cell t.processor.store)) n)) w
-    ∙ ap (λ (x : State). is_changed cell s.processor.store x.processor.store) e in
-    (λ h. sym same ∙ h, λ h. same ∙ h)
-
-not_false : (b : Bool) → not b ≡ false → b ≡ true
-not_false true e = refl
-not_false false e = cc
-
-pub same_pattern : (one other : ℕ) (result : Bool) → result ≡ not (nat_eq one other) → result ≡ false → other ≡ one
-same_pattern one other result r e = sym (eqb-true one other (not_false (nat_eq one other) (sym r ∙ e)))

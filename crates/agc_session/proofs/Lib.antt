@@ -14,3 +14,4 @@ pub mod RunTo
 pub mod Places
 pub mod Writes
 pub mod Advancing
+pub mod Passing

@@ -3,10 +3,12 @@ use Rattle.std.specs.Prelude.{◌≡◌, ◌⊎◌, ℕ, suc, ◌+◌, ◌<◌, 
 use Rattle.agc_script.specs.declared.event.Event.{Event}
 use Rattle.agc_machine.specs.Boundary.{boundary}
 use Rattle.agc_machine.specs.Laws.{after}
+use Rattle.agc_machine.specs.OrderRun.{ArePassed, IsAtOrder}
 use Rattle.agc_machine.specs.Run.{boundaries_left}
 use Rattle.agc_machine.specs.State.{State}
+use Rattle.agc_machine.specs.declared.order_run.Watch.{Watch}
 use Rattle.agc_panel.specs.declared.face.Face.{Face}
-use Rattle.agc_session.specs.Breakpoint.{AreHits, panel_at, panel_later}
+use Rattle.agc_session.specs.Breakpoint.{AreHits, panel_after, panel_at, panel_later}
 use Rattle.agc_session.specs.Session.{BeginBefore}
 use Rattle.agc_session.specs.declared.breakpoint.Breakpoint.{Breakpoint}
 use Rattle.agc_session.specs.declared.breakpoint.Breakpoint.TheVariants as breakpoint
@@ -78,6 +80,16 @@ pub record HasAdvanced (breakpoint : Breakpoint) (cycle : ℕ) (panel shown : Fa
   pub panel_now : panel_later (suc more) panel s ≡ shown
   pub before : BeginBefore more cycle (boundary None s).0
   pub hits : AreHits breakpoint (suc more) panel s (cycles_of hit)
+
+-- Orders that trigger no watch were taken, and then one boundary, which is an order too unless it is the only one. It
+-- began at this cycle.
+pub record HasPassed (watch : Watch) (cycle : ℕ) (panel shown : Face) (s t : State) (began : ℕ) : Type 0 where
+  pub more : ℕ
+  pub passed : ArePassed watch cycle more s
+  pub last : 0 < more → IsAtOrder (after more s)
+  pub begins : began ≡ (after more s).cycle
+  pub now : t ≡ (boundary None (after more s)).0
+  pub panel_now : shown ≡ panel_after panel (after more s)
 
 -- what a stretch with these hits says of the hit with a number, counted back from its end
 abbrev pub IsFoundIn : ℕ → List ℕ → Found → Type 0

@@ -29,7 +29,6 @@ ghost use Rattle.agc_session.specs.Breakpoint.{
   word_at,
 };
 ghost use Rattle.agc_store.specs.Places.{erasable_cells};
-ghost use Rattle.agc_word.specs.Number.{pattern_of};
 
 use agc_listing::{Location, location_at};
 use agc_machine::{Machine, Stepped, Upcoming};
@@ -57,47 +56,6 @@ pub enum Breakpoint {
     Interrupt(Option<Rupt>),
     /// A change of the panel.
     Panel,
-}
-
-/// Takes one boundary, and returns whether the order at a place ran. The panel shows its write.
-#[inline(always)]
-#[tactic(auto, unfolding(crate::specs::Breakpoint::Meets))]
-pub(crate) fn step_order(place: Location, machine: &mut Machine, panel: &mut Panel) -> bool
-    ensures now { machine.new ≡ (boundary None machine.old).0 }
-    ensures panel { panel.new ≡ panel_after panel.old machine.old }
-    ensures hit { IsTrue result ↔ Meets (Breakpoint.Order place) panel.old machine.old }
-{
-    let hit = is_order_next(machine, place);
-    pass(machine, panel);
-    hit
-}
-
-/// Takes one boundary, and returns whether the service of this interrupt, or of any, began. The panel shows its write.
-#[inline(always)]
-#[tactic(auto, unfolding(crate::specs::Breakpoint::Meets))]
-pub(crate) fn step_service(which: Option<Rupt>, machine: &mut Machine, panel: &mut Panel) -> bool
-    ensures now { machine.new ≡ (boundary None machine.old).0 }
-    ensures panel { panel.new ≡ panel_after panel.old machine.old }
-    ensures hit { IsTrue result ↔ Meets (Breakpoint.Interrupt which) panel.old machine.old }
-{
-    let hit = is_service_next(machine, which);
-    pass(machine, panel);
-    hit
-}
-
-/// Takes one boundary, and returns whether a cell, which had this word, has another. The panel shows its write.
-#[inline(always)]
-#[tactic(auto, unfolding(crate::specs::Breakpoint::Meets))]
-pub(crate) fn step_cell(cell: u16, before: Narrow, machine: &mut Machine, panel: &mut Panel) -> bool
-    requires range { cell < erasable_cells }
-    requires before { pattern_of 15 before ≡ pattern_of 15 (word_at cell machine.old.processor.store) }
-    ensures now { machine.new ≡ (boundary None machine.old).0 }
-    ensures panel { panel.new ≡ panel_after panel.old machine.old }
-    ensures hit { IsTrue result ↔ Meets (Breakpoint.Cell cell) panel.old machine.old }
-    ensures same { result ≡ false → pattern_of 15 before ≡ pattern_of 15 (word_at cell machine.new.processor.store) }
-{
-    pass(machine, panel);
-    has_changed(machine.store(), cell, before)
 }
 
 /// Returns whether a boundary that returned a write hits a breakpoint on a write.
@@ -231,7 +189,7 @@ fn may_come_next(machine: &Machine, place: Location) -> bool
 
 /// Returns the address of a location in the window of its bank.
 #[inline(always)]
-fn window_address(place: Location) -> u32
+pub(crate) fn window_address(place: Location) -> u32
     ensures { result ≡ window_address place }
 {
     match place {
@@ -242,7 +200,7 @@ fn window_address(place: Location) -> u32
 
 /// Returns the number of a location in its part of the memory.
 #[inline(always)]
-fn place_number(place: Location) -> u32
+pub(crate) fn place_number(place: Location) -> u32
     ensures { result ≡ place_number place }
 {
     match place {

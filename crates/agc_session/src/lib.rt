@@ -3,6 +3,7 @@
 
 mod arguments;
 mod breakpoint;
+mod by_orders;
 mod cancellation;
 mod checkpoint;
 mod fault;

@@ -10,9 +10,8 @@ ghost use Rattle.agc_script.specs.declared.event.Event.{Event};
 ghost use Rattle.agc_panel.specs.Face.{panel_of};
 ghost use Rattle.agc_store.specs.Places.{erasable_cells};
 
-use crate::breakpoint::{
-    Breakpoint, is_hit_by_write, pass, step_cell, step_order, step_service, word_of,
-};
+use crate::breakpoint::{Breakpoint, is_hit_by_write, pass, word_of};
+use crate::by_orders::{pass_to_change, pass_to_order, pass_to_service};
 use crate::cancellation::Cancellation;
 use crate::checkpoint::{Checkpoint, Checkpoints};
 use crate::fault::SearchFault;
@@ -331,8 +330,7 @@ fn advance_to_order(
     ensures { HasAdvanced (Breakpoint.Order place) end panel.old panel.new machine.old machine.new result }
 {
     loop {
-        let cycle = machine.cycle();
-        if step_order(place, machine, panel) {
+        if let Some(cycle) = pass_to_order(place, machine, panel, end) {
             return Some(cycle);
         }
         if !is_short_of(machine, end) {
@@ -353,8 +351,7 @@ fn advance_to_service(
     ensures { HasAdvanced (Breakpoint.Interrupt which) end panel.old panel.new machine.old machine.new result }
 {
     loop {
-        let cycle = machine.cycle();
-        if step_service(which, machine, panel) {
+        if let Some(cycle) = pass_to_service(which, machine, panel, end) {
             return Some(cycle);
         }
         if !is_short_of(machine, end) {
@@ -371,8 +368,7 @@ fn advance_to_change(cell: u16, machine: &mut Machine, panel: &mut Panel, end: u
 {
     let word = word_of(machine.store(), cell);
     loop {
-        let cycle = machine.cycle();
-        if step_cell(cell, word, machine, panel) {
+        if let Some(cycle) = pass_to_change(cell, word, machine, panel, end) {
             return Some(cycle);
         }
         if !is_short_of(machine, end) {

@@ -4,11 +4,11 @@ use Rattle.agc_session.specs.declared.breakpoint.Breakpoint.TheVariants as break
 use Rattle.agc_session.proofs.Advancing.{HasMissed}
 use Rattle.agc_session.proofs.search.advance_to_order.Given as goal
 
-abbrev pub invariant-loop-place : goal.invariant-loop-place
-invariant-loop-place l = record {
+abbrev pub invariant-loop-cycle : goal.invariant-loop-cycle
+invariant-loop-cycle l = record {
   missed : HasMissed (breakpoint.Order l.place) l.end l.initial.panel l.panel l.initial.machine l.machine;
   runs : l.machine.stopped ≡ None;
 }
 
-abbrev pub decreases-loop-place : goal.decreases-loop-place
-decreases-loop-place l = span l.machine
+abbrev pub decreases-loop-cycle : goal.decreases-loop-cycle
+decreases-loop-cycle l = span l.machine

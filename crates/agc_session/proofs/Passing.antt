@@ -1,0 +1,202 @@
+-- Orders that trigger no watch do not hit a breakpoint, so only the boundary after them may.
+use Rattle.std.specs.Prelude.{◌≡◌, ℕ, zero, suc, ◌+◌, ◌<◌, ◌%◌, ◌||◌, nat_eq, Option, None, Some, IsTrue, Bool, true, false, not}
+use Rattle.std.proofs.Common.{refl, ap, sym, subst, ◌∙◌, arith, inl, inr}
+use Rattle.std.proofs.lemmas.Bool.{eqb-true}
+use Rattle.std.proofs.lemmas.Bool.Decides.{nat_tests}
+use Rattle.agc_listing.specs.declared.location.Location.{Location}
+use Rattle.agc_word.specs.Number.{Number, pattern_of}
+use Rattle.agc_processor.specs.Processor.{z_at}
+use Rattle.agc_processor.specs.declared.interrupt.Rupt.{Rupt}
+use Rattle.agc_machine.specs.Boundary.{boundary, upcoming_of}
+use Rattle.agc_machine.specs.Laws.{after}
+use Rattle.agc_machine.specs.OrderRun.{ArePassed, IsAtOrder, IsPassed, is_triggered}
+use Rattle.agc_machine.specs.State.{State}
+use Rattle.agc_machine.specs.declared.answer.Stepped.{Stepped}
+use Rattle.agc_machine.specs.declared.order_run.Watch.{Watch}
+use Rattle.agc_machine.specs.declared.order_run.Watch.TheVariants as watch
+use Rattle.agc_machine.specs.declared.upcoming.Upcoming.{Upcoming}
+use Rattle.agc_panel.specs.declared.face.Face.{Face}
+use Rattle.agc_session.specs.Breakpoint.{Meets, is_changed, is_order_at, is_service_of, panel_after, place_number, same_word, window_address, word_at}
+use Rattle.agc_session.specs.Search.{HasAdvanced, HasPassed}
+use Rattle.agc_session.specs.Session.{shown_after}
+use Rattle.agc_session.specs.declared.breakpoint.Breakpoint.{Breakpoint}
+use Rattle.agc_session.specs.declared.breakpoint.Breakpoint.TheVariants as breakpoint
+use Rattle.agc_session.proofs.Advancing.{HasMissed, ends_with_hit, ends_without, misses}
+use Rattle.agc_session.proofs.Places.{address_of_order}
+
+-- one boundary
+passes_from : (watch : Watch) (cycle : ℕ) (panel shown : Face) (s t : State) (began : ℕ) → t ≡ (boundary None s).0 → shown ≡ panel_after panel s
+    → began ≡ s.cycle → HasPassed watch cycle panel shown s t began
+unfolding after ArePassed
+passes_from watch cycle panel shown s t began e p c = record {
+  more = 0;
+  passed = tt;
+  last = λ some. absurd (omega (arith, some));
+  begins = c;
+  now = e;
+  panel_now = p;
+}
+
+pub passes_one : (watch : Watch) (cycle : ℕ) (panel shown : Face) (s same t : State) (began : ℕ) → same ≡ s → t ≡ (boundary None same).0
+    → shown ≡ panel_after panel same → began ≡ same.cycle → HasPassed watch cycle panel shown s t began
+passes_one watch cycle panel shown s same t began e now p c =
+    subst (λ (x : State). HasPassed watch cycle panel shown x t began) e (passes_from watch cycle panel shown same t began now p c)
+
+pub one_hit : (b : Breakpoint) (cycle : ℕ) (panel shown : Face) (s t : State) (began : ℕ) → s.stopped ≡ None → t ≡ (boundary None s).0
+    → shown ≡ panel_after panel s → began ≡ s.cycle → Meets b panel s → HasAdvanced b cycle panel shown s t (Some began)
+one_hit b cycle panel shown s t began runs e p c meets =
+    ends_with_hit b cycle panel panel shown s s t began (inl (refl, refl)) runs e p c meets
+
+pub order_meets : (place : Location) (panel : Face) (s : State) → is_order_at place (upcoming_of s) ≡ true → Meets (breakpoint.Order place) panel s
+unfolding Meets
+order_meets place panel s h = h
+
+pub service_meets : (which : Option Rupt) (panel : Face) (s : State) → is_service_of which (upcoming_of s) ≡ true
+    → Meets (breakpoint.Interrupt which) panel s
+unfolding Meets
+service_meets which panel s h = h
+
+-- Orders that trigger no watch miss a breakpoint, if something that rules out a hit stays true.
+abbrev pub RulesOut : Breakpoint → Watch → ℕ → (State → Type 0) → Type 0
+RulesOut b watch cycle clear =
+    (panel : Face) (t : State) → clear t → IsPassed watch cycle t → (Meets b panel t → ⊥) × clear (boundary None t).0
+
+missed_by : (b : Breakpoint) (watch : Watch) (cycle : ℕ) (clear : State → Type 0) → RulesOut b watch cycle clear
+    → (n : ℕ) (panel shown : Face) (s t : State) → HasMissed b cycle panel shown s t → clear t → ArePassed watch cycle n t
+    → HasMissed b cycle panel shown s (after n t) × clear (after n t)
+unfolding after ArePassed
+missed_by b watch cycle clear rules zero panel shown s t missed c h = (missed, c)
+missed_by b watch cycle clear rules (suc n) panel shown s t missed c h =
+    let next = rules shown t c h.0 in
+    let same : shown ≡ panel_after shown t = sym (ap (λ (answer : Stepped). shown_after answer shown) h.0.quiet) in
+    missed_by b watch cycle clear rules n panel shown s (boundary None t).0
+    (misses b cycle panel shown shown s t (boundary None t).0 missed refl same next.0 h.0.before) next.1 h.1
+
+missed_from : (b : Breakpoint) (watch : Watch) (cycle : ℕ) (clear : State → Type 0) → RulesOut b watch cycle clear
+    → (n : ℕ) (panel : Face) (s : State) → clear s → ArePassed watch cycle n s → HasMissed b cycle panel panel s (after n s) × clear (after n s)
+missed_from b watch cycle clear rules n panel s c h = missed_by b watch cycle clear rules n panel panel s s (inl (refl, refl)) c h
+
+runs_last : (n : ℕ) (s : State) → s.stopped ≡ None → (0 < n → IsAtOrder (after n s)) → (after n s).stopped ≡ None
+unfolding after
+runs_last zero s runs last = runs
+runs_last (suc n) s runs last = (last (omega arith)).runs
+
+-- an order is no service
+not_service : (which : Option Rupt) (s : State) → IsAtOrder s → IsTrue (is_service_of which (upcoming_of s)) → ⊥
+not_service which s order h =
+    let both : true ≡ false = sym h ∙ ap (λ (u : Upcoming). is_service_of which u) order.comes in cc
+
+service_rules : (which : Option Rupt) (watch : Watch) (cycle : ℕ) → RulesOut (breakpoint.Interrupt which) watch cycle (λ s. Unit {0})
+unfolding Meets
+service_rules which watch cycle panel t c p = (not_service which t p.order, tt)
+
+last_service : (which : Option Rupt) (n : ℕ) (panel : Face) (s : State) → (0 < n → IsAtOrder (after n s))
+    → (IsTrue (is_service_of which (upcoming_of s)) → ⊥) → Meets (breakpoint.Interrupt which) panel (after n s) → ⊥
+unfolding Meets after
+last_service which zero panel s last none h = none h
+last_service which (suc n) panel s last none h = not_service which (after (suc n) s) (last (omega arith)) h
+
+pub no_service : (which : Option Rupt) (watch : Watch) (cycle : ℕ) (panel shown : Face) (s t : State) (began : ℕ)
+    → HasPassed watch cycle panel shown s t began → is_service_of which (upcoming_of s) ≡ false
+    → HasAdvanced (breakpoint.Interrupt which) cycle panel shown s t None
+no_service which watch cycle panel shown s t began h none =
+    let way = missed_from (breakpoint.Interrupt which) watch cycle (λ s. Unit {0}) (service_rules which watch cycle) h.more panel s tt h.passed in
+    ends_without (breakpoint.Interrupt which) cycle panel panel shown s (after h.more s) t way.0 h.now h.panel_now
+    (last_service which h.more panel s h.last (λ k. let both : true ≡ false = sym k ∙ none in cc))
+
+-- Z rules out the order at a place
+abbrev IsElsewhere : Location → State → Type 0
+IsElsewhere place s = IsTrue (is_order_at place (upcoming_of s)) → ⊥
+
+either_known : (a b : Bool) → (a || b) ≡ false → (a ≡ false) × (b ≡ false)
+either_known true b e = cc
+either_known false b e = (refl, e)
+
+different : (one other : ℕ) → nat_eq one other ≡ false → one ≡ other → ⊥
+different one other e same = let both : nat_eq one other ≡ true = grind (arith, nat_tests) in let never : true ≡ false = sym both ∙ e in cc
+
+elsewhere_by : (z own window : ℕ) (place : Location) (s : State) → z ≡ (z_at s.processor + 0o7777) % 0o10000 → own ≡ place_number place
+    → window ≡ window_address place → nat_eq z own ≡ false → nat_eq z window ≡ false → IsElsewhere place s
+elsewhere_by z own window place s e o w not_own not_window h =
+    elim (address_of_order s place h) as (λ _. ⊥) [
+      | inl k ↦ different z own not_own (e ∙ k ∙ sym o)
+      | inr k ↦ different z window not_window (e ∙ k ∙ sym w)
+    ]
+
+elsewhere : (own window : ℕ) (place : Location) (s : State) → own ≡ place_number place → window ≡ window_address place
+    → is_triggered (watch.Next own window) s.processor.store ≡ false → IsElsewhere place s
+elsewhere own window place s o w e =
+    let z : ℕ = (z_at s.processor + 0o7777) % 0o10000 in
+    let both = either_known (nat_eq z own) (nat_eq z window) e in
+    elsewhere_by z own window place s refl o w both.0 both.1
+
+order_rules : (own window : ℕ) (place : Location) (cycle : ℕ) → own ≡ place_number place → window ≡ window_address place
+    → RulesOut (breakpoint.Order place) (watch.Next own window) cycle (IsElsewhere place)
+unfolding Meets
+order_rules own window place cycle o w panel t c p = (c, elsewhere own window place (boundary None t).0 o w p.unseen)
+
+elsewhere_misses : (place : Location) (panel : Face) (s : State) → IsElsewhere place s → Meets (breakpoint.Order place) panel s → ⊥
+unfolding Meets
+elsewhere_misses place panel s c h = c h
+
+pub no_order : (own window : ℕ) (place : Location) (cycle : ℕ) (panel shown : Face) (s t : State) (began : ℕ) → own ≡ place_number place
+    → window ≡ window_address place → HasPassed (watch.Next own window) cycle panel shown s t began → is_order_at place (upcoming_of s) ≡ false
+    → HasAdvanced (breakpoint.Order place) cycle panel shown s t None
+no_order own window place cycle panel shown s t began o w h none =
+    let way = missed_from (breakpoint.Order place) (watch.Next own window) cycle (IsElsewhere place) (order_rules own window place cycle o w) h.more panel s
+    (λ k. let both : true ≡ false = sym k ∙ none in cc) h.passed in
+    ends_without (breakpoint.Order place) cycle panel panel shown s (after h.more s) t way.0 h.now h.panel_now
+    (elsewhere_misses place panel (after h.more s) way.1)
+
+-- a cell keeps its word
+abbrev HasWord : ℕ → Number → State → Type 0
+HasWord cell word s = pattern_of 15 word ≡ pattern_of 15 (word_at cell s.processor.store)
+
+not_false : (b : Bool) → not b ≡ false → b ≡ true
+not_false true e = refl
+not_false false e = cc
+
+pub keeps_word : (cell : ℕ) (word : Number) (s : State) → not (same_word (word_at cell s.processor.store) word) ≡ false → HasWord cell word s
+keeps_word cell word s e =
+    sym (eqb-true (pattern_of 15 (word_at cell s.processor.store)) (pattern_of 15 word)
+    (not_false (nat_eq (pattern_of 15 (word_at cell s.processor.store)) (pattern_of 15 word)) e))
+
+changed_by : (cell : ℕ) (word : Number) (s t : State) → HasWord cell word s
+    → not (same_word (word_at cell t.processor.store) word) ≡ is_changed cell s.processor.store t.processor.store
+changed_by cell word s t h = ap (λ (n : ℕ). not (nat_eq (pattern_of 15 (word_at cell t.processor.store)) n)) h
+
+cell_misses : (cell : ℕ) (word : Number) (panel : Face) (s t : State) → HasWord cell word s → t ≡ (boundary None s).0
+    → not (same_word (word_at cell t.processor.store) word) ≡ false → Meets (breakpoint.Cell cell) panel s → ⊥
+unfolding Meets
+cell_misses cell word panel s t h e same meets =
+    let here : not (same_word (word_at cell t.processor.store) word) ≡ is_changed cell s.processor.store (boundary None s).0.processor.store =
+    changed_by cell word s t h ∙ ap (λ (x : State). is_changed cell s.processor.store x.processor.store) e in
+    let both : true ≡ false = sym meets ∙ sym here ∙ same in cc
+
+cell_hits : (cell : ℕ) (word : Number) (panel : Face) (s t : State) → HasWord cell word s → t ≡ (boundary None s).0
+    → not (same_word (word_at cell t.processor.store) word) ≡ true → Meets (breakpoint.Cell cell) panel s
+unfolding Meets
+cell_hits cell word panel s t h e other =
+    let here : not (same_word (word_at cell t.processor.store) word) ≡ is_changed cell s.processor.store (boundary None s).0.processor.store =
+    changed_by cell word s t h ∙ ap (λ (x : State). is_changed cell s.processor.store x.processor.store) e in
+    sym here ∙ other
+
+cell_rules : (cell : ℕ) (word : Number) (cycle : ℕ) → RulesOut (breakpoint.Cell cell) (watch.Change cell word) cycle (HasWord cell word)
+cell_rules cell word cycle panel t c p =
+    (cell_misses cell word panel t (boundary None t).0 c refl p.unseen, keeps_word cell word (boundary None t).0 p.unseen)
+
+pub no_change : (cell : ℕ) (word : Number) (cycle : ℕ) (panel shown : Face) (s t : State) (began : ℕ)
+    → HasPassed (watch.Change cell word) cycle panel shown s t began → HasWord cell word s
+    → not (same_word (word_at cell t.processor.store) word) ≡ false → HasAdvanced (breakpoint.Cell cell) cycle panel shown s t None
+no_change cell word cycle panel shown s t began h w same =
+    let way = missed_from (breakpoint.Cell cell) (watch.Change cell word) cycle (HasWord cell word) (cell_rules cell word cycle) h.more panel s w h.passed in
+    ends_without (breakpoint.Cell cell) cycle panel panel shown s (after h.more s) t way.0 h.now h.panel_now
+    (cell_misses cell word panel (after h.more s) t way.1 h.now same)
+
+pub last_changes : (cell : ℕ) (word : Number) (cycle : ℕ) (panel shown : Face) (s t : State) (began : ℕ)
+    → HasPassed (watch.Change cell word) cycle panel shown s t began → s.stopped ≡ None → HasWord cell word s
+    → not (same_word (word_at cell t.processor.store) word) ≡ true → HasAdvanced (breakpoint.Cell cell) cycle panel shown s t (Some began)
+last_changes cell word cycle panel shown s t began h runs w other =
+    let way = missed_from (breakpoint.Cell cell) (watch.Change cell word) cycle (HasWord cell word) (cell_rules cell word cycle) h.more panel s w h.passed in
+    ends_with_hit (breakpoint.Cell cell) cycle panel panel shown s (after h.more s) t began way.0 (runs_last h.more s runs h.last) h.now h.panel_now h.begins
+    (cell_hits cell word panel (after h.more s) t way.1 h.now other)

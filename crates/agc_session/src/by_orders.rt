@@ -1,0 +1,113 @@
+//! Takes boundaries up to a hit: whole runs of orders if nothing but orders can come, otherwise one boundary.
+ghost use Rattle.std.specs.Prelude.{◌≡◌, ◌<◌, None, Some};
+ghost use Rattle.agc_machine.specs.OrderRun.{IsWatchInRange};
+ghost use Rattle.agc_session.specs.Breakpoint.{word_at};
+ghost use Rattle.agc_session.specs.Search.{HasAdvanced, HasPassed};
+ghost use Rattle.agc_session.specs.Session.{shown_after};
+ghost use Rattle.agc_store.specs.Places.{erasable_cells};
+ghost use Rattle.agc_word.specs.Number.{pattern_of};
+
+use crate::breakpoint::{
+    Breakpoint, has_changed, is_order_next, is_service_next, pass, place_number, window_address,
+};
+use agc_listing::Location;
+use agc_machine::{Machine, Stepped, Watch};
+use agc_panel::Panel;
+use agc_processor::Rupt;
+use agc_word::Narrow;
+
+/// Takes one boundary or more to a cycle, but none after the order at a place. Returns the cycle at which the order
+/// began, if it ran.
+pub(crate) fn pass_to_order(
+    place: Location,
+    machine: &mut Machine,
+    panel: &mut Panel,
+    end: u64,
+) -> Option<u64>
+    requires runs { machine.old.stopped ≡ None }
+    ensures { HasAdvanced (Breakpoint.Order place) end panel.old panel.new machine.old machine.new result }
+{
+    if is_order_next(machine, place) {
+        let cycle = machine.cycle();
+        pass(machine, panel);
+        return Some(cycle);
+    }
+    let watch = Watch::Next {
+        address: place_number(place),
+        window: window_address(place),
+    };
+    pass_some(&watch, machine, panel, end);
+    None
+}
+
+/// Takes one boundary or more to a cycle, but none after the start of the service of this interrupt, or of any. Returns
+/// the cycle at which it began, if it did.
+pub(crate) fn pass_to_service(
+    which: Option<Rupt>,
+    machine: &mut Machine,
+    panel: &mut Panel,
+    end: u64,
+) -> Option<u64>
+    requires runs { machine.old.stopped ≡ None }
+    ensures { HasAdvanced (Breakpoint.Interrupt which) end panel.old panel.new machine.old machine.new result }
+{
+    if is_service_next(machine, which) {
+        let cycle = machine.cycle();
+        pass(machine, panel);
+        return Some(cycle);
+    }
+    pass_some(&Watch::Nothing, machine, panel, end);
+    None
+}
+
+/// Takes one boundary or more to a cycle, but none after a change of a cell, which had this word. Returns the cycle at
+/// which the boundary of the change began, if there was one.
+pub(crate) fn pass_to_change(
+    cell: u16,
+    before: Narrow,
+    machine: &mut Machine,
+    panel: &mut Panel,
+    end: u64,
+) -> Option<u64>
+    requires range { cell < erasable_cells }
+    requires runs { machine.old.stopped ≡ None }
+    requires before { pattern_of 15 before ≡ pattern_of 15 (word_at cell machine.old.processor.store) }
+    ensures advanced { HasAdvanced (Breakpoint.Cell cell) end panel.old panel.new machine.old machine.new result }
+    ensures same { result ≡ None → pattern_of 15 before ≡ pattern_of 15 (word_at cell machine.new.processor.store) }
+{
+    let watch = Watch::Change { cell, word: before };
+    let cycle = pass_some(&watch, machine, panel, end);
+    if has_changed(machine.store(), cell, before) {
+        Some(cycle)
+    } else {
+        None
+    }
+}
+
+/// Runs orders to a cycle, but none after a watch is triggered, if nothing but orders can come. Otherwise takes one
+/// boundary. Returns the cycle at which the last one began. The panel shows its write.
+fn pass_some(watch: &Watch, machine: &mut Machine, panel: &mut Panel, end: u64) -> u64
+    requires range { IsWatchInRange watch.now }
+    ensures { HasPassed watch.now end panel.old panel.new machine.old machine.new result }
+{
+    match machine.run_orders(watch, end) {
+        Some(run) => {
+            show(&run.stepped, panel);
+            run.began
+        }
+        None => {
+            let cycle = machine.cycle();
+            pass(machine, panel);
+            cycle
+        }
+    }
+}
+
+/// Shows the write of a boundary on a panel, if there is one.
+fn show(stepped: &Stepped, panel: &mut Panel)
+    ensures { panel.new ≡ shown_after stepped.now panel.old }
+{
+    if let Stepped::Wrote(write) = stepped {
+        panel.take(write);
+    }
+}
