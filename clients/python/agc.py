@@ -268,7 +268,9 @@ class Console:
             cycle = answer.cycle - cost
             self._injected.append(Event(cycle, f"{cycle} {' '.join(words)}"))
         elif words[0] == "back":
-            self._injected = [event for event in self._injected if event.cycle < answer.cycle]
+            # only `back C` drops the events at the cycle
+            last = answer.cycle if words[1] in ("until", "step") else answer.cycle - 1
+            self._injected = [event for event in self._injected if event.cycle <= last]
         elif words[0] == "quiet":
             self._quiet = words[1:] != ["off"]
 
@@ -401,7 +403,7 @@ class Console:
 
     def back_until(self, place: Place) -> bool:
         """Goes back to the last time that the order at a place was in hand. The methods `back_until_..` and `back_step` drop
-        events as `back` does, and return whether there was one before now; if not, they change nothing."""
+        the events injected after that cycle, and return whether there was one before now; if not, they change nothing."""
         return self._back(f"until {_place(place)}")
 
     def back_until_write(self, channel: int, word: Optional[int] = None) -> bool:

@@ -79,6 +79,9 @@ def try_keys():
         judge("the script", "10 key 4\n200 key 2\n", agc.script())
         agc.back(200)
         judge("back", (200, 1, "10 key 4\n"), (agc.cycle, agc.count_of_writes(), agc.script()))
+        judge("back to the interrupt of the key", (True, 10), (agc.back_until_interrupt(), agc.cycle))
+        judge("its key comes again", ("- event key 4", "10 key 4\n"), (agc.next(), agc.script()))
+        judge("and writes again", [Write(cycle=30, channel=0o10, value=0o44017)], agc.go(30))
 
 
 def try_events():
@@ -389,12 +392,14 @@ def try_left_scripts():
             agc.step(3)
             agc.raise_interrupt(8)
             agc.back_until("4000")
+            agc.pro(False)
+            agc.back_step()  # to before this event, which stays
             raised(Refused, agc.key, "ENTER")
             told = agc.script()
         # the idle order takes one cycle, and so the machine stands at each of these cycles
         wanted = (
             "0 pulse 37 pinc\n0 poke 0 100 00001\n1 key 1\n1 pulse 37 minc\n20 input 30 00005\n40 input 30 00005\n"
-            "40 pro down\n45 input 31 00007\n60 input 30 00005\n"
+            "40 pro down\n45 input 31 00007\n47 pro up\n60 input 30 00005\n"
         )
         judge("the script of events before, between and after the script's own", (wanted, wanted), (told, agc.script()))
 

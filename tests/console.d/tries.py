@@ -184,12 +184,13 @@ class Told:
         judge(f"the script after {command}", self.script, self.asked())
 
     def take_back(self, command):
-        """What was given at the cycle or later is dropped, and so is what was written."""
+        """What was given at the cycle or later is dropped, after a search what was given later; so is what was written."""
         cycle = cycle_of(command, self.session.cycle)
+        cut = cycle if command.split()[1].isdigit() else cycle + 1
         for event in self.given:
-            if event[0] >= cycle:
+            if event[0] >= cut:
                 self.script.remove(event)
-        self.given = [event for event in self.given if event[0] < cycle]
+        self.given = [event for event in self.given if event[0] < cut]
         judge(f"the script after {command}", self.script, self.asked())
         self.writes = [write for write in self.writes if int(write.split()[0]) < cycle]
 

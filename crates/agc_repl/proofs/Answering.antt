@@ -44,7 +44,7 @@ reports_end a t begun o old new h e =
 pub answered_plain : (names : Option (List Symbol)) (c : Command) (s : Repl) → IsPlain c → answered names c s ≡ ended (done names c s)
 unfolding answered
 answered_plain names (command.Inject what) s h = absurd h
-answered_plain names (command.Back cycle) s h = absurd h
+answered_plain names (command.Back cut cycle) s h = absurd h
 answered_plain names (command.BackTo what count) s h = absurd h
 answered_plain names (command.Break what) s h = absurd h
 answered_plain names (command.Delete number) s h = absurd h
@@ -192,26 +192,26 @@ if_reached there x y e = rw e refl
 if_ahead : (there : Bool) (x y : Answer) → there ≡ false → (if there then x else y) ≡ y
 if_ahead there x y e = rw e refl
 
-answered_back : (names : Option (List Symbol)) (cycle : ℕ) (s : Repl) → nat_le cycle s.session.now.cycle ≡ true
-    → answer_to names (Ok (Some (command.Back cycle))) s ≡ ended (gone_back cycle s, [])
+answered_back : (names : Option (List Symbol)) (cut cycle : ℕ) (s : Repl) → nat_le cycle s.session.now.cycle ≡ true
+    → answer_to names (Ok (Some (command.Back cut cycle))) s ≡ ended (gone_back cut cycle s, [])
 unfolding answer_to answered back_answer
-answered_back names cycle s e = if_reached (nat_le cycle s.session.now.cycle) _ _ e
+answered_back names cut cycle s e = if_reached (nat_le cycle s.session.now.cycle) _ _ e
 
-answered_ahead : (names : Option (List Symbol)) (cycle : ℕ) (s : Repl) → nat_le cycle s.session.now.cycle ≡ false
-    → answer_to names (Ok (Some (command.Back cycle))) s ≡ (s, error_line ahead_text)
+answered_ahead : (names : Option (List Symbol)) (cut cycle : ℕ) (s : Repl) → nat_le cycle s.session.now.cycle ≡ false
+    → answer_to names (Ok (Some (command.Back cut cycle))) s ≡ (s, error_line ahead_text)
 unfolding answer_to answered back_answer
-answered_ahead names cycle s e = if_ahead (nat_le cycle s.session.now.cycle) _ _ e
+answered_ahead names cut cycle s e = if_ahead (nat_le cycle s.session.now.cycle) _ _ e
 
 -- `back` went there, or did nothing
-pub back_reported : (names : Option (List Symbol)) (cycle : ℕ) (s t : Repl) (old new : Option (List ℕ)) → nat_le cycle s.session.now.cycle ≡ true → GoesBack cycle s t old new
-    → IsAnswered names (Ok (Some (command.Back cycle))) s t old new
-back_reported names cycle s t old new e (inl h) = inl (reports_same _ _ t old new (answered_back names cycle s e) h)
-back_reported names cycle s t old new e (inr h) =
-    inr (ran_out names (Ok (Some (command.Back cycle))) s t [] old old new h.0 refl (nothing_begun _ old) h.1)
+pub back_reported : (names : Option (List Symbol)) (cut cycle : ℕ) (s t : Repl) (old new : Option (List ℕ)) → nat_le cycle s.session.now.cycle ≡ true → GoesBack cut cycle s t old new
+    → IsAnswered names (Ok (Some (command.Back cut cycle))) s t old new
+back_reported names cut cycle s t old new e (inl h) = inl (reports_same _ _ t old new (answered_back names cut cycle s e) h)
+back_reported names cut cycle s t old new e (inr h) =
+    inr (ran_out names (Ok (Some (command.Back cut cycle))) s t [] old old new h.0 refl (nothing_begun _ old) h.1)
 
-pub ahead_reported : (names : Option (List Symbol)) (cycle : ℕ) (s t : Repl) (old new : Option (List ℕ)) → nat_le cycle s.session.now.cycle ≡ false
-    → (t ≡ s) × Appends old new (error_line ahead_text) → IsAnswered names (Ok (Some (command.Back cycle))) s t old new
-ahead_reported names cycle s t old new e h = inl (reports_same _ _ t old new (answered_ahead names cycle s e) h)
+pub ahead_reported : (names : Option (List Symbol)) (cut cycle : ℕ) (s t : Repl) (old new : Option (List ℕ)) → nat_le cycle s.session.now.cycle ≡ false
+    → (t ≡ s) × Appends old new (error_line ahead_text) → IsAnswered names (Ok (Some (command.Back cut cycle))) s t old new
+ahead_reported names cut cycle s t old new e h = inl (reports_same _ _ t old new (answered_ahead names cut cycle s e) h)
 
 -- a part of an answer that is not yet written
 pub reports_waiting : (a : Answer) (t : Repl) (o : Option (List ℕ)) (old new : List ℕ) → t ≡ a.0 → new ≡ old ++ a.1 → Outputs a t (append_known o old) (append_known o new)
@@ -242,8 +242,8 @@ pub line_is : (old new line other : List ℕ) → new ≡ old ++ line → line �
 line_is old new line other h e = h ∙ ap (λ (x : List ℕ). old ++ x) e
 
 -- the last line of the answer to `back`
-pub end_written : (cycle : ℕ) (s t : Repl) (a b : Option (List ℕ)) → t ≡ gone_back cycle s → Appends a b (last_line t) → Outputs (ended (gone_back cycle s, [])) t a b
-end_written cycle s t a b e h = (e, subst (λ (u : Repl). Appends a b (last_line u)) e h)
+pub end_written : (cut cycle : ℕ) (s t : Repl) (a b : Option (List ℕ)) → t ≡ gone_back cut cycle s → Appends a b (last_line t) → Outputs (ended (gone_back cut cycle s, [])) t a b
+end_written cut cycle s t a b e h = (e, subst (λ (u : Repl). Appends a b (last_line u)) e h)
 
 -- an event that was injected, or rejected
 pub event_given : (names : Option (List Symbol)) (what : What) (s t : Repl) (old new : Option (List ℕ)) → (t ≡ (given_answer what s).0) × (last_line t ≡ (given_answer what s).1)

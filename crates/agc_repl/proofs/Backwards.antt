@@ -66,12 +66,12 @@ part_of_way (suc n) cycle s t f b =
     ∙ ap (λ (all : List ChannelWrite). gone_on rest.last all t) (sym (writes_then r.1 rest.answers)) in
     subst (Follows armed.Nothing cycle s) there (part_of_way n cycle s u next (subst (BeginBefore n cycle) (sym at) b.1))
 
-pub back_near : (cycle : ℕ) (s u : Repl) (t : SessionState) (writes : ℕ) → t.base ≡ s.session.base → t.retained ≡ retained_before cycle s.session
-    → t.script ≡ script_before cycle s.session → t.injected ≡ [] → IsOnWay cycle (start_with (script_before cycle s.session) s.session.now) t.now t.panel writes
+pub back_near : (cut cycle : ℕ) (s u : Repl) (t : SessionState) (writes : ℕ) → t.base ≡ s.session.base → t.retained ≡ retained_before cut s.session
+    → t.script ≡ script_before cut s.session → t.injected ≡ [] → IsOnWay cycle (start_with (script_before cut s.session) s.session.now) t.now t.panel writes
     → u ≡ after_stretch (stretch_to armed.Nothing cycle t.now) (record { session = t; writes = writes; settings = s.settings })
-    → u ≡ gone_back cycle s
-back_near cycle s u t writes a b c d way e =
-    let start : Repl = at_start s.settings (rewound cycle s.session) in
+    → u ≡ gone_back cut cycle s
+back_near cut cycle s u t writes a b c d way e =
+    let start : Repl = at_start s.settings (rewound cut s.session) in
     let n = way.on_run.boundaries in
     let first : Follows armed.Nothing cycle start start = follows armed.Nothing cycle start in
     let there = gone_on (chain (replicate n None) start.session.now).last (writes_in (chain (replicate n None) start.session.now).answers) start in

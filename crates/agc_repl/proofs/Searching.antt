@@ -2,7 +2,7 @@
 use Rattle.std.specs.Prelude.{◌≡◌, ◌<◌, ℕ, List, [], Option, None, Some, Ok, Err, IfOk, IfSome, codes}
 use Rattle.std.specs.Io.KnownBytes.{Appends}
 use Rattle.std.proofs.Common.{refl, ap, sym, subst, ◌∙◌, inl, inr}
-use Rattle.agc_repl.specs.Answered.{IsAnswered, IsHandled, IsItself, Means, Request, missed}
+use Rattle.agc_repl.specs.Answered.{IsAnswered, IsHandled, IsItself, Means, Request, cycle_after, missed}
 use Rattle.agc_repl.specs.Command.{IsCommandInRange}
 use Rattle.agc_repl.specs.declared.command.Command.{Command}
 use Rattle.agc_repl.specs.declared.command.Command.TheVariants as command
@@ -23,9 +23,11 @@ pub handled_itself : (names : Option (List Symbol)) (request : Request) (s t : R
 handled_itself names request s t old new h k = inl (request, means_itself request s h, k)
 
 -- a search back found a cycle, or none, or memory ran out
-pub found_handled : (names : Option (List Symbol)) (what : SessionBreakpoint) (count cycle : ℕ) (s t : Repl) (old new : Option (List ℕ)) → IsFoundBack what count s.session (Some cycle)
-    → IsAnswered names (Ok (Some (command.Back cycle))) s t old new → IsHandled names (Ok (Some (command.BackTo what count))) s t old new
-found_handled names what count cycle s t old new h k = inl (Ok (Some (command.Back cycle)), (Some cycle, h, refl), k)
+pub found_handled : (names : Option (List Symbol)) (what : SessionBreakpoint) (count cut cycle : ℕ) (s t : Repl) (old new : Option (List ℕ)) → cut ≡ cycle_after cycle
+    → IsFoundBack what count s.session (Some cycle)
+    → IsAnswered names (Ok (Some (command.Back cut cycle))) s t old new → IsHandled names (Ok (Some (command.BackTo what count))) s t old new
+found_handled names what count cut cycle s t old new e h k =
+    inl (Ok (Some (command.Back cut cycle)), (Some cycle, h, ap (λ (x : ℕ). Ok (Some (command.Back x cycle))) e), k)
 
 pub missed_handled : (names : Option (List Symbol)) (what : SessionBreakpoint) (count : ℕ) (s t : Repl) (old new : Option (List ℕ)) → IsFoundBack what count s.session None
     → IsAnswered names (Err (missed what)) s t old new → IsHandled names (Ok (Some (command.BackTo what count))) s t old new

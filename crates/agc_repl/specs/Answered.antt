@@ -95,10 +95,10 @@ given_answer what t =
 abbrev pub ahead_text : List ℕ
 ahead_text = codes "Ahead: the machine has not reached this cycle; go to C runs on to it"
 
--- A session goes back to a cycle that it has reached.
-unfoldable pub back_answer : ℕ → Repl → Answer
-back_answer cycle t =
-    if nat_le cycle t.session.now.cycle then ended (gone_back cycle t, [])
+-- A session goes back to a cycle that it has reached, without the events injected at the cut or later.
+unfoldable pub back_answer : ℕ → ℕ → Repl → Answer
+back_answer cut cycle t =
+    if nat_le cycle t.session.now.cycle then ended (gone_back cut cycle t, [])
     else (t, error_line ahead_text)
 
 -- why there is no further breakpoint, or none to delete
@@ -135,12 +135,16 @@ unfoldable pub missed : SessionBreakpoint → CommandFault
 missed sought.Boundary = invalid.TooFarBack
 missed what = invalid.NotHit
 
--- `back` to the cycle that a search has found
+-- the cycle after this one, as a number of 64 bits
+unfoldable pub cycle_after : ℕ → ℕ
+cycle_after cycle = min (cycle + 1) (2 ^ 64 - 1)
+
+-- `back` to the cycle that a search has found, where the events injected at this cycle stay in the script
 abbrev pub found_request : SessionBreakpoint → Option ℕ → Request
-found_request what (Some cycle) = Ok (Some (command.Back cycle))
+found_request what (Some cycle) = Ok (Some (command.Back (cycle_after cycle) cycle))
 found_request what None = Err (missed what)
 
--- What a request means in a state: a search back means `back` to the cycle that it finds, or a line at fault if it
+-- What a request means in a state: a search back means to go back to the cycle that it finds, or a line at fault if it
 -- finds none. Every other request means itself.
 abbrev pub Means : Request → Repl → Request → Type 0
 Means (Ok (Some (command.BackTo what count))) t meant =
@@ -150,7 +154,7 @@ Means request t meant = meant ≡ request
 -- the answer to a command; a search back is answered by what it means
 unfoldable pub answered : Option (List Symbol) → Command → Repl → Answer
 answered names (command.Inject what) t = given_answer what t
-answered names (command.Back cycle) t = back_answer cycle t
+answered names (command.Back cut cycle) t = back_answer cut cycle t
 answered names (command.BackTo what count) t = (t, [])
 answered names (command.Break what) t = break_answer what t
 answered names (command.Delete number) t = delete_answer number t
@@ -193,9 +197,9 @@ IsLeft (Ok None) s t = t ≡ s
 IsLeft (Err why) s t = t ≡ s
 
 -- `back` has gone there, or memory ran out and it did nothing
-abbrev pub GoesBack : ℕ → Repl → Repl → Option (List ℕ) → Option (List ℕ) → Type 0
-GoesBack cycle s t old new =
-    Outputs (ended (gone_back cycle s, [])) t old new ⊎ ((t ≡ s) × Appends old new (codes "error: memory\n"))
+abbrev pub GoesBack : ℕ → ℕ → Repl → Repl → Option (List ℕ) → Option (List ℕ) → Type 0
+GoesBack cut cycle s t old new =
+    Outputs (ended (gone_back cut cycle s, [])) t old new ⊎ ((t ≡ s) × Appends old new (codes "error: memory\n"))
 
 -- a breakpoint was set, or memory ran out and it was not
 abbrev pub Sets : Trigger → Repl → Repl → Option (List ℕ) → Option (List ℕ) → Type 0
@@ -226,7 +230,7 @@ IsItself request = Unit {0}
 
 -- a request that does not go back
 abbrev pub IsInPlace : Request → Type 0
-IsInPlace (Ok (Some (command.Back cycle))) = ⊥
+IsInPlace (Ok (Some (command.Back cut cycle))) = ⊥
 IsInPlace (Ok (Some (command.BackTo what count))) = ⊥
 IsInPlace request = Unit {0}
 
@@ -235,7 +239,7 @@ abbrev pub IsPlain : Command → Type 0
 IsPlain (command.Break what) = ⊥
 IsPlain (command.Delete number) = ⊥
 IsPlain (command.Quiet quiet) = ⊥
-IsPlain (command.Back cycle) = ⊥
+IsPlain (command.Back cut cycle) = ⊥
 IsPlain (command.BackTo what count) = ⊥
 IsPlain (command.Inject what) = ⊥
 IsPlain command = Unit {0}

@@ -255,7 +255,7 @@ back_of names [] = Err (fault.Usage name.Back)
 back_of names (first ∷ words) =
     if bytes_eq first (codes "step") then back_step words
     else if bytes_eq first (codes "until") then back_until names words
-    else and_then (only_cycles name.Back (first ∷ words)) (λ cycle. Ok (command.Back cycle))
+    else and_then (only_cycles name.Back (first ∷ words)) (λ cycle. Ok (command.Back cycle cycle))
 
 -- how the words after a name are parsed
 unfoldable pub command_by : Option (List Symbol) → CommandName → List (List ℕ) → Result Command CommandFault
@@ -362,6 +362,6 @@ IsCommandInRange (command.Watch spec) = watch_fault_of spec ≡ None
 IsCommandInRange (command.Cells first count) = first + count ≤ erasable_cells
 IsCommandInRange (command.Print first count) = first + count ≤ erasable_cells
 IsCommandInRange (command.Channel channel) = channel ≤ last_io_channel
-IsCommandInRange (command.Back cycle) = cycle ≤ last_cycle
+IsCommandInRange (command.Back cut cycle) = (cut ≤ last_cycle) × (cycle ≤ last_cycle)
 IsCommandInRange (command.BackTo what count) = (0 < count) × IsSoughtInRange what
 IsCommandInRange command = Unit {0}

@@ -87,10 +87,10 @@ rewound cycle s =
       panel = panel_of [];
     }
 
--- and then run to the cycle; the settings stay
-abbrev pub gone_back : ℕ → Repl → Repl
-gone_back cycle t =
-    let s = rewound cycle t.session in after_stretch (stretch_to armed.Nothing cycle s.now) (at_start t.settings s)
+-- restarted without the events injected at the first cycle or later, and then run to the second one; the settings stay
+abbrev pub gone_back : ℕ → ℕ → Repl → Repl
+gone_back cut cycle t =
+    let s = rewound cut t.session in after_stretch (stretch_to armed.Nothing cycle s.now) (at_start t.settings s)
 
 -- Some boundaries were taken with nothing injected.
 pub record GoesOn (s t : SessionState) : Type 0 where

@@ -82,8 +82,11 @@ pub enum Command {
     Channel(u16),
     /// Show the number of channel writes.
     Writes,
-    /// Rewind to the state before this cycle.
-    Back(u64),
+    /// Rewind to the state before `cycle`, and drop the events injected at `cut` or later.
+    Back {
+        cut: u64,
+        cycle: u64,
+    },
     /// Rewind to where the last boundary before now began that hits this: with `count` 2 the last but one, and so on.
     BackTo {
         what: agc_session::Breakpoint,

@@ -25,6 +25,7 @@ ghost use Rattle.agc_repl.specs.Answered.{
   ahead_text,
   answer_to,
   answered,
+  cycle_after,
   done,
   last_line,
   missed,
@@ -180,8 +181,8 @@ fn answer<W: Write>(
     }
 }
 
-/// Goes back to where the last boundary began that hits `what`, or the last but one, and so on, and answers. If there
-/// is none, or memory runs out, nothing changes.
+/// Goes back to where the last boundary began that hits `what`, or the last but one, and so on, and answers. The events
+/// injected at its cycle will happen again. If there is none, or memory runs out, nothing changes.
 fn answer_search<W: Write>(
     alloc: Global,
     names: &Option<SymbolTable>,
@@ -199,9 +200,20 @@ fn answer_search<W: Write>(
         return stay(repl, output);
     };
     match found {
-        Some(cycle) => rewind_to(alloc, names, repl, cycle, output),
+        Some(cycle) => {
+            let cut = cycle_after(cycle);
+            rewind_to(alloc, names, repl, cut, cycle, output)
+        }
         None => answer_missed(alloc, names, repl, &what, output),
     }
+}
+
+/// Returns the cycle after this one; for the last number of 64 bits, that one.
+#[tactic(auto, unfolding(crate::specs::Answered::cycle_after))]
+fn cycle_after(cycle: u64) -> u64
+    ensures { result ≡ cycle_after cycle }
+{
+    cycle.saturating_add(1)
 }
 
 /// Answers that a search back finds nothing, and changes nothing.
@@ -243,7 +255,9 @@ fn answer_itself<W: Write>(
     ensures { IfOk result (λ left. IsAnswered names.now request repl left (W.contents output.old) (W.contents output.new)) }
 {
     match request {
-        Ok(Some(Command::Back(cycle))) => rewind_to(alloc, names, repl, cycle, output),
+        Ok(Some(Command::Back { cut, cycle })) => {
+            rewind_to(alloc, names, repl, cut, cycle, output)
+        }
         in_place => {
             let reported = answer_in_place(alloc, names, &mut repl, in_place, output);
             keep_if(reported, repl)
@@ -549,34 +563,38 @@ fn answer_quiet<W: Write>(
     write_end(alloc, repl, output)
 }
 
-/// Rewinds to the state before `cycle` if the machine has reached it, and answers.
+/// Rewinds to the state before `cycle`, without the events injected at `cut` or later, if the machine has reached it,
+/// and answers.
 fn rewind_to<W: Write>(
     alloc: Global,
     names: &Option<SymbolTable>,
     repl: Repl,
+    cut: u64,
     cycle: u64,
     output: &mut W,
 ) -> Result<Repl, ReplFault>
-    ensures { IfOk result (λ left. IsAnswered names.now (Ok (Some (Command.Back cycle))) repl left
+    ensures { IfOk result (λ left. IsAnswered names.now (Ok (Some (Command.Back cut cycle))) repl left
         (W.contents output.old) (W.contents output.new)) }
 {
     if repl.has_reached(cycle) {
-        rewind_reached(alloc, repl, cycle, output)
+        rewind_reached(alloc, repl, cut, cycle, output)
     } else {
         refuse_ahead(repl, output)
     }
 }
 
-/// Rewinds to the state before `cycle`, and answers. If memory runs out, nothing changes.
+/// Rewinds to the state before `cycle`, without the events injected at `cut` or later, and answers. If memory runs out,
+/// nothing changes.
 fn rewind_reached<W: Write>(
     alloc: Global,
     repl: Repl,
+    cut: u64,
     cycle: u64,
     output: &mut W,
 ) -> Result<Repl, ReplFault>
-    ensures { IfOk result (λ left. GoesBack cycle repl left (W.contents output.old) (W.contents output.new)) }
+    ensures { IfOk result (λ left. GoesBack cut cycle repl left (W.contents output.old) (W.contents output.new)) }
 {
-    match repl.back(alloc, cycle) {
+    match repl.back(alloc, cut, cycle) {
         Ok(earlier) => {
             let reported = write_end(alloc, &earlier, output);
             keep_if(reported, earlier)

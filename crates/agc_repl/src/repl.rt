@@ -123,9 +123,10 @@ impl Repl {
         }
     }
 
-    /// Rewinds to the state before `cycle`. If memory runs out, returns the unchanged state.
-    pub(crate) fn back(self, alloc: Global, cycle: u64) -> Result<Repl, Repl>
-        ensures ok { IfOk result (λ repl. repl ≡ gone_back cycle self) }
+    /// Rewinds to the state before `cycle`, without the events injected at `cut` or later. If memory runs out, returns
+    /// the unchanged state.
+    pub(crate) fn back(self, alloc: Global, cut: u64, cycle: u64) -> Result<Repl, Repl>
+        ensures ok { IfOk result (λ repl. repl ≡ gone_back cut cycle self) }
         ensures err { IfErr result (λ repl. repl ≡ self) }
     {
         let Repl {
@@ -133,7 +134,7 @@ impl Repl {
             writes,
             settings,
         } = self;
-        match session.rewind_near(alloc, cycle, cycle) {
+        match session.rewind_near(alloc, cut, cycle) {
             Ok(rewound) => {
                 let mut earlier = Repl {
                     session: rewound.session,

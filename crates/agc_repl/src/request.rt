@@ -498,7 +498,7 @@ fn read_back(names: &Option<SymbolTable>, words: &[u8]) -> Result<Command, Comma
     }
     let cycle = only_word(CommandName::Back, words)?;
     let cycle = read_cycles(cycle)?;
-    Ok(Command::Back(cycle))
+    Ok(Command::Back { cut: cycle, cycle })
 }
 
 #[tactic(auto, unfolding(crate::specs::Command::back_step, crate::specs::Command::IsCommandInRange))]

@@ -58,11 +58,12 @@ error: NotHit: no boundary before now hits it
     answers(&rt, TURN, 1000, parsed, wanted);
 }
 
-/// The key and its interrupt begin at 20, RESUME at 23, and the stop at 31. Going back to 20 drops the key.
+/// The key and its interrupt begin at 20, RESUME at 23, and the stop at 31. A search that goes back to 20 keeps the key,
+/// which comes again; `back 20` drops it.
 #[test]
 fn a_stopped_session_goes_back(rt: HostRuntime) {
     let parsed = b"quiet\ngo to 20\nkey 1\ngo to 100\nback until 4024\nscript\ngo to 100\nback step
-back until interrupt KEYRUPT1\nscript\nback until interrupt KEYRUPT1\n";
+back until interrupt KEYRUPT1\nscript\nnext\nback until interrupt KEYRUPT1\ngo to 100\nback 20\nscript\n";
     let wanted = "at 0
 at 20
 at 20
@@ -73,8 +74,14 @@ at 23
 stop Limit at 31
 at 31
 at 20
+20 key 1
+at 20
+next - event key 1
 at 20
 error: NotHit: no boundary before now hits it
+stop Limit at 31
+at 20
+at 20
 ";
     answers(&rt, TURN, 31, parsed, wanted);
 }

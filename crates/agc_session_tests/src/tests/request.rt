@@ -47,7 +47,7 @@ fn cycles_are_decimal(rt: HostRuntime) {
     asks(&rt, b"\tgo  to 0010 ", Command::GoTo(10));
     asks(&rt, b"step", Command::Step(1));
     asks(&rt, b"step 1000000000000", Command::Step(1_000_000_000_000));
-    asks(&rt, b"back 0", Command::Back(0));
+    asks(&rt, b"back 0", Command::Back { cut: 0, cycle: 0 });
     refuses(&rt, b"back 1000000000001", CommandFault::BadNumber);
     refuses(&rt, b"go -1", CommandFault::BadNumber);
     refuses(&rt, b"go", CommandFault::Usage(CommandName::Go));

@@ -9,7 +9,7 @@ returns-in_default g c =
 pub returns-in-Some : goal.returns-in-Some
 returns-in-Some g c =
     when_left _ c.rewind_to.result c.rewind_to.ensures
-    (λ t. found_handled c.args.names.now c.args.what c.args.count c.in-Some.cycle c.args.repl t _ _
+    (λ t. found_handled c.args.names.now c.args.what c.args.count _ c.in-Some.cycle c.args.repl t _ _ c.cycle_after-cut.ensures
     (found_as c.args.what c.args.count c.args.repl _ _ c.in-Some.is c.in-Ok.ensures))
 
 pub returns-in-None : goal.returns-in-None
