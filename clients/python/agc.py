@@ -141,7 +141,8 @@ class Location(NamedTuple):
 
 
 class Where(NamedTuple):
-    """Where the program is: the location of the next order and, during a service, that of the interrupted order."""
+    """Where the program is: the location of the next order and, during a service, that of the interrupted order. If a
+    bank was selected for this one, the location has only its address, as "3131", and no name: its bank is not known."""
 
     order: Location
     interrupted: Optional[Location]
@@ -483,7 +484,7 @@ class Console:
 
     def where(self) -> Where:
         """Where the program is. Names need a file of names."""
-        order, *service = self.say("where").lines
+        order, *service = (line.replace(" (its bank is not known)", "") for line in self.say("where").lines)
         return Where(_location(order.split(" ")[1:]), _location(service[0].split(" ")[2:]) if service else None)
 
     def cell(self, place: Place) -> int:

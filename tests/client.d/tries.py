@@ -276,6 +276,17 @@ def try_backwards():
         judge("back from a stop", (True, 3, None), (agc.back_until_write(0o10), agc.cycle, agc.stop))
 
 
+def try_banks():
+    """the session of examples/console/banks"""
+    folder = os.path.join(top, "examples", "console", "banks")
+    with Console(os.path.join(folder, "rope"), names=os.path.join(folder, "names"), program=console) as agc:
+        agc.go_to(10)
+        judge("in a bank", Where(Location("00,2000", "WAIT"), None), agc.where())
+        agc.key("4")
+        agc.go_to(20)
+        judge("it interrupted an order in some bank", Where(Location("4062", "KEYIN+2"), Location("2000", None)), agc.where())
+
+
 def try_numbers():
     """cells as numbers"""
     with a_countdown() as agc:
@@ -441,7 +452,7 @@ def try_versions():
 
 for each in (
     try_versions, try_keys, try_events, try_until, try_writes, try_names, try_breakpoints, try_panel_breakpoints,
-    try_backwards, try_numbers, try_quiet, try_odd_words, try_children, try_left_scripts, try_save, try_faults,
+    try_backwards, try_banks, try_numbers, try_quiet, try_odd_words, try_children, try_left_scripts, try_save, try_faults,
 ):
     try:
         each()

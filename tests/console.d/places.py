@@ -25,12 +25,14 @@ def named_orders(lines, at):
 
 
 def where_of(lines, at):
-    """The answer to `where` before a line: the order in hand and, within a service, the one in hand after its RESUME."""
+    """The answer to `where` before a line: the order in hand and, within a service, the one in hand after its RESUME, of
+    which only the address is known if a bank was selected for it."""
     answer = [f"where {next(named_orders(lines, at))}"]
     last = [line for line in lines[:at] if " - interrupt " in line or " RESUME " in line][-1:]
     if last and " - interrupt " in last[0]:
         resumes = next(index for index in range(at, len(lines)) if " RESUME " in lines[index])
-        answer.append(f"service interrupted {next(named_orders(lines, resumes + 1))}")
+        bank, comma, address = next(named_orders(lines, resumes + 1)).partition(",")
+        answer.append(f"service interrupted {f'{address[:4]} (its bank is not known)' if comma else bank}")
     return answer
 
 

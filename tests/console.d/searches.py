@@ -331,7 +331,11 @@ class Reference:
         """Where the order in hand is: Z is one beyond it. Within a service ZRUPT is one beyond the order that goes on."""
         trace, at = self.trace, self.at
         lines = [f"where {trace.place_before(trace.lines[at - 1].control[0] if at else 0o4001, at)}"]
-        return [*lines, f"service interrupted {trace.place_before(trace.cell('15', at), at)}"] if trace.serves(at) else lines
+        if not trace.serves(at):
+            return lines
+        address = (trace.cell("15", at) - 1) % 0o10000
+        unknown = " (its bank is not known)" if 0o1400 <= address < 0o4000 else ""
+        return [*lines, f"service interrupted {address:04o}{unknown}"]
 
     def numbers(self, place):
         word = self.trace.cell(place, self.at)

@@ -6,8 +6,11 @@ ghost use Rattle.agc_store.specs.Places.{fixed_window};
 ghost use Rattle.agc_trace.specs.Line.{order_place};
 ghost use Rattle.agc_symbols.specs.Nearest.{nearest};
 ghost use Rattle.agc_repl.specs.Whereabouts.{
+  address_line,
   after_blank,
   interrupted_address,
+  interrupted_line,
+  is_in_window,
   name_beside,
   place_line,
   service_text,
@@ -67,10 +70,44 @@ fn push_interrupted(
     machine: &Machine,
 ) -> Result<(), AllocError>
     ensures { OnOk result (string_bytes text.new ≡ string_bytes text.old ++ codes "service interrupted "
-        ++ place_line names.now machine.now.processor (interrupted_address machine.now.processor.store)) }
+        ++ interrupted_line names.now machine.now.processor (interrupted_address machine.now.processor.store)) }
 {
     text.push_str("service interrupted ")?;
-    push_place_line(text, names, machine, interrupted_address(machine.store()))
+    push_interrupted_line(text, names, machine, interrupted_address(machine.store()))
+}
+
+/// Adds the rest of the line of an order interrupted: its place, or in a window only its address, because the service
+/// may have selected another bank.
+#[tactic(auto, unfolding(crate::specs::Whereabouts::interrupted_line))]
+fn push_interrupted_line(
+    text: &mut String,
+    names: &Option<SymbolTable>,
+    machine: &Machine,
+    address: Addr,
+) -> Result<(), AllocError>
+    ensures { OnOk result (string_bytes text.new
+        ≡ string_bytes text.old ++ interrupted_line names.now machine.now.processor address) }
+{
+    if is_in_window(address) {
+        push_address_line(text, address)
+    } else {
+        push_place_line(text, names, machine, address)
+    }
+}
+
+/// Returns whether an address is in a window, so that the selected banks decide which place it names.
+fn is_in_window(address: Addr) -> bool
+    ensures { result ≡ is_in_window address }
+{
+    ERASABLE_WINDOW <= address.bits() && address.bits() < FIXED_FIXED
+}
+
+/// Adds an address whose bank is not known.
+fn push_address_line(text: &mut String, address: Addr) -> Result<(), AllocError>
+    ensures { OnOk result (string_bytes text.new ≡ string_bytes text.old ++ address_line address) }
+{
+    push_place(text, Place::Plain(address.bits()))?;
+    text.push_str(" (its bank is not known)\n")
 }
 
 /// Returns the address of the order that an interrupt came before: one before that in ZRUPT.
