@@ -314,6 +314,43 @@ def try_odd_uses():
     )
 
 
+def try_save():
+    """`save` writes the script to a new file, and no other."""
+    rope = os.path.join(top, "examples", "keys", "rope")
+    saved = os.path.join(scratch, "saved")
+    session = Session(console, [rope, os.devnull])
+    session.say("go 10")
+    session.say("key 4")
+    judge("a script is saved", ([], 10), (session.say(f"save {saved}"), session.cycle))
+    with open(saved) as file:
+        judge("the saved script", "10 key 4\n", file.read())
+    session.say("go 30")
+    panel = session.say("panel")
+    words = [agc, rope, saved, "--limit", str(session.cycle)]
+    run = subprocess.run(words, capture_output=True, text=True).stdout.splitlines()
+    judge("agc shows the same panel of it", panel, [line for line in run if line in panel])
+    session.say("key 5")
+    exists = "NotSaved: there is a file with this name; save writes only new ones"
+    judge("a file that exists", (None, exists), (session.say(f"save {saved}"), session.error))
+    with open(saved) as file:
+        judge("it stays", "10 key 4\n", file.read())
+    judge("a folder", (None, exists), (session.say(f"save {scratch}"), session.error))
+    away = os.path.join(scratch, "no", "folder")
+    failed = "NotSaved: the file could not be written"
+    judge("no folder for it", (None, failed), (session.say(f"save {away}"), session.error))
+    os.symlink(away, os.path.join(scratch, "link"))
+    judge("a link to nothing", (None, exists), (session.say(f"save {scratch}/link"), session.error))
+    judge("a full device", (None, exists), (session.say("save /dev/full"), session.error))
+    judge("no name", (None, "Usage: save FILE"), (session.say("save"), session.error))
+    judge("two words", (None, "Usage: save FILE"), (session.say("save a b"), session.error))
+    judge("the session goes on", (["10 key 4", "40 key 5"], 40), (session.say("script"), session.cycle))
+    judge("the end of a saved session", (b"", 0), session.close())
+    cut = os.path.join(scratch, "cut")
+    line = f"trap '' XFSZ; ulimit -f 0; printf 'key 4\\nsave {cut}\\n' | '{console}' '{rope}' /dev/null"
+    run = subprocess.run(["bash", "-c", line], capture_output=True, text=True)
+    judge("a write that fails", (f"at 0\nerror: {failed}\n", False), (run.stdout, os.path.exists(cut)))
+
+
 def try_full_script():
     """A script takes 65,536 events, be they given or not, and one that is dropped makes room again."""
     script = os.path.join(scratch, "full")
@@ -366,6 +403,7 @@ for each in seeds:
         judge(f"seed {each}", "answers", repr(error))
 if len(sys.argv) == 6:
     try_odd_uses()
+    try_save()
     try_full_script()
     try_full_breakpoints()
     try_places(console, study, top)

@@ -2,6 +2,7 @@
 #![tactic(auto)]
 
 mod error;
+mod saving;
 mod words;
 
 use agc_cli::{ArgsFault, exit_usage, parse_env};
@@ -11,6 +12,7 @@ use agc_repl::{ReplFault, run_repl};
 use agc_session::{Session, open_session};
 use agc_symbols::{SymbolTable, names_at};
 use error::Error;
+use saving::FileSaver;
 use std::io::{Read, Write};
 use std::process::ExitCode;
 use std::rt::Files;
@@ -39,7 +41,9 @@ where
     match requested {
         Ok(requested) => match open_all(rt, &requested) {
             Ok((session, names)) => {
-                status_after(run_repl(rt.alloc(), session, &names, commands, out), err)
+                let mut saver = FileSaver { rt };
+                let ended = run_repl(rt.alloc(), session, &names, commands, out, &mut saver);
+                status_after(ended, err)
             }
             Err(error) => status_of(REFUSED, error.write_to(err)),
         },

@@ -1,21 +1,28 @@
--- A search back is answered by what it means.
-use Rattle.std.specs.Prelude.{◌≡◌, ◌<◌, ℕ, List, [], Option, None, Some, Ok, Err, IfOk, IfSome, codes}
+-- A search back and `save` are answered by what they mean.
+use Rattle.std.specs.Prelude.{◌≡◌, ◌<◌, ℕ, List, [], Option, None, Some, Result, Ok, Err, IfOk, IfSome, codes}
 use Rattle.std.specs.Io.KnownBytes.{Appends}
 use Rattle.std.proofs.Common.{refl, ap, sym, subst, ◌∙◌, inl, inr}
-use Rattle.agc_repl.specs.Answered.{IsAnswered, IsHandled, IsItself, Means, Request, cycle_after, missed}
+use Rattle.agc_repl.specs.Answered.{IsAnswered, IsHandled, IsItself, Means, Request, cycle_after, missed, request_saved}
 use Rattle.agc_repl.specs.Command.{IsCommandInRange}
 use Rattle.agc_repl.specs.declared.command.Command.{Command}
 use Rattle.agc_repl.specs.declared.command.Command.TheVariants as command
 use Rattle.agc_repl.specs.declared.fault.CommandFault.{CommandFault}
+use Rattle.agc_repl.specs.declared.file_name.FileName.{FileName}
 use Rattle.agc_repl.specs.declared.repl.Repl.{Repl}
+use Rattle.agc_repl.specs.declared.saver.SaveFault.{SaveFault}
 use Rattle.agc_session.specs.Breakpoint.{IsBreakpointInRange as IsSoughtInRange, IsFoundBack}
 use Rattle.agc_session.specs.declared.breakpoint.Breakpoint.{Breakpoint as SessionBreakpoint}
 use Rattle.agc_repl.proofs.Answering.{ran_out}
 use Rattle.agc_repl.proofs.Beginning.{nothing_begun}
 use Rattle.agc_symbols.specs.Symbols.{Symbol}
 
+saved_means : (name : FileName) → Ok (Some (command.Save name)) ≡ request_saved name (Ok tt)
+unfolding request_saved
+saved_means name = refl
+
 means_itself : (request : Request) (s : Repl) → IsItself request → Means request s request
 means_itself (Ok (Some (command.BackTo what count))) s h = absurd h
+means_itself (Ok (Some (command.Save name))) s h = (Ok tt, saved_means name)
 means_itself request s h = refl
 
 pub handled_itself : (names : Option (List Symbol)) (request : Request) (s t : Repl) (old new : Option (List ℕ)) → IsItself request
@@ -37,6 +44,22 @@ pub short_handled : (names : Option (List Symbol)) (what : SessionBreakpoint) (c
     → (t ≡ s) × Appends old new (codes "error: memory\n") → IsHandled names (Ok (Some (command.BackTo what count))) s t old new
 short_handled names what count s t old new h =
     inr (ran_out names (Ok (Some (command.BackTo what count))) s t [] old old new h.0 refl (nothing_begun _ old) h.1)
+
+-- a script was saved, or not
+pub save_itself : (request : Request) (name : FileName) (saved : Result (Unit {0}) SaveFault) → request ≡ request_saved name saved → IsItself request
+unfolding request_saved
+save_itself request name (Ok done) e = rw (e) tt
+save_itself request name (Err why) e = rw (e) tt
+
+pub save_in_range : (request : Request) (name : FileName) (saved : Result (Unit {0}) SaveFault) → request ≡ request_saved name saved
+    → IfOk request (λ read. IfSome read IsCommandInRange)
+unfolding request_saved IsCommandInRange
+save_in_range request name (Ok done) e = rw (e) tt
+save_in_range request name (Err why) e = rw (e) tt
+
+pub save_handled : (names : Option (List Symbol)) (request : Request) (name : FileName) (saved : Result (Unit {0}) SaveFault) (s t : Repl) (old new : Option (List ℕ)) → request ≡ request_saved name saved
+    → IsAnswered names request s t old new → IsHandled names (Ok (Some (command.Save name))) s t old new
+save_handled names request name saved s t old new e k = inl (request, (saved, e), k)
 
 -- what the arms of a match know
 pub found_as : (what : SessionBreakpoint) (count : ℕ) (s : Repl) (parsed found : Option ℕ) → parsed ≡ found → IsFoundBack what count s.session parsed → IsFoundBack what count s.session found

@@ -24,7 +24,9 @@ use Rattle.agc_repl.specs.declared.command.Trigger.{Trigger}
 use Rattle.agc_repl.specs.Repl.{RunsOn, after_boundaries, after_due, after_stretch, gone_back, takes_event}
 use Rattle.agc_repl.specs.Stretch.{Stretch, armed_in, stretch_to, writes_text}
 use Rattle.agc_repl.specs.declared.armed_breakpoint.ArmedBreakpoint.TheVariants as armed
+use Rattle.agc_repl.specs.declared.file_name.FileName.{FileName}
 use Rattle.agc_repl.specs.declared.repl.Repl.{Repl}
+use Rattle.agc_repl.specs.declared.saver.SaveFault.{SaveFault}
 use Rattle.agc_symbols.specs.Symbols.{Symbol}
 
 -- a parsed line: a command or its fault
@@ -144,11 +146,18 @@ abbrev pub found_request : SessionBreakpoint → Option ℕ → Request
 found_request what (Some cycle) = Ok (Some (command.Back (cycle_after cycle) cycle))
 found_request what None = Err (missed what)
 
--- What a request means in a state: a search back means to go back to the cycle that it finds, or a line at fault if it
--- finds none. Every other request means itself.
+-- `save` after a try: itself, which is answered as an empty line is, or a line at fault
+unfoldable pub request_saved : FileName → Result (Unit {0}) SaveFault → Request
+request_saved name (Ok done) = Ok (Some (command.Save name))
+request_saved name (Err why) = Err (invalid.NotSaved why)
+
+-- What a request means in a state: a search back means to go back to the cycle that it finds, or a line at fault if
+-- it finds none; `save` means itself, or a line at fault if it fails. Every other request means itself.
 abbrev pub Means : Request → Repl → Request → Type 0
 Means (Ok (Some (command.BackTo what count))) t meant =
     (found : Option ℕ) × IsFoundBack what count t.session found × (meant ≡ found_request what found)
+Means (Ok (Some (command.Save name))) t meant =
+    (saved : Result (Unit {0}) SaveFault) × (meant ≡ request_saved name saved)
 Means request t meant = meant ≡ request
 
 -- the answer to a command; a search back is answered by what it means
@@ -223,7 +232,7 @@ abbrev pub IsHandled : Option (List Symbol) → Request → Repl → Repl → Op
 IsHandled names request s t old new =
     ((meant : Request) × Means request s meant × IsAnswered names meant s t old new) ⊎ RunsOut names request s t old new
 
--- a request that is no search back means itself
+-- a request that can mean itself: every one but a search back
 abbrev pub IsItself : Request → Type 0
 IsItself (Ok (Some (command.BackTo what count))) = ⊥
 IsItself request = Unit {0}

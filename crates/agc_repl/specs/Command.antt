@@ -21,6 +21,7 @@ use Rattle.agc_store.specs.Places.{erasable_cells}
 use Rattle.agc_listing.specs.Line.{is_comma}
 use Rattle.agc_listing.specs.Location.{IsWithin}
 use Rattle.agc_word.specs.Channels.{IsIoChannel, last_io_channel}
+use Rattle.agc_repl.specs.FileName.{name_of}
 use Rattle.agc_repl.specs.Name.{name_named}
 use Rattle.agc_repl.specs.Number.{interrupt_in, word_in}
 use Rattle.agc_repl.specs.Number.{channel_in, cycles_in, spec_in, written_channel_in}
@@ -257,6 +258,10 @@ back_of names (first ∷ words) =
     else if bytes_eq first (codes "until") then back_until names words
     else and_then (only_cycles name.Back (first ∷ words)) (λ cycle. Ok (command.Back cycle cycle))
 
+-- `save FILE`
+unfoldable pub save_of : List (List ℕ) → Result Command CommandFault
+save_of words = and_then (only_word name.Save words) (λ word. Ok (command.Save (name_of word)))
+
 -- how the words after a name are parsed
 unfoldable pub command_by : Option (List Symbol) → CommandName → List (List ℕ) → Result Command CommandFault
 command_by names name.Go words = go_of words
@@ -278,6 +283,7 @@ command_by names name.Channel words = channel_of words
 command_by names name.Writes words = alone command.Writes name.Writes words
 command_by names name.Back words = back_of names words
 command_by names name.Script words = alone command.Script name.Script words
+command_by names name.Save words = save_of words
 command_by names name.Help words = alone command.Help name.Help words
 command_by names name.Quit words = alone command.Quit name.Quit words
 

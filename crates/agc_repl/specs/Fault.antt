@@ -10,6 +10,8 @@ use Rattle.agc_repl.specs.Meant.{meant_by}
 use Rattle.agc_repl.specs.Name.{usage_text}
 use Rattle.agc_repl.specs.declared.fault.CommandFault.{CommandFault}
 use Rattle.agc_repl.specs.declared.fault.CommandFault.TheVariants as fault
+use Rattle.agc_repl.specs.declared.saver.SaveFault.{SaveFault}
+use Rattle.agc_repl.specs.declared.saver.SaveFault.TheVariants as unsaved
 use Rattle.agc_symbols.specs.Symbols.{Symbol}
 
 unfoldable pub fault_name : CommandFault → List ℕ
@@ -35,6 +37,7 @@ fault_name (fault.Watch why) = codes "BadWatch"
 fault_name fault.NoStep = codes "BadNumber"
 fault_name fault.NotHit = codes "NotHit"
 fault_name fault.TooFarBack = codes "NotHit"
+fault_name (fault.NotSaved why) = codes "NotSaved"
 
 -- what would be a valid event
 unfoldable pub event_advice : FaultKind → List ℕ
@@ -59,6 +62,11 @@ unfoldable pub watch_advice : WatchFault → List ℕ
 watch_advice (watch.OutOfErasable table) = codes "each table must be in erasable memory, whole"
 watch_advice watch.TooManySets = codes "there are at most 20 core sets, octal"
 watch_advice watch.Memory = codes "out of memory"
+
+-- why a script was not saved
+unfoldable pub save_advice : SaveFault → List ℕ
+save_advice unsaved.Exists = codes "there is a file with this name; save writes only new ones"
+save_advice unsaved.CannotWrite = codes "the file could not be written"
 
 -- what would be valid
 unfoldable pub fault_advice : CommandFault → List ℕ
@@ -91,6 +99,7 @@ fault_advice (fault.Watch why) = watch_advice why
 fault_advice fault.NoStep = codes "back step goes back by 1 boundary or more"
 fault_advice fault.NotHit = codes "no boundary before now hits it"
 fault_advice fault.TooFarBack = codes "there are fewer boundaries before now"
+fault_advice (fault.NotSaved why) = save_advice why
 
 -- the text of a fault
 unfoldable pub fault_text : CommandFault → List ℕ

@@ -28,6 +28,7 @@ purpose_text name.Writes = codes "shows the number of channel writes so far"
 purpose_text name.Back =
     codes "returns to before cycle C, to where the Nth last boundary began, or to where the last one that hits it began; drops later events. Example: back until cell 0100"
 purpose_text name.Script = codes "prints the script that repeats this session"
+purpose_text name.Save = codes "writes that script to a new file. Example: save my.script"
 purpose_text name.Help = codes "prints these lines"
 purpose_text name.Quit = codes "ends the session, as the end of the input does"
 

@@ -25,6 +25,7 @@ name_text name.Channel = codes "channel"
 name_text name.Writes = codes "writes"
 name_text name.Back = codes "back"
 name_text name.Script = codes "script"
+name_text name.Save = codes "save"
 name_text name.Help = codes "help"
 name_text name.Quit = codes "quit"
 
@@ -33,7 +34,8 @@ unfoldable pub all_names : List CommandName
 all_names =
     name.Go ∷ name.Step ∷ name.Until ∷ name.Break ∷ name.Breaks ∷ name.Delete ∷ name.Continue
     ∷ name.Quiet ∷ name.Panel ∷ name.Watch ∷ name.Registers ∷ name.Next ∷ name.Where
-    ∷ name.Cell ∷ name.Print ∷ name.Channel ∷ name.Writes ∷ name.Back ∷ name.Script ∷ name.Help ∷ name.Quit ∷ []
+    ∷ name.Cell ∷ name.Print ∷ name.Channel ∷ name.Writes ∷ name.Back ∷ name.Script
+    ∷ name.Save ∷ name.Help ∷ name.Quit ∷ []
 
 -- the name that a word spells, if any
 unfoldable pub name_named : List ℕ → Option CommandName
@@ -63,5 +65,6 @@ usage_text name.Writes = codes "writes"
 usage_text name.Back =
     codes "back C, back step [N], or back until PLACE, write CCC [WORD], cell PLACE, interrupt [NAME] or panel"
 usage_text name.Script = codes "script"
+usage_text name.Save = codes "save FILE"
 usage_text name.Help = codes "help"
 usage_text name.Quit = codes "quit"

@@ -1,4 +1,5 @@
 //! The parsed commands of the console.
+use crate::file_name::FileName;
 use crate::panel_line::PanelLine;
 use agc_listing::Location;
 use agc_panel::WatchSpec;
@@ -94,6 +95,8 @@ pub enum Command {
     },
     /// Export the script that replays the session.
     Script,
+    /// Save that script to a new file.
+    Save(FileName),
     /// List the commands.
     Help,
     /// End the session.

@@ -45,10 +45,12 @@ use crate::answer::{push_breakpoint_line, push_end_line, push_refusal_line};
 use crate::command::{Command, Trigger};
 use crate::commands::{go, go_on_to, go_on_until, inject, refusal, step, until};
 use crate::fault::CommandFault;
+use crate::file_name::FileName;
 use crate::lines::{Request, next_request};
 use crate::output::{write_end_line, write_error_line, write_text};
 use crate::queries::push_shown;
 use crate::repl::Repl;
+use crate::saver::{Saver, request_saved};
 use crate::settings::Numbered;
 use agc_script::What;
 use agc_session::{InjectFault, Session};
@@ -83,13 +85,15 @@ const OUT_OF_MEMORY: &str = "error: memory\n";
 const LONGEST_END: usize = 64;
 
 /// Answers each line of the input, up to `quit` or the end of the input. With `names`, a symbol can be written for
-/// its place, and lines that show an order get a column with the symbol of its place.
-pub fn run_repl<R: Read, W: Write>(
+/// its place, and lines that show an order get a column with the symbol of its place. `save` writes by `saver`; no
+/// clause states what it writes.
+pub fn run_repl<R: Read, W: Write, S: Saver>(
     alloc: Global,
     session: Session,
     names: &Option<SymbolTable>,
     input: &mut R,
     output: &mut W,
+    saver: &mut S,
 ) -> Result<(), ReplFault>
     ensures session { OnOk result (IfSome (R.remaining input.old) (λ bytes. AreAnswered names.now (requests_in names.now bytes)
         (at_start at_first session) (W.contents output.old) (W.contents output.new))) }
@@ -103,16 +107,17 @@ pub fn run_repl<R: Read, W: Write>(
         return Err(ReplFault::Memory);
     };
     let repl = Repl::new(alloc, session);
-    answer_each(alloc, names, repl, &mut reader, output)
+    answer_each(alloc, names, repl, &mut reader, output, saver)
 }
 
 /// Answers the remaining requests, each before the next is read.
-fn answer_each<R: Read, W: Write>(
+fn answer_each<R: Read, W: Write, S: Saver>(
     alloc: Global,
     names: &Option<SymbolTable>,
     mut repl: Repl,
     reader: &mut R,
     output: &mut W,
+    saver: &mut S,
 ) -> Result<(), ReplFault>
     ensures { OnOk result (IfSome (R.remaining reader.old) (λ bytes. AreAnswered names.now (requests_in names.now bytes)
         repl (W.contents output.old) (W.contents output.new))) }
@@ -120,7 +125,7 @@ fn answer_each<R: Read, W: Write>(
     for _line in 0..u64::MAX {
         match next_request(alloc, names, reader) {
             Ok(Some(request)) => {
-                repl = reply(alloc, names, repl, request, output)?;
+                repl = reply(alloc, names, repl, request, output, saver)?;
             }
             Ok(None) => {
                 drop(repl);
@@ -137,17 +142,18 @@ fn answer_each<R: Read, W: Write>(
 }
 
 /// Answers a request and flushes the output.
-fn reply<W: Write>(
+fn reply<W: Write, S: Saver>(
     alloc: Global,
     names: &Option<SymbolTable>,
     repl: Repl,
     request: Request,
     output: &mut W,
+    saver: &mut S,
 ) -> Result<Repl, ReplFault>
     requires { IfOk request (λ parsed. IfSome parsed IsCommandInRange) }
     ensures { IfOk result (λ left. IsHandled names.now request repl left (W.contents output.old) (W.contents output.new)) }
 {
-    let left = answer(alloc, names, repl, request, output)?;
+    let left = answer(alloc, names, repl, request, output, saver)?;
     keep_if(flush(output), left)
 }
 
@@ -161,14 +167,16 @@ fn flush<W: Write>(output: &mut W) -> Result<(), ReplFault>
     }
 }
 
-/// Answers a request: a search back by what it finds. If memory runs out, the answer ends by reporting it.
+/// Answers a request: a search back by what it finds, `save` by whether it succeeds. If memory runs out, the answer
+/// ends by reporting it.
 #[tactic(auto, unfolding(crate::specs::Command::IsCommandInRange))]
-fn answer<W: Write>(
+fn answer<W: Write, S: Saver>(
     alloc: Global,
     names: &Option<SymbolTable>,
     repl: Repl,
     request: Request,
     output: &mut W,
+    saver: &mut S,
 ) -> Result<Repl, ReplFault>
     requires { IfOk request (λ parsed. IfSome parsed IsCommandInRange) }
     ensures { IfOk result (λ left. IsHandled names.now request repl left (W.contents output.old) (W.contents output.new)) }
@@ -177,8 +185,25 @@ fn answer<W: Write>(
         Ok(Some(Command::BackTo { what, count })) => {
             answer_search(alloc, names, repl, what, count, output)
         }
+        Ok(Some(Command::Save(name))) => answer_save(alloc, names, repl, name, output, saver),
         itself => answer_itself(alloc, names, repl, itself, output),
     }
+}
+
+/// Saves the script, and answers. Nothing changes in the session.
+fn answer_save<W: Write, S: Saver>(
+    alloc: Global,
+    names: &Option<SymbolTable>,
+    repl: Repl,
+    name: FileName,
+    output: &mut W,
+    saver: &mut S,
+) -> Result<Repl, ReplFault>
+    ensures { IfOk result (λ left. IsHandled names.now (Ok (Some (Command.Save name))) repl left
+        (W.contents output.old) (W.contents output.new)) }
+{
+    let saved = saver.save(name.text(), &repl.session);
+    answer_itself(alloc, names, repl, request_saved(name, saved), output)
 }
 
 /// Goes back to where the last boundary began that hits `what`, or the last but one, and so on, and answers. The events

@@ -1,9 +1,10 @@
 //! Faults of a command line, with their names and advice.
 ghost use Rattle.std.specs.Prelude.{◌≡◌};
-ghost use Rattle.agc_repl.specs.Fault.{event_advice, key_advice, watch_advice};
+ghost use Rattle.agc_repl.specs.Fault.{event_advice, key_advice, save_advice, watch_advice};
 
 use crate::meant::Meant;
 use crate::name::CommandName;
+use crate::saver::SaveFault;
 use agc_panel::WatchFault;
 use agc_script::{FaultKind, Key};
 use std::error::Error;
@@ -56,6 +57,8 @@ pub enum CommandFault {
     NotHit,
     /// A search back finds fewer boundaries than that.
     TooFarBack,
+    /// The script was not saved.
+    NotSaved(SaveFault),
 }
 
 impl CommandFault {
@@ -90,6 +93,7 @@ impl CommandFault {
             CommandFault::NoStep => "BadNumber",
             CommandFault::NotHit => "NotHit",
             CommandFault::TooFarBack => "NotHit",
+            CommandFault::NotSaved(_) => "NotSaved",
         }
     }
 
@@ -128,6 +132,7 @@ impl CommandFault {
             CommandFault::NoStep => "back step goes back by 1 boundary or more",
             CommandFault::NotHit => "no boundary before now hits it",
             CommandFault::TooFarBack => "there are fewer boundaries before now",
+            CommandFault::NotSaved(why) => save_advice(why),
         }
     }
 }
@@ -171,6 +176,17 @@ fn watch_advice(fault: WatchFault) -> &'static str
         WatchFault::OutOfErasable { .. } => "each table must be in erasable memory, whole",
         WatchFault::TooManySets => "there are at most 20 core sets, octal",
         WatchFault::Memory => "out of memory",
+    }
+}
+
+/// Returns why a script was not saved.
+#[tactic(auto, unfolding(crate::specs::Fault::save_advice))]
+fn save_advice(why: SaveFault) -> &'static str
+    ensures { result.now ≡ save_advice why }
+{
+    match why {
+        SaveFault::Exists => "there is a file with this name; save writes only new ones",
+        SaveFault::CannotWrite => "the file could not be written",
     }
 }
 

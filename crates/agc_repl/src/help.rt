@@ -87,6 +87,7 @@ fn purpose(name: CommandName) -> &'static str
         CommandName::Back =>
             "returns to before cycle C, to where the Nth last boundary began, or to where the last one that hits it began; drops later events. Example: back until cell 0100",
         CommandName::Script => "prints the script that repeats this session",
+        CommandName::Save => "writes that script to a new file. Example: save my.script",
         CommandName::Help => "prints these lines",
         CommandName::Quit => "ends the session, as the end of the input does",
     }

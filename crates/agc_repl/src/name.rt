@@ -24,13 +24,14 @@ pub enum CommandName {
     Writes,
     Back,
     Script,
+    Save,
     Help,
     Quit,
 }
 
 impl CommandName {
     /// All names, each once, in the order in which `help` lists them.
-    pub const ALL: [CommandName; 21] = [
+    pub const ALL: [CommandName; 22] = [
         CommandName::Go,
         CommandName::Step,
         CommandName::Until,
@@ -50,6 +51,7 @@ impl CommandName {
         CommandName::Writes,
         CommandName::Back,
         CommandName::Script,
+        CommandName::Save,
         CommandName::Help,
         CommandName::Quit,
     ];
@@ -90,6 +92,7 @@ impl CommandName {
             CommandName::Writes => "writes",
             CommandName::Back => "back",
             CommandName::Script => "script",
+            CommandName::Save => "save",
             CommandName::Help => "help",
             CommandName::Quit => "quit",
         }
@@ -123,6 +126,7 @@ impl CommandName {
                 "back C, back step [N], or back until PLACE, write CCC [WORD], cell PLACE, interrupt [NAME] or panel"
             }
             CommandName::Script => "script",
+            CommandName::Save => "save FILE",
             CommandName::Help => "help",
             CommandName::Quit => "quit",
         }

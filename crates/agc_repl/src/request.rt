@@ -41,6 +41,7 @@ ghost use Rattle.agc_repl.specs.Command.{
   key_fault,
   key_from,
   request_of,
+  save_of,
   step_of,
   until_of,
   until_target,
@@ -52,6 +53,7 @@ ghost use Rattle.agc_repl.specs.Command.{
 
 use crate::command::{Breakpoint, Command, Trigger};
 use crate::fault::CommandFault;
+use crate::file_name::FileName;
 use crate::name::CommandName;
 use crate::number::{
     read_channel, read_cycles, read_interrupt, read_spec, read_word, read_written_channel,
@@ -134,6 +136,7 @@ fn read_named(
         CommandName::Writes => alone(Command::Writes, name, words),
         CommandName::Back => read_back(names, words),
         CommandName::Script => alone(Command::Script, name, words),
+        CommandName::Save => read_save(words),
         CommandName::Help => alone(Command::Help, name, words),
         CommandName::Quit => alone(Command::Quit, name, words),
     }
@@ -482,6 +485,15 @@ fn read_channel_query(words: &[u8]) -> Result<Command, CommandFault>
     let channel = only_word(CommandName::Channel, words)?;
     let channel = read_channel(channel)?;
     Ok(Command::Channel(channel))
+}
+
+#[tactic(auto, unfolding(crate::specs::Command::save_of, crate::specs::Command::IsCommandInRange))]
+fn read_save(words: &[u8]) -> Result<Command, CommandFault>
+    ensures save { result ≡ save_of (words_of words.now) }
+    ensures range { IfOk result IsCommandInRange }
+{
+    let name = only_word(CommandName::Save, words)?;
+    Ok(Command::Save(FileName::new(name)))
 }
 
 #[tactic(auto, unfolding(crate::specs::Command::back_of, crate::specs::Command::IsCommandInRange))]

@@ -6,15 +6,26 @@ mod conversation;
 mod operator;
 mod picture;
 mod request;
+mod saving;
 mod search;
 mod session;
 
+use agc_repl::{SaveFault, Saver};
 use agc_script::Script;
 use agc_session::Session;
 use agc_store::Rope;
 use agc_test_support::rope_file;
 use std::fmt::Debug;
 use std::process::Abort;
+
+/// Saves no script.
+struct NoFiles;
+
+impl Saver for NoFiles {
+    fn save(&mut self, _name: &str, _session: &Session) -> Result<(), SaveFault> {
+        Err(SaveFault::CannotWrite)
+    }
+}
 
 /// Fails if two values differ, and prints both. It is proved once; an `assert_eq!` would be proved at each place.
 fn equal<T: Drop + PartialEq + Debug>(rt: &impl Abort, found: T, wanted: T) {

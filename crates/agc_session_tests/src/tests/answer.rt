@@ -97,7 +97,7 @@ cell E7,1777 54321
 fn help_reports_each_command_once(rt: HostRuntime) {
     let mut text = String::new(rt.alloc());
     has_room(&rt, push_help(&mut text));
-    equal(&rt, text.as_str().lines().count(), 27);
+    equal(&rt, text.as_str().lines().count(), 28);
     assert!(rt;
         text.as_str().contains(
             "\nback C, back step [N], or back until PLACE, write CCC [WORD], cell PLACE, interrupt [NAME] or panel: returns to"

@@ -1,7 +1,7 @@
 //! Tests searches back in the console. The texts were worked out by hand from the programs and the cycles of their
 //! orders.
 use super::search::TURN;
-use super::{equal, equal_at, session_of};
+use super::{NoFiles, equal, equal_at, session_of};
 use agc_listing::Location;
 use agc_repl::{Command, CommandFault, CommandName, parse_command, run_repl};
 use agc_session::Breakpoint;
@@ -21,7 +21,14 @@ fn answers(
     let session = session_of(rt, listing, "", limit);
     let mut input = parsed;
     let mut output = Vec::new(rt.alloc());
-    let ended = run_repl(rt.alloc(), session, &None, &mut input, &mut output);
+    let ended = run_repl(
+        rt.alloc(),
+        session,
+        &None,
+        &mut input,
+        &mut output,
+        &mut NoFiles,
+    );
     equal(rt, ended, Ok(()));
     let text = String::from_utf8(output).ok().expect(rt, "ASCII");
     equal(rt, text.as_str(), wanted);

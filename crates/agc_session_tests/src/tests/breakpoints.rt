@@ -1,5 +1,5 @@
 //! Tests breakpoints, quiet runs and printed cells; the texts were worked out by hand from the program and its cycles.
-use super::{equal, session_of};
+use super::{NoFiles, equal, session_of};
 use agc_repl::run_repl;
 use agc_test_support::RELAY_WORD;
 use std::process::Abort;
@@ -9,7 +9,14 @@ fn answers(rt: &(impl AllocGlobal + Abort), parsed: &[u8], wanted: &str) {
     let session = session_of(rt, RELAY_WORD, "", 1000);
     let mut input = parsed;
     let mut output = Vec::new(rt.alloc());
-    let ended = run_repl(rt.alloc(), session, &None, &mut input, &mut output);
+    let ended = run_repl(
+        rt.alloc(),
+        session,
+        &None,
+        &mut input,
+        &mut output,
+        &mut NoFiles,
+    );
     equal(rt, ended, Ok(()));
     let text = String::from_utf8(output).ok().expect(rt, "ASCII");
     equal(rt, text.as_str(), wanted);

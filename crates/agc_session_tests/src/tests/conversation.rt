@@ -1,5 +1,5 @@
 //! Tests whole conversations: the texts were worked out by hand from the programs and the cycles of their orders.
-use super::{equal, session_of};
+use super::{NoFiles, equal, session_of};
 use agc_repl::run_repl;
 use agc_symbols::SymbolTable;
 use agc_test_support::{DIVISION, EDRUPT, IDLE, RELAY_WORD};
@@ -28,7 +28,14 @@ fn answers_with(
     let session = session_of(rt, listing, script, 1000);
     let mut input = parsed;
     let mut output = Vec::new(rt.alloc());
-    let ended = run_repl(rt.alloc(), session, names, &mut input, &mut output);
+    let ended = run_repl(
+        rt.alloc(),
+        session,
+        names,
+        &mut input,
+        &mut output,
+        &mut NoFiles,
+    );
     equal(rt, ended, Ok(()));
     let text = String::from_utf8(output).ok().expect(rt, "ASCII");
     equal(rt, text.as_str(), wanted);
