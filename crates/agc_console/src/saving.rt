@@ -6,6 +6,7 @@ use std::io::{self, ErrorKind, Write};
 use std::rt::Files;
 
 /// Saves scripts to files.
+#[derive(Drop)]
 pub struct FileSaver<'a, R> {
     pub rt: &'a R,
 }

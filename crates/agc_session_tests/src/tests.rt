@@ -19,6 +19,7 @@ use std::fmt::Debug;
 use std::process::Abort;
 
 /// Saves no script.
+#[derive(Drop)]
 struct NoFiles;
 
 impl Saver for NoFiles {
