@@ -29,6 +29,8 @@ SPACING = 8533
 PRO_HELD = 17067
 HOUR = 307_200_000
 LARGE, SMALL = (24, 80), (14, 60)
+# The kilobytes of stack that README says are enough.
+STACK = 256
 NAMES = {"v": "VERB", "n": "NOUN", "c": "CLR", "k": "KEYREL", "r": "RSET", "\r": "ENTR", **{key: key for key in "0123456789+-"}}
 WHITE, CAUTION, UNLIT, GREEN = "30;47", "30;43", "2", "1;32"
 # The programs agc and agc-study that the last lines name: beside the one that was started.
@@ -1308,6 +1310,31 @@ def try_ending_a_search_back():
             terminal.close()
 
 
+def try_small_stack():
+    """README says how small a stack may be: with it a session with keys, a search back and a rerun ends as usual."""
+    limited = os.path.join(scratch, "limited")
+    with open(limited, "w") as file:
+        file.write(f'#!/bin/bash\nulimit -s {STACK} && exec {shlex.quote(os.path.abspath(dsky))} "$@"\n')
+    os.chmod(limited, 0o755)
+    save = os.path.join(scratch, "stack")
+    terminal = Terminal([KEYS_ROPE, "--save", save, "--force"], program=limited)
+    try:
+        terminal.begun()
+        terminal.type("45")
+        terminal.on_to(10 * SPACING)
+        terminal.pause()
+        terminal.type("U")
+        terminal.until("no search back", lambda screen: last_line(screen) == " found: just before an interrupt")
+        cycle = terminal.screen.cycle()
+        terminal.type(b"\x7f")
+        terminal.until("not back", lambda screen: rerun_of(screen) is None and screen.cycle() < cycle)
+        status, text = terminal.quit()
+        judge("a small stack: the end", 0, status)
+        judge("a small stack: the terminal", (True, ""), (terminal.is_put_back(), told(text)[0]))
+    finally:
+        terminal.close()
+
+
 def try_lesson():
     """The way of docs/DEBUGGING.md: from OPR ERR back to the 0 in R1, and the order before it that makes -0."""
     folder = os.path.join(top, "examples", "debugging")
@@ -1375,7 +1402,7 @@ for each in (LARGE, SMALL):
         attempt(f"{face} at {each}", try_face, f"{face} at {each[0]} lines", made, keys, each)
 for each in (
     try_unsaved, try_saving, try_full_disk, try_two_sessions, try_little_memory, try_last_keys, try_told_names, try_leaving, try_ink, try_no_terminal, try_resizing, try_script, try_refusals, try_many_keys, try_going_back,
-    try_a_long_way_back, try_boundaries, try_start, try_speeds, try_slow_speeds, try_names_and_counts, try_searches, try_long_search, try_ending_a_search_back, try_lesson, try_names, try_idleness,
+    try_a_long_way_back, try_boundaries, try_start, try_speeds, try_slow_speeds, try_names_and_counts, try_searches, try_long_search, try_ending_a_search_back, try_small_stack, try_lesson, try_names, try_idleness,
 ):
     attempt(each.__name__, each)
 print(f"{passed} passed, {failed} failed")
