@@ -108,11 +108,20 @@ fn saves_to(rt: &impl Abort, line: &[u8], name: &str) {
     equal(rt, FileName::new(name.as_bytes()).text(), name);
 }
 
+/// Checks that a line names no file.
+fn names_no_file(rt: &impl Abort, line: &[u8]) {
+    equal_at(
+        rt,
+        "no file",
+        parse_command(&None, line),
+        Err(CommandFault::Usage(CommandName::Save)),
+    );
+}
+
 #[test]
 fn a_name_is_one_word(rt: HostRuntime) {
     saves_to(&rt, b"save my.script", "my.script");
     saves_to(&rt, b" save\t../a/b=c ", "../a/b=c");
     saves_to(&rt, b"save #", "#");
-    let refused = Err(CommandFault::Usage(CommandName::Save));
-    equal(&rt, parse_command(&None, b"save a b"), refused);
+    names_no_file(&rt, b"save a b");
 }
