@@ -1,10 +1,11 @@
-//! Runs of orders: while nothing but orders can come, a watch ends the run.
+//! Runs of orders: one order, or, while nothing but orders can come, all up to one after which a watch ends the run.
 ghost use Rattle.std.specs.Prelude.{◌≡◌};
 
 use crate::answer::Stepped;
 use crate::engine::{Engine, Paced};
 use crate::machine::Machine;
 use crate::quiet::Pace;
+use crate::upcoming::{InHand, Upcoming, in_hand};
 use agc_store::Store;
 use agc_store::place::ERASABLE_BANK_SIZE;
 use agc_word::Narrow;
@@ -57,8 +58,24 @@ impl Watch {
 }
 
 impl Machine {
-    ghost use Rattle.std.specs.Prelude.{◌≡◌, IfSome, IfNone};
+    ghost use Rattle.std.specs.Prelude.{◌≡◌, IfSome, IfNone, None};
+    ghost use Rattle.agc_machine.specs.Boundary.{HasPlace, boundary, upcoming_of};
+    ghost use Rattle.agc_machine.specs.Laws.{HasChannel};
     ghost use Rattle.agc_machine.specs.OrderRun.{HasRunOrders, IsWatchInRange};
+
+    /// Runs the order in hand and returns it with what it did, if nothing else can come before it. Otherwise changes
+    /// nothing and returns `None`, as it may also if the order comes next, at a place where the clock, an interrupt or
+    /// the stop address must be checked first.
+    #[inline(always)]
+    pub fn run_order(&mut self) -> Option<(InHand, Stepped)>
+        ensures comes { IfSome result (λ (order, stepped). upcoming_of self.old ≡ Upcoming.Order order) }
+        ensures ran { IfSome result (λ (order, stepped). (self.new, stepped) ≡ boundary None self.old) }
+        ensures place { IfSome result (λ (order, stepped). HasPlace (Upcoming.Order order)) }
+        ensures channel { IfSome result (λ (order, stepped). HasChannel stepped) }
+        ensures unchanged { IfNone result (self.new ≡ self.old) }
+    {
+        self.engine.run_order_if_bare()
+    }
 
     /// Runs one order or more, if nothing but orders can come: up to the first one after which the watch ends the run,
     /// that writes or stops, or that ends at `cycle` or later. May end earlier. Otherwise changes nothing and returns
@@ -73,9 +90,29 @@ impl Machine {
 }
 
 impl Engine {
-    ghost use Rattle.std.specs.Prelude.{◌≡◌, ◌<◌, ◌≤◌, IfSome, IfNone};
+    ghost use Rattle.std.specs.Prelude.{◌≡◌, ◌<◌, ◌≤◌, IfSome, IfNone, None};
+    ghost use Rattle.agc_machine.specs.Boundary.{HasPlace, boundary, upcoming_of};
     ghost use Rattle.agc_machine.specs.Engine.{state_of, IsSound};
     ghost use Rattle.agc_machine.specs.OrderRun.{HasRunOrders, IsWatchInRange};
+
+    /// Runs the order in hand, if the clock brings nothing and nothing may come before it. Otherwise changes nothing.
+    #[inline(always)]
+    fn run_order_if_bare(&mut self) -> Option<(InHand, Stepped)>
+        requires sound { IsSound self.old }
+        ensures comes { IfSome result (λ (order, stepped). upcoming_of (state_of self.old) ≡ Upcoming.Order order) }
+        ensures ran { IfSome result (λ (order, stepped). (state_of self.new, stepped) ≡ boundary None (state_of self.old)) }
+        ensures place { IfSome result (λ (order, stepped). HasPlace (Upcoming.Order order)) }
+        ensures sound { IsSound self.new }
+        ensures unchanged { IfNone result (state_of self.new ≡ state_of self.old) }
+    {
+        if self.cycle < self.quiet_until && self.pace == Pace::Bare {
+            let order = in_hand(&self.processor);
+            let stepped = self.step_bare();
+            Some((order, stepped))
+        } else {
+            None
+        }
+    }
 
     /// Runs one order or more, if nothing but orders can come. Otherwise changes nothing.
     fn run_orders(&mut self, watch: &Watch, cycle: u64) -> Option<OrderRun>

@@ -127,8 +127,9 @@ impl Engine {
 }
 
 /// Returns the order in hand, with its place.
+#[inline(always)]
 #[tactic(auto, unfolding(crate::specs::Boundary::in_hand))]
-fn in_hand(processor: &Processor) -> InHand
+pub(crate) fn in_hand(processor: &Processor) -> InHand
     ensures order { result ≡ in_hand processor.now }
     ensures place { HasPlace (Upcoming.Order result) }
 {
@@ -142,6 +143,7 @@ fn in_hand(processor: &Processor) -> InHand
 }
 
 /// Returns the bank that an address is in, in the two windows; elsewhere 0.
+#[inline(always)]
 fn bank_of_address(processor: &Processor, address: Addr) -> u8
     ensures bank { result ≡ bank_of_address address processor.now }
     ensures range { result < 0o50 }
