@@ -49,9 +49,40 @@ impl Entry {
     }
 }
 
-/// Steps a machine over one boundary, and returns its entry.
+/// Steps a machine over one boundary, and returns its entry. It is compiled into its callers, and takes any other entry
+/// field by field, so that the entry of an order stays in registers.
+#[inline(always)]
 #[tactic(auto, unfolding(crate::specs::Entry::entry_of))]
 pub fn next_entry(machine: &mut Machine) -> Entry
+    ensures entry { result ≡ entry_of machine.old }
+    ensures after { machine.new ≡ (boundary None machine.old).0 }
+    ensures fits { FitsLine result }
+{
+    let cycle = machine.cycle();
+    match machine.run_order() {
+        Some((order, stepped)) => Entry {
+            cycle,
+            happening: Upcoming::Order(order),
+            write: write_shown(stepped),
+            registers: registers_in(machine.store()),
+        },
+        None => {
+            let other = next_entry_by_cases(machine);
+            Entry {
+                cycle: other.cycle,
+                happening: other.happening,
+                write: other.write,
+                registers: other.registers,
+            }
+        }
+    }
+}
+
+/// Returns the same, whatever comes next.
+#[cold]
+#[inline(never)]
+#[tactic(auto, unfolding(crate::specs::Entry::entry_of))]
+fn next_entry_by_cases(machine: &mut Machine) -> Entry
     ensures entry { result ≡ entry_of machine.old }
     ensures after { machine.new ≡ (boundary None machine.old).0 }
     ensures fits { FitsLine result }
@@ -68,6 +99,7 @@ pub fn next_entry(machine: &mut Machine) -> Entry
 }
 
 /// Returns the write that a boundary showed.
+#[inline(always)]
 pub fn write_shown(stepped: Stepped) -> Option<ChannelWrite>
     ensures { result ≡ write_shown stepped }
 {
@@ -78,6 +110,7 @@ pub fn write_shown(stepped: Stepped) -> Option<ChannelWrite>
 }
 
 /// Returns the registers in a memory.
+#[inline(always)]
 #[tactic(auto, unfolding(crate::specs::Entry::registers_of))]
 pub fn registers_in(store: &Store) -> Registers
     ensures registers { result ≡ registers_of store.now }
