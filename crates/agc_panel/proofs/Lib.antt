@@ -4,4 +4,5 @@ pub mod Lines
 pub mod Taken
 pub mod LampLemmas
 pub mod LawLemmas
+pub mod LampNames
 pub mod TextLemmas

@@ -1,7 +1,8 @@
 -- What is shown can be read back from the panel's text.
-use Rattle.std.proofs.Common.{◌≡◌, ◌∙◌, ◌==◌, ap, arith, ℕ, Bool, true, false, List, [], ◌∷◌, ◌++◌, codes, get_or, refl, sym, if◌then◌else◌}
+use Rattle.std.proofs.Common.{◌≡◌, ◌∙◌, ◌==◌, ap, arith, ℕ, Bool, true, false, List, [], ◌∷◌, ◌++◌, codes, drop, get_or, refl, sym, if◌then◌else◌}
 use Rattle.agc_panel.specs.Digit.{glyph}
 use Rattle.agc_panel.specs.Laws.{ShowSame}
+use Rattle.agc_panel.proofs.LampNames.{same_lamps}
 use Rattle.agc_panel.specs.Text.{digits_text, flash_line, lamps_line, pair_line, panel_text, register_line, sign_glyph}
 use Rattle.agc_panel.specs.declared.digit.Digit.{Digit}
 use Rattle.agc_panel.specs.declared.digit.Digit.TheVariants.{Blank, Zero, One, Two, Three, Four, Five, Six, Seven, Eight, Nine, Unknown}
@@ -78,19 +79,23 @@ same_sign a b h = sym (sign_back a) ∙ ap sign_read h ∙ sign_back b
 pair_from : {a b : Pair} → a.left ≡ b.left → a.right ≡ b.right → a ≡ b
 pair_from {a} {b} l r = rw (l, r) refl
 
--- the text after FLASH shows whether the flash is on
-same_flash : (a b : Bool) (s t : List ℕ)
-    → get_or ((if a then codes "on" else codes "off") ++ codes "\n" ++ s) 1 0 ≡ get_or ((if b then codes "on" else codes "off") ++ codes "\n" ++ t) 1 0 → a ≡ b
-same_flash true true s t h = refl
-same_flash true false s t h = absurd (omega arith)
-same_flash false true s t h = absurd (omega arith)
-same_flash false false s t h = refl
+-- the text after FLASH shows whether the flash is on, and equal texts go on alike
+flash_word : Bool → List ℕ
+flash_word flash = (if flash then codes "on" else codes "off") ++ codes "\n"
+
+same_flash : (a b : Bool) (s t : List ℕ) → flash_word a ++ s ≡ flash_word b ++ t → (a ≡ b) × (s ≡ t)
+unfolding flash_word
+same_flash true true s t h = (refl, ap (drop 3) h)
+same_flash true false s t h = absurd (let e : 110 ≡ 102 = ap (λ (text : List ℕ). get_or text 1 0) h in omega arith)
+same_flash false true s t h = absurd (let e : 102 ≡ 110 = ap (λ (text : List ℕ). get_or text 1 0) h in omega arith)
+same_flash false false s t h = (refl, ap (drop 4) h)
 
 pub same_text : (a b : Face) → panel_text a ≡ panel_text b → ShowSame a b
-unfolding panel_text pair_line register_line digits_text flash_line
+unfolding panel_text pair_line register_line digits_text flash_line lamps_line flash_word
 same_text a b h =
     let texts = simp (one_glyph, one_sign) at h in
     let at = λ (k : ℕ). ap (λ (text : List ℕ). get_or text k 0) texts in
+    let ends = same_flash a.flash b.flash (lamps_line a.lamps) (lamps_line b.lamps) (ap (drop 60) texts) in
     record {
       program = pair_from (same_digit _ _ (at 5)) (same_digit _ _ (at 6));
       verb = pair_from (same_digit _ _ (at 13)) (same_digit _ _ (at 14));
@@ -119,5 +124,6 @@ same_text a b h =
         d4 = same_digit _ _ (at 51);
         d5 = same_digit _ _ (at 52);
       };
-      flash = same_flash a.flash b.flash (lamps_line a.lamps) (lamps_line b.lamps) (at 61);
+      flash = ends.0;
+      lamps = same_lamps a.lamps b.lamps (ap (drop 6) ends.1);
     }

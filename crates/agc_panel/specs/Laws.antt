@@ -7,7 +7,7 @@ use Rattle.agc_panel.specs.declared.face.Register.{Register}
 use Rattle.agc_panel.specs.declared.lamp.Lamp.{Lamp}
 use Rattle.agc_panel.specs.declared.lamp.Source.{Source}
 use Rattle.agc_panel.specs.declared.lamp.Source.TheVariants.{Dsalmout, LampRow}
-use Rattle.agc_panel.specs.Lamp.{wiring}
+use Rattle.agc_panel.specs.Lamp.{is_lit, wiring}
 use Rattle.agc_panel.specs.RelayWord.{bits}
 use Rattle.agc_panel.specs.Text.{sign_of}
 
@@ -45,7 +45,7 @@ pub record ShowSameRegister (a b : Register) : Type 0 where
   pub d4 : a.d4 ≡ b.d4
   pub d5 : a.d5 ≡ b.d5
 
--- two panels show the same digits, signs and flash
+-- two panels show the same digits, signs, flash and lamps
 pub record ShowSame (a b : Face) : Type 0 where
   pub program : a.program ≡ b.program
   pub verb : a.verb ≡ b.verb
@@ -54,3 +54,4 @@ pub record ShowSame (a b : Face) : Type 0 where
   pub r2 : ShowSameRegister a.r2 b.r2
   pub r3 : ShowSameRegister a.r3 b.r3
   pub flash : a.flash ≡ b.flash
+  pub lamps : (lamp : Lamp) → is_lit a.lamps lamp ≡ is_lit b.lamps lamp

@@ -41,7 +41,7 @@ pub fn unnamed_fields_are_blank()
         → is_lit (panel_of writes).lamps lamp ≡ false }
 {}
 
-/// Panels with the same text show the same digits, signs and flash.
+/// Panels with the same text show the same digits, signs, flash and lamps.
 pub fn texts_tell_what_is_shown()
     ensures { (a b : Face) → panel_text a ≡ panel_text b → ShowSame a b }
 {}
