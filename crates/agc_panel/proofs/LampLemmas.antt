@@ -10,7 +10,7 @@ use Rattle.agc_panel.specs.declared.lamp.Lamps.{Lamps}
 use Rattle.agc_panel.specs.declared.lamp.Source.TheVariants.{Dsalmout, LampRow}
 
 -- the states of the lamps, in order, are all that is kept of them
-lit_in_order : (lamps : Lamps) → length lamps.lit ≡ length printed_order → lamps.lit ≡ map (is_lit lamps) printed_order
+pub lit_in_order : (lamps : Lamps) → length lamps.lit ≡ length printed_order → lamps.lit ≡ map (is_lit lamps) printed_order
 lit_in_order lamps long =
     let lit = λ (k : ℕ). get_or lamps.lit k false in
     let each = λ (k : ℕ) (h : k < length lamps.lit). sym (get_or-map-range_with_len lit 0 (length printed_order) k k false (omega (arith, long)) (omega arith)) in

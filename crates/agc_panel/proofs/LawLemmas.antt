@@ -90,7 +90,7 @@ lamp_swapped : (before : Lamps) (a b : ChannelWrite) (lamp : Lamp) → (is_from 
 lamp_swapped before a b lamp h = bit_swapped (is_lit before lamp) (wiring lamp).source (wiring lamp).bit a b h
 
 -- a list made by functions that agree
-map_agree : {A B : Type 0} (f g : A → B) → ((x : A) → f x ≡ g x) → (xs : List A) → map f xs ≡ map g xs
+pub map_agree : {A B : Type 0} (f g : A → B) → ((x : A) → f x ≡ g x) → (xs : List A) → map f xs ≡ map g xs
 map_agree f g same [] = refl
 map_agree f g same (x ∷ xs) = rw (same x, map_agree f g same xs) refl
 

@@ -6,3 +6,4 @@ pub mod LampLemmas
 pub mod LawLemmas
 pub mod LampNames
 pub mod TextLemmas
+pub mod ShownLemmas

@@ -1,6 +1,7 @@
 -- The panel's eight lines.
 use Rattle.std.specs.Prelude.{ℕ, Bool, if◌then◌else◌, List, [], ◌∷◌, ◌++◌, codes, filter}
 use Rattle.std.specs.List.{join_by}
+use Rattle.std.specs.Str.{bytes_eq}
 use Rattle.agc_panel.specs.declared.face.Face.{Face}
 use Rattle.agc_panel.specs.declared.face.Pair.{Pair}
 use Rattle.agc_panel.specs.declared.face.Register.{Register}
@@ -74,3 +75,7 @@ panel_lines face =
     ∷ flash_line face.flash
     ∷ lamps_line face.lamps
     ∷ []
+
+-- two panels show the same: their texts are equal
+abbrev pub shows_same : Face → Face → Bool
+shows_same one other = bytes_eq (panel_text one) (panel_text other)

@@ -1,17 +1,58 @@
-//! Compares two panels by what they show.
-ghost use Rattle.std.specs.Prelude.{◌≡◌, IfOk};
-ghost use Rattle.std.specs.Str.{bytes_eq};
-ghost use Rattle.agc_panel.specs.Text.{panel_text};
+//! Compares what two panels show, field by field.
+ghost use Rattle.std.specs.Prelude.{◌≡◌, Decides};
+ghost use Rattle.agc_panel.specs.Lamp.{is_lit};
+ghost use Rattle.agc_panel.specs.Laws.{ShowSame, ShowSameRegister};
+ghost use Rattle.agc_panel.specs.Text.{shows_same};
+ghost use Rattle.agc_panel.specs.declared.lamp.Lamp.{Lamp};
 
-use crate::panel::Panel;
-use std::alloc::{AllocError, Global};
+use crate::face::{Face, Pair, Register};
+use crate::lamp::Lamps;
 
-/// Returns whether two panels show the same: their texts are equal. Fails when memory runs out.
-pub fn show_alike(alloc: Global, left: &Panel, right: &Panel) -> Result<bool, AllocError>
-    ensures { IfOk result
-        (λ alike. alike ≡ bytes_eq (panel_text left.now) (panel_text right.now)) }
+impl Face {
+    /// Returns whether two faces show the same: their texts are equal.
+    pub(crate) fn shows_same(&self, other: &Face) -> bool
+        ensures { result ≡ shows_same self.now other.now }
+    {
+        has_same_fields(self, other)
+    }
+}
+
+/// Returns whether two faces have the same digits, signs, flash and lamps.
+fn has_same_fields(one: &Face, other: &Face) -> bool
+    ensures { Decides result (ShowSame one.now other.now) }
 {
-    let left_text = left.text(alloc)?;
-    let right_text = right.text(alloc)?;
-    Ok(left_text.as_str() == right_text.as_str())
+    is_same_pair(one.program, other.program)
+        && is_same_pair(one.verb, other.verb)
+        && is_same_pair(one.noun, other.noun)
+        && is_same_register(&one.r1, &other.r1)
+        && is_same_register(&one.r2, &other.r2)
+        && is_same_register(&one.r3, &other.r3)
+        && one.flash == other.flash
+        && are_same_lamps(one.lamps, other.lamps)
+}
+
+/// Returns whether two pairs of digits are the same.
+fn is_same_pair(one: Pair, other: Pair) -> bool
+    ensures { Decides result (one ≡ other) }
+{
+    one.left == other.left && one.right == other.right
+}
+
+/// Returns whether two registers show the same sign and digits.
+fn is_same_register(one: &Register, other: &Register) -> bool
+    ensures { Decides result (ShowSameRegister one.now other.now) }
+{
+    one.sign() == other.sign()
+        && one.d1 == other.d1
+        && one.d2 == other.d2
+        && one.d3 == other.d3
+        && one.d4 == other.d4
+        && one.d5 == other.d5
+}
+
+/// Returns whether the same lamps are on.
+fn are_same_lamps(one: Lamps, other: Lamps) -> bool
+    ensures { Decides result ((lamp : Lamp) → is_lit one lamp ≡ is_lit other lamp) }
+{
+    one == other
 }

@@ -15,7 +15,6 @@ mod text;
 mod watch_spec;
 mod watcher;
 
-pub use alike::show_alike;
 pub use core_set::{CoreSet, Job, JobPriority};
 pub use digit::Digit;
 pub use face::{Face, Pair, Register};

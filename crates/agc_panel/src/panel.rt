@@ -2,7 +2,7 @@
 ghost use Rattle.std.specs.Prelude.{◌≡◌, List, [], ◌∷◌, ◌++◌, IfOk, map, string_bytes};
 ghost use Rattle.agc_word.specs.declared.channel_write.ChannelWrite.{ChannelWrite};
 ghost use Rattle.agc_panel.specs.Face.{face_after, panel_of};
-ghost use Rattle.agc_panel.specs.Text.{panel_lines, panel_text};
+ghost use Rattle.agc_panel.specs.Text.{panel_lines, panel_text, shows_same};
 
 use crate::face::Face;
 use crate::text::{lines_of, text_of};
@@ -60,6 +60,13 @@ impl Panel {
         ensures { IfOk result (λ lines. map string_bytes lines.items ≡ panel_lines self.now) }
     {
         lines_of(alloc, &self.face)
+    }
+
+    /// Returns whether two panels show the same: their texts are equal.
+    pub fn shows_same(&self, other: &Panel) -> bool
+        ensures { result ≡ shows_same self.now other.now }
+    {
+        self.face.shows_same(&other.face)
     }
 
     /// Returns what the panel shows.
