@@ -1,9 +1,8 @@
 -- Two observations that are alike.
-use Rattle.std.proofs.Common.{◌≡◌, ◌≢◌, ℕ, Bool, false, List, Some, Result, Ok, Err, ap, sym, ◌∙◌, subst}
-use Rattle.std.specs.Prelude.{◌↔◌, IfOk, IsTrue}
-use Rattle.std.specs.Str.{bytes_eq}
+use Rattle.std.proofs.Common.{◌≡◌, ◌≢◌, ℕ, Bool, false, List, Some, ap, sym, ◌∙◌}
+use Rattle.std.specs.Prelude.{◌↔◌, IsTrue}
 use Rattle.std.proofs.lemmas.Slice.Eq.{bytes_eq-Decides}
-use Rattle.agc_panel.specs.Text.{panel_text}
+use Rattle.agc_panel.specs.Text.{panel_text, shows_same}
 use Rattle.agc_panel.specs.declared.face.Face.{Face}
 use Rattle.agc_diff.specs.ObservedPrefix.{seen as seen_of}
 use Rattle.agc_diff.specs.Observation.{InPrint, Look, look_of}
@@ -14,16 +13,11 @@ use Rattle.agc_diff.specs.declared.observed.observation.Observed.TheVariants as 
 same_print : (x y : List ℕ) → InPrint x ≡ InPrint y → x ≡ y
 same_print x y e = cc
 
-in_print : {E : Type 0} (r : Result Bool E) (x y : List ℕ) → IfOk r (λ alike. alike ≡ bytes_eq x y) → IfOk r (λ alike. IsTrue alike ↔ (InPrint x ≡ InPrint y))
-in_print (Ok alike) x y e =
-    let texts = bytes_eq-Decides x y in (λ yes. ap InPrint (texts.0 (sym e ∙ yes)), λ same. e ∙ texts.1 (same_print x y same))
-in_print (Err why) x y e = tt
-
--- two panels are alike if their texts are the same
-pub alike_in_print : {E : Type 0} (r : Result Bool E) (x : List ℕ) (panel : Face) (sight : Observed) → sight ≡ seen.Panel panel →
-    IfOk r (λ alike. alike ≡ bytes_eq x (panel_text panel)) → IfOk r (λ alike. IsTrue alike ↔ (InPrint x ≡ look_of sight))
-alike_in_print r x panel sight e h =
-    subst (λ (s : Observed). IfOk r (λ alike. IsTrue alike ↔ (InPrint x ≡ look_of s))) (sym e) (in_print r x (panel_text panel) h)
+-- two panels are alike if they show the same
+pub alike_in_print : (alike : Bool) (one other : Face) (sight : Observed) → sight ≡ seen.Panel other → alike ≡ shows_same one other → IsTrue alike ↔ (InPrint (panel_text one) ≡ look_of sight)
+alike_in_print alike one other sight e h =
+    let texts = bytes_eq-Decides (panel_text one) (panel_text other) in
+    rw e (λ yes. ap InPrint (texts.0 (sym h ∙ yes)), λ same. h ∙ texts.1 (same_print (panel_text one) (panel_text other) same))
 
 same_look : (x y : Look) → Some x ≡ Some y → x ≡ y
 same_look x y e = cc

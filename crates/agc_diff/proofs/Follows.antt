@@ -2,7 +2,6 @@
 use Rattle.std.proofs.Common.{◌≡◌, Bool, true, false, [], ◌∷◌, Option, Some, None, refl, ap, sym, ◌∙◌, subst, arith}
 use Rattle.std.specs.Prelude.{◌==◌, IfSome, if◌then◌else◌, is_some}
 use Rattle.std.specs.List.{cons_option}
-use Rattle.std.specs.Str.{bytes_eq}
 use Rattle.agc_word.specs.declared.channel_write.ChannelWrite.{ChannelWrite}
 use Rattle.agc_machine.specs.Run.{Run, next_of, run_of}
 use Rattle.agc_machine.specs.Laws.{HasNextChannel}
@@ -11,7 +10,7 @@ use Rattle.agc_machine.specs.declared.answer.Next.TheVariants as next
 use Rattle.agc_machine.specs.declared.answer.Stop.{Stop}
 use Rattle.agc_machine.proofs.Chain.{next_of_stopped, run_at_stop, run_at_write, stop_is_kept}
 use Rattle.agc_panel.specs.Face.{face_after}
-use Rattle.agc_panel.specs.Text.{panel_text}
+use Rattle.agc_panel.specs.Text.{shows_same}
 use Rattle.agc_panel.specs.declared.face.Face.{Face}
 use Rattle.agc_diff.specs.ObservedCursor.{HasShown, shown_left}
 use Rattle.agc_diff.specs.Observation.{FitsShown, shown_after, shown_at, word_of}
@@ -80,7 +79,7 @@ at_fits : (what : DiffBy) (p : Face) (write : ChannelWrite) → HasNextChannel (
 unfolding shown_at
 at_fits kind.Writes p write h = word_fits write h
 at_fits (kind.Channel channel) p write h = one_fits (write.channel == channel) write h
-at_fits kind.Panels p write h = panel_fits (bytes_eq (panel_text p) (panel_text (face_after p (write ∷ [])))) _ tt
+at_fits kind.Panels p write h = panel_fits (shows_same p (face_after p (write ∷ []))) _ tt
 
 -- its channel has three digits
 pub fits : (what : DiffBy) (p : Face) (write : ChannelWrite) (shown : Option Observation) → HasNextChannel (next.Wrote write) → shown ≡ shown_at what p write →

@@ -1,5 +1,4 @@
 pub mod Kept
-pub mod Faces
 pub mod Alike
 pub mod Follows
 pub mod Together

@@ -1,13 +1,12 @@
 -- What an observer sees of a run: its writes, the words of one channel, or its panels.
 use Rattle.std.specs.Prelude.{ℕ, ◌<◌, ◌==◌, if◌then◌else◌, List, [], ◌∷◌, map, Option, Some, None}
 use Rattle.std.specs.List.{cons_option}
-use Rattle.std.specs.Str.{bytes_eq}
 use Rattle.agc_word.specs.Number.{Number}
 use Rattle.agc_word.specs.declared.channel_write.ChannelWrite.{ChannelWrite}
 use Rattle.agc_machine.specs.Run.{run_of}
 use Rattle.agc_machine.specs.State.{State}
 use Rattle.agc_panel.specs.Face.{face_after, panel_of}
-use Rattle.agc_panel.specs.Text.{panel_text}
+use Rattle.agc_panel.specs.Text.{panel_text, shows_same}
 use Rattle.agc_panel.specs.declared.face.Face.{Face}
 use Rattle.agc_diff.specs.declared.observed.diff_by.DiffBy.{DiffBy}
 use Rattle.agc_diff.specs.declared.observed.diff_by.DiffBy.TheVariants as kind
@@ -19,10 +18,10 @@ use Rattle.agc_diff.specs.declared.observed.observation.Observed.TheVariants as 
 abbrev pub word_of : ChannelWrite → Observation
 word_of write = record { cycle = write.cycle; sight = seen.Word write.channel write.value }
 
--- the panel after a write, if it prints differently than before
+-- the panel after a write, if it shows something else than before
 abbrev pub changed_panel : Face → Face → ℕ → Option Observation
 changed_panel before after cycle =
-    if bytes_eq (panel_text before) (panel_text after) then None
+    if shows_same before after then None
     else Some (record { cycle = cycle; sight = seen.Panel after })
 
 -- what a write lets an observer see, after this panel

@@ -5,7 +5,6 @@ mod comparison;
 mod count;
 mod cursor;
 mod diff_by;
-mod face;
 mod next;
 mod observation;
 mod pairing;

@@ -33,9 +33,8 @@ pub fn none_kept<T: Drop>(alloc: Global) -> Result<HeapCircularBuffer<T>, AllocE
 }
 
 /// Runs both machines while their observations are the same: to the first place where they differ, or to their stops.
-/// Keeps the last pairs. Fails if memory runs out.
+/// Keeps the last pairs. Fails if the count overflows.
 pub(crate) fn go_together<P: Progress>(
-    alloc: Global,
     what: DiffBy,
     left: &mut Machine,
     right: &mut Machine,
@@ -50,10 +49,9 @@ pub(crate) fn go_together<P: Progress>(
     let mut right_cursor = Cursor::new();
     let mut common = CommonPrefix::none();
     loop {
-        let left_shown = left_cursor.next_shown(alloc, what, left, progress)?;
-        let right_shown = right_cursor.next_shown(alloc, what, right, progress)?;
-        let pairing = pairing_of(alloc, left_shown, right_shown)?;
-        match pairing {
+        let left_shown = left_cursor.next_shown(what, left, progress);
+        let right_shown = right_cursor.next_shown(what, right, progress);
+        match pairing_of(left_shown, right_shown) {
             Pairing::Alike(pair) => {
                 common.take(&pair)?;
                 push_last(last, pair);

@@ -5,7 +5,6 @@ use crate::observed::observation::{Observation, take_write};
 use agc_io::{Progress, report_at};
 use agc_machine::{Machine, Next};
 use agc_panel::Panel;
-use std::alloc::{AllocError, Global};
 
 /// A cursor that goes through a run observation by observation.
 #[derive(Clone, Copy, Debug, PartialEq, Eq)]
@@ -17,7 +16,7 @@ pub(crate) struct Cursor {
 }
 
 impl Cursor {
-    ghost use Rattle.std.specs.Prelude.{◌≡◌, [], IfOk, IfSome};
+    ghost use Rattle.std.specs.Prelude.{◌≡◌, [], IfSome};
     ghost use Rattle.agc_panel.specs.Face.{panel_of};
     ghost use Rattle.agc_diff.specs.ObservedCursor.{HasShown};
     ghost use Rattle.agc_diff.specs.Observation.{FitsShown};
@@ -32,28 +31,26 @@ impl Cursor {
         }
     }
 
-    /// Advances to the next observation. Returns `None` if the run stops before one. Fails if memory runs out.
+    /// Advances to the next observation. Returns `None` if the run stops before one.
     pub(crate) fn next_shown<P: Progress>(
         &mut self,
-        alloc: Global,
         what: DiffBy,
         machine: &mut Machine,
         progress: &mut P,
-    ) -> Result<Option<Observation>, AllocError>
-        ensures next { IfOk result
-            (λ shown. HasShown what self.old.panel machine.old shown self.new.panel machine.new) }
-        ensures fits { IfOk result (λ shown. IfSome shown FitsShown) }
+    ) -> Option<Observation>
+        ensures next { HasShown what self.old.panel machine.old result self.new.panel machine.new }
+        ensures fits { IfSome result FitsShown }
     {
         loop {
             match next_write(machine, progress) {
                 Next::Wrote(write) => {
                     self.mark = report_at(self.mark, write.cycle, progress);
-                    let shown = take_write(alloc, what, &mut self.panel, &write)?;
+                    let shown = take_write(what, &mut self.panel, &write);
                     if shown.is_some() {
-                        return Ok(shown);
+                        return shown;
                     }
                 }
-                Next::Stopped(_) => return Ok(None),
+                Next::Stopped(_) => return None,
             }
         }
     }

@@ -1,14 +1,12 @@
 //! What an observer sees of a run at one of its channel writes.
-ghost use Rattle.std.specs.Prelude.{◌≡◌, ◌↔◌, [], ◌∷◌, IfOk, IsTrue};
+ghost use Rattle.std.specs.Prelude.{◌≡◌, ◌↔◌, [], ◌∷◌, IsTrue};
 ghost use Rattle.agc_panel.specs.Face.{face_after};
 ghost use Rattle.agc_panel.specs.Text.{panel_text};
 ghost use Rattle.agc_diff.specs.Observation.{InPrint, OnChannel, changed_panel, look_of, shown_at, word_of};
 
 use crate::observed::diff_by::DiffBy;
-use crate::observed::face::show_same;
 use agc_panel::Panel;
 use agc_word::{ChannelWrite, Narrow};
-use std::alloc::{AllocError, Global};
 
 /// What an observer sees, without the cycle.
 #[derive(Clone, Copy, Debug, PartialEq, Eq)]
@@ -26,29 +24,28 @@ pub struct Observation {
     pub sight: Observed,
 }
 
-/// Applies a write to the panel, and returns what it lets an observer see, if anything. Fails if memory runs out.
+/// Applies a write to the panel, and returns what it lets an observer see, if anything.
 #[tactic(auto, unfolding(crate::specs::Observation::shown_at))]
 pub(crate) fn take_write(
-    alloc: Global,
     what: DiffBy,
     panel: &mut Panel,
     write: &ChannelWrite,
-) -> Result<Option<Observation>, AllocError>
-    ensures panel { IfOk result (λ _. panel.new ≡ face_after panel.old (write.now ∷ [])) }
-    ensures shown { IfOk result (λ shown. shown ≡ shown_at what panel.old write.now) }
+) -> Option<Observation>
+    ensures panel { panel.new ≡ face_after panel.old (write.now ∷ []) }
+    ensures shown { result ≡ shown_at what panel.old write.now }
 {
     let before = *panel;
     panel.take(write);
     match what {
-        DiffBy::Writes => Ok(Some(word_of(write))),
+        DiffBy::Writes => Some(word_of(write)),
         DiffBy::Channel(channel) => {
             if write.channel == channel {
-                Ok(Some(word_of(write)))
+                Some(word_of(write))
             } else {
-                Ok(None)
+                None
             }
         }
-        DiffBy::Panels => changed_panel(alloc, &before, panel, write.cycle),
+        DiffBy::Panels => changed_panel(&before, panel, write.cycle),
     }
 }
 
@@ -66,31 +63,25 @@ fn word_of(write: &ChannelWrite) -> Observation
 }
 
 /// Returns the panel after a write at this cycle, if it shows something else than before.
-fn changed_panel(
-    alloc: Global,
-    before: &Panel,
-    after: &Panel,
-    cycle: u64,
-) -> Result<Option<Observation>, AllocError>
-    ensures { IfOk result (λ shown. shown ≡ changed_panel before.now after.now cycle) }
+fn changed_panel(before: &Panel, after: &Panel, cycle: u64) -> Option<Observation>
+    ensures { result ≡ changed_panel before.now after.now cycle }
 {
-    if show_same(alloc, before, after)? {
-        return Ok(None);
+    if before.shows_same(after) {
+        return None;
     }
-    Ok(Some(Observation {
+    Some(Observation {
         cycle,
         sight: Observed::Panel(*after),
-    }))
+    })
 }
 
-/// Returns whether two sights are alike: the same word on the same channel, or panels that show the same. Fails if
-/// memory runs out.
-pub(crate) fn are_alike(alloc: Global, left: Observed, right: Observed) -> Result<bool, AllocError>
-    ensures { IfOk result (λ alike. IsTrue alike ↔ (look_of left ≡ look_of right)) }
+/// Returns whether two sights are alike: the same word on the same channel, or panels that show the same.
+pub(crate) fn are_alike(left: Observed, right: Observed) -> bool
+    ensures { IsTrue result ↔ (look_of left ≡ look_of right) }
 {
     match left {
-        Observed::Word { channel, word } => Ok(is_word(right, channel, word)),
-        Observed::Panel(panel) => shows_panel(alloc, right, &panel),
+        Observed::Word { channel, word } => is_word(right, channel, word),
+        Observed::Panel(panel) => shows_panel(right, &panel),
     }
 }
 
@@ -104,13 +95,12 @@ fn is_word(sight: Observed, on: u16, wanted: Narrow) -> bool
     }
 }
 
-/// Returns whether a sight is a panel that shows the same as this one. Fails if memory runs out.
-fn shows_panel(alloc: Global, sight: Observed, wanted: &Panel) -> Result<bool, AllocError>
-    ensures { IfOk result
-        (λ alike. IsTrue alike ↔ (InPrint (panel_text wanted.now) ≡ look_of sight)) }
+/// Returns whether a sight is a panel that shows the same as this one.
+fn shows_panel(sight: Observed, wanted: &Panel) -> bool
+    ensures { IsTrue result ↔ (InPrint (panel_text wanted.now) ≡ look_of sight) }
 {
     match sight {
-        Observed::Word { .. } => Ok(false),
-        Observed::Panel(panel) => show_same(alloc, wanted, &panel),
+        Observed::Word { .. } => false,
+        Observed::Panel(panel) => wanted.shows_same(&panel),
     }
 }

@@ -30,7 +30,7 @@ pub fn compare_shown<P: Progress>(
     ensures fits { IfOk result (λ c. FitsLines c) }
 {
     let mut last = none_kept(alloc)?;
-    let (common, divergence) = go_together(alloc, what, left, right, &mut last, progress)?;
+    let (common, divergence) = go_together(what, left, right, &mut last, progress)?;
     Ok(ObservedComparison {
         what,
         count: common.count,

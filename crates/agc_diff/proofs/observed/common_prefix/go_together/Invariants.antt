@@ -4,8 +4,8 @@ use Rattle.agc_diff.proofs.Together.{HasMatched}
 use Rattle.agc_diff.proofs.observed.common_prefix.go_together.Given as goal
 
 -- what both runs have shown so far is alike
-abbrev pub invariant-loop-left_shown : goal.invariant-loop-left_shown
-invariant-loop-left_shown g l = HasMatched l.what l.initial.left l.initial.right l.common l.last l.left_cursor.panel l.left l.right_cursor.panel l.right
+abbrev pub invariant-loop-pair : goal.invariant-loop-pair
+invariant-loop-pair g l = HasMatched l.what l.initial.left l.initial.right l.common l.last l.left_cursor.panel l.left l.right_cursor.panel l.right
 
-abbrev pub decreases-loop-left_shown : goal.decreases-loop-left_shown
-decreases-loop-left_shown g l = length (shown_left l.what l.left_cursor.panel l.left)
+abbrev pub decreases-loop-pair : goal.decreases-loop-pair
+decreases-loop-pair g l = length (shown_left l.what l.left_cursor.panel l.left)

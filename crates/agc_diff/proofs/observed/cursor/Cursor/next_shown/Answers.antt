@@ -7,12 +7,12 @@ loop-write-smaller g c = fewer_after_write _ _ _ c.in-Wrote.ensures.next
 
 pub loop-write-preserved : goal.loop-write-preserved
 loop-write-preserved g c =
-    goes_on c.args.what _ _ _ _ _ _ _ _ _ c.in-Wrote.ensures.next c.in_ok-shown-in-Wrote.ensures.panel c.in_ok-shown-in-Wrote.ensures.shown c.is_some.ensures c.if-is_some.false c.loop-write.invariant
+    goes_on c.args.what _ _ _ _ _ _ _ _ _ c.in-Wrote.ensures.next c.take_write-shown.ensures.panel c.take_write-shown.ensures.shown c.is_some.ensures c.if-is_some.false c.loop-write.invariant
 
 pub returns-then-is_some : goal.returns-then-is_some
 returns-then-is_some g c = record {
-  next = shows c.args.what _ _ _ _ _ _ _ _ _ c.in-Wrote.ensures.next c.in_ok-shown-in-Wrote.ensures.panel c.in_ok-shown-in-Wrote.ensures.shown c.is_some.ensures c.if-is_some.true c.loop-write.invariant;
-  fits = fits c.args.what _ _ _ c.in-Wrote.ensures.channel c.in_ok-shown-in-Wrote.ensures.shown;
+  next = shows c.args.what _ _ _ _ _ _ _ _ _ c.in-Wrote.ensures.next c.take_write-shown.ensures.panel c.take_write-shown.ensures.shown c.is_some.ensures c.if-is_some.true c.loop-write.invariant;
+  fits = fits c.args.what _ _ _ c.in-Wrote.ensures.channel c.take_write-shown.ensures.shown;
 }
 
 pub returns-in-Stopped : goal.returns-in-Stopped
