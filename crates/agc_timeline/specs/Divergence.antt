@@ -1,15 +1,13 @@
 -- The cycle at which two films first show different panels.
 use Rattle.std.specs.Prelude.{◌≡◌, ◌≢◌, ℕ, ◌==◌, ◌<◌, ◌&&◌, Bool, min, if◌then◌else◌}
 use Rattle.std.specs.Prelude.{List, [], ◌∷◌, Option, Some, None}
-use Rattle.std.specs.Str.{bytes_eq}
-use Rattle.agc_panel.specs.Text.{panel_text}
+use Rattle.agc_panel.specs.Text.{shows_same}
 use Rattle.agc_timeline.specs.Frames.{shown_at}
 use Rattle.agc_timeline.specs.declared.frame.Frame.{Frame}
 
 -- two frames begin at the same cycle and show the same
 abbrev pub is_same_frame : Frame → Frame → Bool
-is_same_frame left right =
-    (left.cycle == right.cycle) && bytes_eq (panel_text left.panel) (panel_text right.panel)
+is_same_frame left right = (left.cycle == right.cycle) && shows_same left.panel right.panel
 
 -- the cycle of the first frame that only one of two films has, if there is one
 unfoldable pub first_difference : List Frame → List Frame → Option ℕ

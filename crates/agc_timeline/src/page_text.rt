@@ -188,9 +188,7 @@ fn push_parting(text: &mut String, left: &[Frame], right: &[Frame]) -> Result<()
     ensures { OnOk result (string_bytes text.new
         ≡ string_bytes text.old ++ parting_block (first_difference left.now right.now)) }
 {
-    let alloc = *text.allocator();
-    let divergence = first_difference(alloc, left, right)?;
-    push_parting_at(text, divergence)
+    push_parting_at(text, first_difference(left, right))
 }
 
 /// Adds a cycle, or `never`, as a block.

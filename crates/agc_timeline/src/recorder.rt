@@ -2,7 +2,7 @@
 ghost use Rattle.std.specs.Prelude.{◌≡◌, IfOk, OnOk};
 
 use crate::frame::Frame;
-use agc_panel::{Panel, show_alike};
+use agc_panel::Panel;
 use agc_word::ChannelWrite;
 use std::alloc::{AllocError, Global};
 
@@ -25,21 +25,21 @@ impl Recorder {
             → HasTaken cycle before [] recorder) }
     {
         let mut frames = Vec::new(alloc);
-        if !show_alike(alloc, &Panel::new(), &panel)? {
+        if !Panel::new().shows_same(&panel) {
             frames.push(Frame { cycle, panel })?;
         }
         Ok(Recorder { panel, frames })
     }
 
     /// Records the next write: adds a frame if it changes what the panel shows. Fails if memory runs out.
-    pub(crate) fn take(&mut self, alloc: Global, write: &ChannelWrite) -> Result<(), AllocError>
+    pub(crate) fn take(&mut self, write: &ChannelWrite) -> Result<(), AllocError>
         ensures { OnOk result ((from : ℕ) (before taken : List ChannelWrite)
             → HasTaken from before taken self.old
             → HasTaken from before (taken ++ write.now ∷ []) self.new) }
     {
         let before = self.panel;
         self.panel.take(write);
-        if show_alike(alloc, &before, &self.panel)? {
+        if before.shows_same(&self.panel) {
             return Ok(());
         }
         self.frames.push(Frame {

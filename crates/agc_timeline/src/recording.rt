@@ -52,7 +52,7 @@ pub fn film<P: Progress>(
     let events = machine.events_left().to_vec(alloc)?;
     let panel = open(machine, part.from, progress);
     let mut recorder = Recorder::new(alloc, part.from, panel)?;
-    let stop = record(alloc, machine, part.last(), &mut recorder, progress)?;
+    let stop = record(machine, part.last(), &mut recorder, progress)?;
     recording_up_to(
         alloc,
         part,
@@ -128,7 +128,6 @@ fn open<P: Progress>(machine: &mut Machine, cycle: u64, progress: &mut P) -> Pan
 
 /// Runs a machine past a cycle, or to its stop before that, and records its writes.
 fn record<P: Progress>(
-    alloc: Global,
     machine: &mut Machine,
     cycle: u64,
     recorder: &mut Recorder,
@@ -144,7 +143,7 @@ fn record<P: Progress>(
     while machine.cycle() <= cycle {
         match machine.next_write_before(next_stage(mark, cycle)) {
             Stepped::Quiet => mark = report_at(mark, machine.cycle(), progress),
-            Stepped::Wrote(write) => recorder.take(alloc, &write)?,
+            Stepped::Wrote(write) => recorder.take(&write)?,
             Stepped::Stopped(stop) => return Ok(Some(stop)),
         }
     }

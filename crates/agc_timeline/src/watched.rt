@@ -117,7 +117,7 @@ fn record<P: Progress>(
         tables.look(alloc, machine, spec, span)?;
         match machine.next_write_before(0) {
             Stepped::Quiet => mark = report_at(mark, machine.cycle(), progress),
-            Stepped::Wrote(write) => recorder.take(alloc, &write)?,
+            Stepped::Wrote(write) => recorder.take(&write)?,
             Stepped::Stopped(stop) => {
                 tables.look(alloc, machine, spec, span)?;
                 return Ok(Some(stop));

@@ -3,17 +3,17 @@ use Rattle.std.proofs.lemmas.List.{nil_from_length}
 use Rattle.agc_timeline.proofs.Parted.{part_at_left, part_at_right, part_here, part_later, part_never}
 use Rattle.agc_timeline.proofs.divergence.first_difference.Goals as goal
 
-pub returns-then-not-branch : goal.returns-then-not-branch
-returns-then-not-branch c =
+pub returns-then-not-is_same_frame : goal.returns-then-not-is_same_frame
+returns-then-not-is_same_frame c =
     ap (λ n. Some n) c.min.ensures
     ∙ part_here _ _ _ _ _ _ c.in-Some-Some.ensures.cases.0 c.in-Some-Some.ensures'.cases.0
-    (sym c.if-not-branch.true ∙ c.in_ok-is_same_frame-in-Some-Some.ensures)
+    (sym c.if-not-is_same_frame.true ∙ c.is_same_frame.ensures)
     ∙ c.loop-left_frame.invariant
 
 pub loop-left_frame-preserved : goal.loop-left_frame-preserved
 loop-left_frame-preserved c =
     part_later _ _ _ _ _ _ c.in-Some-Some.ensures.cases.0 c.in-Some-Some.ensures'.cases.0
-    (sym c.if-not-branch.false ∙ c.in_ok-is_same_frame-in-Some-Some.ensures)
+    (sym c.if-not-is_same_frame.false ∙ c.is_same_frame.ensures)
     ∙ c.loop-left_frame.invariant
 
 pub returns-in-None-None : goal.returns-in-None-None

@@ -6,10 +6,10 @@ use Rattle.agc_timeline.proofs.RecordedFilm.{IsPassing}
 use Rattle.agc_timeline.proofs.recording.record.Given as goal
 
 -- the recorder has taken the writes so far
-abbrev pub invariant-loop-alloc : goal.invariant-loop-alloc
-invariant-loop-alloc g l =
+abbrev pub invariant-loop-machine : goal.invariant-loop-machine
+invariant-loop-machine g l =
     (taken : List ChannelWrite) × IsPassing l.initial.cycle l.initial.machine taken l.machine
     × ((from : ℕ) (before : List ChannelWrite) → HasTaken from before [] l.initial.recorder → HasTaken from before taken l.recorder)
 
-abbrev pub decreases-loop-alloc : goal.decreases-loop-alloc
-decreases-loop-alloc g l = boundaries_left l.machine
+abbrev pub decreases-loop-machine : goal.decreases-loop-machine
+decreases-loop-machine g l = boundaries_left l.machine
