@@ -292,8 +292,8 @@ fn two_runs(rt: HostRuntime) {
     parts_at(&rt, &left, &left, "never");
     parts_at(&rt, &left, &right, "6");
     parts_at(&rt, &right, &idle, "3");
-    let found = first_difference(rt.alloc(), idle.frames.as_slice(), left.frames.as_slice());
-    same(&rt, found.ok(), Some(Some(3)), "idle and left");
+    let found = first_difference(idle.frames.as_slice(), left.frames.as_slice());
+    same(&rt, found, Some(3), "idle and left");
 }
 
 /// The first order ends at cycle 2, past the film's first cycle, and the second one at 3. From cycle 11 on each order
