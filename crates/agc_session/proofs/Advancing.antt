@@ -52,16 +52,11 @@ advances_on b cycle panel shown later_shown s t u hit f l g =
       hits = subst (λ (k : ℕ). AreHits b k panel s (cycles_of hit)) (sym count) (hits_join b n m panel s [] (cycles_of hit) f.hits here);
     }
 
-pub advances : (b : Breakpoint) (cycle : ℕ) (panel shown later_shown : Face) (s t u : State) (hit : Option ℕ) → HasMissed b cycle panel shown s t
+advances : (b : Breakpoint) (cycle : ℕ) (panel shown later_shown : Face) (s t u : State) (hit : Option ℕ) → HasMissed b cycle panel shown s t
     → HasAdvanced b cycle shown later_shown t u hit → HasAdvanced b cycle panel later_shown s u hit
 advances b cycle panel shown later_shown s t u hit (inl (p, e)) g =
     subst (λ (x : State). HasAdvanced b cycle panel later_shown x u hit) e (subst (λ (x : Face). HasAdvanced b cycle x later_shown t u hit) p g)
 advances b cycle panel shown later_shown s t u hit (inr (f, l)) g = advances_on b cycle panel shown later_shown s t u hit f l g
-
--- some more boundaries without a hit
-pub goes_on : (b : Breakpoint) (cycle : ℕ) (panel shown later_shown : Face) (s t u : State) → HasMissed b cycle panel shown s t
-    → HasAdvanced b cycle shown later_shown t u None → u.cycle < cycle → HasMissed b cycle panel later_shown s u
-goes_on b cycle panel shown later_shown s t u missed g l = inr (advances b cycle panel shown later_shown s t u None missed g, l)
 
 -- the next boundary hits
 pub ends_with_hit : (b : Breakpoint) (cycle : ℕ) (panel shown later_shown : Face) (s t u : State) (began : ℕ) → HasMissed b cycle panel shown s t

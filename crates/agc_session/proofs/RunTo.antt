@@ -1,6 +1,6 @@
 -- A run forward to a breakpoint.
 use Rattle.std.specs.Prelude.{◌≡◌, ◌⊎◌, ℕ, zero, suc, ◌+◌, ◌<◌, ◌≤◌, Bool, true, false, Option, None, IsSome, IsTrue, not, ◌↔◌}
-use Rattle.std.proofs.Common.{refl, ap, sym, subst, ◌∙◌, arith}
+use Rattle.std.proofs.Common.{refl, ap, sym, subst, ◌∙◌, arith, inl, inr}
 use Rattle.agc_word.specs.Number.{Number}
 use Rattle.agc_processor.specs.declared.interrupt.Rupt.{Rupt}
 use Rattle.agc_machine.specs.Boundary.{boundary, upcoming_of}
@@ -8,7 +8,7 @@ use Rattle.agc_machine.specs.Laws.{after}
 use Rattle.agc_machine.specs.State.{State}
 use Rattle.agc_machine.specs.declared.answer.Stepped.{Stepped}
 use Rattle.agc_panel.specs.declared.face.Face.{Face}
-use Rattle.agc_session.specs.Breakpoint.{Ends, HasRunTo, Meets, NoneEnds, is_changed, is_panel_change, is_service_of, is_write_of, panel_after, panel_later, same_word, word_at}
+use Rattle.agc_session.specs.Breakpoint.{Ends, HasRunTo, Meets, NoneEnds, is_changed, is_service_of, panel_after, panel_later, same_word, word_at}
 use Rattle.agc_session.specs.Session.{BeginBefore, HasGone, SessionState, shown_after}
 use Rattle.agc_session.specs.declared.breakpoint.Breakpoint.{Breakpoint}
 use Rattle.agc_session.specs.declared.breakpoint.Breakpoint.TheVariants as breakpoint
@@ -138,20 +138,24 @@ ends_cell cell s t answer before result gone e f =
     (f ∙ ap (λ (w : Number). not (same_word (word_at cell t.now.processor.store) w)) e
     ∙ ap (λ (x : State). not (same_word (word_at cell x.processor.store) (word_at cell s.now.processor.store))) (gone_now s t answer gone))
 
-pub ends_write : (channel : Option ℕ) (word : Option Number) (s t : SessionState) (answer : Stepped) (result : Bool) → HasGone s (boundary None s.now) answer t
-    → result ≡ is_write_of channel word answer → IsTrue result ↔ Ends (breakpoint.Write channel word) s.panel s.now
-unfolding Meets
-ends_write channel word s t answer result gone e =
-    iff_same result (is_write_of channel word (boundary None s.now).1)
-    (e ∙ ap (λ (r : State × Stepped). is_write_of channel word r.1) gone.now)
-
 pub ends_interrupt : (which : Option Rupt) (s : SessionState) (result : Bool) → result ≡ is_service_of which (upcoming_of s.now)
     → IsTrue result ↔ Ends (breakpoint.Interrupt which) s.panel s.now
 unfolding Meets
 ends_interrupt which s result e = iff_same result (is_service_of which (upcoming_of s.now)) e
 
-pub ends_panel : (s t : SessionState) (answer : Stepped) (result : Bool) → HasGone s (boundary None s.now) answer t
-    → result ≡ is_panel_change s.panel answer → IsTrue result ↔ Ends breakpoint.Panel s.panel s.now
-unfolding Meets
-ends_panel s t answer result gone e =
-    iff_same result (is_panel_change s.panel (boundary None s.now).1) (e ∙ ap (λ (r : State × Stepped). is_panel_change s.panel r.1) gone.now)
+meets_ends : (b : Breakpoint) (panel : Face) (s : State) (result : Bool)
+    → ((channel : Option ℕ) × (word : Option Number) × (b ≡ breakpoint.Write channel word)) ⊎ (b ≡ breakpoint.Panel)
+    → IsTrue result ↔ Meets b panel s → IsTrue result ↔ Ends b panel s
+meets_ends b panel s result (inl (channel, word, is)) h =
+    subst (λ (a : Breakpoint). IsTrue result ↔ Ends a panel s) (sym is) (subst (λ (a : Breakpoint). IsTrue result ↔ Meets a panel s) is h)
+meets_ends b panel s result (inr is) h =
+    subst (λ (a : Breakpoint). IsTrue result ↔ Ends a panel s) (sym is) (subst (λ (a : Breakpoint). IsTrue result ↔ Meets a panel s) is h)
+
+pub ends_on_write : (b : Breakpoint) (s t : SessionState) (answer : Stepped) (before : Face) (result : Bool)
+    → ((channel : Option ℕ) × (word : Option Number) × (b ≡ breakpoint.Write channel word)) ⊎ (b ≡ breakpoint.Panel)
+    → HasGone s (boundary None s.now) answer t → before ≡ s.panel
+    → ((u : State) → (boundary None u).1 ≡ answer → IsTrue result ↔ Meets b before u) → IsTrue result ↔ Ends b s.panel s.now
+ends_on_write b s t answer before result on gone e test =
+    let tested : IsTrue result ↔ Meets b s.panel s.now =
+    subst (λ (p : Face). IsTrue result ↔ Meets b p s.now) e (test s.now (sym (ap (λ (r : State × Stepped). r.1) gone.now))) in
+    meets_ends b s.panel s.now result on tested

@@ -160,20 +160,22 @@ tested : (b : Breakpoint) (cycle : ℕ) (panel shown : Face) (s t : State) (answ
     → Tests b panel answer result → IsTrue result ↔ Meets b panel (after w.more s)
 tested b cycle panel shown s t answer result w test = test (after w.more s) (ap (λ (r : State × Stepped). r.1) w.last)
 
-pub hit_of_write : (b : Breakpoint) (cycle : ℕ) (panel shown : Face) (s t : State) (write : ChannelWrite) → IsOnWrite b
-    → (t, stepped.Wrote write) ≡ next_before cycle s → shown ≡ shown_after (stepped.Wrote write) panel
-    → Tests b panel (stepped.Wrote write) true → HasAdvanced b cycle panel shown s t (Some write.cycle)
-hit_of_write b cycle panel shown s t write on next e test =
-    let w = to_write cycle s t (stepped.Wrote write) next in
-    write_hits b cycle panel shown s t write on w e ((tested b cycle panel shown s t (stepped.Wrote write) true w test).0 refl)
+pub hit_of_write : (b : Breakpoint) (cycle : ℕ) (panel shown : Face) (s t : State) (answer : Stepped) (write : ChannelWrite) → answer ≡ stepped.Wrote write
+    → IsOnWrite b → (t, answer) ≡ next_before cycle s → shown ≡ shown_after (stepped.Wrote write) panel → Tests b panel answer true
+    → HasAdvanced b cycle panel shown s t (Some write.cycle)
+hit_of_write b cycle panel shown s t answer write is on next e test =
+    let w = to_write cycle s t (stepped.Wrote write) (subst (λ (a : Stepped). (t, a) ≡ next_before cycle s) is next) in
+    let known : Tests b panel (stepped.Wrote write) true = subst (λ (a : Stepped). Tests b panel a true) is test in
+    write_hits b cycle panel shown s t write on w e ((tested b cycle panel shown s t (stepped.Wrote write) true w known).0 refl)
 
-pub miss_of_write : (b : Breakpoint) (cycle : ℕ) (panel shown : Face) (s t : State) (write : ChannelWrite) → IsOnWrite b
-    → (t, stepped.Wrote write) ≡ next_before cycle s → shown ≡ shown_after (stepped.Wrote write) panel
-    → Tests b panel (stepped.Wrote write) false → HasAdvanced b cycle panel shown s t None
-miss_of_write b cycle panel shown s t write on next e test =
-    let w = to_write cycle s t (stepped.Wrote write) next in
+pub miss_of_write : (b : Breakpoint) (cycle : ℕ) (panel shown : Face) (s t : State) (answer : Stepped) (write : ChannelWrite) → answer ≡ stepped.Wrote write
+    → IsOnWrite b → (t, answer) ≡ next_before cycle s → shown ≡ shown_after (stepped.Wrote write) panel → Tests b panel answer false
+    → HasAdvanced b cycle panel shown s t None
+miss_of_write b cycle panel shown s t answer write is on next e test =
+    let w = to_write cycle s t (stepped.Wrote write) (subst (λ (a : Stepped). (t, a) ≡ next_before cycle s) is next) in
+    let known : Tests b panel (stepped.Wrote write) false = subst (λ (a : Stepped). Tests b panel a false) is test in
     write_misses b cycle panel shown s t (stepped.Wrote write) on w e
-    (λ meets. let both : false ≡ true = (tested b cycle panel shown s t (stepped.Wrote write) false w test).1 meets in cc)
+    (λ meets. let both : false ≡ true = (tested b cycle panel shown s t (stepped.Wrote write) false w known).1 meets in cc)
 
 pub miss_otherwise : (b : Breakpoint) (cycle : ℕ) (panel : Face) (s t : State) (answer : Stepped) → IsOnWrite b → (t, answer) ≡ next_before cycle s
     → ((write : ChannelWrite) → answer ≡ stepped.Wrote write → ⊥) → HasAdvanced b cycle panel panel s t None

@@ -58,18 +58,21 @@ pub enum Breakpoint {
     Panel,
 }
 
-/// Returns whether a boundary that returned a write hits a breakpoint on a write.
+/// Returns whether a boundary with this answer hits a breakpoint that only a write can hit.
 #[tactic(auto, unfolding(crate::specs::Breakpoint::Meets))]
 pub(crate) fn is_hit_by_write(
     breakpoint: &Breakpoint,
-    write: &ChannelWrite,
+    stepped: &Stepped,
     before: &Panel,
     now: &Panel,
 ) -> bool
     requires on { IsOnWrite breakpoint.now }
-    requires shown { now.now ≡ face_after before.now (write.now ∷ []) }
-    ensures { (s : State) → (boundary None s).1 ≡ Stepped.Wrote write.now → (IsTrue result ↔ Meets breakpoint.now before.now s) }
+    requires shown { now.now ≡ shown_after stepped.now before.now }
+    ensures { (s : State) → (boundary None s).1 ≡ stepped.now → (IsTrue result ↔ Meets breakpoint.now before.now s) }
 {
+    let Stepped::Wrote(write) = stepped else {
+        return false;
+    };
     match breakpoint {
         Breakpoint::Write { channel, word } => {
             is_channel_of(*channel, write.channel) && is_value_of(word, write.value)
@@ -87,18 +90,6 @@ pub(crate) fn pass(machine: &mut Machine, panel: &mut Panel)
 {
     if let Stepped::Wrote(write) = machine.step(None) {
         panel.take(&write);
-    }
-}
-
-/// Returns whether a boundary changed what the panel shows.
-pub(crate) fn is_panel_change(stepped: &Stepped, before: &Panel, now: &Panel) -> bool
-    requires { now.now ≡ shown_after stepped.now before.now }
-    ensures { result ≡ is_panel_change before.now stepped.now }
-{
-    match stepped {
-        Stepped::Wrote(_) => !shows_same(&now.face(), &before.face()),
-        Stepped::Quiet => false,
-        Stepped::Stopped(_) => false,
     }
 }
 
@@ -235,18 +226,6 @@ fn is_wanted(which: Option<Rupt>, rupt: Rupt) -> bool
     match which {
         Some(which) => rupt.number() == which.number(),
         None => true,
-    }
-}
-
-/// Returns whether a boundary wrote to this channel, or to any, this word, or any.
-pub(crate) fn is_write_of(stepped: &Stepped, channel: Option<u16>, word: &Option<Narrow>) -> bool
-    ensures { result ≡ is_write_of channel word.now stepped.now }
-{
-    match stepped {
-        Stepped::Wrote(write) => {
-            is_channel_of(channel, write.channel) && is_value_of(word, write.value)
-        }
-        Stepped::Quiet | Stepped::Stopped(_) => false,
     }
 }
 

@@ -1,20 +1,18 @@
 //! Takes boundaries up to a hit: whole runs of orders if nothing but orders can come, otherwise one boundary.
-ghost use Rattle.std.specs.Prelude.{◌≡◌, ◌<◌, None, Some};
+ghost use Rattle.std.specs.Prelude.{◌≡◌, ◌<◌, None};
 ghost use Rattle.agc_machine.specs.OrderRun.{IsWatchInRange};
-ghost use Rattle.agc_session.specs.Breakpoint.{word_at};
 ghost use Rattle.agc_session.specs.Search.{HasAdvanced, HasPassed};
 ghost use Rattle.agc_session.specs.Session.{shown_after};
 ghost use Rattle.agc_store.specs.Places.{erasable_cells};
-ghost use Rattle.agc_word.specs.Number.{pattern_of};
 
 use crate::breakpoint::{
     Breakpoint, has_changed, is_order_next, is_service_next, pass, place_number, window_address,
+    word_of,
 };
 use agc_listing::Location;
 use agc_machine::{Machine, Stepped, Watch};
 use agc_panel::Panel;
 use agc_processor::Rupt;
-use agc_word::Narrow;
 
 /// Takes one boundary or more to a cycle, but none after the order at a place. Returns the cycle at which the order
 /// began, if it ran.
@@ -60,21 +58,19 @@ pub(crate) fn pass_to_service(
     None
 }
 
-/// Takes one boundary or more to a cycle, but none after a change of a cell, which had this word. Returns the cycle at
-/// which the boundary of the change began, if there was one.
+/// Takes one boundary or more to a cycle, but none after a change of a cell. Returns the cycle at which the boundary of
+/// the change began, if there was one.
 pub(crate) fn pass_to_change(
     cell: u16,
-    before: Narrow,
     machine: &mut Machine,
     panel: &mut Panel,
     end: u64,
 ) -> Option<u64>
     requires range { cell < erasable_cells }
     requires runs { machine.old.stopped ≡ None }
-    requires before { pattern_of 15 before ≡ pattern_of 15 (word_at cell machine.old.processor.store) }
-    ensures advanced { HasAdvanced (Breakpoint.Cell cell) end panel.old panel.new machine.old machine.new result }
-    ensures same { result ≡ None → pattern_of 15 before ≡ pattern_of 15 (word_at cell machine.new.processor.store) }
+    ensures { HasAdvanced (Breakpoint.Cell cell) end panel.old panel.new machine.old machine.new result }
 {
+    let before = word_of(machine.store(), cell);
     let watch = Watch::Change { cell, word: before };
     let cycle = pass_some(&watch, machine, panel, end);
     if has_changed(machine.store(), cell, before) {

@@ -8,18 +8,15 @@ ghost use Rattle.agc_session.specs.Search.{HasAdvanced, HasCounted, HasSearched,
 ghost use Rattle.agc_session.specs.Session.{start_with};
 ghost use Rattle.agc_script.specs.declared.event.Event.{Event};
 ghost use Rattle.agc_panel.specs.Face.{panel_of};
-ghost use Rattle.agc_store.specs.Places.{erasable_cells};
 
-use crate::breakpoint::{Breakpoint, is_hit_by_write, pass, word_of};
+use crate::breakpoint::{Breakpoint, is_hit_by_write, pass};
 use crate::by_orders::{pass_to_change, pass_to_order, pass_to_service};
 use crate::cancellation::Cancellation;
 use crate::checkpoint::{Checkpoint, Checkpoints};
 use crate::fault::SearchFault;
 use crate::session::copied;
-use agc_listing::Location;
 use agc_machine::{Machine, Stepped};
 use agc_panel::Panel;
-use agc_processor::Rupt;
 use agc_script::Script;
 use std::alloc::Global;
 
@@ -300,9 +297,9 @@ fn advance(
 {
     match breakpoint {
         Breakpoint::Boundary => Some(advance_by_one(machine, panel, end)),
-        Breakpoint::Order(place) => advance_to_order(*place, machine, panel, end),
-        Breakpoint::Cell(cell) => advance_to_change(*cell, machine, panel, end),
-        Breakpoint::Interrupt(which) => advance_to_service(*which, machine, panel, end),
+        Breakpoint::Order(place) => pass_to_order(*place, machine, panel, end),
+        Breakpoint::Cell(cell) => pass_to_change(*cell, machine, panel, end),
+        Breakpoint::Interrupt(which) => pass_to_service(*which, machine, panel, end),
         Breakpoint::Write { .. } | Breakpoint::Panel => {
             advance_to_write(breakpoint, machine, panel, end)
         }
@@ -319,73 +316,6 @@ fn advance_by_one(machine: &mut Machine, panel: &mut Panel, end: u64) -> u64
     cycle
 }
 
-/// Runs to after the order at a place, or to the first boundary that ends at a cycle or later, or to the stop.
-fn advance_to_order(
-    place: Location,
-    machine: &mut Machine,
-    panel: &mut Panel,
-    end: u64,
-) -> Option<u64>
-    requires runs { machine.old.stopped ≡ None }
-    ensures { HasAdvanced (Breakpoint.Order place) end panel.old panel.new machine.old machine.new result }
-{
-    loop {
-        if let Some(cycle) = pass_to_order(place, machine, panel, end) {
-            return Some(cycle);
-        }
-        if !is_short_of(machine, end) {
-            return None;
-        }
-    }
-}
-
-/// Runs to after the start of the service of this interrupt, or of any, or to the first boundary that ends at a cycle
-/// or later, or to the stop.
-fn advance_to_service(
-    which: Option<Rupt>,
-    machine: &mut Machine,
-    panel: &mut Panel,
-    end: u64,
-) -> Option<u64>
-    requires runs { machine.old.stopped ≡ None }
-    ensures { HasAdvanced (Breakpoint.Interrupt which) end panel.old panel.new machine.old machine.new result }
-{
-    loop {
-        if let Some(cycle) = pass_to_service(which, machine, panel, end) {
-            return Some(cycle);
-        }
-        if !is_short_of(machine, end) {
-            return None;
-        }
-    }
-}
-
-/// Runs to after a change of a cell, or to the first boundary that ends at a cycle or later, or to the stop.
-fn advance_to_change(cell: u16, machine: &mut Machine, panel: &mut Panel, end: u64) -> Option<u64>
-    requires range { cell < erasable_cells }
-    requires runs { machine.old.stopped ≡ None }
-    ensures { HasAdvanced (Breakpoint.Cell cell) end panel.old panel.new machine.old machine.new result }
-{
-    let word = word_of(machine.store(), cell);
-    loop {
-        if let Some(cycle) = pass_to_change(cell, word, machine, panel, end) {
-            return Some(cycle);
-        }
-        if !is_short_of(machine, end) {
-            return None;
-        }
-    }
-}
-
-/// Returns whether a machine has neither reached a cycle nor stopped.
-#[inline(always)]
-fn is_short_of(machine: &Machine, cycle: u64) -> bool
-    ensures before { IsTrue result → machine.now.cycle < cycle }
-    ensures runs { IsTrue result → machine.now.stopped ≡ None }
-{
-    machine.cycle() < cycle && machine.stopped().is_none()
-}
-
 /// Runs to the next write, or to the first boundary that ends at a cycle or later.
 fn advance_to_write(
     breakpoint: &Breakpoint,
@@ -396,18 +326,16 @@ fn advance_to_write(
     requires { IsOnWrite breakpoint.now }
     ensures { HasAdvanced breakpoint.now end panel.old panel.new machine.old machine.new result }
 {
-    match machine.next_write_before(end) {
-        Stepped::Wrote(write) => {
-            let before = *panel;
-            panel.take(&write);
-            if is_hit_by_write(breakpoint, &write, &before, panel) {
-                Some(write.cycle)
-            } else {
-                None
-            }
-        }
-        Stepped::Quiet => None,
-        Stepped::Stopped(_) => None,
+    let stepped = machine.next_write_before(end);
+    let Stepped::Wrote(write) = &stepped else {
+        return None;
+    };
+    let before = *panel;
+    panel.take(write);
+    if is_hit_by_write(breakpoint, &stepped, &before, panel) {
+        Some(write.cycle)
+    } else {
+        None
     }
 }
 

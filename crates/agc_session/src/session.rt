@@ -22,7 +22,7 @@ ghost use Rattle.agc_session.specs.Session.{HasGone, HasReached, IsReplay, injec
 ghost use Rattle.agc_session.specs.Session.{discarded, retained_before, script_of, script_before};
 
 use crate::breakpoint::{
-    Breakpoint, has_changed, is_order_next, is_panel_change, is_service_next, is_write_of, word_of,
+    Breakpoint, has_changed, is_hit_by_write, is_order_next, is_service_next, word_of,
 };
 use crate::cancellation::{Cancellation, NoCancellation};
 use crate::checkpoint::{Checkpoint, Checkpoints};
@@ -489,19 +489,15 @@ impl Session {
                 self.step();
                 has_changed(self.machine().store(), *cell, before)
             }
-            Breakpoint::Write { channel, word } => {
-                let stepped = self.step();
-                is_write_of(&stepped, *channel, word)
-            }
             Breakpoint::Interrupt(which) => {
                 let hit = is_service_next(self.machine(), *which);
                 self.step();
                 hit
             }
-            Breakpoint::Panel => {
+            Breakpoint::Write { .. } | Breakpoint::Panel => {
                 let before = *self.panel();
                 let stepped = self.step();
-                is_panel_change(&stepped, &before, self.panel())
+                is_hit_by_write(breakpoint, &stepped, &before, self.panel())
             }
         }
     }

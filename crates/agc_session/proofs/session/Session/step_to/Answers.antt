@@ -1,11 +1,10 @@
 use Rattle.std.proofs.Common.{ap, ◌∙◌}
 use Rattle.agc_store.specs.Memory.{Memory}
 use Rattle.std.specs.Prelude.{not}
-use Rattle.agc_panel.specs.declared.face.Face.{Face}
 use Rattle.agc_machine.specs.State.{State}
 use Rattle.agc_machine.specs.Boundary.{upcoming_of}
-use Rattle.agc_session.specs.Breakpoint.{is_panel_change, is_service_of, same_word, word_at}
-use Rattle.agc_session.proofs.RunTo.{ends_boundary, ends_cell, ends_interrupt, ends_panel, ends_write}
+use Rattle.agc_session.specs.Breakpoint.{is_service_of, same_word, word_at}
+use Rattle.agc_session.proofs.RunTo.{ends_boundary, ends_cell, ends_interrupt, ends_on_write}
 use Rattle.agc_session.proofs.session.Session.step_to.Goals as goal
 
 pub returns-in-Boundary-clause-ends : goal.returns-in-Boundary-clause-ends
@@ -21,17 +20,11 @@ returns-in-Cell-clause-ends c =
 
 pub returns-in-Write-clause-ends : goal.returns-in-Write-clause-ends
 returns-in-Write-clause-ends c =
-    rw c.in-Write.is
-    (ends_write c.in-Write.channel c.in-Write.word c.args.self.now c.step-stepped.new.self c.step-stepped.result c.is_write_of.result c.step-stepped.ensures.gone c.is_write_of.ensures)
+    ends_on_write c.args.breakpoint.now c.args.self.now c.step-stepped.new.self c.step-stepped.result c.panel.result.now c.is_hit_by_write.result c.in-Write.is
+    c.step-stepped.ensures.gone c.panel.ensures c.is_hit_by_write.ensures
 
 pub returns-in-Interrupt-clause-ends : goal.returns-in-Interrupt-clause-ends
 returns-in-Interrupt-clause-ends c =
     rw c.in-Interrupt.is
     (ends_interrupt c.in-Interrupt.which c.args.self.now c.is_service_next-hit.result
     (c.is_service_next-hit.ensures ∙ ap (λ (s : State). is_service_of c.in-Interrupt.which (upcoming_of s)) c.machine-in-Interrupt.ensures))
-
-pub returns-in-Panel-clause-ends : goal.returns-in-Panel-clause-ends
-returns-in-Panel-clause-ends c =
-    rw c.in-Panel.is
-    (ends_panel c.args.self.now c.step-stepped-in-Panel.new.self c.step-stepped-in-Panel.result c.is_panel_change.result c.step-stepped-in-Panel.ensures.gone
-    (c.is_panel_change.ensures ∙ ap (λ (p : Face). is_panel_change p c.step-stepped-in-Panel.result) c.panel.ensures))
