@@ -1,8 +1,7 @@
 //! What a run forward or a search back stops at, and whether a boundary hits it.
-ghost use Rattle.std.specs.Prelude.{◌≡◌, ◌∷◌, [], ◌↔◌, ◌<◌, IsTrue, not, true, false};
+ghost use Rattle.std.specs.Prelude.{◌≡◌, ◌↔◌, ◌<◌, IsTrue, not, true};
 ghost use Rattle.agc_machine.specs.Boundary.{boundary, upcoming_of};
 ghost use Rattle.agc_machine.specs.State.{State};
-ghost use Rattle.agc_panel.specs.Face.{face_after};
 ghost use Rattle.agc_session.specs.Search.{IsOnWrite};
 ghost use Rattle.agc_session.specs.Session.{shown_after};
 ghost use Rattle.agc_session.specs.Breakpoint.{
@@ -10,12 +9,9 @@ ghost use Rattle.agc_session.specs.Breakpoint.{
   both_or_none,
   is_channel_of,
   is_order_at,
-  is_panel_change,
   is_service_of,
   is_value_of,
   is_wanted,
-  is_write_of,
-  panel_after,
   place_number,
   same_digit,
   same_lamp,
@@ -36,7 +32,7 @@ use agc_panel::{Digit, Face, Lamp, Lamps, Pair, Panel, Register};
 use agc_processor::Rupt;
 use agc_store::Store;
 use agc_store::place::ERASABLE_BANK_SIZE;
-use agc_word::{ChannelWrite, Narrow};
+use agc_word::Narrow;
 
 /// What a run, forward or backward, stops at.
 #[derive(Clone, Copy, Debug, PartialEq, Eq)]
@@ -79,17 +75,6 @@ pub(crate) fn is_hit_by_write(
         }
         Breakpoint::Panel => !shows_same(&now.face(), &before.face()),
         _ => false,
-    }
-}
-
-/// Takes one boundary. The panel shows its write.
-#[inline(always)]
-pub(crate) fn pass(machine: &mut Machine, panel: &mut Panel)
-    ensures now { machine.new ≡ (boundary None machine.old).0 }
-    ensures panel { panel.new ≡ panel_after panel.old machine.old }
-{
-    if let Stepped::Wrote(write) = machine.step(None) {
-        panel.take(&write);
     }
 }
 

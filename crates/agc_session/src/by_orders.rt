@@ -1,13 +1,14 @@
 //! Takes boundaries up to a hit: whole runs of orders if nothing but orders can come, otherwise one boundary.
 ghost use Rattle.std.specs.Prelude.{◌≡◌, ◌<◌, None};
+ghost use Rattle.agc_machine.specs.Boundary.{boundary};
 ghost use Rattle.agc_machine.specs.OrderRun.{IsWatchInRange};
+ghost use Rattle.agc_session.specs.Breakpoint.{panel_after};
 ghost use Rattle.agc_session.specs.Search.{HasAdvanced, HasPassed};
 ghost use Rattle.agc_session.specs.Session.{shown_after};
 ghost use Rattle.agc_store.specs.Places.{erasable_cells};
 
 use crate::breakpoint::{
-    Breakpoint, has_changed, is_order_next, is_service_next, pass, place_number, window_address,
-    word_of,
+    Breakpoint, has_changed, is_order_next, is_service_next, place_number, window_address, word_of,
 };
 use agc_listing::Location;
 use agc_machine::{Machine, Stepped, Watch};
@@ -26,9 +27,7 @@ pub(crate) fn pass_to_order(
     ensures { HasAdvanced (Breakpoint.Order place) end panel.old panel.new machine.old machine.new result }
 {
     if is_order_next(machine, place) {
-        let cycle = machine.cycle();
-        pass(machine, panel);
-        return Some(cycle);
+        return Some(pass(machine, panel));
     }
     let watch = Watch::Next {
         address: place_number(place),
@@ -50,9 +49,7 @@ pub(crate) fn pass_to_service(
     ensures { HasAdvanced (Breakpoint.Interrupt which) end panel.old panel.new machine.old machine.new result }
 {
     if is_service_next(machine, which) {
-        let cycle = machine.cycle();
-        pass(machine, panel);
-        return Some(cycle);
+        return Some(pass(machine, panel));
     }
     pass_some(&Watch::Nothing, machine, panel, end);
     None
@@ -91,12 +88,20 @@ fn pass_some(watch: &Watch, machine: &mut Machine, panel: &mut Panel, end: u64) 
             show(&run.stepped, panel);
             run.began
         }
-        None => {
-            let cycle = machine.cycle();
-            pass(machine, panel);
-            cycle
-        }
+        None => pass(machine, panel),
     }
+}
+
+/// Takes one boundary. Returns the cycle at which it began. The panel shows its write.
+#[inline(always)]
+pub(crate) fn pass(machine: &mut Machine, panel: &mut Panel) -> u64
+    ensures now { machine.new ≡ (boundary None machine.old).0 }
+    ensures panel { panel.new ≡ panel_after panel.old machine.old }
+    ensures began { result ≡ machine.old.cycle }
+{
+    let began = machine.cycle();
+    show(&machine.step(None), panel);
+    began
 }
 
 /// Shows the write of a boundary on a panel, if there is one.

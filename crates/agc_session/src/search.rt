@@ -9,8 +9,8 @@ ghost use Rattle.agc_session.specs.Session.{start_with};
 ghost use Rattle.agc_script.specs.declared.event.Event.{Event};
 ghost use Rattle.agc_panel.specs.Face.{panel_of};
 
-use crate::breakpoint::{Breakpoint, is_hit_by_write, pass};
-use crate::by_orders::{pass_to_change, pass_to_order, pass_to_service};
+use crate::breakpoint::{Breakpoint, is_hit_by_write};
+use crate::by_orders::{pass, pass_to_change, pass_to_order, pass_to_service};
 use crate::cancellation::Cancellation;
 use crate::checkpoint::{Checkpoint, Checkpoints};
 use crate::fault::SearchFault;
@@ -296,7 +296,7 @@ fn advance(
     ensures { HasAdvanced breakpoint.now end panel.old panel.new machine.old machine.new result }
 {
     match breakpoint {
-        Breakpoint::Boundary => Some(advance_by_one(machine, panel, end)),
+        Breakpoint::Boundary => Some(pass(machine, panel)),
         Breakpoint::Order(place) => pass_to_order(*place, machine, panel, end),
         Breakpoint::Cell(cell) => pass_to_change(*cell, machine, panel, end),
         Breakpoint::Interrupt(which) => pass_to_service(*which, machine, panel, end),
@@ -304,16 +304,6 @@ fn advance(
             advance_to_write(breakpoint, machine, panel, end)
         }
     }
-}
-
-/// Takes one boundary, and returns the cycle at which it began.
-fn advance_by_one(machine: &mut Machine, panel: &mut Panel, end: u64) -> u64
-    requires runs { machine.old.stopped ≡ None }
-    ensures { HasAdvanced Breakpoint.Boundary end panel.old panel.new machine.old machine.new (Some result) }
-{
-    let cycle = machine.cycle();
-    pass(machine, panel);
-    cycle
 }
 
 /// Runs to the next write, or to the first boundary that ends at a cycle or later.

@@ -6,8 +6,8 @@ use Rattle.agc_session.proofs.by_orders.pass_to_service.Goals as goal
 
 pub returns-then-is_service_next : goal.returns-then-is_service_next
 returns-then-is_service_next c =
-    one_hit (breakpoint.Interrupt c.args.which) c.args.end c.args.panel.now c.pass.new.panel c.args.machine.now c.pass.new.machine c.cycle-cycle.result
-    c.requires.runs c.pass.ensures.now c.pass.ensures.panel c.cycle-cycle.ensures.cycle
+    one_hit (breakpoint.Interrupt c.args.which) c.args.end c.args.panel.now c.pass.new.panel c.args.machine.now c.pass.new.machine c.pass.result
+    c.requires.runs c.pass.ensures.now c.pass.ensures.panel c.pass.ensures.began
     (service_meets c.args.which c.args.panel.now c.args.machine.now (sym c.if-is_service_next.ensures))
 
 pub returns : goal.returns

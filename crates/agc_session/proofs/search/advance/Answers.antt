@@ -1,7 +1,13 @@
+use Rattle.agc_session.specs.declared.breakpoint.Breakpoint.TheVariants as breakpoint
+use Rattle.agc_session.proofs.Advancing.{boundary_hits}
+use Rattle.agc_session.proofs.Passing.{one_hit}
 use Rattle.agc_session.proofs.search.advance.Goals as goal
 
 pub returns-in-Boundary : goal.returns-in-Boundary
-returns-in-Boundary c = rw c.in-Boundary.is c.advance_by_one.ensures
+returns-in-Boundary c =
+    rw c.in-Boundary.is
+    (one_hit breakpoint.Boundary c.args.end c.args.panel.now c.pass.new.panel c.args.machine.now c.pass.new.machine c.pass.result c.requires.runs
+    c.pass.ensures.now c.pass.ensures.panel c.pass.ensures.began (boundary_hits c.args.panel.now c.args.machine.now))
 
 pub returns-in-Order : goal.returns-in-Order
 returns-in-Order c = rw c.in-Order.is c.pass_to_order.ensures
