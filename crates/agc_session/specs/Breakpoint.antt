@@ -1,5 +1,5 @@
 -- What a run stops at, and which boundaries of a run hit it.
-use Rattle.std.specs.Prelude.{◌≡◌, ◌⊎◌, ℕ, zero, suc, ◌+◌, ◌<◌, ◌≤◌, ◌/◌, ◌%◌, nat_eq, Bool, true, false, not, ◌&&◌, if◌then◌else◌}
+use Rattle.std.specs.Prelude.{◌≡◌, ◌⊎◌, ℕ, zero, suc, ◌+◌, ◌<◌, ◌≤◌, ◌/◌, ◌%◌, nat_eq, Bool, true, false, not, ◌&&◌}
 use Rattle.std.specs.Prelude.{List, [], ◌∷◌, ◌++◌, length, Option, None, Some, IsTrue, IsSome}
 use Rattle.agc_word.specs.Number.{Number, pattern_of}
 use Rattle.agc_store.specs.Cells.{cell_of}
@@ -17,16 +17,8 @@ use Rattle.agc_machine.specs.declared.answer.Stepped.{Stepped}
 use Rattle.agc_machine.specs.declared.answer.Stepped.TheVariants as stepped
 use Rattle.agc_machine.specs.declared.upcoming.Upcoming.{Upcoming}
 use Rattle.agc_machine.specs.declared.upcoming.Upcoming.TheVariants as upcoming
-use Rattle.std.specs.Str.{bytes_eq}
-use Rattle.agc_panel.specs.Digit.{glyph}
 use Rattle.agc_panel.specs.Face.{face_after, panel_of}
-use Rattle.agc_panel.specs.Lamp.{is_lit}
-use Rattle.agc_panel.specs.declared.digit.Digit.{Digit}
-use Rattle.agc_panel.specs.declared.face.Pair.{Pair}
-use Rattle.agc_panel.specs.declared.face.Register.{Register}
-use Rattle.agc_panel.specs.declared.lamp.Lamp.{Lamp}
-use Rattle.agc_panel.specs.declared.lamp.Lamp.TheVariants as lamp
-use Rattle.agc_panel.specs.declared.lamp.Lamps.{Lamps}
+use Rattle.agc_panel.specs.Text.{shows_same}
 use Rattle.agc_panel.specs.declared.face.Face.{Face}
 use Rattle.agc_session.specs.Session.{BeginBefore, SessionState, script_of, shown_after, start_with}
 use Rattle.agc_session.specs.declared.breakpoint.Breakpoint.{Breakpoint}
@@ -89,45 +81,6 @@ abbrev pub is_write_of : Option ℕ → Option Number → Stepped → Bool
 is_write_of channel word (stepped.Wrote write) = is_channel_of channel write.channel && is_value_of word write.value
 is_write_of channel word stepped.Quiet = false
 is_write_of channel word (stepped.Stopped why) = false
-
--- two panels show the same: each digit, sign, lamp and the flash
-abbrev pub both_or_none : Bool → Bool → Bool
-both_or_none one other = if one then other else not other
-
-abbrev pub same_digit : Digit → Digit → Bool
-same_digit one other = bytes_eq (glyph one) (glyph other)
-
-abbrev pub same_pair : Pair → Pair → Bool
-same_pair one other = same_digit one.left other.left && same_digit one.right other.right
-
-abbrev pub same_register : Register → Register → Bool
-same_register one other =
-    both_or_none one.plus other.plus && both_or_none one.minus other.minus && same_digit one.d1 other.d1
-    && same_digit one.d2 other.d2 && same_digit one.d3 other.d3 && same_digit one.d4 other.d4 && same_digit one.d5 other.d5
-
-abbrev pub same_lamp : Lamps → Lamps → Lamp → Bool
-same_lamp one other lamp = both_or_none (is_lit one lamp) (is_lit other lamp)
-
-abbrev pub same_lamps : Lamps → Lamps → Bool
-same_lamps one other =
-    same_lamp one other lamp.CompActy
-    && same_lamp one other lamp.UplinkActy
-    && same_lamp one other lamp.NoAtt
-    && same_lamp one other lamp.Temp
-    && same_lamp one other lamp.GimbalLock
-    && same_lamp one other lamp.Prog
-    && same_lamp one other lamp.KeyRel
-    && same_lamp one other lamp.OprErr
-    && same_lamp one other lamp.Tracker
-    && same_lamp one other lamp.Alt
-    && same_lamp one other lamp.Vel
-    && same_lamp one other lamp.Iss
-
-unfoldable pub shows_same : Face → Face → Bool
-shows_same one other =
-    same_pair one.program other.program && same_pair one.verb other.verb && same_pair one.noun other.noun
-    && same_register one.r1 other.r1 && same_register one.r2 other.r2 && same_register one.r3 other.r3
-    && both_or_none one.flash other.flash && same_lamps one.lamps other.lamps
 
 -- a boundary changes what the panel shows, which only a write can
 abbrev pub is_panel_change : Face → Stepped → Bool

@@ -6,21 +6,14 @@ ghost use Rattle.agc_session.specs.Search.{IsOnWrite};
 ghost use Rattle.agc_session.specs.Session.{shown_after};
 ghost use Rattle.agc_session.specs.Breakpoint.{
   Meets,
-  both_or_none,
   is_channel_of,
   is_order_at,
   is_service_of,
   is_value_of,
   is_wanted,
   place_number,
-  same_digit,
-  same_lamp,
-  same_lamps,
   same_location,
-  same_pair,
-  same_register,
   same_word,
-  shows_same,
   window_address,
   word_at,
 };
@@ -28,7 +21,7 @@ ghost use Rattle.agc_store.specs.Places.{erasable_cells};
 
 use agc_listing::{Location, location_at};
 use agc_machine::{Machine, Stepped, Upcoming};
-use agc_panel::{Digit, Face, Lamp, Lamps, Pair, Panel, Register};
+use agc_panel::Panel;
 use agc_processor::Rupt;
 use agc_store::Store;
 use agc_store::place::ERASABLE_BANK_SIZE;
@@ -73,77 +66,9 @@ pub(crate) fn is_hit_by_write(
         Breakpoint::Write { channel, word } => {
             is_channel_of(*channel, write.channel) && is_value_of(word, write.value)
         }
-        Breakpoint::Panel => !shows_same(&now.face(), &before.face()),
+        Breakpoint::Panel => !now.shows_same(before),
         _ => false,
     }
-}
-
-/// Returns whether two panels show the same.
-#[tactic(auto, unfolding(crate::specs::Breakpoint::shows_same))]
-fn shows_same(one: &Face, other: &Face) -> bool
-    ensures { result ≡ shows_same one.now other.now }
-{
-    same_pair(&one.program, &other.program)
-        && same_pair(&one.verb, &other.verb)
-        && same_pair(&one.noun, &other.noun)
-        && same_register(&one.r1, &other.r1)
-        && same_register(&one.r2, &other.r2)
-        && same_register(&one.r3, &other.r3)
-        && both_or_none(one.flash, other.flash)
-        && same_lamps(&one.lamps, &other.lamps)
-}
-
-fn same_pair(one: &Pair, other: &Pair) -> bool
-    ensures { result ≡ same_pair one.now other.now }
-{
-    same_digit(one.left, other.left) && same_digit(one.right, other.right)
-}
-
-fn same_register(one: &Register, other: &Register) -> bool
-    ensures { result ≡ same_register one.now other.now }
-{
-    both_or_none(one.plus, other.plus)
-        && both_or_none(one.minus, other.minus)
-        && same_digit(one.d1, other.d1)
-        && same_digit(one.d2, other.d2)
-        && same_digit(one.d3, other.d3)
-        && same_digit(one.d4, other.d4)
-        && same_digit(one.d5, other.d5)
-}
-
-fn same_lamps(one: &Lamps, other: &Lamps) -> bool
-    ensures { result ≡ same_lamps one.now other.now }
-{
-    same_lamp(one, other, Lamp::CompActy)
-        && same_lamp(one, other, Lamp::UplinkActy)
-        && same_lamp(one, other, Lamp::NoAtt)
-        && same_lamp(one, other, Lamp::Temp)
-        && same_lamp(one, other, Lamp::GimbalLock)
-        && same_lamp(one, other, Lamp::Prog)
-        && same_lamp(one, other, Lamp::KeyRel)
-        && same_lamp(one, other, Lamp::OprErr)
-        && same_lamp(one, other, Lamp::Tracker)
-        && same_lamp(one, other, Lamp::Alt)
-        && same_lamp(one, other, Lamp::Vel)
-        && same_lamp(one, other, Lamp::Iss)
-}
-
-fn same_lamp(one: &Lamps, other: &Lamps, lamp: Lamp) -> bool
-    ensures { result ≡ same_lamp one.now other.now lamp }
-{
-    both_or_none(one.is_lit(lamp), other.is_lit(lamp))
-}
-
-fn same_digit(one: Digit, other: Digit) -> bool
-    ensures { result ≡ same_digit one other }
-{
-    one.glyph() == other.glyph()
-}
-
-fn both_or_none(one: bool, other: bool) -> bool
-    ensures { result ≡ both_or_none one other }
-{
-    if one { other } else { !other }
 }
 
 /// Returns whether the order at a place comes next. Z rules out nearly all orders at once.
