@@ -8,7 +8,7 @@ use Rattle.agc_machine.specs.Laws.{after}
 use Rattle.agc_machine.specs.State.{State}
 use Rattle.agc_machine.specs.declared.answer.Stop.{Stop}
 use Rattle.agc_panel.specs.declared.face.Face.{Face}
-use Rattle.agc_session.specs.Breakpoint.{AreHits, AreHitsOfOne, panel_after, panel_later}
+use Rattle.agc_session.specs.Breakpoint.{AreHits, panel_later}
 use Rattle.agc_session.specs.Search.{HasAdvanced, HasCounted, HasSearched, IsAt, IsCountOf, IsCounting, cycles_of, span}
 use Rattle.agc_session.specs.Session.{BeginBefore}
 use Rattle.agc_session.specs.declared.breakpoint.Breakpoint.{Breakpoint}
@@ -16,7 +16,7 @@ use Rattle.agc_session.specs.declared.search.Counted.{Counted}
 use Rattle.agc_session.specs.declared.search.Found.TheVariants as found
 use Rattle.agc_session.specs.declared.search.Point.{Point}
 use Rattle.agc_session.proofs.Boundaries.{after_plus, panel_plus}
-use Rattle.agc_session.proofs.Hits.{few_hits, hits_join, hits_of_one, hits_split, none_at_point, none_at_stop, same_hits, span_moves}
+use Rattle.agc_session.proofs.Hits.{few_hits, hits_join, hits_split, none_at_point, none_at_stop, same_hits, span_moves}
 
 -- nothing is counted yet
 pub counting_starts : (b : Breakpoint) (n : ℕ) (panel : Face) (s : State) (hits : Counted) → hits.number ≡ 0 → IsCounting b n panel panel s s hits
@@ -97,18 +97,6 @@ pub counts_miss : (b : Breakpoint) (n : ℕ) (panel shown later_shown : Face) (s
 counts_miss b n panel shown later_shown s t u counted point h at not a =
     counts_more b n panel shown later_shown s t u counted point None counted h at not a
     (subst (λ (l : List ℕ). IsCountOf l counted) (sym (append-nil h.cycles)) h.count)
-
--- one boundary
-pub one_boundary : (b : Breakpoint) (cycle : ℕ) (panel shown : Face) (s t : State) (hit : Option ℕ) → t ≡ (boundary None s).0 → shown ≡ panel_after panel s
-    → AreHitsOfOne b panel s (cycles_of hit) → HasAdvanced b cycle panel shown s t hit
-unfolding after panel_later BeginBefore
-one_boundary b cycle panel shown s t hit e p h = record {
-  more = 0;
-  now = sym e;
-  panel_now = sym p;
-  before = tt;
-  hits = hits_of_one b panel s (cycles_of hit) h;
-}
 
 -- an earlier cycle says more
 begins_within : (n cycle end : ℕ) (s : State) → cycle ≤ end → BeginBefore n cycle s → BeginBefore n end s

@@ -1,5 +1,5 @@
 -- Orders that trigger no watch do not hit a breakpoint, so only the boundary after them may.
-use Rattle.std.specs.Prelude.{◌≡◌, ℕ, zero, suc, ◌+◌, ◌<◌, ◌%◌, ◌||◌, nat_eq, Option, None, Some, IsTrue, Bool, true, false, not}
+use Rattle.std.specs.Prelude.{◌≡◌, ℕ, zero, suc, ◌+◌, ◌<◌, ◌%◌, ◌||◌, nat_eq, [], Option, None, Some, IsTrue, Bool, true, false, not}
 use Rattle.std.proofs.Common.{refl, ap, sym, subst, ◌∙◌, arith, inl, inr}
 use Rattle.std.proofs.lemmas.Bool.{eqb-true}
 use Rattle.std.proofs.lemmas.Bool.Decides.{nat_tests}
@@ -16,12 +16,12 @@ use Rattle.agc_machine.specs.declared.order_run.Watch.{Watch}
 use Rattle.agc_machine.specs.declared.order_run.Watch.TheVariants as watch
 use Rattle.agc_machine.specs.declared.upcoming.Upcoming.{Upcoming}
 use Rattle.agc_panel.specs.declared.face.Face.{Face}
-use Rattle.agc_session.specs.Breakpoint.{Meets, is_changed, is_order_at, is_service_of, panel_after, place_number, same_word, window_address, word_at}
+use Rattle.agc_session.specs.Breakpoint.{AreHits, Meets, is_changed, is_order_at, is_service_of, panel_after, place_number, same_word, window_address, word_at}
 use Rattle.agc_session.specs.Search.{HasAdvanced, HasPassed}
-use Rattle.agc_session.specs.Session.{shown_after}
+use Rattle.agc_session.specs.Session.{BeginBefore, shown_after}
 use Rattle.agc_session.specs.declared.breakpoint.Breakpoint.{Breakpoint}
 use Rattle.agc_session.specs.declared.breakpoint.Breakpoint.TheVariants as breakpoint
-use Rattle.agc_session.proofs.Advancing.{HasMissed, ends_with_hit, ends_without, misses}
+use Rattle.agc_session.proofs.Advancing.{AreMissed, AreQuiet, last_hits, last_misses, none_missed}
 use Rattle.agc_session.proofs.Places.{address_of_order}
 
 -- one boundary
@@ -44,8 +44,8 @@ passes_one watch cycle panel shown s same t began e now p c =
 
 pub one_hit : (b : Breakpoint) (cycle : ℕ) (panel shown : Face) (s t : State) (began : ℕ) → s.stopped ≡ None → t ≡ (boundary None s).0
     → shown ≡ panel_after panel s → began ≡ s.cycle → Meets b panel s → HasAdvanced b cycle panel shown s t (Some began)
-one_hit b cycle panel shown s t began runs e p c meets =
-    ends_with_hit b cycle panel panel shown s s t began (inl (refl, refl)) runs e p c meets
+unfolding after
+one_hit b cycle panel shown s t began runs e p c meets = last_hits b cycle 0 panel shown s t began (none_missed b cycle panel s) e p runs c meets
 
 pub order_meets : (place : Location) (panel : Face) (s : State) → is_order_at place (upcoming_of s) ≡ true → Meets (breakpoint.Order place) panel s
 unfolding Meets
@@ -61,20 +61,23 @@ abbrev pub RulesOut : Breakpoint → Watch → ℕ → (State → Type 0) → Ty
 RulesOut b watch cycle clear =
     (panel : Face) (t : State) → clear t → IsPassed watch cycle t → (Meets b panel t → ⊥) × clear (boundary None t).0
 
-missed_by : (b : Breakpoint) (watch : Watch) (cycle : ℕ) (clear : State → Type 0) → RulesOut b watch cycle clear
-    → (n : ℕ) (panel shown : Face) (s t : State) → HasMissed b cycle panel shown s t → clear t → ArePassed watch cycle n t
-    → HasMissed b cycle panel shown s (after n t) × clear (after n t)
-unfolding after ArePassed
-missed_by b watch cycle clear rules zero panel shown s t missed c h = (missed, c)
-missed_by b watch cycle clear rules (suc n) panel shown s t missed c h =
-    let next = rules shown t c h.0 in
-    let same : shown ≡ panel_after shown t = sym (ap (λ (answer : Stepped). shown_after answer shown) h.0.quiet) in
-    missed_by b watch cycle clear rules n panel shown s (boundary None t).0
-    (misses b cycle panel shown shown s t (boundary None t).0 missed refl same next.0 h.0.before) next.1 h.1
-
-missed_from : (b : Breakpoint) (watch : Watch) (cycle : ℕ) (clear : State → Type 0) → RulesOut b watch cycle clear
-    → (n : ℕ) (panel : Face) (s : State) → clear s → ArePassed watch cycle n s → HasMissed b cycle panel panel s (after n s) × clear (after n s)
-missed_from b watch cycle clear rules n panel s c h = missed_by b watch cycle clear rules n panel panel s s (inl (refl, refl)) c h
+all_missed : (b : Breakpoint) (watch : Watch) (cycle : ℕ) (clear : State → Type 0) → RulesOut b watch cycle clear
+    → (n : ℕ) (panel : Face) (s : State) → clear s → ArePassed watch cycle n s → AreMissed b cycle n panel s × clear (after n s)
+unfolding after AreHits ArePassed AreQuiet BeginBefore
+all_missed b watch cycle clear rules zero panel s c h = (none_missed b cycle panel s, c)
+all_missed b watch cycle clear rules (suc n) panel s c h =
+    let next = rules panel s c h.0 in
+    let same : panel_after panel s ≡ panel = ap (λ (answer : Stepped). shown_after answer panel) h.0.quiet in
+    let rest = all_missed b watch cycle clear rules n panel (boundary None s).0 next.1 h.1 in
+    let none : AreHits b n (panel_after panel s) (boundary None s).0 [] =
+    subst (λ (p : Face). AreHits b n p (boundary None s).0 []) (sym same) rest.0.none in (
+      record {
+        quiet = (h.0.quiet, rest.0.quiet);
+        before = (h.0.before, rest.0.before);
+        none = ([], [], inr (λ hit. next.0 hit.meets, refl), none, refl);
+      },
+      rest.1,
+    )
 
 runs_last : (n : ℕ) (s : State) → s.stopped ≡ None → (0 < n → IsAtOrder (after n s)) → (after n s).stopped ≡ None
 unfolding after
@@ -100,8 +103,8 @@ pub no_service : (which : Option Rupt) (watch : Watch) (cycle : ℕ) (panel show
     → HasPassed watch cycle panel shown s t began → is_service_of which (upcoming_of s) ≡ false
     → HasAdvanced (breakpoint.Interrupt which) cycle panel shown s t None
 no_service which watch cycle panel shown s t began h none =
-    let way = missed_from (breakpoint.Interrupt which) watch cycle (λ s. Unit {0}) (service_rules which watch cycle) h.more panel s tt h.passed in
-    ends_without (breakpoint.Interrupt which) cycle panel panel shown s (after h.more s) t way.0 h.now h.panel_now
+    let way = all_missed (breakpoint.Interrupt which) watch cycle (λ s. Unit {0}) (service_rules which watch cycle) h.more panel s tt h.passed in
+    last_misses (breakpoint.Interrupt which) cycle h.more panel shown s t way.0 h.now h.panel_now
     (last_service which h.more panel s h.last (λ k. let both : true ≡ false = sym k ∙ none in cc))
 
 -- Z rules out the order at a place
@@ -143,9 +146,9 @@ pub no_order : (own window : ℕ) (place : Location) (cycle : ℕ) (panel shown 
     → window ≡ window_address place → HasPassed (watch.Next own window) cycle panel shown s t began → is_order_at place (upcoming_of s) ≡ false
     → HasAdvanced (breakpoint.Order place) cycle panel shown s t None
 no_order own window place cycle panel shown s t began o w h none =
-    let way = missed_from (breakpoint.Order place) (watch.Next own window) cycle (IsElsewhere place) (order_rules own window place cycle o w) h.more panel s
+    let way = all_missed (breakpoint.Order place) (watch.Next own window) cycle (IsElsewhere place) (order_rules own window place cycle o w) h.more panel s
     (λ k. let both : true ≡ false = sym k ∙ none in cc) h.passed in
-    ends_without (breakpoint.Order place) cycle panel panel shown s (after h.more s) t way.0 h.now h.panel_now
+    last_misses (breakpoint.Order place) cycle h.more panel shown s t way.0 h.now h.panel_now
     (elsewhere_misses place panel (after h.more s) way.1)
 
 -- a cell keeps its word
@@ -189,14 +192,14 @@ pub no_change : (cell : ℕ) (word : Number) (cycle : ℕ) (panel shown : Face) 
     → HasPassed (watch.Change cell word) cycle panel shown s t began → HasWord cell word s
     → not (same_word (word_at cell t.processor.store) word) ≡ false → HasAdvanced (breakpoint.Cell cell) cycle panel shown s t None
 no_change cell word cycle panel shown s t began h w same =
-    let way = missed_from (breakpoint.Cell cell) (watch.Change cell word) cycle (HasWord cell word) (cell_rules cell word cycle) h.more panel s w h.passed in
-    ends_without (breakpoint.Cell cell) cycle panel panel shown s (after h.more s) t way.0 h.now h.panel_now
+    let way = all_missed (breakpoint.Cell cell) (watch.Change cell word) cycle (HasWord cell word) (cell_rules cell word cycle) h.more panel s w h.passed in
+    last_misses (breakpoint.Cell cell) cycle h.more panel shown s t way.0 h.now h.panel_now
     (cell_misses cell word panel (after h.more s) t way.1 h.now same)
 
 pub last_changes : (cell : ℕ) (word : Number) (cycle : ℕ) (panel shown : Face) (s t : State) (began : ℕ)
     → HasPassed (watch.Change cell word) cycle panel shown s t began → s.stopped ≡ None → HasWord cell word s
     → not (same_word (word_at cell t.processor.store) word) ≡ true → HasAdvanced (breakpoint.Cell cell) cycle panel shown s t (Some began)
 last_changes cell word cycle panel shown s t began h runs w other =
-    let way = missed_from (breakpoint.Cell cell) (watch.Change cell word) cycle (HasWord cell word) (cell_rules cell word cycle) h.more panel s w h.passed in
-    ends_with_hit (breakpoint.Cell cell) cycle panel panel shown s (after h.more s) t began way.0 (runs_last h.more s runs h.last) h.now h.panel_now h.begins
+    let way = all_missed (breakpoint.Cell cell) (watch.Change cell word) cycle (HasWord cell word) (cell_rules cell word cycle) h.more panel s w h.passed in
+    last_hits (breakpoint.Cell cell) cycle h.more panel shown s t began way.0 h.now h.panel_now (runs_last h.more s runs h.last) h.begins
     (cell_hits cell word panel (after h.more s) t way.1 h.now other)

@@ -1,5 +1,5 @@
 -- Quiet boundaries hit no breakpoint on a write, so the run can go to the next write at once.
-use Rattle.std.specs.Prelude.{◌≡◌, ℕ, zero, suc, ◌+◌, ◌<◌, ◌≤◌, [], ◌∷◌, Option, None, Some, IsTrue, Bool, true, false, ◌↔◌}
+use Rattle.std.specs.Prelude.{◌≡◌, ℕ, zero, suc, ◌<◌, ◌≤◌, [], Option, None, Some, IsTrue, Bool, true, false, ◌↔◌}
 use Rattle.std.proofs.Common.{refl, ap, sym, subst, ◌∙◌, arith, inl, inr}
 use Rattle.std.proofs.lemmas.Bool.Decides.{leb_tells}
 use Rattle.agc_word.specs.declared.channel_write.ChannelWrite.{ChannelWrite}
@@ -12,18 +12,12 @@ use Rattle.agc_machine.specs.declared.answer.Stepped.TheVariants as stepped
 use Rattle.agc_machine.specs.declared.answer.Stop.{Stop}
 use Rattle.agc_machine.proofs.Chain.{boundary_falls, some_left, stopped_stays}
 use Rattle.agc_panel.specs.declared.face.Face.{Face}
-use Rattle.agc_session.specs.Breakpoint.{AreHits, AreHitsOfOne, Hits, Meets, panel_after, panel_later}
-use Rattle.agc_session.specs.Search.{HasAdvanced, IsOnWrite, cycles_of}
+use Rattle.agc_session.specs.Breakpoint.{AreHits, Hits, Meets, panel_after}
+use Rattle.agc_session.specs.Search.{HasAdvanced, IsOnWrite}
 use Rattle.agc_session.specs.Session.{BeginBefore, shown_after}
 use Rattle.agc_session.specs.declared.breakpoint.Breakpoint.{Breakpoint}
 use Rattle.agc_session.specs.declared.breakpoint.Breakpoint.TheVariants as breakpoint
-use Rattle.agc_session.proofs.Boundaries.{after_next, panel_next}
-use Rattle.agc_session.proofs.Hits.{hits_join, hits_of_one}
-
--- this many boundaries are quiet
-unfoldable pub AreQuiet : ℕ → State → Type 0
-AreQuiet zero s = Unit {0}
-AreQuiet (suc n) s = ((boundary None s).1 ≡ stepped.Quiet) × AreQuiet n (boundary None s).0
+use Rattle.agc_session.proofs.Advancing.{AreMissed, AreQuiet, last_hits, last_misses}
 
 -- Some quiet boundaries and the one that ends the run to the next write.
 pub record ToWrite (cycle : ℕ) (s t : State) (answer : Stepped) : Type 0 where
@@ -97,28 +91,16 @@ no_hits b (suc n) panel s on h =
     let none : Hits b panel s → ⊥ = λ hit. no_quiet_hit b panel s on h.0 hit.meets in
     ([], [], inr (none, refl), no_hits b n (panel_after panel s) (boundary None s).0 on h.1, refl)
 
-same_panel : (n : ℕ) (panel : Face) (s : State) → AreQuiet n s → panel_later n panel s ≡ panel
-unfolding AreQuiet panel_later
-same_panel zero panel s h = refl
-same_panel (suc n) panel s h =
-    same_panel n (panel_after panel s) (boundary None s).0 h.1 ∙ ap (λ (answer : Stepped). shown_after answer panel) h.0
+missed : (b : Breakpoint) (cycle : ℕ) (panel : Face) (s t : State) (answer : Stepped) → IsOnWrite b → (w : ToWrite cycle s t answer)
+    → AreMissed b cycle w.more panel s
+missed b cycle panel s t answer on w = record { quiet = w.quiet; before = w.before; none = no_hits b w.more panel s on w.quiet }
 
-pub advances : (b : Breakpoint) (cycle : ℕ) (panel shown : Face) (s t : State) (answer : Stepped) (hit : Option ℕ) → IsOnWrite b
-    → (w : ToWrite cycle s t answer) → shown ≡ shown_after answer panel → AreHitsOfOne b panel (after w.more s) (cycles_of hit)
-    → HasAdvanced b cycle panel shown s t hit
-advances b cycle panel shown s t answer hit on w e h =
-    let count : suc w.more ≡ w.more + 1 = omega arith in
-    let quiet : panel_later w.more panel s ≡ panel = same_panel w.more panel s w.quiet in
-    record {
-      more = w.more;
-      now = ap (λ (n : ℕ). after n s) count ∙ after_next w.more s ∙ ap (λ (r : State × Stepped). r.0) w.last;
-      panel_now = ap (λ (n : ℕ). panel_later n panel s) count ∙ panel_next w.more panel s
-          ∙ ap (λ (p : Face). panel_after p (after w.more s)) quiet ∙ ap (λ (r : State × Stepped). shown_after r.1 panel) w.last ∙ sym e;
-      before = w.before;
-      hits = subst (λ (n : ℕ). AreHits b n panel s (cycles_of hit)) (sym count)
-          (hits_join b w.more 1 panel s [] (cycles_of hit) (no_hits b w.more panel s on w.quiet)
-          (subst (λ (p : Face). AreHits b 1 p (after w.more s) (cycles_of hit)) (sym quiet) (hits_of_one b panel (after w.more s) (cycles_of hit) h)));
-    }
+state_last : (cycle : ℕ) (s t : State) (answer : Stepped) (w : ToWrite cycle s t answer) → t ≡ (boundary None (after w.more s)).0
+state_last cycle s t answer w = ap (λ (r : State × Stepped). r.0) (sym w.last)
+
+panel_last : (cycle : ℕ) (panel shown : Face) (s t : State) (answer : Stepped) (w : ToWrite cycle s t answer) → shown ≡ shown_after answer panel
+    → shown ≡ panel_after panel (after w.more s)
+panel_last cycle panel shown s t answer w e = e ∙ ap (λ (r : State × Stepped). shown_after r.1 panel) (sym w.last)
 
 -- the boundary of a write ran, and the write has its cycle
 ran_by : (stopped : Option Stop) (s t : State) (write : ChannelWrite) → s.stopped ≡ stopped → boundary None s ≡ (t, stepped.Wrote write) → s.stopped ≡ None
@@ -129,25 +111,25 @@ ran_by (Some why) s t write e h =
 cycle_of_write : (s t : State) (write : ChannelWrite) → boundary None s ≡ (t, stepped.Wrote write) → write.cycle ≡ s.cycle
 cycle_of_write s t write e = (subst (λ (r : State × Stepped). Falls s r) e (boundary_falls s)).1
 
-pub write_hits : (b : Breakpoint) (cycle : ℕ) (panel shown : Face) (s t : State) (write : ChannelWrite) → IsOnWrite b
+write_hits : (b : Breakpoint) (cycle : ℕ) (panel shown : Face) (s t : State) (write : ChannelWrite) → IsOnWrite b
     → (w : ToWrite cycle s t (stepped.Wrote write)) → shown ≡ shown_after (stepped.Wrote write) panel → Meets b panel (after w.more s)
     → HasAdvanced b cycle panel shown s t (Some write.cycle)
 write_hits b cycle panel shown s t write on w e meets =
     let u : State = after w.more s in
-    advances b cycle panel shown s t (stepped.Wrote write) (Some write.cycle) on w e
-    (inl (record { runs = ran_by u.stopped u t write refl w.last; meets = meets }, ap (λ (c : ℕ). c ∷ []) (cycle_of_write u t write w.last)))
+    last_hits b cycle w.more panel shown s t write.cycle (missed b cycle panel s t (stepped.Wrote write) on w) (state_last cycle s t (stepped.Wrote write) w)
+    (panel_last cycle panel shown s t (stepped.Wrote write) w e) (ran_by u.stopped u t write refl w.last) (cycle_of_write u t write w.last) meets
 
-pub write_misses : (b : Breakpoint) (cycle : ℕ) (panel shown : Face) (s t : State) (answer : Stepped) → IsOnWrite b → (w : ToWrite cycle s t answer)
+write_misses : (b : Breakpoint) (cycle : ℕ) (panel shown : Face) (s t : State) (answer : Stepped) → IsOnWrite b → (w : ToWrite cycle s t answer)
     → shown ≡ shown_after answer panel → (Meets b panel (after w.more s) → ⊥) → HasAdvanced b cycle panel shown s t None
 write_misses b cycle panel shown s t answer on w e miss =
-    advances b cycle panel shown s t answer None on w e (inr (λ hit. miss hit.meets, refl))
+    last_misses b cycle w.more panel shown s t (missed b cycle panel s t answer on w) (state_last cycle s t answer w) (panel_last cycle panel shown s t answer w e) miss
 
-pub quiet_misses : (b : Breakpoint) (cycle : ℕ) (panel shown : Face) (s t : State) → IsOnWrite b → ToWrite cycle s t stepped.Quiet → shown ≡ panel
+quiet_misses : (b : Breakpoint) (cycle : ℕ) (panel shown : Face) (s t : State) → IsOnWrite b → ToWrite cycle s t stepped.Quiet → shown ≡ panel
     → HasAdvanced b cycle panel shown s t None
 quiet_misses b cycle panel shown s t on w e =
     write_misses b cycle panel shown s t stepped.Quiet on w e (no_quiet_hit b panel (after w.more s) on (ap (λ (r : State × Stepped). r.1) w.last))
 
-pub stop_misses : (b : Breakpoint) (cycle : ℕ) (panel shown : Face) (s t : State) (why : Stop) → IsOnWrite b → ToWrite cycle s t (stepped.Stopped why)
+stop_misses : (b : Breakpoint) (cycle : ℕ) (panel shown : Face) (s t : State) (why : Stop) → IsOnWrite b → ToWrite cycle s t (stepped.Stopped why)
     → shown ≡ panel → HasAdvanced b cycle panel shown s t None
 stop_misses b cycle panel shown s t why on w e =
     write_misses b cycle panel shown s t (stepped.Stopped why) on w e (no_stop_hit b panel (after w.more s) why on (ap (λ (r : State × Stepped). r.1) w.last))
