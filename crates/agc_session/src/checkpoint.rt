@@ -89,7 +89,7 @@ impl Checkpoints {
     {
         for _copy in 0..self.copies.len() {
             let copy = self.copies.pop()?;
-            if copy.machine.cycle() < before && copy.is_on_run_of(script) {
+            if copy.is_on_run_before(script, before) {
                 return Some(copy);
             }
         }
@@ -98,8 +98,16 @@ impl Checkpoints {
 }
 
 impl Checkpoint {
+    /// Returns whether the run of a script leads to this copy, and before a cycle.
+    pub(crate) fn is_on_run_before(&self, script: &Script, cycle: u64) -> bool
+        ensures fits { IsTrue result → Fits script.now self.now }
+        ensures before { IsTrue result → self.now.machine.cycle < cycle }
+    {
+        self.machine.cycle() < cycle && self.is_on_run_of(script)
+    }
+
     /// Returns whether the run of a script leads to this copy.
-    pub(crate) fn is_on_run_of(&self, script: &Script) -> bool
+    fn is_on_run_of(&self, script: &Script) -> bool
         ensures { IsTrue result → Fits script.now self.now }
     {
         let taken = self.taken.len();

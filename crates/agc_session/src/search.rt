@@ -3,7 +3,7 @@ ghost use Rattle.std.specs.Prelude.{◌≡◌, ◌⊎◌, IsSome, ℕ, ◌+◌, 
 ghost use Rattle.agc_machine.specs.Laws.{after};
 ghost use Rattle.agc_machine.specs.State.{State, start_state};
 ghost use Rattle.agc_session.specs.Breakpoint.{IsBreakpointInRange, IsFoundFrom};
-ghost use Rattle.agc_session.specs.Checkpoints.{Fits, IsCheckpoint};
+ghost use Rattle.agc_session.specs.Checkpoints.{IsCheckpoint};
 ghost use Rattle.agc_session.specs.Search.{HasAdvanced, HasCounted, HasSearched, IsAt, IsFewerThan, IsOnWrite, resumed, span};
 ghost use Rattle.agc_session.specs.Session.{start_with};
 ghost use Rattle.agc_script.specs.declared.event.Event.{Event};
@@ -101,7 +101,7 @@ pub(crate) fn search_back<C: Cancellation>(
     while 0 < place {
         place -= 1;
         let copy = &checkpoints.copies[place];
-        if is_before(copy, script, end) {
+        if copy.is_on_run_before(script, end.cycle) {
             let hit = Wanted {
                 number: wanted,
                 end,
@@ -124,14 +124,6 @@ pub(crate) fn search_back<C: Cancellation>(
         Found::At(cycle) => Ok(Some(cycle)),
         Found::Fewer(_) => Ok(None),
     }
-}
-
-/// Returns whether the run of a script leads to a copy, and before a point.
-fn is_before(copy: &Checkpoint, script: &Script, end: Point) -> bool
-    ensures fits { IsTrue result → Fits script.now copy.now }
-    ensures before { IsTrue result → copy.now.machine.cycle < end.cycle }
-{
-    copy.machine.cycle() < end.cycle && copy.is_on_run_of(script)
 }
 
 /// Returns the point at which the run of a script resumes from a copy.

@@ -22,7 +22,7 @@ returns-in-At g c = λ n e.
     let right : IsCheckpoint words limit copy =
     copy_at words limit (c.loop-place.place - 1) c.args.checkpoints.now.copies.items copy c.requires.right (omega (arith, c.loop-place.invariant.bound, c.loop-place-test.true)) c.index-copy.ensures in
     copy_found c.args.breakpoint.now c.args.count c.loop-place.wanted limit words c.args.script.now c.args.now.now c.loop-place.end c.in-At.cycle copy right
-    (c.is_before.ensures.fits c.if-is_before.true) (c.is_before.ensures.before c.if-is_before.true)
+    (c.is_on_run_before.ensures.fits c.if-is_on_run_before.true) (c.is_on_run_before.ensures.before c.if-is_on_run_before.true)
     (subst (λ (f : Found). (n : ℕ) → IsAt c.loop-place.end (after n (resumed c.args.script.now copy)) → HasSearched c.args.breakpoint.now c.loop-place.wanted n copy.panel (resumed c.args.script.now copy) f)
     c.in-At.is c.in_ok-cycle.ensures.searched)
     (c.loop-place.invariant.searching n e)
@@ -38,7 +38,7 @@ loop-place-preserved-in-Fewer g c =
     record {
       searching = λ n e.
           copy_searched c.args.breakpoint.now c.args.count c.loop-place.wanted limit words c.args.script.now c.args.now.now c.loop-place.end c.begin_of-end.result c.in-Fewer.number copy right
-          (c.is_before.ensures.fits c.if-is_before.true) (c.is_before.ensures.before c.if-is_before.true)
+          (c.is_on_run_before.ensures.fits c.if-is_on_run_before.true) (c.is_on_run_before.ensures.before c.if-is_on_run_before.true)
           (subst (λ (f : Found). (n : ℕ) → IsAt c.loop-place.end (after n (resumed c.args.script.now copy)) → HasSearched c.args.breakpoint.now c.loop-place.wanted n copy.panel (resumed c.args.script.now copy) f)
           c.in-Fewer.is c.in_ok-cycle.ensures.searched)
           c.begin_of-end.ensures (c.loop-place.invariant.searching n e);
