@@ -1,8 +1,6 @@
 -- Whether a word can be meant as an order at a place.
-use Rattle.std.specs.Prelude.{ℕ, ◌+◌, ◌-◌, ◌*◌, ◌/◌, ◌==◌, nat_lt, nat_le, Bool, true, false, not, ◌&&◌, ◌||◌, List, if◌then◌else◌}
+use Rattle.std.specs.Prelude.{ℕ, nat_le, Bool, true, false, not, ◌&&◌, List, Option, Some}
 use Rattle.agc_word.specs.Number.{Number, pattern_of}
-use Rattle.agc_store.specs.Memory.{fixed_at}
-use Rattle.agc_store.specs.Places.{fixed_bank_size, fixed_fixed, fixed_window}
 use Rattle.agc_order.specs.Order.{basic_of, extracode_of}
 use Rattle.agc_order.specs.Row.{basic_row, extracode_row}
 use Rattle.agc_order.specs.declared.order.Extracode.{Extracode}
@@ -10,23 +8,20 @@ use Rattle.agc_order.specs.declared.order.Extracode.TheVariants as extra
 use Rattle.agc_listing.specs.Order.{operand_in}
 use Rattle.agc_listing.specs.declared.order.Operand.{Operand}
 use Rattle.agc_listing.specs.declared.order.Operand.TheVariants as operand
+use Rattle.agc_listing.specs.declared.location.Location.{Location}
+use Rattle.agc_listing.specs.declared.location.Location.TheVariants as location
+use Rattle.agc_check.specs.Holdings.{is_woven_at}
+use Rattle.agc_check.specs.SureLocation.{sure_location}
 
--- whether a place has a word that is not +0
-abbrev pub has_word : List Number → ℕ → Bool
-has_word words place = not (pattern_of 15 (fixed_at place words) == 0)
+-- whether a location is not a place with +0
+abbrev pub holds_word : List Number → Option Location → Bool
+holds_word words (Some (location.Fixed place)) = is_woven_at words place
+holds_word words _ = true
 
--- whether a place is in banks 02 and 03, which can always be addressed
-abbrev pub is_in_fixed_fixed : ℕ → Bool
-is_in_fixed_fixed place = nat_le fixed_fixed place && nat_lt place 0o10000
-
--- Whether an address names a word, for an order at a place. A cell always counts, and so does an address in the window
--- from banks 02 and 03, since the bank there is not known.
+-- Whether an address names a word, for an order at a place. A cell always counts, and so does an address that an unknown
+-- bank decides.
 unfoldable pub names_word : List Number → ℕ → ℕ → Bool
-names_word words here address =
-    if nat_lt address fixed_window then true
-    else if nat_le fixed_fixed address then has_word words address
-    else is_in_fixed_fixed here
-    || has_word words (fixed_bank_size * (here / fixed_bank_size) + (address - fixed_window))
+names_word words here address = holds_word words (sure_location here address)
 
 -- whether a channel exists: they are 01 to 35 octal
 abbrev pub is_channel : ℕ → Bool

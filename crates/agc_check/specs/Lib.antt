@@ -11,6 +11,7 @@ pub mod FileWords
 pub mod Parity
 pub mod Patch
 pub mod Reading
+pub mod SureLocation
 pub mod Legal
 pub mod Repair
 pub mod WordDiff

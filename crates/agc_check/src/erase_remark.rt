@@ -1,9 +1,10 @@
 //! Remarks on the erasable cells of a source that lie over registers or over other cells.
 use agc_asm::Directive;
 use agc_listing::{
-    Location, cut_label, is_listed, location_named, next_parsed, offset_parsed, only_word,
+    Cell, Location, cut_label, is_listed, location_named, next_parsed, offset_parsed, only_word,
+    push_place,
 };
-use agc_store::place::{ERASABLE_BANK_SIZE, ERASABLE_CELLS};
+use agc_store::place::ERASABLE_CELLS;
 use agc_word::without_return;
 use std::alloc::{AllocError, Global};
 
@@ -133,12 +134,9 @@ fn push_cells(text: &mut String, cells: Cells) -> Result<(), AllocError> {
 
 /// Appends a cell as sources name it.
 fn push_cell(text: &mut String, cell: u32) -> Result<(), AllocError> {
-    let bank = cell / u32::from(ERASABLE_BANK_SIZE);
-    let offset = cell % u32::from(ERASABLE_BANK_SIZE);
-    if bank < 3 {
-        write!(text, "{cell:04o}")
+    if cell < u32::from(ERASABLE_CELLS) {
+        push_place(text, Cell::new(cell as u16).place())
     } else {
-        let address = offset.saturating_add(0o1400);
-        write!(text, "E{bank},{address:04o}")
+        Ok(())
     }
 }

@@ -5,15 +5,15 @@ ghost use Rattle.agc_store.specs.Places.{fixed_banks, fixed_words};
 
 use crate::bank_sum::{BankSum, SumFit, sum_in_bank};
 use crate::legal::is_extracode_at;
-use crate::parity::{BadWord, bad_words, right_parity};
+use crate::parity::{BadWord, bad_words, damaged_store};
+use crate::printed_place::push_rope_place;
 use crate::reading::{ParityBit, Reading};
 use crate::repair::{Repair, repairs};
 use crate::rope_bytes::file_words;
-use crate::rope_place::push_rope_place;
 use crate::scores::{Score, score_readings};
 use agc_listing::{push_order, read_line};
 use agc_store::place::{FIXED_BANKS, FIXED_WORDS, place_of};
-use agc_store::{Rope, RopeForm, Store};
+use agc_store::{RopeForm, Store};
 use agc_word::{Narrow, next_line};
 use std::alloc::{AllocError, Global};
 
@@ -45,23 +45,6 @@ pub fn push_findings(
         }
     }
     Ok(())
-}
-
-/// Returns the memory with a rope file whose parity bits are made right. Fails if out of memory.
-fn damaged_store(alloc: Global, form: RopeForm, file: &[u8]) -> Result<Store, AllocError>
-    requires { length file.now % 2 ≡ 0 }
-{
-    let rope = match form {
-        RopeForm::Classic => Rope::read(alloc, file),
-        RopeForm::Parity => {
-            let right = right_parity(alloc, file)?;
-            Rope::read_as(alloc, form, right.as_slice())
-        }
-    };
-    match rope {
-        Ok(rope) => Ok(Store::new(rope)),
-        Err(_) => Err(AllocError),
-    }
 }
 
 /// Appends the words with wrong parity, each with its most plausible repairs.

@@ -3,12 +3,13 @@ ghost use Rattle.std.specs.Prelude.{◌≡◌, ◌<◌};
 ghost use Rattle.agc_store.specs.Places.{fixed_words};
 ghost use Rattle.agc_listing.specs.List.{is_extracode_at};
 ghost use Rattle.agc_listing.specs.Order.{FitsPrint};
-ghost use Rattle.agc_check.specs.Legal.{can_have, has_word, is_legal, names_word};
+ghost use Rattle.agc_check.specs.Legal.{can_have, is_legal, names_word};
 
-use agc_listing::{Operand, leads_on, next_is_extracode, operand_in};
+use crate::holdings::is_woven_at;
+use crate::operand_location::sure_location;
+use agc_listing::{Location, Operand, leads_on, next_is_extracode, operand_in};
 use agc_order::{Basic, Extracode};
 use agc_store::Store;
-use agc_store::place::{FIXED_BANK_SIZE, FIXED_FIXED, FIXED_WINDOW};
 use agc_word::Narrow;
 
 /// Returns whether a word is legal at a place, as a basic order or as an extracode: it is not EDRUPT, its channel
@@ -39,40 +40,23 @@ fn can_have(store: &Store, here: usize, operand: Operand) -> bool
 {
     match operand {
         Operand::Nothing => true,
-        Operand::Address(address) => names_word(store, here, usize::from(address)),
+        Operand::Address(address) => names_word(store, here, address),
         Operand::Channel(channel) => 0o01 <= channel && channel <= 0o35,
     }
 }
 
-/// Returns whether an address names a word, for an order at a place. A cell always counts, and so does an address in
-/// the window from banks 02 and 03.
+/// Returns whether an address names a word, for an order at a place. A cell always counts, and so does an address that
+/// an unknown bank decides.
 #[tactic(auto, unfolding(crate::specs::Legal::names_word))]
-fn names_word(store: &Store, here: usize, address: usize) -> bool
+fn names_word(store: &Store, here: usize, address: u16) -> bool
     requires here { here < fixed_words }
     requires address { address < 0o10000 }
     ensures { result ≡ names_word store.now.fixed here address }
 {
-    let size = FIXED_BANK_SIZE as usize;
-    if address < FIXED_WINDOW as usize {
-        true
-    } else if address >= FIXED_FIXED as usize {
-        has_word(store, address)
-    } else if FIXED_FIXED as usize <= here && here < 0o10000 {
-        true
-    } else {
-        has_word(
-            store,
-            size * (here / size) + (address - FIXED_WINDOW as usize),
-        )
+    match sure_location(here, address) {
+        Some(Location::Fixed(place)) => is_woven_at(store, place as usize),
+        _ => true,
     }
-}
-
-/// Returns whether a place has a word that is not +0.
-fn has_word(store: &Store, place: usize) -> bool
-    requires { place < fixed_words }
-    ensures { result ≡ has_word store.now.fixed place }
-{
-    store.fixed_at(place).bits() != 0
 }
 
 /// Returns whether the word at a place is an extracode: the words before it lead to one.

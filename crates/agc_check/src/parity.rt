@@ -6,7 +6,7 @@ ghost use Rattle.agc_check.specs.FileWords.{file_of_words, file_words};
 ghost use Rattle.agc_check.specs.Parity.{bad_words, with_right_parities, with_right_parity};
 
 use crate::rope_bytes::{file_of_words, file_words};
-use agc_store::RopeForm;
+use agc_store::{Rope, RopeForm, Store};
 use std::alloc::{AllocError, Global};
 
 /// A word whose parity is wrong: an even number of its sixteen bits are one, and it is not 0.
@@ -89,12 +89,30 @@ fn right_file(alloc: Global, file: &[u8]) -> Result<Vec<u8>, AllocError>
     file_of_words(alloc, words.as_slice())
 }
 
+/// Returns words with their parity bits made right. Fails if out of memory.
 #[tactic(auto, unfolding(crate::specs::Parity::with_right_parities))]
-fn right_words(alloc: Global, words: &[u16]) -> Result<Vec<u16>, AllocError>
+pub fn right_words(alloc: Global, words: &[u16]) -> Result<Vec<u16>, AllocError>
     ensures { IfOk result (λ right. right.items ≡ with_right_parities words.now) }
 {
     words
         .iter()
         .map(|word| with_right_parity(*word))
         .collect(alloc)
+}
+
+/// Returns the memory with a rope file whose parity bits are made right. Fails if out of memory.
+pub(crate) fn damaged_store(alloc: Global, form: RopeForm, file: &[u8]) -> Result<Store, AllocError>
+    requires { length file.now % 2 ≡ 0 }
+{
+    let rope = match form {
+        RopeForm::Classic => Rope::read(alloc, file),
+        RopeForm::Parity => {
+            let right = right_parity(alloc, file)?;
+            Rope::read_as(alloc, form, right.as_slice())
+        }
+    };
+    match rope {
+        Ok(rope) => Ok(Store::new(rope)),
+        Err(_) => Err(AllocError),
+    }
 }

@@ -5,6 +5,7 @@ ghost use Rattle.agc_check.specs.Reading.{
   ComesBack,
   IsConverted,
   bits_for,
+  bytes_in_order,
   carried_over,
   converted,
   converted_at,
@@ -103,11 +104,7 @@ fn converted_at(before: Reading, after: Reading, words: &[u16], index: usize) ->
 pub(crate) fn word_meant(reading: Reading, bits: u16) -> u16
     ensures { result ≡ word_meant reading bits }
 {
-    let bits = if reading.is_swapped {
-        256 * (bits % 256) + bits / 256
-    } else {
-        bits
-    };
+    let bits = bytes_in_order(reading.is_swapped, bits);
     match reading.parity {
         ParityBit::First => 2 * (bits % 0o100000) + bits / 0o100000,
         ParityBit::Unused | ParityBit::Last => bits,
@@ -123,7 +120,14 @@ fn bits_for(reading: Reading, word: u16) -> u16
         ParityBit::First => 0o100000 * (word % 2) + word / 2,
         ParityBit::Unused | ParityBit::Last => word,
     };
-    if reading.is_swapped {
+    bytes_in_order(reading.is_swapped, bits)
+}
+
+/// Returns sixteen bits, with their two bytes exchanged if they are swapped.
+fn bytes_in_order(is_swapped: bool, bits: u16) -> u16
+    ensures { result ≡ bytes_in_order is_swapped bits }
+{
+    if is_swapped {
         256 * (bits % 256) + bits / 256
     } else {
         bits

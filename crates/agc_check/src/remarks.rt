@@ -323,7 +323,7 @@ pub(crate) fn push_nearest(
 }
 
 fn push_bad_number(text: &mut String, words: &[&[u8]]) -> Result<(), AllocError> {
-    match word_of_no_number(words) {
+    match word_that_misfits(words, false) {
         Some((word, range)) => {
             push_quoted(text, word)?;
             write!(text, " is not a number: 1 to {MOST_DIGITS} digits, ")?;
@@ -336,14 +336,18 @@ fn push_bad_number(text: &mut String, words: &[&[u8]]) -> Result<(), AllocError>
     }
 }
 
-/// Returns the first argument of the command that should be a number and is not, with its range.
-fn word_of_no_number<'a>(words: &[&'a [u8]]) -> Option<(&'a [u8], NumberRange)> {
-    let after = command_place(words) + 1;
-    for place in after..words.len() {
+/// Returns the first argument of the command that is not a number or, if `in_range`, not a number in its range, with
+/// the range.
+fn word_that_misfits<'a>(words: &[&'a [u8]], in_range: bool) -> Option<(&'a [u8], NumberRange)> {
+    for place in command_place(words) + 1..words.len() {
         let Some(range) = range_at(words, place) else {
             continue;
         };
-        if range.read(words[place]).is_none() {
+        let fits = match range.read(words[place]) {
+            Some(number) => !in_range || range.has(number),
+            None => false,
+        };
+        if !fits {
             return Some((words[place], range));
         }
     }
@@ -377,30 +381,13 @@ fn push_out_of_range(text: &mut String, words: &[&[u8]]) -> Result<(), AllocErro
             return push_quoted_then(text, words[2], " or later\n");
         }
     }
-    match word_out_of_range(words) {
+    match word_that_misfits(words, true) {
         Some((word, range)) => {
             push_quoted_then(text, word, " is out of range: ")?;
             push_range(text, range)
         }
         None => text.push_str("a number of the line is out of range\n"),
     }
-}
-
-/// Returns the first argument of the command that is a number out of its range, with the range.
-fn word_out_of_range<'a>(words: &[&'a [u8]]) -> Option<(&'a [u8], NumberRange)> {
-    let after = command_place(words) + 1;
-    for place in after..words.len() {
-        let Some(range) = range_at(words, place) else {
-            continue;
-        };
-        if !range
-            .read(words[place])
-            .is_some_and(|number| range.has(number))
-        {
-            return Some((words[place], range));
-        }
-    }
-    None
 }
 
 /// Appends a range: both ends, and the base.

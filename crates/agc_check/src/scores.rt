@@ -3,12 +3,12 @@
 ghost use Rattle.std.specs.Prelude.{◌≤◌, length};
 ghost use Rattle.agc_store.specs.Places.{fixed_words};
 
-use crate::parity::{is_bad_parity, right_parity};
+use crate::parity::{damaged_store, is_bad_parity};
 use crate::reading::{ParityBit, Reading, convert};
 use crate::rope_bytes::file_of_words;
 use crate::walk::{Reach, follow_orders};
+use agc_store::RopeForm;
 use agc_store::place::FIXED_WORDS;
-use agc_store::{Rope, RopeForm, Store};
 use std::alloc::{AllocError, Global};
 
 /// How well a reading fits the words of a file.
@@ -97,11 +97,8 @@ fn is_bit_right(word: u16, parity: ParityBit) -> bool {
 /// Returns what is reached in the rope of these words, each with its parity bit last.
 fn reach_of(alloc: Global, words: &[u16]) -> Result<Reach, AllocError> {
     let file = file_of_words(alloc, words)?;
-    let right = right_parity(alloc, file.as_slice())?;
-    match Rope::read_as(alloc, RopeForm::Parity, right.as_slice()) {
-        Ok(rope) => follow_orders(alloc, &Store::new(rope)),
-        Err(_) => Err(AllocError),
-    }
+    let store = damaged_store(alloc, RopeForm::Parity, file.as_slice())?;
+    follow_orders(alloc, &store)
 }
 
 fn points_of(bits: usize, reach: Reach) -> usize {

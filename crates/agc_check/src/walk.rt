@@ -1,5 +1,10 @@
 //! Follows the orders of a rope from 4000 and the interrupt vectors, and counts those that look right.
+ghost use Rattle.std.specs.Prelude.{◌<◌};
+ghost use Rattle.agc_store.specs.Places.{fixed_words};
+
 use crate::legal::is_legal;
+use crate::operand_location::sure_location;
+use agc_listing::Location;
 use agc_order::{Basic, Extracode};
 use agc_store::Store;
 use agc_store::place::{FIXED_BANK_SIZE, FIXED_FIXED, FIXED_WINDOW, FIXED_WORDS};
@@ -119,15 +124,17 @@ fn follow(walk: &mut Walk, store: &Store, step: Step) -> Result<(), AllocError> 
 }
 
 /// Notes the places to which a basic order leads.
-fn follow_basic(walk: &mut Walk, place: usize, word: Narrow) -> Result<(), AllocError> {
+fn follow_basic(walk: &mut Walk, place: usize, word: Narrow) -> Result<(), AllocError>
+    requires { place < fixed_words }
+{
     let bits = word.bits();
     match Basic::named_by(word) {
         Basic::Tc if bits < FIXED_WINDOW => Ok(()),
         Basic::Tc => {
-            visit_target(walk, place, bits)?;
+            visit_target(walk, place, word)?;
             visit_next(walk, place, 1, false)
         }
-        Basic::Tcf => visit_target(walk, place, bits),
+        Basic::Tcf => visit_target(walk, place, word),
         Basic::Resume => Ok(()),
         Basic::Extend => visit_next(walk, place, 1, true),
         Basic::Ccs => {
@@ -146,12 +153,14 @@ fn follow_basic(walk: &mut Walk, place: usize, word: Narrow) -> Result<(), Alloc
 }
 
 /// Notes the places to which an extracode leads.
-fn follow_extracode(walk: &mut Walk, place: usize, word: Narrow) -> Result<(), AllocError> {
+fn follow_extracode(walk: &mut Walk, place: usize, word: Narrow) -> Result<(), AllocError>
+    requires { place < fixed_words }
+{
     match Extracode::named_by(word) {
         Extracode::Edrupt => Ok(()),
         Extracode::Index => visit_next(walk, place, 1, true),
         Extracode::Bzf | Extracode::Bzmf => {
-            visit_target(walk, place, word.bits())?;
+            visit_target(walk, place, word)?;
             visit_next(walk, place, 1, false)
         }
         _ => visit_next(walk, place, 1, false),
@@ -166,37 +175,28 @@ fn visit_next(
     extracode: bool,
 ) -> Result<(), AllocError> {
     let next = place.saturating_add(skip);
-    if is_beside(place, next) {
+    if run_of(next) == run_of(place) {
         visit(walk, next, extracode)
     } else {
         Ok(())
     }
 }
 
-/// Returns whether two places are in the same bank, or both in banks 02 and 03.
-fn is_beside(place: usize, next: usize) -> bool {
-    let size = FIXED_BANK_SIZE as usize;
-    place / size == next / size || is_in_fixed_fixed(place) && is_in_fixed_fixed(next)
-}
-
-fn is_in_fixed_fixed(place: usize) -> bool {
-    FIXED_FIXED as usize <= place && place < 0o10000
+/// Returns the bank of a place. Bank 03 counts as bank 02, which it follows.
+fn run_of(place: usize) -> usize {
+    match place / FIXED_BANK_SIZE as usize {
+        3 => 2,
+        bank => bank,
+    }
 }
 
 /// Notes the place that a jump names, if it is in the same bank or in banks 02 and 03.
-fn visit_target(walk: &mut Walk, place: usize, bits: u16) -> Result<(), AllocError> {
-    let size = FIXED_BANK_SIZE as usize;
-    let address = usize::from(bits % 0o10000);
-    if address >= FIXED_FIXED as usize {
-        visit(walk, address, false)
-    } else if address >= FIXED_WINDOW as usize && !is_in_fixed_fixed(place) {
-        visit(
-            walk,
-            (place / size * size).saturating_add(address % size),
-            false,
-        )
-    } else {
-        Ok(())
+fn visit_target(walk: &mut Walk, place: usize, word: Narrow) -> Result<(), AllocError>
+    requires { place < fixed_words }
+{
+    match sure_location(place, word.bits() % 0o10000) {
+        Some(Location::Fixed(target)) => visit(walk, target as usize, false),
+        _ => Ok(()),
     }
 }
 
