@@ -4,4 +4,4 @@ pub mod Starts
 pub mod StopRead
 pub mod Tables
 mod NamedLines
-mod SurePlace
+mod SureLocation

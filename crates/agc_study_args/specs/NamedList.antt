@@ -1,5 +1,5 @@
 -- The text of a rope with names: those of places beside them, and those of operands in place of their digits.
-use Rattle.std.specs.Prelude.{◌≡◌, ◌⊎◌, ℕ, ◌+◌, ◌-◌, ◌*◌, ◌/◌, ◌==◌, ◌&&◌, not, nat_le, nat_lt, Bool, true, false}
+use Rattle.std.specs.Prelude.{◌≡◌, ◌⊎◌, ℕ, ◌/◌, ◌==◌, ◌&&◌, not, Bool, true, false}
 use Rattle.std.specs.Prelude.{List, [], ◌++◌, codes, Option, Some, None, if◌then◌else◌}
 use Rattle.std.specs.List.{flat_map, range_with_len}
 use Rattle.agc_word.specs.Number.{Number, pattern_of}
@@ -8,9 +8,11 @@ use Rattle.agc_order.specs.Order.{basic_of, extracode_of}
 use Rattle.agc_order.specs.Row.{Row, basic_row, extracode_row}
 use Rattle.agc_order.specs.declared.order.Extracode.{Extracode}
 use Rattle.agc_order.specs.declared.order.Extracode.TheVariants as extra
-use Rattle.agc_store.specs.Memory.{Memory, erasable_place, fixed_at, fixed_place, is_erasable, selected_bank}
-use Rattle.agc_store.specs.Places.{erasable_window, fixed_bank_size, fixed_fixed, fixed_window, fixed_words}
+use Rattle.agc_store.specs.Memory.{Memory, fixed_at, selected_bank}
+use Rattle.agc_store.specs.Places.{fixed_bank_size, fixed_words}
+use Rattle.agc_check.specs.SureLocation.{sure_location}
 use Rattle.agc_listing.specs.List.{is_in_selected_bank, is_extracode_at, listed_place}
+use Rattle.agc_listing.specs.Location.{is_fixed_fixed}
 use Rattle.agc_listing.specs.Order.{operand_in, operand_text}
 use Rattle.agc_listing.specs.Place.{place_text}
 use Rattle.agc_listing.specs.declared.location.Location.{Location}
@@ -24,34 +26,9 @@ use Rattle.agc_symbols.specs.Operand.{operand_named}
 use Rattle.agc_symbols.specs.Symbols.{Symbol}
 use Rattle.agc_study_args.specs.declared.named_list.ListedWord.{ListedWord}
 
--- banks 02 and 03, which have addresses of their own
-abbrev pub is_fixed_fixed : ℕ → Bool
-is_fixed_fixed place = nat_le fixed_fixed place && nat_lt place 0o10000
-
--- An order in the window addresses its own bank there. One of banks 02 and 03 runs while any bank is in the window.
-abbrev pub own_window : ℕ → ℕ → Option Location
-own_window place address =
-    if is_fixed_fixed place then None
-    else Some (location.Fixed (fixed_bank_size * (place / fixed_bank_size) + (address - fixed_window)))
-
--- the place that an address names for the order at a place of the rope, if no bank that is not known decides it
-unfoldable pub sure_place : ℕ → ℕ → Option Location
-sure_place place address =
-    if nat_lt address erasable_window then Some (location.Erasable address)
-    else if nat_lt address fixed_window then None
-    else if nat_lt address fixed_fixed then own_window place address
-    else Some (location.Fixed address)
-
 -- the order at a place of the rope runs: in banks 02 and 03, or in the window while its bank is there
 abbrev pub RunsAt : Memory → ℕ → Type 0
 RunsAt m place = (is_fixed_fixed place ≡ true) ⊎ (place / fixed_bank_size ≡ selected_bank m)
-
--- the place that an address names in a memory
-abbrev pub addressed_in : Memory → ℕ → Location
-addressed_in m address =
-    if is_erasable address
-    then location.Erasable (erasable_place m.erasable address)
-    else location.Fixed (fixed_place m address)
 
 -- the name of a place that is sure
 abbrev pub name_if_sure : List Symbol → Option Location → Option Nearby
@@ -66,7 +43,7 @@ named_alone None = None
 abbrev pub operand_called : List Symbol → List ChannelSymbol → ℕ → Operand → Option Nearby
 operand_called names channels place operand.Nothing = None
 operand_called names channels place (operand.Address address) =
-    name_if_sure names (sure_place place address)
+    name_if_sure names (sure_location place address)
 operand_called names channels place (operand.Channel channel) =
     named_alone (name_of_channel channels channel)
 

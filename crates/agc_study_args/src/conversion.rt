@@ -1,6 +1,6 @@
 //! Converts a rope file to another reading.
 use crate::args::ConvertArgs;
-use agc_check::{ParityBit, Reading, bad_words, convert, file_of_words, file_words, right_parity};
+use agc_check::{ParityBit, Reading, bad_words, convert, file_of_words, file_words, right_words};
 use agc_store::place::{FIXED_WORDS, bank_of, offset_of};
 use agc_store::{RopeFault, index_in_file};
 use std::alloc::{AllocError, Global};
@@ -78,11 +78,4 @@ fn wrong_words(alloc: Global, args: &ConvertArgs, words: &[u16]) -> Result<usize
         }
         _ => Ok(bad.len()),
     }
-}
-
-/// Returns words with their parity bits made right.
-fn right_words(alloc: Global, words: &[u16]) -> Result<Vec<u16>, AllocError> {
-    let file = file_of_words(alloc, words)?;
-    let right = right_parity(alloc, file.as_slice())?;
-    file_words(alloc, right.as_slice())
 }

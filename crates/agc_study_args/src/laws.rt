@@ -3,9 +3,10 @@ ghost use Rattle.std.specs.Prelude.{◌≡◌, ℕ, Some};
 ghost use Rattle.agc_store.specs.Memory.{Memory};
 ghost use Rattle.agc_machine.specs.StopAddress.{stop_address_of};
 ghost use Rattle.agc_listing.specs.Place.{place_text};
-ghost use Rattle.agc_listing.specs.Location.{IsWithin};
+ghost use Rattle.agc_listing.specs.Location.{IsWithin, location_in};
 ghost use Rattle.agc_listing.specs.declared.location.Location.{Location};
-ghost use Rattle.agc_study_args.specs.NamedList.{RunsAt, addressed_in, sure_place};
+ghost use Rattle.agc_check.specs.SureLocation.{sure_location};
+ghost use Rattle.agc_study_args.specs.NamedList.{RunsAt};
 ghost use Rattle.agc_study_args.specs.Until.{StopsAt, stop_place};
 
 /// The text that replaces a symbolic `--until` reads as a stop address at which the order at that location runs.
@@ -18,5 +19,5 @@ pub fn a_run_stops_at_the_resolved_location()
 /// runs.
 pub fn a_listed_operand_is_addressed()
     ensures { (m : Memory) (place address : ℕ) (at : Location) → RunsAt m place
-        → sure_place place address ≡ Some at → addressed_in m address ≡ at }
+        → sure_location place address ≡ Some at → location_in m address ≡ at }
 {}

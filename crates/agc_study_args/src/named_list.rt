@@ -1,7 +1,7 @@
 //! Prints the text of a rope with names, beside places and as operands.
 ghost use Rattle.std.specs.Prelude.{◌≡◌, ◌≤◌, ◌<◌, ◌++◌, IfOk, OnOk, codes, option_map, string_bytes};
 ghost use Rattle.agc_word.specs.Number.{pattern_of};
-ghost use Rattle.agc_store.specs.Places.{fixed_window, fixed_words};
+ghost use Rattle.agc_store.specs.Places.{fixed_words};
 ghost use Rattle.agc_listing.specs.List.{listed_place};
 ghost use Rattle.agc_listing.specs.Order.{FitsPrint, operand_text};
 ghost use Rattle.agc_listing.specs.Place.{place_text};
@@ -10,7 +10,6 @@ ghost use Rattle.agc_symbols.specs.Column.{name_column};
 ghost use Rattle.agc_study_args.specs.NamedList.{
   called_or,
   has_name,
-  is_fixed_fixed,
   named_alone,
   named_if_listed,
   named_line,
@@ -18,21 +17,17 @@ ghost use Rattle.agc_study_args.specs.NamedList.{
   named_rope_text,
   name_of,
   operand_called,
-  own_window,
   row_of,
-  sure_place,
 };
 ghost use Rattle.agc_symbols.specs.Nearest.{as_nearby};
 
+use agc_check::{rope_place, sure_location};
 use agc_listing::{
-    Location, Operand, Place, is_in_selected_bank, leads_on, listed_address, next_is_extracode,
-    operand_in, push_place,
+    Location, Operand, is_in_selected_bank, leads_on, next_is_extracode, operand_in, push_place,
 };
 use agc_order::{Basic, Extracode, Row};
 use agc_store::Store;
-use agc_store::place::{
-    ERASABLE_WINDOW, FIXED_BANK_SIZE, FIXED_FIXED, FIXED_WINDOW, FIXED_WORDS, bank_of,
-};
+use agc_store::place::FIXED_WORDS;
 use agc_symbols::{ChannelTable, Nearest, SymbolTable, push_column, push_nearby};
 use agc_word::Narrow;
 use std::alloc::{AllocError, Global};
@@ -149,11 +144,7 @@ fn push_placed(text: &mut String, names: &SymbolTable, place: usize) -> Result<(
     ensures { OnOk result (string_bytes text.new ≡ string_bytes text.old
         ++ (place_text (listed_place place) ++ codes " " ++ name_column names.now (Location.Fixed place))) }
 {
-    let listed = Place::Fixed {
-        bank: bank_of(place as u32),
-        address: listed_address(place),
-    };
-    push_place(text, listed)?;
+    push_place(text, rope_place(place))?;
     text.push_str(" ")?;
     push_column(text, names, Location::Fixed(place as u32))
 }
@@ -242,7 +233,7 @@ fn operand_called<'a>(
 {
     match operand {
         Operand::Nothing => None,
-        Operand::Address(address) => match sure_place(place, address) {
+        Operand::Address(address) => match sure_location(place, address) {
             Some(at) => names.operand_at(at),
             None => None,
         },
@@ -257,39 +248,4 @@ fn channel_called(channels: &ChannelTable, channel: u16) -> Option<Nearest<'_>>
         Some(name) => Some(Nearest { name, offset: 0 }),
         None => None,
     }
-}
-
-/// Returns the place that an address names for the order at a place, if no bank decides it that is not known.
-#[tactic(auto, unfolding(crate::specs::NamedList::sure_place))]
-fn sure_place(place: usize, address: u16) -> Option<Location>
-    requires { place < fixed_words }
-    ensures { result ≡ sure_place place address }
-{
-    match address {
-        0..ERASABLE_WINDOW => Some(Location::Erasable(u32::from(address))),
-        ERASABLE_WINDOW..FIXED_WINDOW => None,
-        FIXED_WINDOW..FIXED_FIXED => own_window(place, address),
-        _ => Some(Location::Fixed(u32::from(address))),
-    }
-}
-
-/// Returns the place in an order's own bank that an address in the window names.
-fn own_window(place: usize, address: u16) -> Option<Location>
-    requires place { place < fixed_words }
-    requires address { fixed_window ≤ address }
-    ensures { result ≡ own_window place address }
-{
-    if is_fixed_fixed(place) {
-        return None;
-    }
-    let size = u32::from(FIXED_BANK_SIZE);
-    let start = size * (place as u32 / size);
-    Some(Location::Fixed(start + u32::from(address - FIXED_WINDOW)))
-}
-
-/// Returns whether a place is in banks 02 and 03, which have addresses of their own.
-fn is_fixed_fixed(place: usize) -> bool
-    ensures { result ≡ is_fixed_fixed place }
-{
-    FIXED_FIXED as usize <= place && place < 0o10000
 }

@@ -5,9 +5,10 @@ ghost use Rattle.agc_listing.specs.Location.{IsWithin};
 ghost use Rattle.agc_study_args.specs.Until.{IsUntilWith, stop_place, stop_with, until_with};
 
 use crate::joined::joined;
-use agc_listing::{Location, Place, cell_address, listed_address, push_place};
+use agc_check::rope_place;
+use agc_listing::{Location, Place, cell_address, push_place};
 use agc_machine::StopAddress;
-use agc_store::place::{ERASABLE_BANK_SIZE, bank_of};
+use agc_store::place::ERASABLE_BANK_SIZE;
 use agc_symbols::{SymbolTable, resolve};
 use std::alloc::{AllocError, Global};
 
@@ -85,10 +86,7 @@ fn stop_place(at: Location) -> Place
     ensures range { IsInPrint result }
 {
     match at {
-        Location::Fixed(place) => Place::Fixed {
-            bank: bank_of(place),
-            address: listed_address(place as usize),
-        },
+        Location::Fixed(place) => rope_place(place as usize),
         Location::Erasable(cell) => Place::Fixed {
             bank: (cell / u32::from(ERASABLE_BANK_SIZE)) as u8,
             address: cell_address(cell),
