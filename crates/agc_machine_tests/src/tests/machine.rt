@@ -1,6 +1,7 @@
 //! Tests runs of small programs, worked out by hand. The numbers are octal, except for cycles.
 mod events;
 mod idle;
+mod order_runs;
 mod runs;
 mod timing;
 mod upcoming;
