@@ -110,9 +110,9 @@ agree_on naming state (line ∷ lines) h n parsed =
     agree_line naming state line lines n parsed (line_named line) parts.0 refl (agree_on naming state lines parts.1)
 
 -- So a text without faults in both passes names the words of the second pass.
-source_by : (text : List ℕ) (parsed : List PlacedWord) (listing : Bool) → is_listing text ≡ listing → names_in text ≡ Ok (first_names text) → words_in (first_names text) text ≡ Ok parsed → source_in text ≡ Ok parsed
+source_by : (text : List ℕ) (parsed : List PlacedWord) (listing : Bool) → is_listing text ≡ listing → names_in (lines_of text) ≡ Ok (first_names (lines_of text)) → words_in (first_names (lines_of text)) (lines_of text) ≡ Ok parsed → source_in text ≡ Ok parsed
 unfolding source_in is_listing words_in parsed_in
-source_by text parsed true listing none says = rw listing (sym (agree_on (first_names text) first_state (lines_of text) listing 1 []) ∙ says)
+source_by text parsed true listing none says = rw listing (sym (agree_on (first_names (lines_of text)) first_state (lines_of text) listing 1 []) ∙ says)
 source_by text parsed false listing none says = rw (listing, none) says
 
 -- a rope's words are narrow, also past its end
@@ -137,8 +137,8 @@ unfolding resolve_range names_in words_in words_below
 places_say words narrow count room =
     let text = resolve_range count None words in
     source_by text (words_below count words) (is_listing text) refl
-    (finds_none words narrow count 0 (omega arith) 1 (first_names text) first_cursor (at_first words).counter)
-    (finds_words words narrow count 0 (omega arith) 1 (first_names text) first_state [] (at_first words) (record { none = λ place from. refl }))
+    (finds_none words narrow count 0 (omega arith) 1 (first_names (lines_of text)) first_cursor (at_first words).counter)
+    (finds_words words narrow count 0 (omega arith) 1 (first_names (lines_of text)) first_state [] (at_first words) (record { none = λ place from. refl }))
 
 pub source_says : (words : List Number) → AreRopeWords words → source_in (rope_source None words) ≡ Ok (words_listed words)
 unfolding rope_source words_listed

@@ -123,15 +123,15 @@ from_one pass lines at why c =
       here = ap (λ (n : ℕ). pass (take n lines)) upto ∙ c.faulty;
     }
 
-names_first : (text : List ℕ) (n : ℕ) (why : SourceFault) → names_in text ≡ Err (trouble.Line n why) → IsFirstOn (names_pass text) (lines_of text) n why
+names_first : (text : List ℕ) (n : ℕ) (why : SourceFault) → names_in (lines_of text) ≡ Err (trouble.Line n why) → IsFirstOn (names_pass text) (lines_of text) n why
 unfolding names_in
-names_first text n why is = from_one (names_pass text) (lines_of text) n why (names_cut (lines_of text) n why 1 (first_names text) first_cursor is)
+names_first text n why is = from_one (names_pass text) (lines_of text) n why (names_cut (lines_of text) n why 1 (first_names (lines_of text)) first_cursor is)
 
-words_first : (naming : Naming) (text : List ℕ) (n : ℕ) (why : SourceFault) → words_in naming text ≡ Err (trouble.Line n why) → IsFirstOn (words_pass naming) (lines_of text) n why
+words_first : (naming : Naming) (text : List ℕ) (n : ℕ) (why : SourceFault) → words_in naming (lines_of text) ≡ Err (trouble.Line n why) → IsFirstOn (words_pass naming) (lines_of text) n why
 unfolding words_in
 words_first naming text n why is = from_one (words_pass naming) (lines_of text) n why (words_cut naming (lines_of text) n why 1 first_state [] is)
 
-either_by : (text : List ℕ) (n : ℕ) (why : SourceFault) (names : Result Naming AssemblyFault) → names_in text ≡ names → words_after_names text names ≡ Err (trouble.Line n why) → IsFirstFault text n why
+either_by : (text : List ℕ) (n : ℕ) (why : SourceFault) (names : Result Naming AssemblyFault) → names_in (lines_of text) ≡ names → words_after_names (lines_of text) names ≡ Err (trouble.Line n why) → IsFirstFault text n why
 either_by text n why (Err reported) e is =
     let same : reported ≡ trouble.Line n why = cc in
     inl (names_first text n why (rw same at e))
@@ -141,8 +141,8 @@ either_by text n why (Ok naming) e is = inr (naming, e, words_first naming text 
 pub source_first : (text : List ℕ) (n : ℕ) (why : SourceFault) → is_listing text ≡ false → source_in text ≡ Err (trouble.Line n why) → IsFirstFault text n why
 unfolding source_in
 source_first text n why listing is =
-    let pass : words_after_names text (names_in text) ≡ Err (trouble.Line n why) = rw listing at is in
-    either_by text n why (names_in text) refl pass
+    let pass : words_after_names (lines_of text) (names_in (lines_of text)) ≡ Err (trouble.Line n why) = rw listing at is in
+    either_by text n why (names_in (lines_of text)) refl pass
 
 pub listing_first : (text : List ℕ) (n : ℕ) (why : SourceFault) → is_listing text ≡ true → source_in text ≡ Err (trouble.Line n why) → IsFirstOn (words_pass own_names) (lines_of text) n why
 unfolding source_in is_listing words_in parsed_in
@@ -153,8 +153,8 @@ listing_first text n why listing is =
 pub first_reported : (text : List ℕ) (n : ℕ) (why : SourceFault) → is_listing text ≡ false → IsFirstFault text n why → source_in text ≡ Err (trouble.Line n why)
 unfolding source_in names_in words_in
 first_reported text n why listing (inl first) =
-    let names : names_in text ≡ Err (trouble.Line n why) = names_stay (lines_of text) n 1 (first_names text) first_cursor (trouble.Line n why) first.here in
+    let names : names_in (lines_of text) ≡ Err (trouble.Line n why) = names_stay (lines_of text) n 1 (first_names (lines_of text)) first_cursor (trouble.Line n why) first.here in
     rw (listing, names) refl
 first_reported text n why listing (inr second) =
-    let words : words_in second.0 text ≡ Err (trouble.Line n why) = words_stay second.0 (lines_of text) n 1 first_state [] (trouble.Line n why) second.2.here in
+    let words : words_in second.0 (lines_of text) ≡ Err (trouble.Line n why) = words_stay second.0 (lines_of text) n 1 first_state [] (trouble.Line n why) second.2.here in
     rw (listing, second.1) words

@@ -99,23 +99,23 @@ pub record IsOutcome (text : List ℕ) (naming : Naming) (counter : LocationCoun
   pub written : reported ≡ names_text named
   pub sayable : AreSayable named
 
-pub first_reported : (text : List ℕ) (naming : Naming) (counter : LocationCounter) (reported : List ℕ) → naming ≡ first_names text → counter ≡ first_cursor → reported ≡ []
+pub first_reported : (text : List ℕ) (naming : Naming) (counter : LocationCounter) (reported : List ℕ) → naming ≡ first_names (lines_of text) → counter ≡ first_cursor → reported ≡ []
     → IsOutcome text naming counter (lines_of text) reported
 unfolding labels_in names_text
 first_reported text naming counter reported n c none = record { named = []; same = rw (n, c) refl; written = none; sayable = tt }
 
-pub next_reported : (text : List ℕ) (naming : Naming) (counter : LocationCounter) (line : List ℕ) (lines : List (List ℕ)) (reported more : List ℕ) (next : Labelled)
-    → IsOutcome text naming counter (line ∷ lines) reported → line_labelled naming counter (plain_line line) ≡ Ok next → IfSome next.place IsWithin
-    → more ≡ reported ++ names_text (label_named (label_of (plain_line line)) next.place)
-    → IsOutcome text (naming_after naming (label_of (plain_line line)) next.place) next.counter lines more
+pub next_reported : (text : List ℕ) (naming after : Naming) (counter : LocationCounter) (all : List (List ℕ)) (line : List ℕ) (lines : List (List ℕ)) (reported more : List ℕ) (next : Labelled)
+    → IsOutcome text naming counter all reported → all ≡ line ∷ lines → Ok next ≡ line_labelled naming counter (plain_line line) → IfSome next.place IsWithin
+    → more ≡ reported ++ names_text (label_named (label_of (plain_line line)) next.place) → after ≡ naming_after naming (label_of (plain_line line)) next.place
+    → IsOutcome text after next.counter lines more
 unfolding labels_from
-next_reported text naming counter line lines reported more next h e within is =
+next_reported text naming after counter all line lines reported more next h first e within is noted =
     let here = label_named (label_of (plain_line line)) next.place in
     record {
       named = h.named ++ here;
-      same = rw (e, labels_from) at h.same;
+      same = rw noted (rw (first, ← e, labels_from) at h.same);
       written = is ∙ ap (λ (t : List ℕ). t ++ names_text here) h.written ∙ sym (both_reported h.named here);
-      sayable = both_sayable h.named here h.sayable (sayable_by naming counter (plain_line line) next (label_of (plain_line line)) next.place e within refl refl);
+      sayable = both_sayable h.named here h.sayable (sayable_by naming counter (plain_line line) next (label_of (plain_line line)) next.place (sym e) within refl refl);
     }
 
 -- what is written at the end, and what is read from it
@@ -127,11 +127,11 @@ unfolding name_lines_in
 whole text reported named same written sayable =
     (written ∙ ap names_text same, ap names_in written ∙ names_read named sayable ∙ ap (λ (all : List Symbol). Ok all) same)
 
-pub all_reported : (text : List ℕ) (naming : Naming) (counter : LocationCounter) (reported : List ℕ) → IsOutcome text naming counter [] reported → IsWhole text reported
+pub all_reported : (text : List ℕ) (naming : Naming) (counter : LocationCounter) (all : List (List ℕ)) (reported : List ℕ) → IsOutcome text naming counter all reported → all ≡ [] → IsWhole text reported
 unfolding labels_from
-all_reported text naming counter reported h = whole text reported h.named h.same h.written h.sayable
+all_reported text naming counter all reported h none = whole text reported h.named (rw (none, labels_from) at h.same) h.written h.sayable
 
-pub faulty_reported : (text : List ℕ) (naming : Naming) (counter : LocationCounter) (line : List ℕ) (lines : List (List ℕ)) (reported : List ℕ) (why : SourceFault) → IsOutcome text naming counter (line ∷ lines) reported
-    → line_labelled naming counter (plain_line line) ≡ Err why → IsWhole text reported
+pub faulty_reported : (text : List ℕ) (naming : Naming) (counter : LocationCounter) (all : List (List ℕ)) (line : List ℕ) (lines : List (List ℕ)) (reported : List ℕ) (why : SourceFault)
+    → IsOutcome text naming counter all reported → all ≡ line ∷ lines → Err why ≡ line_labelled naming counter (plain_line line) → IsWhole text reported
 unfolding labels_from
-faulty_reported text naming counter line lines reported why h e = whole text reported h.named (rw (e, labels_from) at h.same) h.written h.sayable
+faulty_reported text naming counter all line lines reported why h first e = whole text reported h.named (rw (first, ← e, labels_from) at h.same) h.written h.sayable

@@ -13,6 +13,7 @@ use Rattle.agc_listing.proofs.Listings.{are_rope_words}
 use Rattle.agc_listing.specs.Laws.{AreRopeWords, IsRopeOf}
 use Rattle.agc_listing.specs.Weave.{woven_file}
 use Rattle.agc_listing.specs.declared.line.PlacedWord.{PlacedWord}
+use Rattle.agc_word.specs.Text.{lines_of}
 use Rattle.agc_asm.specs.Laws.{WeavesTo}
 use Rattle.agc_asm.specs.Source.{is_listing, names_in, source_in, words_after_names}
 
@@ -26,7 +27,7 @@ by_form : (words : List Number) (text : List ℕ) (parsed : List PlacedWord) →
 by_form words text parsed is classic parity form.Classic = (woven_file form.Classic parsed, (parsed, is, refl), classic)
 by_form words text parsed is classic parity form.Parity = (woven_file form.Parity parsed, (parsed, is, refl), parity)
 
-pub weaves_parsed : (words : List Number) (text : List ℕ) (parsed : List PlacedWord) → is_listing text ≡ false → words_after_names text (names_in text) ≡ Ok parsed
+pub weaves_parsed : (words : List Number) (text : List ℕ) (parsed : List PlacedWord) → is_listing text ≡ false → words_after_names (lines_of text) (names_in (lines_of text)) ≡ Ok parsed
     → IsRopeOf form.Classic words (woven_file form.Classic parsed) → IsRopeOf form.Parity words (woven_file form.Parity parsed) → WeavesTo words text
 unfolding source_in
 weaves_parsed words text parsed listing says classic parity = by_form words text parsed (rw listing says) classic parity

@@ -32,7 +32,7 @@ at_first : (words : List Number) → Sound words 0o4000 first_state.counter firs
 at_first words = record { banks = length-replicate {A = ℕ} 36 0; bank = omega arith; along = λ none inside. none }
 
 -- a text whose second pass yields words
-way_shown : (form : RopeForm) (text file : List ℕ) (naming : Naming) (parsed : List PlacedWord) → words_in naming text ≡ Ok parsed → file ≡ woven_file form parsed
+way_shown : (form : RopeForm) (text file : List ℕ) (naming : Naming) (parsed : List PlacedWord) → words_in naming (lines_of text) ≡ Ok parsed → file ≡ woven_file form parsed
     → AreShown (rope_words form file) (orders_from naming 0o4000 first_state (lines_of text)) (mnemonics_from naming first_state (lines_of text))
 unfolding words_in
 way_shown form text file naming parsed is woven =
@@ -42,7 +42,7 @@ way_shown form text file naming parsed is woven =
     let has = All-weaker (StandsIn form file) (HasWord words) (λ word h. has_word form file word h) parsed stand in
     shown_from words (lines_of text) 1 naming 0o4000 first_state [] parsed is has (at_first words)
 
-named_shown : (form : RopeForm) (text file : List ℕ) (names : Result Naming AssemblyFault) (parsed : List PlacedWord) → words_after_names text names ≡ Ok parsed → file ≡ woven_file form parsed
+named_shown : (form : RopeForm) (text file : List ℕ) (names : Result Naming AssemblyFault) (parsed : List PlacedWord) → words_after_names (lines_of text) names ≡ Ok parsed → file ≡ woven_file form parsed
     → AreShown (rope_words form file) (orders_by names (lines_of text)) (mnemonics_by names (lines_of text))
 named_shown form text file (Err why) parsed is woven = absurd cc
 named_shown form text file (Ok naming) parsed is woven = way_shown form text file naming parsed is woven
@@ -102,10 +102,10 @@ listing_shown words lines (Ok naming) h = rw (no_orders lines h naming 0o4000 fi
 text_shown : (form : RopeForm) (text file : List ℕ) (parsed : List PlacedWord) (listing : Bool) → is_listing text ≡ listing → source_in text ≡ Ok parsed → file ≡ woven_file form parsed
     → AreShown (rope_words form file) (orders_in text) (mnemonics_in text)
 unfolding source_in is_listing orders_in mnemonics_in
-text_shown form text file parsed true listing is woven = listing_shown (rope_words form file) (lines_of text) (names_in text) listing
+text_shown form text file parsed true listing is woven = listing_shown (rope_words form file) (lines_of text) (names_in (lines_of text)) listing
 text_shown form text file parsed false listing is woven =
-    let way : words_after_names text (names_in text) ≡ Ok parsed = rw listing at is in
-    named_shown form text file (names_in text) parsed way woven
+    let way : words_after_names (lines_of text) (names_in (lines_of text)) ≡ Ok parsed = rw listing at is in
+    named_shown form text file (names_in (lines_of text)) parsed way woven
 
 source_shown : (form : RopeForm) (text file : List ℕ) → IsSourceWoven form text file → AreShown (rope_words form file) (orders_in text) (mnemonics_in text)
 source_shown form text file h = text_shown form text file h.0 (is_listing text) refl h.1 h.2

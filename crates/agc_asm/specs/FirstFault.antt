@@ -15,7 +15,7 @@ Pass A = List (List ℕ) → Result A AssemblyFault
 
 -- the pass for the names, after earlier readings of the text, and with these names the pass for the words
 abbrev pub names_pass : List ℕ → Pass Naming
-names_pass text lines = names_from 1 (first_names text) first_cursor lines
+names_pass text lines = names_from 1 (first_names (lines_of text)) first_cursor lines
 
 abbrev pub words_pass : Naming → Pass (List PlacedWord)
 words_pass naming lines = words_from 1 naming first_state [] lines
@@ -31,4 +31,4 @@ pub record IsFirstOn {A : Type 0} (pass : Pass A) (lines : List (List ℕ)) (n :
 abbrev pub IsFirstFault : List ℕ → ℕ → SourceFault → Type 0
 IsFirstFault text n why =
     IsFirstOn (names_pass text) (lines_of text) n why
-    ⊎ ((naming : Naming) × (names_in text ≡ Ok naming) × IsFirstOn (words_pass naming) (lines_of text) n why)
+    ⊎ ((naming : Naming) × (names_in (lines_of text) ≡ Ok naming) × IsFirstOn (words_pass naming) (lines_of text) n why)

@@ -28,7 +28,7 @@ labels_from naming counter named (line ∷ lines) =
 
 -- the names of a source, each with its place, in the order of its lines
 unfoldable pub labels_in : List ℕ → List Symbol
-labels_in text = labels_from (first_names text) first_cursor [] (lines_of text)
+labels_in text = labels_from (first_names (lines_of text)) first_cursor [] (lines_of text)
 
 -- a line for each name
 unfoldable pub name_lines_in : List ℕ → List ℕ

@@ -143,7 +143,7 @@ orders_by (Err why) lines = []
 
 -- the orders that a source writes, in the order of its lines
 unfoldable pub orders_in : List ℕ → List OrderLine
-orders_in text = orders_by (names_in text) (lines_of text)
+orders_in text = orders_by (names_in (lines_of text)) (lines_of text)
 
 -- the mnemonic of a line that writes an order and is not a listing line
 abbrev pub mnemonic_in : List (List ℕ) → List (List ℕ)
@@ -172,7 +172,7 @@ mnemonics_by (Err why) lines = []
 
 -- the mnemonics of a source, in the order of its lines
 unfoldable pub mnemonics_in : List ℕ → List (List ℕ)
-mnemonics_in text = mnemonics_by (names_in text) (lines_of text)
+mnemonics_in text = mnemonics_by (names_in (lines_of text)) (lines_of text)
 
 -- the row of the order that a word names
 abbrev pub row_of : Bool → ℕ → Row

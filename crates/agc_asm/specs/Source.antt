@@ -129,19 +129,19 @@ found_from naming counter (line ∷ lines) =
       | Err why ↦ found_from naming counter lines
     ]
 
-abbrev pub found_again : List ℕ → (List ℕ → Option Location) → List ℕ → Option Location
-found_again text guess = found_from (guessing guess) first_cursor (lines_of text)
+abbrev pub found_again : List (List ℕ) → (List ℕ → Option Location) → List ℕ → Option Location
+found_again lines guess = found_from (guessing guess) first_cursor lines
 
-unfoldable pub found_after : ℕ → List ℕ → List ℕ → Option Location
-found_after zero text = no_name
-found_after (suc times) text = found_again text (found_after times text)
+unfoldable pub found_after : ℕ → List (List ℕ) → List ℕ → Option Location
+found_after zero lines = no_name
+found_after (suc times) lines = found_again lines (found_after times lines)
 
 -- the names before the first line: those that ten earlier readings found, one after the other
-unfoldable pub first_names : List ℕ → Naming
-first_names text = guessing (found_after 10 text)
+unfoldable pub first_names : List (List ℕ) → Naming
+first_names lines = guessing (found_after 10 lines)
 
-unfoldable pub names_in : List ℕ → Result Naming AssemblyFault
-names_in text = names_from 1 (first_names text) first_cursor (lines_of text)
+unfoldable pub names_in : List (List ℕ) → Result Naming AssemblyFault
+names_in lines = names_from 1 (first_names lines) first_cursor lines
 
 -- The second pass: the words.
 
@@ -318,13 +318,13 @@ words_from n naming state parsed (line ∷ lines) =
       | Err why ↦ Err (trouble.Line n why)
     ]
 
-unfoldable pub words_in : Naming → List ℕ → Result (List PlacedWord) AssemblyFault
-words_in naming text = words_from 1 naming first_state [] (lines_of text)
+unfoldable pub words_in : Naming → List (List ℕ) → Result (List PlacedWord) AssemblyFault
+words_in naming lines = words_from 1 naming first_state [] lines
 
 -- The faults of the first pass come before those of the second.
-abbrev pub words_after_names : List ℕ → Result Naming AssemblyFault → Result (List PlacedWord) AssemblyFault
-words_after_names text (Ok naming) = words_in naming text
-words_after_names text (Err why) = Err why
+abbrev pub words_after_names : List (List ℕ) → Result Naming AssemblyFault → Result (List PlacedWord) AssemblyFault
+words_after_names lines (Ok naming) = words_in naming lines
+words_after_names lines (Err why) = Err why
 
 -- a text with only places and words, and with comments that are text, is a listing
 abbrev pub is_listing_line : List ℕ → Bool
@@ -341,7 +341,7 @@ as_source (Err weave.Memory) = Err trouble.Memory
 -- the words of a text, each with its place, or its first fault
 unfoldable pub source_in : List ℕ → Result (List PlacedWord) AssemblyFault
 source_in text =
-    if is_listing text then as_source (parsed_in text) else words_after_names text (names_in text)
+    if is_listing text then as_source (parsed_in text) else words_after_names (lines_of text) (names_in (lines_of text))
 
 -- the file that a source assembles to
 abbrev pub IsSourceWoven : RopeForm → List ℕ → List ℕ → Type 0

@@ -1,6 +1,7 @@
 //! Assembles a source into a rope file.
 ghost use Rattle.std.specs.Prelude.{◌≡◌, ◌≢◌, true, Ok, Err, IfOk, IfErr};
 ghost use Rattle.agc_listing.specs.Weave.{IsWovenOf};
+ghost use Rattle.agc_word.specs.Text.{lines_of};
 ghost use Rattle.agc_asm.specs.Source.{IsSourceWoven, is_listing, names_in, source_in, words_after_names};
 ghost use Rattle.agc_asm.specs.declared.fault.AssemblyFault.TheVariants.{Memory};
 
@@ -8,6 +9,7 @@ use crate::body::has_odd_comment;
 use crate::fault::{AssemblyFault, SourceFault};
 use crate::pass1::read_names;
 use crate::pass2::read_words;
+use crate::source_line::parse_lines;
 use agc_listing::{RopeBuilder, WeaveFault, file_of, is_listed, weave};
 use agc_store::RopeForm;
 use agc_word::next_line;
@@ -39,12 +41,13 @@ pub fn assemble(alloc: Global, form: RopeForm, text: &[u8]) -> Result<Vec<u8>, A
 
 /// Reads a source in two passes: first its names, then its words.
 pub(crate) fn source_words(alloc: Global, text: &[u8]) -> Result<RopeBuilder, AssemblyFault>
-    ensures words { IfOk result (λ builder. words_after_names text.now (names_in text.now) ≡ Ok builder) }
+    ensures words { IfOk result (λ builder. words_after_names (lines_of text.now) (names_in (lines_of text.now)) ≡ Ok builder) }
     ensures fault { IfErr result (λ why. why ≢ Memory
-        → words_after_names text.now (names_in text.now) ≡ Err why) }
+        → words_after_names (lines_of text.now) (names_in (lines_of text.now)) ≡ Err why) }
 {
-    let names = read_names(alloc, text)?;
-    read_words(alloc, &names, text)
+    let lines = parse_lines(alloc, text)?;
+    let names = read_names(alloc, &lines)?;
+    read_words(alloc, &names, &lines)
 }
 
 /// Returns whether a text has only places and words, and only comments that are text.

@@ -1,20 +1,15 @@
 //! Splits a line of a source: its name, its operation, and the words of its operand.
 ghost use Rattle.std.specs.Prelude.{◌≡◌, ◌<◌, ◌∷◌, [], length, position, option_map, MatchOption, IfSome, codes, true, false};
-ghost use Rattle.agc_listing.specs.Number.{begins_with_minus};
 ghost use Rattle.agc_listing.specs.Text.{body_of, label_of, only_of, parsed_by};
 ghost use Rattle.agc_asm.specs.Body.{
-  alias_in,
   alias_named,
   alias_operand,
   body_in,
   code_of,
-  has_minus,
   has_odd_comment,
   is_hash_byte,
   operand_spelled,
   plain_line,
-  spelled,
-  spelled_by,
   tokens,
   uncommented,
   without_adornment,
@@ -27,19 +22,6 @@ ghost use Rattle.agc_listing.specs.Line.{is_no_text};
 use crate::alias::Alias;
 use crate::mnemonic::Directive;
 use agc_listing::{cut_label, has_other_byte, next_parsed, offset_parsed};
-
-/// The operation of a line and what follows it.
-#[derive(Clone, Copy)]
-pub(crate) struct Operation<'a> {
-    /// A minus stands before it: its words are complemented.
-    pub minus: bool,
-    /// The name in the source, if it is another name of an order.
-    pub alias: Option<Alias>,
-    /// The order's own name, or the directive.
-    pub word: &'a [u8],
-    /// The operand.
-    pub rest: &'a [u8],
-}
 
 /// Returns the first word of a text before its comment, and what follows it; `None` if there is no word.
 #[tactic(auto, unfolding(crate::specs::Body::tokens, crate::specs::Body::uncommented))]
@@ -127,35 +109,7 @@ fn without_adornment(body: &[u8]) -> &[u8]
     }
 }
 
-/// Returns the operation of a line, spelled with the order's own name and operand; `None` if there is no word.
-#[tactic(auto, unfolding(crate::specs::Body::spelled))]
-pub(crate) fn operation_in(body: &[u8]) -> Option<Operation<'_>>
-    ensures spelled { MatchOption result (spelled (tokens body.now) ≡ [])
-        (λ op. spelled (tokens body.now) ≡ op.word.now ∷ tokens op.rest.now) }
-    ensures minus { IfSome result (λ op. op.minus ≡ has_minus (tokens body.now)) }
-    ensures alias { IfSome result (λ op. op.alias ≡ alias_in (tokens body.now)) }
-{
-    let (first, rest) = next_token(body)?;
-    let word = without_minus(first);
-    let alias = Alias::from_name(word);
-    let minus = matches!(first, [b'-', ..]);
-    Some(match alias {
-        Some(alias) => Operation {
-            minus,
-            alias: Some(alias),
-            word: alias.order().as_bytes(),
-            rest: operand_spelled(alias, rest),
-        },
-        None => Operation {
-            minus,
-            alias: None,
-            word,
-            rest,
-        },
-    })
-}
-
-fn without_minus(word: &[u8]) -> &[u8]
+pub(crate) fn without_minus(word: &[u8]) -> &[u8]
     ensures { result.now ≡ without_minus word.now }
 {
     match word {
@@ -188,7 +142,7 @@ fn writes_nothing(directive: Option<Directive>) -> bool
 }
 
 /// Returns the operand of an alias.
-fn operand_spelled(alias: Alias, rest: &[u8]) -> &[u8]
+pub(crate) fn operand_spelled(alias: Alias, rest: &[u8]) -> &[u8]
     ensures { tokens result.now ≡ operand_spelled (alias_operand alias) (tokens rest.now) }
 {
     let Some(operand) = alias.operand() else {

@@ -14,8 +14,6 @@ ghost use Rattle.agc_asm.specs.Encode.{
   directive_meaning,
   extracode_meaning,
   is_banked,
-  is_banked_by,
-  is_order_by,
   less_than_zero,
   misfit,
   octal_in,
@@ -34,7 +32,6 @@ ghost use Rattle.agc_asm.specs.Encode.{
   word_meaning,
   writes_order,
 };
-ghost use Rattle.agc_asm.specs.Mnemonic.{directive_named};
 ghost use Rattle.agc_asm.specs.Name.{naming_of};
 ghost use Rattle.agc_asm.specs.Operand.{location_for, location_in, value_of};
 ghost use Rattle.agc_listing.specs.Location.{IsWithin};
@@ -42,12 +39,13 @@ ghost use Rattle.agc_listing.specs.Number.{without_sign};
 ghost use Rattle.agc_listing.specs.Text.{only_of};
 
 use crate::alias::Alias;
-use crate::body::{next_token, only_token, operation_in};
+use crate::body::{next_token, only_token};
 use crate::fault::SourceFault;
 use crate::mnemonic::{Directive, basic_named, extracode_named};
 use crate::names::Names;
 use crate::numeral::{number_in, without_sign};
 use crate::operand::{Value, location_for, operand_for, value_of};
+use crate::operation::Operation;
 use crate::row::{basic_word, extracode_word, meant, meant_operand};
 use agc_listing::{
     Location, cell_address, complete_address, listed_address, octal_word, offset_parsed,
@@ -82,18 +80,19 @@ pub(crate) struct Site {
 
 /// Encodes a one-word line.
 #[tactic(auto, unfolding(crate::specs::Encode::word_meaning))]
-pub(crate) fn word_meaning(names: &Names, site: Site, body: &[u8]) -> Result<Narrow, SourceFault>
+pub(crate) fn word_meaning(
+    names: &Names,
+    site: Site,
+    operation: &Operation,
+) -> Result<Narrow, SourceFault>
     requires erasable { site.banks.erasable < 8 }
     requires superbank { site.banks.superbank < 8 }
-    ensures { result ≡ word_meaning (naming_of names.now) site.here site.leads site.banks (tokens body.now) }
+    ensures { result ≡ word_meaning (naming_of names.now) site.here site.leads site.banks (tokens operation.now.body.now) }
 {
-    let Some(operation) = operation_in(body) else {
-        return Err(SourceFault::UnknownOrder);
-    };
     if let Some(fault) = misfit(operation.alias, names, site.here, operation.rest) {
         return Err(fault);
     }
-    let word = word_by(names, site, operation.word, operation.rest)?;
+    let word = word_by(names, site, operation)?;
     Ok(complemented(operation.minus, word))
 }
 
@@ -125,15 +124,15 @@ fn complemented(minus: bool, word: Narrow) -> Narrow
     }
 }
 
-fn word_by(names: &Names, site: Site, word: &[u8], rest: &[u8]) -> Result<Narrow, SourceFault>
+fn word_by(names: &Names, site: Site, operation: &Operation) -> Result<Narrow, SourceFault>
     requires erasable { site.banks.erasable < 8 }
     requires superbank { site.banks.superbank < 8 }
     ensures { result ≡ word_by (naming_of names.now) site.here site.leads site.banks
-        (directive_named word.now) word.now (tokens rest.now) }
+        operation.now.directive operation.now.word.now (tokens operation.now.rest.now) }
 {
-    match Directive::from_name(word) {
-        Some(directive) => directive_meaning(names, site, directive, rest),
-        None => order_by_offset(names, site, word, rest),
+    match operation.directive {
+        Some(directive) => directive_meaning(names, site, directive, operation.rest),
+        None => order_by_offset(names, site, operation.word, operation.rest),
     }
 }
 
@@ -373,39 +372,24 @@ fn major_mode_in(rest: &[u8]) -> Result<Narrow, SourceFault>
 
 /// Returns whether a line writes an order, and not data.
 #[tactic(auto, unfolding(crate::specs::Encode::writes_order))]
-pub(crate) fn writes_order(body: &[u8]) -> bool
-    ensures { result ≡ writes_order (tokens body.now) }
+pub(crate) fn writes_order(operation: &Operation) -> bool
+    ensures { result ≡ writes_order (tokens operation.now.body.now) }
 {
-    match operation_in(body) {
-        Some(operation) => is_order(operation.word, operation.rest) && !operation.minus,
-        None => false,
-    }
-}
-
-fn is_order(word: &[u8], rest: &[u8]) -> bool
-    ensures { result ≡ is_order_by (directive_named word.now) (tokens rest.now) }
-{
-    match Directive::from_name(word) {
+    match operation.directive {
         Some(_) => false,
-        None => less_than_zero(rest).is_none(),
+        None => less_than_zero(operation.rest).is_none() && !operation.minus,
     }
 }
 
 /// Returns whether a line's words hold the banks that EBANK= and SBANK= name.
 #[tactic(auto, unfolding(crate::specs::Encode::is_banked))]
-pub(crate) fn is_banked(body: &[u8]) -> bool
-    ensures { result ≡ is_banked (tokens body.now) }
+pub(crate) fn is_banked(operation: &Operation) -> bool
+    ensures { result ≡ is_banked (tokens operation.now.body.now) }
 {
-    match operation_in(body) {
-        Some(operation) => is_banked_by(Directive::from_name(operation.word)),
-        None => false,
-    }
-}
-
-fn is_banked_by(directive: Option<Directive>) -> bool
-    ensures { result ≡ is_banked_by directive }
-{
-    matches!(directive, Some(Directive::Bbcon | Directive::PairCadr))
+    matches!(
+        operation.directive,
+        Some(Directive::Bbcon | Directive::PairCadr)
+    )
 }
 
 /// Returns the banks after a word: an EBANK= right before a word for BB holds for this word alone.
@@ -427,18 +411,19 @@ pub(crate) fn banks_after(banked: bool, banks: Banks) -> Banks
 
 /// Encodes a two-word line.
 #[tactic(auto, unfolding(crate::specs::Encode::pair_meaning))]
-pub(crate) fn pair_meaning(names: &Names, site: Site, body: &[u8]) -> Result<Pair, SourceFault>
+pub(crate) fn pair_meaning(
+    names: &Names,
+    site: Site,
+    operation: &Operation,
+) -> Result<Pair, SourceFault>
     requires erasable { site.banks.erasable < 8 }
     requires superbank { site.banks.superbank < 8 }
-    ensures { result ≡ pair_meaning (naming_of names.now) site.here site.banks (tokens body.now) }
+    ensures { result ≡ pair_meaning (naming_of names.now) site.here site.banks (tokens operation.now.body.now) }
 {
-    let Some(operation) = operation_in(body) else {
+    let Some(directive) = operation.directive else {
         return Err(SourceFault::BadNumber);
     };
-    let pair = match Directive::from_name(operation.word) {
-        Some(directive) => pair_by_word(names, site, directive, operation.rest)?,
-        None => return Err(SourceFault::BadNumber),
-    };
+    let pair = pair_by_word(names, site, directive, operation.rest)?;
     Ok(Pair {
         upper: complemented(operation.minus, pair.upper),
         lower: complemented(operation.minus, pair.lower),

@@ -1,7 +1,6 @@
 //! Finds all faulty lines of a source, not only the first.
 ghost use Rattle.agc_asm.specs.LocationCounter.{IsAt};
 
-use crate::body::{cut_line, plain_line};
 use crate::fault::SourceFault;
 use crate::fault_place::word_at_fault;
 use crate::line_kind::{cursor_after, shape_of};
@@ -9,8 +8,8 @@ use crate::location_counter::LocationCounter;
 use crate::names::Names;
 use crate::pass1::{first_names, line_labelled, note_label};
 use crate::pass2::{State, line_woven};
+use crate::source_line::{SourceLine, parse_lines};
 use agc_listing::is_no_text;
-use agc_word::next_line;
 use std::alloc::{AllocError, Global};
 
 /// A faulty line, and the word of it that is at fault.
@@ -64,10 +63,11 @@ pub fn faulty_lines(
     most: usize,
 ) -> Result<Vec<FaultyLine<'_>>, AllocError> {
     let mut found = Vec::new(alloc);
-    let mut names = first_names(alloc, text)?;
-    push_faulty_labels(&mut found, &mut names, text, most)?;
+    let lines = parse_lines(alloc, text)?;
+    let mut names = first_names(alloc, &lines)?;
+    push_faulty_labels(&mut found, &mut names, &lines, most)?;
     if found.is_empty() {
-        push_faulty_words(&mut found, &names, text, most)?;
+        push_faulty_words(&mut found, &names, &lines, most)?;
     }
     Ok(found)
 }
@@ -76,22 +76,21 @@ pub fn faulty_lines(
 fn push_faulty_labels<'a>(
     found: &mut Vec<FaultyLine<'a>>,
     names: &mut Names<'a>,
-    text: &'a [u8],
+    lines: &[SourceLine<'a>],
     most: usize,
 ) -> Result<(), AllocError> {
     let mut counter = LocationCounter::new();
-    let mut lines = 0;
-    let mut rest = text;
-    while let Some((line, after)) = next_line(rest) {
-        lines += 1;
-        let line = plain_line(line);
+    let mut number = 0;
+    let mut rest = lines;
+    while let [line, after @ ..] = rest {
+        number += 1;
         match line_labelled(names, counter, line) {
             Ok(next) => {
                 note_label(names, line, next.place)?;
                 counter = next.counter;
             }
             Err(fault) => {
-                push_faulty(found, FaultyLine::new(lines, line, fault), most)?;
+                push_faulty(found, FaultyLine::new(number, line.plain, fault), most)?;
                 counter = moved_past(names, counter, line);
             }
         }
@@ -104,19 +103,18 @@ fn push_faulty_labels<'a>(
 fn push_faulty_words<'a>(
     found: &mut Vec<FaultyLine<'a>>,
     names: &Names,
-    text: &'a [u8],
+    lines: &[SourceLine<'a>],
     most: usize,
 ) -> Result<(), AllocError> {
     let mut state = State::new();
-    let mut lines = 0;
-    let mut rest = text;
-    while let Some((line, after)) = next_line(rest) {
-        lines += 1;
-        let line = plain_line(line);
+    let mut number = 0;
+    let mut rest = lines;
+    while let [line, after @ ..] = rest {
+        number += 1;
         match line_woven(names, state, line) {
             Ok(step) => state = step.state,
             Err(fault) => {
-                push_faulty(found, FaultyLine::new(lines, line, fault), most)?;
+                push_faulty(found, FaultyLine::new(number, line.plain, fault), most)?;
                 state.counter = moved_past(names, state.counter, line);
                 state.leads = false;
             }
@@ -139,12 +137,14 @@ fn push_faulty<'a>(
 }
 
 /// Returns where the next line goes after a faulty one.
-fn moved_past(names: &Names, counter: LocationCounter, line: &[u8]) -> LocationCounter
+fn moved_past(names: &Names, counter: LocationCounter, line: &SourceLine) -> LocationCounter
     requires { IsAt counter.at }
     ensures { IsAt result.at }
 {
-    let (_, body) = cut_line(line);
-    match shape_of(names, body) {
+    let Some(operation) = &line.operation else {
+        return counter;
+    };
+    match shape_of(names, operation) {
         Ok(kind) => cursor_after(counter, kind).unwrap_or(counter),
         Err(_) => counter,
     }

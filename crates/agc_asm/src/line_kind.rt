@@ -23,12 +23,13 @@ ghost use Rattle.agc_listing.specs.Number.{offset_parsed};
 ghost use Rattle.agc_listing.specs.Text.{only_of};
 ghost use Rattle.agc_word.specs.Numeral.{octal_number};
 
-use crate::body::{next_token, only_token, operation_in};
+use crate::body::{next_token, only_token};
 use crate::fault::SourceFault;
 use crate::location_counter::LocationCounter;
 use crate::mnemonic::{Directive, is_order};
 use crate::names::Names;
 use crate::operand::location_in;
+use crate::operation::Operation;
 use crate::unknown_operation::unknown_operation;
 use agc_listing::{Location, offset_parsed};
 use agc_store::place::ERASABLE_CELLS;
@@ -63,15 +64,12 @@ pub(crate) enum LineKind {
     Nothing,
 }
 
-/// Parses the kind of a line from its words after the name.
-pub(crate) fn shape_of(names: &Names, body: &[u8]) -> Result<LineKind, SourceFault>
-    ensures kind { result ≡ shape_of (naming_of names.now) (spelled (tokens body.now)) }
+/// Parses the kind of a line from its operation.
+pub(crate) fn shape_of(names: &Names, operation: &Operation) -> Result<LineKind, SourceFault>
+    ensures kind { result ≡ shape_of (naming_of names.now) (spelled (tokens operation.now.body.now)) }
     ensures range { IfOk result IsShape }
 {
-    let Some(operation) = operation_in(body) else {
-        return Err(SourceFault::UnknownOrder);
-    };
-    match Directive::from_name(operation.word) {
+    match operation.directive {
         Some(directive) => directive_shape(names, directive, operation.rest),
         None if is_order(operation.word) => Ok(LineKind::Word),
         None => Err(unknown_operation(operation.word)),

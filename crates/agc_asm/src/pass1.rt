@@ -1,7 +1,6 @@
 //! The first pass over a source: collects its names.
-ghost use Rattle.std.specs.Prelude.{◌≡◌, ◌≢◌, ◌<◌, None, Ok, Err, IfOk, IfErr, IfSome, IsOk, OnOk, option_map};
-ghost use Rattle.agc_asm.specs.Body.{body_in, spelled};
-ghost use Rattle.agc_word.specs.Text.{lines_of};
+ghost use Rattle.std.specs.Prelude.{◌≡◌, ◌≢◌, ◌<◌, None, Ok, Err, IfOk, IfErr, IfSome, IsOk, OnOk, map, option_map};
+ghost use Rattle.agc_asm.specs.Body.{plain_line};
 ghost use Rattle.agc_asm.specs.LocationCounter.{IsAt, first_cursor};
 ghost use Rattle.agc_asm.specs.Name.{given_of, guessing, naming_of};
 ghost use Rattle.agc_asm.specs.LineKind.{IsShape, cursor_after, shape_of};
@@ -24,14 +23,13 @@ ghost use Rattle.agc_listing.specs.Text.{label_of, parsed_by};
 ghost use Rattle.agc_listing.specs.Line.{line_named};
 ghost use Rattle.agc_asm.specs.declared.fault.AssemblyFault.TheVariants.{Memory};
 
-use crate::body::{cut_line, plain_line};
 use crate::fault::{AssemblyFault, SourceFault};
 use crate::line_kind::{LineKind, cursor_after, shape_of};
 use crate::location_counter::{At, LocationCounter};
 use crate::names::Names;
-use agc_listing::{LineFault, Location, cut_label, has_other_byte, is_listed, is_name, read_line};
+use crate::source_line::SourceLine;
+use agc_listing::{LineFault, Location, has_other_byte, is_name, read_line};
 use agc_store::place::ERASABLE_CELLS;
-use agc_word::next_line;
 use std::alloc::{AllocError, Global};
 
 /// The result of a line in the first pass: the location of its name, and where the next line goes.
@@ -42,23 +40,27 @@ pub(crate) struct Labelled {
 }
 
 /// Returns the names of a source, or its first fault in the first pass.
-pub(crate) fn read_names(alloc: Global, text: &[u8]) -> Result<Names<'_>, AssemblyFault>
-    ensures names { IfOk result (λ names. names_in text.now ≡ Ok (naming_of names)) }
-    ensures fault { IfErr result (λ why. why ≢ Memory → names_in text.now ≡ Err why) }
+#[tactic(auto, unfolding(crate::specs::Source::names_in, crate::specs::Source::names_from))]
+pub(crate) fn read_names<'a>(
+    alloc: Global,
+    lines: &[SourceLine<'a>],
+) -> Result<Names<'a>, AssemblyFault>
+    ensures names { IfOk result (λ names. names_in (map (λ line. line.text.now) lines.now) ≡ Ok (naming_of names)) }
+    ensures fault { IfErr result (λ why. why ≢ Memory
+        → names_in (map (λ line. line.text.now) lines.now) ≡ Err why) }
 {
-    let mut names = first_names(alloc, text)?;
+    let mut names = first_names(alloc, lines)?;
     let mut counter = LocationCounter::new();
-    let mut lines = 0;
-    let mut rest = text;
-    while let Some((line, after)) = next_line(rest) {
-        lines += 1;
-        let line = plain_line(line);
+    let mut number = 0;
+    let mut rest = lines;
+    while let [line, after @ ..] = rest {
+        number += 1;
         match line_labelled(&names, counter, line) {
             Ok(next) => {
                 note_label(&mut names, line, next.place)?;
                 counter = next.counter;
             }
-            Err(fault) => return Err(AssemblyFault::Line(lines, fault)),
+            Err(fault) => return Err(AssemblyFault::Line(number, fault)),
         }
         rest = after;
     }
@@ -68,32 +70,41 @@ pub(crate) fn read_names(alloc: Global, text: &[u8]) -> Result<Names<'_>, Assemb
 /// Returns the names before the first line: those that ten earlier readings of the source find. With each reading, one
 /// more reference to a later line can be followed.
 #[tactic(auto, unfolding(crate::specs::Source::first_names))]
-pub(crate) fn first_names(alloc: Global, text: &[u8]) -> Result<Names<'_>, AllocError>
-    ensures { IfOk result (λ names. naming_of names ≡ first_names text.now) }
+pub(crate) fn first_names<'a>(
+    alloc: Global,
+    lines: &[SourceLine<'a>],
+) -> Result<Names<'a>, AllocError>
+    ensures { IfOk result (λ names. naming_of names ≡ first_names (map (λ line. line.text.now) lines.now)) }
 {
-    found_after(alloc, 10, text)
+    found_after(alloc, 10, lines)
 }
 
 #[tactic(auto, unfolding(crate::specs::Source::found_after))]
-fn found_after(alloc: Global, times: u32, text: &[u8]) -> Result<Names<'_>, AllocError>
-    ensures { IfOk result (λ names. naming_of names ≡ guessing (found_after times text.now)) }
+fn found_after<'a>(
+    alloc: Global,
+    times: u32,
+    lines: &[SourceLine<'a>],
+) -> Result<Names<'a>, AllocError>
+    ensures { IfOk result (λ names. naming_of names
+        ≡ guessing (found_after times (map (λ line. line.text.now) lines.now))) }
 {
     if times == 0 {
         return Ok(Names::new(alloc));
     }
-    let names = found_after(alloc, times - 1, text)?;
-    Ok(found_again(names, text)?.again(alloc))
+    let names = found_after(alloc, times - 1, lines)?;
+    Ok(found_again(names, lines)?.again(alloc))
 }
 
 /// Adds to these names those of the lines of a source, passing over faulty lines.
-fn found_again<'a>(known: Names<'a>, text: &'a [u8]) -> Result<Names<'a>, AllocError>
-    ensures { IfOk result (λ found. given_of found ≡ found_from (naming_of known.entry) first_cursor (lines_of text.now)) }
+#[tactic(auto, unfolding(crate::specs::Source::found_from))]
+fn found_again<'a>(known: Names<'a>, lines: &[SourceLine<'a>]) -> Result<Names<'a>, AllocError>
+    ensures { IfOk result (λ found. given_of found
+        ≡ found_from (naming_of known.entry) first_cursor (map (λ line. line.text.now) lines.now)) }
 {
     let mut names = known;
     let mut counter = LocationCounter::new();
-    let mut rest = text;
-    while let Some((line, after)) = next_line(rest) {
-        let line = plain_line(line);
+    let mut rest = lines;
+    while let [line, after @ ..] = rest {
         match line_labelled(&names, counter, line) {
             Ok(next) => {
                 note_label(&mut names, line, next.place)?;
@@ -109,42 +120,45 @@ fn found_again<'a>(known: Names<'a>, text: &'a [u8]) -> Result<Names<'a>, AllocE
 /// Adds the name of a line, if it has a location.
 pub(crate) fn note_label<'a>(
     names: &mut Names<'a>,
-    line: &'a [u8],
+    line: &SourceLine<'a>,
     place: Option<Location>,
 ) -> Result<(), AllocError>
-    ensures { OnOk result (naming_of names.new ≡ naming_after (naming_of names.old) (label_of line.now) place) }
+    ensures { OnOk result (naming_of names.new
+        ≡ naming_after (naming_of names.old) (label_of (plain_line line.now.text.now)) place) }
 {
-    match (cut_label(line).0, place) {
+    match (line.label, place) {
         (Some(label), Some(place)) => names.add(label, place),
         _ => Ok(()),
     }
 }
 
 /// Returns the location of a line's name, if it has one, and where the next line goes.
-#[tactic(auto, unfolding(crate::specs::Source::line_labelled))]
+#[tactic(auto, unfolding(crate::specs::Source::line_labelled, crate::specs::Body::spelled))]
 pub(crate) fn line_labelled(
     names: &Names,
     counter: LocationCounter,
-    line: &[u8],
+    line: &SourceLine,
 ) -> Result<Labelled, SourceFault>
     requires { IsAt counter.at }
-    ensures labelled { result ≡ line_labelled (naming_of names.now) counter line.now }
+    ensures labelled { result ≡ line_labelled (naming_of names.now) counter (plain_line line.now.text.now) }
     ensures range { IfOk result (λ next. IsAt next.counter.at) }
     ensures within { IfOk result (λ next. IfSome next.place IsWithin) }
 {
-    if is_listed(line) {
-        return listed_labelled(counter, line);
+    if line.is_listed {
+        return listed_labelled(counter, line.plain);
     }
-    if has_other_byte(line) {
+    if has_other_byte(line.plain) {
         return Err(SourceFault::Listed(LineFault::NotText));
     }
-    if is_include(line) {
+    if is_include(line.plain) {
         return Err(SourceFault::Include);
     }
-    let (label, body) = cut_line(line);
-    let kind = shape_of(names, body)?;
+    let Some(operation) = &line.operation else {
+        return Err(SourceFault::UnknownOrder);
+    };
+    let kind = shape_of(names, operation)?;
     let next = cursor_after(counter, kind)?;
-    let place = place_labelled(names, counter, kind, label)?;
+    let place = place_labelled(names, counter, kind, line.label)?;
     Ok(Labelled {
         counter: next,
         place,

@@ -1,5 +1,5 @@
 //! The second pass over a source: assembles the words of its lines.
-ghost use Rattle.std.specs.Prelude.{◌≡◌, ◌≢◌, ◌<◌, Ok, Err, IfOk, IfErr, IfSome, OnOk};
+ghost use Rattle.std.specs.Prelude.{◌≡◌, ◌≢◌, ◌<◌, Ok, Err, IfOk, IfErr, IfSome, OnOk, map};
 ghost use Rattle.agc_store.specs.Places.{fixed_words, fixed_fixed};
 ghost use Rattle.agc_asm.specs.Name.{naming_of};
 ghost use Rattle.agc_asm.specs.LineKind.{IsShape, shape_of};
@@ -29,14 +29,13 @@ ghost use Rattle.agc_asm.specs.Source.{
 };
 ghost use Rattle.agc_asm.specs.LineKind.{cursor_after};
 ghost use Rattle.agc_asm.specs.LocationCounter.{room_at, IsAt, after_cells};
-ghost use Rattle.agc_asm.specs.Body.{body_in, spelled, tokens};
+ghost use Rattle.agc_asm.specs.Body.{plain_line, tokens};
 ghost use Rattle.agc_asm.specs.Encode.{cell_in, place_in};
 ghost use Rattle.agc_asm.specs.Operand.{location_in};
-ghost use Rattle.agc_listing.specs.Text.{after_first, parsed_by};
+ghost use Rattle.agc_listing.specs.Text.{parsed_by};
 ghost use Rattle.agc_listing.specs.Line.{line_named};
 ghost use Rattle.agc_asm.specs.declared.fault.AssemblyFault.TheVariants.{Memory};
 
-use crate::body::{cut_line, operation_in, plain_line};
 use crate::encode::{
     Banks, Site, banks_after, cell_in, is_banked, pair_meaning, place_in, superbank, word_meaning,
     writes_order,
@@ -46,9 +45,10 @@ use crate::line_kind::{LineKind, cursor_after, shape_of};
 use crate::location_counter::{At, LocationCounter};
 use crate::names::Names;
 use crate::operand::location_in;
-use agc_listing::{PlacedWord, RopeBuilder, is_listed, next_is_extracode, read_line};
+use crate::operation::Operation;
+use crate::source_line::SourceLine;
+use agc_listing::{PlacedWord, RopeBuilder, next_is_extracode, read_line};
 use agc_store::place::{ERASABLE_BANK_SIZE, FIXED_FIXED};
-use agc_word::next_line;
 use std::alloc::Global;
 
 /// The state after the lines so far: where the next one goes, whether an extracode is expected there, and the banks for
@@ -87,27 +87,29 @@ pub(crate) struct Step {
 }
 
 /// Returns the words of a source with these names, or its first fault in the second pass.
+#[tactic(auto, unfolding(crate::specs::Source::words_in, crate::specs::Source::words_from))]
 pub(crate) fn read_words(
     alloc: Global,
     names: &Names,
-    text: &[u8],
+    lines: &[SourceLine],
 ) -> Result<RopeBuilder, AssemblyFault>
-    ensures words { IfOk result (λ builder. words_in (naming_of names.now) text.now ≡ Ok builder) }
+    ensures words { IfOk result (λ builder. words_in (naming_of names.now) (map (λ line. line.text.now) lines.now)
+        ≡ Ok builder) }
     ensures fault { IfErr result (λ why. why ≢ Memory
-        → words_in (naming_of names.now) text.now ≡ Err why) }
+        → words_in (naming_of names.now) (map (λ line. line.text.now) lines.now) ≡ Err why) }
 {
     let mut builder = RopeBuilder::new(alloc)?;
     let mut state = State::new();
-    let mut lines = 0;
-    let mut rest = text;
-    while let Some((line, after)) = next_line(rest) {
-        lines += 1;
-        match line_woven(names, state, plain_line(line)) {
+    let mut number = 0;
+    let mut rest = lines;
+    while let [line, after @ ..] = rest {
+        number += 1;
+        match line_woven(names, state, line) {
             Ok(step) => {
                 state = step.state;
-                add_words(&mut builder, lines, step)?;
+                add_words(&mut builder, number, step)?;
             }
-            Err(fault) => return Err(AssemblyFault::Line(lines, fault)),
+            Err(fault) => return Err(AssemblyFault::Line(number, fault)),
         }
         rest = after;
     }
@@ -145,33 +147,29 @@ fn add_word(
 }
 
 /// Assembles a line: its words with their places, and where the next line goes.
-#[tactic(auto, unfolding(crate::specs::Source::line_woven))]
-pub(crate) fn line_woven(names: &Names, state: State, line: &[u8]) -> Result<Step, SourceFault>
+#[tactic(auto, unfolding(crate::specs::Source::line_woven, crate::specs::Body::spelled))]
+pub(crate) fn line_woven(
+    names: &Names,
+    state: State,
+    line: &SourceLine,
+) -> Result<Step, SourceFault>
     requires { IsState state }
-    ensures woven { result ≡ line_woven (naming_of names.now) state line.now }
+    ensures woven { result ≡ line_woven (naming_of names.now) state (plain_line line.now.text.now) }
     ensures range { IfOk result (λ step. IsState step.state) }
     ensures placed { IfOk result IsPlaced }
 {
-    if is_listed(line) {
-        return listed_woven(state, line);
+    if line.is_listed {
+        return listed_woven(state, line.plain);
     }
-    let (_, body) = cut_line(line);
-    match shape_of(names, body)? {
-        LineKind::Word => word_at_counter(names, state, body),
-        LineKind::Pair => pair_at_counter(names, state, body),
-        LineKind::Ebank => ebank_parsed(names, state, operand_in(body)),
-        LineKind::Sbank => sbank_parsed(names, state, operand_in(body)),
+    let Some(operation) = &line.operation else {
+        return Err(SourceFault::UnknownOrder);
+    };
+    match shape_of(names, operation)? {
+        LineKind::Word => word_at_counter(names, state, operation),
+        LineKind::Pair => pair_at_counter(names, state, operation),
+        LineKind::Ebank => ebank_parsed(names, state, operation.rest),
+        LineKind::Sbank => sbank_parsed(names, state, operation.rest),
         kind => no_word(state, kind),
-    }
-}
-
-/// Returns the operand of a line.
-fn operand_in(body: &[u8]) -> &[u8]
-    ensures { tokens result.now ≡ after_first (spelled (tokens body.now)) }
-{
-    match operation_in(body) {
-        Some(operation) => operation.rest,
-        None => &[],
     }
 }
 
@@ -244,34 +242,34 @@ fn listed_woven(state: State, line: &[u8]) -> Result<Step, SourceFault>
 }
 
 /// Assembles a line of one word, in the rope or in erasable memory.
-fn word_at_counter(names: &Names, state: State, body: &[u8]) -> Result<Step, SourceFault>
+fn word_at_counter(names: &Names, state: State, operation: &Operation) -> Result<Step, SourceFault>
     requires { IsState state }
-    ensures woven { result ≡ word_at_counter (naming_of names.now) state (tokens body.now) state.counter.at }
+    ensures woven { result ≡ word_at_counter (naming_of names.now) state (tokens operation.now.body.now) state.counter.at }
     ensures range { IfOk result (λ step. IsState step.state) }
     ensures placed { IfOk result IsPlaced }
 {
     match state.counter.at {
-        At::Bank(_) => word_placed(names, state, body),
+        At::Bank(_) => word_placed(names, state, operation),
         At::Cell(_) => {
-            let word = word_meaning(names, site_in_cells(state), body)?;
-            let leads = writes_order(body) && next_is_extracode(state.leads, word);
-            in_cells(state, body, leads, state.counter.after_cells(1))
+            let word = word_meaning(names, site_in_cells(state), operation)?;
+            let leads = writes_order(operation) && next_is_extracode(state.leads, word);
+            in_cells(state, operation, leads, state.counter.after_cells(1))
         }
     }
 }
 
 /// Assembles a line of two words, in the rope or in erasable memory.
-fn pair_at_counter(names: &Names, state: State, body: &[u8]) -> Result<Step, SourceFault>
+fn pair_at_counter(names: &Names, state: State, operation: &Operation) -> Result<Step, SourceFault>
     requires { IsState state }
-    ensures woven { result ≡ pair_at_counter (naming_of names.now) state (tokens body.now) state.counter.at }
+    ensures woven { result ≡ pair_at_counter (naming_of names.now) state (tokens operation.now.body.now) state.counter.at }
     ensures range { IfOk result (λ step. IsState step.state) }
     ensures placed { IfOk result IsPlaced }
 {
     match state.counter.at {
-        At::Bank(_) => pair_placed(names, state, body),
+        At::Bank(_) => pair_placed(names, state, operation),
         At::Cell(_) => {
-            pair_meaning(names, site_in_cells(state), body)?;
-            in_cells(state, body, false, state.counter.after_cells(2))
+            pair_meaning(names, site_in_cells(state), operation)?;
+            in_cells(state, operation, false, state.counter.after_cells(2))
         }
     }
 }
@@ -292,13 +290,13 @@ fn site_in_cells(state: State) -> Site
 /// Returns the step of words in erasable memory, which take cells but are not in the rope.
 fn in_cells(
     state: State,
-    body: &[u8],
+    operation: &Operation,
     leads: bool,
     next: Result<LocationCounter, SourceFault>,
 ) -> Result<Step, SourceFault>
     requires state { IsState state }
     requires next { IfOk next (λ counter. IsAt counter.at) }
-    ensures woven { result ≡ in_cells state (tokens body.now) leads next }
+    ensures woven { result ≡ in_cells state (tokens operation.now.body.now) leads next }
     ensures range { IfOk result (λ step. IsState step.state) }
     ensures placed { IfOk result IsPlaced }
 {
@@ -306,7 +304,7 @@ fn in_cells(
         state: State {
             counter: next?,
             leads,
-            banks: banks_after(is_banked(body), state.banks),
+            banks: banks_after(is_banked(operation), state.banks),
         },
         first: None,
         second: None,
@@ -314,9 +312,9 @@ fn in_cells(
 }
 
 /// Assembles a line of one word in the rope.
-fn word_placed(names: &Names, state: State, body: &[u8]) -> Result<Step, SourceFault>
+fn word_placed(names: &Names, state: State, operation: &Operation) -> Result<Step, SourceFault>
     requires { IsState state }
-    ensures woven { result ≡ word_placed (naming_of names.now) state (tokens body.now)
+    ensures woven { result ≡ word_placed (naming_of names.now) state (tokens operation.now.body.now)
         (room_at state.counter state.counter.at 1) }
     ensures range { IfOk result (λ step. IsState step.state) }
     ensures placed { IfOk result IsPlaced }
@@ -327,12 +325,12 @@ fn word_placed(names: &Names, state: State, body: &[u8]) -> Result<Step, SourceF
         leads: state.leads,
         banks: state.banks,
     };
-    let word = word_meaning(names, site, body)?;
+    let word = word_meaning(names, site, operation)?;
     Ok(Step {
         state: State {
             counter: state.counter.after_words(1),
-            leads: writes_order(body) && next_is_extracode(state.leads, word),
-            banks: banks_after(is_banked(body), state.banks),
+            leads: writes_order(operation) && next_is_extracode(state.leads, word),
+            banks: banks_after(is_banked(operation), state.banks),
         },
         first: Some(PlacedWord {
             place: place as usize,
@@ -343,9 +341,9 @@ fn word_placed(names: &Names, state: State, body: &[u8]) -> Result<Step, SourceF
 }
 
 /// Assembles a line of two words in the rope.
-fn pair_placed(names: &Names, state: State, body: &[u8]) -> Result<Step, SourceFault>
+fn pair_placed(names: &Names, state: State, operation: &Operation) -> Result<Step, SourceFault>
     requires { IsState state }
-    ensures woven { result ≡ pair_placed (naming_of names.now) state (tokens body.now)
+    ensures woven { result ≡ pair_placed (naming_of names.now) state (tokens operation.now.body.now)
         (room_at state.counter state.counter.at 2) }
     ensures range { IfOk result (λ step. IsState step.state) }
     ensures placed { IfOk result IsPlaced }
@@ -356,12 +354,12 @@ fn pair_placed(names: &Names, state: State, body: &[u8]) -> Result<Step, SourceF
         leads: state.leads,
         banks: state.banks,
     };
-    let pair = pair_meaning(names, site, body)?;
+    let pair = pair_meaning(names, site, operation)?;
     Ok(Step {
         state: State {
             counter: state.counter.after_words(2),
             leads: false,
-            banks: banks_after(is_banked(body), state.banks),
+            banks: banks_after(is_banked(operation), state.banks),
         },
         first: Some(PlacedWord {
             place: place as usize,

@@ -2,13 +2,12 @@
 ghost use Rattle.std.specs.Prelude.{◌≡◌, IfOk, length};
 ghost use Rattle.agc_store.specs.Places.{fixed_words};
 
-use crate::body::plain_line;
 use crate::fault::AssemblyFault;
 use crate::pass1::read_names;
 use crate::pass2::{State, line_woven};
+use crate::source_line::parse_lines;
 use agc_listing::PlacedWord;
 use agc_store::place::FIXED_WORDS;
-use agc_word::next_line;
 use std::alloc::{AllocError, Global};
 
 /// Returns for each place of fixed memory the number of the source line that puts its word there, counted from 1; 0 if
@@ -17,20 +16,21 @@ use std::alloc::{AllocError, Global};
 pub fn word_lines(alloc: Global, text: &[u8]) -> Result<Vec<usize>, AssemblyFault>
     ensures { IfOk result (λ found. length found.items ≡ fixed_words) }
 {
-    let names = read_names(alloc, text)?;
+    let lines = parse_lines(alloc, text)?;
+    let names = read_names(alloc, &lines)?;
     let mut found = no_lines(alloc, FIXED_WORDS as usize)?;
     let mut state = State::new();
-    let mut lines = 0;
-    let mut rest = text;
-    while let Some((line, after)) = next_line(rest) {
-        lines += 1;
-        match line_woven(&names, state, plain_line(line)) {
+    let mut number = 0;
+    let mut rest = lines.as_slice();
+    while let [line, after @ ..] = rest {
+        number += 1;
+        match line_woven(&names, state, line) {
             Ok(step) => {
                 state = step.state;
-                note_line(&mut found, lines, step.first);
-                note_line(&mut found, lines, step.second);
+                note_line(&mut found, number, step.first);
+                note_line(&mut found, number, step.second);
             }
-            Err(fault) => return Err(AssemblyFault::Line(lines, fault)),
+            Err(fault) => return Err(AssemblyFault::Line(number, fault)),
         }
         rest = after;
     }

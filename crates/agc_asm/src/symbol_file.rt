@@ -3,29 +3,30 @@ ghost use Rattle.std.specs.Prelude.{◌≡◌, ◌++◌, IfOk, Ok, OnOk};
 ghost use Rattle.agc_symbols.specs.Symbols.{names_in};
 ghost use Rattle.agc_symbols.specs.Writing.{names_text};
 ghost use Rattle.agc_asm.specs.NameLines.{label_named, labels_in, name_lines_in};
+ghost use Rattle.agc_asm.specs.Body.{plain_line};
 ghost use Rattle.agc_listing.specs.Text.{label_of};
 
-use crate::body::plain_line;
 use crate::location_counter::LocationCounter;
 use crate::pass1::{first_names, line_labelled, note_label};
-use agc_listing::{Location, cut_label};
+use crate::source_line::{SourceLine, parse_lines};
+use agc_listing::Location;
 use agc_symbols::push_name_line;
-use agc_word::next_line;
 use std::alloc::{AllocError, Global};
 
 /// Writes the names of a source, one line each with its place, in the order of its lines; for a faulty source, those
 /// before its first fault in the first pass. `SymbolTable::read` of agc_symbols reads from this text the same names at
 /// the same places, in the same order. Fails if out of memory.
+#[tactic(auto, using(crate::proofs::ReportedNames::first_reported))]
 pub fn name_lines(alloc: Global, text: &[u8]) -> Result<Vec<u8>, AllocError>
     ensures written { IfOk result (λ lines. lines.items ≡ name_lines_in text.now) }
     ensures read { IfOk result (λ lines. names_in lines.items ≡ Ok (labels_in text.now)) }
 {
     let mut reported = Vec::new(alloc);
-    let mut names = first_names(alloc, text)?;
+    let lines = parse_lines(alloc, text)?;
+    let mut names = first_names(alloc, &lines)?;
     let mut counter = LocationCounter::new();
-    let mut rest = text;
-    while let Some((line, after)) = next_line(rest) {
-        let line = plain_line(line);
+    let mut rest = lines.as_slice();
+    while let [line, after @ ..] = rest {
         match line_labelled(&names, counter, line) {
             Ok(next) => {
                 tell_label(alloc, &mut reported, line, next.place)?;
@@ -44,13 +45,13 @@ pub fn name_lines(alloc: Global, text: &[u8]) -> Result<Vec<u8>, AllocError>
 fn tell_label(
     alloc: Global,
     reported: &mut Vec<u8>,
-    line: &[u8],
+    line: &SourceLine,
     place: Option<Location>,
 ) -> Result<(), AllocError>
     ensures { OnOk result
-        (reported.new.items ≡ reported.old.items ++ names_text (label_named (label_of line.now) place)) }
+        (reported.new.items ≡ reported.old.items ++ names_text (label_named (label_of (plain_line line.now.text.now)) place)) }
 {
-    match (cut_label(line).0, place) {
+    match (line.label, place) {
         (Some(label), Some(place)) => push_name_line(alloc, reported, place, label),
         _ => Ok(()),
     }
