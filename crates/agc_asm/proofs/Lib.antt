@@ -6,7 +6,6 @@ mod Nearest
 mod AliasWords
 mod Tokens
 mod Passes
-mod FirstMisnamed
 mod Back
 mod Cut
 mod Rows

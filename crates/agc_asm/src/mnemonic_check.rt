@@ -64,6 +64,7 @@ pub struct Misnamed {
 
 /// Returns the first line of a text with a place, a word and a mnemonic that is not the word's, neither as a basic
 /// order nor as an extracode. Anything else after a word is ignored.
+#[tactic(auto, unfolding(crate::specs::MnemonicCheck::misnamed_in, crate::specs::MnemonicCheck::misnamed_from))]
 pub fn first_misnamed(text: &[u8]) -> Option<Misnamed>
     ensures { result ≡ misnamed_in text.now }
 {
