@@ -196,8 +196,13 @@ impl<'a> Subcommands<'a> {
         let words = ArgList::none(self.alloc)
             .rope_file(true)
             .script_file(true)
-            .other_rope(false)
-            .other_script(false)
+            .file("other-rope", "ROPE", "Rope file of the second run", false)
+            .file(
+                "other-script",
+                "SCRIPT",
+                "Script file of the second run",
+                false,
+            )
             .limit_option()
             .form_option()
             .wrong_parity_option()
@@ -317,14 +322,7 @@ impl<'a> ArgList<'a> {
     }
 
     fn words_option(self) -> ArgList<'a> {
-        let arg = option(
-            self.alloc,
-            "words",
-            "ROPE",
-            "Compare only the words of these two rope files, without a run",
-        )
-        .num_args(2)
-        .conflicts_with("rope");
+        let arg = words_pair(self.alloc);
         self.with_tied(arg)
     }
 
@@ -391,24 +389,6 @@ impl<'a> ArgList<'a> {
         )
         .requires_arg("by");
         self.with_tied(arg)
-    }
-
-    fn other_rope(self, is_required: bool) -> ArgList<'a> {
-        self.file(
-            "other-rope",
-            "ROPE",
-            "Rope file of the second run",
-            is_required,
-        )
-    }
-
-    fn other_script(self, is_required: bool) -> ArgList<'a> {
-        self.file(
-            "other-script",
-            "SCRIPT",
-            "Script file of the second run",
-            is_required,
-        )
     }
 
     fn cycle_option(self, name: &'a str, help: &'a str) -> ArgList<'a> {
@@ -590,6 +570,23 @@ impl<'a> ArgList<'a> {
             .conflicts_with("by");
         self.with_tied(arg)
     }
+}
+
+/// Returns `--words` of `compare`. It excludes the files of a run, and the options that only runs use.
+fn words_pair<'a>(alloc: Global) -> Result<Arg<'a>, AllocError> {
+    option(
+        alloc,
+        "words",
+        "ROPE",
+        "Compare only the words of these two rope files, without a run",
+    )
+    .num_args(2)
+    .conflicts_with("rope")?
+    .conflicts_with("limit")?
+    .conflicts_with("until")?
+    .conflicts_with("by")?
+    .conflicts_with("brief")?
+    .conflicts_with("names")
 }
 
 /// Returns `--source` of `compare`. It excludes the rope of a run, beside which `--words` is not required, and the

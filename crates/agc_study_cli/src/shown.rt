@@ -1,5 +1,5 @@
-//! Parses the options `--by` and `--brief` of `compare`.
-use crate::values::{NO_CHANNEL, refused};
+//! Parses the options `--by` and `--brief` of `compare`, and explains two mistakes in its options.
+use crate::values::{NO_CHANNEL, mistake, refused};
 use agc_cli::ArgsFault;
 use agc_diff::DiffBy;
 use agc_study_args::ObservedArgs;
@@ -9,6 +9,10 @@ use std::alloc::Global;
 
 /// The option as command-line errors name it.
 const BY: &str = "--by <WHAT>";
+
+/// How `--words` is written.
+const OPTION_AMONG_ROPES: &str =
+    "error: an option is among the ropes of --words: write it before --words or after both ropes\n";
 
 /// How a channel is written.
 const CHANNEL_FORM: &str = "write --by channel=010, with the channel's octal number";
@@ -51,12 +55,15 @@ fn channel_of(number: &str) -> Result<DiffBy, &'static str> {
     }
 }
 
-/// Replaces the error for `compare .. --by channel 010`, in which the number is a word of its own, by one that says how
-/// to write it.
-pub(crate) fn with_channel_form(alloc: Global, words: &[&str], fault: ArgsFault) -> ArgsFault {
+/// Replaces the error for two mistakes in `compare` by one that says how to write it: `--by channel 010`, in which the
+/// number is a word of its own, and an option between `--words` and its ropes.
+pub(crate) fn with_right_form(alloc: Global, words: &[&str], fault: ArgsFault) -> ArgsFault {
     match (fault, words) {
         (ArgsFault::Command(_), [_program, "compare", ..]) if separates_channel(words) => {
             refused(alloc, "channel", BY, CHANNEL_FORM)
+        }
+        (ArgsFault::Command(_), [_program, "compare", ..]) if separates_ropes(words) => {
+            mistake(alloc, OPTION_AMONG_ROPES)
         }
         (fault, _) => fault,
     }
@@ -70,6 +77,21 @@ fn separates_channel(words: &[&str]) -> bool {
             return true;
         }
         last = word;
+    }
+    false
+}
+
+/// Returns whether an option is among the two words after `--words`.
+fn separates_ropes(words: &[&str]) -> bool {
+    let mut awaited = 0u8;
+    for word in words {
+        if awaited > 0 && word.strip_prefix("--").is_some() {
+            return true;
+        }
+        awaited = match *word {
+            "--words" => 2,
+            _ => awaited.saturating_sub(1),
+        };
     }
     false
 }

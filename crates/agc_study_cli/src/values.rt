@@ -27,15 +27,8 @@ pub(crate) fn texts_of(
     given: &ArgMatches<'_>,
     id: &str,
 ) -> Result<Vec<String>, AllocError> {
-    match given.get_strs(id) {
-        Some(texts) => texts_in(alloc, texts),
-        None => Ok(Vec::new(alloc)),
-    }
-}
-
-fn texts_in(alloc: Global, texts: &[&str]) -> Result<Vec<String>, AllocError> {
     let mut several = Vec::new(alloc);
-    for text in texts {
+    for text in given.get_strs(id).unwrap_or(&[]) {
         push(&mut several, String::from_str(alloc, text)?)?;
     }
     Ok(several)
@@ -46,15 +39,8 @@ pub(crate) const NO_CHANNEL: &str = "a channel is one to three octal digits, 0 t
 
 /// Parses the values of `--order`.
 pub(crate) fn orders_of(alloc: Global, given: &ArgMatches<'_>) -> Result<Vec<String>, ArgsFault> {
-    match given.get_strs("order") {
-        Some(texts) => orders_in(alloc, texts),
-        None => Ok(Vec::new(alloc)),
-    }
-}
-
-fn orders_in(alloc: Global, texts: &[&str]) -> Result<Vec<String>, ArgsFault> {
     let mut several = Vec::new(alloc);
-    for text in texts {
+    for text in given.get_strs("order").unwrap_or(&[]) {
         if !is_order(text.as_bytes()) {
             return Err(no_order(alloc, text));
         }
@@ -105,6 +91,14 @@ pub(crate) fn channel_names_of(
 pub(crate) fn push<T: Drop>(several: &mut Vec<T>, value: T) -> Result<(), AllocError> {
     several.push(value)?;
     Ok(())
+}
+
+/// Returns a command-line error with this text.
+pub(crate) fn mistake(alloc: Global, text: &str) -> ArgsFault {
+    match String::from_str(alloc, text) {
+        Ok(text) => ArgsFault::Command(text),
+        Err(_) => ArgsFault::Memory,
+    }
 }
 
 /// Returns the error for a rejected value of an option.

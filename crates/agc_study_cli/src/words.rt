@@ -4,8 +4,8 @@ use crate::jobs::jobs_args;
 use crate::profile::profile_args;
 use crate::restore::{convert_args, patch_args, repair_args, words_args};
 use crate::runs::{files_of, options_of, other_files_of, other_form_of};
-use crate::shown::{shown_of, with_channel_form};
-use crate::values::{channel_names_of, channels_of, orders_of, span_of, texts_of};
+use crate::shown::{shown_of, with_right_form};
+use crate::values::{channel_names_of, channels_of, mistake, orders_of, span_of, texts_of};
 use agc_cli::{ArgsFault, form_of, mistake_of, path_of, text_of};
 use agc_study_args::{
     Args, CheckArgs, CompareArgs, FilmArgs, ListArgs, ListStyle, NAME, TraceArgs, WeaveArgs,
@@ -37,7 +37,7 @@ impl agc_cli::Args for CommandLine {
     fn parse<'a>(alloc: Global, words: &'a [&'a str]) -> Result<CommandLine, ArgsFault> {
         match command(alloc)?.try_get_matches_from(words) {
             Ok(matches) => agc_cli::Args::from_matches(alloc, &matches),
-            Err(error) => Err(with_channel_form(alloc, words, mistake_of(alloc, &error))),
+            Err(error) => Err(with_right_form(alloc, words, mistake_of(alloc, &error))),
         }
     }
 }
@@ -78,14 +78,6 @@ fn args_of(alloc: Global, name: &str, given: &ArgMatches<'_>) -> Result<Args, Ar
         "repair" => repair_args(alloc, given),
         "patch" => patch_args(alloc, given),
         _ => Err(mistake(alloc, "error: no such subcommand: see --help\n")),
-    }
-}
-
-/// Returns a command-line error with this text.
-fn mistake(alloc: Global, text: &str) -> ArgsFault {
-    match String::from_str(alloc, text) {
-        Ok(text) => ArgsFault::Command(text),
-        Err(_) => ArgsFault::Memory,
     }
 }
 
