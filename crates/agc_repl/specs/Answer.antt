@@ -1,5 +1,5 @@
 -- The lines of an answer.
-use Rattle.std.specs.Prelude.{ℕ, ◌/◌, ◌%◌, Bool, true, false, List, ◌++◌, codes}
+use Rattle.std.specs.Prelude.{ℕ, Bool, true, false, List, ◌++◌, codes}
 use Rattle.std.specs.Prelude.{Option, Some, None}
 use Rattle.std.specs.Fmt.{decimal}
 use Rattle.agc_word.specs.declared.channel_write.ChannelWrite.{ChannelWrite}
@@ -7,12 +7,13 @@ use Rattle.agc_machine.specs.Answer.{stop_name}
 use Rattle.agc_machine.specs.declared.answer.Stop.{Stop}
 use Rattle.agc_listing.specs.Cell.{cell_place}
 use Rattle.agc_listing.specs.Place.{place_text}
-use Rattle.agc_store.specs.Cells.{cell_of}
 use Rattle.agc_store.specs.Memory.{Memory}
-use Rattle.agc_store.specs.Places.{erasable_bank_size}
+use Rattle.agc_session.specs.Breakpoint.{word_at}
 use Rattle.agc_trace.specs.OperandLine.{signed_text}
 use Rattle.agc_word.specs.Number.{Number}
 use Rattle.agc_word.specs.Octal.{octal_digits, word_digits}
+use Rattle.agc_repl.specs.declared.answer.CellStyle.{CellStyle}
+use Rattle.agc_repl.specs.declared.answer.CellStyle.TheVariants as style
 
 -- a channel write: the cycle in decimal, the channel in three octal digits, the word in five
 abbrev pub write_line : ChannelWrite → List ℕ
@@ -30,18 +31,13 @@ end_line (Some why) cycle =
 abbrev pub error_line : List ℕ → List ℕ
 error_line reason = codes "error: " ++ reason ++ codes "\n"
 
--- a cell with its word, overflow corrected
-unfoldable pub cell_line : Memory → ℕ → List ℕ
-cell_line m cell =
-    codes "cell " ++ place_text (cell_place cell) ++ codes " "
-    ++ word_digits (cell_of m (cell / erasable_bank_size) (cell % erasable_bank_size)) ++ codes "\n"
-
--- a cell with its word, in octal and as a signed decimal number
-unfoldable pub print_line : Memory → ℕ → List ℕ
-print_line m cell =
-    let word : Number = cell_of m (cell / erasable_bank_size) (cell % erasable_bank_size) in
-    codes "print " ++ place_text (cell_place cell) ++ codes " " ++ word_digits word ++ codes " "
-    ++ signed_text word ++ codes "\n"
+-- a cell with its word, overflow corrected: in octal, and in the second style also as a signed decimal number
+unfoldable pub cell_line : CellStyle → Memory → ℕ → List ℕ
+cell_line style.Octal m cell =
+    codes "cell " ++ place_text (cell_place cell) ++ codes " " ++ word_digits (word_at cell m) ++ codes "\n"
+cell_line style.Decimal m cell =
+    codes "print " ++ place_text (cell_place cell) ++ codes " " ++ word_digits (word_at cell m)
+    ++ codes " " ++ signed_text (word_at cell m) ++ codes "\n"
 
 -- a channel with its word
 abbrev pub channel_line : ℕ → Number → List ℕ

@@ -8,9 +8,10 @@ use Rattle.agc_processor.specs.Channel.{channel_word}
 use Rattle.agc_script.specs.Written.{script_text}
 use Rattle.agc_session.specs.Session.{script_of}
 use Rattle.agc_word.specs.Arithmetic.{narrow_of}
-use Rattle.agc_repl.specs.Answer.{cell_line, channel_line, print_line, writes_line}
+use Rattle.agc_repl.specs.Answer.{cell_line, channel_line, writes_line}
 use Rattle.agc_trace.specs.StateLines.{next_line_with, registers_line}
 use Rattle.agc_repl.specs.Help.{help_text}
+use Rattle.agc_repl.specs.declared.answer.CellStyle.TheVariants as style
 use Rattle.agc_repl.specs.declared.command.Command.{Command}
 use Rattle.agc_repl.specs.declared.command.Command.TheVariants as command
 use Rattle.agc_repl.specs.Settings.{breakpoint_line}
@@ -27,9 +28,9 @@ shown_text names command.Registers t = registers_line t.session.now.processor.st
 shown_text names command.Next t = next_line_with names (upcoming_of t.session.now)
 shown_text names command.Where t = where_text names t.session.now
 shown_text names (command.Cells first count) t =
-    flat_map (cell_line t.session.now.processor.store) (range_with_len first count)
+    flat_map (cell_line style.Octal t.session.now.processor.store) (range_with_len first count)
 shown_text names (command.Print first count) t =
-    flat_map (print_line t.session.now.processor.store) (range_with_len first count)
+    flat_map (cell_line style.Decimal t.session.now.processor.store) (range_with_len first count)
 shown_text names (command.Channel channel) t =
     channel_line channel (narrow_of (channel_word t.session.now.cycle channel t.session.now.processor))
 shown_text names command.Writes t = writes_line t.writes

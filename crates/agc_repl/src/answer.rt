@@ -7,7 +7,6 @@ ghost use Rattle.agc_repl.specs.Answer.{
   channel_line,
   end_line,
   error_line,
-  print_line,
   write_line,
   writes_line,
 };
@@ -42,6 +41,15 @@ use agc_store::place::{ERASABLE_BANK_SIZE, bank_of};
 use agc_symbols::SymbolTable;
 use agc_word::{ChannelWrite, Narrow};
 use std::alloc::AllocError;
+
+/// How the line of a cell shows its word.
+#[derive(Clone, Copy, Debug, PartialEq, Eq)]
+pub enum CellStyle {
+    /// In octal: `cell PLACE VVVVV`.
+    Octal,
+    /// In octal and as a signed decimal number: `print PLACE VVVVV D`.
+    Decimal,
+}
 
 /// Adds the line of a channel write: `write C CCC VVVVV`. Fails, like every function here, if memory runs out.
 pub fn push_write_line(text: &mut String, write: &ChannelWrite) -> Result<(), AllocError>
@@ -149,66 +157,52 @@ fn push_meant(text: &mut String, name: &str) -> Result<(), AllocError>
     write!(text, "; did you mean {name}?")
 }
 
-/// Adds a line for each of `count` cells of erasable memory, from `first` on: `cell PLACE VVVVV`.
+/// Adds a line for each of `count` cells of erasable memory, from `first` on.
 pub fn push_cell_lines(
     text: &mut String,
     store: &Store,
+    style: CellStyle,
     first: u16,
     count: u16,
 ) -> Result<(), AllocError>
     requires { first + count ≤ erasable_cells }
     ensures { OnOk result (string_bytes text.new
-        ≡ string_bytes text.old ++ flat_map (cell_line store.now) (range_with_len first count)) }
+        ≡ string_bytes text.old ++ flat_map (cell_line style store.now) (range_with_len first count)) }
 {
     for cell in first..first + count {
-        push_cell_line(text, store, cell)?;
+        push_cell_line(text, store, style, cell)?;
     }
     Ok(())
 }
 
 /// Adds the line of a cell.
 #[tactic(auto, unfolding(crate::specs::Answer::cell_line))]
-fn push_cell_line(text: &mut String, store: &Store, cell: u16) -> Result<(), AllocError>
-    requires { cell < erasable_cells }
-    ensures { OnOk result
-        (string_bytes text.new ≡ string_bytes text.old ++ cell_line store.now cell) }
-{
-    let word = store.cell((cell / ERASABLE_BANK_SIZE) as u8, cell % ERASABLE_BANK_SIZE);
-    text.push_str("cell ")?;
-    push_place(text, Cell::new(cell).place())?;
-    writeln!(text, " {word}")
-}
-
-/// Adds a line for each of `count` cells of erasable memory, from `first` on: `print PLACE VVVVV D`.
-pub fn push_print_lines(
+fn push_cell_line(
     text: &mut String,
     store: &Store,
-    first: u16,
-    count: u16,
+    style: CellStyle,
+    cell: u16,
 ) -> Result<(), AllocError>
-    requires { first + count ≤ erasable_cells }
-    ensures { OnOk result (string_bytes text.new
-        ≡ string_bytes text.old ++ flat_map (print_line store.now) (range_with_len first count)) }
-{
-    for cell in first..first + count {
-        push_print_line(text, store, cell)?;
-    }
-    Ok(())
-}
-
-/// Adds the line of a cell, in octal and as a signed decimal number.
-#[tactic(auto, unfolding(crate::specs::Answer::print_line))]
-fn push_print_line(text: &mut String, store: &Store, cell: u16) -> Result<(), AllocError>
     requires { cell < erasable_cells }
     ensures { OnOk result
-        (string_bytes text.new ≡ string_bytes text.old ++ print_line store.now cell) }
+        (string_bytes text.new ≡ string_bytes text.old ++ cell_line style store.now cell) }
 {
     let word = store.cell((cell / ERASABLE_BANK_SIZE) as u8, cell % ERASABLE_BANK_SIZE);
-    text.push_str("print ")?;
-    push_location(text, Location::Erasable(u32::from(cell)))?;
-    write!(text, " {word} ")?;
-    push_signed(text, word)?;
-    text.push_str("\n")
+    let place = Cell::new(cell).place();
+    match style {
+        CellStyle::Octal => {
+            text.push_str("cell ")?;
+            push_place(text, place)?;
+            writeln!(text, " {word}")
+        }
+        CellStyle::Decimal => {
+            text.push_str("print ")?;
+            push_place(text, place)?;
+            write!(text, " {word} ")?;
+            push_signed(text, word)?;
+            text.push_str("\n")
+        }
+    }
 }
 
 /// Adds a word as a signed decimal number; the minus of -0 is printed.

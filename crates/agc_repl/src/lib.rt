@@ -27,8 +27,8 @@ mod whereabouts;
 mod words;
 
 pub use answer::{
-    push_cell_lines, push_channel_line, push_end_line, push_error_line, push_fault_line,
-    push_hit_line, push_print_lines, push_write_line, push_writes_line,
+    CellStyle, push_cell_lines, push_channel_line, push_end_line, push_error_line, push_fault_line,
+    push_hit_line, push_write_line, push_writes_line,
 };
 pub use command::{Breakpoint, Command, Trigger};
 pub use conversation::{ReplFault, run_repl};

@@ -8,7 +8,7 @@ ghost use Rattle.agc_repl.specs.Command.{IsCommandInRange};
 ghost use Rattle.agc_repl.specs.Queries.{shown_text};
 
 use crate::answer::{
-    push_breakpoint_lines, push_cell_lines, push_channel_line, push_print_lines, push_writes_line,
+    CellStyle, push_breakpoint_lines, push_cell_lines, push_channel_line, push_writes_line,
 };
 use crate::command::Command;
 use crate::help::push_help;
@@ -40,8 +40,12 @@ pub(crate) fn push_shown(
         Command::Registers => push_registers_line(text, machine.store()),
         Command::Next => push_next_line_with(text, names, machine.upcoming()),
         Command::Where => push_where(text, names, machine),
-        Command::Cells { first, count } => push_cell_lines(text, machine.store(), first, count),
-        Command::Print { first, count } => push_print_lines(text, machine.store(), first, count),
+        Command::Cells { first, count } => {
+            push_cell_lines(text, machine.store(), CellStyle::Octal, first, count)
+        }
+        Command::Print { first, count } => {
+            push_cell_lines(text, machine.store(), CellStyle::Decimal, first, count)
+        }
         Command::Channel(channel) => push_channel_line(text, channel, machine.channel(channel)),
         Command::Writes => push_writes_line(text, repl.writes),
         Command::Script => push_script(alloc, repl, text),

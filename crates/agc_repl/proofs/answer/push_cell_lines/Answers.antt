@@ -5,4 +5,4 @@ use Rattle.agc_repl.proofs.answer.push_cell_lines.Goals as goal
 
 pub loop-cell-preserved : goal.loop-cell-preserved
 loop-cell-preserved c =
-    lines_with (cell_line c.args.store.now) c.args.first c.loop-cell.cell _ _ _ (omega arith) c.loop-cell.invariant c.in_ok-push_cell_line.ensures
+    lines_with (cell_line c.args.style c.args.store.now) c.args.first c.loop-cell.cell _ _ _ (omega arith) c.loop-cell.invariant c.in_ok-push_cell_line.ensures
