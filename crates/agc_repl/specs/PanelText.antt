@@ -15,7 +15,6 @@ use Rattle.agc_panel.specs.declared.face.Register.{Register}
 use Rattle.agc_panel.specs.declared.lamp.Lamp.{Lamp}
 use Rattle.agc_panel.specs.declared.text.Sign.{Sign}
 use Rattle.agc_panel.specs.declared.text.Sign.TheVariants as sign
-use Rattle.agc_session.specs.Breakpoint.{both_or_none, same_digit, same_pair}
 use Rattle.agc_word.specs.Text.{words_of}
 use Rattle.agc_repl.specs.declared.panel_line.PanelLine.{PanelLine}
 use Rattle.agc_repl.specs.declared.panel_line.PanelLine.TheVariants as line
@@ -111,6 +110,13 @@ line_text (line.R3 r) = codes "R3 " ++ signed_text r
 line_text (line.Flash on) = codes "FLASH " ++ (if on then codes "on" else codes "off")
 line_text (line.Lamp lamp) = codes "LAMPS " ++ words_on lamp
 
+-- a digit, and a pair of them, shows these characters
+abbrev pub same_digit : Digit → Digit → Bool
+same_digit one other = bytes_eq (glyph one) (glyph other)
+
+abbrev pub same_pair : Pair → Pair → Bool
+same_pair one other = same_digit one.left other.left && same_digit one.right other.right
+
 -- a register shows this sign and these digits
 abbrev pub is_signed : SignedDigits → Register → Bool
 is_signed r register =
@@ -126,7 +132,7 @@ shows (line.Noun pair) face = same_pair pair face.noun
 shows (line.R1 r) face = is_signed r face.r1
 shows (line.R2 r) face = is_signed r face.r2
 shows (line.R3 r) face = is_signed r face.r3
-shows (line.Flash on) face = both_or_none on face.flash
+shows (line.Flash on) face = if on then face.flash else not face.flash
 shows (line.Lamp lamp) face = is_lit face.lamps lamp
 
 -- A boundary brings a line to the panel, which did not show it before. Only a write can.

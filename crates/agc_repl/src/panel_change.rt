@@ -1,21 +1,12 @@
 //! Whether a channel write changes what the panel shows, or brings a line to it.
 ghost use Rattle.std.specs.Prelude.{◌≡◌, [], ◌∷◌};
 ghost use Rattle.agc_panel.specs.Face.{face_after};
-ghost use Rattle.agc_repl.specs.PanelText.{is_line_new, is_signed, shows};
-ghost use Rattle.agc_session.specs.Breakpoint.{
-  both_or_none,
-  is_panel_change,
-  same_digit,
-  same_lamp,
-  same_lamps,
-  same_pair,
-  same_register,
-  shows_same,
-};
+ghost use Rattle.agc_repl.specs.PanelText.{is_line_new, is_signed, same_digit, same_pair, shows};
+ghost use Rattle.agc_session.specs.Breakpoint.{is_panel_change};
 
 use crate::panel_line::{PanelLine, SignedDigits, sign_glyph};
 use agc_machine::Stepped;
-use agc_panel::{Digit, Face, Lamp, Lamps, Pair, Panel, Register};
+use agc_panel::{Digit, Face, Pair, Panel, Register};
 use agc_word::ChannelWrite;
 
 /// Returns whether a boundary changed what the panel shows.
@@ -23,7 +14,7 @@ pub(crate) fn is_panel_change(before: &Panel, stepped: &Stepped) -> bool
     ensures { result ≡ is_panel_change before.now stepped.now }
 {
     match stepped {
-        Stepped::Wrote(write) => !shows_same(&after(before, write).face(), &before.face()),
+        Stepped::Wrote(write) => !after(before, write).shows_same(before),
         Stepped::Quiet | Stepped::Stopped(_) => false,
     }
 }
@@ -61,7 +52,7 @@ fn shows(line: &PanelLine, face: &Face) -> bool
         PanelLine::R1(digits) => is_signed(digits, &face.r1),
         PanelLine::R2(digits) => is_signed(digits, &face.r2),
         PanelLine::R3(digits) => is_signed(digits, &face.r3),
-        PanelLine::Flash(on) => both_or_none(*on, face.flash),
+        PanelLine::Flash(on) => *on == face.flash,
         PanelLine::Lamp(lamp) => face.lamps.is_lit(*lamp),
     }
 }
@@ -78,70 +69,16 @@ fn is_signed(digits: &SignedDigits, register: &Register) -> bool
         && same_digit(digits.d5, register.d5)
 }
 
-/// Returns whether two panels show the same.
-#[tactic(auto, unfolding(agc_session::specs::Breakpoint::shows_same))]
-fn shows_same(one: &Face, other: &Face) -> bool
-    ensures { result ≡ shows_same one.now other.now }
-{
-    same_pair(&one.program, &other.program)
-        && same_pair(&one.verb, &other.verb)
-        && same_pair(&one.noun, &other.noun)
-        && same_register(&one.r1, &other.r1)
-        && same_register(&one.r2, &other.r2)
-        && same_register(&one.r3, &other.r3)
-        && both_or_none(one.flash, other.flash)
-        && same_lamps(&one.lamps, &other.lamps)
-}
-
+/// Returns whether two pairs show the same characters.
 fn same_pair(one: &Pair, other: &Pair) -> bool
     ensures { result ≡ same_pair one.now other.now }
 {
     same_digit(one.left, other.left) && same_digit(one.right, other.right)
 }
 
-fn same_register(one: &Register, other: &Register) -> bool
-    ensures { result ≡ same_register one.now other.now }
-{
-    both_or_none(one.plus, other.plus)
-        && both_or_none(one.minus, other.minus)
-        && same_digit(one.d1, other.d1)
-        && same_digit(one.d2, other.d2)
-        && same_digit(one.d3, other.d3)
-        && same_digit(one.d4, other.d4)
-        && same_digit(one.d5, other.d5)
-}
-
-fn same_lamps(one: &Lamps, other: &Lamps) -> bool
-    ensures { result ≡ same_lamps one.now other.now }
-{
-    same_lamp(one, other, Lamp::CompActy)
-        && same_lamp(one, other, Lamp::UplinkActy)
-        && same_lamp(one, other, Lamp::NoAtt)
-        && same_lamp(one, other, Lamp::Temp)
-        && same_lamp(one, other, Lamp::GimbalLock)
-        && same_lamp(one, other, Lamp::Prog)
-        && same_lamp(one, other, Lamp::KeyRel)
-        && same_lamp(one, other, Lamp::OprErr)
-        && same_lamp(one, other, Lamp::Tracker)
-        && same_lamp(one, other, Lamp::Alt)
-        && same_lamp(one, other, Lamp::Vel)
-        && same_lamp(one, other, Lamp::Iss)
-}
-
-fn same_lamp(one: &Lamps, other: &Lamps, lamp: Lamp) -> bool
-    ensures { result ≡ same_lamp one.now other.now lamp }
-{
-    both_or_none(one.is_lit(lamp), other.is_lit(lamp))
-}
-
+/// Returns whether two digits show the same character.
 fn same_digit(one: Digit, other: Digit) -> bool
     ensures { result ≡ same_digit one other }
 {
     one.glyph() == other.glyph()
-}
-
-fn both_or_none(one: bool, other: bool) -> bool
-    ensures { result ≡ both_or_none one other }
-{
-    if one { other } else { !other }
 }
