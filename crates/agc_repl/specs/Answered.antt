@@ -141,12 +141,12 @@ missed what = invalid.NotHit
 unfoldable pub cycle_after : ℕ → ℕ
 cycle_after cycle = min (cycle + 1) (2 ^ 64 - 1)
 
--- `back` to the cycle that a search has found, where the events injected at this cycle stay in the script
+-- `back` to the cycle that a search has found; the events injected at this cycle stay in the script
 abbrev pub found_request : SessionBreakpoint → Option ℕ → Request
 found_request what (Some cycle) = Ok (Some (command.Back (cycle_after cycle) cycle))
 found_request what None = Err (missed what)
 
--- `save` after a try: itself, which is answered as an empty line is, or a line at fault
+-- `save` once it was tried: itself, answered like an empty line, or a line at fault
 unfoldable pub request_saved : FileName → Result (Unit {0}) SaveFault → Request
 request_saved name (Ok done) = Ok (Some (command.Save name))
 request_saved name (Err why) = Err (invalid.NotSaved why)

@@ -89,7 +89,7 @@ until_of names (first ∷ words) =
     else if bytes_eq first (codes "cell") then until_cell names words
     else and_then (place_in names first) (λ place. until_target (target.Order place) words)
 
--- a breakpoint at what `until` can run to as well
+-- a breakpoint that `until` takes too
 abbrev pub break_at : Breakpoint → Command
 break_at what = command.Break (trigger.At what)
 

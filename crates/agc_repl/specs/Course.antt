@@ -83,7 +83,7 @@ course_within (suc more) armed cycle t =
     then course_on (hit_by armed t.session.panel next.0.session.now next.1) next (course_within more armed cycle next.0)
     else no_course t
 
--- The run to a cycle: boundaries with nothing injected, as long as the cycle is not reached and the machine has not
+-- The run to a cycle: boundaries with nothing injected, while the cycle is not reached and the machine has not
 -- stopped, up to the first that hits a breakpoint.
 unfoldable pub course_to : List Armed → ℕ → Repl → Course
 course_to armed cycle t = course_within (boundaries_left t.session.now) armed cycle t

@@ -121,8 +121,8 @@ way_within (suc more) armed cycle s =
     let next = boundary None s in
     if is_short_of cycle s then and_on armed next (way_within more armed cycle next.0) else no_way s
 
--- The stretch to a cycle: boundaries with nothing injected, as long as the cycle is not reached and the machine has
--- not stopped, up to the first that hits the target.
+-- The stretch to a cycle: boundaries with nothing injected, while the cycle is not reached and the machine has not
+-- stopped, up to the first that hits the target.
 unfoldable pub stretch_to : ArmedBreakpoint → ℕ → State → Stretch
 stretch_to armed cycle s = way_within (boundaries_left s) armed cycle s
 

@@ -289,7 +289,7 @@ fn push_trigger(text: &mut String, what: Trigger) -> Result<(), AllocError>
     }
 }
 
-/// Adds what `until` can run to as well.
+/// Adds a breakpoint that `until` takes too.
 #[tactic(auto, unfolding(crate::specs::Settings::breakpoint_text, crate::specs::Command::IsBreakpointInRange))]
 fn push_breakpoint(text: &mut String, what: Breakpoint) -> Result<(), AllocError>
     requires { IsBreakpointInRange what }
@@ -337,7 +337,7 @@ fn push_location(text: &mut String, place: Location) -> Result<(), AllocError>
     push_place(text, place_at(place))
 }
 
-/// Returns a place as it is printed.
+/// Returns the printed form of a place.
 fn place_at(place: Location) -> Place
     requires { IsWithin place }
     ensures place { place_text result ≡ location_text place }

@@ -105,7 +105,7 @@ impl ArmedBreakpoint {
         }
     }
 
-    /// Runs as far as the target cannot be hit, but no further than `cycle`: to the next write, or by one boundary.
+    /// Runs while the target cannot be hit, at most to `cycle`: to the next write, or by one boundary.
     pub(crate) fn advance(&self, repl: &mut Repl, cycle: u64) -> Stepped
         requires { is_short_of cycle repl.old.session.now ≡ true }
         ensures stretch { stretch_to self.now cycle repl.old.session.now

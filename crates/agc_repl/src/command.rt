@@ -25,7 +25,7 @@ pub enum Breakpoint {
 /// What hits a numbered breakpoint.
 #[derive(Clone, Copy, Debug, PartialEq, Eq)]
 pub enum Trigger {
-    /// What `until` can run to as well.
+    /// A breakpoint that `until` takes too.
     At(Breakpoint),
     /// A channel write that changes what the panel shows.
     Panel,
@@ -88,7 +88,7 @@ pub enum Command {
         cut: u64,
         cycle: u64,
     },
-    /// Rewind to where the last boundary before now began that hits this: with `count` 2 the last but one, and so on.
+    /// Rewind to the start of the last boundary that hits this: with `count` 2 the last but one, and so on.
     BackTo {
         what: agc_session::Breakpoint,
         count: u64,

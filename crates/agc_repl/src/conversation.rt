@@ -1,10 +1,10 @@
 //! Reads commands line by line, and answers each one before it reads the next.
 //!
-//! Unless memory runs out, the output is the session's text: this is the contract of [`run_repl`]. Part of a long
-//! answer is written before the rest is known; if memory runs out then, the machine has already moved. An event and
-//! `back` reserve what they need first, and their answers need no memory; a search back finds its cycle first. An event that is rejected because the
-//! machine takes no more events is tried after the script's events that were due, and those have happened. No clause
-//! states that an answer is written before the next line is read; only tests show it.
+//! Unless memory runs out, the output is the session's text: this is the contract of [`run_repl`]. The first part of a
+//! long answer is written before the rest is known; if memory runs out then, the machine has already moved. An event
+//! and `back` reserve what they need first, and their answers need no memory; a search back finds its cycle first. If
+//! an event is rejected because the machine takes no more events, the script's events that were due have happened. No
+//! clause states that an answer is written before the next line is read; only tests show it.
 ghost use Rattle.std.specs.Prelude.{◌≡◌, ◌<◌, ◌⊎◌, ◌++◌, Some, Ok, Err, codes, IfErr, IfOk, IfSome, IsErrOf, MatchResult, OnErr, OnOk, string_bytes};
 ghost use Rattle.std.specs.Io.KnownBytes.{Appends, Keeps, append_known};
 ghost use Rattle.agc_repl.specs.Answer.{end_line, error_line};
@@ -206,8 +206,9 @@ fn answer_save<W: Write, S: Saver>(
     answer_itself(alloc, names, repl, request_saved(name, saved), output)
 }
 
-/// Goes back to where the last boundary began that hits `what`, or the last but one, and so on, and answers. The events
-/// injected at its cycle will happen again. If there is none, or memory runs out, nothing changes.
+/// Searches back for the last boundary that hits `what`, or with `count` 2 the last but one, and so on. Rewinds to its
+/// start, and answers. The events injected at its cycle will happen again. If nothing is found, or memory runs out,
+/// nothing changes.
 fn answer_search<W: Write>(
     alloc: Global,
     names: &Option<SymbolTable>,

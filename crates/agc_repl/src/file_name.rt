@@ -25,7 +25,7 @@ impl FileName {
         FileName { bytes, length }
     }
 
-    /// Returns the name as a text, empty if it is none.
+    /// Returns the name, or an empty text if it is not UTF-8.
     pub fn text(&self) -> &str {
         match str::from_utf8(&self.bytes[..self.length.min(LONGEST_LINE)]) {
             Ok(text) => text,

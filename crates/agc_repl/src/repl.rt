@@ -89,7 +89,7 @@ impl Repl {
         self.note(stepped)
     }
 
-    /// Runs as [`Session::go_on`] does.
+    /// Runs like [`Session::go_on`].
     pub(crate) fn go_on(&mut self, cycle: u64) -> Stepped
         ensures before { (self.new.session.now, result) ≡ next_before cycle self.old.session.now }
         ensures shown { self.new ≡ gone_on self.new.session.now (writes_in (result ∷ [])) self.old }

@@ -70,7 +70,7 @@ use agc_word::next_word;
 const WITHIN: u64 = 1_000_000;
 
 /// Parses a line. Returns `None` for a line without words and for a comment, or its fault. With `names`, a symbol can
-/// be written for any place, as `resolve` of agc_symbols reads it.
+/// be written for any place: `resolve` of agc_symbols reads it.
 #[tactic(auto, unfolding(crate::specs::Command::request_of))]
 pub fn parse_command(
     names: &Option<SymbolTable>,
@@ -312,7 +312,7 @@ fn read_watched(names: &Option<SymbolTable>, word: &[u8]) -> Result<Command, Com
     read_break_at_cell(names, word)
 }
 
-/// Returns whether a word has two commas or more, as tables do and no place does.
+/// Returns whether a word has two commas or more. Tables have; a place has at most one.
 #[tactic(auto, unfolding(crate::specs::Command::is_tables))]
 fn is_tables(word: &[u8]) -> bool
     ensures { result ≡ is_tables word.now }
@@ -385,7 +385,7 @@ fn read_break_panel(words: &[u8]) -> Result<Command, CommandFault>
     Ok(Command::Break(Trigger::Shows(line)))
 }
 
-/// Returns the command that sets a breakpoint at what `until` can run to as well.
+/// Returns the command that sets a breakpoint that `until` takes too.
 #[tactic(auto, unfolding(crate::specs::Command::IsCommandInRange, crate::specs::Command::IsTriggerInRange))]
 fn break_at(what: Breakpoint) -> Command
     requires { IsBreakpointInRange what }

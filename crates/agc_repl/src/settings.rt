@@ -79,7 +79,7 @@ impl Settings {
         self.quiet = quiet;
     }
 
-    /// Returns whether there are as many breakpoints as there may be.
+    /// Returns whether no further breakpoint can be set.
     pub(crate) fn is_full(&self) -> bool
         ensures { result ≡ is_full self.now }
     {
