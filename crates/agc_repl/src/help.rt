@@ -33,7 +33,7 @@ fn push_events(text: &mut String) -> Result<(), AllocError>
     ensures { OnOk result (string_bytes text.new ≡ string_bytes text.old ++ events_text) }
 {
     text.push_str(
-        "key NAME: presses a key, 0 to 9 + - VERB NOUN ENTR CLR RSET KEYREL. Example: key VERB\npro down, or pro up: turns the PRO switch. Example: pro down\ninput CCC WORD: sets a channel, 5 to 777, octal. Example: input 33 77775\npulse COUNTER KIND: pinc, minc, pcdu, mcdu, shinc or shanc. Example: pulse 37 pinc\nraise N: requests an interrupt, 1 to 10, decimal. Example: raise 5\npoke BANK OFFSET WORD: stores a word in erasable memory, octal. Example: poke 0 100 12345\n",
+        "key NAME: presses a key, 0 to 9 + - VERB NOUN ENTR CLR RSET KEYREL. Example: key VERB\npro down, or pro up: turns the PRO switch. Example: pro down\ninput CCC WORD: sets a channel, 5 to 777, to a word, 0 to 77777, octal. Example: input 33 77775\npulse COUNTER KIND: steps a counter, 24 to 60, octal, by pinc, minc, pcdu, mcdu, shinc or shanc. Example: pulse 37 pinc\nraise N: requests an interrupt, 1 to 10, decimal. Example: raise 5\npoke BANK OFFSET WORD: stores a word, 0 to 77777, in bank 0 to 7 at offset 0 to 377, in bank 0 from 10 on, octal. Example: poke 0 100 12345\n",
     )
 }
 
@@ -63,29 +63,34 @@ fn purpose(name: CommandName) -> &'static str
     ensures { result.now ≡ purpose_text name }
 {
     match name {
-        CommandName::Go => "runs N cycles, or to cycle C, in decimal. Example: go 85333",
-        CommandName::Step => "takes one boundary, or N, with trace lines. Example: step 10",
-        CommandName::Until => "runs on to it. Example: until write 10",
-        CommandName::Break => "sets a breakpoint. Example: break write 10 44017",
+        CommandName::Go =>
+            "runs N cycles, or to cycle C, 0 to 1000000000000, decimal. Example: go 85333",
+        CommandName::Step =>
+            "takes one boundary, or N, 0 to 1000000000000, decimal, with trace lines. Example: step 10",
+        CommandName::Until =>
+            "runs on to it, for 1000000 cycles or N, decimal; PLACE and CCC, 5 to 777, are octal. Example: until write 10",
+        CommandName::Break =>
+            "sets a breakpoint; PLACE, CCC, 5 to 777, and WORD, 0 to 77777, are octal. Example: break write 10 44017",
         CommandName::Breaks => "lists the breakpoints",
-        CommandName::Delete => "deletes breakpoint N, in decimal. Example: delete 2",
+        CommandName::Delete => "deletes breakpoint N, from 1 on, decimal. Example: delete 2",
         CommandName::Continue =>
-            "runs on to the first breakpoint that is hit. Example: continue within 85333",
+            "runs on to the first breakpoint that is hit, for 1000000 cycles or N, decimal. Example: continue within 85333",
         CommandName::Quiet => "prints no channel writes of runs, or prints them again",
         CommandName::Panel => "shows the panel",
         CommandName::Watch =>
-            "sets a breakpoint at a cell, or shows the Executive's tables. Example: watch 0,200,7,0,330,0,340",
+            "sets a breakpoint at a cell, or shows the Executive's tables; all octal. Example: watch 0,200,7,0,330,0,340",
         CommandName::Registers => "shows A, L, Q, Z, EB, FB and BB, octal",
         CommandName::Next => "shows what comes next, as a trace does",
         CommandName::Where =>
             "shows the place of the order in hand, and what a service interrupted",
-        CommandName::Cell => "shows a cell, or N (decimal). Example: cell 0100 8",
+        CommandName::Cell =>
+            "shows a cell, octal, or N from it on, 1 to 2048, decimal. Example: cell 0100 8",
         CommandName::Print =>
-            "shows a cell, or N, in octal and signed decimal. Example: print 0100",
-        CommandName::Channel => "shows a channel, 0 to 777 octal. Example: channel 10",
+            "shows a cell, octal, or N from it on, 1 to 2048, decimal; in octal and signed decimal. Example: print 0100",
+        CommandName::Channel => "shows a channel, 0 to 777, octal. Example: channel 10",
         CommandName::Writes => "shows the number of channel writes so far",
         CommandName::Back =>
-            "returns to before cycle C, to where the Nth last boundary began, or to where the last one that hits it began; drops later events. Example: back until cell 0100",
+            "returns to before cycle C, decimal, to where the Nth last boundary began, from 1 on, decimal, or to where the last one that hits it began, numbers as for break; drops later events. Example: back until cell 0100",
         CommandName::Script => "prints the script that repeats this session",
         CommandName::Save => "writes that script to a new file. Example: save my.script",
         CommandName::Help => "prints these lines",
