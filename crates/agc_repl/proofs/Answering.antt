@@ -19,7 +19,7 @@ use Rattle.agc_session.specs.declared.fault.InjectFault.TheVariants as fault
 use Rattle.agc_trace.specs.NamedLine.{line_with}
 use Rattle.agc_trace.specs.Trace.{trace_within}
 use Rattle.agc_repl.specs.Answer.{error_line}
-use Rattle.agc_repl.specs.Answered.{Answer, Begins, GoesBack, IsAnswered, IsLeft, IsPartOf, IsPlain, Request, RunsOut, Sets, Outputs, ahead_text, answer_to, answered, back_answer, break_answer, breakpoint_set, cycles_on, delete_answer, done, ended, full_text, given_answer, last_line, missing_text, quiet_answer, refusal_text, refused_by, shown_course, shown_until, shown_stretch}
+use Rattle.agc_repl.specs.Answered.{Answer, Begins, GoesBack, IsAnswered, IsLeft, IsPartOf, IsPlain, IsPlainRequest, Request, RunsOut, Sets, Outputs, ahead_text, answer_to, answered, back_answer, break_answer, breakpoint_set, cycles_on, delete_answer, done, ended, full_text, given_answer, last_line, missing_text, quiet_answer, refusal_text, refused_by, shown_course, shown_until, shown_stretch}
 use Rattle.agc_repl.specs.Course.{all_armed, course_to}
 use Rattle.agc_repl.specs.Queries.{shown_text}
 use Rattle.agc_repl.specs.Settings.{breakpoint_line, has_number, is_full, next_numbered, with_breakpoint, without_number}
@@ -41,7 +41,7 @@ reports_end a t begun o old new h e =
     subst (λ (u : Repl). Appends (append_known o old) (append_known o new) (last_line u)) h.0 (grown o old new (last_line t) e) in
     (h.0, Appends-trans begun (append_known o old) (append_known o new) a.1 (last_line a.0) h.1 line)
 
-pub answered_plain : (names : Option (List Symbol)) (c : Command) (s : Repl) → IsPlain c → answered names c s ≡ ended (done names c s)
+answered_plain : (names : Option (List Symbol)) (c : Command) (s : Repl) → IsPlain c → answered names c s ≡ ended (done names c s)
 unfolding answered
 answered_plain names (command.Inject what) s h = absurd h
 answered_plain names (command.Back cut cycle) s h = absurd h
@@ -60,9 +60,15 @@ pub what_in_range : (request : Request) (parsed : Option Command) (c : Command) 
 unfolding IsCommandInRange
 what_in_range request parsed c what e f h k = rw (e, f, h) at k
 
-pub answer_of_command : (names : Option (List Symbol)) (request : Request) (parsed : Option Command) (c : Command) (s : Repl) → request ≡ Ok parsed → parsed ≡ Some c → answer_to names request s ≡ answered names c s
+-- a plain request's answer is that of its command, with the last line
+plain_command : (request : Request) (parsed : Option Command) (c : Command) → request ≡ Ok parsed → parsed ≡ Some c → IsPlainRequest request → IsPlain c
+plain_command request parsed c e f h = rw (e, f) at h
+
+pub answer_of_command : (names : Option (List Symbol)) (request : Request) (parsed : Option Command) (c : Command) (s : Repl) → request ≡ Ok parsed → parsed ≡ Some c → IsPlainRequest request
+    → answer_to names request s ≡ ended (done names c s)
 unfolding answer_to
-answer_of_command names request parsed c s e f = ap (λ (x : Request). answer_to names x s) (e ∙ ap Ok f)
+answer_of_command names request parsed c s e f h =
+    ap (λ (x : Request). answer_to names x s) (e ∙ ap Ok f) ∙ answered_plain names c s (plain_command request parsed c e f h)
 
 pub answer_of_nothing : (names : Option (List Symbol)) (request : Request) (parsed : Option Command) (s : Repl) → request ≡ Ok parsed → parsed ≡ None → answer_to names request s ≡ (s, last_line s)
 unfolding answer_to
@@ -129,12 +135,6 @@ left_nothing (Ok (Some (command.Inject what))) s = inl refl
 left_nothing (Ok (Some c)) s = refl
 left_nothing (Ok None) s = refl
 left_nothing (Err why) s = refl
-
-pub left_by : (request : Request) (parsed : Option Command) (c : Command) (s t : Repl) → request ≡ Ok parsed → parsed ≡ Some c → IsPartOf c s t → IsLeft request s t
-left_by request parsed c s t e f h = rw (e, f) h
-
-pub part_as : (c d : Command) (s t : Repl) → c ≡ d → IsPartOf d s t → IsPartOf c s t
-part_as c d s t e h = rw e h
 
 pub begins_as : (a b : Answer) (old : List ℕ) (from now : Option (List ℕ)) → a ≡ b → Begins (old ++ b.1) from now → Begins (old ++ a.1) from now
 begins_as a b old from now e h = rw e h

@@ -22,7 +22,6 @@ ghost use Rattle.agc_repl.specs.Answered.{
   IsPlain,
   IsPlainRequest,
   Outputs,
-  ahead_text,
   answer_to,
   answered,
   cycle_after,
@@ -223,7 +222,7 @@ fn answer_search<W: Write>(
         (W.contents output.old) (W.contents output.new)) }
 {
     let Ok(found) = repl.session.last_hit(alloc, what, count) else {
-        return stay(repl, output);
+        return refuse(repl, "memory", output);
     };
     match found {
         Some(cycle) => {
@@ -364,32 +363,13 @@ fn execute<W: Write>(
         → Begins (string_bytes text.old ++ (answer_to names.now request repl.old).1) (W.contents output.old) (W.contents output.new) }
 {
     match request {
-        Ok(Some(command)) => say_command(alloc, names, repl, command, text, output),
+        Ok(Some(command)) => {
+            carry_out(alloc, names, repl, command, text, output)?;
+            push_end(repl, text)
+        }
         Ok(None) => push_end(repl, text),
         Err(fault) => push_refusal(names, fault, text),
     }
-}
-
-/// Executes a command, and adds the unwritten rest of its answer.
-fn say_command<W: Write>(
-    alloc: Global,
-    names: &Option<SymbolTable>,
-    repl: &mut Repl,
-    command: Command,
-    text: &mut String,
-    output: &mut W,
-) -> Result<(), ReplFault>
-    requires range { IsCommandInRange command }
-    requires plain { IsPlain command }
-    ensures parsed { OnOk result (Outputs (answered names.now command repl.old) repl.new
-        (append_known (W.contents output.old) (string_bytes text.old))
-        (append_known (W.contents output.new) (string_bytes text.new))) }
-    ensures left { IsPartOf command repl.old repl.new }
-    ensures begins { IsErrOf result ReplFault.Memory
-        → Begins (string_bytes text.old ++ (answered names.now command repl.old).1) (W.contents output.old) (W.contents output.new) }
-{
-    carry_out(alloc, names, repl, command, text, output)?;
-    push_end(repl, text)
 }
 
 /// Adds the answer to an invalid command line.
@@ -605,7 +585,11 @@ fn rewind_to<W: Write>(
     if repl.has_reached(cycle) {
         rewind_reached(alloc, repl, cut, cycle, output)
     } else {
-        refuse_ahead(repl, output)
+        refuse(
+            repl,
+            "Ahead: the machine has not reached this cycle; go to C runs on to it",
+            output,
+        )
     }
 }
 
@@ -625,32 +609,16 @@ fn rewind_reached<W: Write>(
             let reported = write_end(alloc, &earlier, output);
             keep_if(reported, earlier)
         }
-        Err(same) => stay(same, output),
+        Err(same) => refuse(same, "memory", output),
     }
 }
 
-/// Answers that a cycle to go back to is ahead, and changes nothing.
-fn refuse_ahead<W: Write>(repl: Repl, output: &mut W) -> Result<Repl, ReplFault>
+/// Answers why nothing was done, and changes nothing.
+fn refuse<W: Write>(repl: Repl, why: &str, output: &mut W) -> Result<Repl, ReplFault>
     ensures { IfOk result (λ left. (left ≡ repl)
-        × Appends (W.contents output.old) (W.contents output.new) (error_line ahead_text)) }
+        × Appends (W.contents output.old) (W.contents output.new) (error_line why.now)) }
 {
-    let reported = write_error_line(output, ahead());
-    keep_if(reported, repl)
-}
-
-/// Returns why a session does not go back to a cycle.
-fn ahead() -> &'static str
-    ensures { result.now ≡ ahead_text }
-{
-    "Ahead: the machine has not reached this cycle; go to C runs on to it"
-}
-
-/// Answers that memory ran out, and changes nothing.
-fn stay<W: Write>(repl: Repl, output: &mut W) -> Result<Repl, ReplFault>
-    ensures { IfOk result (λ left. (left ≡ repl)
-        × Appends (W.contents output.old) (W.contents output.new) (codes "error: memory\n")) }
-{
-    let reported = write_text(output, OUT_OF_MEMORY);
+    let reported = write_error_line(output, why);
     keep_if(reported, repl)
 }
 

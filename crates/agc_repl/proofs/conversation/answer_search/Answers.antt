@@ -4,7 +4,7 @@ use Rattle.agc_repl.proofs.conversation.answer_search.Goals as goal
 
 pub returns-in_default : goal.returns-in_default
 returns-in_default g c =
-    when_left _ c.stay.result c.stay.ensures (λ t. short_handled c.args.names.now c.args.what c.args.count c.args.repl t _ _)
+    when_left _ c.refuse.result c.refuse.ensures (λ t. short_handled c.args.names.now c.args.what c.args.count c.args.repl t _ _)
 
 pub returns-in-Some : goal.returns-in-Some
 returns-in-Some g c =

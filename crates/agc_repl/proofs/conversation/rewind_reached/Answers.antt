@@ -9,4 +9,4 @@ returns-in-Ok g c =
 
 pub returns-in-Err : goal.returns-in-Err
 returns-in-Err g c =
-    when_left _ c.stay.result c.stay.ensures (λ t short. inr (short.0 ∙ c.in-Err.ensures.err, short.1))
+    when_left _ c.refuse.result c.refuse.ensures (λ t short. inr (short.0 ∙ c.in-Err.ensures.err, short.1))

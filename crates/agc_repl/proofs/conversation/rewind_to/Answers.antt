@@ -9,5 +9,5 @@ returns-then-has_reached g c =
 
 pub returns-else-has_reached : goal.returns-else-has_reached
 returns-else-has_reached g c =
-    when_left _ c.refuse_ahead.result c.refuse_ahead.ensures
+    when_left _ c.refuse.result c.refuse.ensures
     (λ t. ahead_reported c.args.names.now c.args.cut c.args.cycle c.args.repl t _ _ (sym c.has_reached.ensures ∙ c.if-has_reached.false))
