@@ -2,6 +2,7 @@
 mod answer;
 mod back;
 mod breakpoints;
+mod console;
 mod conversation;
 mod operator;
 mod picture;
@@ -10,23 +11,12 @@ mod saving;
 mod search;
 mod session;
 
-use agc_repl::{SaveFault, Saver};
-use agc_script::Script;
-use agc_session::Session;
+use agc_script::{Key, Script, What};
+use agc_session::{InjectFault, Session};
 use agc_store::Rope;
 use agc_test_support::rope_file;
 use std::fmt::Debug;
 use std::process::Abort;
-
-/// Saves no script.
-#[derive(Drop)]
-struct NoFiles;
-
-impl Saver for NoFiles {
-    fn save(&mut self, _name: &str, _session: &Session) -> Result<(), SaveFault> {
-        Err(SaveFault::CannotWrite)
-    }
-}
 
 /// Fails if two values differ, and prints both. It is proved once; an `assert_eq!` would be proved at each place.
 fn equal<T: Drop + PartialEq + Debug>(rt: &impl Abort, found: T, wanted: T) {
@@ -66,4 +56,10 @@ fn has_text(rt: &(impl AllocGlobal + Abort), reported: Option<Script>, wanted: &
     let script = reported.expect(rt, "memory");
     assert!(rt; script.push_text(&mut text).is_ok());
     equal(rt, text.as_str(), wanted);
+}
+
+/// Checks that a session accepts a key, or rejects it.
+#[tactic(auto, unfolding(agc_script::specs::Event::IsWhatInRange))]
+fn press(rt: &impl Abort, session: &mut Session, key: Key, wanted: Result<(), InjectFault>) {
+    equal_at(rt, key, session.inject(What::Key(key)), wanted);
 }

@@ -1,38 +1,14 @@
 //! Tests searches back in the console. The texts were worked out by hand from the programs and the cycles of their
 //! orders.
+use super::console::{answers, asks, refuses};
 use super::search::TURN;
-use super::{NoFiles, equal, equal_at, session_of};
+use super::session_of;
 use agc_listing::Location;
-use agc_repl::{Command, CommandFault, CommandName, parse_command, run_repl};
+use agc_repl::{Command, CommandFault, CommandName};
 use agc_session::Breakpoint;
 use agc_test_support::RELAY_WORD;
 use agc_word::Narrow;
 use std::process::Abort;
-use std::str;
-
-/// Checks the answers to a text, up to a limit.
-fn answers(
-    rt: &(impl AllocGlobal + Abort),
-    listing: &str,
-    limit: u64,
-    parsed: &[u8],
-    wanted: &str,
-) {
-    let session = session_of(rt, listing, "", limit);
-    let mut input = parsed;
-    let mut output = Vec::new(rt.alloc());
-    let ended = run_repl(
-        rt.alloc(),
-        session,
-        &None,
-        &mut input,
-        &mut output,
-        &mut NoFiles,
-    );
-    equal(rt, ended, Ok(()));
-    let text = String::from_utf8(output).ok().expect(rt, "ASCII");
-    equal(rt, text.as_str(), wanted);
-}
 
 /// Orders begin at 0, 2, 3, 5 and so on, six cycles a turn: INCR 100, EXTEND, WRITE 10 and TCF. At 12 two INCRs are
 /// done.
@@ -62,7 +38,7 @@ error: NotHit: there are fewer boundaries before now
 error: NotHit: no boundary before now hits it
 error: NotHit: no boundary before now hits it
 ";
-    answers(&rt, TURN, 1000, parsed, wanted);
+    answers(&rt, session_of(&rt, TURN, "", 1000), parsed, wanted);
 }
 
 /// The key and its interrupt begin at 20, RESUME at 23, and the stop at 31. A search that goes back to 20 keeps the key,
@@ -90,7 +66,7 @@ stop Limit at 31
 at 20
 at 20
 ";
-    answers(&rt, TURN, 31, parsed, wanted);
+    answers(&rt, session_of(&rt, TURN, "", 31), parsed, wanted);
 }
 
 /// The write at 3 changes the panel.
@@ -102,26 +78,12 @@ at 10
 at 3
 error: NotHit: no boundary before now hits it
 ";
-    answers(&rt, RELAY_WORD, 1000, parsed, wanted);
-}
-
-/// Checks how a line is parsed.
-fn reads(rt: &impl Abort, line: &[u8], wanted: Result<Option<Command>, CommandFault>) {
-    equal_at(
-        rt,
-        str::from_utf8(line).ok(),
-        parse_command(&None, line),
-        wanted,
-    );
+    answers(&rt, session_of(&rt, RELAY_WORD, "", 1000), parsed, wanted);
 }
 
 /// Checks that a line searches back for this hit, counted from the last one.
 fn searches(rt: &impl Abort, line: &[u8], what: Breakpoint, count: u64) {
-    reads(rt, line, Ok(Some(Command::BackTo { what, count })));
-}
-
-fn refuses(rt: &impl Abort, line: &[u8], fault: CommandFault) {
-    reads(rt, line, Err(fault));
+    asks(rt, line, Command::BackTo { what, count });
 }
 
 /// Checks that a line has another number of words than `back` takes.

@@ -1,25 +1,13 @@
 //! Tests breakpoints, quiet runs and printed cells; the texts were worked out by hand from the program and its cycles.
-use super::{NoFiles, equal, session_of};
-use agc_repl::run_repl;
+use super::console::answers;
+use super::session_of;
+use agc_session::Session;
 use agc_test_support::RELAY_WORD;
 use std::process::Abort;
 
-/// Checks the answers to a text in a session of the program that writes a word to the relays at cycle 3.
-fn answers(rt: &(impl AllocGlobal + Abort), parsed: &[u8], wanted: &str) {
-    let session = session_of(rt, RELAY_WORD, "", 1000);
-    let mut input = parsed;
-    let mut output = Vec::new(rt.alloc());
-    let ended = run_repl(
-        rt.alloc(),
-        session,
-        &None,
-        &mut input,
-        &mut output,
-        &mut NoFiles,
-    );
-    equal(rt, ended, Ok(()));
-    let text = String::from_utf8(output).ok().expect(rt, "ASCII");
-    equal(rt, text.as_str(), wanted);
+/// Returns a session of the program that writes a word to the relays at cycle 3.
+fn relay_session(rt: &(impl AllocGlobal + Abort)) -> Session {
+    session_of(rt, RELAY_WORD, "", 1000)
 }
 
 #[test]
@@ -42,7 +30,7 @@ at 3
 hit 1 write 010 54171
 at 5
 ";
-    answers(&rt, parsed, wanted);
+    answers(&rt, relay_session(&rt), parsed, wanted);
 }
 
 #[test]
@@ -63,7 +51,7 @@ at 0
 hit none
 at 3
 ";
-    answers(&rt, parsed, wanted);
+    answers(&rt, relay_session(&rt), parsed, wanted);
 }
 
 #[test]
@@ -86,7 +74,7 @@ hit 3 panel
 at 5
 error: BadLine: the panel shows PROG, VERB or NOUN and 2 digits, R1, R2 or R3 with a sign and 5 digits, FLASH on or off, or LAMPS and a lamp; _ is blank. Example: break panel R1 +00012
 ";
-    answers(&rt, parsed, wanted);
+    answers(&rt, relay_session(&rt), parsed, wanted);
 }
 
 #[test]
@@ -109,7 +97,7 @@ break 7 panel LAMPS ISS
 at 0
 error: BadLine: the panel shows PROG, VERB or NOUN and 2 digits, R1, R2 or R3 with a sign and 5 digits, FLASH on or off, or LAMPS and a lamp; _ is blank. Example: break panel R1 +00012
 ";
-    answers(&rt, parsed, wanted);
+    answers(&rt, relay_session(&rt), parsed, wanted);
 }
 
 #[test]
@@ -125,5 +113,5 @@ at 0
 print 0103 00000 0
 at 0
 ";
-    answers(&rt, parsed, wanted);
+    answers(&rt, relay_session(&rt), parsed, wanted);
 }

@@ -1,45 +1,9 @@
 //! Tests whole conversations: the texts were worked out by hand from the programs and the cycles of their orders.
-use super::{NoFiles, equal, session_of};
-use agc_repl::run_repl;
+use super::console::{NoFiles, answers, answers_with};
+use super::session_of;
 use agc_symbols::SymbolTable;
 use agc_test_support::{DIVISION, EDRUPT, IDLE, RELAY_WORD};
 use std::process::Abort;
-
-/// Checks the answers to a text.
-fn answers(
-    rt: &(impl AllocGlobal + Abort),
-    listing: &str,
-    script: &str,
-    parsed: &[u8],
-    wanted: &str,
-) {
-    answers_with(rt, &None, listing, script, parsed, wanted);
-}
-
-/// Checks the answers to a text, with symbols.
-fn answers_with(
-    rt: &(impl AllocGlobal + Abort),
-    names: &Option<SymbolTable>,
-    listing: &str,
-    script: &str,
-    parsed: &[u8],
-    wanted: &str,
-) {
-    let session = session_of(rt, listing, script, 1000);
-    let mut input = parsed;
-    let mut output = Vec::new(rt.alloc());
-    let ended = run_repl(
-        rt.alloc(),
-        session,
-        names,
-        &mut input,
-        &mut output,
-        &mut NoFiles,
-    );
-    equal(rt, ended, Ok(()));
-    let text = String::from_utf8(output).ok().expect(rt, "ASCII");
-    equal(rt, text.as_str(), wanted);
-}
 
 /// Joins the parts of a text.
 fn joined(rt: &(impl AllocGlobal + Abort), parts: &[&[u8]]) -> Vec<u8> {
@@ -69,7 +33,7 @@ at 3
 writes 0
 at 3
 ";
-    answers(&rt, RELAY_WORD, "", parsed, wanted);
+    answers(&rt, session_of(&rt, RELAY_WORD, "", 1000), parsed, wanted);
 }
 
 #[test]
@@ -85,7 +49,7 @@ stop Edrupt at 4
 error: Stopped: the machine takes no event any more
 at 0
 ";
-    answers(&rt, EDRUPT, "", parsed, wanted);
+    answers(&rt, session_of(&rt, EDRUPT, "", 1000), parsed, wanted);
 }
 
 #[test]
@@ -106,7 +70,8 @@ at 3
 at 1000
 error: Stopped: the machine takes no event any more
 ";
-    answers(&rt, IDLE, "0 poke 0 100 7\n", parsed, wanted);
+    let session = session_of(&rt, IDLE, "0 poke 0 100 7\n", 1000);
+    answers(&rt, session, parsed, wanted);
 }
 
 #[test]
@@ -126,12 +91,14 @@ fn a_line_of_121_bytes_is_refused_once(rt: HostRuntime) {
 at 0
 error: LineTooLong: a line has at most 120 bytes
 ";
-    answers(&rt, DIVISION, "", parsed.as_slice(), wanted);
+    let session = session_of(&rt, DIVISION, "", 1000);
+    answers(&rt, session, parsed.as_slice(), wanted);
 }
 
 #[test]
 fn a_last_line_needs_no_line_feed(rt: HostRuntime) {
-    answers(&rt, IDLE, "", b"# nothing\r\ngo 5", "at 0\nat 5\n");
+    let session = session_of(&rt, IDLE, "", 1000);
+    answers(&rt, session, b"# nothing\r\ngo 5", "at 0\nat 5\n");
 }
 
 /// The order that writes is one word past OUT. NONE is three edits from OUT, and as many from END.
@@ -150,7 +117,8 @@ error: BadPlace: unknown name; did you mean ZRUPT?
 came no
 at 5
 ";
-    answers_with(&rt, &names, RELAY_WORD, "", parsed, wanted);
+    let session = session_of(&rt, RELAY_WORD, "", 1000);
+    answers_with(&rt, session, &names, &mut NoFiles, parsed, wanted);
 }
 
 /// KEYRUPT1 has its words from 4024 on, four past KEYS. When it came, the order at WAIT was in hand.
@@ -168,6 +136,8 @@ service interrupted 4000 WAIT
 at 8
 error: Usage: where
 ";
-    answers_with(&rt, &names, IDLE, "", parsed, wanted);
-    answers(&rt, IDLE, "", b"where\n", "where 4000\nat 0\n");
+    let session = session_of(&rt, IDLE, "", 1000);
+    answers_with(&rt, session, &names, &mut NoFiles, parsed, wanted);
+    let session = session_of(&rt, IDLE, "", 1000);
+    answers(&rt, session, b"where\n", "where 4000\nat 0\n");
 }

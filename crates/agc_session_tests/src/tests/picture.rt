@@ -1,5 +1,5 @@
 //! Tests pictures of a panel that was worked out by hand. The words of the writes are octal.
-use super::{equal, session_of};
+use super::{equal, equal_at, session_of};
 use agc_script::Key;
 use agc_tui::{Button, ColorMode, Size, View, render};
 use std::process::Abort;
@@ -88,11 +88,16 @@ fn large_face(rt: HostRuntime) {
     equal(&rt, text.as_str().lines().count(), 22);
 }
 
+/// Checks what a byte types.
+fn types(rt: &impl Abort, byte: u8, wanted: Option<Button>) {
+    equal_at(rt, byte, Button::from_byte(byte), wanted);
+}
+
 /// Keys are typed by the bytes that the page names, and by no other.
 #[test]
 fn bytes_type_keys(rt: HostRuntime) {
-    assert_eq!(rt; Button::from_byte(b'v'), Some(Button::Coded(Key::Verb)));
-    assert_eq!(rt; Button::from_byte(b'\r'), Some(Button::Coded(Key::Enter)));
-    assert_eq!(rt; Button::from_byte(b'p'), Some(Button::Pro));
-    assert_eq!(rt; Button::from_byte(b'V'), None);
+    types(&rt, b'v', Some(Button::Coded(Key::Verb)));
+    types(&rt, b'\r', Some(Button::Coded(Key::Enter)));
+    types(&rt, b'p', Some(Button::Pro));
+    types(&rt, b'V', None);
 }

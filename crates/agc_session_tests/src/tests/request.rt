@@ -1,39 +1,15 @@
 //! Tests how lines are parsed. The commands were worked out by hand from the tables of commands and places.
-use super::equal_at;
+use super::console::{asks, reads, refuses};
 use agc_listing::Location;
 use agc_panel::{Table, WatchFault, WatchSpec};
-use agc_repl::{Breakpoint, Command, CommandFault, CommandName, Meant, parse_command};
+use agc_repl::{Breakpoint, Command, CommandFault, CommandName, Meant};
 use agc_script::{FaultKind, Key, What};
 use agc_symbols::SymbolTable;
 use agc_word::Narrow;
 use std::process::Abort;
-use std::str;
-
-/// Checks that a line parses as this, or has this fault, with these symbols.
-fn reads(
-    rt: &impl Abort,
-    names: &Option<SymbolTable>,
-    line: &[u8],
-    wanted: Result<Option<Command>, CommandFault>,
-) {
-    equal_at(
-        rt,
-        str::from_utf8(line).ok(),
-        parse_command(names, line),
-        wanted,
-    );
-}
-
-fn asks(rt: &impl Abort, line: &[u8], command: Command) {
-    reads(rt, &None, line, Ok(Some(command)));
-}
 
 fn asks_nothing(rt: &impl Abort, line: &[u8]) {
     reads(rt, &None, line, Ok(None));
-}
-
-fn refuses(rt: &impl Abort, line: &[u8], fault: CommandFault) {
-    reads(rt, &None, line, Err(fault));
 }
 
 /// Checks that a line runs until a breakpoint, for at most this many cycles.

@@ -1,8 +1,7 @@
 //! Tests `save`. The answers were worked out by hand from the programs and the cycles of their orders.
-use super::{NoFiles, equal, equal_at, session_of};
-use agc_repl::{
-    Command, CommandFault, CommandName, FileName, SaveFault, Saver, parse_command, run_repl,
-};
+use super::console::{answers, answers_with, asks, refuses};
+use super::{equal, session_of};
+use agc_repl::{Command, CommandFault, CommandName, FileName, SaveFault, Saver};
 use agc_session::Session;
 use agc_test_support::{EDRUPT, RELAY_WORD};
 use std::process::Abort;
@@ -30,23 +29,6 @@ impl Saver for Kept {
     }
 }
 
-/// Checks the answers to a text.
-fn answers<S: Saver>(
-    rt: &(impl AllocGlobal + Abort),
-    listing: &str,
-    saver: &mut S,
-    parsed: &[u8],
-    wanted: &str,
-) {
-    let session = session_of(rt, listing, "", 1000);
-    let mut input = parsed;
-    let mut output = Vec::new(rt.alloc());
-    let ended = run_repl(rt.alloc(), session, &None, &mut input, &mut output, saver);
-    equal(rt, ended, Ok(()));
-    let text = String::from_utf8(output).ok().expect(rt, "ASCII");
-    equal(rt, text.as_str(), wanted);
-}
-
 #[test]
 fn the_script_so_far_is_saved_once(rt: HostRuntime) {
     let parsed = b"go to 3\nkey VERB\nsave my.script\nback 0\nsave other\nscript\n";
@@ -62,7 +44,8 @@ at 0
         text: Vec::new(rt.alloc()),
         line: String::new(rt.alloc()),
     };
-    answers(&rt, RELAY_WORD, &mut kept, parsed, wanted);
+    let session = session_of(&rt, RELAY_WORD, "", 1000);
+    answers_with(&rt, session, &None, &mut kept, parsed, wanted);
     equal(&rt, kept.name.as_str(), "my.script");
     equal(&rt, kept.text.as_slice(), b"3 key VERB\n".as_slice());
 }
@@ -79,7 +62,8 @@ stop Edrupt at 4
         text: Vec::new(rt.alloc()),
         line: String::new(rt.alloc()),
     };
-    answers(&rt, EDRUPT, &mut kept, parsed, wanted);
+    let session = session_of(&rt, EDRUPT, "", 1000);
+    answers_with(&rt, session, &None, &mut kept, parsed, wanted);
     equal(&rt, kept.text.as_slice(), b"".as_slice());
 }
 
@@ -94,28 +78,13 @@ error: Usage: save FILE
 3 key VERB
 at 3
 ";
-    answers(&rt, RELAY_WORD, &mut NoFiles, parsed, wanted);
+    answers(&rt, session_of(&rt, RELAY_WORD, "", 1000), parsed, wanted);
 }
 
 /// Checks that a line saves to the file with this name.
 fn saves_to(rt: &impl Abort, line: &[u8], name: &str) {
-    equal_at(
-        rt,
-        name,
-        parse_command(&None, line),
-        Ok(Some(Command::Save(FileName::new(name.as_bytes())))),
-    );
+    asks(rt, line, Command::Save(FileName::new(name.as_bytes())));
     equal(rt, FileName::new(name.as_bytes()).text(), name);
-}
-
-/// Checks that a line names no file.
-fn names_no_file(rt: &impl Abort, line: &[u8]) {
-    equal_at(
-        rt,
-        "no file",
-        parse_command(&None, line),
-        Err(CommandFault::Usage(CommandName::Save)),
-    );
 }
 
 #[test]
@@ -123,5 +92,5 @@ fn a_name_is_one_word(rt: HostRuntime) {
     saves_to(&rt, b"save my.script", "my.script");
     saves_to(&rt, b" save\t../a/b=c ", "../a/b=c");
     saves_to(&rt, b"save #", "#");
-    names_no_file(&rt, b"save a b");
+    refuses(&rt, b"save a b", CommandFault::Usage(CommandName::Save));
 }

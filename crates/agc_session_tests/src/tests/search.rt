@@ -2,9 +2,9 @@
 ghost use Rattle.std.specs.Prelude.{◌<◌, ◌^◌, IfSome};
 ghost use Rattle.agc_session.specs.Breakpoint.{IsBreakpointInRange};
 
-use super::{equal, equal_at, session_of};
+use super::{equal, equal_at, press, session_of};
 use agc_listing::Location;
-use agc_script::{Key, What};
+use agc_script::Key;
 use agc_session::{Breakpoint, Cancellation, SearchFault, Session};
 use agc_test_support::RELAY_WORD;
 use agc_word::Narrow;
@@ -35,12 +35,6 @@ fn finds(
         .ok()
         .expect(rt, "memory");
     equal_at(rt, count, found, wanted);
-}
-
-/// Injects a key.
-#[tactic(auto, unfolding(agc_script::specs::Event::IsWhatInRange))]
-fn press(rt: &impl Abort, session: &mut Session, key: Key) {
-    equal_at(rt, key, session.inject(What::Key(key)), Ok(()));
 }
 
 fn order(place: u32) -> Breakpoint
@@ -113,7 +107,7 @@ fn writes_are_found_back(rt: HostRuntime) {
 fn a_key_is_found_back(rt: HostRuntime) {
     let mut session = session_of(&rt, TURN, "", 31);
     session.go_to(20);
-    press(&rt, &mut session, Key::One);
+    press(&rt, &mut session, Key::One, Ok(()));
     finds(&rt, &session, Breakpoint::Boundary, 1, Some(20));
     finds(&rt, &session, Breakpoint::Boundary, 2, Some(18));
     finds(&rt, &session, Breakpoint::Interrupt(None), 1, None);
@@ -227,7 +221,7 @@ fn runs_end_at_hits(rt: HostRuntime) {
         false,
         20,
     );
-    press(&rt, &mut session, Key::One);
+    press(&rt, &mut session, Key::One, Ok(()));
     runs(&rt, &mut session, Breakpoint::Interrupt(None), 40, true, 23);
     runs(&rt, &mut session, Breakpoint::Panel, 100, false, 40);
 }

@@ -1,17 +1,11 @@
 //! Tests sessions with small programs, worked out by hand. The numbers are octal, except for cycles.
-use super::{equal, equal_at, has_text, session_of};
+use super::{equal, equal_at, has_text, press, session_of};
 use agc_machine::{Stepped, Stop};
 use agc_script::{Key, What};
 use agc_session::{InjectFault, Session};
-use agc_test_support::IDLE;
+use agc_test_support::{IDLE, RELAY_WORD};
 use agc_word::{ChannelWrite, Narrow};
 use std::process::Abort;
-
-/// Checks that the session accepts a key, or rejects it.
-#[tactic(auto, unfolding(agc_script::specs::Event::IsWhatInRange))]
-fn press(rt: &impl Abort, session: &mut Session, key: Key, wanted: Result<(), InjectFault>) {
-    equal_at(rt, key, session.inject(What::Key(key)), wanted);
-}
 
 /// Runs the session to a cycle and presses a key there.
 fn press_at(rt: &impl Abort, session: &mut Session, cycle: u64, key: Key) {
@@ -89,22 +83,15 @@ fn what_was_given_later_is_gone(rt: HostRuntime) {
     reports(&rt, &session, "");
 }
 
-/// CA 4004, EXTEND, WRITE 10 of 54005, which shows digits in PROG; then a jump to itself. The write comes at cycle 3;
-/// rewinding to the start shows the blank panel again.
+/// The write at cycle 3 shows digits in PROG. Rewinding to the start shows the blank panel again.
 #[test]
 fn the_panel_goes_back_too(rt: HostRuntime) {
-    let listing = "
-4000 34004 CA 4004
-4001 00006 EXTEND
-4002 01010 WRITE 10
-4003 14003 TCF 4003
-4004 54003";
-    let mut session = session_of(&rt, listing, "", 100);
+    let mut session = session_of(&rt, RELAY_WORD, "", 100);
     let blank = session.panel().face();
     let write = ChannelWrite {
         cycle: 3,
         channel: 0o10,
-        value: Narrow::with_bits(0o54003),
+        value: Narrow::with_bits(0o54171),
     };
     equal(&rt, session.go_on(50), Stepped::Wrote(write));
     assert!(rt; session.panel().face() != blank);
@@ -143,13 +130,7 @@ fn near(
 /// every copy counts it and shows its digits. Before the second copy only the start is left.
 #[test]
 fn copies_are_gone_back_to(rt: HostRuntime) {
-    let listing = "
-4000 34004 CA 4004
-4001 00006 EXTEND
-4002 01010 WRITE 10
-4003 14003 TCF 4003
-4004 54003";
-    let mut session = session_of(&rt, listing, "", 2_000_000);
+    let mut session = session_of(&rt, RELAY_WORD, "", 2_000_000);
     let blank = session.panel().face();
     turn_pro_at(&rt, &mut session, 300_000, true);
     let digits = session.panel().face();
