@@ -2,8 +2,8 @@
 use super::equal;
 use agc_machine::{Stop, Upcoming};
 use agc_repl::{
-    CommandFault, CommandName, push_cell_lines, push_channel_line, push_end_line, push_error_line,
-    push_fault_line, push_help, push_hit_line, push_write_line, push_writes_line,
+    CellStyle, CommandFault, CommandName, push_cell_lines, push_channel_line, push_end_line,
+    push_error_line, push_fault_line, push_help, push_hit_line, push_write_line, push_writes_line,
 };
 use agc_store::{Addr, Rope, Store};
 use agc_trace::{push_next_line, push_registers_line};
@@ -82,13 +82,22 @@ fn registers_and_cells_are_those_of_the_memory(rt: HostRuntime) {
     let store = some_memory(&rt);
     let mut text = String::new(rt.alloc());
     has_room(&rt, push_registers_line(&mut text, &store));
-    has_room(&rt, push_cell_lines(&mut text, &store, 0o1377, 2));
-    has_room(&rt, push_cell_lines(&mut text, &store, 0o3777, 1));
-    has_room(&rt, push_cell_lines(&mut text, &store, 5, 0));
+    has_room(
+        &rt,
+        push_cell_lines(&mut text, &store, CellStyle::Octal, 0o1377, 2),
+    );
+    has_room(
+        &rt,
+        push_cell_lines(&mut text, &store, CellStyle::Decimal, 0o3777, 1),
+    );
+    has_room(
+        &rt,
+        push_cell_lines(&mut text, &store, CellStyle::Octal, 5, 0),
+    );
     let wanted = "A 177776 L 00000 Q 000000 Z 0000 EB 3 FB 06 BB 14003
 cell 1377 00000
 cell E3,1400 12345
-cell E7,1777 54321
+print E7,1777 54321 -10030
 ";
     equal(&rt, text.as_str(), wanted);
 }
