@@ -34,6 +34,7 @@ pub(crate) struct Divergence {
 
 /// Runs both machines while their boundaries are the same: past the first boundaries that differ, or to the stop.
 /// Keeps the last common entries in `last`.
+#[inline(never)]
 pub(crate) fn run_together<P: Progress>(
     left: &mut Machine,
     right: &mut Machine,

@@ -16,11 +16,15 @@ pub(crate) fn is_same_entry(left: &Entry, right: &Entry) -> bool
         && is_same_registers(left.registers, right.registers)
 }
 
-/// Returns whether two boundaries are of the same kind, with the same order or event.
+/// Returns whether two boundaries are of the same kind, with the same order or event. Two orders are compared without a
+/// look at the other kinds.
 fn is_same_happening(left: Upcoming, right: Upcoming) -> bool
     ensures { IsTrue result ↔ (left ≡ right) }
 {
-    left == right
+    match (left, right) {
+        (Upcoming::Order(left_order), Upcoming::Order(right_order)) => left_order == right_order,
+        _ => left == right,
+    }
 }
 
 /// Returns whether two boundaries show the same write, or none.
