@@ -4,6 +4,7 @@ pub mod Follows
 pub mod Together
 pub mod Reported
 pub mod Nothing
+pub mod Turns
 pub mod Passed
 pub mod Followed
 pub mod Memories

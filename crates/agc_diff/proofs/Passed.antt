@@ -1,5 +1,5 @@
 -- The common boundaries of two runs, one after another.
-use Rattle.std.proofs.Common.{◌≡◌, ◌≢◌, ◌+◌, List, [], ◌∷◌, ◌++◌, length, Option, Some, None, Bool, true, false, refl, ap, sym, ◌∙◌, subst, append_assoc, append-nil, length-append}
+use Rattle.std.proofs.Common.{◌≡◌, ◌≢◌, ◌+◌, ◌≤◌, List, [], ◌∷◌, ◌++◌, length, Option, Some, None, Bool, true, false, refl, ap, sym, ◌∙◌, subst, arith, append_assoc, append-nil, length-append}
 use Rattle.std.specs.Prelude.{if◌then◌else◌}
 use Rattle.std.proofs.lemmas.Grind.{flat_map-append}
 use Rattle.std.proofs.lemmas.List.Elements.{All-append, All-cons, All-nil}
@@ -13,14 +13,15 @@ use Rattle.agc_machine.specs.declared.answer.Stepped.{Stepped}
 use Rattle.agc_machine.specs.declared.answer.Stepped.TheVariants as stepped
 use Rattle.agc_machine.proofs.Chain.{boundary_falls, next_after_quiet, next_of_stopped, run_at_stop, run_at_write, run_by_next, next_at_stop, next_at_write}
 use Rattle.agc_trace.specs.Entry.{entry_of, write_shown}
-use Rattle.agc_trace.specs.Trace.{is_stop, trace_of}
+use Rattle.agc_trace.specs.Trace.{entries_left, is_stop, trace_of}
 use Rattle.agc_trace.specs.declared.entry.Entry.{Entry}
-use Rattle.agc_trace.proofs.Steps.{trace_by_entry}
-use Rattle.agc_diff.specs.CommonPrefix.{ComesApart, HasEnded, HasDiverged, HasPassed, SummarizesEntries, one_write, run_after, entry_writes}
+use Rattle.agc_trace.proofs.Steps.{fewer_after_entry, trace_by_entry}
+use Rattle.agc_diff.specs.CommonPrefix.{ComesApart, HasEnded, HasDiverged, HasPassed, Shares, SummarizesEntries, one_write, run_after, entry_writes}
 use Rattle.agc_diff.specs.declared.common_prefix.CommonPrefix.{CommonPrefix}
 use Rattle.agc_panel.specs.Face.{panel_of}
 use Rattle.agc_trace.specs.Entry.{FitsLine}
 use Rattle.agc_diff.proofs.Kept.{keep_one}
+use Rattle.agc_diff.specs.Turn.{IsTaken}
 
 -- a run is the write that its first boundary shows, and the run from there
 run_by : (s : State) (r : State × Stepped) → r ≡ boundary None s → Falls s r → run_of s ≡ run_after (one_write (write_shown r.1)) (run_of r.0)
@@ -96,13 +97,6 @@ ended_with s t u entries entry e f stop h =
     let ended : HasEnded s (entries ++ entry_of t ∷ []) (boundary None t).0 = record { trace = trace; run = run_passed s t entries h.run } in
     subst (λ (x : Entry). HasEnded s (entries ++ x ∷ []) u) (sym e) (subst (λ (v : State). HasEnded s (entries ++ entry_of t ∷ []) v) (sym f) ended)
 
--- What two runs have in common up to a state of each.
-pub record Shares (s t : State) (common : CommonPrefix) (last : Buffer Entry) (u v : State) : Type 0 where
-  pub entries : List Entry
-  pub reports : SummarizesEntries entries common last
-  pub left : HasPassed s entries u
-  pub right : HasPassed t entries v
-
 -- one more boundary is recorded
 pub record ReportsMore (c d : CommonPrefix) (last more : Buffer Entry) (entry : Entry) : Type 0 where
   pub boundaries : d.boundaries ≡ c.boundaries + 1
@@ -142,6 +136,19 @@ shares_more s t c d last more u v x y entry other e f g h same stop reports k =
       left = passed_one s u x k.entries entry e g stop k.left;
       right = passed_one t v y k.entries entry (same ∙ f) h stop k.right;
     }
+
+-- one more boundary after others, of two machines that have taken it
+pub passes_more : (b : CommonPrefix) (first : Buffer Entry) (p q : State) (c d : CommonPrefix) (last more : Buffer Entry) (u v x y : State) (entry other : Entry) →
+    IsTaken u entry x → IsTaken v other y → entry ≡ other → is_stop entry.happening ≡ false → ReportsMore c d last more entry →
+    ((s t : State) → Shares s t b first p q → Shares s t c last u v) × (entries_left u ≤ entries_left p) →
+    ((s t : State) → Shares s t b first p q → Shares s t d more x y) × (entries_left x ≤ entries_left p)
+passes_more b first p q c d last more u v x y entry other left right same goes_on reports k =
+    let fewer = fewer_after_entry u x entry left.entered left.after goes_on in
+    let fewer_still : entries_left x ≤ entries_left p = omega (arith, fewer, k.1) in (
+      λ s t shared.
+          shares_more s t c d last more u v x y entry other left.entered right.entered left.after right.after same goes_on reports (k.0 s t shared),
+      fewer_still,
+    )
 
 -- the stop, which both have
 pub shares_all : (s t : State) (c d : CommonPrefix) (last more : Buffer Entry) (u v x y : State) (entry other : Entry) →

@@ -1,5 +1,5 @@
 -- What two runs have in common from their starts, and where they diverge.
-use Rattle.std.specs.Prelude.{◌≡◌, ◌≢◌, List, [], ◌∷◌, ◌++◌, All, flat_map, length, Option, Some, None}
+use Rattle.std.specs.Prelude.{◌≡◌, ◌≢◌, ◌≤◌, List, [], ◌∷◌, ◌++◌, All, flat_map, length, Option, Some, None}
 use Rattle.circular_buffer.specs.Buffer.{Buffer, buffer, keep_last}
 use Rattle.agc_word.specs.declared.channel_write.ChannelWrite.{ChannelWrite}
 use Rattle.agc_machine.specs.Run.{Run, run_of}
@@ -7,8 +7,10 @@ use Rattle.agc_machine.specs.State.{State}
 use Rattle.agc_panel.specs.Face.{panel_of}
 use Rattle.agc_diff.specs.ObservedPrefix.{kept}
 use Rattle.agc_trace.specs.Entry.{FitsLine}
-use Rattle.agc_trace.specs.Trace.{trace_of}
+use Rattle.agc_trace.specs.Trace.{entries_left, trace_of}
 use Rattle.agc_trace.specs.declared.entry.Entry.{Entry}
+use Rattle.agc_diff.specs.Turn.{HasBegun}
+use Rattle.agc_diff.specs.declared.turn.Turn.{Turn}
 use Rattle.agc_diff.specs.declared.common_prefix.CommonPrefix.{CommonPrefix}
 use Rattle.agc_diff.specs.declared.common_prefix.Divergence.{Divergence}
 
@@ -38,6 +40,24 @@ pub record SummarizesEntries (entries : List Entry) (common : CommonPrefix)
 pub record HasPassed (s : State) (entries : List Entry) (t : State) : Type 0 where
   pub trace : trace_of s ≡ entries ++ trace_of t
   pub run : run_of s ≡ run_after (entry_writes entries) (run_of t)
+
+-- what two runs have in common up to a state of each
+pub record Shares (s t : State) (common : CommonPrefix) (last : Buffer Entry) (u v : State) : Type 0 where
+  pub entries : List Entry
+  pub reports : SummarizesEntries entries common last
+  pub left : HasPassed s entries u
+  pub right : HasPassed t entries v
+
+-- Two machines, at states p and q after what two runs have in common, have passed more common boundaries, and have begun
+-- the next ones.
+pub record HaveBegun (c : CommonPrefix) (last : Buffer Entry) (p q : State) (d : CommonPrefix) (more : Buffer Entry)
+    (left right : Turn) (x y : State) : Type 0 where
+  pub u : State
+  pub v : State
+  pub shared : (s t : State) → Shares s t c last p q → Shares s t d more u v
+  pub left_begun : HasBegun u left x
+  pub right_begun : HasBegun v right y
+  pub fewer : entries_left u ≤ entries_left p
 
 -- these entries are the rest of the trace of a run that has reached its stop
 pub record HasEnded (s : State) (entries : List Entry) (t : State) : Type 0 where

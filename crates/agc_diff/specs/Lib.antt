@@ -4,6 +4,7 @@ pub mod ObservedCursor
 pub mod ObservedPrefix
 pub mod ObservedCompared
 pub mod ObservedReport
+pub mod Turn
 pub mod CommonPrefix
 pub mod Cursor
 pub mod Cells

@@ -10,6 +10,7 @@ mod observed;
 mod report;
 mod runs;
 mod same;
+mod turn;
 
 pub use cells::CellPair;
 pub use comparison::{Comparison, DivergencePoint};
