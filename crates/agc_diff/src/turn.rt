@@ -1,4 +1,4 @@
-//! The next boundary of one of two machines: the order in hand where that can run at once, otherwise any other one.
+//! The next boundary of one of two machines: the order in hand if it can run at once, otherwise any other one.
 use agc_machine::{InHand, Machine, Stepped, Upcoming};
 use agc_trace::{Entry, next_entry, registers_in, write_shown};
 
