@@ -87,8 +87,8 @@ where
     status
 }
 
-/// Returns the repairs of a rope file in the form with parity. A file in which parity is wrong and no parity bit is 1 is a
-/// fault, because it is probably in the classic form, unless `--form parity` is given.
+/// Returns the repairs of a rope file in the form with parity. Without `--form parity`, refuses a file with wrong parity
+/// whose parity bits are all 0: it is probably in the classic form.
 fn repair_text<R: Read>(
     alloc: Global,
     args: &RepairArgs,
