@@ -17,9 +17,14 @@ mod study;
 mod trace;
 mod transcriptions;
 
+use agc_asm::assemble;
+use agc_cli::ArgsFault;
 use agc_machine::Machine;
 use agc_script::Script;
-use agc_store::Rope;
+use agc_store::{Rope, RopeForm, Store};
+use agc_study_args::Args;
+use agc_study_cli::parse;
+use agc_symbols::SymbolTable;
 use agc_test_support::rope_file;
 use agc_trace::{Only, Selection};
 use std::fmt::Debug;
@@ -27,6 +32,15 @@ use std::process::Abort;
 
 // The helpers end the test if a value is missing, and each row of a test is one call: a test that returned failures,
 // or that asserted much by itself beside values that are dropped, would take the prover many times as long.
+
+/// Shows a program's number, and waits.
+static SHOWS_PROG: &str = "
+4000 34004 CA 4004
+4001 00006 EXTEND
+4002 01010 WRITE 10
+4003 14003 TCF 4003
+4004 54171 a relay word: PROG 12
+";
 
 /// Returns the rope of a listing.
 fn rope_of(rt: &(impl AllocGlobal + Abort), listing: &str) -> Rope {
@@ -36,6 +50,44 @@ fn rope_of(rt: &(impl AllocGlobal + Abort), listing: &str) -> Rope {
     Rope::read(rt.alloc(), bytes.as_slice())
         .ok()
         .expect(rt, "a rope")
+}
+
+/// Assembles a source into a rope file.
+fn assembled(rt: &(impl AllocGlobal + Abort), form: RopeForm, source: &str) -> Vec<u8> {
+    assemble(rt.alloc(), form, source.as_bytes())
+        .ok()
+        .expect(rt, "a file")
+}
+
+/// Returns the memory of a rope file.
+fn store_of_file(rt: &(impl AllocGlobal + Abort), form: RopeForm, file: &[u8]) -> Store {
+    Store::new(
+        Rope::read_as(rt.alloc(), form, file)
+            .ok()
+            .expect(rt, "a rope"),
+    )
+}
+
+/// Returns the memory of the rope that a source assembles to.
+fn store_of_source(rt: &(impl AllocGlobal + Abort), source: &str) -> Store {
+    let file = assembled(rt, RopeForm::Classic, source);
+    store_of_file(rt, RopeForm::Classic, file.as_slice())
+}
+
+/// Reads a symbol file.
+fn symbols(rt: &(impl AllocGlobal + Abort), text: &str) -> SymbolTable {
+    SymbolTable::read(rt.alloc(), text.as_bytes())
+        .ok()
+        .expect(rt, "names")
+}
+
+/// Parses a command line.
+fn parsed(rt: &(impl AllocGlobal + Abort), line: &str) -> Result<Args, ArgsFault> {
+    let mut words = Vec::new(rt.alloc());
+    for word in line.split(' ') {
+        words.push(word).expect(rt, "memory");
+    }
+    parse(rt.alloc(), words.as_slice())
 }
 
 /// Returns the machine of a listing and a script at the start of a run up to a limit of cycles.

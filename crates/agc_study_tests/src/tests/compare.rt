@@ -1,5 +1,5 @@
 //! Tests comparisons of small programs, worked out by hand. The numbers are octal, except for cycles.
-use super::{has_lines, machine_of};
+use super::{SHOWS_PROG, has_lines, machine_of};
 use agc_diff::{SideNames, compare, push_comparison};
 use agc_io::NoProgress;
 use agc_machine::Machine;
@@ -48,15 +48,6 @@ fn reports(
     has_lines(rt, report(rt, &None, left, right).as_str(), lines);
 }
 
-/// Shows a program's number, and waits.
-static PROG: &str = "
-4000 34004 CA 4004
-4001 00006 EXTEND
-4002 01010 WRITE 10
-4003 14003 TCF 4003
-4004 54171 a relay word: PROG 12
-";
-
 /// Writes another relay word, which blanks the verb.
 static OTHER: &str = "
 4000 34004 CA 4004
@@ -69,7 +60,7 @@ static OTHER: &str = "
 /// The orders begin at 0, 2, 3, 5, 6 and 7, and the limit stops at 8: seven boundaries.
 #[test]
 fn the_same(rt: HostRuntime) {
-    let text = report(&rt, &None, (PROG, ""), (PROG, ""));
+    let text = report(&rt, &None, (SHOWS_PROG, ""), (SHOWS_PROG, ""));
     assert_eq!(rt;
         text.as_str(),
         "The runs are the same: 7 boundaries, 1 write, stop at cycle 8\n"
@@ -81,7 +72,7 @@ fn the_same(rt: HostRuntime) {
 fn another_word(rt: HostRuntime) {
     reports(
         &rt,
-        (PROG, ""),
+        (SHOWS_PROG, ""),
         (OTHER, ""),
         &[
             "The runs part at boundary 1, cycle 0 and 0:",
@@ -160,23 +151,20 @@ static CALLS_LATER: &str = "
 4010 14010 TCF 4010
 ";
 
+/// Changes three cells: the last one below the window, and the first and the last one of a bank in it.
+static POKES: &str = "7 poke 2 377 00001\n7 poke 3 0 00003\n7 poke 7 377 77777\n";
+
+/// Puts other words there.
+static OTHER_POKES: &str = "7 poke 2 377 00002\n7 poke 3 0 00004\n7 poke 7 377 00000\n";
+
 /// Six one-cycle orders are the same, and the last five are printed. Then both runs are at 4010, each with another
-/// return address in Q. The script's cells are the last one below the window, and the first and the last one of a
-/// bank in it.
+/// return address in Q.
 #[test]
 fn registers_and_cells(rt: HostRuntime) {
-    let left = (
-        CALLS,
-        "7 poke 2 377 00001\n7 poke 3 0 00003\n7 poke 7 377 77777\n",
-    );
-    let right = (
-        CALLS_LATER,
-        "7 poke 2 377 00002\n7 poke 3 0 00004\n7 poke 7 377 00000\n",
-    );
     reports(
         &rt,
-        left,
-        right,
+        (CALLS, POKES),
+        (CALLS_LATER, OTHER_POKES),
         &[
             "The runs part at boundary 7, cycle 6 and 6:",
             "  1 4001 00003 RELINT | A 000000 L 00000 Q 000000 Z 4003 EB 0 FB 00",
@@ -209,17 +197,9 @@ E6,1777 OTHER
 #[test]
 fn names_of_cells(rt: HostRuntime) {
     let names = SymbolTable::read(rt.alloc(), CELL_NAMES.as_bytes()).ok();
-    let left = (
-        CALLS,
-        "7 poke 2 377 00001\n7 poke 3 0 00003\n7 poke 7 377 77777\n",
-    );
-    let right = (
-        CALLS_LATER,
-        "7 poke 2 377 00002\n7 poke 3 0 00004\n7 poke 7 377 00000\n",
-    );
     has_lines(
         &rt,
-        report(&rt, &names, left, right).as_str(),
+        report(&rt, &names, (CALLS, POKES), (CALLS_LATER, OTHER_POKES)).as_str(),
         &[
             "The runs part at boundary 7, cycle 6 and 6:",
             "  1 4001              00003 RELINT | A 000000 L 00000 Q 000000 Z 4003 EB 0 FB 00",

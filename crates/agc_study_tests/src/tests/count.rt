@@ -1,19 +1,10 @@
 //! Tests the profile of a small program, worked out by hand.
-use super::{machine_of, same};
+use super::{SHOWS_PROG, machine_of, same, symbols};
 use agc_io::NoProgress;
 use agc_profile::{Layout, Profile, ProfileForm, Tally, count, push_profile};
 use agc_symbols::SymbolTable;
 use agc_trace::Span;
 use std::process::Abort;
-
-/// Writes one word, and waits.
-static WRITES: &str = "
-4000 34004 CA 4004
-4001 00006 EXTEND
-4002 01010 WRITE 10
-4003 14003 TCF 4003
-4004 54171 a relay word: PROG
-";
 
 /// Reads two words by DCA, increments a cell, stores A in another, and waits.
 static READS: &str = "
@@ -60,10 +51,7 @@ fn printed(
 /// Returns the names of a text, if there is one.
 fn names_of(rt: &(impl AllocGlobal + Abort), text: Option<&str>) -> Option<SymbolTable> {
     let text = text?;
-    let names = SymbolTable::read(rt.alloc(), text.as_bytes())
-        .ok()
-        .expect(rt, "names");
-    Some(names)
+    Some(symbols(rt, text))
 }
 
 fn tally(times: u64, cycles: u64) -> Tally {
@@ -73,7 +61,7 @@ fn tally(times: u64, cycles: u64) -> Tally {
 /// Every word of a whole run.
 #[test]
 fn words_of_a_run(rt: HostRuntime) {
-    let counts = counted(&rt, WRITES, 0, u64::MAX);
+    let counts = counted(&rt, SHOWS_PROG, 0, u64::MAX);
     let (fixed, data) = (&counts.fixed, &counts.fixed_data);
     same(&rt, fixed.at(0o4000), tally(1, 2), "4000");
     same(&rt, fixed.at(0o4003), tally(5, 5), "4003");
@@ -87,7 +75,7 @@ fn words_of_a_run(rt: HostRuntime) {
 /// A part of the run, in print.
 #[test]
 fn a_part_in_print(rt: HostRuntime) {
-    let text = printed(&rt, Layout::Csv, WRITES, None, 3, 5);
+    let text = printed(&rt, Layout::Csv, SHOWS_PROG, None, 3, 5);
     assert_eq!(rt;
         text.as_str(),
         "kind,name,order,times,cycles,data
@@ -130,7 +118,7 @@ fn words_that_are_read(rt: HostRuntime) {
 #[test]
 fn routines_in_print(rt: HostRuntime) {
     let names = Some("4001 GO\n4003 LOOP\n01,3777 OTHER\n03,6000 FAR\n");
-    let text = printed(&rt, Layout::Columns, WRITES, names, 0, u64::MAX);
+    let text = printed(&rt, Layout::Columns, SHOWS_PROG, names, 0, u64::MAX);
     assert!(rt;
         text.as_str().ends_with(
             "             8              10             -  bank 02

@@ -1,5 +1,5 @@
 //! Tests symbols of locations, worked out by hand.
-use super::{has_lines, owned, rope_of, same};
+use super::{has_lines, owned, rope_of, same, symbols};
 use agc_cli::ArgsFault;
 use agc_listing::{Location, LocationRange, RangeFault};
 use agc_store::Store;
@@ -18,9 +18,7 @@ use std::test::Fail;
 static NAMES: &str = "4060 KEYIN # the first\n02,4060 SERVICE\n\nE0,0100\tBEFORE\n5777 LAST\n";
 
 fn names(rt: &(impl AllocGlobal + Abort)) -> SymbolTable {
-    SymbolTable::read(rt.alloc(), NAMES.as_bytes())
-        .ok()
-        .expect(rt, "names")
+    symbols(rt, NAMES)
 }
 
 /// Checks the name of a location.
@@ -141,9 +139,7 @@ static OPERANDS: &str =
 /// A name is shown where no bank is in doubt. Bank 02 may run while any bank is in the window, and EB selects cell 1400.
 #[test]
 fn operands_of_a_listing_have_names(rt: HostRuntime) {
-    let names = SymbolTable::read(rt.alloc(), OPERANDS.as_bytes())
-        .ok()
-        .expect(&rt, "names");
+    let names = symbols(&rt, OPERANDS);
     let (names, _) = names.split(rt.alloc());
     let channels = ChannelTable::read(rt.alloc(), OPERANDS.as_bytes())
         .ok()
@@ -387,9 +383,7 @@ fn channels_go_by_name(rt: HostRuntime) -> Result<(), Fail> {
 /// The operand of an order goes by the nearest name, but a register or a counter only by its own.
 #[test]
 fn operands_go_by_name(rt: HostRuntime) {
-    let names = SymbolTable::read(rt.alloc(), b"0020 SPIN\n0060 END\n0061 FREE\n4000 HERE\n")
-        .ok()
-        .expect(&rt, "names");
+    let names = symbols(&rt, "0020 SPIN\n0060 END\n0061 FREE\n4000 HERE\n");
     for (at, offset) in [
         (Location::Erasable(0o20), Some(0)),
         (Location::Erasable(0o21), None),

@@ -1,7 +1,6 @@
 //! Tests lines in the listings' language; each line's words were worked out by hand from its rules, by someone who had
 //! not seen the assembler. All numbers are octal.
-use super::joined;
-use agc_asm::assemble;
+use super::{assembled, joined};
 use agc_store::RopeForm;
 use std::process::Abort;
 
@@ -180,9 +179,9 @@ const ROWS: [(&str, &str); 80] = [
 /// Checks that lines after the names assemble to the rope of these words.
 fn assembles(rt: &(impl AllocGlobal + Abort), lines: &str, words: &str) {
     let source = joined(rt, &[NAMES, lines]);
-    let file = assemble(rt.alloc(), RopeForm::Classic, source.as_bytes());
-    let wanted = assemble(rt.alloc(), RopeForm::Classic, words.as_bytes());
-    assert!(rt; file.ok().expect(rt, "a file") == wanted.ok().expect(rt, "a rope"));
+    let file = assembled(rt, RopeForm::Classic, source.as_str());
+    let wanted = assembled(rt, RopeForm::Classic, words);
+    assert!(rt; file == wanted);
 }
 
 /// Each row of the table has its words.

@@ -2,7 +2,7 @@
 ghost use Rattle.std.specs.Prelude.{◌≡◌, IfOk};
 ghost use Rattle.agc_store.specs.RopeFile.{rope_words};
 
-use super::same;
+use super::{same, store_of_file};
 use agc_listing::{
     LineFault, Place, WeaveFault, files_say_rope_words, list, listings_say_their_words, push_order,
     push_place, weave, words_listed_make_the_rope,
@@ -175,15 +175,6 @@ fn woven(rt: &(impl AllocGlobal + Abort), form: RopeForm, text: &str) -> Vec<u8>
         .expect(rt, "a file")
 }
 
-/// Returns the memory of a rope file.
-fn store_of(rt: &(impl AllocGlobal + Abort), form: RopeForm, file: &[u8]) -> Store {
-    Store::new(
-        Rope::read_as(rt.alloc(), form, file)
-            .ok()
-            .expect(rt, "a rope"),
-    )
-}
-
 /// Checks the listing of a memory: of all its banks, or of one.
 fn is_listed(rt: &(impl AllocGlobal + Abort), store: &Store, bank: Option<u8>, listed: &str) {
     let text = list(rt.alloc(), store, bank).ok().expect(rt, "memory");
@@ -193,7 +184,7 @@ fn is_listed(rt: &(impl AllocGlobal + Abort), store: &Store, bank: Option<u8>, l
 /// Checks the listing of the rope that a text assembles to.
 fn lists(rt: &(impl AllocGlobal + Abort), form: RopeForm, text: &str, listed: &str) {
     let file = woven(rt, form, text);
-    is_listed(rt, &store_of(rt, form, file.as_slice()), None, listed);
+    is_listed(rt, &store_of_file(rt, form, file.as_slice()), None, listed);
 }
 
 /// What `list` prints assembles to the same words, in both forms: the edges of the banks, orders after EXTEND and
@@ -315,7 +306,7 @@ fn one_bank(rt: HostRuntime) {
         RopeForm::Classic,
         "02,4000 00001\n03,6000 00003\n04,2000 00004",
     );
-    let store = store_of(&rt, RopeForm::Classic, file.as_slice());
+    let store = store_of_file(&rt, RopeForm::Classic, file.as_slice());
     is_listed(&rt, &store, Some(3), "03,6000 00003 RELINT\n");
 }
 

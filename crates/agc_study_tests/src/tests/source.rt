@@ -1,35 +1,18 @@
 //! Tests sources of ropes; each line's word was worked out by hand from the tables of orders. The numbers are octal.
-use super::{joined, same};
+use super::{assembled, joined, same, store_of_source};
 use agc_asm::{AssemblyFault, SourceFault, assemble, rope_source, yul_source};
 use agc_listing::{LineFault, list};
-use agc_store::{Rope, RopeForm, Store};
+use agc_store::{RopeForm, Store};
 use agc_symbols::SymbolTable;
 use std::process::Abort;
-
-/// Assembles a source into a rope file.
-fn woven(rt: &(impl AllocGlobal + Abort), form: RopeForm, source: &str) -> Vec<u8> {
-    assemble(rt.alloc(), form, source.as_bytes())
-        .ok()
-        .expect(rt, "a file")
-}
 
 /// Checks that a source assembles to the rope that a listing of its words makes.
 fn weaves(rt: &(impl AllocGlobal + Abort), source: &str, words: &str) {
     for form in [RopeForm::Classic, RopeForm::Parity] {
-        let file = woven(rt, form, source);
-        let wanted = woven(rt, form, words);
+        let file = assembled(rt, form, source);
+        let wanted = assembled(rt, form, words);
         assert!(rt; file == wanted);
     }
-}
-
-/// Returns the memory of the rope that a source assembles to.
-fn store_of(rt: &(impl AllocGlobal + Abort), source: &str) -> Store {
-    let file = woven(rt, RopeForm::Classic, source);
-    Store::new(
-        Rope::read(rt.alloc(), file.as_slice())
-            .ok()
-            .expect(rt, "a rope"),
-    )
 }
 
 /// Returns the source of a memory's rope: of all banks, or of one alone.
@@ -161,7 +144,7 @@ CELL = E4,1412
 #[test]
 fn listed_back(rt: HostRuntime) {
     let source = " EXTEND\n DCA 4010\n DXCH 100\n EXTEND\n WRITE 10\n TCF 4000\n";
-    let store = store_of(&rt, source);
+    let store = store_of_source(&rt, source);
     let text = list(rt.alloc(), &store, None).ok().expect(&rt, "memory");
     assert_eq!(rt;
         text.as_str(),
@@ -339,7 +322,7 @@ fn the_first_fault_is_reported(rt: HostRuntime) {
 fn a_rope_stands_as_a_source(rt: HostRuntime) {
     let words =
         "00,3777 00006\n01,2000 00010\n4000 30001\n5777 00006\n6000 01010\n6001 77777\n43,2000 07123\n";
-    let store = store_of(&rt, words);
+    let store = store_of_source(&rt, words);
     let source = source_of(&rt, &store, None);
     same(
         &rt,
@@ -375,7 +358,7 @@ fn a_rope_stands_as_a_source(rt: HostRuntime) {
 fn a_rope_stands_as_a_page(rt: HostRuntime) {
     let words =
         "05,2000 12001\n05,2001 54005\n05,2002 40000\n05,2003 00006\n05,2004 70000\n05,2005 00002\n05,2006 20000\n42,2000 52006\n";
-    let store = store_of(&rt, words);
+    let store = store_of_source(&rt, words);
     let names = SymbolTable::read(rt.alloc(), "05,2000 WAIT\n".as_bytes()).ok();
     let page = yul_source(rt.alloc(), &store, None, &names)
         .ok()

@@ -1,7 +1,7 @@
 //! Tests the program on its command lines, with files that do not exist; `examples/study` runs it on files.
 mod ends;
 
-use super::{holds, owned, repeated, same};
+use super::{holds, owned, parsed, repeated, same};
 use agc_analysis::{
     AnalysisFault, DiffOutcome, FilmPage, Streams, TraceError, Woven, answer, check_files,
     check_key_file, check_listing_file, check_with, compare_files, film_files, last_cycle,
@@ -9,16 +9,14 @@ use agc_analysis::{
 };
 use agc_asm::{AssemblyFault, SourceFault};
 use agc_check::Report;
-use agc_cli::ArgsFault;
 use agc_diff::SideNames;
 use agc_io::NoProgress;
 use agc_listing::LineFault;
 use agc_load::LoadFault;
 use agc_store::{RopeFault, RopeForm};
 use agc_study_args::{
-    Args, CompareArgs, FilmArgs, JobsArgs, ListArgs, ListStyle, ReadFile, RunInputs, RunOptions,
+    CompareArgs, FilmArgs, JobsArgs, ListArgs, ListStyle, ReadFile, RunInputs, RunOptions,
 };
-use agc_study_cli::parse;
 use agc_timeline::{Part, RunFiles};
 use agc_trace::{LineForm, Span};
 use std::io::{self, ErrorKind, Read};
@@ -32,15 +30,6 @@ struct Ended {
     out: String,
     err: String,
     remarks: String,
-}
-
-/// Parses a command line.
-fn parsed(rt: &(impl AllocGlobal + Abort), line: &str) -> Result<Args, ArgsFault> {
-    let mut words = Vec::new(rt.alloc());
-    for word in line.split(' ') {
-        words.push(word).expect(rt, "memory");
-    }
-    parse(rt.alloc(), words.as_slice())
 }
 
 /// Returns what was written, as a text.
@@ -134,6 +123,8 @@ fn mistakes(rt: HostRuntime) {
         "agc-study repair rope --form classic",
         "agc-study patch rope",
         "agc-study compare --words rope",
+        "agc-study compare --words rope rope --limit 10",
+        "agc-study compare --words rope --limit 10 rope",
         "agc-study check rope script more",
         "agc-study check rope script --limit 10",
         "agc-study trace rope script",
@@ -173,7 +164,8 @@ fn is_explained(rt: &(impl AllocGlobal + Files + Abort), line: &str, sentence: &
     holds(rt, ended.err.as_str().contains(sentence), line);
 }
 
-/// A number in another form, and a channel in a word of its own, are refused with the form that is right.
+/// A number in another form, a channel in a word of its own, and an option among the ropes of `--words` are refused with
+/// the form that is right.
 #[test]
 fn mistakes_are_explained(rt: HostRuntime) {
     for (line, sentence) in [
@@ -192,6 +184,14 @@ fn mistakes_are_explained(rt: HostRuntime) {
         (
             "agc-study compare rope script rope script --limit 10 --by channel 010",
             "error: invalid value 'channel' for '--by <WHAT>': write --by channel=010, with the channel's octal number\n",
+        ),
+        (
+            "agc-study compare --words --source one two",
+            "error: an option is among the ropes of --words: write it before --words or after both ropes\n",
+        ),
+        (
+            "agc-study compare --words one two --limit 10",
+            "error: the argument '--words <ROPE> <ROPE>' cannot be used with '--limit <N>'\n",
         ),
         (
             "agc-study compare rope script rope script --limit 10 --by channel",
@@ -351,13 +351,18 @@ fn a_text_is_woven(rt: HostRuntime) {
     same(&rt, refused, Some(wanted), "no word");
 }
 
-/// Checks a rope and a script.
-fn checked(rt: &impl AllocGlobal, rope: &[u8], script: &[u8]) -> Result<Report, AnalysisFault> {
-    let mut inputs = RunInputs {
+/// Returns the readers of a rope file and a script file.
+fn inputs_of<'a>(rope: &'a [u8], script: &'a [u8]) -> RunInputs<&'a [u8]> {
+    RunInputs {
         rope,
         script,
         wrong: 0,
-    };
+    }
+}
+
+/// Checks a rope and a script.
+fn checked(rt: &impl AllocGlobal, rope: &[u8], script: &[u8]) -> Result<Report, AnalysisFault> {
+    let mut inputs = inputs_of(rope, script);
     check_files(rt.alloc(), RopeForm::Classic, &mut inputs)
 }
 
@@ -429,12 +434,7 @@ fn keys_and_listings_are_checked(rt: HostRuntime) {
 /// Returns the report on a rope of one word, a script without events and these keys.
 fn report_with(rt: &(impl AllocGlobal + Abort), keys: &[u8]) -> Report {
     let more = Some(key_report(rt, keys));
-    let (rope, script): (&[u8], &[u8]) = (&[0x70, 0x08], b"");
-    let mut inputs = RunInputs {
-        rope,
-        script,
-        wrong: 0,
-    };
+    let mut inputs = inputs_of(&[0x70, 0x08], b"");
     check_with(rt.alloc(), RopeForm::Classic, &mut inputs, &more)
         .ok()
         .expect(rt, "a report")
@@ -502,30 +502,22 @@ fn compared(
     right: &[u8],
     limit: u64,
 ) -> Result<DiffOutcome, AnalysisFault> {
-    let script: &[u8] = b"";
-    let mut left = RunInputs {
-        rope: left,
-        script,
-        wrong: 0,
-    };
-    let mut right = RunInputs {
-        rope: right,
-        script,
-        wrong: 0,
-    };
+    let (mut left, mut right) = (inputs_of(left, b""), inputs_of(right, b""));
+    compared_as(rt, &comparing(rt, limit), &mut left, &mut right)
+}
+
+/// Compares two runs without names.
+fn compared_as<'a>(
+    rt: &impl AllocGlobal,
+    args: &CompareArgs,
+    left: &mut RunInputs<&'a [u8]>,
+    right: &mut RunInputs<&'a [u8]>,
+) -> Result<DiffOutcome, AnalysisFault> {
     let names = SideNames {
         left: &None,
         right: &None,
     };
-    let args = comparing(rt, limit);
-    compare_files(
-        rt.alloc(),
-        &args,
-        names,
-        &mut left,
-        &mut right,
-        &mut NoProgress,
-    )
+    compare_files(rt.alloc(), args, names, left, right, &mut NoProgress)
 }
 
 /// Checks how a comparison begins, with this status.
@@ -568,32 +560,12 @@ fn compared_in(
     let mut rope = repeated(rt, 0, 4096);
     rope.push(0x30).ok().expect(rt, "memory");
     rope.push(last).ok().expect(rt, "memory");
-    let (left, script): (&[u8], &[u8]) = (&[0x30, 0x00], b"");
-    let mut left = RunInputs {
-        rope: left,
-        script,
-        wrong: 0,
-    };
-    let mut right = RunInputs {
-        rope: rope.as_slice(),
-        script,
-        wrong: 0,
-    };
-    let names = SideNames {
-        left: &None,
-        right: &None,
-    };
+    let mut left = inputs_of(&[0x30, 0x00], b"");
+    let mut right = inputs_of(rope.as_slice(), b"");
     let mut args = comparing(rt, 2);
     args.other_form = form;
     args.options.ignores_parity = ignores_parity;
-    let compared = compare_files(
-        rt.alloc(),
-        &args,
-        names,
-        &mut left,
-        &mut right,
-        &mut NoProgress,
-    );
+    let compared = compared_as(rt, &args, &mut left, &mut right);
     same(rt, left.wrong, 0, "left");
     let wrong = usize::from(compared.is_ok() && form == RopeForm::Parity && last == 0);
     same(rt, right.wrong, wrong, "right");
@@ -691,11 +663,7 @@ fn filmed(
     rope: &[u8],
     script: &[u8],
 ) -> Result<FilmPage, LoadFault> {
-    let mut inputs = RunInputs {
-        rope,
-        script,
-        wrong: 0,
-    };
+    let mut inputs = inputs_of(rope, script);
     film_files(rt.alloc(), args, &mut inputs, &mut NoProgress)
 }
 
@@ -740,12 +708,7 @@ fn watched(
     rope: &[u8],
     out: &mut Vec<u8>,
 ) -> Result<u64, TraceError> {
-    let script: &[u8] = b"";
-    let mut inputs = RunInputs {
-        rope,
-        script,
-        wrong: 0,
-    };
+    let mut inputs = inputs_of(rope, b"");
     let machine = watch_files(rt.alloc(), args, &None, &mut inputs, out, &mut NoProgress)?;
     Ok(machine.cycle())
 }

@@ -1,10 +1,9 @@
 //! Tests traces of small programs, worked out by hand.
-use super::{between, has_lines, machine_of, same};
+use super::{SHOWS_PROG, between, has_lines, machine_of, owned, same, symbols};
 use agc_io::NoProgress;
 use agc_listing::{Location, LocationRange, RangeFault, location_at};
 use agc_processor::Rupt;
 use agc_store::Addr;
-use agc_symbols::SymbolTable;
 use agc_trace::{LineForm, Notation, Only, Selection, Service, trace};
 use std::process::Abort;
 use std::test::Fail;
@@ -56,8 +55,11 @@ fn ask_for_places(rt: &impl Abort, selection: &mut Selection, text: &str) {
 
 /// Also selects the orders with a mnemonic.
 fn ask_for_order(rt: &(impl AllocGlobal + Abort), selection: &mut Selection, name: &str) {
-    let name = name.to_string(rt.alloc()).ok().expect(rt, "memory");
-    selection.orders.push(name).ok().expect(rt, "memory");
+    selection
+        .orders
+        .push(owned(rt, name))
+        .ok()
+        .expect(rt, "memory");
 }
 
 /// Also selects the orders on a channel.
@@ -73,21 +75,12 @@ fn ask_for_cells(rt: &impl Abort, selection: &mut Selection, text: &str) {
     selection.cells.push(cells).ok().expect(rt, "memory");
 }
 
-/// Writes one word, and waits.
-static TEN_BYTES: &str = "
-4000 34004 CA 4004
-4001 00006 EXTEND
-4002 01010 WRITE 10
-4003 14003 TCF 4003
-4004 54171 a relay word: PROG
-";
-
 /// CA 4004, EXTEND, WRITE 10 and TCF 4003 from 0, 2, 3 and 5 on; the limit stops at 10.
 #[test]
 fn ten_bytes(rt: HostRuntime) {
     shows(
         &rt,
-        TEN_BYTES,
+        SHOWS_PROG,
         "",
         10,
         &between(&rt, 0, 10, None),
@@ -110,7 +103,7 @@ fn ten_bytes(rt: HostRuntime) {
 fn writes_and_jumps(rt: HostRuntime) {
     shows(
         &rt,
-        TEN_BYTES,
+        SHOWS_PROG,
         "",
         10,
         &between(&rt, 0, 10, Some(Only::Writes)),
@@ -121,7 +114,7 @@ fn writes_and_jumps(rt: HostRuntime) {
     );
     shows(
         &rt,
-        TEN_BYTES,
+        SHOWS_PROG,
         "",
         10,
         &between(&rt, 0, 6, Some(Only::Jumps)),
@@ -141,11 +134,11 @@ fn orders_at_places(rt: HostRuntime) {
     let stop = "10 - stop Limit | A 154171 L 00000 Q 000000 Z 4004 EB 0 FB 00";
     let mut selection = between(&rt, 0, 10, None);
     ask_for_places(&rt, &mut selection, "02,4001-4002");
-    shows(&rt, TEN_BYTES, "", 10, &selection, &[extend, write, stop]);
+    shows(&rt, SHOWS_PROG, "", 10, &selection, &[extend, write, stop]);
     ask_for_order(&rt, &mut selection, "TCF");
-    shows(&rt, TEN_BYTES, "", 10, &selection, &[stop]);
+    shows(&rt, SHOWS_PROG, "", 10, &selection, &[stop]);
     ask_for_order(&rt, &mut selection, "EXTEND");
-    shows(&rt, TEN_BYTES, "", 10, &selection, &[extend, stop]);
+    shows(&rt, SHOWS_PROG, "", 10, &selection, &[extend, stop]);
 }
 
 /// From the same run the order that writes to channel 10. Nothing reads or writes channel 11, or channel 4, as CA
@@ -157,9 +150,9 @@ fn orders_at_a_channel(rt: HostRuntime) {
     let mut selection = between(&rt, 0, 10, None);
     ask_for_channel(&rt, &mut selection, 0o11);
     ask_for_channel(&rt, &mut selection, 0o4);
-    shows(&rt, TEN_BYTES, "", 10, &selection, &[stop]);
+    shows(&rt, SHOWS_PROG, "", 10, &selection, &[stop]);
     ask_for_channel(&rt, &mut selection, 0o10);
-    shows(&rt, TEN_BYTES, "", 10, &selection, &[write, stop]);
+    shows(&rt, SHOWS_PROG, "", 10, &selection, &[write, stop]);
 }
 
 /// From the same run the last lines: of all, of the orders that write, and of a range that ends before the stop.
@@ -171,7 +164,7 @@ fn last_lines(rt: HostRuntime) {
     let last = |to, only, last, lines: &[&str]| {
         let mut selection = between(&rt, 0, to, only);
         selection.last = Some(last);
-        shows(&rt, TEN_BYTES, "", 10, &selection, lines);
+        shows(&rt, SHOWS_PROG, "", 10, &selection, lines);
     };
     last(10, None, 2, &[before, stop]);
     last(10, None, 1, &[stop]);
@@ -537,20 +530,13 @@ fn shows_operands(
     lines: &[&str],
 ) {
     let names = match names {
-        Some(text) => Some(named(rt, text)),
+        Some(text) => Some(symbols(rt, text)),
         None => None,
     };
     let form = LineForm::new(rt.alloc(), names, notation);
     let selection = between(rt, 0, limit, None);
     let text = traced(rt, listing, "", limit, &selection, &form);
     has_lines(rt, text.as_str(), lines);
-}
-
-/// Reads a symbol file.
-fn named(rt: &(impl AllocGlobal + Abort), text: &str) -> SymbolTable {
-    SymbolTable::read(rt.alloc(), text.as_bytes())
-        .ok()
-        .expect(rt, "names")
 }
 
 /// Counts a cell, writes a channel, selects erasable bank 3 and writes its first cell.
@@ -602,7 +588,7 @@ fn operands_by_name(rt: HostRuntime) {
 /// The same by names alone, from the order that selects bank 3 on.
 #[test]
 fn operands_without_words(rt: HostRuntime) {
-    let form = LineForm::new(rt.alloc(), Some(named(&rt, COUNTED)), None);
+    let form = LineForm::new(rt.alloc(), Some(symbols(&rt, COUNTED)), None);
     let selection = between(&rt, 13, 17, None);
     let text = traced(&rt, COUNTS, "", 18, &selection, &form);
     has_lines(

@@ -1,28 +1,14 @@
 //! Tests comparisons of two transcriptions of a listing, worked out by hand; `examples/study` has one more. Places and
 //! words are octal.
-use super::same;
-use agc_asm::{AssemblyFault, SourceFault, assemble, word_lines};
-use agc_store::{Rope, RopeForm, Store};
+use super::{parsed, same, store_of_source};
+use agc_asm::{AssemblyFault, SourceFault, word_lines};
 use agc_study_args::{LinedRope, text_of_words_apart};
-use agc_study_cli::parse;
 use std::process::Abort;
-
-/// Returns the memory of the rope that a source assembles to.
-fn store_of(rt: &(impl AllocGlobal + Abort), source: &str) -> Store {
-    let file = assemble(rt.alloc(), RopeForm::Classic, source.as_bytes())
-        .ok()
-        .expect(rt, "a file");
-    Store::new(
-        Rope::read(rt.alloc(), file.as_slice())
-            .ok()
-            .expect(rt, "a rope"),
-    )
-}
 
 /// Assembles a source, and finds the lines of its words.
 fn lined(rt: &(impl AllocGlobal + Abort), source: &str) -> LinedRope {
     LinedRope {
-        store: store_of(rt, source),
+        store: store_of_source(rt, source),
         lines: word_lines(rt.alloc(), source.as_bytes())
             .ok()
             .expect(rt, "lines"),
@@ -32,7 +18,7 @@ fn lined(rt: &(impl AllocGlobal + Abort), source: &str) -> LinedRope {
 /// Returns the rope of a source without its lines.
 fn unlined(rt: &(impl AllocGlobal + Abort), source: &str) -> LinedRope {
     LinedRope {
-        store: store_of(rt, source),
+        store: store_of_source(rt, source),
         lines: Vec::new(rt.alloc()),
     }
 }
@@ -139,19 +125,11 @@ fn lines_of_a_faulty_source(rt: HostRuntime) {
 
 /// Checks whether a command line is accepted.
 fn is_accepted(rt: &(impl AllocGlobal + Abort), line: &str, wanted: bool) {
-    let mut words = Vec::new(rt.alloc());
-    for word in line.split(' ') {
-        words.push(word).expect(rt, "memory");
-    }
-    same(
-        rt,
-        parse(rt.alloc(), words.as_slice()).is_ok(),
-        wanted,
-        line,
-    );
+    same(rt, parsed(rt, line).is_ok(), wanted, line);
 }
 
-/// `--source` needs `--words`, and excludes the options of rope files.
+/// `--source` needs `--words`, and excludes the options of rope files. `--words` excludes the files and the options of a
+/// run.
 #[test]
 fn options_of_sources(rt: HostRuntime) {
     for (line, wanted) in [
@@ -172,6 +150,23 @@ fn options_of_sources(rt: HostRuntime) {
         ),
         (
             "agc-study compare rope script rope script --limit 10 --source",
+            false,
+        ),
+        (
+            "agc-study compare --words one two --form parity --form-b classic --ignore-parity",
+            true,
+        ),
+        ("agc-study compare --words one two --limit 10", false),
+        ("agc-study compare --words one two --until 2,4000", false),
+        ("agc-study compare --words one two --by writes", false),
+        (
+            "agc-study compare --words one two --by writes --brief",
+            false,
+        ),
+        ("agc-study compare --words one two --names names", false),
+        ("agc-study compare --words one two three", false),
+        (
+            "agc-study compare rope script rope script --limit 10 --words one two",
             false,
         ),
     ] {

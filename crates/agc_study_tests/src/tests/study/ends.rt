@@ -83,11 +83,7 @@ fn service_of(
     limit: u64,
     out: &mut impl Write,
 ) -> Result<Option<Service>, TraceError> {
-    let mut inputs = RunInputs {
-        rope,
-        script,
-        wrong: 0,
-    };
+    let mut inputs = inputs_of(rope, script);
     let args = tracing(rt, limit);
     let form = LineForm::new(rt.alloc(), None, None);
     let traced = trace_files(rt.alloc(), &args, &form, &mut inputs, out, &mut NoProgress)?;
