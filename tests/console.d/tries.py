@@ -378,6 +378,28 @@ def try_full_breakpoints():
     judge("the end of 64 breakpoints", (b"", 0), session.close())
 
 
+def try_hidden_minus():
+    """A minus relay that plus hides changes nothing that the panel shows. CA takes two cycles, EXTEND one, WRITE two."""
+    source = os.path.join(scratch, "minus.agc")
+    rope = os.path.join(scratch, "minus.rope")
+    orders = "".join(f" CA {word}\n EXTEND\n WRITE 10\n" for word in ("PLUS", "MINUS", "PROG12"))
+    with open(source, "w") as file:
+        file.write(f"{orders}WAIT TCF WAIT\nPLUS OCT 36000\nMINUS OCT 32000\nPROG12 OCT 54171\n")
+    with open(rope, "wb") as file:
+        subprocess.run([study, "weave", source], stdout=file, check=True)
+    session = Session(console, [rope, os.devnull])
+    session.say("break panel")
+    session.say("continue")
+    judge("plus is shown", 5, session.cycle)
+    session.say("continue")
+    judge("minus behind plus is not, PROG 12 is", 15, session.cycle)
+    session.say("back until panel")
+    judge("back until the panel changed", 13, session.cycle)
+    session.say("back until panel")
+    judge("and before that", 3, session.cycle)
+    judge("the end of a hidden minus", (b"", 0), session.close())
+
+
 def try_an_hour_back():
     """An hour of machine time, and back to its middle and to its start, also by a search. How long it takes is told."""
     session = Session(console, [os.path.join(top, "examples", "keys", "rope"), os.devnull])
@@ -406,6 +428,7 @@ if len(sys.argv) == 6:
     try_save()
     try_full_script()
     try_full_breakpoints()
+    try_hidden_minus()
     try_places(console, study, top)
     try_an_hour_back()
 print(f"{cases.passed} passed, {cases.failed} failed")
