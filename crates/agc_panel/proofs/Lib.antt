@@ -7,3 +7,4 @@ pub mod LawLemmas
 pub mod LampNames
 pub mod TextLemmas
 pub mod ShownLemmas
+pub mod Unnamed

@@ -1,5 +1,6 @@
 //! Compares what two panels show, field by field.
-ghost use Rattle.std.specs.Prelude.{◌≡◌, Decides};
+ghost use Rattle.std.specs.Prelude.{◌≡◌, [], ◌∷◌, Decides, not};
+ghost use Rattle.agc_panel.specs.Face.{face_after};
 ghost use Rattle.agc_panel.specs.Lamp.{is_lit};
 ghost use Rattle.agc_panel.specs.Laws.{ShowSame, ShowSameRegister};
 ghost use Rattle.agc_panel.specs.Text.{shows_same};
@@ -7,8 +8,27 @@ ghost use Rattle.agc_panel.specs.declared.lamp.Lamp.{Lamp};
 
 use crate::face::{Face, Pair, Register};
 use crate::lamp::Lamps;
+use agc_word::ChannelWrite;
 
 impl Face {
+    /// Takes a write, and returns whether the face then shows something else.
+    #[inline(always)]
+    pub(crate) fn update(&mut self, write: &ChannelWrite) -> bool
+        ensures face { self.new ≡ face_after self.old (write.now ∷ []) }
+        ensures changed { result ≡ not (shows_same self.old self.new) }
+    {
+        !self.ignores(write) && self.take_and_compare(write)
+    }
+
+    fn take_and_compare(&mut self, write: &ChannelWrite) -> bool
+        ensures face { self.new ≡ face_after self.old (write.now ∷ []) }
+        ensures changed { result ≡ not (shows_same self.old self.new) }
+    {
+        let before = *self;
+        self.take(write);
+        !before.shows_same(self)
+    }
+
     /// Returns whether two faces show the same: their texts are equal.
     pub(crate) fn shows_same(&self, other: &Face) -> bool
         ensures { result ≡ shows_same self.now other.now }

@@ -1,14 +1,14 @@
 //! The fields of the panel, and how a channel write changes them.
 #![tactic(auto, unfolding(crate::specs::Face::face_after, crate::specs::Face::pair_after, crate::specs::Field::field_after, crate::specs::RelayWord::sign_of_row, crate::specs::RelayWord::left_of_row, crate::specs::RelayWord::right_of_row))]
 
-ghost use Rattle.std.specs.Prelude.{◌≡◌, [], ◌∷◌};
+ghost use Rattle.std.specs.Prelude.{◌≡◌, [], ◌∷◌, true};
 ghost use Rattle.agc_panel.specs.Face.{blank_face, face_after};
 ghost use Rattle.agc_panel.specs.RelayWord.{left_digit, right_digit};
 
 use crate::digit::Digit;
 use crate::lamp::{Lamps, Source};
 use crate::relay_word::{left_of, right_of, row_of, sign_of};
-use agc_word::channels::OUT0;
+use agc_word::channels::{DSALMOUT, OUT0};
 use agc_word::{ChannelWrite, Narrow};
 
 /// The bit of DSALMOUT that makes verb and noun flash.
@@ -87,6 +87,21 @@ impl Face {
             r3: register,
             flash: false,
             lamps: Lamps::dark(),
+        }
+    }
+
+    /// Returns whether a write leaves every field unchanged because it names none: it is neither a
+    /// relay word of row 1 to 12 nor a word of DSALMOUT.
+    #[inline(always)]
+    #[tactic(auto, using(crate::proofs::LampLemmas::no_lamp_named))]
+    pub(crate) fn ignores(&self, write: &ChannelWrite) -> bool
+        ensures { result ≡ true → face_after self.now (write.now ∷ []) ≡ self.now }
+    {
+        if write.channel == OUT0 {
+            let row = row_of(write.value);
+            row == 0 || row > 12
+        } else {
+            write.channel != DSALMOUT
         }
     }
 

@@ -1,5 +1,5 @@
 //! The panel, updated write by write.
-ghost use Rattle.std.specs.Prelude.{◌≡◌, List, [], ◌∷◌, ◌++◌, IfOk, map, string_bytes};
+ghost use Rattle.std.specs.Prelude.{◌≡◌, List, [], ◌∷◌, ◌++◌, IfOk, map, not, string_bytes};
 ghost use Rattle.agc_word.specs.declared.channel_write.ChannelWrite.{ChannelWrite};
 ghost use Rattle.agc_panel.specs.Face.{face_after, panel_of};
 ghost use Rattle.agc_panel.specs.Text.{panel_lines, panel_text, shows_same};
@@ -46,6 +46,19 @@ impl Panel {
             → self.new ≡ panel_of (taken ++ write.now ∷ []) }
     {
         self.face.take(write);
+    }
+
+    /// Takes one channel write, as `take` does. Returns whether the panel then shows something else:
+    /// its text is not what it was.
+    #[inline(always)]
+    #[tactic(auto, using(crate::proofs::Taken::takes_all))]
+    pub fn update(&mut self, write: &ChannelWrite) -> bool
+        ensures named { self.new ≡ face_after self.old (write.now ∷ []) }
+        ensures all { (taken : List ChannelWrite) → self.old ≡ panel_of taken
+            → self.new ≡ panel_of (taken ++ write.now ∷ []) }
+        ensures changed { result ≡ not (shows_same self.old self.new) }
+    {
+        self.face.update(write)
     }
 
     /// Prints the panel: eight lines, each ended by a line feed. Fails when memory runs out.

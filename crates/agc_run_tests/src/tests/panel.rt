@@ -201,3 +201,34 @@ fn last_write_of_a_field_shows(rt: HostRuntime) {
         "PROG __\nVERB __\nNOUN __\nR1 -_____\nR2 ______\nR3 ______\nFLASH off\nLAMPS KEY REL\n",
     );
 }
+
+#[test]
+fn update_says_whether_something_else_shows(rt: HostRuntime) {
+    let mut panel = Panel::new();
+    for (channel, bits, is_changed) in [
+        // rows without fields, and another channel
+        (0o10, 0o00000, false),
+        (0o10, 0o70000, false),
+        (0o12, 0o00177, false),
+        (0o10, 0o54171, true),
+        (0o10, 0o54171, false),
+        (0o11, 0o00002, true),
+        (0o11, 0o00002, false),
+        // the plus of R1, then its minus, which plus hides, then minus alone
+        (0o10, 0o36000, true),
+        (0o10, 0o32000, false),
+        (0o10, 0o34000, true),
+        // the six lamps of a relay word
+        (0o10, 0o60674, true),
+        (0o10, 0o60674, false),
+    ] {
+        let before = panel;
+        assert_eq!(rt; panel.update(&write(&rt, channel, bits)), is_changed);
+        assert_eq!(rt; before.shows_same(&panel), !is_changed);
+    }
+    has_text(
+        &rt,
+        &panel,
+        "PROG 12\nVERB __\nNOUN __\nR1 -_____\nR2 ______\nR3 ______\nFLASH off\nLAMPS COMP ACTY, NO ATT, GIMBAL LOCK, PROG, TRACKER, ALT, VEL\n",
+    );
+}
