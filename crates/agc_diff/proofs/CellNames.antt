@@ -1,8 +1,8 @@
 -- The column of a cell's name.
-use Rattle.std.proofs.Common.{◌≡◌, ◌∙◌, Bool, true, false, List, Option, Some, None, refl, ap, sym, ◌==◌}
+use Rattle.std.proofs.Common.{◌≡◌, Bool, true, false, List, Option, Some, None, refl, ap, sym, ◌==◌}
 use Rattle.std.specs.Prelude.{◌&&◌, if◌then◌else◌, is_some, not}
 use Rattle.agc_listing.specs.declared.location.Location.{Location}
-use Rattle.agc_symbols.specs.Column.{name_column, name_text, nearby_text}
+use Rattle.agc_symbols.specs.Column.{name_column, name_text}
 use Rattle.agc_symbols.specs.Nearest.{Nearby, nearest}
 use Rattle.agc_symbols.specs.Operand.{is_single, operand_named, unless_counted}
 use Rattle.agc_symbols.specs.Symbols.{Symbol}

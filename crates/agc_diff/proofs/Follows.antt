@@ -13,7 +13,7 @@ use Rattle.agc_panel.specs.Face.{face_after}
 use Rattle.agc_panel.specs.Text.{shows_same}
 use Rattle.agc_panel.specs.declared.face.Face.{Face}
 use Rattle.agc_diff.specs.ObservedCursor.{HasShown, shown_left}
-use Rattle.agc_diff.specs.Observation.{FitsShown, shown_after, shown_at, word_of}
+use Rattle.agc_diff.specs.Observation.{FitsShown, seen_at, shown_after, shown_at, word_of}
 use Rattle.agc_diff.specs.declared.observed.diff_by.DiffBy.{DiffBy}
 use Rattle.agc_diff.specs.declared.observed.diff_by.DiffBy.TheVariants as kind
 use Rattle.agc_diff.specs.declared.observed.observation.Observation.{Observation}
@@ -51,18 +51,34 @@ not_none None h e = cc
 not_none (Some shown) h e = cc
 
 -- a write without an observation: what is left to observe is the same
-pub goes_on : (what : DiffBy) (p q r : Face) (s t u : State) (write : ChannelWrite) (shown : Option Observation) (some : Bool) → (u, next.Wrote write) ≡ next_of t →
-    r ≡ face_after q (write ∷ []) → shown ≡ shown_at what q write → some ≡ is_some shown → some ≡ false → shown_left what q t ≡ shown_left what p s →
+pub goes_on : (what : DiffBy) (p q r : Face) (s t u : State) (write : ChannelWrite) (shown : Option Observation) → (u, next.Wrote write) ≡ next_of t →
+    r ≡ face_after q (write ∷ []) → shown ≡ shown_at what q write → is_some shown ≡ false → shown_left what q t ≡ shown_left what p s →
     shown_left what r u ≡ shown_left what p s
-goes_on what p q r s t u write shown some e f g test nothing same =
-    ap (λ (o : Option Observation). cons_option o (shown_left what r u)) (sym (none_is shown (sym test ∙ nothing))) ∙ sym (at_write what q r t u write shown e f g) ∙ same
+goes_on what p q r s t u write shown e f g nothing same =
+    ap (λ (o : Option Observation). cons_option o (shown_left what r u)) (sym (none_is shown nothing)) ∙ sym (at_write what q r t u write shown e f g) ∙ same
 
 -- a write with an observation
-pub shows : (what : DiffBy) (p q r : Face) (s t u : State) (write : ChannelWrite) (shown : Option Observation) (some : Bool) → (u, next.Wrote write) ≡ next_of t →
-    r ≡ face_after q (write ∷ []) → shown ≡ shown_at what q write → some ≡ is_some shown → some ≡ true → shown_left what q t ≡ shown_left what p s →
+pub shows : (what : DiffBy) (p q r : Face) (s t u : State) (write : ChannelWrite) (shown : Option Observation) → (u, next.Wrote write) ≡ next_of t →
+    r ≡ face_after q (write ∷ []) → shown ≡ shown_at what q write → is_some shown ≡ true → shown_left what q t ≡ shown_left what p s →
     HasShown what p s shown r u
-shows what p q r s t u write shown some e f g test does same =
-    record { next = sym same ∙ at_write what q r t u write shown e f g; none = λ none. absurd (not_none shown (sym test ∙ does) none) }
+shows what p q r s t u write shown e f g does same =
+    record { next = sym same ∙ at_write what q r t u write shown e f g; none = λ none. absurd (not_none shown does none) }
+
+-- what is seen, if something is
+word_seen : (b : Bool) (shown : Observation) → is_some (if b then Some shown else None) ≡ true → (if b then Some shown else None) ≡ Some shown
+word_seen true shown h = refl
+word_seen false shown h = cc
+
+panel_seen : (b : Bool) (shown : Observation) → is_some (if b then None else Some shown) ≡ true → (if b then None else Some shown) ≡ Some shown
+panel_seen true shown h = cc
+panel_seen false shown h = refl
+
+pub is_seen : (what : DiffBy) (p q : Face) (write : ChannelWrite) → q ≡ face_after p (write ∷ []) → is_some (shown_at what p write) ≡ true →
+    shown_at what p write ≡ Some (seen_at what q write)
+unfolding shown_at
+is_seen kind.Writes p q write e h = refl
+is_seen (kind.Channel channel) p q write e h = word_seen (write.channel == channel) (word_of write) h
+is_seen kind.Panels p q write e h = rw e (panel_seen (shows_same p (face_after p (write ∷ []))) _ h)
 
 word_fits : (write : ChannelWrite) → HasNextChannel (next.Wrote write) → FitsShown (word_of write)
 word_fits write h = omega (arith, h.1)

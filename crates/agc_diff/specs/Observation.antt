@@ -31,6 +31,12 @@ shown_at (kind.Channel channel) panel write =
     if write.channel == channel then Some (word_of write) else None
 shown_at kind.Panels panel write = changed_panel panel (face_after panel (write ∷ [])) write.cycle
 
+-- what an observer sees at a write that shows something; the panel is the one after it
+abbrev pub seen_at : DiffBy → Face → ChannelWrite → Observation
+seen_at kind.Writes panel write = word_of write
+seen_at (kind.Channel channel) panel write = word_of write
+seen_at kind.Panels panel write = record { cycle = write.cycle; sight = seen.Panel panel }
+
 -- what writes let an observer see, after this panel
 unfoldable pub shown_after : DiffBy → Face → List ChannelWrite → List Observation
 shown_after what panel [] = []

@@ -1,7 +1,7 @@
 //! Goes through a run observation by observation.
 use crate::observed::diff_by::DiffBy;
 use crate::observed::next::next_write;
-use crate::observed::observation::{Observation, take_write};
+use crate::observed::observation::{Observation, seen_at, take_write};
 use agc_io::{Progress, report_at};
 use agc_machine::{Machine, Next};
 use agc_panel::Panel;
@@ -45,9 +45,8 @@ impl Cursor {
             match next_write(machine, progress) {
                 Next::Wrote(write) => {
                     self.mark = report_at(self.mark, write.cycle, progress);
-                    let shown = take_write(what, &mut self.panel, &write);
-                    if shown.is_some() {
-                        return shown;
+                    if take_write(what, &mut self.panel, &write) {
+                        return Some(seen_at(what, &self.panel, &write));
                     }
                 }
                 Next::Stopped(_) => return None,

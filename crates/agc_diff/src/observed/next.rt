@@ -8,6 +8,7 @@ use agc_machine::{Machine, Next, Stepped};
 
 /// Runs to the next channel write, or to the stop if that comes first. Reports progress if no write comes for a long
 /// time.
+#[inline(always)]
 pub fn next_write<P: Progress>(machine: &mut Machine, progress: &mut P) -> Next
     ensures next { (machine.new, result) ≡ next_of machine.old }
     ensures channel { HasNextChannel result }

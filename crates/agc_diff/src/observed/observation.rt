@@ -1,8 +1,8 @@
 //! What an observer sees of a run at one of its channel writes.
-ghost use Rattle.std.specs.Prelude.{◌≡◌, ◌↔◌, [], ◌∷◌, IsTrue};
+ghost use Rattle.std.specs.Prelude.{◌≡◌, ◌↔◌, [], ◌∷◌, IsTrue, is_some};
 ghost use Rattle.agc_panel.specs.Face.{face_after};
 ghost use Rattle.agc_panel.specs.Text.{panel_text};
-ghost use Rattle.agc_diff.specs.Observation.{InPrint, OnChannel, changed_panel, look_of, shown_at, word_of};
+ghost use Rattle.agc_diff.specs.Observation.{InPrint, OnChannel, look_of, seen_at, shown_at, word_of};
 
 use crate::observed::diff_by::DiffBy;
 use agc_panel::Panel;
@@ -24,28 +24,31 @@ pub struct Observation {
     pub sight: Observed,
 }
 
-/// Applies a write to the panel, and returns what it lets an observer see, if anything.
+/// Applies a write to the panel, and returns whether it lets an observer see something.
+#[inline(always)]
 #[tactic(auto, unfolding(crate::specs::Observation::shown_at))]
-pub(crate) fn take_write(
-    what: DiffBy,
-    panel: &mut Panel,
-    write: &ChannelWrite,
-) -> Option<Observation>
+pub(crate) fn take_write(what: DiffBy, panel: &mut Panel, write: &ChannelWrite) -> bool
     ensures panel { panel.new ≡ face_after panel.old (write.now ∷ []) }
-    ensures shown { result ≡ shown_at what panel.old write.now }
+    ensures shown { result ≡ is_some (shown_at what panel.old write.now) }
 {
-    let before = *panel;
-    panel.take(write);
+    let is_changed = panel.update(write);
     match what {
-        DiffBy::Writes => Some(word_of(write)),
-        DiffBy::Channel(channel) => {
-            if write.channel == channel {
-                Some(word_of(write))
-            } else {
-                None
-            }
-        }
-        DiffBy::Panels => changed_panel(&before, panel, write.cycle),
+        DiffBy::Writes => true,
+        DiffBy::Channel(channel) => write.channel == channel,
+        DiffBy::Panels => is_changed,
+    }
+}
+
+/// Returns what the observer sees at a write that shows something. `panel` is the panel after the write.
+pub(crate) fn seen_at(what: DiffBy, panel: &Panel, write: &ChannelWrite) -> Observation
+    ensures { result ≡ seen_at what panel.now write.now }
+{
+    match what {
+        DiffBy::Writes | DiffBy::Channel(_) => word_of(write),
+        DiffBy::Panels => Observation {
+            cycle: write.cycle,
+            sight: Observed::Panel(*panel),
+        },
     }
 }
 
@@ -60,19 +63,6 @@ fn word_of(write: &ChannelWrite) -> Observation
             word: write.value,
         },
     }
-}
-
-/// Returns the panel after a write at this cycle, if it shows something else than before.
-fn changed_panel(before: &Panel, after: &Panel, cycle: u64) -> Option<Observation>
-    ensures { result ≡ changed_panel before.now after.now cycle }
-{
-    if before.shows_same(after) {
-        return None;
-    }
-    Some(Observation {
-        cycle,
-        sight: Observed::Panel(*after),
-    })
 }
 
 /// Returns whether two sights are alike: the same word on the same channel, or panels that show the same.
