@@ -14,7 +14,10 @@ pub(crate) fn is_panel_change(before: &Panel, stepped: &Stepped) -> bool
     ensures { result ≡ is_panel_change before.now stepped.now }
 {
     match stepped {
-        Stepped::Wrote(write) => !after(before, write).shows_same(before),
+        Stepped::Wrote(write) => {
+            let mut panel = *before;
+            panel.update(write)
+        }
         Stepped::Quiet | Stepped::Stopped(_) => false,
     }
 }

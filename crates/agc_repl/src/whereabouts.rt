@@ -1,9 +1,7 @@
 //! Prints where the machine is.
 ghost use Rattle.std.specs.Prelude.{◌≡◌, ◌++◌, ◌<◌, ◌%◌, ◌+◌, OnOk, codes, string_bytes};
-ghost use Rattle.agc_listing.specs.Place.{IsInPrint};
 ghost use Rattle.agc_machine.specs.Boundary.{bank_of_address, in_hand};
 ghost use Rattle.agc_store.specs.Places.{fixed_window};
-ghost use Rattle.agc_trace.specs.Line.{order_place};
 ghost use Rattle.agc_symbols.specs.Nearest.{nearest};
 ghost use Rattle.agc_repl.specs.Whereabouts.{
   address_line,
@@ -22,6 +20,7 @@ use agc_machine::Machine;
 use agc_store::place::{ERASABLE_WINDOW, FIXED_FIXED, FIXED_WINDOW, ZRUPT};
 use agc_store::{Addr, Store};
 use agc_symbols::{SymbolTable, push_nearby};
+use agc_trace::order_place;
 use std::alloc::AllocError;
 
 /// Adds the line of the order in hand, and while the service of an interrupt runs, that of the order interrupted.
@@ -146,21 +145,6 @@ fn bank_of_address(machine: &Machine, address: Addr) -> u8
         ERASABLE_WINDOW..FIXED_WINDOW => machine.store().erasable_bank(),
         FIXED_WINDOW..FIXED_FIXED => machine.store().selected_bank(),
         _ => 0,
-    }
-}
-
-/// Returns the place of an order, as traces print it.
-fn order_place(bank: u8, address: Addr) -> Place
-    requires bank { bank < 0o50 }
-    requires erasable { address < fixed_window → bank < 0o10 }
-    ensures place { result ≡ order_place bank address }
-    ensures range { IsInPrint result }
-{
-    let address = address.bits();
-    match address {
-        ERASABLE_WINDOW..FIXED_WINDOW => Place::Erasable { bank, address },
-        FIXED_WINDOW..FIXED_FIXED => Place::Fixed { bank, address },
-        _ => Place::Plain(address),
     }
 }
 

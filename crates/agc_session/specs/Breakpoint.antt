@@ -84,7 +84,7 @@ is_write_of channel word (stepped.Stopped why) = false
 
 -- a boundary changes what the panel shows, which only a write can
 abbrev pub is_panel_change : Face → Stepped → Bool
-is_panel_change panel (stepped.Wrote write) = not (shows_same (face_after panel (write ∷ [])) panel)
+is_panel_change panel (stepped.Wrote write) = not (shows_same panel (face_after panel (write ∷ [])))
 is_panel_change panel stepped.Quiet = false
 is_panel_change panel (stepped.Stopped why) = false
 

@@ -66,7 +66,7 @@ pub(crate) fn is_hit_by_write(
         Breakpoint::Write { channel, word } => {
             is_channel_of(*channel, write.channel) && is_value_of(word, write.value)
         }
-        Breakpoint::Panel => !now.shows_same(before),
+        Breakpoint::Panel => !before.shows_same(now),
         _ => false,
     }
 }

@@ -21,7 +21,7 @@ mod tracing;
 
 pub use change::Change;
 pub use entry::{Entry, Registers, next_entry, registers_in, write_shown};
-pub use line::{push_happening, push_line, push_registers};
+pub use line::{order_place, push_happening, push_line, push_registers};
 pub use line_form::{LineForm, Notation};
 pub use named_line::{push_line_with, push_named_happening};
 pub use operand::{Addressed, HeldChannel, HeldWord, Operand};

@@ -105,8 +105,8 @@ fn push_word(text: &mut String, word: Narrow) -> Result<(), AllocError>
     write!(text, " {word} ")
 }
 
-/// Returns the place of an order.
-pub(crate) fn order_place(bank: u8, address: Addr) -> Place
+/// Returns the place of an order as traces print it. The bank is used only if the address is in a window.
+pub fn order_place(bank: u8, address: Addr) -> Place
     requires bank { bank < 0o50 }
     requires erasable { address < fixed_window → bank < 0o10 }
     ensures place { result ≡ order_place bank address }

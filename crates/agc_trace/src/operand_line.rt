@@ -36,7 +36,9 @@ use crate::named_line::push_digits;
 use crate::operand::{HeldChannel, HeldWord, Operand, takes_of};
 use crate::recorded::Recorded;
 use crate::selection::mnemonic_of;
-use agc_listing::{Location, Operand as Field, is_same_word, location_at, operand_in, push_place};
+use agc_listing::{
+    Location, Operand as Field, is_same_word, location_at, operand_in, push_operand, push_place,
+};
 use agc_machine::{InHand, Upcoming};
 use agc_store::place::{A, Q};
 use agc_symbols::{ChannelTable, Nearest, SymbolTable, push_column, push_nearby};
@@ -108,7 +110,7 @@ fn push_order_in_form(
 {
     push_placed_word(text, &form.names, order)?;
     text.push_str(mnemonic_of(*order))?;
-    push_operand(text, form, field_of(*order), used)?;
+    push_called_operand(text, form, field_of(*order), used)?;
     push_held_in_form(text, form.operands, used)
 }
 
@@ -154,7 +156,7 @@ fn push_column_in(
 }
 
 /// Appends an operand: its name or, if it has none, its address or channel.
-fn push_operand(
+fn push_called_operand(
     text: &mut String,
     form: &LineForm,
     field: Field,
@@ -169,7 +171,7 @@ fn push_operand(
             text.push_str(" ")?;
             push_nearby(text, near)
         }
-        None => push_field(text, field),
+        None => push_operand(text, field),
     }
 }
 
@@ -201,18 +203,6 @@ fn channel_called(names: &ChannelTable, channel: u16) -> Option<Nearest<'_>>
     match names.name(channel) {
         Some(name) => Some(Nearest { name, offset: 0 }),
         None => None,
-    }
-}
-
-/// Appends an address or a channel.
-fn push_field(text: &mut String, field: Field) -> Result<(), AllocError>
-    requires { FitsPrint field }
-    ensures { OnOk result (string_bytes text.new ≡ string_bytes text.old ++ operand_text field) }
-{
-    match field {
-        Field::Nothing => Ok(()),
-        Field::Address(address) => write!(text, " {address:04o}"),
-        Field::Channel(channel) => write!(text, " {channel:03o}"),
     }
 }
 
