@@ -13,7 +13,6 @@ pub mod Recorded
 pub mod RecordedFilm
 pub mod Filmed
 pub mod Parted
-pub mod Pressed
 pub mod Cuts
 pub mod PanelAt
 pub mod ShownPanel

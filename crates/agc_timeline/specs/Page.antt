@@ -8,9 +8,9 @@ use Rattle.agc_machine.specs.Answer.{stop_name}
 use Rattle.agc_timeline.specs.Tables.{tail_text}
 use Rattle.agc_timeline.specs.Divergence.{first_difference}
 use Rattle.agc_timeline.specs.Packed.{Packed, packed}
-use Rattle.agc_timeline.specs.KeyEvents.{button_name}
+use Rattle.agc_timeline.specs.KeyEvents.{press_name}
 use Rattle.agc_timeline.specs.Title.{title_text}
-use Rattle.agc_timeline.specs.declared.key_event.KeyEvent.{KeyEvent}
+use Rattle.agc_script.specs.declared.event.Event.{Event}
 use Rattle.agc_timeline.specs.declared.recording.Recording.{Recording}
 use Rattle.agc_timeline.specs.declared.title.RunFiles.{RunFiles}
 
@@ -32,9 +32,9 @@ unfoldable pub placed_frame : List ℕ → ℕ → Packed → List ℕ
 placed_frame name place frame = frame_text frame ++ after_frame name place
 
 -- a key: its cycle and its name
-unfoldable pub press_text : KeyEvent → List ℕ
+unfoldable pub press_text : Event → List ℕ
 press_text press =
-    codes "key " ++ decimal press.cycle ++ codes " " ++ button_name press.button ++ codes "\n"
+    codes "key " ++ decimal press.cycle ++ codes " " ++ press_name press.what ++ codes "\n"
 
 -- the first cycle
 unfoldable pub recording_start_text : Recording → List ℕ

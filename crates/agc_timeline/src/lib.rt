@@ -23,7 +23,6 @@ mod watching;
 pub use divergence::first_difference;
 pub use frame::Frame;
 pub use job_place::line_place;
-pub use key_event::{Button, KeyEvent};
 pub use page::{HEAD, TABLES, TAIL, push_tail};
 pub use page_text::{push_film, push_film_pair};
 pub use part::Part;

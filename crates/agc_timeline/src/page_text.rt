@@ -6,12 +6,13 @@ ghost use Rattle.agc_timeline.specs.Page.{end_text, press_text, recording_end_te
 
 use crate::divergence::first_difference;
 use crate::frame::Frame;
-use crate::key_event::KeyEvent;
+use crate::key_event::press_name;
 use crate::packing::push_frames;
 use crate::page::{HEAD, TABLES, TAIL, push_tail};
 use crate::recording::Recording;
 use crate::title::{RunFiles, push_title};
 use agc_machine::Stop;
+use agc_script::Event;
 use std::alloc::AllocError;
 
 /// Adds the page of one run, with the names of its files, its limit, and, if they are watched, its tables beside the
@@ -142,7 +143,7 @@ fn push_recording_start(text: &mut String, recording: &Recording) -> Result<(), 
 }
 
 /// Adds these keys.
-fn push_presses(text: &mut String, presses: &[KeyEvent]) -> Result<(), AllocError>
+fn push_presses(text: &mut String, presses: &[Event]) -> Result<(), AllocError>
     ensures { OnOk result (string_bytes text.new
         ≡ string_bytes text.old ++ flat_map press_text presses.now) }
 {
@@ -154,11 +155,11 @@ fn push_presses(text: &mut String, presses: &[KeyEvent]) -> Result<(), AllocErro
 
 /// Adds a key.
 #[tactic(auto, unfolding(crate::specs::Page::press_text))]
-fn push_press(text: &mut String, press: KeyEvent) -> Result<(), AllocError>
+fn push_press(text: &mut String, press: Event) -> Result<(), AllocError>
     ensures { OnOk result (string_bytes text.new ≡ string_bytes text.old ++ press_text press) }
 {
     let cycle = press.cycle;
-    let name = press.button.name();
+    let name = press_name(press.what);
     writeln!(text, "key {cycle} {name}")
 }
 

@@ -37,9 +37,7 @@ impl Recorder {
             → HasTaken from before taken self.old
             → HasTaken from before (taken ++ write.now ∷ []) self.new) }
     {
-        let before = self.panel;
-        self.panel.take(write);
-        if before.shows_same(&self.panel) {
+        if !self.panel.update(write) {
             return Ok(());
         }
         self.frames.push(Frame {

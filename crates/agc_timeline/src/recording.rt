@@ -8,7 +8,7 @@ ghost use Rattle.agc_timeline.specs.Recording.{IsRecordingOf, end_of};
 ghost use Rattle.agc_timeline.specs.Run.{HasOpened, HasRecorded, past};
 
 use crate::frame::Frame;
-use crate::key_event::{KeyEvent, presses};
+use crate::key_event::presses;
 use crate::part::Part;
 use crate::recorder::Recorder;
 use agc_io::{Progress, report_at};
@@ -25,9 +25,9 @@ pub struct Recording {
     /// The panel at the first cycle, unless it is blank, and a frame for each later write that changes what the panel
     /// shows. Before the first frame the panel is blank.
     pub frames: Vec<Frame>,
-    /// The keys that the run met up to the end of the film, each at the cycle from which on it was due. Keys from
-    /// before the film are included, because one may be held when it begins.
-    pub presses: Vec<KeyEvent>,
+    /// The key events that the run met up to the end of the film: keys pressed, and PRO pressed or released. Those from
+    /// before the film are included, because a key may be held when it begins.
+    pub presses: Vec<Event>,
     /// Why the run stopped, or `None` if it continues after the film.
     pub stop: Option<Stop>,
     /// The last machine cycle of the film: that of the stop, if there is one.
@@ -92,9 +92,9 @@ pub(crate) fn recording_up_to(
     })
 }
 
-/// Returns the keys among the events that a run has met, that is, all but the last `left` of them. Fails if memory
-/// runs out.
-fn presses_met(alloc: Global, events: &[Event], left: usize) -> Result<Vec<KeyEvent>, AllocError>
+/// Returns the key events among the events that a run has met, that is, all but the last `left` of them. Fails if
+/// memory runs out.
+fn presses_met(alloc: Global, events: &[Event], left: usize) -> Result<Vec<Event>, AllocError>
     ensures { IfOk result (λ presses. presses.items
         ≡ presses_of (take (length events.now - left) events.now)) }
 {

@@ -3,11 +3,9 @@ use super::progress::was_reported;
 use super::{has_lines, machine_of, owned, same};
 use agc_io::NoProgress;
 use agc_machine::Stop;
-use agc_script::Key;
+use agc_script::{Event, Key, What};
 use agc_test_support::RecordingProgress;
-use agc_timeline::{
-    Button, KeyEvent, Part, Recording, RunFiles, film, first_difference, push_film, push_film_pair,
-};
+use agc_timeline::{Part, Recording, RunFiles, film, first_difference, push_film, push_film_pair};
 use std::process::Abort;
 
 /// Records the run of a listing with a script, up to a limit of cycles.
@@ -202,10 +200,10 @@ fn no_frame(rt: HostRuntime) {
 static KEYS: &str = "10 key VERB\n20 pro down\n25 input 16 00001\n30 pro up\n31 key 4\n";
 
 /// Checks the number of key events of a recording, and the last of these events.
-fn presses_end(rt: &impl Abort, recording: &Recording, presses: usize, cycle: u64, button: Button) {
+fn presses_end(rt: &impl Abort, recording: &Recording, presses: usize, cycle: u64, what: What) {
     same(rt, recording.presses.len(), presses, "presses");
     let last = recording.presses.as_slice().last().copied();
-    same(rt, last, Some(KeyEvent { cycle, button }), "last press");
+    same(rt, last, Some(Event { cycle, what }), "last press");
 }
 
 /// In the names of the files, `<`, the backslash and bytes that do not print in ASCII are shown in octal: é has the
@@ -213,7 +211,7 @@ fn presses_end(rt: &impl Abort, recording: &Recording, presses: usize, cycle: u6
 #[test]
 fn keys_before_the_limit(rt: HostRuntime) {
     let all = reel_of(&rt, IDLE, KEYS, 40);
-    presses_end(&rt, &all, 4, 31, Button::Key(Key::Four));
+    presses_end(&rt, &all, 4, 31, What::Key(Key::Four));
     let recording = reel_of(&rt, IDLE, KEYS, 30);
     let page = page_of(&rt, 30, &files(&rt, "a b~<", "\\/é\n\u{7f}"), &recording);
     shows(
@@ -246,7 +244,7 @@ static LOOP: &str = "
 fn no_key_that_was_not_met(rt: HostRuntime) {
     let script = "9 pro down\n10 pro up\n11 pro down\n";
     let recording = reel_of(&rt, LOOP, script, 10);
-    presses_end(&rt, &recording, 1, 9, Button::ProDown);
+    presses_end(&rt, &recording, 1, 9, What::Pro(true));
     stops(&rt, &recording, 0, Some(Stop::Limit), 11);
 }
 
