@@ -10,7 +10,7 @@ use Rattle.agc_io.proofs.Whole.{all_read, of_all}
 use Rattle.agc_analysis.specs.Listed.{IsFaulty, IsWeaveRefused}
 use Rattle.agc_analysis.specs.declared.fault.AnalysisFault.{AnalysisFault}
 use Rattle.agc_analysis.specs.declared.fault.AnalysisFault.TheVariants as analysis
-use Rattle.agc_check.specs.declared.reports.Report.{Report}
+use Rattle.agc_listing.specs.declared.report.Report.{Report}
 use Rattle.agc_analysis.specs.Checked.{AreKeysChecked, IsChecked, IsCheckedOf, IsListingChecked}
 
 -- a text that was read and does not assemble

@@ -6,9 +6,9 @@ use Rattle.agc_store.specs.declared.rope_file.RopeForm.{RopeForm}
 use Rattle.agc_script.specs.Parse.{script_of}
 use Rattle.agc_asm.specs.Source.{source_in}
 use Rattle.agc_check.specs.KeyReport.{IsKeyReport, are_keys}
-use Rattle.agc_check.specs.ListingReport.{IsListingReport}
+use Rattle.agc_asm.specs.ListingReport.{IsListingReport}
 use Rattle.agc_check.specs.Report.{IsFileReport}
-use Rattle.agc_check.specs.declared.reports.Report.{Report}
+use Rattle.agc_listing.specs.declared.report.Report.{Report}
 use Rattle.agc_io.specs.Input.{ExplainsUnread}
 use Rattle.agc_io.specs.declared.input.ReadError.TheVariants as unread
 use Rattle.agc_load.specs.declared.fault.LoadFault.TheVariants as refusal

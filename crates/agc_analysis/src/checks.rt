@@ -7,10 +7,10 @@ ghost use Rattle.agc_analysis.specs.Checked.{IsWithMore};
 ghost use Rattle.agc_analysis.specs.declared.fault.AnalysisFault.TheVariants as analysis;
 
 use crate::fault::AnalysisFault;
-use agc_check::{
-    Report, check, check_keys, check_listing, check_rope, erase_remarks, push_findings,
-};
+use agc_asm::{check_listing, erase_remarks};
+use agc_check::{check, check_keys, check_rope, push_findings};
 use agc_io::{KEY_BYTES, ROPE_BYTES, ReadError, TEXT_BYTES, read_limited};
+use agc_listing::Report;
 use agc_load::LoadFault;
 use agc_store::RopeForm;
 use agc_study_args::RunInputs;

@@ -22,6 +22,7 @@ mod remarks;
 mod rope_bytes;
 mod ropes;
 mod streams;
+mod symbol_output;
 mod traces;
 mod watches;
 

@@ -18,3 +18,4 @@ pub mod OrderLines
 pub mod FirstFault
 pub mod UnknownOperation
 pub mod FaultPlace
+pub mod ListingReport

@@ -10,7 +10,7 @@ use crate::mnemonic::Directive;
 /// The operation of a line and its operand.
 #[derive(Clone, Copy)]
 pub(crate) struct Operation<'a> {
-    /// The words of the line from here on, as they are written.
+    /// The words of the line from here on, in the source's own form.
     pub body: &'a [u8],
     /// A minus stands before it: its words are complemented.
     pub minus: bool,

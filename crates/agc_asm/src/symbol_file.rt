@@ -1,4 +1,4 @@
-//! Writes the names of a source as a symbol file.
+//! Writes the names of a source with their places, as lines of a symbol file.
 ghost use Rattle.std.specs.Prelude.{◌≡◌, ◌++◌, IfOk, Ok, OnOk};
 ghost use Rattle.agc_symbols.specs.Symbols.{names_in};
 ghost use Rattle.agc_symbols.specs.Writing.{names_text};

@@ -1,6 +1,5 @@
 pub mod Numbered
 pub mod Placed
-pub mod LeastPlace
 pub mod VectorTexts
 pub mod AllKeys
 pub mod BytesBack

@@ -11,7 +11,7 @@ use Rattle.agc_listing.specs.declared.order.Operand.TheVariants as operand
 use Rattle.agc_listing.specs.declared.location.Location.{Location}
 use Rattle.agc_listing.specs.declared.location.Location.TheVariants as location
 use Rattle.agc_check.specs.Holdings.{is_woven_at}
-use Rattle.agc_check.specs.SureLocation.{sure_location}
+use Rattle.agc_listing.specs.SureLocation.{sure_location}
 
 -- whether a location is not a place with +0
 abbrev pub holds_word : List Number → Option Location → Bool

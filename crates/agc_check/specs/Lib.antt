@@ -1,17 +1,13 @@
-pub mod Nearest
 pub mod Holdings
 pub mod Vectors
-pub mod Shown
 pub mod RopeReport
 pub mod Report
 pub mod KeyReport
-pub mod ListingReport
 pub mod BankSum
 pub mod FileWords
 pub mod Parity
 pub mod Patch
 pub mod Reading
-pub mod SureLocation
 pub mod Legal
 pub mod Repair
 pub mod WordDiff

@@ -11,7 +11,7 @@ use Rattle.agc_load.specs.Fault.{refusal_text}
 use Rattle.agc_load.specs.declared.fault.LoadFault.TheVariants as refusal
 use Rattle.agc_check.specs.Holdings.{script_holdings}
 use Rattle.agc_check.specs.RopeReport.{rope_report}
-use Rattle.agc_check.specs.Shown.{shown_line}
+use Rattle.agc_listing.specs.Shown.{shown_line}
 use Rattle.agc_check.specs.declared.holdings.ScriptHoldings.{ScriptHoldings}
 use Rattle.agc_check.specs.declared.holdings.Span.{Span}
 

@@ -5,8 +5,7 @@ ghost use Rattle.agc_load.specs.Keys.{all_there};
 ghost use Rattle.agc_check.specs.KeyReport.{IsKeyReport, are_keys, key_holdings_text};
 
 use crate::remarks::push_no_key;
-use crate::reports::Report;
-use crate::shown::SHOWN_BYTES;
+use agc_listing::{Report, SHOWN_BYTES};
 use agc_load::{is_white, named_keys};
 use agc_script::Key;
 use std::alloc::{AllocError, Global};

@@ -6,8 +6,7 @@ ghost use Rattle.agc_listing.specs.Order.{FitsPrint};
 ghost use Rattle.agc_check.specs.Legal.{can_have, is_legal, names_word};
 
 use crate::holdings::is_woven_at;
-use crate::operand_location::sure_location;
-use agc_listing::{Location, Operand, leads_on, next_is_extracode, operand_in};
+use agc_listing::{Location, Operand, leads_on, next_is_extracode, operand_in, sure_location};
 use agc_order::{Basic, Extracode};
 use agc_store::Store;
 use agc_word::Narrow;

@@ -1,20 +1,15 @@
-//! Checks a rope, a script, a listing or live keys, and reports what is wrong and what looks wrong. Restores a damaged rope:
-//! its parity, the readings of its file, patches, sums of banks, repairs, and two ropes side by side.
+//! Checks a rope, a script or live keys, and reports what is wrong and what looks wrong. Restores a damaged rope: its
+//! parity, the readings of its file, patches, sums of banks, repairs, and two ropes side by side.
 #![tactic(auto)]
 
 mod bank_sum;
-mod erase_remark;
 mod findings;
 mod holdings;
 mod key_report;
 mod legal;
 mod lines;
-mod listing_report;
-mod names;
-mod operand_location;
 mod parity;
 mod patch;
-mod printed_place;
 mod reading;
 mod remarks;
 mod repair;
@@ -22,8 +17,6 @@ mod reports;
 mod rope_bytes;
 mod rope_report;
 mod scores;
-mod shown;
-mod source_remark;
 mod vectors;
 mod walk;
 mod word_diff;
@@ -31,22 +24,16 @@ mod word_diff;
 pub use bank_sum::{
     BankSum, SumFit, fit_of, sum_in_bank, the_missing_word_makes_the_sum, word_sum,
 };
-pub use erase_remark::erase_remarks;
 pub use findings::{mark_bad_words, push_findings, push_reading, push_repairs};
 pub use holdings::{RopeHoldings, ScriptHoldings, Span, holdings_of_rope, holdings_of_script};
 pub use key_report::check_keys;
 pub use legal::{is_extracode_at, is_legal};
-pub use listing_report::check_listing;
-pub use names::nearest;
-pub use operand_location::sure_location;
 pub use parity::{BadWord, bad_words, is_bad_parity, right_parity, right_words};
 pub use patch::apply_patch;
-pub use printed_place::{push_rope_place, rope_place};
 pub use reading::{ParityBit, Reading, convert, converting_there_and_back};
 pub use repair::{Repair, repairs};
-pub use reports::{Report, check, check_rope};
+pub use reports::{check, check_rope};
 pub use rope_bytes::{file_of_words, file_words, files_hold_their_words, words_make_their_file};
 pub use scores::{Score, score_readings};
-pub use source_remark::nearest_order;
 pub use walk::{Reach, follow_orders};
 pub use word_diff::{MovedBlock, moved_blocks, places_apart};

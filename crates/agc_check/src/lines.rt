@@ -19,7 +19,7 @@ pub(crate) fn line_at(file: &[u8], number: usize) -> &[u8]
 }
 
 /// Returns the part at an index among those separated by line feeds.
-pub(crate) fn part_at(file: &[u8], place: usize) -> Option<&[u8]>
+fn part_at(file: &[u8], place: usize) -> Option<&[u8]>
     ensures { option_map (λ part. part.now) result ≡ slice_get (slice_split is_line_feed file.now) place }
 {
     file.split(|b| *b == b'\n').nth(place)

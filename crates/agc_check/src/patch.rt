@@ -1,14 +1,12 @@
 //! Applies a patch to a rope file: lines of a place and its word.
-ghost use Rattle.std.specs.Prelude.{◌≡◌, ◌≢◌, ◌<◌, Err, IfErr, IfOk, Ok, OnOk};
+ghost use Rattle.std.specs.Prelude.{◌≡◌, ◌≢◌, ◌<◌, Err, IfErr, IfOk, OnOk};
 ghost use Rattle.agc_store.specs.Places.{fixed_words};
-ghost use Rattle.agc_word.specs.Number.{pattern_of};
-ghost use Rattle.agc_listing.specs.Weave.{ArePlaces, parsed_in, woven_bits};
+ghost use Rattle.agc_listing.specs.Weave.{ArePlaces, parsed_in};
 ghost use Rattle.agc_listing.specs.declared.fault.WeaveFault.TheVariants.{Memory};
 ghost use Rattle.agc_check.specs.Patch.{IsPatchedBy, with_word, with_words};
 
-use agc_listing::{PlacedWord, RopeBuilder, WeaveFault};
+use agc_listing::{PlacedWord, WeaveFault, read_text, woven_bits};
 use agc_store::{RopeForm, index_in_file};
-use agc_word::{Narrow, next_line};
 use std::alloc::{AllocError, Global};
 
 /// Returns the words of a rope file with the words of a patch. The patch is a text as `weave` reads it: a line `bb,oooo
@@ -23,30 +21,11 @@ pub fn apply_patch(
     ensures patched { IfOk result (λ new. IsPatchedBy form text.now words.now new.items) }
     ensures fault { IfErr result (λ fault. fault ≢ Memory → parsed_in text.now ≡ Err fault) }
 {
-    let patch = read_patch(alloc, text)?;
+    let patch = read_text(alloc, text)?;
     match with_words(alloc, form, words, patch.words()) {
         Ok(patched) => Ok(patched),
         Err(_) => Err(WeaveFault::Memory),
     }
-}
-
-/// Returns the words that a patch names, in the order of its lines, or the fault of its first faulty line.
-fn read_patch(alloc: Global, text: &[u8]) -> Result<RopeBuilder, WeaveFault>
-    ensures words { IfOk result (λ patch. parsed_in text.now ≡ Ok patch) }
-    ensures fault { IfErr result (λ fault. fault ≢ Memory → parsed_in text.now ≡ Err fault) }
-{
-    let mut patch = RopeBuilder::new(alloc)?;
-    let mut lines = 0;
-    let mut rest = text;
-    while let Some((line, after)) = next_line(rest) {
-        lines += 1;
-        match patch.read(line) {
-            Ok(named) => patch.add(named)?,
-            Err(fault) => return Err(WeaveFault::Line(lines, fault)),
-        }
-        rest = after;
-    }
-    Ok(patch)
 }
 
 /// Returns the words of a file with these words at their places.
@@ -79,16 +58,4 @@ fn put_word(words: &mut Vec<u16>, form: RopeForm, named: &PlacedWord) -> Result<
     }
     words[index] = woven_bits(form, named.word);
     Ok(())
-}
-
-/// Returns the sixteen bits of a word in a file.
-#[tactic(auto, unfolding(agc_listing::specs::Weave::woven_bits))]
-fn woven_bits(form: RopeForm, word: Narrow) -> u16
-    ensures { result ≡ woven_bits form (pattern_of 15 word) }
-{
-    let bits = 2 * word.bits();
-    match form {
-        RopeForm::Parity if bits.count_ones() % 2 == 0 => bits + 1,
-        _ => bits,
-    }
 }

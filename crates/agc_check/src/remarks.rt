@@ -3,12 +3,12 @@
 ghost use Rattle.std.specs.Prelude.{◌≤◌};
 
 use crate::lines::last_start;
-use crate::names::nearest;
-use crate::shown::push_bytes;
+use agc_listing::{push_quoted, push_quoted_then, push_subject, words_of};
 use agc_script::{
     Base, Command, DIRECTIONS, EVERY, FaultKind, Key, LAST_CYCLE, LONGEST_LINE, MOST_CYCLE_DIGITS,
     MOST_DIGITS, MOST_EVENTS, NumberRange, PULSES, ScriptFault, direction_name, read_cycle,
 };
+use agc_symbols::push_unknown_name;
 use std::alloc::{AllocError, Global};
 
 /// Returns the line that explains a fault of a script by the words of its line.
@@ -60,40 +60,6 @@ fn push_why(
         FaultKind::OutOfRange => push_out_of_range(text, words),
         FaultKind::TooMany => push_too_many(text),
         FaultKind::Memory => text.push_str("memory ran out at this line\n"),
-    }
-}
-
-pub(crate) fn words_of<'a>(alloc: Global, line: &'a [u8]) -> Result<Vec<&'a [u8]>, AllocError> {
-    line.split(|b| *b == b' ' || *b == b'\t')
-        .filter(|word| !word.is_empty())
-        .collect(alloc)
-}
-
-pub(crate) fn push_quoted(text: &mut String, word: &[u8]) -> Result<(), AllocError> {
-    text.push_str("`")?;
-    push_bytes(text, word)?;
-    text.push_str("`")
-}
-
-/// Appends a word in quotes, and what follows it.
-pub(crate) fn push_quoted_then(
-    text: &mut String,
-    word: &[u8],
-    what: &str,
-) -> Result<(), AllocError> {
-    push_quoted(text, word)?;
-    text.push_str(what)
-}
-
-/// Appends the subject of a sentence: the word at fault, or `otherwise` if no word was found.
-pub(crate) fn push_subject(
-    text: &mut String,
-    word: Option<&[u8]>,
-    otherwise: &str,
-) -> Result<(), AllocError> {
-    match word {
-        Some(word) => push_quoted(text, word),
-        None => text.push_str(otherwise),
     }
 }
 
@@ -186,7 +152,7 @@ fn push_unknown(alloc: Global, text: &mut String, words: &[&[u8]]) -> Result<(),
     match Command::from_name(words[place]) {
         None => push_no_command(alloc, text, words[place]),
         Some(command) if given == command.argument_count() => {
-            push_unknown_name(alloc, text, command, words[words.len() - 1])
+            push_unknown_argument(alloc, text, command, words[words.len() - 1])
         }
         Some(_) if has_comment(&words[place..]) => text.push_str(
             "a comment needs a line of its own\n",
@@ -206,7 +172,7 @@ fn push_no_command(alloc: Global, text: &mut String, word: &[u8]) -> Result<(), 
         text.push_str("`every` replaces the cycle: write `every N FROM TO`, then the command\n")
     } else {
         let names = Command::ALL.map(|command| command.name().as_bytes());
-        push_nearest(alloc, text, word, "command", &names)
+        push_unknown_name(alloc, text, word, "command", &names)
     }
 }
 
@@ -242,7 +208,7 @@ fn push_missing(text: &mut String, words: &[&[u8]]) -> Result<(), AllocError> {
 }
 
 /// Appends that the name of a key, a direction or a kind of pulse is unknown.
-fn push_unknown_name(
+fn push_unknown_argument(
     alloc: Global,
     text: &mut String,
     command: Command,
@@ -255,14 +221,14 @@ fn push_unknown_name(
             word,
             " has no key code: use `pro down` and `pro up`\n",
         ),
-        Command::Pro => push_nearest(
+        Command::Pro => push_unknown_name(
             alloc,
             text,
             word,
             "direction of PRO",
             &DIRECTIONS.map(|down| direction_name(down).as_bytes()),
         ),
-        Command::Pulse => push_nearest(
+        Command::Pulse => push_unknown_name(
             alloc,
             text,
             word,
@@ -287,7 +253,7 @@ pub(crate) fn push_no_key(
     if is_pro(word) {
         push_quoted_then(text, word, pro_is)
     } else {
-        push_nearest(
+        push_unknown_name(
             alloc,
             text,
             word,
@@ -300,26 +266,6 @@ pub(crate) fn push_no_key(
 /// Returns whether a word means the PRO key.
 fn is_pro(word: &[u8]) -> bool {
     word.eq_ignore_ascii_case(b"pro") || word.eq_ignore_ascii_case(b"proceed")
-}
-
-/// Appends that a word is not a name of this kind, and asks whether the nearest name was meant.
-pub(crate) fn push_nearest(
-    alloc: Global,
-    text: &mut String,
-    word: &[u8],
-    what: &str,
-    names: &[&[u8]],
-) -> Result<(), AllocError> {
-    text.push_str("unknown ")?;
-    text.push_str(what)?;
-    text.push_str(" ")?;
-    push_quoted(text, word)?;
-    if names.is_empty() {
-        text.push_str("\n")
-    } else {
-        text.push_str("; did you mean ")?;
-        push_quoted_then(text, nearest(alloc, word, names)?, "?\n")
-    }
 }
 
 fn push_bad_number(text: &mut String, words: &[&[u8]]) -> Result<(), AllocError> {

@@ -11,19 +11,11 @@ use crate::holdings::{ScriptHoldings, Span, holdings_of_script};
 use crate::lines::line_at;
 use crate::remarks::remark;
 use crate::rope_report::push_rope;
-use crate::shown::push_line;
+use agc_listing::{Report, push_file_line};
 use agc_load::LoadFault;
 use agc_script::{FaultKind, Script, ScriptFault};
 use agc_store::RopeForm;
 use std::alloc::{AllocError, Global};
-
-/// The report on a rope file and a script file.
-#[derive(Debug, Drop)]
-pub struct Report {
-    pub text: String,
-    /// Whether nothing is wrong with either file.
-    pub is_sound: bool,
-}
 
 /// Checks a rope file of the given form and a script file. For each file the report gives either
 /// what it holds, or its fault (of `Rope::read_as` or `Script::parse`) and what is wrong there.
@@ -116,6 +108,6 @@ fn push_script_fault(text: &mut String, file: &[u8], fault: ScriptFault) -> Resu
     let refusal = LoadFault::Script(fault);
     writeln!(text, "{refusal}")?;
     text.push_str("    ")?;
-    push_line(text, line_at(file, fault.line))?;
+    push_file_line(text, line_at(file, fault.line))?;
     text.push_str("\n")
 }

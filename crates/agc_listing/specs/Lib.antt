@@ -9,3 +9,5 @@ pub mod Number
 pub mod Location
 pub mod Cell
 pub mod Ranges
+pub mod Shown
+pub mod SureLocation

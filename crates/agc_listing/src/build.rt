@@ -41,7 +41,7 @@ pub fn weave(alloc: Global, form: RopeForm, text: &[u8]) -> Result<Vec<u8>, Weav
 }
 
 /// Returns the words that a text names, in the order of its lines, or the fault of its first faulty line.
-fn read_text(alloc: Global, text: &[u8]) -> Result<RopeBuilder, WeaveFault>
+pub fn read_text(alloc: Global, text: &[u8]) -> Result<RopeBuilder, WeaveFault>
     ensures words { IfOk result (λ builder. parsed_in text.now ≡ Ok builder) }
     ensures fault { IfErr result (λ fault. fault ≢ Memory → parsed_in text.now ≡ Err fault) }
 {
@@ -88,9 +88,9 @@ fn put_word(bytes: &mut Vec<u8>, form: RopeForm, named: &PlacedWord) -> Result<(
     Ok(())
 }
 
-/// Returns the sixteen bits of a word in a file.
+/// Returns the sixteen bits of a word in a rope file of the given form: the word, and the parity bit or 0.
 #[tactic(auto, unfolding(crate::specs::Weave::woven_bits))]
-fn woven_bits(form: RopeForm, word: Narrow) -> u16
+pub fn woven_bits(form: RopeForm, word: Narrow) -> u16
     ensures { result ≡ woven_bits form (pattern_of 15 word) }
 {
     let bits = 2 * word.bits();

@@ -2,12 +2,14 @@
 ghost use Rattle.std.specs.Prelude.{◌≡◌, ◌<◌, ◌≤◌, ◌++◌, ◌&&◌, not, IfOk, OnOk, string_bytes};
 ghost use Rattle.agc_word.specs.Number.{pattern_of};
 ghost use Rattle.agc_store.specs.Places.{fixed_words};
+ghost use Rattle.agc_listing.specs.Place.{IsInPrint, place_text};
 ghost use Rattle.agc_listing.specs.List.{
   starts_run,
   is_in_selected_bank,
   line_text,
   listed_address,
   listed_lines,
+  listed_place,
   rope_text,
   text_listed,
 };
@@ -115,14 +117,34 @@ fn push_word(
     ensures { OnOk result (string_bytes text.new
         ≡ string_bytes text.old ++ line_text place extracode word) }
 {
-    let listed = Place::Fixed {
-        bank: bank_of(place as u32),
-        address: listed_address(place),
-    };
-    push_place(text, listed)?;
+    push_place(text, rope_place(place))?;
     write!(text, " {word} ")?;
     push_order(text, extracode, word)?;
     text.push_str("\n")
+}
+
+/// Returns a place of the rope as listings name it.
+pub fn rope_place(place: usize) -> Place
+    requires { place < fixed_words }
+    ensures place { result ≡ listed_place place }
+    ensures range { IsInPrint result }
+{
+    Place::Fixed {
+        bank: bank_of(place as u32),
+        address: listed_address(place),
+    }
+}
+
+/// Appends a place of the rope as listings name it; nothing if the place is past the rope. Fails if out of memory.
+pub fn push_rope_place(text: &mut String, place: usize) -> Result<(), AllocError>
+    ensures rope { OnOk result (place < fixed_words
+        → string_bytes text.new ≡ string_bytes text.old ++ place_text (listed_place place)) }
+    ensures past { OnOk result (fixed_words ≤ place → string_bytes text.new ≡ string_bytes text.old) }
+{
+    if place < FIXED_WORDS as usize {
+        push_place(text, rope_place(place))?;
+    }
+    Ok(())
 }
 
 /// Returns the address under which a listing names a place: 4000 to 7777 octal for banks 02 and 03,

@@ -93,7 +93,8 @@ fn push_row(text: &mut String, row: Row, word: Narrow) -> Result<(), AllocError>
     push_operand(text, operand_in(row.takes, word))
 }
 
-fn push_operand(text: &mut String, operand: Operand) -> Result<(), AllocError>
+/// Appends an operand: a space and its address or channel in octal, or nothing. Fails if out of memory.
+pub fn push_operand(text: &mut String, operand: Operand) -> Result<(), AllocError>
     requires { FitsPrint operand }
     ensures { OnOk result (string_bytes text.new ≡ string_bytes text.old ++ operand_text operand) }
 {

@@ -17,6 +17,7 @@ ghost use Rattle.agc_listing.specs.Text.{
 };
 
 use agc_word::next_word;
+use std::alloc::{AllocError, Global};
 
 /// Returns the first word of a text before its comment, and what follows it; `None` if there is no word.
 #[tactic(auto, unfolding(crate::specs::Text::parsed_by))]
@@ -107,4 +108,11 @@ fn has_other_than_numbers(word: &[u8]) -> bool
 {
     word.iter()
         .any(|b| !(is_decimal(*b) || (*b == b'+' || *b == b'-')))
+}
+
+/// Returns the words of a line: the parts between spaces and tabs. Fails if out of memory.
+pub fn words_of(alloc: Global, line: &[u8]) -> Result<Vec<&[u8]>, AllocError> {
+    line.split(|b| *b == b' ' || *b == b'\t')
+        .filter(|word| !word.is_empty())
+        .collect(alloc)
 }

@@ -64,8 +64,8 @@ impl Machine {
     ghost use Rattle.agc_machine.specs.OrderRun.{HasRunOrders, IsWatchInRange};
 
     /// Runs the order in hand and returns it with what it did, if nothing else can come before it. Otherwise changes
-    /// nothing and returns `None`, as it may also if the order comes next, at a place where the clock, an interrupt or
-    /// the stop address must be checked first.
+    /// nothing and returns `None`. It may also return `None` if the order comes next but the clock, an interrupt or the
+    /// stop address must be checked first.
     #[inline(always)]
     pub fn run_order(&mut self) -> Option<(InHand, Stepped)>
         ensures comes { IfSome result (λ (order, stepped). upcoming_of self.old ≡ Upcoming.Order order) }

@@ -6,7 +6,7 @@ use Rattle.agc_store.specs.Memory.{Memory, erasable_place, fixed_place, selected
 use Rattle.agc_store.specs.Places.{erasable_window, fixed_bank_size, fixed_fixed, fixed_window}
 use Rattle.agc_listing.specs.Location.{is_fixed_fixed, location_at, location_in}
 use Rattle.agc_listing.specs.declared.location.Location.{Location}
-use Rattle.agc_check.specs.SureLocation.{sure_location}
+use Rattle.agc_listing.specs.SureLocation.{sure_location}
 use Rattle.agc_study_args.specs.NamedList.{RunsAt}
 
 low_is_erasable : (address : ℕ) → nat_lt address erasable_window ≡ true → nat_lt address fixed_window ≡ true

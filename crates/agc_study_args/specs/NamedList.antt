@@ -10,7 +10,7 @@ use Rattle.agc_order.specs.declared.order.Extracode.{Extracode}
 use Rattle.agc_order.specs.declared.order.Extracode.TheVariants as extra
 use Rattle.agc_store.specs.Memory.{Memory, fixed_at, selected_bank}
 use Rattle.agc_store.specs.Places.{fixed_bank_size, fixed_words}
-use Rattle.agc_check.specs.SureLocation.{sure_location}
+use Rattle.agc_listing.specs.SureLocation.{sure_location}
 use Rattle.agc_listing.specs.List.{is_in_selected_bank, is_extracode_at, listed_place}
 use Rattle.agc_listing.specs.Location.{is_fixed_fixed}
 use Rattle.agc_listing.specs.Order.{operand_in, operand_text}

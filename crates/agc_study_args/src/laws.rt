@@ -5,7 +5,7 @@ ghost use Rattle.agc_machine.specs.StopAddress.{stop_address_of};
 ghost use Rattle.agc_listing.specs.Place.{place_text};
 ghost use Rattle.agc_listing.specs.Location.{IsWithin, location_in};
 ghost use Rattle.agc_listing.specs.declared.location.Location.{Location};
-ghost use Rattle.agc_check.specs.SureLocation.{sure_location};
+ghost use Rattle.agc_listing.specs.SureLocation.{sure_location};
 ghost use Rattle.agc_study_args.specs.NamedList.{RunsAt};
 ghost use Rattle.agc_study_args.specs.Until.{StopsAt, stop_place};
 

@@ -2,7 +2,6 @@
 #![tactic(auto)]
 
 mod args;
-mod channel_names;
 mod conversion;
 mod joined;
 mod laws;
@@ -11,7 +10,6 @@ mod named_list;
 mod read_file;
 mod rope_read;
 mod runs;
-mod symbol_output;
 mod until;
 mod words_apart;
 
@@ -26,6 +24,5 @@ pub use named_list::list_with_names;
 pub use read_file::{ReadFile, open_file, remark_on_file};
 pub use rope_read::{RopeRead, read_any_rope};
 pub use runs::{RunInputs, Start, open_run, read_machine, read_machine_as, read_start};
-pub use symbol_output::{check_names_path, write_names};
 pub use until::resolve_until;
 pub use words_apart::{LinedRope, text_of_words_apart};

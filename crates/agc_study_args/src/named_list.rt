@@ -21,9 +21,9 @@ ghost use Rattle.agc_study_args.specs.NamedList.{
 };
 ghost use Rattle.agc_symbols.specs.Nearest.{as_nearby};
 
-use agc_check::{rope_place, sure_location};
 use agc_listing::{
-    Location, Operand, is_in_selected_bank, leads_on, next_is_extracode, operand_in, push_place,
+    Location, Operand, is_in_selected_bank, leads_on, next_is_extracode, operand_in, push_operand,
+    push_place, rope_place, sure_location,
 };
 use agc_order::{Basic, Extracode, Row};
 use agc_store::Store;
@@ -134,7 +134,7 @@ fn push_word(
     write!(text, "{word} ")?;
     text.push_str(row.mnemonic)?;
     let called = name_of(names, channels, listed);
-    push_operand(text, called, operand_in(row.takes, word))?;
+    push_called_operand(text, called, operand_in(row.takes, word))?;
     text.push_str("\n")
 }
 
@@ -161,7 +161,7 @@ fn row_of(extracode: bool, word: Narrow) -> Row
 }
 
 /// Appends an operand: its name or, if it has none, its address or channel.
-fn push_operand(
+fn push_called_operand(
     text: &mut String,
     called: Option<Nearest<'_>>,
     operand: Operand,
@@ -175,19 +175,7 @@ fn push_operand(
             text.push_str(" ")?;
             push_nearby(text, near)
         }
-        None => push_digits(text, operand),
-    }
-}
-
-/// Appends an address or a channel.
-fn push_digits(text: &mut String, operand: Operand) -> Result<(), AllocError>
-    requires { FitsPrint operand }
-    ensures { OnOk result (string_bytes text.new ≡ string_bytes text.old ++ operand_text operand) }
-{
-    match operand {
-        Operand::Nothing => Ok(()),
-        Operand::Address(address) => write!(text, " {address:04o}"),
-        Operand::Channel(channel) => write!(text, " {channel:03o}"),
+        None => push_operand(text, operand),
     }
 }
 

@@ -5,8 +5,7 @@ ghost use Rattle.agc_listing.specs.Location.{IsWithin};
 ghost use Rattle.agc_study_args.specs.Until.{IsUntilWith, stop_place, stop_with, until_with};
 
 use crate::joined::joined;
-use agc_check::rope_place;
-use agc_listing::{Location, Place, cell_address, push_place};
+use agc_listing::{Location, Place, cell_address, push_place, rope_place};
 use agc_machine::StopAddress;
 use agc_store::place::ERASABLE_BANK_SIZE;
 use agc_symbols::{SymbolTable, resolve};

@@ -1,6 +1,6 @@
 //! Prints the words of two ropes that differ, and blocks of words that moved, with the lines of their sources.
-use agc_check::{MovedBlock, moved_blocks, places_apart, push_rope_place};
-use agc_listing::{leads_on, next_is_extracode, push_order};
+use agc_check::{MovedBlock, moved_blocks, places_apart};
+use agc_listing::{leads_on, next_is_extracode, push_order, push_rope_place};
 use agc_store::Store;
 use agc_store::place::{FIXED_BANKS, FIXED_WORDS, bank_of};
 use agc_word::Narrow;

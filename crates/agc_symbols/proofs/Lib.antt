@@ -4,3 +4,4 @@ pub mod Nearests
 mod PlaceRead
 pub mod NamesRead
 mod Refused
+pub mod LeastPlace

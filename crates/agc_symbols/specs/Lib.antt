@@ -1,6 +1,7 @@
 pub mod Symbols
 pub mod Channels
 pub mod Nearest
+pub mod Similar
 pub mod Operand
 pub mod Index
 pub mod Column

@@ -1,4 +1,5 @@
-//! Symbols: names of places, the file that holds them, and the lookup in both directions.
+//! Symbols: names of places, the file that holds them, the lookup in both directions, and the name most similar to an
+//! unknown word.
 #![tactic(auto)]
 
 mod channel_table;
@@ -14,6 +15,7 @@ mod names_file;
 mod place_name;
 mod ranges;
 mod register;
+mod similar;
 mod symbol_table;
 mod writing;
 
@@ -27,5 +29,6 @@ pub use names_file::{SymbolFileFault, names_at, read_names};
 pub use place_name::PlaceName;
 pub use ranges::{resolve_cells, resolve_range};
 pub use register::Register;
+pub use similar::{most_similar_name, push_unknown_name};
 pub use symbol_table::{Nearest, SymbolTable};
 pub use writing::{push_channel_line, push_name_line};

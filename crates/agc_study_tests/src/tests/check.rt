@@ -2,13 +2,14 @@
 mod grammar;
 
 use super::{joined, repeated, same};
+use agc_asm::check_listing;
 use agc_check::{
-    Report, RopeHoldings, ScriptHoldings, Span, check, check_keys, check_listing, holdings_of_rope,
-    holdings_of_script, nearest,
+    RopeHoldings, ScriptHoldings, Span, check, check_keys, holdings_of_rope, holdings_of_script,
 };
-use agc_listing::weave;
+use agc_listing::{Report, weave};
 use agc_script::Script;
 use agc_store::{Rope, RopeForm};
+use agc_symbols::most_similar_name;
 use std::process::Abort;
 
 /// CA 4004 and EXTEND at 4000 and 4001.
@@ -359,7 +360,7 @@ fn nearest_names(rt: HostRuntime) {
         // two edits from each of the first two: the first one is suggested
         (b"VOUB".as_slice(), names[0]),
     ] {
-        let found = nearest(rt.alloc(), word, names.as_slice());
+        let found = most_similar_name(rt.alloc(), word, names.as_slice());
         assert_eq!(rt; found.ok(), Some(name));
     }
 }

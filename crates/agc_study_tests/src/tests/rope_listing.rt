@@ -4,8 +4,8 @@ ghost use Rattle.agc_store.specs.RopeFile.{rope_words};
 
 use super::{same, store_of_file};
 use agc_listing::{
-    LineFault, Place, WeaveFault, files_say_rope_words, list, listings_say_their_words, push_order,
-    push_place, weave, words_listed_make_the_rope,
+    LineFault, Location, Place, WeaveFault, files_say_rope_words, list, listings_say_their_words,
+    push_order, push_place, push_rope_place, sure_location, weave, words_listed_make_the_rope,
 };
 use agc_order::{Basic, Extracode};
 use agc_store::{Rope, RopeForm, Store};
@@ -166,6 +166,39 @@ fn places(rt: HostRuntime) {
     let mut text = String::new(rt.alloc());
     push_places(&mut text).ok().expect(&rt, "memory");
     assert_eq!(rt; text.as_str(), "0061 E3,1400 43,3777");
+}
+
+#[test]
+fn places_of_the_rope(rt: HostRuntime) {
+    for (place, printed) in [
+        (0, "00,2000"),
+        (0o4003, "02,4003"),
+        (0o7777, "03,7777"),
+        (0o10005, "04,2005"),
+        (0o107777, "43,3777"),
+        (0o110000, ""),
+    ] {
+        let mut text = String::new(rt.alloc());
+        push_rope_place(&mut text, place).ok().expect(&rt, "memory");
+        same(&rt, text.as_str(), printed, "place");
+    }
+}
+
+#[test]
+fn locations_that_operands_name_for_sure(rt: HostRuntime) {
+    for (here, address, location) in [
+        (0o10000, 0o0050, Some(Location::Erasable(0o50))),
+        (0o10000, 0o1377, Some(Location::Erasable(0o1377))),
+        (0o10000, 0o1400, None),
+        // the bank of the order itself, unless it is 02 or 03
+        (0o10000, 0o2005, Some(Location::Fixed(0o10005))),
+        (0o4000, 0o2005, None),
+        (0o7777, 0o2005, None),
+        (0o10000, 0o4003, Some(Location::Fixed(0o4003))),
+        (0o4000, 0o7777, Some(Location::Fixed(0o7777))),
+    ] {
+        assert_eq!(rt; sure_location(here, address), location);
+    }
 }
 
 /// Assembles a text into a rope file.

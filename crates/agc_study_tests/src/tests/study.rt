@@ -8,10 +8,9 @@ use agc_analysis::{
     status_of_trace_error, text_of_rope, watch_files, weave_text, write_outcome, write_report,
 };
 use agc_asm::{AssemblyFault, SourceFault};
-use agc_check::Report;
 use agc_diff::SideNames;
 use agc_io::NoProgress;
-use agc_listing::LineFault;
+use agc_listing::{LineFault, Report};
 use agc_load::LoadFault;
 use agc_store::{RopeFault, RopeForm};
 use agc_study_args::{

@@ -1,5 +1,5 @@
 -- How bytes of a file are printed.
-use Rattle.std.specs.Prelude.{ℕ, nat_lt, List, [], ◌∷◌, ◌++◌, length, take, codes, if◌then◌else◌}
+use Rattle.std.specs.Prelude.{ℕ, nat_lt, List, [], ◌∷◌, ◌++◌, length, take, codes, if◌then◌else◌, Option, Some, None}
 use Rattle.std.specs.List.{flat_map}
 use Rattle.agc_word.specs.Octal.{octal_digits}
 use Rattle.agc_listing.specs.Line.{is_no_text}
@@ -15,3 +15,12 @@ printable bytes = flat_map shown_byte bytes
 unfoldable pub shown_line : List ℕ → List ℕ
 shown_line line =
     if nat_lt 120 (length line) then printable (take 120 line) ++ codes " .." else printable line
+
+-- a word in quotes
+abbrev pub quoted : List ℕ → List ℕ
+quoted word = codes "`" ++ printable word ++ codes "`"
+
+-- the subject of a sentence: a word in quotes, or other words if there is none
+abbrev pub subject : Option (List ℕ) → List ℕ → List ℕ
+subject (Some word) otherwise = quoted word
+subject None otherwise = otherwise

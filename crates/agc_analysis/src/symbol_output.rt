@@ -1,8 +1,7 @@
 //! Writes the symbol file of a source: first to a new file beside it, which then takes its name.
-use crate::args::WeaveArgs;
-use crate::channel_names::with_channels;
-use agc_asm::name_lines;
+use agc_asm::source_symbols;
 use agc_cli::ArgsFault;
+use agc_study_args::WeaveArgs;
 use std::alloc::{AllocError, Global};
 use std::fs::{self, File, OpenFile};
 use std::io::{self, ErrorKind, Write};
@@ -13,7 +12,7 @@ const TRIES: u32 = 100;
 
 /// Checks the path of `--write-names`, before anything is read or written. An existing file is a command-line error
 /// unless `--force` is passed; the source itself, and a path that is not a regular file, always are.
-pub fn check_names_path<R>(rt: &R, args: &WeaveArgs, path: &str) -> Result<(), ArgsFault>
+pub(crate) fn check_names_path<R>(rt: &R, args: &WeaveArgs, path: &str) -> Result<(), ArgsFault>
 where
     R: Files + AllocGlobal,
 {
@@ -60,12 +59,11 @@ fn refused_text(alloc: Global, path: &str, why: &str) -> Result<String, AllocErr
 }
 
 /// Writes the symbols of a source to the file at a path. If that fails, the file is as it was.
-pub fn write_names<R>(rt: &R, path: &str, source: &[u8]) -> io::Result<()>
+pub(crate) fn write_names<R>(rt: &R, path: &str, source: &[u8]) -> io::Result<()>
 where
     R: Files + AllocGlobal,
 {
-    let lines = name_lines(rt.alloc(), source)?;
-    let lines = with_channels(rt.alloc(), lines.as_slice(), source)?;
+    let lines = source_symbols(rt.alloc(), source)?;
     let beside = write_beside(rt, path, lines.as_slice())?;
     let renamed = fs::rename(rt, beside.as_str(), path);
     if renamed.is_err() {

@@ -1,10 +1,15 @@
 //! Explains which word of a source line is at fault: the name in its first column, its order, or its operand.
-use crate::names::nearest;
-use crate::remarks::{push_nearest, push_quoted, push_quoted_then, push_subject};
-use crate::shown::push_bytes;
-use agc_asm::{Alias, Directive, SourceFault, code_of, is_operation, word_at_fault};
-use agc_listing::{cut_label, is_listed, is_name, next_parsed, offset_parsed};
+use crate::alias::Alias;
+use crate::body::code_of;
+use crate::fault::SourceFault;
+use crate::fault_place::{is_operation, word_at_fault};
+use crate::mnemonic::Directive;
+use agc_listing::{
+    cut_label, is_listed, is_name, next_parsed, offset_parsed, push_file_bytes, push_quoted,
+    push_quoted_then, push_subject,
+};
 use agc_order::{Basic, Extracode};
+use agc_symbols::{most_similar_name, push_unknown_name};
 use agc_word::without_return;
 use std::alloc::{AllocError, Global};
 
@@ -104,7 +109,7 @@ fn push_no_order(
     for directive in Directive::ALL {
         names.push(directive.name().as_bytes())?;
     }
-    push_nearest(alloc, text, order, "order or directive", names.as_slice())
+    push_unknown_name(alloc, text, order, "order or directive", names.as_slice())
 }
 
 /// Returns the mnemonics of all orders.
@@ -122,13 +127,14 @@ fn orders(alloc: Global) -> Result<Vec<&'static [u8]>, AllocError> {
     Ok(names)
 }
 
-/// Returns the question whether the mnemonic nearest to a word was meant: `did you mean CA?`. Fails if out of memory.
+/// Returns the question whether the mnemonic most similar to a word was meant: `; did you mean CA?`. Fails if out of
+/// memory.
 pub fn nearest_order(alloc: Global, word: &[u8]) -> Result<String, AllocError> {
     let mut text = String::new(alloc);
     let names = orders(alloc)?;
     if !names.is_empty() {
         text.push_str("; did you mean ")?;
-        push_bytes(&mut text, nearest(alloc, word, names.as_slice())?)?;
+        push_file_bytes(&mut text, most_similar_name(alloc, word, names.as_slice())?)?;
         text.push_str("?")?;
     }
     Ok(text)
@@ -142,7 +148,7 @@ fn push_no_name(
     name: &[u8],
 ) -> Result<(), AllocError> {
     let names = names_of(alloc, file)?;
-    push_nearest(alloc, text, name, "name", names.as_slice())
+    push_unknown_name(alloc, text, name, "name", names.as_slice())
 }
 
 /// Returns the names of a source's lines, in their order.

@@ -1,6 +1,6 @@
 use Rattle.std.proofs.Common.{arith}
 use Rattle.agc_word.proofs.Octal.{octal_text}
-use Rattle.agc_check.proofs.shown.push_octal.Goals as goal
+use Rattle.agc_listing.proofs.shown.push_octal.Goals as goal
 
 pub returns : goal.returns
 returns c =

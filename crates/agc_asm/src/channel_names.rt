@@ -1,5 +1,6 @@
-//! Marks the names of channels in the symbol file of a source, in which they have cells like the names of places.
-use agc_asm::extracode_named;
+//! Writes the symbol file of a source, in which the names of channels are marked.
+use crate::mnemonic::extracode_named;
+use crate::symbol_file::name_lines;
 use agc_listing::{Location, cut_label, is_listed, location_named, next_parsed};
 use agc_order::Takes;
 use agc_symbols::push_channel_line;
@@ -14,13 +15,11 @@ struct Uses {
     as_place: bool,
 }
 
-/// Returns the lines of a source's symbol file in which a name that the source uses as a channel has the line of a
-/// channel, `C015 KEYS`; its line with a cell stays only if another order uses it too. Fails if out of memory.
-pub(crate) fn with_channels(
-    alloc: Global,
-    lines: &[u8],
-    source: &[u8],
-) -> Result<Vec<u8>, AllocError> {
+/// Returns the symbol file of a source: the lines of `name_lines`, but a name that the source uses as a channel gets the
+/// line of a channel, `C015 KEYS`. It keeps its line with a cell only if another order uses it too. Fails if out of
+/// memory.
+pub fn source_symbols(alloc: Global, source: &[u8]) -> Result<Vec<u8>, AllocError> {
+    let lines = name_lines(alloc, source)?;
     let uses = uses_in(alloc, source)?;
     let mut written = Vec::new(alloc);
     for line in lines.split(|b| *b == b'\n') {

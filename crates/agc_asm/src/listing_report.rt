@@ -1,15 +1,17 @@
 //! Reports what is wrong with the text of a rope or with a source.
 ghost use Rattle.std.specs.Prelude.{◌≡◌, ◌++◌, IfOk, OnOk, is_ok, string_bytes};
 ghost use Rattle.agc_asm.specs.Source.{source_in};
-ghost use Rattle.agc_check.specs.ListingReport.{IsListingReport, listing_fault_text};
+ghost use Rattle.agc_asm.specs.ListingReport.{IsListingReport, listing_fault_text};
 
-use crate::lines::part_at;
-use crate::remarks::{push_quoted, push_quoted_then, words_of};
-use crate::reports::Report;
-use crate::shown::push_line;
+use crate::assemble_source::assemble;
+use crate::body::code_of;
+use crate::fault::{AssemblyFault, SourceFault};
+use crate::fault_place::word_at_fault;
+use crate::faulty::faulty_lines;
 use crate::source_remark::push_source_why;
-use agc_asm::{AssemblyFault, SourceFault, assemble, code_of, faulty_lines, word_at_fault};
-use agc_listing::{LineFault, is_listed};
+use agc_listing::{
+    LineFault, Report, is_listed, push_file_line, push_quoted, push_quoted_then, words_of,
+};
 use agc_store::RopeForm;
 use agc_word::without_return;
 use std::alloc::{AllocError, Global};
@@ -89,7 +91,7 @@ fn remark(
     let line = line_at(file, number);
     let mut text = String::new(alloc);
     text.push_str("    ")?;
-    push_line(&mut text, line)?;
+    push_file_line(&mut text, line)?;
     text.push_str("\n    ")?;
     write!(text, "column {}: ", word_at_fault(line, fault).column)?;
     push_line_why(alloc, &mut text, file, line, fault)?;
@@ -98,7 +100,7 @@ fn remark(
 
 /// Returns the line with a number, counted from 1, without its end.
 fn line_at(file: &[u8], number: usize) -> &[u8] {
-    match part_at(file, number.saturating_sub(1)) {
+    match file.split(|b| *b == b'\n').nth(number.saturating_sub(1)) {
         Some(line) => without_return(line),
         None => file,
     }

@@ -2,14 +2,14 @@
 ghost use Rattle.std.specs.Prelude.{◌≡◌, ◌<◌, IfSome};
 ghost use Rattle.agc_store.specs.Places.{fixed_words};
 ghost use Rattle.agc_listing.specs.Location.{IsWithin};
-ghost use Rattle.agc_check.specs.SureLocation.{is_sure, sure_location};
+ghost use Rattle.agc_listing.specs.SureLocation.{is_sure, sure_location};
 
-use agc_listing::{Location, location_at};
+use crate::location::{Location, location_at};
 use agc_store::Addr;
 use agc_store::place::{ERASABLE_WINDOW, FIXED_BANK_SIZE, FIXED_FIXED, FIXED_WINDOW, bank_of};
 
 /// Returns the location that an address names for the order at a place, unless a bank that is not known decides it.
-#[tactic(auto, unfolding(crate::specs::SureLocation::sure_location, agc_listing::specs::Location::location_at))]
+#[tactic(auto, unfolding(crate::specs::SureLocation::sure_location, crate::specs::Location::location_at))]
 pub fn sure_location(here: usize, address: u16) -> Option<Location>
     requires here { here < fixed_words }
     requires address { address < 0o10000 }
