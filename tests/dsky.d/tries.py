@@ -1157,7 +1157,7 @@ def try_names_and_counts():
         terminal.type("i")
         # TIME4 is last stepped at 10,135,040 pulses, of which a cycle has 12, so at cycle 844587, TIME1 and TIME3 at 10,137,600,
         # so at 844800 and after it
-        terminal.until("no boundaries", lambda screen: boundaries_on(screen)[0] and rerun_of(screen) is None)
+        terminal.until("no stop", lambda screen: any("- stop" in line for line in boundaries_on(screen)[0]) and rerun_of(screen) is None)
         judge("the idle loop", [
             "844799 5005 IDLE         15005 TCF 5005 x 212 | A 154171 L 00000 Q 000000 Z 5006 EB 0 FB 00",
             "844800 - timer TIME1 | A 154171 L 00000 Q 000000 Z 5006 EB 0 FB 00",
