@@ -815,6 +815,28 @@ def try_pace():
     site.end()
 
 
+def try_writes():
+    """An order that writes shows its panel and is reported in a step, too, and in the orders after which time stops."""
+    rope = example('keys', 'rope')
+    wanted = [(20, 0o10, 0o44017)]  # of the key 4 at cycle 0, by the rope's source
+    with Console(rope, program=[CONSOLE]) as console:
+        console.key('4')
+        judge('a plain run', wanted, console.go(40))
+    for what, named in (('steps', None), ('steps with names', example('study', 'names-trace', 'names')), ('a pause', None)):
+        with Console(rope, names=named, program=[CONSOLE], detached=True) as console:
+            session, heard = Session(console), []
+            session.on_write(heard.append)
+            session.press('4')
+            if what == 'a pause':
+                session.call(lambda: (session.play(), session.pause()))
+            else:
+                for _ in range(20):
+                    session.step()
+            judge(f'{what}: the panel', '_4', json.loads(session.news.since(0, 0)[1])['panel']['NOUN'])
+            judge(f'{what}: what is reported', wanted, heard)
+            session.close()
+
+
 def try_rate():
     """A machine that writes all the time sends at most fifty messages a second, and not much fewer."""
     site = started(example('count-4', 'rope'), example('count-4', 'script'))
@@ -1178,8 +1200,9 @@ def picture(page, name):
 
 
 TRIES = (
-    try_session, try_changes, try_pro, try_keys_rope, try_sizes, try_policy, try_refusals, try_pace, try_rate, try_latency,
-    try_killed, try_end, try_command, try_lander, try_names_and_pictures, try_stop, try_random, try_face, try_client, try_install,
+    try_session, try_changes, try_pro, try_keys_rope, try_sizes, try_policy, try_refusals, try_pace, try_writes, try_rate,
+    try_latency, try_killed, try_end, try_command, try_lander, try_names_and_pictures, try_stop, try_random, try_face,
+    try_client, try_install,
 )
 
 

@@ -21,6 +21,7 @@ with the machine, to the tick before: each tick of the last ten seconds is kept,
 
 import json
 import queue
+import re
 import tempfile
 import threading
 import time
@@ -48,6 +49,8 @@ LOST = 1.0  # seconds behind the clock from which time is dropped
 PATIENCE = 60  # seconds that something may take that another thread requested
 MOST_WAITING = 100  # keys
 MOST_BREAKPOINTS = 8
+WRITTEN = re.compile(r"write (\d+) (\d+) (\d+)$|(\d+) .* > (\d{3}) (\d{5}) \| ")
+"""A channel write in an answer: "write 30 010 44017", or in a trace's line "30 4071 01010 WRITE 010 > 010 44017 | .."."""
 
 
 class Event(NamedTuple):
@@ -304,9 +307,10 @@ class Session:
         if self._replaying:
             return
         for line in answer.lines:
-            if line.startswith("write "):
+            write = WRITTEN.match(line)
+            if write:
                 self._dirty = True
-                _, cycle_text, channel, value = line.split(" ")
+                cycle_text, channel, value = filter(None, write.groups())
                 for callback in self._callbacks:
                     callback(Write(int(cycle_text), int(channel, 8), int(value, 8)))
 
