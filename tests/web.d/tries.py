@@ -967,6 +967,8 @@ def try_command():
         taken.listen()
         wanted = (3, '', 'agc-web: port: Address already in use')
         judge('a port that is taken', wanted, run(example('verbs', 'rope'), '--port', str(taken.getsockname()[1])))
+    wanted = (3, '', 'agc-web: port: ports are 0 to 65535')
+    judge('ports that are none', [wanted, wanted], [run(example('verbs', 'rope'), '--port', port) for port in ('65536', '-1')])
 
 
 def try_lander():

@@ -1,6 +1,7 @@
 """The command agc-web, and `serve` for programs that bring instruments along."""
 
 import argparse
+import errno
 import os
 import shutil
 import signal
@@ -31,7 +32,8 @@ def serve(
     """Serves the page of a console until Control-C, and returns the script that repeats the session.
 
     The console is at cycle 0, and `detached`. `instruments` are described in agc_web.session. The port is 8437, or
-    a free one if that is taken and none is named. `begin` is called with the session before time can run."""
+    a free one if that is taken and none is named. `begin` is called with the session before time can run. Raises
+    `OSError` if the port cannot be had, or the script cannot be saved."""
     session = Session(console, instruments, watch)
     try:
         film = film_by([_study()], os.fspath(console.rope), form) if _study() else None
@@ -133,6 +135,8 @@ def _bound(
     """Returns a server on a port, or on a free one if none is named and ours is taken."""
     try:
         return Server(session, about, PORT if port is None else port, film)
+    except OverflowError:
+        raise OSError(errno.EINVAL, "ports are 0 to 65535") from None
     except OSError:
         if port is not None:
             raise
