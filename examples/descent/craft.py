@@ -230,7 +230,10 @@ def show_in_browser(words, craft):
     import agc_web
 
     with Console(words.rope, words.script, program=words.program, detached=True) as agc:
-        agc_web.serve(agc, [Instrument(craft)], port=words.port, names=os.path.join(here, "names"), save=words.save)
+        try:
+            agc_web.serve(agc, [Instrument(craft)], port=words.port, names=os.path.join(here, "names"), save=words.save)
+        except OSError as error:
+            sys.exit(f"craft: {'port' if error.filename is None else error.filename}: {error.strerror}")
 
 
 HEAD = "   time  height      up  forward    tilt  thrust   fuel  shown"

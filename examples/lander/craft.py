@@ -119,7 +119,10 @@ def show_in_browser(words):
 
     with Console(ROPE, program=words.program, detached=True) as agc:
         craft = Instrument(Craft(words.angle, words.turning))
-        agc_web.serve(agc, [craft], port=words.port, save=words.save)
+        try:
+            agc_web.serve(agc, [craft], port=words.port, save=words.save)
+        except OSError as error:
+            sys.exit(f"craft: {'port' if error.filename is None else error.filename}: {error.strerror}")
 
 
 def line_of(degrees):

@@ -211,6 +211,23 @@ def try_instrument():
 # guidance and scaling, beside rows worked by hand
 
 
+def try_mistakes():
+    """A mistake in the command line ends the program in a sentence, before the flight."""
+    kept = os.path.join(scratch, "kept")
+    with open(kept, "w") as file:
+        file.write("0 key 1\n")
+    for words, told in (
+        (["--web", "--port", "0", "--save", kept], f"craft: {kept}: has something in it: name another file"),
+        (["--web", "--port", "65536"], "craft: port: ports are 0 to 65535"),
+    ):
+        flight = subprocess.run(
+            [sys.executable, "-B", example.__file__, "--program", console, *words], capture_output=True, text=True, timeout=20
+        )
+        lines = flight.stderr.splitlines() or [""]
+        judge(f"craft.py {' '.join(words)}", (1, "", told), (flight.returncode, flight.stdout, lines[-1]))
+    judge("the file is as it was", "0 key 1\n", read(kept))
+
+
 def place(machine, way, height, forward, up):
     machine.put_both("XN", -way)
     machine.put_both("ZN", height)
@@ -767,6 +784,7 @@ def main():
             (try_flight_keys,),
             (try_1201,),
             (try_instrument,),
+            (try_mistakes,),
             (try_flights, flights),
             (try_1202, alarms),
             (try_alarms, others),

@@ -156,7 +156,7 @@ def try_program():
 def refused(name, words, told):
     """A flight that is not made: its status, and the last line that it says."""
     program = [sys.executable, "-B", example.__file__, "--seconds", "1", "--program", console]
-    flight = subprocess.run([*program, *words], capture_output=True, text=True)
+    flight = subprocess.run([*program, *words], capture_output=True, text=True, timeout=20)
     lines = flight.stderr.splitlines() or [""]
     judge(name, (told[0], "", told[1]), (flight.returncode, flight.stdout, lines[-1]))
 
@@ -177,6 +177,10 @@ def try_refusals():
         for word in ("nan", "inf", "-inf"):
             told = f"craft.py: error: argument {option}: {word} is not finite"
             refused(f"{option} {word}", [f"{option}={word}"], (2, told))
+    web = ["--web", "--port", "0"]
+    refused("--web, --save of a script", [*web, "--save", kept], (1, f"craft: {kept}: has something in it: name another file"))
+    judge("--web leaves it, too", b"0 key 1\n", read(kept))
+    refused("--web at no port", ["--web", "--port", "65536"], (1, "craft: port: ports are 0 to 65535"))
     program = os.path.join(folder, "program")
     refused("no such console", ["--program", program], (1, f"craft: {program}: No such file or directory"))
 

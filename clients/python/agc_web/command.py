@@ -33,7 +33,9 @@ def serve(
 
     The console is at cycle 0, and `detached`. `instruments` are described in agc_web.session. The port is 8437, or
     a free one if that is taken and none is named. `begin` is called with the session before time can run. Raises
-    `OSError` if the port cannot be had, or the script cannot be saved."""
+    `OSError` if the port cannot be had, or if the script cannot be saved or would replace something."""
+    if save is not None and not _is_free(save):
+        raise FileExistsError(errno.EEXIST, "has something in it: name another file", save)
     session = Session(console, instruments, watch)
     try:
         film = film_by([_study()], os.fspath(console.rope), form) if _study() else None
@@ -70,7 +72,7 @@ def main(words: Optional[List[str]] = None) -> int:
         print(text.replace("agc-console: ", "agc-web: ", 1) if "agc-console: " in text else f"agc-web: {text}", file=sys.stderr)
         return 1
     except OSError as error:
-        print(f"agc-web: {error.filename or 'port'}: {error.strerror}", file=sys.stderr)
+        print(f"agc-web: {'port' if error.filename is None else error.filename}: {error.strerror}", file=sys.stderr)
         return 3
     return 0
 
