@@ -971,6 +971,24 @@ def try_command():
     judge('ports that are none', [wanted, wanted], [run(example('verbs', 'rope'), '--port', port) for port in ('65536', '-1')])
 
 
+def try_serve():
+    """A program that has served a page goes on, and Control-C ends it as before."""
+    rope = example('keys', 'rope')
+    program = f"""if True:
+        import agc, agc_web, os, signal, time
+        with agc.Console({rope!r}, program={CONSOLE!r}, detached=True) as console:
+            script = agc_web.serve(console, port=0)
+        try:
+            os.kill(os.getpid(), signal.SIGINT)
+            time.sleep(1)
+            print('nothing happened')
+        except KeyboardInterrupt:
+            print('it ends')"""
+    site = Site([sys.executable, '-c', program])
+    site.do('key', name='4')
+    judge('Control-C, and once more', (0, '\n0 key 4\nit ends\n', ''), site.end())
+
+
 def try_lander():
     """The pilot turns the craft, and goes back with it; the script's flight ends at the angle that is shown."""
     rope = example('lander', 'rope')
@@ -1203,8 +1221,8 @@ def picture(page, name):
 
 TRIES = (
     try_session, try_changes, try_pro, try_keys_rope, try_sizes, try_policy, try_refusals, try_pace, try_writes, try_rate,
-    try_latency, try_killed, try_end, try_command, try_lander, try_names_and_pictures, try_stop, try_random, try_face,
-    try_client, try_install,
+    try_latency, try_killed, try_end, try_command, try_serve, try_lander, try_names_and_pictures, try_stop, try_random,
+    try_face, try_client, try_install,
 )
 
 

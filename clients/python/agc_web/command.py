@@ -37,6 +37,7 @@ def serve(
     if save is not None and not _is_free(save):
         raise FileExistsError(errno.EEXIST, "has something in it: name another file", save)
     session = Session(console, instruments, watch)
+    interrupt = signal.getsignal(signal.SIGINT)
     try:
         film = film_by([_study()], os.fspath(console.rope), form) if _study() else None
         server = _bound(session, _about(console, names, watch), port, film)
@@ -51,6 +52,8 @@ def serve(
         return script
     finally:
         session.close()
+        if signal.getsignal(signal.SIGINT) != interrupt:
+            signal.signal(signal.SIGINT, interrupt)  # which _wait has set aside
 
 
 def main(words: Optional[List[str]] = None) -> int:
