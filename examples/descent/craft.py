@@ -17,7 +17,7 @@ import sys
 
 here = os.path.dirname(os.path.realpath(__file__))
 sys.path.append(os.path.join(here, "..", "..", "clients", "python"))
-from agc import Console, Write  # noqa: E402
+from agc import Console, Ended, Refused, Write  # noqa: E402
 
 ROPE = os.path.join(here, "rope")
 SECOND = 256000 / 3  # cycles
@@ -37,6 +37,7 @@ LAG = 0.2  # seconds, of the engine
 FULL = 45000.0  # N
 DRY = 6500.0  # kg
 LEG = 0.2  # m: a leg's probe touches the ground so high up
+KEYS = (*"0123456789+-", "VERB", "NOUN", "ENTR", "CLR", "RSET", "KEYREL", "PRO")
 
 
 class Craft:
@@ -248,6 +249,15 @@ def line_of(now, craft, panel):
     )
 
 
+def write(path, mode, text):
+    """Writes a text to a file, or ends the program in a sentence."""
+    try:
+        with open(path, mode) as file:
+            file.write(text)
+    except OSError as error:
+        sys.exit(f"craft: cannot write {path}: {error.strerror}")
+
+
 def draw(rows, file):
     """Height, speeds, tilt and thrust over time, where matplotlib is there."""
     try:
@@ -265,19 +275,38 @@ def draw(rows, file):
         axes[place].grid(alpha=0.3)
     axes[1].legend(("up", "forward"))
     axes[-1].set_xlabel("seconds")
-    figure.savefig(file, dpi=80)
+    try:
+        figure.savefig(file, dpi=80)
+    except (OSError, ValueError) as error:
+        sys.exit(f"craft: cannot draw {file}: {error}")
+
+
+def finite(text):
+    """Returns the number that a word of the command line names; infinity and nan are refused."""
+    number = float(text)
+    if not math.isfinite(number):
+        raise argparse.ArgumentTypeError(f"{text} is not finite")
+    return number
+
+
+def key_at(text):
+    """Returns the second and the key that a word of the command line names."""
+    second, _, key = text.partition(":")
+    if key not in KEYS:
+        raise argparse.ArgumentTypeError(f"{text} names no key: SECOND:KEY, as 60:VERB")
+    return finite(second), key
 
 
 def asked():
     words = argparse.ArgumentParser(description="Flies a lunar landing with the rope beside this file.")
-    words.add_argument("--height", type=float, default=2300.0, help="metres above the site at the start (2300)")
-    words.add_argument("--way", type=float, default=7500.0, help="metres before the site (7500)")
-    words.add_argument("--forward", type=float, default=150.0, help="forward speed, m/s (150)")
-    words.add_argument("--down", type=float, default=45.0, help="speed down, m/s (45)")
+    words.add_argument("--height", type=finite, default=2300.0, help="metres above the site at the start (2300)")
+    words.add_argument("--way", type=finite, default=7500.0, help="metres before the site (7500)")
+    words.add_argument("--forward", type=finite, default=150.0, help="forward speed, m/s (150)")
+    words.add_argument("--down", type=finite, default=45.0, help="speed down, m/s (45)")
     words.add_argument("--seed", type=int, default=1, help="for the radar's noise, mass, tilt and the known height (1)")
-    words.add_argument("--key", action="append", default=[], metavar="SECOND:KEY", help="one more key, as 60:VERB")
+    words.add_argument("--key", action="append", type=key_at, default=[], metavar="SECOND:KEY", help="one more key, as 60:VERB")
     words.add_argument("--script", default=os.devnull, help="a script whose events happen as well")
-    words.add_argument("--every", type=float, default=10.0, help="seconds from line to line of the table (10)")
+    words.add_argument("--every", type=finite, default=10.0, help="seconds from line to line of the table (10)")
     words.add_argument("--save", metavar="FILE", help="write the script that repeats the flight")
     words.add_argument("--png", metavar="FILE", help="draw the flight, by matplotlib")
     words.add_argument("--web", action="store_true", help="show craft and DSKY in a browser; you press the keys")
@@ -290,23 +319,26 @@ def asked():
 def main():
     words = asked()
     keys = dict(APPROACH)
-    for key in words.key:
-        second, _, name = key.partition(":")
-        keys[float(second)] = name
+    keys.update(words.key)
     craft = Craft(words.height, words.way, words.forward, words.down, words.seed)
     if words.web:
         show_in_browser(words, craft)
         return
-    rows = []
+    if words.save is not None:
+        write(words.save, "a", "")  # a flight that cannot be saved is not made
+    now, rows = 0.0, []
     every = max(1, round(words.every / STEP))
     with Console(words.rope, words.script, program=words.program) as agc:
         print(HEAD)
-        for now, _ in fly(agc, craft, keys):
-            if round(now / STEP) % every == 0:
-                print(line_of(now, craft, agc.panel()))
-            if round(now / STEP) % 50 == 0:
-                tilt, thrust = math.degrees(craft.tilt), 100 * craft.thrust / FULL
-                rows.append((now, craft.height, craft.up, craft.forward, tilt, thrust))
+        try:
+            for now, _ in fly(agc, craft, keys):
+                if round(now / STEP) % every == 0:
+                    print(line_of(now, craft, agc.panel()))
+                if round(now / STEP) % 50 == 0:
+                    tilt, thrust = math.degrees(craft.tilt), 100 * craft.thrust / FULL
+                    rows.append((now, craft.height, craft.up, craft.forward, tilt, thrust))
+        except Refused as refused:
+            print(f"craft: the flight ends at {now:.2f} s: {refused}", file=sys.stderr)
         print(line_of(now, craft, agc.panel()))
         script = agc.script()
         if craft.touched:
@@ -315,12 +347,14 @@ def main():
         else:
             print("not on the ground")
         print(f"{len(script.splitlines())} events by cycle {agc.cycle}, program {agc.panel()['PROG']}")
-        if words.save:
-            with open(words.save, "w") as file:
-                file.write(script)
+        if words.save is not None:
+            write(words.save, "w", script)
     if words.png:
         draw(rows, words.png)
 
 
 if __name__ == "__main__":
-    main()
+    try:
+        main()
+    except Ended as ended:
+        sys.exit(f"craft: {ended}")

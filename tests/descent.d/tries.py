@@ -216,16 +216,30 @@ def try_mistakes():
     kept = os.path.join(scratch, "kept")
     with open(kept, "w") as file:
         file.write("0 key 1\n")
-    for words, told in (
-        (["--web", "--port", "0", "--save", kept], f"craft: {kept}: has something in it: name another file"),
-        (["--web", "--port", "65536"], "craft: port: ports are 0 to 65535"),
+    nowhere = os.path.join(scratch, "no", "file")
+    for status, words, told in (
+        (1, ["--web", "--port", "0", "--save", kept], f"craft: {kept}: has something in it: name another file"),
+        (1, ["--web", "--port", "65536"], "craft: port: ports are 0 to 65535"),
+        (1, ["--save", nowhere], f"craft: cannot write {nowhere}: No such file or directory"),
+        (1, ["--rope", nowhere], "craft: agc-console: cannot read rope"),
+        (2, ["--height", "nan"], "craft.py: error: argument --height: nan is not finite"),
+        (2, ["--every", "inf"], "craft.py: error: argument --every: inf is not finite"),
+        (2, ["--key", "60:PROG"], "craft.py: error: argument --key: 60:PROG names no key: SECOND:KEY, as 60:VERB"),
+        (2, ["--key", "VERB"], "craft.py: error: argument --key: VERB names no key: SECOND:KEY, as 60:VERB"),
+        (2, ["--key", "x:VERB"], "craft.py: error: argument --key: invalid key_at value: 'x:VERB'"),
     ):
         flight = subprocess.run(
             [sys.executable, "-B", example.__file__, "--program", console, *words], capture_output=True, text=True, timeout=20
         )
         lines = flight.stderr.splitlines() or [""]
-        judge(f"craft.py {' '.join(words)}", (1, "", told), (flight.returncode, flight.stdout, lines[-1]))
+        judge(f"craft.py {' '.join(words)}", (status, "", told), (flight.returncode, flight.stdout, lines[-1]))
     judge("the file is as it was", "0 key 1\n", read(kept))
+    full = os.path.join(scratch, "full")
+    with open(full, "w") as file:
+        file.write("0 input 30 37777\n" * 65536)
+    flight = ran(sys.executable, "-B", example.__file__, "--program", console, "--script", full)
+    lines = flight.stderr.splitlines() or [""]
+    judge("a full script", (0, True), (flight.returncode, lines[-1].startswith("craft: the flight ends at 0.00 s: TooMany")))
 
 
 def place(machine, way, height, forward, up):
