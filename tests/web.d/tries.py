@@ -9,8 +9,10 @@ import http.server
 import importlib.util
 import json
 import os
+import pty
 import random
 import re
+import signal
 import socket
 import statistics
 import subprocess
@@ -989,6 +991,26 @@ def try_serve():
     judge('Control-C, and once more', (0, '\n0 key 4\nit ends\n', ''), site.end())
 
 
+def try_hangup():
+    """A terminal that is closed ends the program, and the script is saved; with nohup the program goes on."""
+    rope, script, saved = example('keys', 'rope'), os.path.join(FOLDER, 'before'), os.path.join(FOLDER, 'hung-up')
+    with open(script, 'w') as file:
+        file.write('5 key 4\n')
+    number, terminal = pty.fork()
+    if number == 0:
+        os.execv(os.path.join(TOP, 'agc-web'), ['agc-web', rope, script, '--port', '0', '--save', saved])
+    with open(terminal, 'rb', buffering=0) as lines:
+        judge('it has begun', True, lines.readline().startswith(b'http://127.0.0.1:'))
+    judge('it ends', True, wait(lambda: os.waitpid(number, os.WNOHANG)[0] == number))
+    with open(saved) as file:
+        judge('the script is saved', '5 key 4\n', file.read())
+    site = Site(['nohup', os.path.join(TOP, 'agc-web'), rope, '--port', '0'])
+    os.killpg(site.process.pid, signal.SIGHUP)
+    time.sleep(0.5)
+    judge('it goes on with nohup', 200, site.do('key', name='4'))
+    judge('Control-C ends it', 0, site.end()[0])
+
+
 def try_lander():
     """The pilot turns the craft, and goes back with it; the script's flight ends at the angle that is shown."""
     rope = example('lander', 'rope')
@@ -1221,8 +1243,8 @@ def picture(page, name):
 
 TRIES = (
     try_session, try_changes, try_pro, try_keys_rope, try_sizes, try_policy, try_refusals, try_pace, try_writes, try_rate,
-    try_latency, try_killed, try_end, try_command, try_serve, try_lander, try_names_and_pictures, try_stop, try_random,
-    try_face, try_client, try_install,
+    try_latency, try_killed, try_end, try_command, try_serve, try_hangup, try_lander, try_names_and_pictures, try_stop,
+    try_random, try_face, try_client, try_install,
 )
 
 

@@ -15,6 +15,7 @@ from agc_web.session import HISTORY, SPEEDS, Session
 
 PORT = 8437
 MOST_NAMES = 5000  # that the page offers
+ENDS = (signal.SIGINT, signal.SIGTERM, signal.SIGHUP)  # Control-C, and the terminal's end
 
 
 def serve(
@@ -29,7 +30,8 @@ def serve(
     open_page: bool = False,
     begin: Optional[Callable[[Session], Any]] = None,
 ) -> str:
-    """Serves the page of a console until Control-C, and returns the script that repeats the session.
+    """Serves the page of a console until Control-C, SIGTERM or the terminal's end, and returns the script that repeats the
+    session.
 
     The console is at cycle 0, and `detached`. `instruments` are described in agc_web.session. The port is 8437, or
     a free one if that is taken and none is named. `begin` is called with the session before time can run. Raises
@@ -37,7 +39,7 @@ def serve(
     if save is not None and not _is_free(save):
         raise FileExistsError(errno.EEXIST, "has something in it: name another file", save)
     session = Session(console, instruments, watch)
-    interrupt = signal.getsignal(signal.SIGINT)
+    before = {number: signal.getsignal(number) for number in ENDS}
     try:
         film = film_by([_study()], os.fspath(console.rope), form) if _study() else None
         server = _bound(session, _about(console, names, watch), port, film)
@@ -52,8 +54,9 @@ def serve(
         return script
     finally:
         session.close()
-        if signal.getsignal(signal.SIGINT) != interrupt:
-            signal.signal(signal.SIGINT, interrupt)  # which _wait has set aside
+        for number, handler in before.items():
+            if signal.getsignal(number) != handler:
+                signal.signal(number, handler)
 
 
 def main(words: Optional[List[str]] = None) -> int:
@@ -149,19 +152,24 @@ def _bound(
 
 
 def _wait(server: Server) -> None:
-    """Serves until Control-C or SIGTERM."""
+    """Serves until one of the signals that end it. What is ignored, as a hang-up by nohup, stays so."""
 
     def end(number: int, frame: Any) -> None:
+        for each in ENDS:
+            signal.signal(each, signal.SIG_IGN)  # a second one does not keep the script from being saved
         raise KeyboardInterrupt
 
-    before = signal.signal(signal.SIGTERM, end)
+    for each in ENDS:
+        if signal.getsignal(each) != signal.SIG_IGN:
+            signal.signal(each, end)
     try:
         server.serve_forever(poll_interval=0.2)
     except KeyboardInterrupt:
-        signal.signal(signal.SIGINT, signal.SIG_IGN)  # a second one does not keep the script from being saved
-        print()
+        try:
+            print()
+        except OSError:
+            pass  # the terminal is gone
     finally:
-        signal.signal(signal.SIGTERM, before)
         server.server_close()
 
 
