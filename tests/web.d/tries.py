@@ -839,6 +839,35 @@ def try_writes():
             session.close()
 
 
+class Odd:
+    """An instrument that shows a value from its third tick on."""
+
+    def __init__(self, value):
+        self.value, self.ticks = value, 0
+
+    def tick(self, console, cycle):
+        self.ticks += 1
+
+    def view(self):
+        return {'title': 'Odd', 'rows': [['Value', self.value if self.ticks > 2 else 0]]}
+
+
+def try_views():
+    """What an instrument shows and is no JSON does not end the session: its panel says what is wrong."""
+    for value, reason in (({1}, 'TypeError'), (float('nan'), 'ValueError'), (float('inf'), 'ValueError')):
+        with Console(example('keys', 'rope'), program=[CONSOLE], detached=True) as console:
+            session = Session(console, [Odd(value)])
+            session.press('4')
+            session.play()
+            row = lambda: json.loads(session.news.since(0, 0)[1])['instruments'][0]['rows'][0]
+            wait(lambda: row()[0] == 'failed' or not session._thread.is_alive(), 5)
+            judge(f'{value}: the panel', ('failed', reason), (row()[0], str(row()[1]).split('(')[0]))
+            judge(f'{value}: the session goes on', True, session._thread.is_alive())
+            if session._thread.is_alive():
+                judge(f'{value}: its script', ['key 4'], keys_in(session.script()))
+                session.close()
+
+
 def try_rate():
     """A machine that writes all the time sends at most fifty messages a second, and not much fewer."""
     site = started(example('count-4', 'rope'), example('count-4', 'script'))
@@ -1242,8 +1271,8 @@ def picture(page, name):
 
 
 TRIES = (
-    try_session, try_changes, try_pro, try_keys_rope, try_sizes, try_policy, try_refusals, try_pace, try_writes, try_rate,
-    try_latency, try_killed, try_end, try_command, try_serve, try_hangup, try_lander, try_names_and_pictures, try_stop,
+    try_session, try_changes, try_pro, try_keys_rope, try_sizes, try_policy, try_refusals, try_pace, try_writes, try_views,
+    try_rate, try_latency, try_killed, try_end, try_command, try_serve, try_hangup, try_lander, try_names_and_pictures, try_stop,
     try_random, try_face, try_client, try_install,
 )
 

@@ -770,9 +770,11 @@ class Session:
             self.news.publish("instruments", [self._view(each) for each in self.instruments])
 
     def _view(self, instrument: Any) -> Any:
-        """Returns what an instrument shows; if it fails, what went wrong."""
+        """Returns what an instrument shows; if it fails or shows what is no JSON, what went wrong."""
         try:
-            return instrument.view()
+            view = instrument.view()
+            json.dumps(view, allow_nan=False)
+            return view
         except Exception as error:
             return {"title": type(instrument).__name__, "rows": [["failed", repr(error)]]}
 
