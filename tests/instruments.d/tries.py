@@ -8,6 +8,7 @@ import io
 import os
 import random
 import re
+import shlex
 import signal
 import socket
 import struct
@@ -769,6 +770,9 @@ def try_saving():
         "instruments: port 20000 of 192.0.2.1: Cannot assign requested address",
     ]
     judge("an address that others reach", (1, "", told), (run.returncode, run.stdout, run.stderr.splitlines()))
+    program = Program(rope_from("a rope", *with_vectors("14000")))
+    judge("a name with a blank", 0, program.end())
+    judge("it is quoted", ["./agc", program.rope, program.file, "--limit"], shlex.split(program.out)[:4])
     program = Program(rope_of("keys"), save=False)
     typed(program)
     judge("without --save", 0, program.end())

@@ -12,6 +12,7 @@ import os
 import pty
 import random
 import re
+import shlex
 import signal
 import socket
 import statistics
@@ -985,6 +986,16 @@ def try_end():
     judge('a file with something in it is not written over', (1, f'agc-web: {saved} has something in it: name another file\n'), (again.returncode, again.stderr))
 
 
+def try_blanks():
+    """What is printed to repeat a session is a command for the shell, though the names of files have blanks."""
+    rope, saved = os.path.join(FOLDER, 'a rope'), os.path.join(FOLDER, "the pilot's script")
+    with open(example('keys', 'rope'), 'rb') as source, open(rope, 'wb') as copy:
+        copy.write(source.read())
+    site = started(rope, '--save', saved)
+    site.do('key', name='4')
+    judge('the words of the command', ['./agc', rope, saved, '--limit', '1'], shlex.split(site.end()[1]))
+
+
 def try_command():
     """Mistakes in the command line, and files that are refused."""
     def run(*words):
@@ -1272,8 +1283,8 @@ def picture(page, name):
 
 TRIES = (
     try_session, try_changes, try_pro, try_keys_rope, try_sizes, try_policy, try_refusals, try_pace, try_writes, try_views,
-    try_rate, try_latency, try_killed, try_end, try_command, try_serve, try_hangup, try_lander, try_names_and_pictures, try_stop,
-    try_random, try_face, try_client, try_install,
+    try_rate, try_latency, try_killed, try_end, try_blanks, try_command, try_serve, try_hangup, try_lander, try_names_and_pictures,
+    try_stop, try_random, try_face, try_client, try_install,
 )
 
 

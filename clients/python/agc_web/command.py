@@ -3,6 +3,7 @@
 import argparse
 import errno
 import os
+import shlex
 import shutil
 import signal
 import sys
@@ -185,4 +186,4 @@ def _tell(script: str, save: Optional[str], rope: str, form: Optional[str], limi
         print(script, end="")  # so that nothing is lost
         raise
     options = f" --form {form}" if form else ""
-    print(f"./agc {rope} {save} --limit {limit}{options}")
+    print(f"./agc {shlex.quote(rope)} {shlex.quote(save)} --limit {limit}{options}")

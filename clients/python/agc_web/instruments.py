@@ -14,6 +14,7 @@ import argparse
 import ipaddress
 import os
 import selectors
+import shlex
 import signal
 import socket
 import sys
@@ -602,7 +603,8 @@ def _keep(session: Session, asked: argparse.Namespace, file: Optional[ScriptFile
             status = UNSAVED
         else:
             options = f" --form {asked.form}" if asked.form else ""
-            print(f"./agc {asked.rope} {file.path} --limit {session.limit_to_repeat()}{options}", flush=True)
+            files = f"{shlex.quote(asked.rope)} {shlex.quote(file.path)}"
+            print(f"./agc {files} --limit {session.limit_to_repeat()}{options}", flush=True)
             return SAVED
     print(script, end="", flush=True)
     return status
