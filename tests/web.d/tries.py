@@ -996,6 +996,19 @@ def try_blanks():
     judge('the words of the command', ['./agc', rope, saved, '--limit', '1'], shlex.split(site.end()[1]))
 
 
+def try_two():
+    """Of two sessions that save to the same file, the second one leaves the script of the first, and prints its own."""
+    saved = os.path.join(FOLDER, 'of-two')
+    first, second = (started(example('keys', 'rope'), '--save', saved) for _ in range(2))
+    for site, key in ((first, '4'), (second, '7')):
+        site.do('key', name=key)
+    judge('the first one saves', 0, first.end()[0])
+    told = f'agc-web: {saved}: has something in it: name another file\n'
+    judge('the second one prints', (3, '\n0 key 7\n', told), second.end())
+    with open(saved) as file:
+        judge('the file is as it was', '0 key 4\n', file.read())
+
+
 def try_command():
     """Mistakes in the command line, and files that are refused."""
     def run(*words):
@@ -1283,8 +1296,8 @@ def picture(page, name):
 
 TRIES = (
     try_session, try_changes, try_pro, try_keys_rope, try_sizes, try_policy, try_refusals, try_pace, try_writes, try_views,
-    try_rate, try_latency, try_killed, try_end, try_blanks, try_command, try_serve, try_hangup, try_lander, try_names_and_pictures,
-    try_stop, try_random, try_face, try_client, try_install,
+    try_rate, try_latency, try_killed, try_end, try_blanks, try_two, try_command, try_serve, try_hangup, try_lander,
+    try_names_and_pictures, try_stop, try_random, try_face, try_client, try_install,
 )
 
 

@@ -37,8 +37,8 @@ def serve(
     The console is at cycle 0, and `detached`. `instruments` are described in agc_web.session. The port is 8437, or
     a free one if that is taken and none is named. `begin` is called with the session before time can run. Raises
     `OSError` if the port cannot be had, or if the script cannot be saved or would replace something."""
-    if save is not None and not _is_free(save):
-        raise FileExistsError(errno.EEXIST, "has something in it: name another file", save)
+    if save is not None:
+        _check_free(save)
     session = Session(console, instruments, watch)
     before = {number: signal.getsignal(number) for number in ENDS}
     try:
@@ -88,6 +88,12 @@ def _is_free(path: str) -> bool:
     """Makes a file, unless it is there; returns whether there is nothing in it."""
     with open(path, "a", encoding="ascii"):
         return os.path.getsize(path) == 0
+
+
+def _check_free(path: str) -> None:
+    """Raises `OSError` if the script cannot be saved to a file, or would write over something."""
+    if not _is_free(path):
+        raise FileExistsError(errno.EEXIST, "has something in it: name another file", path)
 
 
 def _arguments() -> argparse.ArgumentParser:
@@ -180,6 +186,7 @@ def _tell(script: str, save: Optional[str], rope: str, form: Optional[str], limi
         print(script, end="")
         return
     try:
+        _check_free(save)  # another session may have saved there
         with open(save, "w", encoding="ascii") as file:
             file.write(script)
     except OSError:
