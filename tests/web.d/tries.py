@@ -1080,6 +1080,14 @@ def try_lander():
     page.window.key('ArrowRight', 'keyUp')
     judge('the held angle turns', True, wait(lambda: float(page.value(rows)['Held angle'][:-1]) > 3))
     wait(lambda: float(page.value(rows)['Angle'][:-1]) > 3)
+    page.window.key('ArrowRight', 'keyDown')
+    page.see("document.querySelectorAll('.controls .held').length", 1)
+    page.value("dispatchEvent(new Event('blur')); undefined")
+    time.sleep(0.3)
+    held = page.value(rows)['Held angle']
+    time.sleep(0.5)
+    judge('a window that loses the keyboard lets the button up', held, page.value(rows)['Held angle'])
+    page.window.key('ArrowRight', 'keyUp')
     page.pause()
     compare_flight(page, site, rope, rows)
     judge('the pilot is asked', 409, site.do('go', cycle=0))
@@ -1151,6 +1159,9 @@ def try_stop():
     with Console(rope, program=[CONSOLE]) as console:
         way = [line.split(' | ')[0] for line in console.step(100)]
     judge('the way there', way, [line_of(page, '#history li', i) for i in range(len(page.texts('#history li')))])
+    page.value("dispatchEvent(new Event('blur')); undefined")
+    time.sleep(0.5)
+    judge('a window that loses the keyboard and holds nothing lets nothing up', '', page.text('trouble'))
     page.type('7')
     judge('it takes no key', True, wait(lambda: 'has stopped' in page.text('trouble')))
     judge('and no step', 409, site.do('step'))

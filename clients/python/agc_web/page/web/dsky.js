@@ -56,7 +56,7 @@ function holdPro(button) {
 
 // Holds PRO down, or lets it come up: only what holds it lets it up.
 function setPro(holder, down) {
-  if (down ? proHeldBy : proHeldBy !== holder) return;
+  if (down ? proHeldBy : !holder || proHeldBy !== holder) return;
   proHeldBy = down ? holder : '';
   ask('pro', { down, window: WINDOW });
 }

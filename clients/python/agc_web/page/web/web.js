@@ -145,6 +145,12 @@ function onKeyUp(event) {
   if (HOLD_KEYS.has(event.key)) holdByKey(event.key, false);
 }
 
+// Lets all come up that is held: another window gets the keyboard, so that we do not see what comes up.
+function letGo() {
+  setPro(proHeldBy, false);
+  for (const button of document.querySelectorAll('[data-hold]')) button.hold(false);
+}
+
 function start() {
   buildFace();
   buildInspector();
@@ -162,7 +168,7 @@ function start() {
   find('slider').addEventListener('change', slide);
   document.addEventListener('keydown', onKeyDown);
   document.addEventListener('keyup', onKeyUp);
-  window.addEventListener('blur', () => setPro(proHeldBy, false));
+  window.addEventListener('blur', letGo);
   // What was clicked or chosen by a pointer does not keep the focus, so that the keys stay the DSKY's.
   document.addEventListener('pointerdown', () => { byPointer = true; }, true);
   document.addEventListener('mousedown', (event) => { if (event.target.closest('button')) event.preventDefault(); });
