@@ -829,6 +829,23 @@ def try_ends():
     judge("its script is saved", ["key 4"], program.commands())
 
 
+def try_hangup():
+    """a terminal that is closed: it ends the program, but not with nohup"""
+    program = Program(rope_of("keys"))
+    typed(program)
+    judge("a hang-up ends it", 0, program.end(signal.SIGHUP))
+    judge("its script is saved", ["key 4"], program.commands())
+    usual = signal.signal(signal.SIGHUP, signal.SIG_IGN)  # as nohup does for its program
+    try:
+        program = Program(rope_of("keys"))
+    finally:
+        signal.signal(signal.SIGHUP, usual)
+    program.process.send_signal(signal.SIGHUP)
+    time.sleep(0.5)
+    judge("with nohup it goes on", None, program.process.poll())
+    judge("Control-C ends it", 0, program.end(signal.SIGINT))
+
+
 def try_going_back():
     """a session with a page: time goes back, and what was dropped comes back"""
     with Beside(rope_of("keys")) as beside:
@@ -896,7 +913,7 @@ def try_page():
 for each in (
     try_bytes, try_steps, try_commands, try_lamps, try_limits, try_addresses, try_keys, try_second_keyboard, try_pro,
     try_counters, try_four, try_rubbish, try_keeping_waiting, try_due, try_gaps, try_saving, try_far, try_speed, try_ends,
-    try_going_back, try_late, try_page,
+    try_hangup, try_going_back, try_late, try_page,
 ):
     begun = time.monotonic()
     try:

@@ -562,7 +562,8 @@ def _serve(session: Session, asked: argparse.Namespace, file: Optional[ScriptFil
     """Serves a session until it is to end, and saves its script."""
     end = threading.Event()
     for number in (signal.SIGINT, signal.SIGTERM, signal.SIGHUP):
-        signal.signal(number, lambda *_: end.set())
+        if number != signal.SIGHUP or signal.getsignal(number) != signal.SIG_IGN:  # by nohup
+            signal.signal(number, lambda *_: end.set())
     try:
         if _is_reachable(asked.listen):
             _say(f"warning: whoever reaches {asked.listen} can use the machine: the protocol knows no passwords")
