@@ -472,6 +472,8 @@ class Console:
 
     def tables(self, spec: str) -> List[str]:
         """The lines of the Executive's tables, of which the spec is that of `agc --watch`."""
+        if spec.count(",") < 2:  # the console would take it for the place of a breakpoint
+            raise Refused("BadSpec: tables are seven octal numbers with commas between")
         return self.say(f"watch {spec}").lines
 
     def registers(self) -> Registers:

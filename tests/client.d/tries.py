@@ -153,6 +153,10 @@ def try_faults():
         ahead = "Ahead: the machine has not reached this cycle; go to C runs on to it"
         judge("a cycle ahead", ahead, raised(Refused, agc.back, agc.cycle + 1))
         judge("a key with another name", "BadEvent: unknown key; did you mean ENTR?", raised(Refused, agc.key, "ENTER"))
+        no_tables = "BadSpec: tables are seven octal numbers with commas between"
+        for spec in ("", "0100", "12,2000", "1,2,3"):
+            judge(f"tables at {spec!r}", no_tables, raised(Refused, agc.tables, spec)[:len(no_tables)])
+        judge("no breakpoint was set", [], agc.breaks())
         judge("two lines are no command", "no command: 'go 1\\ngo 1'", raised(ValueError, agc.say, "go 1\ngo 1"))
         judge("nothing has changed", (0, 0), (agc.say("writes").cycle, agc.count_of_writes()))
         agc.close()

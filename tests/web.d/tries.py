@@ -1012,10 +1012,12 @@ def try_two():
 def try_command():
     """Mistakes in the command line, and files that are refused."""
     def run(*words):
-        done = subprocess.run([os.path.join(TOP, 'agc-web'), *words], capture_output=True, text=True)
+        done = subprocess.run([os.path.join(TOP, 'agc-web'), *words], capture_output=True, text=True, timeout=20)
         return done.returncode, done.stdout, done.stderr.splitlines()[-1]
     judge('no such rope', (1, '', 'agc-web: cannot read rope'), run('/no/such/rope'))
     judge('tables that cannot be', (1, ''), run(example('verbs', 'rope'), '--watch', '1,2')[:2])
+    told = 'agc-web: BadSpec: tables are seven octal numbers with commas between'
+    judge('a cell is no table', (1, '', told), run(example('verbs', 'rope'), '--port', '0', '--watch', '0100'))
     judge('no rope', 2, run()[0])
     with socket.socket() as taken:
         taken.bind(('127.0.0.1', 0))
