@@ -869,6 +869,25 @@ def try_views():
                 session.close()
 
 
+def try_look():
+    """A look at the machine that is refused, and once more as time stops, ends no session: it says why."""
+    with Console(example('keys', 'rope'), program=[CONSOLE], detached=True) as console:
+        session = Session(console)
+        session.press('4')
+        session.watch = 'none'  # is refused at each look
+        session.play()
+        shown = lambda: json.loads(session.news.since(0, 0)[1])['time']
+        wait(lambda: shown()['trouble'] or not session._thread.is_alive())
+        judge('the thread goes on', True, session._thread.is_alive())
+        if session._thread.is_alive():
+            wait(lambda: not shown()['playing'])
+            judge('time stands, and the page says why', (False, 'BadSpec'), (shown()['playing'], shown()['trouble'].split(':')[0]))
+            session.watch = None
+            session.step()
+            judge('the script', ['key 4'], keys_in(session.script()))
+            session.close()
+
+
 def try_rate():
     """A machine that writes all the time sends at most fifty messages a second, and not much fewer."""
     site = started(example('count-4', 'rope'), example('count-4', 'script'))
@@ -1309,7 +1328,7 @@ def picture(page, name):
 
 TRIES = (
     try_session, try_changes, try_pro, try_keys_rope, try_sizes, try_policy, try_refusals, try_pace, try_writes, try_views,
-    try_rate, try_latency, try_killed, try_end, try_blanks, try_two, try_command, try_serve, try_hangup, try_lander,
+    try_look, try_rate, try_latency, try_killed, try_end, try_blanks, try_two, try_command, try_serve, try_hangup, try_lander,
     try_names_and_pictures, try_stop, try_random, try_face, try_client, try_install,
 )
 

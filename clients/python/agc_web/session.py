@@ -281,6 +281,8 @@ class Session:
             self._look()
         except Ended as ended:
             self._note_end(ended)
+        except Exception:  # what went wrong first is shown; the thread goes on, so that the script can be had
+            self._publish_time()
 
     def _note_end(self, ended: Ended) -> None:
         """Notes that the console has ended, or another one that looks for breakpoints; time stops."""
