@@ -5,6 +5,7 @@
 What is wanted is worked out by hand from the examples' sources and from docs/WEB.md, or is what agc, agc-console and
 agc-study make of the script that the page lets one download. The last line is 'N passed, M failed'.
 """
+import http.client
 import http.server
 import importlib.util
 import json
@@ -22,6 +23,7 @@ import threading
 import time
 
 from agc import Console, Error
+from agc_web.server import Server
 from agc_web.session import KEYS, Session, Unable
 from site_of import Site, wait
 from window import Window
@@ -773,6 +775,23 @@ def try_refusals():
     site.end()
 
 
+def try_port():
+    """Browsers leave port 80 out of the host and the origin; at other ports such names are refused."""
+    server = Server(None, {})
+    connection = http.client.HTTPConnection('127.0.0.1', server.port)
+    threading.Thread(target=server.serve_forever, daemon=True).start()
+    for port, wanted in ((server.port, 403), (80, 200)):
+        server.port = port  # as if it were bound there
+        for name in ('127.0.0.1', 'localhost'):
+            connection.request('GET', '/', headers={'Host': name, 'Origin': f'http://{name}', 'X-Token': server.token})
+            with connection.getresponse() as answer:
+                answer.read()
+            judge(f'{name} at port {port}', wanted, answer.status)
+    connection.close()
+    server.shutdown()
+    server.server_close()
+
+
 def try_sockets(site):
     """It listens on 127.0.0.1 alone. Halves of requests and browsers that read nothing hold nobody up."""
     with socket.socket() as other:
@@ -1327,9 +1346,9 @@ def picture(page, name):
 
 
 TRIES = (
-    try_session, try_changes, try_pro, try_keys_rope, try_sizes, try_policy, try_refusals, try_pace, try_writes, try_views,
-    try_look, try_rate, try_latency, try_killed, try_end, try_blanks, try_two, try_command, try_serve, try_hangup, try_lander,
-    try_names_and_pictures, try_stop, try_random, try_face, try_client, try_install,
+    try_session, try_changes, try_pro, try_keys_rope, try_sizes, try_policy, try_refusals, try_port, try_pace, try_writes,
+    try_views, try_look, try_rate, try_latency, try_killed, try_end, try_blanks, try_two, try_command, try_serve, try_hangup,
+    try_lander, try_names_and_pictures, try_stop, try_random, try_face, try_client, try_install,
 )
 
 

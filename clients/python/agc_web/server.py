@@ -80,9 +80,10 @@ class Server(ThreadingHTTPServer):
         return f"http://127.0.0.1:{self.port}/?token={self.token}"
 
     @property
-    def hosts(self) -> Tuple[str, str]:
-        """The names by which a browser may call us."""
-        return f"127.0.0.1:{self.port}", f"localhost:{self.port}"
+    def hosts(self) -> Tuple[str, ...]:
+        """The names by which a browser may call us. Browsers leave out port 80."""
+        names = ("127.0.0.1", "localhost")
+        return (*(f"{name}:{self.port}" for name in names), *(names if self.port == 80 else ()))
 
     def hold_pro(self, window: str, down: bool) -> None:
         """Presses PRO for a window, or lets it come up."""
