@@ -904,6 +904,8 @@ def try_look():
             session.watch = None
             session.step()
             judge('the script', ['key 4'], keys_in(session.script()))
+            console.script = lambda: console.tables('none')  # is refused, as if there were no memory
+            judge('the script if it is refused', ['key 4'], keys_in(session.script()))
             session.close()
 
 

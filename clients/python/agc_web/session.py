@@ -166,7 +166,7 @@ class Session:
         self._callbacks.append(callback)
 
     def script(self) -> str:
-        """Returns the script that repeats the session; from the journal if the console has ended."""
+        """Returns the script that repeats the session; from the journal if the console does not give it."""
         return self.call(self._script)
 
     def limit_to_repeat(self) -> int:
@@ -737,6 +737,8 @@ class Session:
                 return self.console.script()
             except Ended as ended:
                 self._note_end(ended)
+            except Refused:
+                pass  # it has no memory for the script
         return self._script_of_journal()
 
     def _script_of_journal(self) -> str:
