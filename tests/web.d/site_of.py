@@ -57,14 +57,14 @@ class Site:
     def script(self):
         return self.request('GET', '/script')[2]
 
-    def stream(self, size=None):
-        """Opens the news, and returns the socket and what it reads by; with a buffer of this size."""
+    def stream(self, size=None, window=''):
+        """Opens the news for a window, and returns the socket and what it reads by; with a buffer of this size."""
         connection = socket.socket()
         if size:
             connection.setsockopt(socket.SOL_SOCKET, socket.SO_RCVBUF, size)
         connection.settimeout(LONGEST)
         connection.connect(('127.0.0.1', self.port))
-        connection.sendall(f'GET /events?token={self.token} HTTP/1.1\r\nHost: {self.host}\r\n\r\n'.encode())
+        connection.sendall(f'GET /events?token={self.token}&window={window} HTTP/1.1\r\nHost: {self.host}\r\n\r\n'.encode())
         return connection, connection.makefile('rb')
 
     def messages(self, seconds):

@@ -756,7 +756,7 @@ def try_refusals():
         ('no cycle', 400, lambda: post({'do': 'go', 'cycle': '1'})),
         ('no breakpoint', 400, lambda: post({'do': 'break', 'place': '4100\nkey 7'})),
         ('a breakpoint elsewhere', 400, lambda: post({'do': 'break', 'place': '7777777'})),
-        ('no instrument', 400, lambda: post({'do': 'control', 'instrument': 0, 'name': 'x', 'down': True})),
+        ('no instrument', 400, lambda: post({'do': 'control', 'instrument': 0, 'name': 'x', 'down': True, 'window': 'w'})),
         ('no bank', 400, lambda: site.request('POST', '/look', {'bank': 8})[0]),
         ('too many cells', 400, lambda: site.request('POST', '/look', {'cells': ['0100'] * 65})[0]),
         ('no channels', 400, lambda: site.request('POST', '/look', {'channels': [-1]})[0]),
@@ -1086,6 +1086,38 @@ def try_serve():
     judge('Control-C, and once more', (0, '\n0 key 4\nit ends\n', ''), site.end())
 
 
+def try_gone():
+    """A button of an instrument comes up as the window goes that holds it, and not with another window."""
+    program = f"""if True:
+        import agc, agc_web
+
+        class Buttons:
+            down = ()
+            def tick(self, console, cycle):
+                pass
+            def control(self, name, down):
+                self.down = sorted({{*self.down, name}} if down else {{*self.down}} - {{name}})
+            def view(self):
+                return {{'title': 'Buttons', 'rows': [['Down', ' '.join(self.down)]]}}
+
+        with agc.Console({example('keys', 'rope')!r}, program={CONSOLE!r}, detached=True) as console:
+            agc_web.serve(console, [Buttons()], port=0)"""
+    site = Site([sys.executable, '-c', program])
+    down = lambda: site.state()['instruments'][0]['rows'][0][1]
+    windows = {name: site.stream(window=name) for name in ('one', 'two')}
+    for window, name in (('one', 'left'), ('two', 'right'), ('two', 'up')):
+        judge(f'{name} is held', 200, site.do('control', instrument=0, name=name, down=True, window=window))
+    judge('up is let up', 200, site.do('control', instrument=0, name='up', down=False, window='two'))
+    judge('what is held', 'left right', down())
+    site.do('play')  # so that there are news, which find that a window has gone
+    for window, wanted in (('one', 'right'), ('two', '')):
+        for each in windows[window]:
+            each.close()
+        wait(lambda: down() == wanted, 10)
+        judge(f'after window {window} has gone', wanted, down())
+    site.end()
+
+
 def try_hangup():
     """A terminal that is closed ends the program, and the script is saved; with nohup the program goes on."""
     rope, script, saved = example('keys', 'rope'), os.path.join(FOLDER, 'before'), os.path.join(FOLDER, 'hung-up')
@@ -1113,7 +1145,7 @@ def try_lander():
     page = Page(site)
     rows = "Object.fromEntries([...document.querySelectorAll('.rows div')].map((row) => [...row.children].map((each) => each.textContent)))"
     judge('the craft stands beside the DSKY', True, wait(lambda: page.value(rows).get('Angle') == '+2.00°'))
-    judge('no such control', 400, site.do('control', instrument=0, name='forward', down=True))
+    judge('no such control', 400, site.do('control', instrument=0, name='forward', down=True, window='w'))
     page.type('Space')
     page.state('running')
     page.window.key('ArrowRight', 'keyDown')
@@ -1349,8 +1381,8 @@ def picture(page, name):
 
 TRIES = (
     try_session, try_changes, try_pro, try_keys_rope, try_sizes, try_policy, try_refusals, try_port, try_pace, try_writes,
-    try_views, try_look, try_rate, try_latency, try_killed, try_end, try_blanks, try_two, try_command, try_serve, try_hangup,
-    try_lander, try_names_and_pictures, try_stop, try_random, try_face, try_client, try_install,
+    try_views, try_look, try_rate, try_latency, try_killed, try_end, try_blanks, try_two, try_command, try_serve, try_gone,
+    try_hangup, try_lander, try_names_and_pictures, try_stop, try_random, try_face, try_client, try_install,
 )
 
 

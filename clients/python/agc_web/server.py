@@ -70,6 +70,7 @@ class Server(ThreadingHTTPServer):
         self.film = film
         self.token = secrets.token_urlsafe(24)
         self._holder = ""
+        self._held: Dict[Tuple[int, str], str] = {}  # the windows that hold buttons of instruments
         self._room = threading.BoundedSemaphore(MOST_CONNECTIONS)
         super().__init__(("127.0.0.1", port), Handler)
         self.port = self.server_address[1]
@@ -90,13 +91,27 @@ class Server(ThreadingHTTPServer):
         self.session.press("PRO" if down else "PRO up")
         self._holder = window if down else ""
 
-    def release_pro(self, window: str) -> None:
-        """Lets PRO come up if a window that has gone held it."""
+    def hold_control(self, window: str, instrument: int, name: str, down: bool) -> None:
+        """Presses a button of an instrument for a window, or lets it come up."""
+        self.session.control(instrument, name, down)
+        if down:
+            self._held[instrument, name] = window
+        else:
+            self._held.pop((instrument, name), None)
+
+    def release(self, window: str) -> None:
+        """Lets PRO and the buttons of instruments come up that a window that has gone held."""
         if window and self._holder == window:
             try:
                 self.hold_pro(window, False)
             except (Unable, Ended):
                 pass
+        for (instrument, name), holder in list(self._held.items()):
+            if window and holder == window:
+                try:
+                    self.hold_control(window, instrument, name, False)
+                except (Unable, Ended):
+                    pass
 
     def process_request(self, request: Any, client_address: Any) -> None:
         """Starts a thread for a connection, if there is room for one."""
@@ -261,7 +276,7 @@ class Handler(BaseHTTPRequestHandler):
                 self._send_event(parts)
                 time.sleep(NEWS)
         finally:
-            self.server.release_pro(window)
+            self.server.release(window)
 
     def _send_event(self, text: str) -> None:
         """Sends one message; a comment if there is nothing to say."""
@@ -346,8 +361,8 @@ COMMANDS: Dict[str, Callable[[Server, Dict[str, Any]], None]] = {
     "undo": lambda server, body: server.session.undo(is_sure(body)),
     "break": lambda server, body: server.session.add_breakpoint(item(body, "place", str)),
     "unbreak": lambda server, body: server.session.remove_breakpoint(item(body, "place", str)),
-    "control": lambda server, body: server.session.control(
-        item(body, "instrument", int), item(body, "name", str), item(body, "down", bool)
+    "control": lambda server, body: server.hold_control(
+        item(body, "window", str), item(body, "instrument", int), item(body, "name", str), item(body, "down", bool)
     ),
 }
 

@@ -38,7 +38,7 @@ function buildDial() {
 }
 
 function buildControls(controls, instrument) {
-  const tell = (name, down) => ask('control', { instrument, name, down });
+  const tell = (name, down) => ask('control', { instrument, name, down, window: WINDOW });
   return make('p', { class: 'row controls', role: 'group', 'aria-label': 'Controls' }, ...controls.map(({ name, label, key }) => {
     const button = make('button', { type: 'button', 'data-hold': key || '' }, label);
     holdable(button, (down) => tell(name, down));
