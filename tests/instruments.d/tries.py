@@ -125,7 +125,7 @@ class Program:
 
     saved = 0
 
-    def __init__(self, rope, *words, script=None, save=True):
+    def __init__(self, rope, *words, script=None, save=True, folder=None):
         Program.saved += 1
         self.rope = rope
         self.file = os.path.join(scratch, f"saved-{Program.saved}")
@@ -135,7 +135,7 @@ class Program:
         line += ["--port", str(self.port), "--program", console, *words]
         line += ["--save", self.file] if save else []
         with open(self.told, "w") as told:
-            self.process = subprocess.Popen(line, stdout=subprocess.PIPE, stderr=told, text=True)
+            self.process = subprocess.Popen(line, stdout=subprocess.PIPE, stderr=told, text=True, cwd=folder)
         atexit.register(self.process.kill)  # one that a failed case has left
         self.wait_for("instruments: ports")
 
@@ -734,7 +734,10 @@ def typed(program):
 
 def try_saving():
     """files that cannot be saved to, ports that are taken, and ends"""
-    program = Program(rope_of("keys"))
+    program = Program(rope_of("keys"), folder=scratch)
+    judge("it ends", 0, program.end())
+    judge("the line in another folder", f"{top}/agc {program.rope} {program.file} --limit", program.out.rsplit(" ", 1)[0])
+    program = Program(rope_of("keys"), folder=top)
     typed(program)
     judge("Control-C ends it", 0, program.end(signal.SIGINT))
     judge("the line that repeats it", f"./agc {program.rope} {program.file} --limit", program.out.rsplit(" ", 1)[0])

@@ -15,9 +15,9 @@ class Site:
 
     started = []
 
-    def __init__(self, words, environment=None):
+    def __init__(self, words, environment=None, folder=None):
         began = time.monotonic()
-        self.process = subprocess.Popen(words, stdout=subprocess.PIPE, stderr=subprocess.PIPE, text=True, start_new_session=True, env=environment)
+        self.process = subprocess.Popen(words, stdout=subprocess.PIPE, stderr=subprocess.PIPE, text=True, start_new_session=True, env=environment, cwd=folder)
         Site.started.append(self)
         self.line = self.process.stdout.readline()
         self.url = self.line.split(' ')[0]

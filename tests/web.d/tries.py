@@ -1001,7 +1001,7 @@ def try_killed():
 def try_end():
     """Control-C: the script is saved, what repeats it is printed, the page says so, and no process is left."""
     saved, rope = os.path.join(FOLDER, 'saved'), example('verbs', 'rope')
-    site = started(rope, '--save', saved)
+    site = started(rope, '--save', saved, folder=TOP)
     page = Page(site)
     page.type('Space')
     page.state('running')
@@ -1027,13 +1027,18 @@ def try_end():
 
 
 def try_blanks():
-    """What is printed to repeat a session is a command for the shell, though the names of files have blanks."""
-    rope, saved = os.path.join(FOLDER, 'a rope'), os.path.join(FOLDER, "the pilot's script")
+    """What is printed to repeat a session is a command for the shell here, though the names of files have blanks."""
+    rope = os.path.join(FOLDER, 'a rope')
     with open(example('keys', 'rope'), 'rb') as source, open(rope, 'wb') as copy:
         copy.write(source.read())
-    site = started(rope, '--save', saved)
-    site.do('key', name='4')
-    judge('the words of the command', ['./agc', rope, saved, '--limit', '1'], shlex.split(site.end()[1]))
+    for folder, program in ((TOP, './agc'), (FOLDER, os.path.join(TOP, 'agc'))):
+        saved = os.path.join(FOLDER, f"the pilot's script for {os.path.basename(folder)}")
+        site = started(rope, '--save', saved, folder=folder)
+        site.do('key', name='4')
+        line = site.end()[1]
+        judge(f'the words of the command in {folder}', [program, rope, saved, '--limit', '1'], shlex.split(line))
+        done = subprocess.run(line, shell=True, cwd=folder, stdout=subprocess.DEVNULL)
+        judge('the shell runs it', 0, done.returncode)
 
 
 def try_two():

@@ -128,6 +128,15 @@ def _study() -> Optional[str]:
     return os.path.normpath(beside) if os.access(beside, os.X_OK) else shutil.which("agc-study")
 
 
+def shell_agc() -> str:
+    """Returns how the shell here starts the program agc: the one in the folder of the client, two levels up, or the one on
+    the path."""
+    beside = os.path.normpath(os.path.join(os.path.dirname(os.path.realpath(agc.__file__)), "..", "..", "agc"))
+    if not os.access(beside, os.X_OK):
+        return "agc"
+    return "./agc" if os.path.exists("agc") and os.path.samefile("agc", beside) else shlex.quote(beside)
+
+
 def _about(console: agc.Console, names: Optional[str], watch: Optional[str]) -> Dict[str, Any]:
     """Returns the first message to the page."""
     return {
@@ -193,4 +202,4 @@ def _tell(script: str, save: Optional[str], rope: str, form: Optional[str], limi
         print(script, end="")  # so that nothing is lost
         raise
     options = f" --form {form}" if form else ""
-    print(f"./agc {shlex.quote(rope)} {shlex.quote(save)} --limit {limit}{options}")
+    print(f"{shell_agc()} {shlex.quote(rope)} {shlex.quote(save)} --limit {limit}{options}")

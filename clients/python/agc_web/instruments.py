@@ -27,6 +27,7 @@ from typing import Callable, Deque, Dict, List, NamedTuple, Optional, Tuple
 
 from agc import LAST_CYCLE, Console, Ended, Error, Refused, Write
 from agc_web import protocol
+from agc_web.command import shell_agc
 from agc_web.protocol import Board, Inexpressible, Packet, PacketReader
 from agc_web.session import KEY_GAP, SPEEDS, Session, Unable
 
@@ -605,7 +606,7 @@ def _keep(session: Session, asked: argparse.Namespace, file: Optional[ScriptFile
         else:
             options = f" --form {asked.form}" if asked.form else ""
             files = f"{shlex.quote(asked.rope)} {shlex.quote(file.path)}"
-            print(f"./agc {files} --limit {session.limit_to_repeat()}{options}", flush=True)
+            print(f"{shell_agc()} {files} --limit {session.limit_to_repeat()}{options}", flush=True)
             return SAVED
     print(script, end="", flush=True)
     return status
