@@ -494,6 +494,22 @@ def try_words(page):
     page.pause()
 
 
+def try_many_cells():
+    """More cells than a request takes are watched, and all of them are current."""
+    site = started(example('keys', 'rope'))
+    page = Page(site)
+    page.value("sessionStorage.setItem('watched', JSON.stringify([...Array(130).keys()].map((i) => octal(192 + i, 4)))); undefined")
+    page.load()
+    page.see("document.getElementById('watch-tab') !== null", True)
+    page.click('#watch-tab')
+    words = "[...document.querySelectorAll('#watched .word')].map((cell) => cell.textContent)"
+    with replayed(example('keys', 'rope'), '', 0) as console:
+        wanted = [f'{word:05o}' for word in console.cells('0300', 130)]
+    judge('130 cells', wanted, page.see(words, wanted, 5))
+    page.close()
+    site.end()
+
+
 def try_breaks(page, site):
     """KEYIN, the key's vector, is three cycles after the key; its relay word is written 22 after the key, or a cycle
     or two more for steps of timers that come between. With both breakpoints the first one stops time first."""
@@ -1385,9 +1401,10 @@ def picture(page, name):
 
 
 TRIES = (
-    try_session, try_changes, try_pro, try_keys_rope, try_sizes, try_policy, try_refusals, try_port, try_pace, try_writes,
-    try_views, try_look, try_rate, try_latency, try_killed, try_end, try_blanks, try_two, try_command, try_serve, try_gone,
-    try_hangup, try_lander, try_names_and_pictures, try_stop, try_random, try_face, try_client, try_install,
+    try_session, try_changes, try_pro, try_keys_rope, try_many_cells, try_sizes, try_policy, try_refusals, try_port,
+    try_pace, try_writes, try_views, try_look, try_rate, try_latency, try_killed, try_end, try_blanks, try_two, try_command,
+    try_serve, try_gone, try_hangup, try_lander, try_names_and_pictures, try_stop, try_random, try_face, try_client,
+    try_install,
 )
 
 

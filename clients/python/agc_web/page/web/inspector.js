@@ -2,6 +2,7 @@
 // The inside of the machine: boundaries, registers, memory, cells, channels, tables, breakpoints and the script.
 
 const LOOK_EVERY = 200; // milliseconds between two looks while time goes on
+const MOST_CELLS = 64; // that the server takes in a request
 const BITS = { a: 16, q: 16 };
 const BANKED = { z: 4, eb: 1, fb: 2, bb: 5 }; // digits of the registers that are no numbers
 const CHANNELS = [
@@ -118,16 +119,18 @@ function showAhead(lines) {
 
 // memory, cells and channels: what the tab that is shown needs is asked for, at most every fifth of a second
 
+// Returns the bodies of the requests: more than one if many cells are watched.
 function wanted() {
-  if (inspector.tab === 'memory') return { bank: inspector.bank };
-  if (inspector.tab === 'watch' && inspector.watched.length) return { cells: inspector.watched };
-  if (inspector.tab === 'channels') return { channels: CHANNELS.map(([number]) => number) };
-  return null;
+  const { tab, bank, watched } = inspector;
+  if (tab === 'memory') return [{ bank }];
+  if (tab === 'watch') return watched.flatMap((_, i) => (i % MOST_CELLS ? [] : [{ cells: watched.slice(i, i + MOST_CELLS) }]));
+  if (tab === 'channels') return [{ channels: CHANNELS.map(([number]) => number) }];
+  return [];
 }
 
 async function look() {
-  const body = wanted();
-  if (!body) return;
+  const bodies = wanted();
+  if (!bodies.length) return;
   if (inspector.looking) {
     inspector.stale = true;
     return;
@@ -135,8 +138,10 @@ async function look() {
   inspector.looking = true;
   inspector.stale = false;
   try {
-    const seen = await post('look', body);
-    if (seen.status === 200 && JSON.stringify(body) === JSON.stringify(wanted())) showWords(seen);
+    for (const body of bodies) {
+      const seen = await post('look', body);
+      if (seen.status === 200 && JSON.stringify(bodies) === JSON.stringify(wanted())) showWords(seen);
+    }
   } catch { /* the stream says that the server is gone */ }
   setTimeout(() => {
     inspector.looking = false;
