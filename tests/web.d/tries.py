@@ -1212,6 +1212,36 @@ def compare_flight(page, site, rope, rows):
     judge('the held angle is that of the machine', f'{held * 360 / 32768:+.2f}°', found['Held angle'])
 
 
+def try_late_view():
+    """An instrument whose first view fails gets its dial and its buttons with the first one that is good."""
+    program = f"""if True:
+        import agc, agc_web
+
+        class Late:
+            ticks = 0
+            def tick(self, console, cycle):
+                self.ticks += 1
+            def control(self, name, down):
+                pass
+            def view(self):
+                if not self.ticks:
+                    raise ValueError('too early')
+                dial = {{'angle': 0, 'wanted': 0, 'jets': []}}
+                return {{'title': 'The craft', 'rows': [['Good', 'yes']], 'dial': dial, 'controls': [{{'name': 'turn', 'label': 'Turn'}}]}}
+
+        with agc.Console({example('keys', 'rope')!r}, program={CONSOLE!r}, detached=True) as console:
+            agc_web.serve(console, [Late()], port=0)"""
+    site = Site([sys.executable, '-c', program])
+    page = Page(site)
+    panel = "[...document.querySelectorAll('#instrument-0-tab, .instrument .dial, .instrument dt, .instrument button')].map((each) => each.textContent)"
+    judge('a view that fails', ['Late', 'failed'], page.see(panel, ['Late', 'failed']))
+    site.do('step')
+    wanted = ['The craft', '', 'Good', 'Turn']
+    judge('a good view', wanted, page.see(panel, wanted, 5))
+    page.close()
+    site.end()
+
+
 def try_names_and_pictures():
     """A key's service by its names, before RSET puts all lamps out: this is the picture that docs/WEB.md begins with."""
     words, rope, names = example('verbs', 'words'), os.path.join(FOLDER, 'verbs.rope'), os.path.join(FOLDER, 'verbs.names')
@@ -1403,8 +1433,8 @@ def picture(page, name):
 TRIES = (
     try_session, try_changes, try_pro, try_keys_rope, try_many_cells, try_sizes, try_policy, try_refusals, try_port,
     try_pace, try_writes, try_views, try_look, try_rate, try_latency, try_killed, try_end, try_blanks, try_two, try_command,
-    try_serve, try_gone, try_hangup, try_lander, try_names_and_pictures, try_stop, try_random, try_face, try_client,
-    try_install,
+    try_serve, try_gone, try_hangup, try_lander, try_late_view, try_names_and_pictures, try_stop, try_random, try_face,
+    try_client, try_install,
 )
 
 

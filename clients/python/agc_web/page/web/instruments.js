@@ -10,10 +10,10 @@ function drawn(name, attributes, ...inside) {
   return element;
 }
 
-// Shows the views of all instruments, a tab for each; the tabs are made with the first views.
+// Shows the views of all instruments, a tab for each; the tabs are made with the first views, which may have failed.
 function showInstruments(views) {
   if (!find('instrument-0-panel')) views.forEach(buildInstrument);
-  views.forEach((view, i) => showInstrument(find(`instrument-${i}-panel`), view));
+  views.forEach(showInstrument);
 }
 
 function buildInstrument(view, number) {
@@ -21,9 +21,7 @@ function buildInstrument(view, number) {
   const panel = make('div', { id: `${id}-panel`, class: 'panel instrument', role: 'tabpanel', tabindex: '0' });
   find('inspector').append(panel);
   TABS[id] = view.title;
-  if (view.dial) panel.append(buildDial());
   panel.append(make('dl', { class: 'rows' }));
-  if (view.controls) panel.append(buildControls(view.controls, number));
 }
 
 // A round dial: a craft that turns in it, and a mark for where it is to stand.
@@ -68,14 +66,21 @@ function holdByKey(key, down) {
   return Boolean(button);
 }
 
-function showInstrument(panel, view) {
+function showInstrument(view, number) {
+  const panel = find(`instrument-${number}-panel`);
+  const tab = find(`instrument-${number}-tab`);
+  if (tab && view.title) setText(tab, view.title);
+  const rows = panel.querySelector('.rows');
+  if (view.dial && !panel.querySelector('.dial')) rows.before(buildDial());
+  if (view.controls && !panel.querySelector('.controls')) rows.after(buildControls(view.controls, number));
   const dial = panel.querySelector('.dial');
   if (dial && view.dial) {
     dial.querySelector('.craft').setAttribute('transform', `rotate(${view.dial.angle})`);
     dial.querySelector('.wanted').setAttribute('transform', `rotate(${view.dial.wanted})`);
     for (const side of ['left', 'right']) dial.querySelector(`.jet.${side}`).classList.toggle('burns', view.dial.jets.includes(side));
   }
-  const rows = panel.querySelector('.rows');
+  const names = (view.rows || []).map(([name]) => name);
+  for (const row of [...rows.children]) if (!names.includes(row.dataset.name)) row.remove();
   for (const [name, value] of view.rows || []) showRow(rows, name, value);
 }
 
