@@ -67,12 +67,12 @@ class Site:
         connection.sendall(f'GET /events?token={self.token}&window={window} HTTP/1.1\r\nHost: {self.host}\r\n\r\n'.encode())
         return connection, connection.makefile('rb')
 
-    def messages(self, seconds):
-        """Returns the messages of the news in the next seconds."""
-        connection, lines = self.stream()
+    def messages(self, seconds, enough=lambda found: False):
+        """Returns the messages of the news in the next seconds, or those up to the one with which they are enough."""
         found, end = [], time.monotonic() + seconds
+        connection, lines = self.stream()
         try:
-            while time.monotonic() < end:
+            while time.monotonic() < end and not enough(found):
                 line = lines.readline()
                 if line.startswith(b'data: '):
                     found.append(json.loads(line[6:]))

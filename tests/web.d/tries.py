@@ -25,7 +25,7 @@ import time
 from agc import Console, Error
 from agc_web.server import Server
 from agc_web.session import KEYS, Session, Unable
-from site_of import Site, wait
+from site_of import LONGEST, Site, wait
 from window import Window
 
 HERE = os.path.dirname(os.path.abspath(__file__))
@@ -822,10 +822,12 @@ def try_sockets(site):
         site.do('step')
     began = time.monotonic()
     judge('a command while browsers stall', 200, site.do('play'))
-    news = [each['time']['cycle'] for each in site.messages(1) if 'time' in each]
+    cycles = lambda found: [each['time']['cycle'] for each in found if 'time' in each]
+    goes_on = lambda found: len(cycles(found)) > 5 and cycles(found)[-1] - cycles(found)[0] > 0.5 * A_SECOND
+    news = site.messages(LONGEST, goes_on)
     site.do('pause')
     judge('it is done soon', True, time.monotonic() - began < 3)
-    judge('another window sees time go on', True, len(news) > 5 and news[-1] - news[0] > 0.5 * A_SECOND)
+    judge('another window sees time go on', True, goes_on(news))
     for connection in [*halves, *(each for each, _ in stalled)]:
         connection.close()
 
@@ -896,7 +898,7 @@ def try_views():
             session.press('4')
             session.play()
             row = lambda: json.loads(session.news.since(0, 0)[1])['instruments'][0]['rows'][0]
-            wait(lambda: row()[0] == 'failed' or not session._thread.is_alive(), 5)
+            wait(lambda: row()[0] == 'failed' or not session._thread.is_alive())
             judge(f'{value}: the panel', ('failed', reason), (row()[0], str(row()[1]).split('(')[0]))
             judge(f'{value}: the session goes on', True, session._thread.is_alive())
             if session._thread.is_alive():
