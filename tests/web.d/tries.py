@@ -1154,6 +1154,14 @@ def try_hangup():
     judge('it ends', True, wait(lambda: os.waitpid(number, os.WNOHANG)[0] == number))
     with open(saved) as file:
         judge('the script is saved', '5 key 4\n', file.read())
+    browser, early = os.path.join(FOLDER, 'hangs-up'), os.path.join(FOLDER, 'hung-up-early')
+    with open(browser, 'w') as file:
+        file.write('#!/bin/sh\nkill -HUP $PPID\nsleep 1\n')
+    os.chmod(browser, 0o755)
+    words = [os.path.join(TOP, 'agc-web'), rope, script, '--port', '0', '--save', early, '--open']
+    done = subprocess.run(words, stdout=subprocess.DEVNULL, env={**os.environ, 'BROWSER': browser + ' %s'}, timeout=20)
+    with open(early) as file:
+        judge('a hang-up while the browser is opened', (0, '5 key 4\n'), (done.returncode, file.read()))
     site = Site(['nohup', os.path.join(TOP, 'agc-web'), rope, '--port', '0'])
     os.killpg(site.process.pid, signal.SIGHUP)
     time.sleep(0.5)

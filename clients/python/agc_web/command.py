@@ -46,10 +46,7 @@ def serve(
         server = _bound(session, _about(console, names, watch), port, film)
         if begin is not None:
             begin(session)
-        print(f"{server.address}    (Control-C ends it)", flush=True)
-        if open_page:
-            webbrowser.open(server.address)
-        _wait(server)
+        _wait(server, open_page)
         script = session.script()
         _tell(script, save, os.fspath(console.rope), form, session.limit_to_repeat())
         return script
@@ -167,8 +164,9 @@ def _bound(
         return Server(session, about, 0, film)
 
 
-def _wait(server: Server) -> None:
-    """Serves until one of the signals that end it. What is ignored, as a hang-up by nohup, stays so."""
+def _wait(server: Server, open_page: bool) -> None:
+    """Prints the address, and serves until one of the signals that end it. What is ignored, as a hang-up by nohup, stays
+    so."""
 
     def end(number: int, frame: Any) -> None:
         for each in ENDS:
@@ -179,6 +177,9 @@ def _wait(server: Server) -> None:
         if signal.getsignal(each) != signal.SIG_IGN:
             signal.signal(each, end)
     try:
+        print(f"{server.address}    (Control-C ends it)", flush=True)
+        if open_page:
+            webbrowser.open(server.address)
         server.serve_forever(poll_interval=0.2)
     except KeyboardInterrupt:
         try:
