@@ -9,4 +9,5 @@ pub mod Field
 pub mod Lamp
 pub mod Face
 pub mod Text
+pub mod PanelLine
 pub mod Laws

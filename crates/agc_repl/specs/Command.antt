@@ -25,7 +25,7 @@ use Rattle.agc_repl.specs.FileName.{name_of}
 use Rattle.agc_repl.specs.Name.{name_named}
 use Rattle.agc_repl.specs.Number.{interrupt_in, word_in}
 use Rattle.agc_repl.specs.Number.{channel_in, cycles_in, spec_in, written_channel_in}
-use Rattle.agc_repl.specs.PanelText.{line_in}
+use Rattle.agc_panel.specs.PanelLine.{line_in}
 use Rattle.agc_repl.specs.Place.{cell_in, cells_after, place_in}
 use Rattle.agc_repl.specs.Words.{alone, and_then, only_word}
 use Rattle.agc_repl.specs.declared.command.Command.{Command}

@@ -1,15 +1,18 @@
 -- The run of a console to the first of its numbered breakpoints.
-use Rattle.std.specs.Prelude.{ℕ, zero, suc, Bool, All, List, [], ◌∷◌, ◌++◌, map, find, Option, None, Some, if◌then◌else◌, codes}
+use Rattle.std.specs.Prelude.{ℕ, zero, suc, Bool, false, not, ◌&&◌, All, List, [], ◌∷◌, ◌++◌, map, find, Option, None, Some, if◌then◌else◌, codes}
 use Rattle.agc_word.specs.declared.channel_write.ChannelWrite.{ChannelWrite}
 use Rattle.agc_machine.specs.Boundary.{boundary}
 use Rattle.agc_machine.specs.Replay.{writes_in}
 use Rattle.agc_machine.specs.Run.{boundaries_left}
 use Rattle.agc_machine.specs.State.{State}
 use Rattle.agc_machine.specs.declared.answer.Stepped.{Stepped}
+use Rattle.agc_machine.specs.declared.answer.Stepped.TheVariants as stepped
+use Rattle.agc_panel.specs.Face.{face_after}
+use Rattle.agc_panel.specs.PanelLine.{shows}
 use Rattle.agc_panel.specs.declared.face.Face.{Face}
+use Rattle.agc_panel.specs.declared.panel_line.PanelLine.{PanelLine}
 use Rattle.agc_session.specs.Breakpoint.{is_panel_change}
 use Rattle.agc_repl.specs.Command.{IsTriggerInRange}
-use Rattle.agc_repl.specs.PanelText.{is_line_new}
 use Rattle.agc_repl.specs.Repl.{gone_on}
 use Rattle.agc_repl.specs.Settings.{numbered_text}
 use Rattle.agc_repl.specs.Stretch.{IsArmedInRange, armed_in, has_come, is_short_of}
@@ -39,6 +42,12 @@ IsSound a = IsTriggerInRange a.breakpoint.what × IsArmedInRange a.target
 
 abbrev pub AreSound : List Armed → Type 0
 AreSound armed = All IsSound armed
+
+-- A boundary brings a line to the panel, which did not show it before. Only a write can.
+abbrev pub is_line_new : PanelLine → Face → Stepped → Bool
+is_line_new l panel (stepped.Wrote write) = not (shows l panel) && shows l (face_after panel (write ∷ []))
+is_line_new l panel stepped.Quiet = false
+is_line_new l panel (stepped.Stopped why) = false
 
 -- A boundary hits a breakpoint, by the panel before it, the state that it leads to and what it returns.
 abbrev pub is_hit : Trigger → ArmedBreakpoint → Face → State → Stepped → Bool

@@ -5,7 +5,6 @@ pub mod Meant
 pub mod Number
 pub mod Place
 pub mod FileName
-pub mod PanelText
 pub mod Command
 pub mod Help
 pub mod Answer

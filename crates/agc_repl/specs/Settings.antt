@@ -9,7 +9,7 @@ use Rattle.agc_listing.specs.declared.location.Location.{Location}
 use Rattle.agc_listing.specs.declared.location.Location.TheVariants as location
 use Rattle.agc_processor.specs.Interrupt.{rupt_name}
 use Rattle.agc_repl.specs.Command.{IsTriggerInRange}
-use Rattle.agc_repl.specs.PanelText.{line_text}
+use Rattle.agc_panel.specs.PanelLine.{line_text}
 use Rattle.agc_repl.specs.declared.command.Breakpoint.{Breakpoint}
 use Rattle.agc_repl.specs.declared.command.Breakpoint.TheVariants as target
 use Rattle.agc_repl.specs.declared.command.Trigger.{Trigger}

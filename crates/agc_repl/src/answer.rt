@@ -32,7 +32,6 @@ ghost use Rattle.agc_store.specs.Places.{erasable_cells};
 use crate::command::{Breakpoint, Trigger};
 use crate::fault::CommandFault;
 use crate::meant::name_meant;
-use crate::panel_line::push_panel_line;
 use crate::settings::Numbered;
 use agc_listing::{Cell, Location, Place, listed_address, push_place};
 use agc_machine::Stop;
@@ -284,7 +283,7 @@ fn push_trigger(text: &mut String, what: Trigger) -> Result<(), AllocError>
         Trigger::Panel => text.push_str("panel"),
         Trigger::Shows(line) => {
             text.push_str("panel ")?;
-            push_panel_line(text, line)
+            line.push_to(text)
         }
     }
 }

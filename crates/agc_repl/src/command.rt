@@ -1,8 +1,7 @@
 //! The parsed commands of the console.
 use crate::file_name::FileName;
-use crate::panel_line::PanelLine;
 use agc_listing::Location;
-use agc_panel::WatchSpec;
+use agc_panel::{PanelLine, WatchSpec};
 use agc_processor::Rupt;
 use agc_script::What;
 use agc_word::Narrow;

@@ -58,10 +58,10 @@ use crate::name::CommandName;
 use crate::number::{
     read_channel, read_cycles, read_interrupt, read_spec, read_word, read_written_channel,
 };
-use crate::panel_line::line_in;
 use crate::place::{read_cell, read_cells_after, read_place};
 use crate::words::{alone, is_word, only_word};
 use agc_listing::first_comma;
+use agc_panel::PanelLine;
 use agc_script::{FaultKind, Key, LONGEST_LINE, has_high_byte, read_command};
 use agc_symbols::SymbolTable;
 use agc_word::next_word;
@@ -381,7 +381,7 @@ fn read_break_panel(words: &[u8]) -> Result<Command, CommandFault>
     if next_word(words).is_none() {
         return Ok(Command::Break(Trigger::Panel));
     }
-    let line = line_in(words).ok_or(CommandFault::BadLine)?;
+    let line = PanelLine::parse(words).ok_or(CommandFault::BadLine)?;
     Ok(Command::Break(Trigger::Shows(line)))
 }
 

@@ -1,5 +1,5 @@
 //! Tests the panel on known words: the worked panel, each digit code, each lamp alone.
-use agc_panel::Panel;
+use agc_panel::{Panel, PanelLine};
 use agc_word::{ChannelWrite, Narrow};
 use std::process::Abort;
 
@@ -49,6 +49,57 @@ fn panel_from_relay_words(rt: HostRuntime) {
         &panel,
         "PROG 12\nVERB 37\nNOUN ?_\nR1 +_0000\nR2 _____4\nR3 _9____\nFLASH on\nLAMPS COMP ACTY, OPR ERR\n",
     );
+}
+
+/// Checks that a line is parsed, printed as it was written, and shown by a panel or not.
+fn line_is_shown(rt: &(impl AllocGlobal + Abort), panel: &Panel, line: &str, wanted: bool) {
+    let parsed = PanelLine::parse(line.as_bytes()).expect(rt, "a line of the panel");
+    let mut text = String::new(rt.alloc());
+    parsed.push_to(&mut text).expect(rt, "memory");
+    assert_eq!(rt; text.as_str(), line);
+    assert_eq!(rt; panel.face().shows(&parsed), wanted);
+}
+
+#[test]
+fn lines_are_parsed_and_shown(rt: HostRuntime) {
+    let mut panel = Panel::new();
+    for bits in [0o54171, 0o51563, 0o14777, 0o44040, 0o37265, 0o33265] {
+        panel.take(&write(&rt, 0o10, bits));
+    }
+    panel.take(&write(&rt, 0o11, 0o00142));
+    for line in [
+        "PROG 12",
+        "VERB 37",
+        "NOUN ?_",
+        "R1 +_0000",
+        "R2 _____4",
+        "R3 _9____",
+        "FLASH on",
+        "LAMPS COMP ACTY",
+        "LAMPS OPR ERR",
+    ] {
+        line_is_shown(&rt, &panel, line, true);
+    }
+    for line in [
+        "PROG 21",
+        "R1 -_0000",
+        "R2 _9____",
+        "FLASH off",
+        "LAMPS TEMP",
+    ] {
+        line_is_shown(&rt, &panel, line, false);
+    }
+    for line in [
+        "",
+        "PROG",
+        "PROG 123",
+        "R1 12345",
+        "FLASH",
+        "LAMPS COMP",
+        "R4 +00000",
+    ] {
+        assert!(rt; PanelLine::parse(line.as_bytes()).is_none());
+    }
 }
 
 #[test]

@@ -1,10 +1,7 @@
--- The lines of `break panel TEXT`: how one is parsed and printed, and when the panel shows it.
+-- One line of the panel: how it is parsed and printed, and when the panel shows it.
 use Rattle.std.specs.Prelude.{ℕ, Bool, true, false, not, ◌&&◌, if◌then◌else◌, List, [], ◌∷◌, ◌++◌, Option, None, Some, codes, find, option_map}
 use Rattle.std.specs.Str.{bytes_eq}
-use Rattle.agc_machine.specs.declared.answer.Stepped.{Stepped}
-use Rattle.agc_machine.specs.declared.answer.Stepped.TheVariants as stepped
 use Rattle.agc_panel.specs.Digit.{glyph}
-use Rattle.agc_panel.specs.Face.{face_after}
 use Rattle.agc_panel.specs.Lamp.{is_lit, printed_order, words_on}
 use Rattle.agc_panel.specs.Text.{sign_glyph, sign_of}
 use Rattle.agc_panel.specs.declared.digit.Digit.{Digit}
@@ -16,9 +13,9 @@ use Rattle.agc_panel.specs.declared.lamp.Lamp.{Lamp}
 use Rattle.agc_panel.specs.declared.text.Sign.{Sign}
 use Rattle.agc_panel.specs.declared.text.Sign.TheVariants as sign
 use Rattle.agc_word.specs.Text.{words_of}
-use Rattle.agc_repl.specs.declared.panel_line.PanelLine.{PanelLine}
-use Rattle.agc_repl.specs.declared.panel_line.PanelLine.TheVariants as line
-use Rattle.agc_repl.specs.declared.panel_line.SignedDigits.{SignedDigits}
+use Rattle.agc_panel.specs.declared.panel_line.PanelLine.{PanelLine}
+use Rattle.agc_panel.specs.declared.panel_line.PanelLine.TheVariants as line
+use Rattle.agc_panel.specs.declared.panel_line.SignedDigits.{SignedDigits}
 
 -- the digit and the sign that are printed as a character
 abbrev pub all_digits : List Digit
@@ -134,9 +131,3 @@ shows (line.R2 r) face = is_signed r face.r2
 shows (line.R3 r) face = is_signed r face.r3
 shows (line.Flash on) face = if on then face.flash else not face.flash
 shows (line.Lamp lamp) face = is_lit face.lamps lamp
-
--- A boundary brings a line to the panel, which did not show it before. Only a write can.
-abbrev pub is_line_new : PanelLine → Face → Stepped → Bool
-is_line_new l panel (stepped.Wrote write) = not (shows l panel) && shows l (face_after panel (write ∷ []))
-is_line_new l panel stepped.Quiet = false
-is_line_new l panel (stepped.Stopped why) = false

@@ -1,31 +1,37 @@
-//! The lines of `break panel TEXT`: parses and prints one.
+//! One line of the panel: parses and prints it, and checks whether a panel shows it.
 ghost use Rattle.std.specs.Prelude.{◌≡◌, ◌++◌, OnOk, codes, string_bytes};
 ghost use Rattle.std.specs.Str.{bytes_eq};
 ghost use Rattle.agc_word.specs.Text.{words_of};
 ghost use Rattle.agc_panel.specs.Lamp.{printed_order};
 ghost use Rattle.agc_panel.specs.Text.{sign_glyph};
-ghost use Rattle.agc_repl.specs.PanelText.{
+ghost use Rattle.agc_panel.specs.PanelLine.{
   digit_in,
   field_in,
   flash_in,
+  is_signed,
   lamp_in,
   line_in,
   line_text,
   pair_in,
   pair_text,
   pair_with,
+  same_digit,
+  same_pair,
   same_words,
+  shows,
   sign_in,
   signed_in,
   signed_text,
 };
 
-use crate::words::is_word;
-use agc_panel::{Digit, Lamp, Pair, Sign};
+use crate::digit::Digit;
+use crate::face::{Face, Pair, Register};
+use crate::lamp::Lamp;
+use crate::text::Sign;
 use agc_word::next_word;
 use std::alloc::AllocError;
 
-/// A sign and five digits from the left, as a register shows them.
+/// The sign and the five digits of a register, from the left.
 #[derive(Clone, Copy, Debug, PartialEq, Eq)]
 pub struct SignedDigits {
     pub sign: Sign,
@@ -69,9 +75,44 @@ const DIGITS: [Digit; 12] = [
 /// All signs.
 const SIGNS: [Sign; 3] = [Sign::Plus, Sign::Minus, Sign::Blank];
 
+impl PanelLine {
+    /// Parses a line as the panel prints it; of the lamps, one.
+    pub fn parse(line: &[u8]) -> Option<PanelLine>
+        ensures { result ≡ line_in (words_of line.now) }
+    {
+        line_in(line)
+    }
+
+    /// Adds the line as the panel prints it, without a line feed. Fails if memory runs out.
+    pub fn push_to(self, text: &mut String) -> Result<(), AllocError>
+        ensures { OnOk result (string_bytes text.new ≡ string_bytes text.old ++ line_text self) }
+    {
+        push_line(text, self)
+    }
+}
+
+impl Face {
+    /// Returns whether the panel shows a line: the field has the same characters, and a lamp is lit.
+    #[tactic(auto, unfolding(crate::specs::PanelLine::shows))]
+    pub fn shows(&self, line: &PanelLine) -> bool
+        ensures { result ≡ shows line.now self.now }
+    {
+        match line {
+            PanelLine::Program(pair) => is_same_pair(pair, &self.program),
+            PanelLine::Verb(pair) => is_same_pair(pair, &self.verb),
+            PanelLine::Noun(pair) => is_same_pair(pair, &self.noun),
+            PanelLine::R1(digits) => is_signed(digits, &self.r1),
+            PanelLine::R2(digits) => is_signed(digits, &self.r2),
+            PanelLine::R3(digits) => is_signed(digits, &self.r3),
+            PanelLine::Flash(on) => *on == self.flash,
+            PanelLine::Lamp(lamp) => self.lamps.is_lit(*lamp),
+        }
+    }
+}
+
 /// Parses a line of the panel.
-#[tactic(auto, unfolding(crate::specs::PanelText::line_in))]
-pub(crate) fn line_in(words: &[u8]) -> Option<PanelLine>
+#[tactic(auto, unfolding(crate::specs::PanelLine::line_in))]
+fn line_in(words: &[u8]) -> Option<PanelLine>
     ensures { result ≡ line_in (words_of words.now) }
 {
     let (name, rest) = next_word(words)?;
@@ -85,8 +126,15 @@ pub(crate) fn line_in(words: &[u8]) -> Option<PanelLine>
     }
 }
 
+/// Returns whether a word is this one.
+fn is_word(word: &[u8], name: &str) -> bool
+    ensures { result ≡ bytes_eq word.now name.now }
+{
+    word == name.as_bytes()
+}
+
 /// Parses a field that prints as one word after its name.
-#[tactic(auto, unfolding(crate::specs::PanelText::field_in))]
+#[tactic(auto, unfolding(crate::specs::PanelLine::field_in))]
 fn field_in(name: &[u8], word: &[u8]) -> Option<PanelLine>
     ensures { result ≡ field_in name.now word.now }
 {
@@ -110,7 +158,7 @@ fn field_in(name: &[u8], word: &[u8]) -> Option<PanelLine>
 }
 
 /// Parses two digits.
-#[tactic(auto, unfolding(crate::specs::PanelText::pair_in))]
+#[tactic(auto, unfolding(crate::specs::PanelLine::pair_in))]
 fn pair_in(word: &[u8]) -> Option<Pair>
     ensures { result ≡ pair_in word.now }
 {
@@ -130,7 +178,7 @@ fn pair_of(left: u8, right: u8) -> Option<Pair>
 }
 
 /// Returns the digit that prints as this character.
-#[tactic(auto, unfolding(crate::specs::PanelText::digit_in))]
+#[tactic(auto, unfolding(crate::specs::PanelLine::digit_in))]
 fn digit_in(byte: u8) -> Option<Digit>
     ensures { result ≡ digit_in byte }
 {
@@ -141,7 +189,7 @@ fn digit_in(byte: u8) -> Option<Digit>
 }
 
 /// Returns the sign that prints as this character.
-#[tactic(auto, unfolding(crate::specs::PanelText::sign_in))]
+#[tactic(auto, unfolding(crate::specs::PanelLine::sign_in))]
 fn sign_in(byte: u8) -> Option<Sign>
     ensures { result ≡ sign_in byte }
 {
@@ -152,7 +200,7 @@ fn sign_in(byte: u8) -> Option<Sign>
 }
 
 /// Returns the character that a sign prints as.
-pub(crate) fn sign_glyph(sign: Sign) -> &'static str
+fn sign_glyph(sign: Sign) -> &'static str
     ensures { result.now ≡ sign_glyph sign }
 {
     match sign {
@@ -163,7 +211,7 @@ pub(crate) fn sign_glyph(sign: Sign) -> &'static str
 }
 
 /// Parses a sign and five digits.
-#[tactic(auto, unfolding(crate::specs::PanelText::signed_in))]
+#[tactic(auto, unfolding(crate::specs::PanelLine::signed_in))]
 fn signed_in(word: &[u8]) -> Option<SignedDigits>
     ensures { result ≡ signed_in word.now }
 {
@@ -185,7 +233,7 @@ fn signed_in(word: &[u8]) -> Option<SignedDigits>
 }
 
 /// Parses whether verb and noun flash.
-#[tactic(auto, unfolding(crate::specs::PanelText::flash_in))]
+#[tactic(auto, unfolding(crate::specs::PanelLine::flash_in))]
 fn flash_in(word: &[u8]) -> Option<bool>
     ensures { result ≡ flash_in word.now }
 {
@@ -199,7 +247,7 @@ fn flash_in(word: &[u8]) -> Option<bool>
 }
 
 /// Returns the lamp with this legend.
-#[tactic(auto, unfolding(crate::specs::PanelText::lamp_in))]
+#[tactic(auto, unfolding(crate::specs::PanelLine::lamp_in))]
 fn lamp_in(words: &[u8]) -> Option<Lamp>
     ensures { result ≡ lamp_in (words_of words.now) }
 {
@@ -210,7 +258,7 @@ fn lamp_in(words: &[u8]) -> Option<Lamp>
 }
 
 /// Returns whether two texts have the same words.
-#[tactic(auto, unfolding(crate::specs::PanelText::same_words))]
+#[tactic(auto, unfolding(crate::specs::PanelLine::same_words))]
 fn same_words(one: &[u8], other: &[u8]) -> bool
     ensures { result ≡ same_words (words_of one.now) (words_of other.now) }
 {
@@ -221,9 +269,9 @@ fn same_words(one: &[u8], other: &[u8]) -> bool
     }
 }
 
-/// Adds a line of the panel, without a line feed.
-#[tactic(auto, unfolding(crate::specs::PanelText::line_text))]
-pub(crate) fn push_panel_line(text: &mut String, line: PanelLine) -> Result<(), AllocError>
+/// Adds a line of the panel.
+#[tactic(auto, unfolding(crate::specs::PanelLine::line_text))]
+fn push_line(text: &mut String, line: PanelLine) -> Result<(), AllocError>
     ensures { OnOk result (string_bytes text.new ≡ string_bytes text.old ++ line_text line) }
 {
     match line {
@@ -242,7 +290,7 @@ pub(crate) fn push_panel_line(text: &mut String, line: PanelLine) -> Result<(), 
 }
 
 /// Adds a name and two digits.
-#[tactic(auto, unfolding(crate::specs::PanelText::pair_text))]
+#[tactic(auto, unfolding(crate::specs::PanelLine::pair_text))]
 fn push_pair(text: &mut String, name: &str, pair: Pair) -> Result<(), AllocError>
     ensures { OnOk result
         (string_bytes text.new ≡ string_bytes text.old ++ name.now ++ codes " " ++ pair_text pair) }
@@ -252,7 +300,7 @@ fn push_pair(text: &mut String, name: &str, pair: Pair) -> Result<(), AllocError
 }
 
 /// Adds a name, a sign and five digits.
-#[tactic(auto, unfolding(crate::specs::PanelText::signed_text))]
+#[tactic(auto, unfolding(crate::specs::PanelLine::signed_text))]
 fn push_signed_digits(text: &mut String, name: &str, digits: SignedDigits) -> Result<(), AllocError>
     ensures { OnOk result
         (string_bytes text.new ≡ string_bytes text.old ++ name.now ++ codes " " ++ signed_text digits) }
@@ -266,4 +314,30 @@ fn push_signed_digits(text: &mut String, name: &str, digits: SignedDigits) -> Re
         d5,
     } = digits;
     write!(text, "{name} {sign}{d1}{d2}{d3}{d4}{d5}")
+}
+
+/// Returns whether a register shows this sign and these digits.
+fn is_signed(digits: &SignedDigits, register: &Register) -> bool
+    ensures { result ≡ is_signed digits.now register.now }
+{
+    sign_glyph(digits.sign) == sign_glyph(register.sign())
+        && same_digit(digits.d1, register.d1)
+        && same_digit(digits.d2, register.d2)
+        && same_digit(digits.d3, register.d3)
+        && same_digit(digits.d4, register.d4)
+        && same_digit(digits.d5, register.d5)
+}
+
+/// Returns whether two pairs show the same characters.
+fn is_same_pair(one: &Pair, other: &Pair) -> bool
+    ensures { result ≡ same_pair one.now other.now }
+{
+    same_digit(one.left, other.left) && same_digit(one.right, other.right)
+}
+
+/// Returns whether two digits show the same character.
+fn same_digit(one: Digit, other: Digit) -> bool
+    ensures { result ≡ same_digit one other }
+{
+    one.glyph() == other.glyph()
 }
